@@ -1,3 +1,7 @@
 pub mod Same
-pub mod Reading
+pub mod PairsIn
+pub mod PagesIn
 pub mod Writing
+pub mod Spelled
+pub mod FaultLemmas
+pub mod Once

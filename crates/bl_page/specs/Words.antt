@@ -12,7 +12,6 @@ abbrev pub entries_of : List (ℕ × ℕ) → List ℕ
 entries_of [] = []
 entries_of (pair ∷ pairs) = pair.0 ∷ pair.1 ∷ entries_of pairs
 
-
 -- word 0, the bounds, the link, the entries, and zeros up to 32 words
 abbrev pub layout : ℕ → ℕ → ℕ → ℕ → List ℕ → List ℕ
 layout first low high right entries = first ∷ low ∷ high ∷ right ∷ entries ++ replicate (28 - length entries) 0

@@ -2,6 +2,8 @@
 #![tactic(auto)]
 
 mod page;
+mod reading;
 mod words;
 
 pub use page::{Anchor, Dead, Inner, Leaf, Page, Pairs, WordFault};
+pub use reading::from_words;

@@ -1,18 +1,15 @@
-//! Pages as 32 words, and back.
+//! Pages as 32 words.
 
-ghost use Rattle.std.specs.Prelude.{◌≡◌, ℕ, ◌+◌, ◌*◌, ◌<◌, ◌≤◌, ◌↔◌, ◌^◌, length, drop, take, IsTrue, IfOk, IfErr, Ok, slice_index};
-ghost use Rattle.bl_page.specs.Pairs.{end_of, RisesFrom, AllWithin, BeginsWith, NameChildren, AreChildren};
+ghost use Rattle.std.specs.Prelude.{◌≡◌, ◌≤◌, length};
 ghost use Rattle.bl_page.specs.Words.{words_of, head, layout, entries_of};
-ghost use Rattle.bl_page.specs.Faults.{IsFault, count_in, level_in, kind_in, pairs_in};
-ghost use Rattle.bl_page.specs.declared.page.Page.{Page};
-ghost use Rattle.bl_page.specs.declared.page.Page.TheVariants as page;
-ghost use Rattle.bl_page.specs.declared.page.WordFault.{WordFault};
 
-use crate::page::{Anchor, Dead, Inner, Leaf, Page, Pairs, WordFault};
-use arrayvec::ArrayVec;
+use crate::page::Page;
 
-const KIND_UNIT: u64 = 1 << 32;
-const LEVEL_UNIT: u64 = 1 << 16;
+/// What the kind counts in word 0.
+pub(crate) const KIND_UNIT: u64 = 1 << 32;
+
+/// What the level counts in word 0.
+pub(crate) const LEVEL_UNIT: u64 = 1 << 16;
 
 /// The words of a page with these pairs.
 fn pair_words(first: u64, low: u64, high: u64, right: u32, pairs: &[(u64, u64)]) -> [u64; 32]
@@ -56,8 +53,16 @@ impl Page {
                 pair_words(first, leaf.low, leaf.high, leaf.right, leaf.rows.as_slice())
             }
             Page::Inner(inner) => {
-                let first = 3 * KIND_UNIT + u64::from(inner.level) * LEVEL_UNIT + inner.children.len() as u64;
-                pair_words(first, inner.low, inner.high, inner.right, inner.children.as_slice())
+                let first = 3 * KIND_UNIT
+                    + u64::from(inner.level) * LEVEL_UNIT
+                    + inner.children.len() as u64;
+                pair_words(
+                    first,
+                    inner.low,
+                    inner.high,
+                    inner.right,
+                    inner.children.as_slice(),
+                )
             }
             Page::Dead(dead) => {
                 let first = 4 * KIND_UNIT + u64::from(dead.level) * LEVEL_UNIT;
@@ -65,67 +70,4 @@ impl Page {
             }
         }
     }
-}
-
-/// That many pairs behind the head.
-fn pairs_at(words: &[u64; 32], count: usize) -> Pairs
-    requires { count ≤ 14 }
-    ensures pairs { result.items ≡ pairs_in count (drop 4 words.now) }
-    ensures count { length result.items ≡ count }
-{
-    let mut pairs = ArrayVec::new();
-    for i in 0..count {
-        pairs.push((words[4 + 2 * i], words[5 + 2 * i]));
-    }
-    pairs
-}
-
-/// The keys rise strictly.
-fn keys_rise(pairs: &[(u64, u64)]) -> bool
-    ensures { IsTrue result ↔ RisesFrom 0 pairs.now }
-{
-    let mut last = None;
-    for pair in pairs {
-        match last {
-            Some(key) if pair.0 <= key => return false,
-            _ => last = Some(pair.0),
-        }
-    }
-    true
-}
-
-/// Every key is within the bounds.
-fn keys_are_within(low: u64, high: u64, pairs: &[(u64, u64)]) -> bool
-    ensures { IsTrue result ↔ AllWithin low high pairs.now }
-{
-    for pair in pairs {
-        if pair.0 < low || (high != 0 && high <= pair.0) {
-            return false;
-        }
-    }
-    true
-}
-
-/// Every pair names a page.
-fn pairs_name_children(pairs: &[(u64, u64)]) -> bool
-    ensures { IsTrue result ↔ NameChildren pairs.now }
-{
-    for pair in pairs {
-        if pair.1 == 0 || pair.1 >= LEVEL_UNIT {
-            return false;
-        }
-    }
-    true
-}
-
-/// The words from that place on are zeros.
-fn is_zero_from(words: &[u64; 32], from: usize) -> bool
-    ensures { IsTrue result ↔ ((i : ℕ) → from ≤ i → i < 32 → slice_index words.now i ≡ 0) }
-{
-    for i in from..32 {
-        if words[i] != 0 {
-            return false;
-        }
-    }
-    true
 }

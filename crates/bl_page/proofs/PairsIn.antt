@@ -26,7 +26,7 @@ pairs_in-more words old new all count i more within is known =
     let next : 4 + 2 * i + 2 ≡ 4 + 2 * (i + 1) = omega arith in
     let rest = pairs_in (count - (i + 1)) (drop (4 + 2 * (i + 1)) words) in
     let cut : pairs_in (count - i) (drop (4 + 2 * i) words) ≡ (get_or words (4 + 2 * i) 0, get_or words (5 + 2 * i) 0) ∷ rest =
-        ap (λ n. pairs_in n (drop (4 + 2 * i) words)) left ∙ pairs_in-first words (count - (i + 1)) (4 + 2 * i) within
-        ∙ ap (λ k. (get_or words (4 + 2 * i) 0, get_or words k 0) ∷ pairs_in (count - (i + 1)) (drop (4 + 2 * i + 2) words)) second
-        ∙ ap (λ k. (get_or words (4 + 2 * i) 0, get_or words (5 + 2 * i) 0) ∷ pairs_in (count - (i + 1)) (drop k words)) next in
+    ap (λ n. pairs_in n (drop (4 + 2 * i) words)) left ∙ pairs_in-first words (count - (i + 1)) (4 + 2 * i) within
+    ∙ ap (λ k. (get_or words (4 + 2 * i) 0, get_or words k 0) ∷ pairs_in (count - (i + 1)) (drop (4 + 2 * i + 2) words)) second
+    ∙ ap (λ k. (get_or words (4 + 2 * i) 0, get_or words (5 + 2 * i) 0) ∷ pairs_in (count - (i + 1)) (drop k words)) next in
     ap (λ t. t ++ rest) is ∙ append_assoc old ((get_or words (4 + 2 * i) 0, get_or words (5 + 2 * i) 0) ∷ []) rest ∙ ap (λ t. old ++ t) (sym cut) ∙ known

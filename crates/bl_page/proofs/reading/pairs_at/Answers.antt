@@ -1,7 +1,7 @@
 use Rattle.std.proofs.Common.{arith, length, ◌≡◌}
 use Rattle.bl_page.specs.Faults.{pairs_in}
-use Rattle.bl_page.proofs.Reading.{pairs_in-more}
-use Rattle.bl_page.proofs.words.pairs_at.Goals as goal
+use Rattle.bl_page.proofs.PairsIn.{pairs_in-more}
+use Rattle.bl_page.proofs.reading.pairs_at.Goals as goal
 
 pub loop-i-preserved : goal.loop-i-preserved
 loop-i-preserved c = record {

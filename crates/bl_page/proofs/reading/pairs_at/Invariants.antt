@@ -1,6 +1,6 @@
 use Rattle.std.proofs.Common.{◌≡◌, ◌+◌, ◌*◌, ◌-◌, ◌++◌, drop, length}
 use Rattle.bl_page.specs.Faults.{pairs_in}
-use Rattle.bl_page.proofs.words.pairs_at.Given as goal
+use Rattle.bl_page.proofs.reading.pairs_at.Given as goal
 
 abbrev pub invariant-loop-i : goal.invariant-loop-i
 invariant-loop-i l = record {
