@@ -9,6 +9,8 @@
 pub mod operation;
 pub mod plain;
 pub mod stream;
+#[cfg(test)]
+mod tests;
 
 pub use operation::{Entry, Next, Op, Reply};
 pub use plain::PlainMap;
