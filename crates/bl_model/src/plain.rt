@@ -67,7 +67,10 @@ impl PlainMap {
                 Err(_) => Ok(Reply::Absent),
             },
             Op::Insert(key, value) => match self.search(key) {
-                Ok(place) => Ok(Reply::Present(self.rows[place].1)),
+                Ok(place) => {
+                    let there = self.rows[place].1;
+                    Ok(Reply::Present(there))
+                }
                 Err(place) => {
                     self.rows.insert(place, (key, value))?;
                     Ok(Reply::Inserted)
