@@ -2,26 +2,27 @@
 use Rattle.std.proofs.Common.{◌≡◌, ◌≢◌, ℕ, zero, suc, ◌+◌, ◌-◌, ◌<◌, ◌≤◌, List, [], ◌∷◌, ◌++◌, length, get_or, Some, None, true, false, refl, ap, sym, subst, ◌∙◌, add-one, inl, inr, arith}
 use Rattle.std.specs.Prelude.{nat_lt}
 use Rattle.std.proofs.lemmas.Bool.{cases_lt}
-use Rattle.bl_page.specs.Pairs.{RisesFrom, AllWithin, BeginsWith, NameChildren, IsWithin, IsChildFor, IsChild, lookup, place, end_of}
+use Rattle.bl_model.specs.Rows.{map_of}
+use Rattle.bl_page.specs.Pairs.{RisesFrom, AllWithin, BeginsWith, NameChildren, IsWithin, IsChildFor, IsChild, place, end_of}
 
 pub place-le : (k : ℕ) (pairs : List (ℕ × ℕ)) → place k pairs ≤ length pairs
 place-le k [] = omega arith
 place-le k (pair ∷ pairs) = grind (arith, place-le k pairs)
 
 -- a key below the least is not listed
-pub lookup_below : (least j : ℕ) (pairs : List (ℕ × ℕ)) → RisesFrom least pairs → j < least → lookup pairs j ≡ None
-lookup_below least j [] h b = refl
-lookup_below least j (pair ∷ pairs) h b = grind (arith, h.0, lookup_below (pair.0 + 1) j pairs h.1)
+pub map_of_below : (least j : ℕ) (pairs : List (ℕ × ℕ)) → RisesFrom least pairs → j < least → map_of pairs j ≡ None
+map_of_below least j [] h b = refl
+map_of_below least j (pair ∷ pairs) h b = grind (arith, h.0, map_of_below (pair.0 + 1) j pairs h.1)
 
 -- a listed key is at or above the least
-pub listed-least : (least j c : ℕ) (pairs : List (ℕ × ℕ)) → RisesFrom least pairs → lookup pairs j ≡ Some c → least ≤ j
+pub listed-least : (least j c : ℕ) (pairs : List (ℕ × ℕ)) → RisesFrom least pairs → map_of pairs j ≡ Some c → least ≤ j
 listed-least least j c pairs h listed = elim (cases_lt j least) [
-  | inl lt ↦ let none = lookup_below least j pairs h lt in absurd (cc)
+  | inl lt ↦ let none = map_of_below least j pairs h lt in absurd (cc)
   | inr ge ↦ ge
 ]
 
 -- behind the place of a key all keys are above it
-pub listed-behind : (least k j c : ℕ) (pairs : List (ℕ × ℕ)) → RisesFrom least pairs → place k pairs ≡ 0 → lookup pairs j ≡ Some c → k < j
+pub listed-behind : (least k j c : ℕ) (pairs : List (ℕ × ℕ)) → RisesFrom least pairs → place k pairs ≡ 0 → map_of pairs j ≡ Some c → k < j
 listed-behind least k j c [] h none listed = absurd cc
 listed-behind least k j c (pair ∷ pairs) h none listed = elim (cases_lt k pair.0) [
   | inl lt ↦ let low = listed-least pair.0 j c (pair ∷ pairs) (omega arith, h.1) listed in omega arith
@@ -38,7 +39,7 @@ first_is k pair pairs h reached none = record {
   listed = grind arith;
   reached = reached;
   greatest = λ j c listed le. elim (cases_lt pair.0 j) [
-    | inl lt ↦ let other : lookup pairs j ≡ Some c = grind (arith, listed) in let above = listed-behind (pair.0 + 1) k j c pairs h none other in absurd (omega arith)
+    | inl lt ↦ let other : map_of pairs j ≡ Some c = grind (arith, listed) in let above = listed-behind (pair.0 + 1) k j c pairs h none other in absurd (omega arith)
     | inr ge ↦ ge
   ];
 }
@@ -51,7 +52,7 @@ later_is k child pair pairs h is =
       listed = grind (arith, is.listed, above);
       reached = is.reached;
       greatest = λ j c listed le. elim (cases_lt pair.0 j) [
-        | inl lt ↦ let other : lookup pairs j ≡ Some c = grind (arith, listed) in is.greatest j c other le
+        | inl lt ↦ let other : map_of pairs j ≡ Some c = grind (arith, listed) in is.greatest j c other le
         | inr ge ↦ omega arith
       ];
     }

@@ -1,7 +1,8 @@
 //! Which keys a page covers, and what it says of one.
 
 ghost use Rattle.std.specs.Prelude.{◌≡◌, ◌↔◌, IsTrue};
-ghost use Rattle.bl_page.specs.Pairs.{IsWithin, IsChildFor, lookup};
+ghost use Rattle.bl_model.specs.Rows.{map_of};
+ghost use Rattle.bl_page.specs.Pairs.{IsWithin, IsChildFor};
 ghost use Rattle.bl_page.specs.Pages.{Covers};
 
 use crate::page::{Inner, Leaf, Page};
@@ -30,7 +31,7 @@ impl Page {
 impl Leaf {
     /// The value that is listed with the key.
     pub fn row_of(&self, key: u64) -> Option<u64>
-        ensures { result ≡ lookup self.now.rows.items key }
+        ensures { result ≡ map_of self.now.rows.items key }
     {
         listed_with(self.rows.as_slice(), key)
     }

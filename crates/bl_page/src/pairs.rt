@@ -1,7 +1,8 @@
 //! Pairs with rising keys, by key.
 
 ghost use Rattle.std.specs.Prelude.{◌≡◌, ◌≤◌, length};
-ghost use Rattle.bl_page.specs.Pairs.{lookup, place};
+ghost use Rattle.bl_model.specs.Rows.{map_of};
+ghost use Rattle.bl_page.specs.Pairs.{place};
 
 /// How many keys are at or below a key: the place behind them, where pairs rise.
 pub fn place_of(pairs: &[(u64, u64)], key: u64) -> usize
@@ -18,7 +19,7 @@ pub fn place_of(pairs: &[(u64, u64)], key: u64) -> usize
 
 /// What is listed with a key.
 pub fn listed_with(pairs: &[(u64, u64)], key: u64) -> Option<u64>
-    ensures { result ≡ lookup pairs.now key }
+    ensures { result ≡ map_of pairs.now key }
 {
     for pair in pairs {
         if pair.0 == key {
