@@ -3,5 +3,5 @@ pub mod Histories
 pub mod Examples
 mod Lookups
 mod Places
-mod Parts
-mod Steps
+pub mod Parts
+pub mod Steps
