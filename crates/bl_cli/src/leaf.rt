@@ -23,7 +23,7 @@ pub struct OneLeaf {
 fn empty_leaf() -> Leaf
     ensures low { result.low ≡ 0 }
     ensures high { result.high ≡ 0 }
-    ensures rows { SameMap empty (map_of result.rows.items) }
+    ensures rows { map_of result.rows.items ≡ empty }
 {
     Leaf {
         low: 0,
@@ -48,7 +48,7 @@ fn collected(rows: &[(u64, u64)]) -> Pairs
 impl OneLeaf {
     /// The index without a row.
     pub fn new() -> OneLeaf
-        ensures { SameMap empty (map_of result.leaf.rows.items) }
+        ensures { map_of result.leaf.rows.items ≡ empty }
     {
         OneLeaf { leaf: empty_leaf() }
     }

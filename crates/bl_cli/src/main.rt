@@ -1,10 +1,43 @@
-//! The program `blink`.
+//! The program `blink`: its command line, its commands over readers and writers, and its words on standard error.
+//!
+//! Promised to whoever runs it: `serve` writes what is served for what it reads. The leaf that it serves from is private
+//! to this crate.
 #![tactic(auto)]
 
+mod command;
+mod fault;
 mod leaf;
+mod serve;
+#[cfg(test)]
+mod tests;
 
-use leaf::OneLeaf;
+use bl_model::Watched;
+use command::Invocation;
+use fault::CommandFault;
+use serve::serve_leaf;
+use std::io;
+use std::process::ExitCode;
 
-fn main(rt: HostRuntime) {
-    let _leaf = OneLeaf::new();
+fn main(rt: HostRuntime) -> anyhow::Result<ExitCode> {
+    let alloc = rt.alloc();
+    let words: Vec<String> = std::env::args(&rt)?.collect(alloc)?;
+    match command::read_words(alloc, words.as_slice()) {
+        Ok(Invocation::Serve(_options)) => {
+            let mut reader = Watched::new(rt.stdin());
+            let mut writer = Watched::new(io::writer(&rt));
+            match serve_leaf(alloc, &mut reader, &mut writer) {
+                Ok(_totals) => Ok(ExitCode::SUCCESS),
+                Err(fault) => {
+                    let fault = CommandFault::from(fault);
+                    eprintln!(&rt; "{fault}")?;
+                    Ok(ExitCode::from(fault.status()))
+                }
+            }
+        }
+        Ok(Invocation::Nothing) => Ok(ExitCode::from(2)),
+        Err(error) => {
+            error.print(&rt)?;
+            Ok(ExitCode::from((error.exit_code() & 0xff) as u8))
+        }
+    }
 }

@@ -1,0 +1,114 @@
+//! A plain Rust program that answers request lines as `blink serve` does over one leaf, for comparison, and a
+//! generator of such lines. `twin lines N` writes N lines; `twin serve` answers standard input.
+
+use std::collections::BTreeMap;
+use std::env;
+use std::io::{self, BufRead, BufReader, BufWriter, Write};
+
+/// Rows of one leaf.
+const ROOM: usize = 14;
+
+enum Request {
+    Find(u64),
+    Insert(u64, u64),
+    Delete(u64),
+    Sync,
+}
+
+/// A number without leading zeros.
+fn number(text: &str) -> Option<u64> {
+    let value: u64 = text.parse().ok()?;
+    let digits = text.bytes().all(|byte| byte.is_ascii_digit());
+    (digits && (text.len() == 1 || !text.starts_with('0'))).then_some(value)
+}
+
+fn parse(line: &[u8]) -> Option<Request> {
+    let line = std::str::from_utf8(line).ok()?;
+    if line == "sync" {
+        return Some(Request::Sync);
+    }
+    if let Some(rest) = line.strip_prefix("find ") {
+        return number(rest).map(Request::Find);
+    }
+    if let Some(rest) = line.strip_prefix("delete ") {
+        return number(rest).map(Request::Delete);
+    }
+    let (key, value) = line.strip_prefix("insert ")?.split_once(' ')?;
+    Some(Request::Insert(number(key)?, number(value)?))
+}
+
+fn serve() -> io::Result<()> {
+    let mut reader = BufReader::with_capacity(1 << 16, io::stdin().lock());
+    let mut writer = io::stdout().lock();
+    let mut rows = BTreeMap::new();
+    let mut line = Vec::new();
+    let mut text = Vec::new();
+    let mut count = 0u64;
+    loop {
+        line.clear();
+        if reader.read_until(b'\n', &mut line)? == 0 {
+            break;
+        }
+        count += 1;
+        let whole = line.last() == Some(&b'\n');
+        if whole {
+            line.pop();
+        }
+        match parse(&line).filter(|_| whole) {
+            None => writeln!(text, "{count} malformed")?,
+            Some(Request::Find(key)) => match rows.get(&key) {
+                Some(value) => writeln!(text, "{count} found {value}")?,
+                None => writeln!(text, "{count} absent")?,
+            },
+            Some(Request::Insert(key, value)) => match rows.get(&key) {
+                Some(there) => writeln!(text, "{count} present {there}")?,
+                None if rows.len() >= ROOM => writeln!(text, "{count} noroom")?,
+                None => {
+                    rows.insert(key, value);
+                    writeln!(text, "{count} inserted")?;
+                }
+            },
+            Some(Request::Delete(key)) => match rows.remove(&key) {
+                Some(value) => writeln!(text, "{count} deleted {value}")?,
+                None => writeln!(text, "{count} absent")?,
+            },
+            Some(Request::Sync) => {
+                writeln!(text, "{count} synced")?;
+                writer.write_all(&text)?;
+                writer.flush()?;
+                text.clear();
+            }
+        }
+    }
+    writer.write_all(&text)?;
+    writer.flush()
+}
+
+/// Finds, inserts and deletes of keys 1 to 20 in turn, by a linear congruential generator, and a sync each 1,000 lines.
+fn write_lines(count: u64) -> io::Result<()> {
+    let mut writer = BufWriter::new(io::stdout().lock());
+    let mut state = 1u64;
+    for line in 1..=count {
+        state = state.wrapping_mul(6364136223846793005).wrapping_add(1442695040888963407);
+        let key = (state >> 33) % 20 + 1;
+        match (state >> 60) % 4 {
+            _ if line % 1000 == 0 => writeln!(writer, "sync")?,
+            0 | 1 => writeln!(writer, "find {key}")?,
+            2 => writeln!(writer, "insert {key} {}", state >> 20)?,
+            _ => writeln!(writer, "delete {key}")?,
+        }
+    }
+    writer.flush()
+}
+
+fn main() -> io::Result<()> {
+    let words: Vec<String> = env::args().skip(1).collect();
+    match words.iter().map(String::as_str).collect::<Vec<_>>().as_slice() {
+        ["serve"] => serve(),
+        ["lines", count] => write_lines(count.parse().unwrap_or(0)),
+        _ => {
+            eprintln!("usage: twin serve | twin lines N");
+            std::process::exit(2);
+        }
+    }
+}

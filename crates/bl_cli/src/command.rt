@@ -1,0 +1,65 @@
+//! The command line.
+
+use clap::{Arg, Command, Error, value_parser};
+use std::alloc::Global;
+
+/// The options of `serve`.
+#[derive(Clone, Copy, Debug, PartialEq, Eq)]
+pub struct ServeOptions {
+    /// Pages of the index, 4 to 65,536. The index of one leaf has no use for them yet.
+    pub pages: u32,
+    /// Threads that serve. One, so far.
+    pub workers: u32,
+    /// Threads that compress. None, so far.
+    pub compressors: u32,
+}
+
+/// What the command line asks for.
+#[derive(Clone, Copy, Debug, PartialEq, Eq)]
+pub enum Invocation {
+    /// `blink serve`.
+    Serve(ServeOptions),
+    /// No command.
+    Nothing,
+}
+
+/// Reads the words of the command line, of which the first is the program's name. What clap refuses, or asks to be
+/// printed, is its error.
+pub fn read_words(alloc: Global, words: &[String]) -> Result<Invocation, Error> {
+    let pages = Arg::new(alloc, "pages")
+        .long("pages")
+        .value_name("N")
+        .help("Pages of the index, 4 to 65536")
+        .value_parser(value_parser!(u32).range(4..=65536))
+        .default_value("1024");
+    let workers = Arg::new(alloc, "workers")
+        .long("workers")
+        .value_name("N")
+        .help("Threads that serve: 1 so far")
+        .value_parser(value_parser!(u32).range(1..=1))
+        .default_value("1");
+    let compressors = Arg::new(alloc, "compressors")
+        .long("compressors")
+        .value_name("N")
+        .help("Threads that compress: 0 so far")
+        .value_parser(value_parser!(u32).range(0..=0))
+        .default_value("0");
+    let serve = Command::new(alloc, "serve")
+        .about("Answers request lines from standard input")
+        .arg(pages)?
+        .arg(workers)?
+        .arg(compressors)?;
+    let blink = Command::new(alloc, "blink")
+        .about("A concurrent ordered index from u64 keys to u64 values, proved")
+        .subcommand_required(true)
+        .subcommand(serve)?;
+    let matches = blink.try_get_matches_from(words)?;
+    match matches.subcommand() {
+        Some(("serve", found)) => Ok(Invocation::Serve(ServeOptions {
+            pages: found.get_one::<u32>("pages").unwrap_or(1024),
+            workers: found.get_one::<u32>("workers").unwrap_or(1),
+            compressors: found.get_one::<u32>("compressors").unwrap_or(0),
+        })),
+        _ => Ok(Invocation::Nothing),
+    }
+}
