@@ -6,3 +6,4 @@ pub mod Writing
 pub mod Spelled
 pub mod FaultLemmas
 pub mod Once
+mod MachineExamples
