@@ -1,5 +1,5 @@
 -- What calls on streams did.
-use Rattle.std.specs.Prelude.{◌≡◌, ℕ, ◌≤◌, ◌<◌, ◌+◌, ◌^◌, ◌⊎◌, List, [], ◌∷◌, ◌++◌, length, take, Option, Result, Ok, Err}
+use Rattle.std.specs.Prelude.{◌≡◌, ℕ, ◌≤◌, ◌<◌, ◌+◌, ◌^◌, ◌⊎◌, Bool, true, false, List, [], ◌∷◌, ◌++◌, length, take, Option, Result, Ok, Err}
 use Rattle.std.specs.Io.KnownBytes.{Appends, Consumes, Keeps, IsAtEnd}
 use Rattle.bl_lines.specs.declared.source.Cut.{Cut}
 use Rattle.bl_lines.specs.declared.source.Cut.TheVariants.{Whole, Long, Rest, End}
@@ -13,6 +13,12 @@ StartsOut old new text = (out : List ℕ) × (rest : List ℕ) × (text ≡ out 
 abbrev pub ReadsSome : {E : Type 0} → Result ℕ E → Option (List ℕ) → Option (List ℕ) → List ℕ → Type 0 → Type 0
 ReadsSome (Ok count) old new buffer failed = (count ≤ length buffer) × Consumes old new (take count buffer) × (count ≡ 0 → 0 < length buffer → IsAtEnd new)
 ReadsSome (Err e) old new buffer failed = Keeps old new × failed
+
+-- what was read goes behind old: there is a byte now, or there is none left, or the reader failed
+abbrev pub GivesMore : {E : Type 0} → List ℕ → List ℕ → Result Bool E → List ℕ → Type 0 → Type 0 → Type 0
+GivesMore old more (Ok true) new at_end failed = (new ≡ old ++ more) × (0 < length new)
+GivesMore old more (Ok false) new at_end failed = (old ≡ []) × (more ≡ []) × (new ≡ []) × at_end
+GivesMore old more (Err e) new at_end failed = (old ≡ []) × (more ≡ []) × (new ≡ []) × failed
 
 -- nothing is left and the reader is at its end, unless what came before has 2^64 - 1 bytes or more
 abbrev pub EndsRead : List ℕ → List ℕ → Type 0 → Type 0

@@ -5,7 +5,7 @@ ghost use Rattle.std.specs.Bool.{MatchBool};
 ghost use Rattle.std.specs.Io.{ReadsAtMost};
 ghost use Rattle.std.specs.Io.KnownBytes.{Consumes, IsAtEnd, Keeps};
 ghost use Rattle.bl_lines.specs.Lines.{HasNoLf};
-ghost use Rattle.bl_lines.specs.Streams.{CutsLine, ReadsSome};
+ghost use Rattle.bl_lines.specs.Streams.{CutsLine, GivesMore, ReadsSome};
 
 use crate::request::LINE_LIMIT;
 use arrayvec::ArrayVec;
@@ -114,6 +114,17 @@ impl Source {
         Ok(())
     }
 
+    /// Reads ahead where nothing is left, and says whether a byte is there.
+    fn is_ready<R: Read>(&mut self, reader: &mut Watched<R>) -> Result<bool, Failed>
+        ensures { (more : List ℕ) × Consumes (R.remaining reader.old.inner) (R.remaining reader.new.inner) more
+            × GivesMore self.old more result self.new (IsAtEnd (R.remaining reader.new.inner)) (reader.new.failed ≡ true) }
+    {
+        if self.is_empty() {
+            self.fill(reader)?;
+        }
+        Ok(!self.is_empty())
+    }
+
     /// Takes the bytes before the first LF and that LF, or all bytes where there is none, and says whether there was
     /// one. The bytes before it go behind the line.
     fn take_piece(&mut self, line: &mut ArrayVec<u8, KEPT>) -> bool
@@ -147,11 +158,8 @@ impl Source {
     {
         line.clear();
         for _ in 0..u64::MAX {
-            if self.is_empty() {
-                self.fill(reader)?;
-                if self.is_empty() {
-                    return Ok(if line.is_empty() { Cut::End } else { Cut::Rest });
-                }
+            if !self.is_ready(reader)? {
+                return Ok(if line.is_empty() { Cut::End } else { Cut::Rest });
             }
             if self.take_piece(line) {
                 return Ok(if line.len() <= LINE_LIMIT {

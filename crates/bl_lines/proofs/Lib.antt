@@ -1,0 +1,5 @@
+pub mod Numbers
+pub mod Long
+mod Known
+mod Written
+mod Cuts
