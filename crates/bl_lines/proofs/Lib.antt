@@ -3,3 +3,5 @@ pub mod Long
 mod Known
 mod Written
 mod Cuts
+mod Sections
+mod Progress

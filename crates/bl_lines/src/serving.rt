@@ -1,7 +1,8 @@
 //! The server of one worker.
 
-ghost use Rattle.std.specs.Prelude.{◌≡◌, ℕ, ◌+◌, ◌^◌, ◌<◌, ◌≤◌, List, [], ◌++◌, true, Err, OnOk, OnErr, MatchResult};
+ghost use Rattle.std.specs.Prelude.{◌≡◌, ℕ, ◌+◌, ◌^◌, ◌<◌, ◌≤◌, List, [], ◌++◌, true, OnOk, MatchResult};
 ghost use Rattle.std.specs.Io.KnownBytes.{Appends, Consumes, IsAtEnd};
+ghost use Rattle.bl_lines.specs.declared.serving.ServeFault.TheVariants.{Memory};
 ghost use Rattle.bl_lines.specs.Lines.{Line};
 ghost use Rattle.bl_lines.specs.Text.{numbered, response_text};
 ghost use Rattle.bl_lines.specs.Served.{Serves, Stops};
@@ -15,7 +16,7 @@ use crate::source::{Cut, Failed, KEPT, Source};
 use crate::write::write_out;
 use arrayvec::ArrayVec;
 use bl_model::Watched;
-use std::alloc::Global;
+use std::alloc::{AllocError, Global};
 use std::io::{Read, Write};
 use thiserror::Error;
 
@@ -39,6 +40,14 @@ pub enum ServeFault {
     Write,
     #[error("out of memory")]
     Memory,
+}
+
+impl From<AllocError> for ServeFault {
+    ghost from_gives = { λ _ fault. fault ≡ Memory };
+
+    fn from(_error: AllocError) -> ServeFault {
+        ServeFault::Memory
+    }
 }
 
 /// What came next, answered.
@@ -110,17 +119,14 @@ fn answer_next<M: Answers, R: Read>(
 }
 
 /// Prints the line behind those that are counted, and counts it.
-fn print_line(text: &mut Vec<u8>, totals: &mut Totals, response: &Response) -> Result<(), ServeFault>
+fn print_line(text: &mut Vec<u8>, totals: &mut Totals, response: &Response) -> Result<(), AllocError>
     requires requests { totals.old.requests + 1 < 2 ^ 64 }
     requires malformed { totals.old.malformed + 1 < 2 ^ 64 }
     requires sections { totals.old.sections + 1 < 2 ^ 64 }
     ensures text { OnOk result (text.new.items ≡ text.old.items ++ numbered (totals.old.requests + 1) (response_text response.now)) }
     ensures counts { OnOk result (CountsLine totals.old totals.new response.now) }
-    ensures memory { OnErr result (result ≡ Err ServeFault.Memory) }
 {
-    if push_line(text, totals.requests + 1, response).is_err() {
-        return Err(ServeFault::Memory);
-    }
+    push_line(text, totals.requests + 1, response)?;
     totals.count(response);
     Ok(())
 }
@@ -180,10 +186,7 @@ pub fn serve<M: Answers, R: Read, W: Write>(
         (λ totals. Serves (M.map map.old) (M.map map.new) input output totals × EndsRead input ahead (IsAtEnd (R.remaining reader.new.inner)))
         (λ fault. Stops (M.map map.old) (input ++ ahead) output fault (reader.new.failed ≡ true) (writer.new.failed ≡ true)) }
 {
-    let mut source = match Source::new(alloc) {
-        Ok(source) => source,
-        Err(_) => return Err(ServeFault::Memory),
-    };
+    let mut source = Source::new(alloc)?;
     let mut text = Vec::new(alloc);
     let mut totals = Totals {
         requests: 0,
@@ -193,8 +196,9 @@ pub fn serve<M: Answers, R: Read, W: Write>(
     for _ in 0..u64::MAX {
         text.clear();
         let end = serve_section(map, &mut source, reader, &mut text, &mut totals)?;
-        if write_out(writer, text.as_slice()).is_err() {
-            return Err(ServeFault::Write);
+        match write_out(writer, text.as_slice()) {
+            Ok(()) => {}
+            Err(_) => return Err(ServeFault::Write),
         }
         if end == SectionEnd::Finished {
             return Ok(totals);
