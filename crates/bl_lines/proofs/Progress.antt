@@ -19,6 +19,7 @@ use Rattle.bl_lines.specs.declared.serving.SectionEnd.TheVariants as section_end
 use Rattle.bl_lines.specs.Lines.{Line, IsLine, HasNoLf, Answer, Replied, Scanned, Synced, Malformed, entries, input_of, output_of, rest_text}
 use Rattle.bl_lines.specs.Served.{Section, IsSection, IsFinished, HasNoSync, HasNoSyncInside, Interleaves, lines_of, history_of, malformed_of, one_if_any, Served, Stopped, Serves, Stops, Leaves, ComesFrom}
 use Rattle.bl_lines.specs.Turns.{serial, AnswersLines, CountsLines, EndsWithSync, EndsSection, ReadsSection}
+use Rattle.bl_lines.specs.Streams.{EndsRead}
 use Rattle.bl_lines.proofs.Sections.{output_append, no_sync_any, no_sync_inside}
 
 -- ---- one worker's section
@@ -241,3 +242,37 @@ malformed_few old totals lines n counts few = omega (arith, counts.requests, cou
 pub some_line : (lines : List Line) → EndsWithSync lines → 1 ≤ length lines
 some_line lines ends = let line : Line = record { bytes = ends.1; answer = Synced } in let a = length-append ends.0 (line ∷ []) in let b : length (line ∷ []) ≡ 1 = refl in
     let c : length lines ≡ length (ends.0 ++ line ∷ []) = ap length ends.2 in omega (arith, a, b, c)
+
+pub synced_if : (end : SectionEnd) → end ≢ section_end.Finished → end ≡ section_end.Synced
+synced_if section_end.Synced other = refl
+synced_if section_end.Finished other = absurd (other refl)
+
+-- what is known of a section that a sync ended
+pub synced_ends : (end : SectionEnd) (old totals : Totals) (lines : List Line) (rest left text : List ℕ) (End Failed : Type 0) → end ≡ section_end.Synced → EndsSection (Ok end) old totals lines rest left text End Failed
+    → (rest ≡ []) × EndsWithSync lines × (text ≡ output_of (suc old.requests) lines) × CountsLines old totals lines [] 1
+synced_ends end old totals lines rest left text End Failed is ends = subst (λ e. EndsSection (Ok e) old totals lines rest left text End Failed) is ends
+
+-- and of one that the input ended
+pub finished_ends : (end : SectionEnd) (old totals : Totals) (lines : List Line) (rest left text : List ℕ) (End Failed : Type 0) → end ≡ section_end.Finished → EndsSection (Ok end) old totals lines rest left text End Failed
+    → HasNoSync lines × (text ≡ output_of (suc old.requests) lines ++ rest_text (suc old.requests + length lines) rest) × CountsLines old totals lines rest 0 × (((left ≡ []) × End) ⊎ (2 ^ 64 ≤ old.requests + length lines + length rest + 1))
+finished_ends end old totals lines rest left text End Failed is ends = subst (λ e. EndsSection (Ok e) old totals lines rest left text End Failed) is ends
+
+pub lines_few : (start now : Map) (s : List Section) (totals : Totals) (input output : List ℕ) → Progress start now s totals input output → totals.requests ≤ length input
+lines_few start now s totals input output p = let a = lines_short (lines_of s) in let e : length input ≡ length (input_of (lines_of s)) = ap length p.read in omega (arith, a, e, p.requests)
+
+-- the input has a byte for each line
+pub ends_input : (start now : Map) (s : List Section) (totals : Totals) (input output left rest : List ℕ) (lines : List Line) (End : Type 0) → Progress start now s totals input output
+    → ((left ≡ []) × End) ⊎ (2 ^ 64 ≤ totals.requests + length lines + length rest + 1) → EndsRead (input ++ (input_of lines ++ rest)) left End
+ends_input start now s totals input output left rest lines End p (inl here) = inl here
+ends_input start now s totals input output left rest lines End p (inr many) = let a = lines_few start now s totals input output p in let b = lines_short lines in
+    let c = length-append input (input_of lines ++ rest) in let d = length-append (input_of lines) rest in inr (omega (arith, a, b, c, d, many))
+
+-- nothing more is read
+pub reads_none : (now : Map) (source : List ℕ) → ReadsSection now now source source [] []
+reads_none now source = record { answers = record { good = All-nil IsLine; legal = tt; after = λ key. refl }; cut = All-nil (λ b. b ≢ 10); read = refl }
+
+pub counts_none : (totals : Totals) → CountsLines totals totals [] [] 0
+counts_none totals = record { requests = omega arith; malformed = omega arith; sections = omega arith }
+
+pub no_sync_none : HasNoSync []
+no_sync_none = All-nil (λ line. line.answer ≢ Synced)
