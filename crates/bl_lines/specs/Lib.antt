@@ -1,0 +1,5 @@
+pub mod Text
+pub mod Lines
+pub mod Served
+pub mod Streams
+pub mod Turns

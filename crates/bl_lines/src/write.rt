@@ -1,0 +1,46 @@
+//! Whole texts to a writer.
+
+ghost use Rattle.std.specs.Prelude.{◌≡◌, true, OnOk, OnErr};
+ghost use Rattle.std.specs.Io.KnownBytes.{Appends};
+ghost use Rattle.bl_lines.specs.Streams.{StartsOut};
+
+use crate::source::Failed;
+use bl_model::Watched;
+use std::io::{ErrorKind, Write};
+
+/// Writes the whole text, and a beginning of it where the writer fails.
+fn write_text<W: Write>(writer: &mut Watched<W>, text: &[u8]) -> Result<(), Failed>
+    ensures ok { OnOk result (Appends (W.contents writer.old.inner) (W.contents writer.new.inner) text.now) }
+    ensures err { OnErr result (StartsOut (W.contents writer.old.inner) (W.contents writer.new.inner) text.now) }
+    ensures failed { OnErr result (writer.new.failed ≡ true) }
+{
+    let mut rest = text;
+    for _ in 0..u64::MAX {
+        if rest.is_empty() {
+            return Ok(());
+        }
+        match writer.write(rest) {
+            Ok(0) => return Err(Failed),
+            Ok(count) => rest = &rest[count..],
+            Err(error) => {
+                if error.kind() != ErrorKind::Interrupted {
+                    return Err(Failed);
+                }
+            }
+        }
+    }
+    Err(Failed)
+}
+
+/// Writes the whole text and flushes the writer. Where one of these fails, a beginning of the text is out.
+pub fn write_out<W: Write>(writer: &mut Watched<W>, text: &[u8]) -> Result<(), Failed>
+    ensures ok { OnOk result (Appends (W.contents writer.old.inner) (W.contents writer.new.inner) text.now) }
+    ensures err { OnErr result (StartsOut (W.contents writer.old.inner) (W.contents writer.new.inner) text.now) }
+    ensures failed { OnErr result (writer.new.failed ≡ true) }
+{
+    write_text(writer, text)?;
+    match writer.flush() {
+        Ok(()) => Ok(()),
+        Err(_) => Err(Failed),
+    }
+}
