@@ -15,9 +15,7 @@ pub enum CommandFault {
 
 impl CommandFault {
     /// The exit status of the program.
-    pub fn status(self) -> u8
-        ensures { result ≡ status_of self }
-    {
+    pub fn status(self) -> u8 {
         match self {
             CommandFault::Read | CommandFault::Write => 3,
             CommandFault::Memory => 4,

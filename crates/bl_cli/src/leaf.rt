@@ -6,6 +6,7 @@ ghost use Rattle.bl_model.specs.Rows.{map_of};
 ghost use Rattle.bl_model.specs.declared.operation.Op.TheVariants.{Insert, Delete, Part};
 
 use arrayvec::ArrayVec;
+use bl_lines::Answers;
 use bl_model::{Next, Op, Reply};
 use bl_page::{Leaf, Page, Pairs, place_of};
 use bl_rearrange::{Fitted, with_pair, without};
@@ -92,14 +93,20 @@ impl OneLeaf {
         ensures { IsMapStep (map_of self.now.leaf.rows.items) (Part from) result (map_of self.now.leaf.rows.items) }
     {
         let rows = self.leaf.rows.as_slice();
-        let place = if from == 0 { 0 } else { place_of(rows, from - 1) };
+        let place = if from == 0 {
+            0
+        } else {
+            place_of(rows, from - 1)
+        };
         Reply::Rows(collected(&rows[place..]), Next::End)
     }
+}
 
-    /// Answers an operation. A key that has no room is refused.
-    pub fn answer(&mut self, op: Op) -> Reply
-        ensures { IsMapStep (map_of self.old.leaf.rows.items) op result (map_of self.new.leaf.rows.items) }
-    {
+/// A key that has no room is refused.
+impl Answers for OneLeaf {
+    ghost map = { λ one. map_of one.leaf.rows.items };
+
+    fn answer(&mut self, op: Op) -> Reply {
         match op {
             Op::Find(key) => match self.leaf.row_of(key) {
                 Some(value) => Reply::Found(value),
