@@ -8,6 +8,8 @@ mod command;
 mod fault;
 mod leaf;
 mod serve;
+#[cfg(test)]
+mod tests;
 
 use bl_model::Watched;
 use command::Invocation;
