@@ -13,9 +13,9 @@ use Rattle.bl_lines.specs.Lines.{HasNoLf}
 -- bytes of a slice that were put behind a list with room for 65
 pub keep_is : (old piece new : List ℕ) (room kept : ℕ) → room + length old ≡ 65 → kept ≡ min (length piece) room → new ≡ old ++ take kept piece → new ≡ take 65 (old ++ piece)
 keep_is old piece new room kept fits is e = e ∙ ap (λ t. old ++ t) (elim (cases_lt (length piece) room) [
-    | inl less ↦ let all : kept ≡ length piece = omega arith in ap (λ n. take n piece) all ∙ take_all (length piece) piece (omega arith) ∙ sym (take_all room piece (omega arith))
-    | inr more ↦ let some : kept ≡ room = omega arith in ap (λ n. take n piece) some
-  ]) ∙ sym (take-append-add old piece room) ∙ ap (λ n. take n (old ++ piece)) (let size : length old + room ≡ 65 = omega (arith, fits) in size)
+  | inl less ↦ let all : kept ≡ length piece = omega arith in ap (λ n. take n piece) all ∙ take_all (length piece) piece (omega arith) ∙ sym (take_all room piece (omega arith))
+  | inr more ↦ let some : kept ≡ room = omega arith in ap (λ n. take n piece) some
+]) ∙ sym (take-append-add old piece room) ∙ ap (λ n. take n (old ++ piece)) (let size : length old + room ≡ 65 = omega (arith, fits) in size)
 
 -- no LF stands before the first one
 pub no_lf_before : (ahead : List ℕ) (place : ℕ) → place < length ahead → Nowhere (Passes (is_byte 10) ahead) 0 place → HasNoLf (take place ahead)
@@ -88,8 +88,7 @@ piece_to_lf bytes self old new from upto place le inside is first kept =
     let ahead = take (upto - from) (drop from bytes) in
     let lt : place < length ahead = first.0.high in
     let lf : get_or ahead place 0 ≡ 10 = grind (arith, nat_tests, first.1) in
-    let size : length ahead ≡ upto - from = length-take-le (upto - from) (drop from bytes) (omega (arith, length-drop from bytes)) in
-    (
+    let size : length ahead ≡ upto - from = length-take-le (upto - from) (drop from bytes) (omega (arith, length-drop from bytes)) in (
       take place ahead,
       no_lf_before ahead place lt first.0.before,
       kept,

@@ -1,5 +1,6 @@
 pub mod Numbers
 pub mod Long
+pub mod Examples
 mod Known
 mod Written
 mod Cuts

@@ -11,7 +11,7 @@ pub fn number(text: &[u8]) -> Option<u64>
         return None;
     }
     if text[0] == b'0' && text.len() > 1 {
-        return None;
+        return None; // a leading zero
     }
     let mut value = 0u64;
     for byte in text {

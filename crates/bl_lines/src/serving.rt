@@ -119,7 +119,11 @@ fn answer_next<M: Answers, R: Read>(
 }
 
 /// Prints the line behind those that are counted, and counts it.
-fn print_line(text: &mut Vec<u8>, totals: &mut Totals, response: &Response) -> Result<(), AllocError>
+fn print_line(
+    text: &mut Vec<u8>,
+    totals: &mut Totals,
+    response: &Response,
+) -> Result<(), AllocError>
     requires requests { totals.old.requests + 1 < 2 ^ 64 }
     requires malformed { totals.old.malformed + 1 < 2 ^ 64 }
     requires sections { totals.old.sections + 1 < 2 ^ 64 }
@@ -152,7 +156,8 @@ fn serve_section<M: Answers, R: Read>(
         match answer_next(map, source, reader, &mut line) {
             Ok(Reading::Line(response)) => {
                 print_line(text, totals, &response)?;
-                if response.is_sync() {
+                let ended = response.is_sync();
+                if ended {
                     return Ok(SectionEnd::Synced);
                 }
             }

@@ -28,7 +28,10 @@ fn answers_texts(rt: HostRuntime) -> Result<(), Fail> {
         (b"find 1", b"1 malformed\n"),
         (b"find 5\n", b"1 absent\n"),
         (b"insert 5 50\ninsert 5 51\n", b"1 inserted\n2 present 50\n"),
-        (b"insert 18446744073709551615 1\nfind 18446744073709551615\n", b"1 inserted\n2 found 1\n"),
+        (
+            b"insert 18446744073709551615 1\nfind 18446744073709551615\n",
+            b"1 inserted\n2 found 1\n",
+        ),
         (b"sync\nsync\n", b"1 synced\n2 synced\n"),
         (b"delete 0\nfind 0\n", b"1 absent\n2 absent\n"),
         (b"scan 5 5\nchange 1 2\n", b"1 malformed\n2 malformed\n"),
@@ -68,8 +71,19 @@ fn bad_lines_are_malformed_and_the_next_is_read(rt: HostRuntime) -> Result<(), F
         let mut input = Vec::from_slice(rt.alloc(), line)?;
         input.extend_from_slice(b"\ninsert 1 10\n")?;
         let (totals, text) = answers_of(rt.alloc(), input.as_slice())?;
-        assert_eq!(rt; text.as_slice(), b"1 malformed\n2 inserted\n".as_slice(), "{line:?}");
-        assert_eq!(rt; totals, Totals { requests: 2, malformed: 1, sections: 0 });
+        assert_eq!(rt;
+            text.as_slice(),
+            b"1 malformed\n2 inserted\n".as_slice(),
+            "{line:?}"
+        );
+        assert_eq!(rt;
+            totals,
+            Totals {
+                requests: 2,
+                malformed: 1,
+                sections: 0
+            }
+        );
     }
     Ok(())
 }
@@ -84,7 +98,11 @@ fn long_lines_are_one_malformed_line(rt: HostRuntime) -> Result<(), Fail> {
         }
         input.extend_from_slice(b"\nfind 1\n")?;
         let (_, text) = answers_of(rt.alloc(), input.as_slice())?;
-        assert_eq!(rt; text.as_slice(), b"1 malformed\n2 absent\n".as_slice(), "{length}");
+        assert_eq!(rt;
+            text.as_slice(),
+            b"1 malformed\n2 absent\n".as_slice(),
+            "{length}"
+        );
     }
     Ok(())
 }
@@ -92,9 +110,23 @@ fn long_lines_are_one_malformed_line(rt: HostRuntime) -> Result<(), Fail> {
 #[test]
 fn totals_count_lines(rt: HostRuntime) -> Result<(), Fail> {
     let (totals, _) = answers_of(rt.alloc(), ROW)?;
-    assert_eq!(rt; totals, Totals { requests: 5, malformed: 1, sections: 1 });
+    assert_eq!(rt;
+        totals,
+        Totals {
+            requests: 5,
+            malformed: 1,
+            sections: 1
+        }
+    );
     let (with_rest, _) = answers_of(rt.alloc(), b"sync\nfind 1\nsync\nfind")?;
-    assert_eq!(rt; with_rest, Totals { requests: 4, malformed: 1, sections: 2 });
+    assert_eq!(rt;
+        with_rest,
+        Totals {
+            requests: 4,
+            malformed: 1,
+            sections: 2
+        }
+    );
     Ok(())
 }
 
@@ -213,7 +245,16 @@ fn a_full_writer_keeps_a_beginning(rt: HostRuntime) {
         let whole = ANSWERS.len().min(room);
         assert_eq!(rt; narrow.count, whole);
         assert!(rt; narrow.taken[..narrow.count] == ANSWERS[..whole]);
-        assert_eq!(rt; narrow.flushes, if room < 31 { 0 } else if room < 56 { 1 } else { 2 });
+        assert_eq!(rt;
+            narrow.flushes,
+            if room < 31 {
+                0
+            } else if room < 56 {
+                1
+            } else {
+                2
+            }
+        );
     }
 }
 

@@ -36,10 +36,10 @@ returns-in_err-print_line-in-Ok-Line g c = let i = c.loop.invariant in let e = r
       memory_ends c.from_residual.result _ _ _ _ _ _ _ _ (p.1 ∙ ap (λ f. Err f) p.2) (no_sync_inside i.lines line i.no_sync),
     )
 
-pub returns-then-is_sync : goal.returns-then-is_sync
-returns-then-is_sync g c = let i = c.loop.invariant in let e = rw c.in-Ok-Line.field-0-is at c.in-Ok-Line.ensures in
+pub returns-then-ended : goal.returns-then-ended
+returns-then-ended g c = let i = c.loop.invariant in let e = rw c.in-Ok-Line.field-0-is at c.in-Ok-Line.ensures in
     let line : Line = record { bytes = e.0; answer = e.3.1.answer } in
-    let sync : c.in-Ok-Line.response ≡ response.Synced = c.is_sync.ensures.0 c.if-is_sync.true in
+    let sync : c.in-Ok-Line.response ≡ response.Synced = c.is_sync-ended.ensures.0 c.if-ended.true in
     let at : c.loop.totals.requests + 1 ≡ suc c.args.totals.now.requests + length i.lines = omega (arith, i.counts.requests) in (
       i.lines ++ line ∷ [],
       [],
@@ -95,7 +95,7 @@ returns-in-Err g c = let i = c.loop.invariant in let e = c.in-Err.ensures in (
 pub loop-preserved : goal.loop-preserved
 loop-preserved g c = let i = c.loop.invariant in let e = rw c.in-Ok-Line.field-0-is at c.in-Ok-Line.ensures in
     let line : Line = record { bytes = e.0; answer = e.3.1.answer } in
-    let other : c.in-Ok-Line.response ≢ response.Synced = λ is. let t = c.is_sync.ensures.1 is in let f = c.if-is_sync.false in cc in
+    let other : c.in-Ok-Line.response ≢ response.Synced = λ is. let t = c.is_sync-ended.ensures.1 is in let f = c.if-ended.false in cc in
     let at : c.loop.totals.requests + 1 ≡ suc c.args.totals.now.requests + length i.lines = omega (arith, i.counts.requests) in
     let counts = c.in_ok-print_line-in-Ok-Line.ensures.counts in
     record {
