@@ -1,14 +1,14 @@
 -- The words of a page have no fault.
-use Rattle.std.proofs.Common.{◌≡◌, ◌≢◌, ℕ, zero, suc, ◌+◌, ◌*◌, ◌-◌, ◌/◌, ◌%◌, ◌<◌, ◌≤◌, ◌^◌, List, [], ◌∷◌, ◌++◌, length, get_or, take, drop, refl, ap, sym, subst, ◌∙◌, arith}
+use Rattle.std.proofs.Common.{◌≡◌, ℕ, zero, suc, ◌+◌, ◌-◌, ◌/◌, ◌%◌, ◌<◌, ◌≤◌, ◌^◌, List, [], ◌∷◌, ◌++◌, length, get_or, refl, ap, sym, subst, ◌∙◌, arith}
 use Rattle.std.specs.Prelude.{replicate}
-use Rattle.std.proofs.lemmas.List.{get_or-append_right, get_or-replicate, get_or_past, length-replicate, take_at}
+use Rattle.std.proofs.lemmas.List.{get_or-append_right, take_at}
 use Rattle.bl_page.specs.declared.page.Page.{Page}
 use Rattle.bl_page.specs.declared.page.Page.TheVariants as page
 use Rattle.bl_page.specs.declared.page.WordFault.{WordFault}
 use Rattle.bl_page.specs.declared.page.WordFault.TheVariants as fault
 use Rattle.bl_page.specs.Pairs.{RisesFrom, AllWithin, BeginsWith, NameChildren, AreChildren}
 use Rattle.bl_page.specs.Words.{words_of, head, layout, entries_of}
-use Rattle.bl_page.specs.Faults.{Kind, number, kind_in, level_in, count_in, pairs_in, pairs_of, width, IsOf, LevelFits, CountFits, BoundsFit, OrderFits, CoverFits, RestFits, IsFault}
+use Rattle.bl_page.specs.Faults.{Kind, number, pairs_in, pairs_of, IsOf, LevelFits, CountFits, BoundsFit, OrderFits, CoverFits, RestFits, IsFault}
 use Rattle.bl_page.proofs.Writing.{length-entries_of}
 
 -- nothing is wrong with words of that kind

@@ -1,9 +1,9 @@
 -- Look-ups in pairs that rise.
-use Rattle.std.proofs.Common.{◌≡◌, ◌≢◌, ℕ, zero, suc, ◌+◌, ◌-◌, ◌<◌, ◌≤◌, List, [], ◌∷◌, ◌++◌, length, get_or, Some, None, true, false, refl, ap, sym, subst, ◌∙◌, add-one, inl, inr, arith}
+use Rattle.std.proofs.Common.{◌≡◌, ℕ, zero, suc, ◌+◌, ◌-◌, ◌<◌, ◌≤◌, List, [], ◌∷◌, length, get_or, Some, None, true, false, refl, sym, subst, inl, inr, arith}
 use Rattle.std.specs.Prelude.{nat_lt}
 use Rattle.std.proofs.lemmas.Bool.{cases_lt}
 use Rattle.bl_model.specs.Rows.{map_of}
-use Rattle.bl_page.specs.Pairs.{RisesFrom, AllWithin, BeginsWith, NameChildren, IsWithin, IsChildFor, IsChild, place, end_of}
+use Rattle.bl_page.specs.Pairs.{RisesFrom, BeginsWith, NameChildren, IsChildFor, IsChild, place}
 
 pub place-le : (k : ℕ) (pairs : List (ℕ × ℕ)) → place k pairs ≤ length pairs
 place-le k [] = omega arith

@@ -1,8 +1,8 @@
 -- Small runs of the page machine, checked.
-use Rattle.std.proofs.Common.{◌≡◌, ◌≢◌, ℕ, ◌<◌, ◌≤◌, Bool, true, false, None, [], ◌∷◌, refl, ap, sym, ◌∙◌, inl, inr, arith}
+use Rattle.std.proofs.Common.{◌≡◌, ◌≢◌, ℕ, Bool, None, [], ◌∷◌, refl, inl, inr, arith}
 use Rattle.std.specs.Prelude.{if◌then◌else◌, ◌==◌, ◌&&◌}
 use Rattle.std.proofs.lemmas.Bool.{cases_eq}
-use Rattle.bl_page.specs.Machine.{Name, Owner, Phase, State, Act, Event, IsAt, Enabled, Steps, Leads, IsLegal}
+use Rattle.bl_page.specs.Machine.{Name, Owner, Phase, State, Act, Event, IsAt, Enabled, Leads}
 
 same : Name → Name → Bool
 same a b = (a.pass == b.pass) && (a.number == b.number)
@@ -18,9 +18,9 @@ phase_set p phase old = record {
   at = grind arith;
   others = λ q other. elim (cases_eq q.pass p.pass) [
     | inl pass ↦ elim (cases_eq q.number p.number) [
-        | inl number ↦ absurd (other (λ i. record { pass = pass i; number = number i }))
-        | inr differs ↦ grind (arith, differs)
-      ]
+      | inl number ↦ absurd (other (λ i. record { pass = pass i; number = number i }))
+      | inr differs ↦ grind (arith, differs)
+    ]
     | inr differs ↦ grind (arith, differs)
   ];
 }

@@ -1,5 +1,5 @@
 -- Each page has one spelling, and no two pages share one.
-use Rattle.std.proofs.Common.{◌≡◌, ℕ, ◌+◌, ◌-◌, ◌<◌, ◌^◌, List, [], ◌++◌, length, get_or, take, drop, Result, Ok, Err, refl, ap, sym, subst, ◌∙◌, arith}
+use Rattle.std.proofs.Common.{◌≡◌, ℕ, ◌-◌, List, ◌++◌, length, get_or, take, drop, Result, Ok, Err, ap, sym, subst, ◌∙◌, arith}
 use Rattle.std.specs.Prelude.{IfOk, IfErr, replicate}
 use Rattle.std.proofs.lemmas.List.{take_at}
 use Rattle.arrayvec.specs.ArrayVec.{ArrayVec}
@@ -10,9 +10,9 @@ use Rattle.bl_page.specs.declared.page.Leaf.{Leaf}
 use Rattle.bl_page.specs.declared.page.Inner.{Inner}
 use Rattle.bl_page.specs.declared.page.WordFault.{WordFault}
 use Rattle.bl_page.specs.Words.{words_of, entries_of}
-use Rattle.bl_page.specs.Faults.{Kind, IsOf, kind_in, level_in, count_in, pairs_in, pairs_of, IsFault}
+use Rattle.bl_page.specs.Faults.{IsOf, level_in, count_in, pairs_in, pairs_of, IsFault}
 use Rattle.bl_page.proofs.Same.{anchor_same, leaf_same, inner_same, dead_same}
-use Rattle.bl_page.proofs.FaultLemmas.{AllFit, kind_of, kind_same, no_fault, fits, head-kind, head-level, head-count, pairs_in-entries_of}
+use Rattle.bl_page.proofs.FaultLemmas.{AllFit, kind_of, kind_same, no_fault, fits, head-level, head-count, pairs_in-entries_of}
 
 same_kind : (p q : Page) → words_of p ≡ words_of q → kind_of p ≡ kind_of q
 same_kind p q e = kind_same (kind_of p) (kind_of q) (words_of q) (subst (IsOf (kind_of p)) e (fits p).is_of) (fits q).is_of

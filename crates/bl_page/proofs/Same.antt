@@ -1,5 +1,5 @@
 -- Pages with the same fields are the same.
-use Rattle.std.proofs.Common.{◌≡◌, ℕ, ◌<◌, ◌≤◌, ◌^◌, length}
+use Rattle.std.proofs.Common.{◌≡◌, ◌<◌, ◌≤◌, ◌^◌, length}
 use Rattle.std.specs.Coded.{le_prop}
 use mathlib.Core.HLevel.{is_prop→PathP}
 use Rattle.bl_page.specs.declared.page.Anchor.{Anchor}

@@ -1,7 +1,7 @@
 -- Words in which nothing is wrong are a page's.
 use Rattle.std.proofs.Common.{◌≡◌, ℕ, zero, suc, ◌+◌, ◌*◌, ◌-◌, ◌/◌, ◌%◌, ◌<◌, ◌≤◌, ◌^◌, List, [], ◌∷◌, ◌++◌, length, get_or, take, drop, refl, ap, sym, ◌∙◌, arith}
 use Rattle.std.specs.Prelude.{replicate}
-use Rattle.std.proofs.lemmas.List.{same_lists, length-replicate, get_or-replicate, get_or_default, take-append-drop, length-drop, get_or-drop, length-take-le}
+use Rattle.std.proofs.lemmas.List.{take-append-drop, length-drop, get_or-drop, length-take-le}
 use Rattle.bl_page.specs.Words.{head, layout, entries_of}
 use Rattle.bl_page.specs.Faults.{pairs_in}
 

@@ -1,5 +1,5 @@
 -- What is wrong with words that are no page's.
-use Rattle.std.specs.Prelude.{◌≡◌, ◌≢◌, ℕ, zero, suc, ◌+◌, ◌*◌, ◌/◌, ◌%◌, ◌<◌, ◌≤◌, ◌^◌, List, [], ◌∷◌, slice_index, take, drop}
+use Rattle.std.specs.Prelude.{◌≡◌, ℕ, zero, suc, ◌+◌, ◌*◌, ◌/◌, ◌%◌, ◌<◌, ◌≤◌, ◌^◌, List, [], ◌∷◌, slice_index, take, drop}
 use Rattle.bl_page.specs.declared.page.WordFault.{WordFault}
 use Rattle.bl_page.specs.declared.page.WordFault.TheVariants as fault
 use Rattle.bl_page.specs.Pairs.{end_of, RisesFrom, AllWithin, BeginsWith, NameChildren, AreChildren}

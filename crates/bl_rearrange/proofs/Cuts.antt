@@ -1,8 +1,7 @@
 -- Pairs that rise, cut in two.
-use Rattle.std.proofs.Common.{◌≡◌, ◌≢◌, ℕ, suc, ◌+◌, ◌<◌, ◌≤◌, List, [], ◌∷◌, ◌++◌, length, None, Some, refl, ap, sym, inl, inr, arith}
-use Rattle.std.proofs.lemmas.Bool.{cases_lt}
+use Rattle.std.proofs.Common.{◌≡◌, ℕ, ◌+◌, ◌<◌, ◌≤◌, List, [], ◌∷◌, ◌++◌, refl, sym, arith}
 use Rattle.bl_model.specs.Rows.{map_of}
-use Rattle.bl_page.specs.Pairs.{RisesFrom, AllWithin, BeginsWith, NameChildren, IsWithin, IsChild, end_of}
+use Rattle.bl_page.specs.Pairs.{RisesFrom, AllWithin, NameChildren, end_of}
 use Rattle.bl_page.proofs.Lookups.{map_of_below}
 
 pub RisesFrom-lower : (a b : ℕ) (pairs : List (ℕ × ℕ)) → a ≤ b → RisesFrom b pairs → RisesFrom a pairs

@@ -1,11 +1,11 @@
 -- Pairs that rise, with one more or one less.
-use Rattle.std.proofs.Common.{◌≡◌, ◌≢◌, ℕ, zero, suc, ◌+◌, ◌-◌, ◌<◌, ◌≤◌, List, [], ◌∷◌, ◌++◌, length, take, drop, get_or, None, Some, true, false, refl, ap, sym, subst, ◌∙◌, add-one, inl, inr, arith}
-use Rattle.std.specs.Prelude.{nat_lt, ◌==◌, IsSome}
+use Rattle.std.proofs.Common.{◌≡◌, ◌≢◌, ℕ, zero, suc, ◌+◌, ◌≤◌, List, [], ◌∷◌, ◌++◌, length, take, drop, None, Some, true, false, refl, ap, add-one, inl, inr, arith}
+use Rattle.std.specs.Prelude.{nat_lt, ◌==◌}
 use Rattle.std.specs.List.{insert}
 use Rattle.std.proofs.lemmas.Bool.{cases_lt, cases_eq}
 use Rattle.bl_model.specs.Map.{with_pair, without_key, SameMap}
 use Rattle.bl_model.specs.Rows.{map_of}
-use Rattle.bl_page.specs.Pairs.{RisesFrom, AllWithin, BeginsWith, NameChildren, IsWithin, IsChild, place, end_of}
+use Rattle.bl_page.specs.Pairs.{RisesFrom, AllWithin, BeginsWith, NameChildren, IsWithin, IsChild, place}
 use Rattle.bl_page.proofs.Lookups.{map_of_below}
 use Rattle.bl_rearrange.specs.Entered.{entered, dropped}
 

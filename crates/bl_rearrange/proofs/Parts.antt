@@ -1,13 +1,12 @@
 -- What entering a pair gives, whole or parted.
-use Rattle.std.proofs.Common.{◌≡◌, ℕ, suc, ◌+◌, ◌<◌, ◌≤◌, List, [], ◌∷◌, ◌++◌, length, get_or, Option, Some, None, refl, ap, sym, subst, ◌∙◌, arith}
+use Rattle.std.proofs.Common.{◌≡◌, ℕ, List, [], ◌∷◌, ◌++◌, length, get_or, Option, Some, None, refl, ap, sym, subst, ◌∙◌, arith}
 use Rattle.std.specs.Prelude.{IsSome}
 use Rattle.std.proofs.lemmas.Bool.{false≢true}
-use Rattle.bl_model.specs.Map.{with_pair, SameMap}
 use Rattle.bl_model.specs.Rows.{map_of}
 use Rattle.bl_page.specs.Pairs.{RisesFrom, AllWithin, BeginsWith, NameChildren, IsWithin, IsChild}
 use Rattle.bl_rearrange.specs.Entered.{entered, dropped, IsEntered, IsDropped, AreHalves}
 use Rattle.bl_rearrange.proofs.EnteredLemmas.{length-entered, map_of-entered, RisesFrom-entered, AllWithin-entered, BeginsWith-entered, NameChildren-entered, length-dropped_le, length-dropped, RisesFrom-dropped, AllWithin-dropped, BeginsWith-dropped, NameChildren-dropped, map_of-dropped}
-use Rattle.bl_rearrange.proofs.Cuts.{IsCut, cut, NameChildren-append, RisesFrom-lower}
+use Rattle.bl_rearrange.proofs.Cuts.{cut, NameChildren-append, RisesFrom-lower}
 
 pub entered_is : (low high key word : ℕ) (old : List (ℕ × ℕ)) → RisesFrom 0 old → AllWithin low high old → IsWithin low high key → map_of old key ≡ None
     → IsEntered low high key word old (entered key word old)

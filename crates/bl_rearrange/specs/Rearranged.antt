@@ -1,11 +1,10 @@
 -- What becomes of a page when pairs come and go.
-use Rattle.std.specs.Prelude.{◌≡◌, ◌≢◌, ℕ, ◌+◌, ◌<◌, ◌≤◌, List, [], length, None, IsSome}
+use Rattle.std.specs.Prelude.{◌≡◌, ◌≢◌, ℕ, ◌+◌, ◌<◌, ◌≤◌, List, [], length, IsSome}
 use Rattle.bl_model.specs.Map.{with_pair, without_key, SameMap}
 use Rattle.bl_model.specs.Rows.{map_of}
 use Rattle.bl_page.specs.declared.page.Page.{Page}
 use Rattle.bl_page.specs.declared.page.Page.TheVariants.{Anchor, Leaf, Inner, Dead}
 use Rattle.bl_page.specs.Pairs.{BeginsWith, IsChild}
-use Rattle.bl_page.specs.Pages.{Covers}
 use Rattle.bl_rearrange.specs.declared.fitted.Fitted.{Fitted}
 use Rattle.bl_rearrange.specs.declared.fitted.Fitted.TheVariants.{Fits, Split}
 

@@ -1,7 +1,7 @@
-use Rattle.std.proofs.Common.{◌≡◌, ◌≤◌, ℕ, List, drop, slice_index, ap, subst, sym, ◌∙◌, arith}
+use Rattle.std.proofs.Common.{◌≡◌, ℕ, List, drop, slice_index, ap, subst, sym, ◌∙◌, arith}
 use Rattle.std.proofs.lemmas.Bool.{false≢true}
 use Rattle.bl_page.specs.Pairs.{RisesFrom, AllWithin, BeginsWith, NameChildren}
-use Rattle.bl_page.specs.Faults.{Kind, IsOf, LevelFits, CountFits, BoundsFit, OrderFits, CoverFits, pairs_in, pairs_of}
+use Rattle.bl_page.specs.Faults.{Kind, LevelFits, CountFits, OrderFits, CoverFits, pairs_in, pairs_of}
 use Rattle.bl_page.proofs.Spelled.{pairs_layout}
 use Rattle.bl_page.proofs.reading.inner_in.Goals as goal
 

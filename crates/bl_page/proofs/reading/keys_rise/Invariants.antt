@@ -1,4 +1,4 @@
-use Rattle.std.proofs.Common.{◌↔◌, ℕ, ◌+◌, drop, Option, Some, None}
+use Rattle.std.proofs.Common.{◌↔◌, drop}
 use Rattle.bl_page.specs.Pairs.{RisesFrom}
 use Rattle.bl_page.proofs.reading.keys_rise.Given as goal
 use Rattle.bl_page.proofs.PairsIn.{least_after}

@@ -1,4 +1,4 @@
-use Rattle.std.proofs.Common.{sym, ◌∙◌, arith}
+use Rattle.std.proofs.Common.{sym, ◌∙◌}
 use Rattle.bl_page.proofs.Spelled.{pairs_layout}
 use Rattle.bl_page.proofs.reading.leaf_in.Goals as goal
 

@@ -1,5 +1,4 @@
-use Rattle.std.proofs.Common.{arith, length, ◌≡◌}
-use Rattle.bl_page.specs.Faults.{pairs_in}
+use Rattle.std.proofs.Common.{arith}
 use Rattle.bl_page.proofs.PairsIn.{pairs_in-more}
 use Rattle.bl_page.proofs.reading.pairs_at.Goals as goal
 

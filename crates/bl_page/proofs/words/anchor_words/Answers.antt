@@ -1,4 +1,4 @@
-use Rattle.std.proofs.Common.{[], ◌∷◌, ◌++◌, length, take, set, ap, ◌∙◌, sym, arith, ◌≤◌, ◌+◌}
+use Rattle.std.proofs.Common.{[], ◌∷◌, ◌++◌, length, take, set, ap, ◌∙◌, sym, arith, ◌+◌}
 use Rattle.std.proofs.lemmas.List.{take_more, length-take-le}
 use Rattle.bl_page.specs.Words.{layout, head}
 use Rattle.bl_page.proofs.Writing.{layout_more}

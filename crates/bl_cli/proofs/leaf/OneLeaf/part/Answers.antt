@@ -1,11 +1,9 @@
-use Rattle.std.proofs.Common.{◌≡◌, ◌-◌, length, drop, refl, ap, subst, sym, ◌∙◌, arith}
+use Rattle.std.proofs.Common.{◌≡◌, drop, ap, ◌∙◌, arith}
 use Rattle.std.proofs.lemmas.List.{length-drop, take_rest}
-use Rattle.bl_model.specs.Rows.{map_of}
 use Rattle.bl_model.specs.declared.operation.Reply.TheVariants.{Rows}
 use Rattle.bl_model.specs.declared.operation.Next.TheVariants.{End}
 use Rattle.bl_model.proofs.Parts.{IsPlaceOf}
 use Rattle.bl_model.proofs.Steps.{step_part}
-use Rattle.bl_page.specs.Pairs.{place}
 use Rattle.bl_cli.proofs.Places.{rising_keys, place_of_zero, place_of_some}
 use Rattle.bl_cli.proofs.leaf.OneLeaf.part.Goals as goal
 use Rattle.bl_cli.proofs.leaf.OneLeaf.part.Goals.{then-from-eq0, else-from-eq0}

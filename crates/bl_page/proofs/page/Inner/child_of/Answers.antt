@@ -1,5 +1,5 @@
-use Rattle.std.proofs.Common.{◌≡◌, ◌<◌, ◌-◌, length, get_or, ap, subst, sym, ◌∙◌, arith}
-use Rattle.bl_page.specs.Pairs.{IsChildFor, IsChild, place}
+use Rattle.std.proofs.Common.{◌≡◌, ◌<◌, ◌-◌, get_or, ap, ◌∙◌, arith}
+use Rattle.bl_page.specs.Pairs.{IsChild, place}
 use Rattle.bl_page.proofs.Lookups.{child_at_place, place-some, place-le, NameChildren-at}
 use Rattle.bl_page.proofs.page.Inner.child_of.Goals as goal
 
