@@ -1,0 +1,53 @@
+//! The bytes of one page.
+
+ghost use Rattle.std.specs.Prelude.{◌≡◌, ◌+◌, ◌*◌, ◌≤◌, ◌↔◌, Option, Ok, length, replicate, IfOk, IsTrue, MatchOption};
+ghost use Rattle.bl_page.specs.declared.page.Page.{Page};
+ghost use Rattle.bl_image.specs.Images.{word_bytes, page_words, page_bytes, ArePage, Fits64, chunk};
+
+use bl_page::{Page, WordFault, from_words};
+use byteorder::{ByteOrder, LittleEndian};
+
+/// The words that 256 bytes spell.
+pub fn words_in(bytes: &[u8]) -> [u64; 32]
+    requires { length bytes.now ≡ 256 }
+    ensures bytes { word_bytes result ≡ bytes.now }
+    ensures count { length result ≡ 32 }
+    ensures fits { Fits64 result }
+{
+    let mut words = [0; 32];
+    LittleEndian::read_u64_into(bytes, &mut words);
+    words
+}
+
+fn is_zero(words: &[u64; 32]) -> bool
+    ensures { IsTrue result ↔ (words.now ≡ replicate 32 0) }
+{
+    *words == [0; 32]
+}
+
+/// The page that words spell, or None where all of them are zeros.
+pub fn page_in(words: &[u64; 32]) -> Result<Option<Page>, WordFault>
+    ensures ok { IfOk result (λ page. words.now ≡ page_words page) }
+    ensures only { (page : Option Page) → words.now ≡ page_words page → result ≡ Ok page }
+{
+    if is_zero(words) {
+        return Ok(None);
+    }
+    match from_words(words) {
+        Ok(page) => Ok(Some(page)),
+        Err(fault) => Err(fault),
+    }
+}
+
+/// The page number x, if its bytes are a page's.
+pub fn page_at(bytes: &[u8], x: u32) -> Option<Option<Page>>
+    requires { 32 + 256 * (x + 1) ≤ length bytes.now }
+    ensures { MatchOption result (¬ ArePage (chunk bytes.now x))
+        (λ page. Fits64 (page_words page) × (chunk bytes.now x ≡ page_bytes page)) }
+{
+    let at = 32 + 256 * x as usize;
+    match page_in(&words_in(&bytes[at..at + 256])) {
+        Ok(page) => Some(page),
+        Err(_) => None,
+    }
+}
