@@ -1,0 +1,4 @@
+pub mod Pages
+pub mod Frames
+pub mod Told
+pub mod Hands
