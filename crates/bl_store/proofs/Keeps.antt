@@ -71,7 +71,7 @@ module _ {D : Type 0} where
   }
 
   -- a frame's state changes, and its owner word or one of its words
-  pub shows_frame : (l : Layout) (ws : List ℕ) (s : Pages D) (fs : List Frame) (f i n : ℕ) (old new : Frame) → IsOrderly l.pages s → Shows l ws s fs → get_elem? fs f ≡ some old → (i ≡ state_at l f) ⊎ ((place_at l f 0 ≤ i) × (i < place_at l f 32))
+  pub shows_frame : (l : Layout) (ws : List ℕ) (s : Pages D) (fs : List Frame) (f i n : ℕ) (old new : Frame) → IsOrderly l s → Shows l ws s fs → get_elem? fs f ≡ some old → (i ≡ state_at l f) ⊎ ((place_at l f 0 ≤ i) × (i < place_at l f 32))
       → FrameIs l (set ws i n) f new → ((x : ℕ) (ys : List ℕ) → used (shown x) ys ≢ old) → Shows l (set ws i n) s (set fs f new)
   shows_frame l ws s fs f i n old new o r here where_i is no_page = let total = r.frame_total in let inside = at_below fs f old here in let counts = o.contents in let owned' = o.owners in
       let high : 1 + l.passes + 2 * l.pages ≤ i = ⊎_elim (λ (e : i ≡ state_at l f). omega arith) (λ (e : (place_at l f 0 ≤ i) × (i < place_at l f 32)). let low = e.0 in omega arith) where_i in record {
@@ -119,7 +119,7 @@ module _ {D : Type 0} where
   }
 
   -- an owner word changes, and the owner
-  pub shows_owner : (l : Layout) (ws : List ℕ) (s : Pages D) (fs : List Frame) (x n : ℕ) (o : Owner) → IsOrderly l.pages s → x < l.pages → OwnerIs n o → Shows l ws s fs → Shows l (set ws (owner_at l x) n) (owned s x o) fs
+  pub shows_owner : (l : Layout) (ws : List ℕ) (s : Pages D) (fs : List Frame) (x n : ℕ) (o : Owner) → IsOrderly l s → x < l.pages → OwnerIs n o → Shows l ws s fs → Shows l (set ws (owner_at l x) n) (owned s x o) fs
   shows_owner l ws s fs x n o orderly low is r = let wide = r.wide in let i : ℕ = owner_at l x in let counts = orderly.contents in let owners = orderly.owners in record {
     wide = length-set ws i n ∙ r.wide;
     frame_total = r.frame_total;
@@ -144,21 +144,22 @@ module _ {D : Type 0} where
     frame = λ g fr e. frame_same l ws (set ws 0 n) g (get_or-set_other ws 0 (state_at l g) n 0 (λ z. omega arith)) (λ k small. get_or-set_other ws 0 (place_at l g k) n 0 (λ z. omega arith)) fr (r.frame g fr e);
   }
 
-  pub orderly_told : (pages : ℕ) (s : Pages D) (q : ℕ) (st : Stage) (d : D) → ((b : ℕ) → st ≡ Running b → b ≤ s.clock) → IsOrderly pages s → IsOrderly pages (told s q st d)
-  orderly_told pages s q st d low r = record {
+  pub orderly_told : (l : Layout) (s : Pages D) (q : ℕ) (st : Stage) (d : D) → ((b : ℕ) → st ≡ Running b → b ≤ s.clock) → IsOrderly l s → IsOrderly l (told s q st d)
+  orderly_told l s q st d low r = record {
     contents = r.contents;
     owners = r.owners;
+    hands = length-set s.hands q (st, d) ∙ r.hands;
     begun = λ n since e at. ⊎_elim (λ (t : (n ≡ q) × ((st, d) ≡ (Running since, e))). low since (ap (λ (z : Stage × D). z.0) t.1)) (λ (t : (n ≢ q) × (get_elem? s.hands n ≡ some (Running since, e))). r.begun n since e t.1) (at_set s.hands q n (st, d) (Running since, e) at);
   }
 
-  pub orderly_owned : (pages : ℕ) (s : Pages D) (x : ℕ) (o : Owner) → IsOrderly pages s → IsOrderly pages (owned s x o)
-  orderly_owned pages s x o r = record { contents = r.contents; owners = length-set s.owners x o ∙ r.owners; begun = r.begun }
+  pub orderly_owned : (l : Layout) (s : Pages D) (x : ℕ) (o : Owner) → IsOrderly l s → IsOrderly l (owned s x o)
+  orderly_owned l s x o r = record { contents = r.contents; owners = length-set s.owners x o ∙ r.owners; hands = r.hands; begun = r.begun }
 
-  pub orderly_written : (pages : ℕ) (s : Pages D) (x : ℕ) (xs : List ℕ) → IsOrderly pages s → IsOrderly pages (written s x xs)
-  orderly_written pages s x xs r = record { contents = length-set s.contents x xs ∙ r.contents; owners = r.owners; begun = r.begun }
+  pub orderly_written : (l : Layout) (s : Pages D) (x : ℕ) (xs : List ℕ) → IsOrderly l s → IsOrderly l (written s x xs)
+  orderly_written l s x xs r = record { contents = length-set s.contents x xs ∙ r.contents; owners = r.owners; hands = r.hands; begun = r.begun }
 
-  pub orderly_later : (pages : ℕ) (s : Pages D) → IsOrderly pages s → IsOrderly pages (later s)
-  orderly_later pages s r = record { contents = r.contents; owners = r.owners; begun = λ n since e at. let low = r.begun n since e at in omega arith }
+  pub orderly_later : (l : Layout) (s : Pages D) → IsOrderly l s → IsOrderly l (later s)
+  orderly_later l s r = record { contents = r.contents; owners = r.owners; hands = r.hands; begun = λ n since e at. let low = r.begun n since e at in omega arith }
 
   -- what a sweep knows stays: the hand q goes on with its process, ends it, or begins one by now
   pub swept_told : (s s' : Pages D) (q : ℕ) (st0 st : Stage) (d0 d : D) (m k : ℕ) → s.clock ≤ s'.clock → Stands s q st0 d0 → s'.hands ≡ set s.hands q (st, d) → ((b : ℕ) → st ≡ Running b → (st0 ≡ Running b) ⊎ (s.clock ≤ b))
@@ -268,14 +269,13 @@ module _ {D : Type 0} where
 
     -- the whole of the rule, after a step of the seat id on the word i
     pub moved : (st : St) (r : Rule st) (i n id : ℕ) (cs : List (ℕ × Unit {0})) (v w : View D) (s' : Pages D) (fs' : List Frame) (bs' : List ℕ) → get_elem? st.views id ≡ some v
-        → IsOrderly l.pages s' → l.passes ≤ length s'.hands → Shows l (set st.words i n) s' fs' → Budgeted l.passes s'.clock bs' → Goes l st.words (set st.words i n) r.pages s' r.frames fs' r.budgets bs' v.number
+        → IsOrderly l s' → Shows l (set st.words i n) s' fs' → Budgeted l.passes s'.clock bs' → Goes l st.words (set st.words i n) r.pages s' r.frames fs' r.budgets bs' v.number
         → Own l (set st.words i n) s' fs' bs' v w → holds s' → Rule (stepped st i n id cs w keeps)
-    moved st r i n id cs v w s' fs' bs' at orderly hands shows budgeted go own kept = record {
+    moved st r i n id cs v w s' fs' bs' at orderly shows budgeted go own kept = record {
       pages = s';
       frames = fs';
       budgets = bs';
       orderly = orderly;
-      hands = hands;
       shows = shows;
       budgeted = budgeted;
       seats = λ j x at_j. ⊎_elim
@@ -289,8 +289,8 @@ module _ {D : Type 0} where
 
     -- the same where no word changes
     pub unmoved : (st : St) (r : Rule st) (i id : ℕ) (cs : List (ℕ × Unit {0})) (v w : View D) (s' : Pages D) (bs' : List ℕ) → get_elem? st.views id ≡ some v
-        → IsOrderly l.pages s' → l.passes ≤ length s'.hands → Shows l st.words s' r.frames → Budgeted l.passes s'.clock bs' → Goes l st.words st.words r.pages s' r.frames r.frames r.budgets bs' v.number
+        → IsOrderly l s' → Shows l st.words s' r.frames → Budgeted l.passes s'.clock bs' → Goes l st.words st.words r.pages s' r.frames r.frames r.budgets bs' v.number
         → Own l st.words s' r.frames bs' v w → holds s' → Rule (stepped st i (get_or st.words i 0) id cs w keeps)
-    unmoved st r i id cs v w s' bs' at orderly hands shows budgeted go own kept = let same : st.words ≡ set st.words i (get_or st.words i 0) = sym (set-get_or st.words i 0) in
-        moved st r i (get_or st.words i 0) id cs v w s' r.frames bs' at orderly hands (subst (λ (z : List ℕ). Shows l z s' r.frames) same shows) budgeted
+    unmoved st r i id cs v w s' bs' at orderly shows budgeted go own kept = let same : st.words ≡ set st.words i (get_or st.words i 0) = sym (set-get_or st.words i 0) in
+        moved st r i (get_or st.words i 0) id cs v w s' r.frames bs' at orderly (subst (λ (z : List ℕ). Shows l z s' r.frames) same shows) budgeted
             (subst (λ (z : List ℕ). Goes l st.words z r.pages s' r.frames r.frames r.budgets bs' v.number) same go) (subst (λ (z : List ℕ). Own l z s' r.frames bs' v w) same own) kept

@@ -1,3 +1,8 @@
 mod Lists
 mod Keeps
 mod Time
+mod Reserving
+mod Putting
+mod Owning
+mod Ticking
+mod Sweeping

@@ -65,8 +65,8 @@ module _ {D : Type 0} where
     swept = λ m k is. swept_told s (told s q st d) q st0 st d0 d m k (le_refl s.clock) here refl begun is;
   }
 
-  pub began_by : (s : Pages D) (pages n : ℕ) (st : Stamp) (d : D) → IsOrderly pages s → Stands s n (stage_of st) d → (b : ℕ) → stage_of st ≡ Running b → b ≤ s.clock
-  began_by s pages n st d o stands b e = o.begun n b d (stands ∙ ap (λ (z : Stage). some (z, d)) e)
+  pub began_by : (l : Layout) (s : Pages D) (n : ℕ) (st : Stamp) (d : D) → IsOrderly l s → Stands s n (stage_of st) d → (b : ℕ) → stage_of st ≡ Running b → b ≤ s.clock
+  began_by l s n st d o stands b e = o.begun n b d (stands ∙ ap (λ (z : Stage). some (z, d)) e)
 
 module _ {D : Type 0} (l : Layout) (first : D) (holds : Pages D → Type 0) where
   abbrev St : Type 0
@@ -84,8 +84,7 @@ module _ {D : Type 0} (l : Layout) (first : D) (holds : Pages D → Type 0) wher
   told_load st r i id cs v rd d at reads kept = let mine = r.seats id v at in let s : Pages D = r.pages in let low = mine.counted in let dealt = mine.dealt in
       let go : Goes l st.words st.words s (told s v.number (stage_of v.stamp) d) r.frames r.frames r.budgets r.budgets v.number = goes_told l st.words st.words s r.frames r.budgets v.number (stage_of v.stamp) (stage_of v.stamp) v.known d mine.stands (λ b e. inl e) (λ x _. refl) in
       unmoved l first holds st r i id cs v (record v { reading = rd; known = d }) (told s v.number (stage_of v.stamp) d) r.budgets at
-          (orderly_told l.pages s v.number (stage_of v.stamp) d (began_by s l.pages v.number v.stamp v.known r.orderly mine.stands) r.orderly)
-          (let hands = r.hands in subst (λ (z : ℕ). l.passes ≤ z) (sym (length-set s.hands v.number (stage_of v.stamp, d))) hands)
+          (orderly_told l s v.number (stage_of v.stamp) d (began_by l s v.number v.stamp v.known r.orderly mine.stands) r.orderly)
           (shows_told l st.words s r.frames v.number (stage_of v.stamp) d (r.shows.process v.number (stage_of v.stamp) v.known (omega arith) mine.stands) r.shows)
           r.budgeted go
           record {
@@ -111,8 +110,7 @@ module _ {D : Type 0} (l : Layout) (first : D) (holds : Pages D → Type 0) wher
       let go : Goes l st.words ws s (told s v.number (stage_of sp) d) r.frames r.frames r.budgets r.budgets v.number = goes_told l st.words ws s r.frames r.budgets v.number (stage_of v.stamp) (stage_of sp) v.known d mine.stands
           (λ b e. let now = begun b e in inr (omega arith)) owners in
       moved l first holds st r i n id cs v (record v { stamp = sp; reading = Nowhere; known = d }) (told s v.number (stage_of sp) d) r.frames r.budgets at
-          (orderly_told l.pages s v.number (stage_of sp) d (λ b e. let now = begun b e in omega arith) r.orderly)
-          (let hands = r.hands in subst (λ (z : ℕ). l.passes ≤ z) (sym (length-set s.hands v.number (stage_of sp, d))) hands)
+          (orderly_told l s v.number (stage_of sp) d (λ b e. let now = begun b e in omega arith) r.orderly)
           (subst (λ (z : ℕ). Shows l (set st.words z n) (told s v.number (stage_of sp) d) r.frames) (sym i_is) (shows_process l st.words s r.frames v.number n (stage_of sp) d (omega arith) is r.shows))
           r.budgeted go
           record {
@@ -137,7 +135,7 @@ module _ {D : Type 0} (l : Layout) (first : D) (holds : Pages D → Type 0) wher
         w,
         keeps,
         tt,
-        unmoved l first holds st r i id me.1 me.0 w s r.budgets at r.orderly r.hands r.shows r.budgeted (goes_on l st.words s r.frames r.budgets r.budgets me.0.number (λ k _. refl))
+        unmoved l first holds st r i id me.1 me.0 w s r.budgets at r.orderly r.shows r.budgeted (goes_on l st.words s r.frames r.budgets r.budgets me.0.number (λ k _. refl))
             record {
               layout = refl;
               number = refl;
@@ -154,7 +152,7 @@ module _ {D : Type 0} (l : Layout) (first : D) (holds : Pages D → Type 0) wher
         ((refl, refl), (refl, refl, refl), refl, refl, omega arith),
       )
 
-  pub stamps : (then' : D → ℕ → D → Type 0) (slots id i n c : ℕ) (me : M) → i ≡ process_at me.0.number → n ≡ c + 1 → me.0.stamp ≡ Clocked c → Begins holds l.pages me.0.number me.0.known then'
+  pub stamps : (then' : D → ℕ → D → Type 0) (slots id i n c : ℕ) (me : M) → i ≡ process_at me.0.number → n ≡ c + 1 → me.0.stamp ≡ Clocked c → Begins holds l me.0.number me.0.known then'
       → Allows Rule slots id me i (λ _. n) (λ _. stamped then' (step slots i n 0 none) me n)
   stamps then' slots id i n c me i_is n_is is asked st r _ at _ = let mine = r.seats id me.0 at in let s : Pages D = r.pages in let seen : c ≤ s.clock = subst (IsRead s.clock) is mine.clocked in
       let t = asked s r.kept r.orderly (mine.stands ∙ ap (λ (z : Stamp). some (stage_of z, me.0.known)) is) in (
@@ -165,7 +163,7 @@ module _ {D : Type 0} (l : Layout) (first : D) (holds : Pages D → Type 0) wher
         ((refl, refl), (refl, refl, refl), (s.clock, refl, t.2)),
       )
 
-  pub finishes : (then' : D → ℕ → D → Type 0) (slots id i b : ℕ) (me : M) → i ≡ process_at me.0.number → me.0.stamp ≡ In b → Ends holds l.pages me.0.number me.0.known then'
+  pub finishes : (then' : D → ℕ → D → Type 0) (slots id i b : ℕ) (me : M) → i ≡ process_at me.0.number → me.0.stamp ≡ In b → Ends holds l me.0.number me.0.known then'
       → Allows Rule slots id me i (λ _. 0) (λ _. ended then' (step slots i 0 0 none) me 0)
   finishes then' slots id i b me i_is is asked st r _ at _ = let mine = r.seats id me.0 at in let s : Pages D = r.pages in
       let t = asked s b r.kept r.orderly (mine.stands ∙ ap (λ (z : Stamp). some (stage_of z, me.0.known)) is) in (
@@ -176,7 +174,7 @@ module _ {D : Type 0} (l : Layout) (first : D) (holds : Pages D → Type 0) wher
         ((refl, refl), (refl, refl, refl), refl, (s.clock, t.3)),
       )
 
-  pub looks : (then' : D → ℕ → Owner → List ℕ → D → Type 0) (slots id i b x : ℕ) (me : M) → i ≡ page_at l x → x < l.pages → me.0.layout ≡ l → me.0.stamp ≡ In b → Gets holds l.pages me.0.number me.0.known x then'
+  pub looks : (then' : D → ℕ → Owner → List ℕ → D → Type 0) (slots id i b x : ℕ) (me : M) → i ≡ page_at l x → x < l.pages → me.0.layout ≡ l → me.0.stamp ≡ In b → Gets holds l me.0.number me.0.known x then'
       → Allows Rule slots id me i (λ n. n) (looked then' (step slots i 0 0 none) me)
   looks then' slots id i b x me i_is inside same is asked st r _ at _ = let mine = r.seats id me.0 at in let s : Pages D = r.pages in let orderly = r.orderly in let counts = orderly.contents in let owners = orderly.owners in
       let page = there s.contents x (omega arith) in let own = there s.owners x (omega arith) in let n : ℕ = get_or st.words i 0 in
@@ -218,7 +216,7 @@ module _ {D : Type 0} (l : Layout) (first : D) (holds : Pages D → Type 0) wher
         me.0,
         keeps,
         tt,
-        unmoved l first holds st r i id me.1 me.0 me.0 s r.budgets at r.orderly r.hands r.shows r.budgeted (goes_on l st.words s r.frames r.budgets r.budgets me.0.number (λ k _. refl))
+        unmoved l first holds st r i id me.1 me.0 me.0 s r.budgets at r.orderly r.shows r.budgeted (goes_on l st.words s r.frames r.budgets r.budgets me.0.number (λ k _. refl))
             record { layout = refl; number = refl; upto = refl; stands = mine.stands; clocked = mine.clocked; reads = mine.reads; stocks = mine.stocks; drops = mine.drops; seals = mine.seals; sweeps = mine.sweeps; budget = mine.budget } r.kept,
         (
           refl,

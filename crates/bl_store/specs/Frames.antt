@@ -180,8 +180,7 @@ pub record Kept {S D : Type 0} (l : Layout) (first : D) (holds : Pages D → Typ
   pub pages : Pages D
   pub frames : List Frame
   pub budgets : List ℕ
-  pub orderly : IsOrderly l.pages pages
-  pub hands : l.passes ≤ length pages.hands
+  pub orderly : IsOrderly l pages
   pub shows : Shows l st.words pages frames
   pub budgeted : Budgeted l.passes pages.clock budgets
   pub seats : (j : ℕ) (v : View D) → get_elem? st.views j ≡ some v → Knows l first st.words pages frames budgets v

@@ -42,7 +42,7 @@ impl<D, R: PageRule<D>, A: Allocator> Store<D, R, A> {
     pub fn begin<M: TimePlay<D>>(&self, hand: &mut Hand<D>)
         requires own { IsOf self.now.table.shared.table_id self.now.layout hand.old.seat }
         requires idle { IsIdle hand.old.seat }
-        requires rule { Begins R.holds self.now.layout.pages hand.old.number (known hand.old.seat) M.then }
+        requires rule { Begins R.holds self.now.layout hand.old.number (known hand.old.seat) M.then }
         ensures same { IsSameHand hand.old.seat hand.new.seat × IsSameStock hand.old.seat hand.new.seat }
         ensures running { IsRunning hand.new.seat }
         ensures told { (now : ℕ) × M.then (known hand.old.seat) now (known hand.new.seat) }
@@ -58,7 +58,7 @@ impl<D, R: PageRule<D>, A: Allocator> Store<D, R, A> {
     pub fn end<M: TimePlay<D>>(&self, hand: &mut Hand<D>)
         requires own { IsOf self.now.table.shared.table_id self.now.layout hand.old.seat }
         requires running { IsRunning hand.old.seat }
-        requires rule { Ends R.holds self.now.layout.pages hand.old.number (known hand.old.seat) M.then }
+        requires rule { Ends R.holds self.now.layout hand.old.number (known hand.old.seat) M.then }
         ensures same { IsSameHand hand.old.seat hand.new.seat × IsSameStock hand.old.seat hand.new.seat }
         ensures idle { IsIdle hand.new.seat }
         ensures told { (now : ℕ) × M.then (known hand.old.seat) now (known hand.new.seat) }
@@ -74,7 +74,7 @@ impl<D, R: PageRule<D>, A: Allocator> Store<D, R, A> {
         requires own { IsOf self.now.table.shared.table_id self.now.layout hand.old.seat }
         requires running { IsRunning hand.old.seat }
         requires page { page < self.now.layout.pages }
-        requires rule { Gets R.holds self.now.layout.pages hand.old.number (known hand.old.seat) page M.then }
+        requires rule { Gets R.holds self.now.layout hand.old.number (known hand.old.seat) page M.then }
         ensures same { IsSameHand hand.old.seat hand.new.seat × IsSameStage hand.old.seat hand.new.seat × IsSameStock hand.old.seat hand.new.seat }
         ensures told { (owner : Owner) × M.then (known hand.old.seat) page owner result (known hand.new.seat) }
     {
@@ -88,7 +88,7 @@ impl<D, R: PageRule<D>, A: Allocator> Store<D, R, A> {
         requires own { IsOf self.now.table.shared.table_id self.now.layout hand.old.seat }
         requires running { IsRunning hand.old.seat }
         requires page { page < self.now.layout.pages }
-        requires rule { Gets R.holds self.now.layout.pages hand.old.number (known hand.old.seat) page M.then }
+        requires rule { Gets R.holds self.now.layout hand.old.number (known hand.old.seat) page M.then }
         ensures same { IsSameHand hand.old.seat hand.new.seat × IsSameStage hand.old.seat hand.new.seat × IsSameStock hand.old.seat hand.new.seat }
         ensures told { (owner : Owner) × M.then (known hand.old.seat) page owner words.new (known hand.new.seat) }
     {

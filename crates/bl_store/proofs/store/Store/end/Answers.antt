@@ -6,6 +6,5 @@ use Rattle.bl_store.proofs.store.Store.end.Goals as goal
 
 pub store-requires : goal.store-requires
 store-requires g c = let st = c.args.self.now in let wide = st.wide in let own = c.args.hand.now.own in
-    let pages : st.layout.pages ≡ st.table.shared.key.pages = ap (λ (z : Layout). z.pages) (sym st.key) in
     (search rules, omega arith, finishes _ _ _ g.M.TimePlay.then _ _ _ _ _ (omega arith) c.requires.running.1
-        (subst (λ (z : ℕ × ℕ). Ends g.R.PageRule.holds z.0 z.1 c.args.hand.now.seat.me.0.known g.M.TimePlay.then) (λ i. (pages i, own.0 i)) c.requires.rule))
+        (subst (λ (z : Layout × ℕ). Ends g.R.PageRule.holds z.0 z.1 c.args.hand.now.seat.me.0.known g.M.TimePlay.then) (λ i. (sym st.key i, own.0 i)) c.requires.rule))
