@@ -6,3 +6,4 @@ mod Putting
 mod Owning
 mod Ticking
 mod Sweeping
+mod StockLemmas

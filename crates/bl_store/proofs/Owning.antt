@@ -30,7 +30,7 @@ use Rattle.bl_store.specs.declared.view.Sweep.TheVariants.{Still, Over}
 use Rattle.bl_store.proofs.Lists.{at_below, there, one_there, set_there, total_set, total_small}
 use Rattle.bl_store.proofs.Keeps.{frame_same, frame_kept, page_kept, reads_kept, stocks_kept, drops_kept, shows_told, shows_frame, shows_state, shows_process, shows_owner, shows_later, orderly_told, orderly_owned, orderly_written, orderly_later, swept_told, seal_same, Goes, reads_stay, sweeps_stay, Own, moved, unmoved}
 use Rattle.bl_store.proofs.Time.{low_clock, goes_on, goes_told, began_by, told_load}
-use Rattle.bl_store.proofs.Reserving.{idle_step, silent_load}
+use Rattle.bl_store.proofs.Reserving.{idle_step, noting, note_step}
 
 module _ {D : Type 0} (l : Layout) (first : D) (holds : Pages D → Type 0) where
   abbrev St : Type 0
@@ -122,7 +122,7 @@ module _ {D : Type 0} (l : Layout) (first : D) (holds : Pages D → Type 0) wher
             owner_step st r i n id me.1 me.0 x me.0.releases own.0 (Held me.0.number) t.0 at i_is own.1 n_is (λ j u e _. absurd (omega arith)) t.1,
             ((refl, refl), refl, (refl, refl, refl), λ y equal. let back : x ≡ y = omega arith in ((λ _. (page.0, subst (λ (z : ℕ). then' me.0.known z Released page.0 t.0) back t.2)), λ miss. absurd (miss hit))),
           ))
-          (λ miss. (me.0, keeps, tt, idle_step l first holds st r i id me.1 me.0 at, ((refl, refl), refl, (refl, refl, refl), λ y equal. ((λ hit. absurd (miss hit)), λ _. refl))))
+          (λ miss. (noting l first holds i me.0, keeps, tt, note_step l first holds st r i id me.1 me.0 at, ((refl, refl), refl, (refl, refl, refl), λ y equal. ((λ hit. absurd (miss hit)), λ _. (refl, refl)))))
 
   pub tries : (then' : D → ℕ → Owner → List ℕ → D → Type 0) (slots id i n x : ℕ) (me : M) → i ≡ owner_at l x → n ≡ 4 * me.0.number + 2 → x < l.pages → me.0.layout ≡ l → Latches holds l me.0.number me.0.known x then' → Misses holds l me.0.number me.0.known x then'
       → Allows Rule slots id me i (λ z. either (eqb z 1) n z) (tried then' (step slots i 1 n none) me)
@@ -181,5 +181,5 @@ module _ {D : Type 0} (l : Layout) (first : D) (holds : Pages D → Type 0) wher
     keeps,
     tt,
     told_load l first holds st r i id me.1 me.0 me.0.reading t.0 at mine.reads t.1,
-    ((refl, refl), refl, (refl, refl, refl), (s.clock, t.2)),
+    ((refl, refl), refl, (refl, refl, refl), refl, (s.clock, t.2)),
   )

@@ -14,7 +14,7 @@ use Rattle.bl_layout.specs.declared.layout.Layout.{Layout}
 use Rattle.bl_layout.specs.Words.{frame_count, word_count}
 use Rattle.bl_store.specs.Pages.{Owner, Released, Open, Held, Retired, Stage, Idle, Running, Pages, Stands, IsPage, IsOrderly, AllBeganAfter, told, owned, written, later, Puts, Takes, Latches, Misses, Opens, Retires, Refuses, Releases}
 use Rattle.bl_store.specs.Frames.{process_at, page_at, owner_at, state_at, place_at, Use, drafted, shown, dropped, timed, retired, Frame, free, used, IsTaken, StateIs, Full, FrameIs, PageIs, OwnerIs, ProcessIs, stage_of, IsRead, MayRead, Readable, Reads, Stocks, Drops, Seals, Swept, SweepIs, Knows, total_of, Budgeted, Shows, IsApart, Kept}
-use Rattle.bl_store.specs.Told.{draft, allotted, reserved, returned, wrote, drew, silent, released}
+use Rattle.bl_store.specs.Told.{draft, allotted, noted, reserved, returned, wrote, drew, silent, released}
 use Rattle.bl_store.specs.declared.view.View.{View}
 use Rattle.bl_store.specs.declared.view.Stamp.{Stamp}
 use Rattle.bl_store.specs.declared.view.Stamp.TheVariants.{Out, Clocked, In}
@@ -54,16 +54,28 @@ module _ {D : Type 0} (l : Layout) (first : D) (holds : Pages D → Type 0) wher
   Leads s i n id me then' = (w : View D) × (a : Act (Unit {0})) × Valid s.homes me.1 a × Rule (stepped s i n id me.1 w a) × then' (w, carried_after me.1 a)
 
   -- a load that is no event, after which the hand has other ticks, another sweep or another time of its own
-  pub silent_load : (st : St) (r : Rule st) (i id : ℕ) (cs : List (ℕ × Unit {0})) (v : View D) (puts retires : ℕ) (sw : Sweep) (bs' : List ℕ) → get_elem? st.views id ≡ some v → Budgeted l.passes r.pages.clock bs'
+  pub silent_load : (st : St) (r : Rule st) (i id : ℕ) (cs : List (ℕ × Unit {0})) (v : View D) (puts retires : ℕ) (sw : Sweep) (seen : List ℕ) (bs' : List ℕ) → get_elem? st.views id ≡ some v → Budgeted l.passes r.pages.clock bs'
       → ((k : ℕ) → k ≢ v.number → get_elem? bs' k ≡ get_elem? r.budgets k) → get_elem? bs' v.number ≡ some (puts + retires) → SweepIs r.pages sw
-      → Rule (stepped st i (get_or st.words i 0) id cs (record v { puts = puts; retires = retires; sweep = sw }) keeps)
-  silent_load st r i id cs v puts retires sw bs' at budgeted others mine_left swept = let mine = r.seats id v at in
-      unmoved l first holds st r i id cs v (record v { puts = puts; retires = retires; sweep = sw }) r.pages bs' at r.orderly r.shows budgeted (goes_on l st.words r.pages r.frames r.budgets bs' v.number others)
+      → Rule (stepped st i (get_or st.words i 0) id cs (record v { puts = puts; retires = retires; sweep = sw; seen = seen }) keeps)
+  silent_load st r i id cs v puts retires sw seen bs' at budgeted others mine_left swept = let mine = r.seats id v at in
+      unmoved l first holds st r i id cs v (record v { puts = puts; retires = retires; sweep = sw; seen = seen }) r.pages bs' at r.orderly r.shows budgeted (goes_on l st.words r.pages r.frames r.budgets bs' v.number others)
           record { layout = refl; number = refl; upto = refl; stands = mine.stands; clocked = mine.clocked; reads = mine.reads; stocks = mine.stocks; drops = mine.drops; seals = mine.seals; sweeps = swept; budget = mine_left } r.kept
 
   -- a step that leaves all as it is
   pub idle_step : (st : St) (r : Rule st) (i id : ℕ) (cs : List (ℕ × Unit {0})) (v : View D) → get_elem? st.views id ≡ some v → Rule (stepped st i (get_or st.words i 0) id cs v keeps)
-  idle_step st r i id cs v at = let mine = r.seats id v at in silent_load st r i id cs v v.puts v.retires v.sweep r.budgets at r.budgeted (λ k _. refl) mine.budget mine.sweeps
+  idle_step st r i id cs v at = let mine = r.seats id v at in silent_load st r i id cs v v.puts v.retires v.sweep v.seen r.budgets at r.budgeted (λ k _. refl) mine.budget mine.sweeps
+
+  abbrev pub noting : ℕ → View D → View D
+  noting i v = record v { puts = v.puts; retires = v.retires; sweep = v.sweep; seen = i ∷ v.seen }
+
+  -- an owner word was found taken
+  pub note_step : (st : St) (r : Rule st) (i id : ℕ) (cs : List (ℕ × Unit {0})) (v : View D) → get_elem? st.views id ≡ some v → Rule (stepped st i (get_or st.words i 0) id cs (noting i v) keeps)
+  note_step st r i id cs v at = let mine = r.seats id v at in silent_load st r i id cs v v.puts v.retires v.sweep (i ∷ v.seen) r.budgets at r.budgeted (λ k _. refl) mine.budget mine.sweeps
+
+  pub notes : (slots id i : ℕ) (me : M) → Allows Rule slots id me i (λ n. n) (noted (step slots i 0 0 none) me)
+  notes slots id i me st r _ at _ = dite (ℕ_discrete (get_or st.words i 0) 0)
+      (λ e. (me.0, keeps, tt, idle_step st r i id me.1 me.0 at, (((refl, refl), refl, (refl, refl, refl), refl), (λ ne. absurd (ne e)), λ _. refl)))
+      (λ ne. (noting i me.0, keeps, tt, note_step st r i id me.1 me.0 at, (((refl, refl), refl, (refl, refl, refl), refl), (λ _. refl), λ e. absurd (ne e))))
 
   -- a step on a word of a frame that no page names, after which the hand has another stock, or another frame to retire
   frame_step : (st : St) (r : Rule st) (f i n id : ℕ) (cs : List (ℕ × Unit {0})) (v : View D) (ds : List Draft) (dr : Dropping) (rl : ℕ) (old new : Frame) → get_elem? st.views id ≡ some v → get_elem? r.frames f ≡ some old
@@ -108,13 +120,19 @@ module _ {D : Type 0} (l : Layout) (first : D) (holds : Pages D → Type 0) wher
       let count : length bs' ≡ l.passes = length-set r.budgets q 4 ∙ budget.count in
       let small : (k b : ℕ) → get_elem? bs' k ≡ some b → b ≤ 4 = (λ k b e. ⊎_elim (λ (t : (k ≡ q) × (4 ≡ b)). let same = t.1 in omega arith) (λ (t : (k ≢ q) × (get_elem? r.budgets k ≡ some b)). budget.small k b t.1) (at_set r.budgets q k 4 b e)) in
       let all = total_small bs' small in dite (dec_le 1152921504606846976 n)
-          (λ late. (me.0, keeps, tt, idle_step st r i id me.1 me.0 at, ((refl, refl), refl, refl, refl, λ early. absurd (omega arith))))
-          (λ not_late. let early : n < 1152921504606846976 = lt_of_not-le not_late in (
-            record me.0 { puts = 3; retires = 1 },
+          (λ late. (
+            record me.0 { seen = i ∷ [] },
             keeps,
             tt,
-            silent_load st r i id me.1 me.0 3 1 me.0.sweep bs' at record { count = count; small = small; total = omega arith } (λ k other. set_else r.budgets q k 4 other) (set_there r.budgets q (me.0.puts + me.0.retires) 4 mine.budget) mine.sweeps,
-            ((refl, refl), refl, refl, refl, λ _. (refl, refl)),
+            silent_load st r i id me.1 me.0 me.0.puts me.0.retires me.0.sweep (i ∷ []) r.budgets at r.budgeted (λ k _. refl) mine.budget mine.sweeps,
+            ((refl, refl), refl, refl, refl, (λ early. absurd (omega arith)), λ _. refl),
+          ))
+          (λ not_late. let early : n < 1152921504606846976 = lt_of_not-le not_late in (
+            record me.0 { puts = 3; retires = 1; seen = [] },
+            keeps,
+            tt,
+            silent_load st r i id me.1 me.0 3 1 me.0.sweep [] bs' at record { count = count; small = small; total = omega arith } (λ k other. set_else r.budgets q k 4 other) (set_there r.budgets q (me.0.puts + me.0.retires) 4 mine.budget) mine.sweeps,
+            ((refl, refl), refl, refl, refl, (λ _. (refl, refl, refl)), λ late. absurd (omega arith)),
           ))
 
   pub reserves : (slots id i n f : ℕ) (me : M) → i ≡ state_at l f → n ≡ 4 * me.0.number + 2 → f < frame_count l → me.0.layout ≡ l → Allows Rule slots id me i (λ z. either (eqb z 0) n z) (reserved (step slots i 0 n none) me)
@@ -130,9 +148,9 @@ module _ {D : Type 0} (l : Layout) (first : D) (holds : Pages D → Type 0) wher
                 (get_or-set_at st.words i (state_at l f) n 0 (sym i_is) (omega arith) ∙ n_is, tt, omega arith, λ k low. absurd (omega arith)) (λ x ys e. cc)
                 (λ j b d u xs stands low e may. cc) (λ j k ys other e. cc) (λ j ys other e. cc) (λ j t ys other e. cc)
                 (set_there r.frames f free new is, stocks_kept r.frames f free new q me.0.stock is (λ k ys _ e. cc) mine.stocks) (drops_kept r.frames f free new q me.0.dropping is (λ ys e. cc) (λ t ys e. cc) mine.drops),
-            ((refl, refl), refl, refl, (refl, refl), λ g e. let is_f : f ≡ g = omega arith in ((λ _. ap (λ (z : ℕ). draft z [] ∷ me.0.stock) is_f), λ miss. absurd (miss hit))),
+            ((refl, refl), refl, refl, (refl, refl), λ g e. let is_f : f ≡ g = omega arith in ((λ _. (ap (λ (z : ℕ). draft z [] ∷ me.0.stock) is_f, refl)), λ miss. absurd (miss hit))),
           ))
-          (λ miss. (me.0, keeps, tt, idle_step st r i id me.1 me.0 at, ((refl, refl), refl, refl, (refl, refl), λ g e. ((λ hit. absurd (miss hit)), λ _. refl))))
+          (λ miss. (noting i me.0, keeps, tt, note_step st r i id me.1 me.0 at, ((refl, refl), refl, refl, (refl, refl), λ g e. ((λ hit. absurd (miss hit)), λ _. (refl, refl)))))
     where
       was_free : (st : St) (r : Rule st) (fr : Frame) → get_elem? r.frames f ≡ some fr → FrameIs l st.words f fr → get_or st.words (state_at l f) 0 ≡ 0 → get_elem? r.frames f ≡ some free
       was_free st r free at_f fact empty = at_f
@@ -154,7 +172,7 @@ module _ {D : Type 0} (l : Layout) (first : D) (holds : Pages D → Type 0) wher
             frame_step st r f i 0 id me.1 me.0 ds me.0.dropping me.0.releases old free at here (inl i_is) (get_or-set_at st.words i (state_at l f) 0 0 (sym i_is) (omega arith)) (λ x ys e. cc)
                 (λ j b d u ys stands low e may. let as_used : drafted q (length ds) ≡ u = cc in absurd (subst (MayRead b) (sym as_used) may)) (λ j k ys other e. other cc) (λ j ys other e. cc) (λ j t ys other e. cc)
                 (stocks_kept r.frames f old free q ds here (λ k ys low e. let place : k ≡ length ds = cc in absurd (omega arith)) known.1) (drops_kept r.frames f old free q me.0.dropping here (λ ys e. cc) (λ t ys e. cc) mine.drops),
-            ((refl, refl), refl, refl, (refl, refl), λ g ys es e _. ap tail_of (sym has ∙ e)),
+            ((refl, refl), refl, refl, (refl, refl), refl, λ g ys es e _. ap tail_of (sym has ∙ e)),
           ))
           (λ miss. absurd (miss now))
 

@@ -150,7 +150,7 @@ module _ {D : Type 0} where
     pub budget : get_elem? bs v.number ≡ some (v.puts + v.retires)
 
   abbrev pub starting : Layout → D → View D
-  starting l d = record { layout = l; number = 0; upto = l.passes; stamp = Out; reading = Nowhere; stock = []; dropping = Empty; sealing = Unsealed; sweep = Still; puts = 0; retires = 0; releases = 0; known = d }
+  starting l d = record { layout = l; number = 0; upto = l.passes; stamp = Out; reading = Nowhere; stock = []; dropping = Empty; sealing = Unsealed; sweep = Still; puts = 0; retires = 0; releases = 0; seen = []; known = d }
 
 abbrev pub total_of : List ℕ → ℕ
 total_of [] = 0

@@ -64,16 +64,20 @@ module _ {D : Type 0} where
 
   -- a load of the clock by which a reservation begins
   abbrev pub allotted : Play → Sat D → ℕ → Sat D → Type 0
-  allotted st m r m' = IsThere m.0 m'.0 × (m'.0.stamp ≡ m.0.stamp) × (m'.0.known ≡ m.0.known) × (m'.0.stock ≡ m.0.stock) × (r < 1152921504606846976 → (m'.0.puts ≡ 3) × (m'.0.retires ≡ 1))
+  allotted st m r m' = IsThere m.0 m'.0 × (m'.0.stamp ≡ m.0.stamp) × (m'.0.known ≡ m.0.known) × (m'.0.stock ≡ m.0.stock) × (r < 1152921504606846976 → (m'.0.puts ≡ 3) × (m'.0.retires ≡ 1) × (m'.0.seen ≡ [])) × (1152921504606846976 ≤ r → m'.0.seen ≡ st.word ∷ [])
+
+  -- a look at an owner word, of which the hand notes whether it was taken
+  abbrev pub noted : Play → Sat D → ℕ → Sat D → Type 0
+  noted st m r m' = IsSilent m.0 m'.0 × (r ≢ 0 → m'.0.seen ≡ st.word ∷ m.0.seen) × (r ≡ 0 → m'.0.seen ≡ m.0.seen)
 
   -- a frame that was free is the hand's
   abbrev pub reserved : Play → Sat D → ℕ → Sat D → Type 0
   reserved st m r m' = IsThere m.0 m'.0 × (m'.0.stamp ≡ m.0.stamp) × (m'.0.known ≡ m.0.known) × HasTicks m.0 m'.0
-      × ((f : ℕ) → st.word ≡ state_at m.0.layout f → (r ≡ 0 → m'.0.stock ≡ draft f [] ∷ m.0.stock) × (r ≢ 0 → m'.0.stock ≡ m.0.stock))
+      × ((f : ℕ) → st.word ≡ state_at m.0.layout f → (r ≡ 0 → (m'.0.stock ≡ draft f [] ∷ m.0.stock) × (m'.0.seen ≡ m.0.seen)) × (r ≢ 0 → (m'.0.stock ≡ m.0.stock) × (m'.0.seen ≡ st.word ∷ m.0.seen)))
 
   -- the frame that was reserved last is free again
   abbrev pub returned : Play → Sat D → ℕ → Sat D → Type 0
-  returned st m r m' = IsThere m.0 m'.0 × (m'.0.stamp ≡ m.0.stamp) × (m'.0.known ≡ m.0.known) × HasTicks m.0 m'.0
+  returned st m r m' = IsThere m.0 m'.0 × (m'.0.stamp ≡ m.0.stamp) × (m'.0.known ≡ m.0.known) × HasTicks m.0 m'.0 × (m'.0.seen ≡ m.0.seen)
       × ((f : ℕ) (xs : List ℕ) (ds : List Draft) → m.0.stock ≡ draft f xs ∷ ds → st.word ≡ state_at m.0.layout f → m'.0.stock ≡ ds)
 
   abbrev pub wrote : Play → Sat D → ℕ → Sat D → Type 0
@@ -98,7 +102,7 @@ module _ {D : Type 0} where
   -- the event of a page that is taken, where it was found released
   abbrev pub took : (D → ℕ → Owner → List ℕ → D → Type 0) → Play → Sat D → ℕ → Sat D → Type 0
   took then st m r m' = IsThere m.0 m'.0 × (m'.0.stamp ≡ m.0.stamp) × IsStocked m.0 m'.0
-      × ((x : ℕ) → st.word ≡ owner_at m.0.layout x → (r ≡ 0 → (xs : List ℕ) × then m.0.known x Released xs m'.0.known) × (r ≢ 0 → m'.0.known ≡ m.0.known))
+      × ((x : ℕ) → st.word ≡ owner_at m.0.layout x → (r ≡ 0 → (xs : List ℕ) × then m.0.known x Released xs m'.0.known) × (r ≢ 0 → (m'.0.known ≡ m.0.known) × (m'.0.seen ≡ st.word ∷ m.0.seen)))
 
   -- the event of a latch, or of one that is missed
   abbrev pub tried : (D → ℕ → Owner → List ℕ → D → Type 0) → Play → Sat D → ℕ → Sat D → Type 0
@@ -133,4 +137,4 @@ module _ {D : Type 0} where
 
   -- the event of a reservation that is refused
   abbrev pub refused : (D → ℕ → D → Type 0) → Play → Sat D → ℕ → Sat D → Type 0
-  refused then st m r m' = IsThere m.0 m'.0 × (m'.0.stamp ≡ m.0.stamp) × IsStocked m.0 m'.0 × ((now : ℕ) × then m.0.known now m'.0.known)
+  refused then st m r m' = IsThere m.0 m'.0 × (m'.0.stamp ≡ m.0.stamp) × IsStocked m.0 m'.0 × (m'.0.seen ≡ m.0.seen) × ((now : ℕ) × then m.0.known now m'.0.known)

@@ -15,10 +15,13 @@
 #![tactic(auto)]
 
 mod plays;
+mod reserve;
 mod rule;
+mod stock;
 mod store;
 mod view;
 
 pub use rule::{PagePlay, PageRule, SweepPlay, TimePlay};
+pub use stock::{NoRoom, Stock};
 pub use store::{Hand, Store};
 pub use view::{Draft, Dropping, Framed, Reading, Sealing, Stamp, Sweep, View};

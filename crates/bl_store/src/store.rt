@@ -11,11 +11,16 @@ use crate::view::{Framed, View};
 use atomic_table::{Seat, Table};
 use bl_layout::Layout;
 use std::alloc::{Allocator, Global};
+use std::sync::atomic::AtomicU64;
 
 /// One who reads and writes pages. Hands are numbered from 0, and no two of a store share a number.
 pub struct Hand<D> {
     pub(crate) seat: Seat<(), View<D>>,
     pub(crate) number: u32,
+    // The frame that its next reservation tries first.
+    pub(crate) frame: u32,
+    // The owner word at which its next sweep begins, counted from page 0.
+    pub(crate) owner: u32,
     pub ghost own: { (number ≡ seat.me.0.number) × (number < seat.me.0.layout.passes) },
 }
 
@@ -24,6 +29,8 @@ pub struct Hand<D> {
 pub struct Store<D, R: PageRule<D>, A: Allocator = Global> {
     pub(crate) table: Table<(), View<D>, Layout, Framed<R>, A>,
     pub(crate) layout: Layout,
+    // The least page that may be released, as one thread alone sees it. No proof rests on it.
+    pub(crate) least_free: AtomicU64,
     pub ghost key: { table.shared.key ≡ layout },
     pub ghost wide: { table.shared.table_id.words ≡ word_count layout },
 }

@@ -63,6 +63,8 @@ pub struct View<D> {
     pub retires: u32,
     /// How many pages and frames it has released.
     pub releases: u64,
+    /// The owner words that its last reservation found taken, and the clock's word where that was found at its end.
+    pub seen: LinkedList<u64>,
     pub known: D,
 }
 
