@@ -84,10 +84,10 @@ module _ {D : Type 0} where
         owner = λ x ow e. let low = at_below s.owners x ow e in subst (λ (z : ℕ). OwnerIs z ow) (sym (get_or-set_other ws i (owner_at l x) n 0 (λ z. omega arith))) (r.owner x ow e);
         frame = λ g st e. ⊎_elim (λ (t : (g ≡ f) × (new ≡ st)). subst (λ (z : ℕ × Frame). FrameIs l (set ws i n) z.0 z.1) (λ k. (sym t.0 k, t.1 k)) is)
             (λ (t : (g ≢ f) × (get_elem? fs g ≡ some st)). let other = t.0 in let low = at_below fs g st t.1 in
-              frame_same l ws (set ws i n) g
-                  (get_or-set_other ws i (state_at l g) n 0 (λ z. ⊎_elim (λ (a : i ≡ state_at l f). other (omega arith)) (λ (a : (place_at l f 0 ≤ i) × (i < place_at l f 32)). let b = a.0 in absurd (omega arith)) where_i))
-                  (λ k small. get_or-set_other ws i (place_at l g k) n 0 (λ z. ⊎_elim (λ (a : i ≡ state_at l f). absurd (omega arith)) (λ (a : (place_at l f 0 ≤ i) × (i < place_at l f 32)). let b = a.0 in let c = a.1 in other (omega arith)) where_i))
-                  st (r.frame g st t.1)) (at_set fs f g new st e);
+            frame_same l ws (set ws i n) g
+            (get_or-set_other ws i (state_at l g) n 0 (λ z. ⊎_elim (λ (a : i ≡ state_at l f). other (omega arith)) (λ (a : (place_at l f 0 ≤ i) × (i < place_at l f 32)). let b = a.0 in absurd (omega arith)) where_i))
+            (λ k small. get_or-set_other ws i (place_at l g k) n 0 (λ z. ⊎_elim (λ (a : i ≡ state_at l f). absurd (omega arith)) (λ (a : (place_at l f 0 ≤ i) × (i < place_at l f 32)). let b = a.0 in let c = a.1 in other (omega arith)) where_i))
+            st (r.frame g st t.1)) (at_set fs f g new st e);
       }
 
   -- the state of a frame changes, and no word
@@ -168,8 +168,8 @@ module _ {D : Type 0} where
     past = omega arith;
     later = λ n b e at low. ⊎_elim
         (λ (t : (n ≡ q) × ((st, d) ≡ (Running b, e))). ⊎_elim
-            (λ (was : st0 ≡ Running b). let here' : Stands s q (Running b) d0 = here ∙ ap (λ (z : Stage). some (z, d0)) was in let eq = t.0 in is.later q b d0 here' (omega arith))
-            (λ (new : s.clock ≤ b). omega arith) (begun b (ap (λ (z : Stage × D). z.0) t.1)))
+        (λ (was : st0 ≡ Running b). let here' : Stands s q (Running b) d0 = here ∙ ap (λ (z : Stage). some (z, d0)) was in let eq = t.0 in is.later q b d0 here' (omega arith))
+        (λ (new : s.clock ≤ b). omega arith) (begun b (ap (λ (z : Stage × D). z.0) t.1)))
         (λ (t : (n ≢ q) × (get_elem? s.hands n ≡ some (Running b, e))). is.later n b e t.1 low)
         (at_set s.hands q n (st, d) (Running b, e) (ap (λ (z : List (Stage × D)). get_elem? z n) (sym same) ∙ at));
   }
@@ -281,7 +281,7 @@ module _ {D : Type 0} where
       seats = λ j x at_j. ⊎_elim
           (λ (t : (j ≡ id) × (w ≡ x)). subst (λ (z : View D). Knows l first (set st.words i n) s' fs' bs' z) t.1 (knows_own first v w go own (r.seats id v at)))
           (λ (t : (j ≢ id) × (get_elem? st.views j ≡ some x)). let here = r.seats id v at in let there = r.seats j x t.1 in let a = here.counted in let b = there.counted in let between = r.apart j id x v t.1 at t.0 in
-            knows_stays first go x (λ e. ⊎_elim (λ (h : x.upto ≤ v.number). omega arith) (λ (h : v.upto ≤ x.number). omega arith) between) (λ k low high e. ⊎_elim (λ (h : x.upto ≤ v.number). omega arith) (λ (h : v.upto ≤ x.number). omega arith) between) there)
+          knows_stays first go x (λ e. ⊎_elim (λ (h : x.upto ≤ v.number). omega arith) (λ (h : v.upto ≤ x.number). omega arith) between) (λ k low high e. ⊎_elim (λ (h : x.upto ≤ v.number). omega arith) (λ (h : v.upto ≤ x.number). omega arith) between) there)
           (at_set st.views id j w x at_j);
       apart = apart_stays st.views id v w at own.number own.upto r.apart;
       kept = kept;
@@ -293,4 +293,4 @@ module _ {D : Type 0} where
         → Own l st.words s' r.frames bs' v w → holds s' → Rule (stepped st i (get_or st.words i 0) id cs w keeps)
     unmoved st r i id cs v w s' bs' at orderly shows budgeted go own kept = let same : st.words ≡ set st.words i (get_or st.words i 0) = sym (set-get_or st.words i 0) in
         moved st r i (get_or st.words i 0) id cs v w s' r.frames bs' at orderly (subst (λ (z : List ℕ). Shows l z s' r.frames) same shows) budgeted
-            (subst (λ (z : List ℕ). Goes l st.words z r.pages s' r.frames r.frames r.budgets bs' v.number) same go) (subst (λ (z : List ℕ). Own l z s' r.frames bs' v w) same own) kept
+        (subst (λ (z : List ℕ). Goes l st.words z r.pages s' r.frames r.frames r.budgets bs' v.number) same go) (subst (λ (z : List ℕ). Own l z s' r.frames bs' v w) same own) kept

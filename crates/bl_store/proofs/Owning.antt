@@ -65,22 +65,22 @@ module _ {D : Type 0} (l : Layout) (first : D) (holds : Pages D → Type 0) wher
         swept = λ m k sw. swept_told s s' q sg sg v.known d m k (le_refl s.clock) mine.stands refl (λ b e. inl e) sw;
       } in
       moved l first holds st r i n id cs v (record v { known = d; releases = rl }) s' r.frames r.budgets at
-          (orderly_told l s1 q sg d (began_by l s q v.stamp v.known r.orderly mine.stands) (orderly_owned l s x o' r.orderly))
-          (shows_told l ws s1 r.frames q sg d (subst (λ (z : ℕ). ProcessIs z sg) (sym process) (r.shows.process q sg v.known (omega arith) mine.stands)) shows)
-          r.budgeted go
-          record {
-            layout = refl;
-            number = refl;
-            upto = refl;
-            stands = set_there s.hands q (sg, v.known) (sg, d) mine.stands;
-            clocked = mine.clocked;
-            reads = mine.reads;
-            stocks = mine.stocks;
-            drops = mine.drops;
-            seals = seals q v.sealing mine.seals;
-            sweeps = sweeps_stay go v.sweep mine.sweeps;
-            budget = mine.budget;
-          } kept
+      (orderly_told l s1 q sg d (began_by l s q v.stamp v.known r.orderly mine.stands) (orderly_owned l s x o' r.orderly))
+      (shows_told l ws s1 r.frames q sg d (subst (λ (z : ℕ). ProcessIs z sg) (sym process) (r.shows.process q sg v.known (omega arith) mine.stands)) shows)
+      r.budgeted go
+      record {
+        layout = refl;
+        number = refl;
+        upto = refl;
+        stands = set_there s.hands q (sg, v.known) (sg, d) mine.stands;
+        clocked = mine.clocked;
+        reads = mine.reads;
+        stocks = mine.stocks;
+        drops = mine.drops;
+        seals = seals q v.sealing mine.seals;
+        sweeps = sweeps_stay go v.sweep mine.sweeps;
+        budget = mine.budget;
+      } kept
     where
       sealed_else : (ws : List ℕ) (os : List Owner) (i n x j : ℕ) (o o' : Owner) → i ≡ owner_at l x → get_elem? os x ≡ some o → ((t : ℕ) → get_or ws i 0 ≡ 4 * j + 2 → o ≡ Retired t → ⊥) → (y : Sealing) → Seals l ws os j y → Seals l (set ws i n) (set os x o') j y
       sealed_else ws os i n x j o o' i_is here apart Unsealed k = tt
@@ -114,37 +114,37 @@ module _ {D : Type 0} (l : Layout) (first : D) (holds : Pages D → Type 0) wher
   takes then' slots id i n x me i_is n_is inside same asked st r _ at _ = let mine = r.seats id me.0 at in let s : Pages D = r.pages in let orderly = r.orderly in let counts = orderly.contents in let page = there s.contents x (omega arith) in let own = owner_of st r i x i_is inside in
       let passes = ap (λ (z : Layout). z.passes) same in let pages = ap (λ (z : Layout). z.pages) same in
       exchanged (get_or st.words i 0) 0 n (λ z. Leads st i z id me (took then' (step slots i 0 n none) me (get_or st.words i 0)))
-          (λ hit. let is : own.0 ≡ Released = was_released own.0 (get_or st.words i 0) own.2 hit in
-              let t = asked s (stage_of me.0.stamp) page.0 r.kept r.orderly mine.stands (page.1, own.1 ∙ ap (λ (z : Owner). some z) is) in (
-            record me.0 { known = t.0; releases = me.0.releases },
-            keeps,
-            tt,
-            owner_step st r i n id me.1 me.0 x me.0.releases own.0 (Held me.0.number) t.0 at i_is own.1 n_is (λ j u e _. absurd (omega arith)) t.1,
-            ((refl, refl), refl, (refl, refl, refl), λ y equal. let back : x ≡ y = omega arith in ((λ _. (page.0, subst (λ (z : ℕ). then' me.0.known z Released page.0 t.0) back t.2)), λ miss. absurd (miss hit))),
-          ))
-          (λ miss. (noting l first holds i me.0, keeps, tt, note_step l first holds st r i id me.1 me.0 at, ((refl, refl), refl, (refl, refl, refl), λ y equal. ((λ hit. absurd (miss hit)), λ _. (refl, refl)))))
+      (λ hit. let is : own.0 ≡ Released = was_released own.0 (get_or st.words i 0) own.2 hit in
+      let t = asked s (stage_of me.0.stamp) page.0 r.kept r.orderly mine.stands (page.1, own.1 ∙ ap (λ (z : Owner). some z) is) in (
+        record me.0 { known = t.0; releases = me.0.releases },
+        keeps,
+        tt,
+        owner_step st r i n id me.1 me.0 x me.0.releases own.0 (Held me.0.number) t.0 at i_is own.1 n_is (λ j u e _. absurd (omega arith)) t.1,
+        ((refl, refl), refl, (refl, refl, refl), λ y equal. let back : x ≡ y = omega arith in ((λ _. (page.0, subst (λ (z : ℕ). then' me.0.known z Released page.0 t.0) back t.2)), λ miss. absurd (miss hit))),
+      ))
+      (λ miss. (noting l first holds i me.0, keeps, tt, note_step l first holds st r i id me.1 me.0 at, ((refl, refl), refl, (refl, refl, refl), λ y equal. ((λ hit. absurd (miss hit)), λ _. (refl, refl)))))
 
   pub tries : (then' : D → ℕ → Owner → List ℕ → D → Type 0) (slots id i n x : ℕ) (me : M) → i ≡ owner_at l x → n ≡ 4 * me.0.number + 2 → x < l.pages → me.0.layout ≡ l → Latches holds l me.0.number me.0.known x then' → Misses holds l me.0.number me.0.known x then'
       → Allows Rule slots id me i (λ z. either (eqb z 1) n z) (tried then' (step slots i 1 n none) me)
   tries then' slots id i n x me i_is n_is inside same asked else st r _ at _ = let mine = r.seats id me.0 at in let s : Pages D = r.pages in let orderly = r.orderly in let counts = orderly.contents in let page = there s.contents x (omega arith) in let own = owner_of st r i x i_is inside in
       let passes = ap (λ (z : Layout). z.passes) same in let pages = ap (λ (z : Layout). z.pages) same in
       exchanged (get_or st.words i 0) 1 n (λ z. Leads st i z id me (tried then' (step slots i 1 n none) me (get_or st.words i 0)))
-          (λ hit. let is : own.0 ≡ Open = was_open own.0 (get_or st.words i 0) own.2 hit in
-              let t = asked s (stage_of me.0.stamp) page.0 r.kept r.orderly mine.stands (page.1, own.1 ∙ ap (λ (z : Owner). some z) is) in (
-            record me.0 { known = t.0; releases = me.0.releases },
-            keeps,
-            tt,
-            owner_step st r i n id me.1 me.0 x me.0.releases own.0 (Held me.0.number) t.0 at i_is own.1 n_is (λ j u e _. absurd (omega arith)) t.1,
-            ((refl, refl), refl, (refl, refl, refl), λ y equal. let back : x ≡ y = omega arith in (Open, page.0, (λ _. refl), (λ miss. absurd (miss hit)), subst (λ (z : ℕ). then' me.0.known z Open page.0 t.0) back t.2)),
-          ))
-          (λ miss. let not : own.0 ≢ Open = (λ e. miss (subst (OwnerIs (get_or st.words i 0)) e own.2)) in
-              let t = else s (stage_of me.0.stamp) page.0 own.0 r.kept r.orderly mine.stands (page.1, own.1) not in (
-            record me.0 { reading = me.0.reading; known = t.0 },
-            keeps,
-            tt,
-            told_load l first holds st r i id me.1 me.0 me.0.reading t.0 at mine.reads t.1,
-            ((refl, refl), refl, (refl, refl, refl), λ y equal. let back : x ≡ y = omega arith in (own.0, page.0, (λ hit. absurd (miss hit)), (λ _. not), subst (λ (z : ℕ). then' me.0.known z own.0 page.0 t.0) back t.2)),
-          ))
+      (λ hit. let is : own.0 ≡ Open = was_open own.0 (get_or st.words i 0) own.2 hit in
+      let t = asked s (stage_of me.0.stamp) page.0 r.kept r.orderly mine.stands (page.1, own.1 ∙ ap (λ (z : Owner). some z) is) in (
+        record me.0 { known = t.0; releases = me.0.releases },
+        keeps,
+        tt,
+        owner_step st r i n id me.1 me.0 x me.0.releases own.0 (Held me.0.number) t.0 at i_is own.1 n_is (λ j u e _. absurd (omega arith)) t.1,
+        ((refl, refl), refl, (refl, refl, refl), λ y equal. let back : x ≡ y = omega arith in (Open, page.0, (λ _. refl), (λ miss. absurd (miss hit)), subst (λ (z : ℕ). then' me.0.known z Open page.0 t.0) back t.2)),
+      ))
+      (λ miss. let not : own.0 ≢ Open = (λ e. miss (subst (OwnerIs (get_or st.words i 0)) e own.2)) in
+      let t = else s (stage_of me.0.stamp) page.0 own.0 r.kept r.orderly mine.stands (page.1, own.1) not in (
+        record me.0 { reading = me.0.reading; known = t.0 },
+        keeps,
+        tt,
+        told_load l first holds st r i id me.1 me.0 me.0.reading t.0 at mine.reads t.1,
+        ((refl, refl), refl, (refl, refl, refl), λ y equal. let back : x ≡ y = omega arith in (own.0, page.0, (λ hit. absurd (miss hit)), (λ _. not), subst (λ (z : ℕ). then' me.0.known z own.0 page.0 t.0) back t.2)),
+      ))
 
   pub opens : (then' : D → ℕ → Owner → List ℕ → D → Type 0) (slots id i x : ℕ) (me : M) → i ≡ owner_at l x → x < l.pages → me.0.layout ≡ l → Opens holds l me.0.number me.0.known x then' → Allows Rule slots id me i (λ _. 1) (λ _. opened then' (step slots i 1 0 none) me 1)
   opens then' slots id i x me i_is inside same asked st r _ at _ = let mine = r.seats id me.0 at in let s : Pages D = r.pages in let orderly = r.orderly in let counts = orderly.contents in let page = there s.contents x (omega arith) in let own = owner_of st r i x i_is inside in
@@ -163,16 +163,16 @@ module _ {D : Type 0} (l : Layout) (first : D) (holds : Pages D → Type 0) wher
   frees then' slots id i n x t m me i_is n_is inside before same is asked st r _ at _ = let mine = r.seats id me.0 at in let s : Pages D = r.pages in let orderly = r.orderly in let counts = orderly.contents in let hands = orderly.hands in let page = there s.contents x (omega arith) in let own = owner_of st r i x i_is inside in
       let swept : Swept s m l.passes = subst (SweepIs s) is mine.sweeps in
       exchanged (get_or st.words i 0) n 0 (λ z. Leads st i z id me (freed then' (step slots i n 0 none) me (get_or st.words i 0)))
-          (λ hit. let was : own.0 ≡ Retired t = was_retired own.0 (get_or st.words i 0) t own.2 (hit ∙ n_is) in
-              let after : AllBeganAfter s t = (λ j b d stands. let low = at_below s.hands j (Running b, d) stands in let late : m ≤ b = swept.later j b d stands (omega arith) in omega arith) in
-              let a = asked s (stage_of me.0.stamp) page.0 r.kept r.orderly mine.stands (page.1, own.1 ∙ ap (λ (z : Owner). some z) was) after in (
-            record me.0 { known = a.0; releases = me.0.releases + 1 },
-            keeps,
-            tt,
-            owner_step st r i 0 id me.1 me.0 x (me.0.releases + 1) own.0 Released a.0 at i_is own.1 refl (λ j u e _. absurd (omega arith)) a.1,
-            ((refl, refl), refl, (refl, refl, refl), refl, (λ _. (a.2, refl)), λ miss. absurd (miss hit)),
-          ))
-          (λ miss. (me.0, keeps, tt, idle_step l first holds st r i id me.1 me.0 at, ((refl, refl), refl, (refl, refl, refl), refl, (λ hit. absurd (miss hit)), λ _. (refl, refl))))
+      (λ hit. let was : own.0 ≡ Retired t = was_retired own.0 (get_or st.words i 0) t own.2 (hit ∙ n_is) in
+      let after : AllBeganAfter s t = (λ j b d stands. let low = at_below s.hands j (Running b, d) stands in let late : m ≤ b = swept.later j b d stands (omega arith) in omega arith) in
+      let a = asked s (stage_of me.0.stamp) page.0 r.kept r.orderly mine.stands (page.1, own.1 ∙ ap (λ (z : Owner). some z) was) after in (
+        record me.0 { known = a.0; releases = me.0.releases + 1 },
+        keeps,
+        tt,
+        owner_step st r i 0 id me.1 me.0 x (me.0.releases + 1) own.0 Released a.0 at i_is own.1 refl (λ j u e _. absurd (omega arith)) a.1,
+        ((refl, refl), refl, (refl, refl, refl), refl, (λ _. (a.2, refl)), λ miss. absurd (miss hit)),
+      ))
+      (λ miss. (me.0, keeps, tt, idle_step l first holds st r i id me.1 me.0 at, ((refl, refl), refl, (refl, refl, refl), refl, (λ hit. absurd (miss hit)), λ _. (refl, refl))))
 
   -- a reservation is refused, at a load
   pub refuses : (then' : D → ℕ → D → Type 0) (slots id i : ℕ) (me : M) → Refuses holds l me.0.number me.0.known then' → Allows Rule slots id me i (λ n. n) (refused then' (step slots i 0 0 none) me)

@@ -75,7 +75,7 @@ module _ {D : Type 0} (l : Layout) (first : D) (holds : Pages D → Type 0) wher
         page = λ y ys e. ⊎_elim
             (λ (t : (y ≡ x) × (xs ≡ ys)). let same = t.0 in inr (f, get_or-set_at st.words i (page_at l y) n 0 (omega arith) (omega arith) ∙ n_is, subst (λ (z : ℕ × List ℕ). get_elem? gs f ≡ some (used (shown z.0) z.1)) (λ k. (sym t.0 k, t.1 k)) go.page))
             (λ (t : (y ≢ x) × (get_elem? s.contents y ≡ some ys)). let other = t.0 in let low = at_below s.contents y ys t.1 in
-              subst (λ (z : ℕ). PageIs gs y z ys) (sym (get_or-set_other st.words i (page_at l y) n 0 (λ z. other (omega arith)))) (go.pages y (get_or st.words (page_at l y) 0) ys t.0 (r.shows.page y ys t.1)))
+            subst (λ (z : ℕ). PageIs gs y z ys) (sym (get_or-set_other st.words i (page_at l y) n 0 (λ z. other (omega arith)))) (go.pages y (get_or st.words (page_at l y) 0) ys t.0 (r.shows.page y ys t.1)))
             (at_set s.contents x y xs ys e);
         owner = λ y o e. subst (λ (z : ℕ). OwnerIs z o) (sym (owners y (at_below s.owners y o e))) (r.shows.owner y o e);
         frame = λ h fr e. let low = at_below gs h fr e in let same = go.count in frame_same l st.words ws h (get_or-set_other st.words i (state_at l h) n 0 (λ z. omega arith)) (λ k small. get_or-set_other st.words i (place_at l h k) n 0 (λ z. omega arith)) fr (go.framed h fr e);
@@ -91,22 +91,22 @@ module _ {D : Type 0} (l : Layout) (first : D) (holds : Pages D → Type 0) wher
         swept = λ m k is. swept_told s s' q sg sg v.known d m k (le_refl s.clock) mine.stands refl (λ b e. inl e) is;
       } in
       moved l first holds st r i n id cs v (record v { stock = ds; known = d; dropping = dr }) s' gs r.budgets at
-          (orderly_told l s1 q sg d (began_by l s q v.stamp v.known r.orderly mine.stands) (orderly_written l s x xs r.orderly))
-          (shows_told l ws s1 gs q sg d (subst (λ (z : ℕ). ProcessIs z sg) (sym (process q (omega arith))) (r.shows.process q sg v.known (omega arith) mine.stands)) shows)
-          r.budgeted moves
-          record {
-            layout = refl;
-            number = refl;
-            upto = refl;
-            stands = set_there s.hands q (sg, v.known) (sg, d) mine.stands;
-            clocked = mine.clocked;
-            reads = reads_own st.words r.frames gs v.stamp v.reading go.reads mine.reads;
-            stocks = go.own;
-            drops = drops;
-            seals = seal_same l st.words ws s.owners q v.sealing owners mine.seals;
-            sweeps = sweeps_stay moves v.sweep mine.sweeps;
-            budget = mine.budget;
-          } kept
+      (orderly_told l s1 q sg d (began_by l s q v.stamp v.known r.orderly mine.stands) (orderly_written l s x xs r.orderly))
+      (shows_told l ws s1 gs q sg d (subst (λ (z : ℕ). ProcessIs z sg) (sym (process q (omega arith))) (r.shows.process q sg v.known (omega arith) mine.stands)) shows)
+      r.budgeted moves
+      record {
+        layout = refl;
+        number = refl;
+        upto = refl;
+        stands = set_there s.hands q (sg, v.known) (sg, d) mine.stands;
+        clocked = mine.clocked;
+        reads = reads_own st.words r.frames gs v.stamp v.reading go.reads mine.reads;
+        stocks = go.own;
+        drops = drops;
+        seals = seal_same l st.words ws s.owners q v.sealing owners mine.seals;
+        sweeps = sweeps_stay moves v.sweep mine.sweeps;
+        budget = mine.budget;
+      } kept
     where
       reads_own : (ws : List ℕ) (fs gs : List Frame) (sp : Stamp) (rd : Reading) → ((b h : ℕ) (ys : List ℕ) → Readable fs b h ys → Readable gs b h ys) → Reads fs sp rd → Reads gs sp rd
       reads_own ws fs gs sp Nowhere stay is = tt
@@ -152,22 +152,22 @@ module _ {D : Type 0} (l : Layout) (first : D) (holds : Pages D → Type 0) wher
       let t = asked s (stage_of me.0.stamp) page.0 own.0 r.kept r.orderly mine.stands (page.1, own.1) in
       let passes = ap (λ (z : Layout). z.passes) same in let frames' = ap (λ (z : Layout). frame_count z) same in
       let tells : (y g : ℕ) (ys : List ℕ) (es : List Draft) → i ≡ page_at me.0.layout y → me.0.stock ≡ draft g ys ∷ es → (ds ≡ es) × ((old : List ℕ) × then' me.0.known y (Held q) old t.1)
-          = (λ y g ys es equal e. let back : x ≡ y = omega arith in (ap tail_of (sym has ∙ e), (page.0, subst (λ (z : ℕ × Owner). then' me.0.known z.0 z.1 page.0 t.1) (λ k. (back k, t.0 k)) t.3))) in
+      = (λ y g ys es equal e. let back : x ≡ y = omega arith in (ap tail_of (sym has ∙ e), (page.0, subst (λ (z : ℕ × Owner). then' me.0.known z.0 z.1 page.0 t.1) (λ k. (back k, t.0 k)) t.3))) in
       let from : PageIs r.frames x before page.0 = subst (λ (z : ℕ). PageIs r.frames x (get_or st.words z 0) page.0) (sym i_is) (r.shows.page x page.0 page.1) in
       ⊎_elim
-          (λ (e : (before ≡ 0) × (page.0 ≡ replicate 32 0)). let nothing = e.0 in (
-            record me.0 { stock = ds; known = t.1; dropping = Empty },
-            keeps,
-            tt,
-            put_step st r i n id me.1 me.0 (set r.frames f (used (shown x) xs)) x f xs ds Empty t.1 i_is n_is inside at (first_put st r q x f xs ds here whole known.1) tt t.2,
-            ((refl, refl), refl, (refl, refl), tells, λ g is. absurd (omega arith)),
-          ))
-          (λ (e : (g : ℕ) × (before ≡ g + 1) × (get_elem? r.frames g ≡ some (used (shown x) page.0))). let gs : List Frame = set r.frames f (used (shown x) xs) in let up = e.1 in let within = at_below r.frames e.0 (used (shown x) page.0) e.2 in (
-            record me.0 { stock = ds; known = t.1; dropping = Dropped e.0 },
-            keeps,
-            tt,
-            put_step st r i n id me.1 me.0 (set gs e.0 (used (dropped q) page.0)) x f xs ds (Dropped e.0) t.1 i_is n_is inside at (next_put st r q x f e.0 xs page.0 ds here whole known.1 e.2)
-                (page.0, set_here gs e.0 (used (dropped q) page.0) (subst (λ (z : ℕ). e.0 < z) (sym (length-set r.frames f (used (shown x) xs))) within)) t.2,
-            ((refl, refl), refl, (refl, refl), tells, λ g is. let is_g : e.0 ≡ g = omega arith in (omega arith, ap (λ (z : ℕ). Dropped z) is_g)),
-          ))
-          from
+      (λ (e : (before ≡ 0) × (page.0 ≡ replicate 32 0)). let nothing = e.0 in (
+        record me.0 { stock = ds; known = t.1; dropping = Empty },
+        keeps,
+        tt,
+        put_step st r i n id me.1 me.0 (set r.frames f (used (shown x) xs)) x f xs ds Empty t.1 i_is n_is inside at (first_put st r q x f xs ds here whole known.1) tt t.2,
+        ((refl, refl), refl, (refl, refl), tells, λ g is. absurd (omega arith)),
+      ))
+      (λ (e : (g : ℕ) × (before ≡ g + 1) × (get_elem? r.frames g ≡ some (used (shown x) page.0))). let gs : List Frame = set r.frames f (used (shown x) xs) in let up = e.1 in let within = at_below r.frames e.0 (used (shown x) page.0) e.2 in (
+        record me.0 { stock = ds; known = t.1; dropping = Dropped e.0 },
+        keeps,
+        tt,
+        put_step st r i n id me.1 me.0 (set gs e.0 (used (dropped q) page.0)) x f xs ds (Dropped e.0) t.1 i_is n_is inside at (next_put st r q x f e.0 xs page.0 ds here whole known.1 e.2)
+            (page.0, set_here gs e.0 (used (dropped q) page.0) (subst (λ (z : ℕ). e.0 < z) (sym (length-set r.frames f (used (shown x) xs))) within)) t.2,
+        ((refl, refl), refl, (refl, refl), tells, λ g is. let is_g : e.0 ≡ g = omega arith in (omega arith, ap (λ (z : ℕ). Dropped z) is_g)),
+      ))
+      from

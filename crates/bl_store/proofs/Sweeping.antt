@@ -37,6 +37,23 @@ abbrev time_of : Sweep → ℕ
 time_of Still = 0
 time_of (Over m k) = m
 
+pub lower_none : (m n : ℕ) → n ≡ 0 → lower m n ≡ m
+lower_none m zero e = refl
+lower_none m (suc c) e = absurd (omega arith)
+
+pub lower_some : (m n : ℕ) → n ≢ 0 → lower m n ≡ min m (n - 1)
+lower_some m zero e = absurd (e refl)
+lower_some m (suc c) e = let same : c ≡ suc c - 1 = omega arith in ap (λ (z : ℕ). min m z) same
+
+lower_both : (m n : ℕ) → lower m n ≤ m
+lower_both m zero = le_refl m
+lower_both m (suc c) = min-le_left m c
+
+-- a process whose word is n began at the lower time or after it
+lower_began : (m n b : ℕ) → 0 < n → n ≤ b + 1 → lower m n ≤ b
+lower_began m zero b some_word near = absurd (omega arith)
+lower_began m (suc c) b some_word near = let low = min-le_right m c in omega arith
+
 module _ {D : Type 0} (l : Layout) (first : D) (holds : Pages D → Type 0) where
   abbrev St : Type 0
   St = State (Unit {0}) (View D)
@@ -50,15 +67,6 @@ module _ {D : Type 0} (l : Layout) (first : D) (holds : Pages D → Type 0) wher
   -- a step at which the word i becomes n
   abbrev Leads : St → ℕ → ℕ → ℕ → M → (M → Type 0) → Type 0
   Leads s i n id me then' = (w : View D) × (a : Act (Unit {0})) × Valid s.homes me.1 a × Rule (stepped s i n id me.1 w a) × then' (w, carried_after me.1 a)
-
-  lower_both : (m n : ℕ) → lower m n ≤ m
-  lower_both m zero = le_refl m
-  lower_both m (suc c) = min-le_left m c
-
-  -- a process whose word is n began at the lower time or after it
-  lower_began : (m n b : ℕ) → 0 < n → n ≤ b + 1 → lower m n ≤ b
-  lower_began m zero b some_word near = absurd (omega arith)
-  lower_began m (suc c) b some_word near = let low = min-le_right m c in omega arith
 
   -- a load of the clock by which a round of looks begins
   pub horizons : (slots id i : ℕ) (me : M) → i ≡ 0 → Allows Rule slots id me i (λ n. n) (horizoned (step slots i 0 0 none) me)
@@ -78,7 +86,7 @@ module _ {D : Type 0} (l : Layout) (first : D) (holds : Pages D → Type 0) wher
         past = omega arith;
         later = λ j b d stands low. dite (ℕ_discrete j k)
             (λ e. let inside = at_below s.hands j (Running b, d) stands in let now : ProcessIs (get_or st.words (process_at j) 0) (Running b) = r.shows.process j (Running b) d (omega arith) stands in
-                let same : get_or st.words (process_at j) 0 ≡ n = ap (λ (z : ℕ). get_or st.words (process_at z) 0) e ∙ ap (λ (z : ℕ). get_or st.words z 0) (sym i_is) in let some_word = now.0 in let near = now.1 in lower_began m n b (omega arith) (omega arith))
+            let same : get_or st.words (process_at j) 0 ≡ n = ap (λ (z : ℕ). get_or st.words (process_at z) 0) e ∙ ap (λ (z : ℕ). get_or st.words z 0) (sym i_is) in let some_word = now.0 in let near = now.1 in lower_began m n b (omega arith) (omega arith))
             (λ ne. let soon = so_far.later j b d stands (omega arith) in omega arith);
       } in (
         record me.0 { puts = me.0.puts; retires = me.0.retires; sweep = Over (lower m n) (k + 1) },

@@ -82,19 +82,19 @@ module _ {D : Type 0} (l : Layout) (first : D) (holds : Pages D → Type 0) wher
         tt,
         subst (λ (z : ℕ). Rule (stepped st i z id me.1 w keeps)) (sym up)
             (moved l first holds st r i (n + 1) id me.1 me.0 w (later s) gs bs' at (orderly_later l s r.orderly) shows (spent s.clock q (me.0.puts + me.0.retires) (k + me.0.retires) r.budgets mine.budget (omega arith) r.budgeted) go
-              record {
-                layout = refl;
-                number = refl;
-                upto = refl;
-                stands = mine.stands;
-                clocked = read_by s.clock me.0.stamp mine.clocked;
-                reads = reads_stay go q me.0.stamp me.0.known me.0.reading (omega arith) mine.stands mine.reads;
-                stocks = stocks_kept r.frames f old new q me.0.stock here (λ m ys _ e. cc) mine.stocks;
-                drops = (xs, set_there r.frames f old new here ∙ ap (λ (z : ℕ). some (used (timed q z) xs)) (sym now));
-                seals = seal_same l st.words ws s.owners q me.0.sealing owners mine.seals;
-                sweeps = sweeps_stay go me.0.sweep mine.sweeps;
-                budget = set_there r.budgets q (me.0.puts + me.0.retires) (k + me.0.retires) mine.budget;
-              } (ticks s r.kept)),
+            record {
+              layout = refl;
+              number = refl;
+              upto = refl;
+              stands = mine.stands;
+              clocked = read_by s.clock me.0.stamp mine.clocked;
+              reads = reads_stay go q me.0.stamp me.0.known me.0.reading (omega arith) mine.stands mine.reads;
+              stocks = stocks_kept r.frames f old new q me.0.stock here (λ m ys _ e. cc) mine.stocks;
+              drops = (xs, set_there r.frames f old new here ∙ ap (λ (z : ℕ). some (used (timed q z) xs)) (sym now));
+              seals = seal_same l st.words ws s.owners q me.0.sealing owners mine.seals;
+              sweeps = sweeps_stay go me.0.sweep mine.sweeps;
+              budget = set_there r.budgets q (me.0.puts + me.0.retires) (k + me.0.retires) mine.budget;
+            } (ticks s r.kept)),
         ((refl, refl), refl, refl, refl, sym has, refl, omega arith, λ g e. let same : f ≡ g = cc in ap (λ (z : ℕ). Timed z n) same),
       )
     where
@@ -134,22 +134,22 @@ module _ {D : Type 0} (l : Layout) (first : D) (holds : Pages D → Type 0) wher
         tt,
         subst (λ (z : ℕ). Rule (stepped st i z id me.1 w keeps)) (sym up)
             (moved l first holds st r i (n + 1) id me.1 me.0 w s' r.frames bs' at
-              (orderly_told l (later s1) q sg t.1 (λ b e. let soon = began_by l s q me.0.stamp me.0.known r.orderly mine.stands b e in omega arith) (orderly_later l s1 (orderly_owned l s x (Retired s.clock) r.orderly)))
-              (shows_told l ws (later s1) r.frames q sg t.1 (subst (λ (z : ℕ). ProcessIs z sg) (sym process) (r.shows.process q sg me.0.known (omega arith) mine.stands)) shows)
-              (spent s.clock q (me.0.puts + me.0.retires) (me.0.puts + k) r.budgets mine.budget (omega arith) r.budgeted) go
-              record {
-                layout = refl;
-                number = refl;
-                upto = refl;
-                stands = set_there s.hands q (sg, me.0.known) (sg, t.1) mine.stands;
-                clocked = read_by s.clock me.0.stamp mine.clocked;
-                reads = mine.reads;
-                stocks = mine.stocks;
-                drops = mine.drops;
-                seals = (owners x (omega (arith, length-set s.owners x (Retired s.clock))) ∙ word, set_there s.owners x own.0 (Retired s.clock) own.1 ∙ ap (λ (z : ℕ). some (Retired z)) (sym now));
-                sweeps = sweeps_stay go me.0.sweep mine.sweeps;
-                budget = set_there r.budgets q (me.0.puts + me.0.retires) (me.0.puts + k) mine.budget;
-              } t.2),
+            (orderly_told l (later s1) q sg t.1 (λ b e. let soon = began_by l s q me.0.stamp me.0.known r.orderly mine.stands b e in omega arith) (orderly_later l s1 (orderly_owned l s x (Retired s.clock) r.orderly)))
+            (shows_told l ws (later s1) r.frames q sg t.1 (subst (λ (z : ℕ). ProcessIs z sg) (sym process) (r.shows.process q sg me.0.known (omega arith) mine.stands)) shows)
+            (spent s.clock q (me.0.puts + me.0.retires) (me.0.puts + k) r.budgets mine.budget (omega arith) r.budgeted) go
+            record {
+              layout = refl;
+              number = refl;
+              upto = refl;
+              stands = set_there s.hands q (sg, me.0.known) (sg, t.1) mine.stands;
+              clocked = read_by s.clock me.0.stamp mine.clocked;
+              reads = mine.reads;
+              stocks = mine.stocks;
+              drops = mine.drops;
+              seals = (owners x (omega (arith, length-set s.owners x (Retired s.clock))) ∙ word, set_there s.owners x own.0 (Retired s.clock) own.1 ∙ ap (λ (z : ℕ). some (Retired z)) (sym now));
+              sweeps = sweeps_stay go me.0.sweep mine.sweeps;
+              budget = set_there r.budgets q (me.0.puts + me.0.retires) (me.0.puts + k) mine.budget;
+            } t.2),
         ((refl, refl), refl, refl, refl, sym has, omega arith, refl, subst (λ (z : ℕ). then' me.0.known z t.1) (sym now) t.3),
       )
     where

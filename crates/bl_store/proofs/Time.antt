@@ -84,22 +84,22 @@ module _ {D : Type 0} (l : Layout) (first : D) (holds : Pages D → Type 0) wher
   told_load st r i id cs v rd d at reads kept = let mine = r.seats id v at in let s : Pages D = r.pages in let low = mine.counted in let dealt = mine.dealt in
       let go : Goes l st.words st.words s (told s v.number (stage_of v.stamp) d) r.frames r.frames r.budgets r.budgets v.number = goes_told l st.words st.words s r.frames r.budgets v.number (stage_of v.stamp) (stage_of v.stamp) v.known d mine.stands (λ b e. inl e) (λ x _. refl) in
       unmoved l first holds st r i id cs v (record v { reading = rd; known = d }) (told s v.number (stage_of v.stamp) d) r.budgets at
-          (orderly_told l s v.number (stage_of v.stamp) d (began_by l s v.number v.stamp v.known r.orderly mine.stands) r.orderly)
-          (shows_told l st.words s r.frames v.number (stage_of v.stamp) d (r.shows.process v.number (stage_of v.stamp) v.known (omega arith) mine.stands) r.shows)
-          r.budgeted go
-          record {
-            layout = refl;
-            number = refl;
-            upto = refl;
-            stands = set_there s.hands v.number (stage_of v.stamp, v.known) (stage_of v.stamp, d) mine.stands;
-            clocked = mine.clocked;
-            reads = reads;
-            stocks = mine.stocks;
-            drops = mine.drops;
-            seals = mine.seals;
-            sweeps = sweeps_stay go v.sweep mine.sweeps;
-            budget = mine.budget;
-          } kept
+      (orderly_told l s v.number (stage_of v.stamp) d (began_by l s v.number v.stamp v.known r.orderly mine.stands) r.orderly)
+      (shows_told l st.words s r.frames v.number (stage_of v.stamp) d (r.shows.process v.number (stage_of v.stamp) v.known (omega arith) mine.stands) r.shows)
+      r.budgeted go
+      record {
+        layout = refl;
+        number = refl;
+        upto = refl;
+        stands = set_there s.hands v.number (stage_of v.stamp, v.known) (stage_of v.stamp, d) mine.stands;
+        clocked = mine.clocked;
+        reads = reads;
+        stocks = mine.stocks;
+        drops = mine.drops;
+        seals = mine.seals;
+        sweeps = sweeps_stay go v.sweep mine.sweeps;
+        budget = mine.budget;
+      } kept
 
   -- a process word changes, and the hand reads nothing
   process_step : (st : St) (r : Rule st) (i id n : ℕ) (cs : List (ℕ × Unit {0})) (v : View D) (sp : Stamp) (d : D) → get_elem? st.views id ≡ some v → i ≡ process_at v.number → ProcessIs n (stage_of sp) → IsRead r.pages.clock sp
@@ -108,24 +108,24 @@ module _ {D : Type 0} (l : Layout) (first : D) (holds : Pages D → Type 0) wher
       let ws : List ℕ = set st.words i n in
       let owners : (x : ℕ) → x < length s.owners → get_or ws (owner_at l x) 0 ≡ get_or st.words (owner_at l x) 0 = (λ x below. get_or-set_other st.words i (owner_at l x) n 0 (λ z. omega arith)) in
       let go : Goes l st.words ws s (told s v.number (stage_of sp) d) r.frames r.frames r.budgets r.budgets v.number = goes_told l st.words ws s r.frames r.budgets v.number (stage_of v.stamp) (stage_of sp) v.known d mine.stands
-          (λ b e. let now = begun b e in inr (omega arith)) owners in
+      (λ b e. let now = begun b e in inr (omega arith)) owners in
       moved l first holds st r i n id cs v (record v { stamp = sp; reading = Nowhere; known = d }) (told s v.number (stage_of sp) d) r.frames r.budgets at
-          (orderly_told l s v.number (stage_of sp) d (λ b e. let now = begun b e in omega arith) r.orderly)
-          (subst (λ (z : ℕ). Shows l (set st.words z n) (told s v.number (stage_of sp) d) r.frames) (sym i_is) (shows_process l st.words s r.frames v.number n (stage_of sp) d (omega arith) is r.shows))
-          r.budgeted go
-          record {
-            layout = refl;
-            number = refl;
-            upto = refl;
-            stands = set_there s.hands v.number (stage_of v.stamp, v.known) (stage_of sp, d) mine.stands;
-            clocked = clocked';
-            reads = tt;
-            stocks = mine.stocks;
-            drops = mine.drops;
-            seals = seal_same l st.words ws s.owners v.number v.sealing owners mine.seals;
-            sweeps = sweeps_stay go v.sweep mine.sweeps;
-            budget = mine.budget;
-          } kept
+      (orderly_told l s v.number (stage_of sp) d (λ b e. let now = begun b e in omega arith) r.orderly)
+      (subst (λ (z : ℕ). Shows l (set st.words z n) (told s v.number (stage_of sp) d) r.frames) (sym i_is) (shows_process l st.words s r.frames v.number n (stage_of sp) d (omega arith) is r.shows))
+      r.budgeted go
+      record {
+        layout = refl;
+        number = refl;
+        upto = refl;
+        stands = set_there s.hands v.number (stage_of v.stamp, v.known) (stage_of sp, d) mine.stands;
+        clocked = clocked';
+        reads = tt;
+        stocks = mine.stocks;
+        drops = mine.drops;
+        seals = seal_same l st.words ws s.owners v.number v.sealing owners mine.seals;
+        sweeps = sweeps_stay go v.sweep mine.sweeps;
+        budget = mine.budget;
+      } kept
 
   -- a load of the clock, outside a process
   pub reads_clock : (slots id i : ℕ) (me : M) → i ≡ 0 → me.0.stamp ≡ Out → Allows Rule slots id me i (λ n. n) (clocked (step slots i 0 0 none) me)
@@ -183,31 +183,31 @@ module _ {D : Type 0} (l : Layout) (first : D) (holds : Pages D → Type 0) wher
       let passes = ap (λ (z : Layout). z.passes) same in let total = r.shows.frame_total in let counts' = ap (λ (z : Layout). frame_count z) same in
       let from : PageIs r.frames x n page.0 = subst (λ (z : ℕ). PageIs r.frames x (get_or st.words z 0) page.0) (sym i_is) (r.shows.page x page.0 page.1) in
       ⊎_elim
-          (λ (e : (n ≡ 0) × (page.0 ≡ replicate 32 0)). (
-            record me.0 { reading = me.0.reading; known = t.1 },
-            keeps,
-            tt,
-            told_load st r i id me.1 me.0 me.0.reading t.1 at mine.reads kept,
-            ((refl, refl), refl, (refl, refl, refl), λ y equal. let back : x ≡ y = omega arith in (own.0, page.0, ((λ _. e.1), λ some_frame. absurd (some_frame e.0)), subst (λ (z : ℕ). then' me.0.known z own.0 page.0 t.1) back t.3)),
-          ))
-          (λ (e : (f : ℕ) × (n ≡ f + 1) × (get_elem? r.frames f ≡ some (used (shown x) page.0))). let up = e.1 in let within = at_below r.frames e.0 (used (shown x) page.0) e.2 in (
-            record me.0 { reading = At e.0 page.0; known = t.1 },
-            keeps,
-            tt,
-            told_load st r i id me.1 me.0 (At e.0 page.0) t.1 at (b, is, (shown x, e.2, tt)) kept,
-            (
-              (refl, refl),
-              refl,
-              (refl, refl, refl),
-              λ y equal. let back : x ≡ y = omega arith in (
-                own.0,
-                page.0,
-                ((λ nothing. absurd (omega arith)), λ _. (e.0, e.1, omega arith, (r.shows.frame e.0 (used (shown x) page.0) e.2).1, refl)),
-                subst (λ (z : ℕ). then' me.0.known z own.0 page.0 t.1) back t.3,
-              ),
-            ),
-          ))
-          from
+      (λ (e : (n ≡ 0) × (page.0 ≡ replicate 32 0)). (
+        record me.0 { reading = me.0.reading; known = t.1 },
+        keeps,
+        tt,
+        told_load st r i id me.1 me.0 me.0.reading t.1 at mine.reads kept,
+        ((refl, refl), refl, (refl, refl, refl), λ y equal. let back : x ≡ y = omega arith in (own.0, page.0, ((λ _. e.1), λ some_frame. absurd (some_frame e.0)), subst (λ (z : ℕ). then' me.0.known z own.0 page.0 t.1) back t.3)),
+      ))
+      (λ (e : (f : ℕ) × (n ≡ f + 1) × (get_elem? r.frames f ≡ some (used (shown x) page.0))). let up = e.1 in let within = at_below r.frames e.0 (used (shown x) page.0) e.2 in (
+        record me.0 { reading = At e.0 page.0; known = t.1 },
+        keeps,
+        tt,
+        told_load st r i id me.1 me.0 (At e.0 page.0) t.1 at (b, is, (shown x, e.2, tt)) kept,
+        (
+          (refl, refl),
+          refl,
+          (refl, refl, refl),
+          λ y equal. let back : x ≡ y = omega arith in (
+            own.0,
+            page.0,
+            ((λ nothing. absurd (omega arith)), λ _. (e.0, e.1, omega arith, (r.shows.frame e.0 (used (shown x) page.0) e.2).1, refl)),
+            subst (λ (z : ℕ). then' me.0.known z own.0 page.0 t.1) back t.3,
+          ),
+        ),
+      ))
+      from
 
   pub copies : (slots id i f k : ℕ) (me : M) (xs : List ℕ) → i ≡ place_at l f k → me.0.reading ≡ At f xs → me.0.layout ≡ l → k < 32 → Allows Rule slots id me i (λ n. n) (copied (step slots i 0 0 none) me)
   copies slots id i f k me xs i_is reads same more st r _ at _ = let mine = r.seats id me.0 at in let s : Pages D = r.pages in

@@ -88,7 +88,7 @@ module _ {D : Type 0} where
   abbrev pub swapped : (D → ℕ → Owner → List ℕ → D → Type 0) → Play → Sat D → ℕ → Sat D → Type 0
   swapped then st m r m' = IsThere m.0 m'.0 × (m'.0.stamp ≡ m.0.stamp) × HasTicks m.0 m'.0
       × ((x f : ℕ) (xs : List ℕ) (ds : List Draft) → st.word ≡ page_at m.0.layout x → m.0.stock ≡ draft f xs ∷ ds
-          → (m'.0.stock ≡ ds) × ((old : List ℕ) × then m.0.known x (Held m.0.number) old m'.0.known))
+      → (m'.0.stock ≡ ds) × ((old : List ℕ) × then m.0.known x (Held m.0.number) old m'.0.known))
       × ((g : ℕ) → r ≡ g + 1 → (g < frame_count m.0.layout) × (m'.0.dropping ≡ Dropped g))
 
   -- a tick of the clock for the frame that the hand took from a page

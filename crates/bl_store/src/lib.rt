@@ -14,11 +14,14 @@
 //! concurrent operations on B-trees" (1981). Stamps, frames and their release are this project's own.
 #![tactic(auto)]
 
+mod owner;
 mod plays;
+mod put;
 mod reserve;
 mod rule;
 mod stock;
 mod store;
+mod sweep;
 mod view;
 
 pub use rule::{PagePlay, PageRule, SweepPlay, TimePlay};

@@ -36,7 +36,10 @@ impl<D, R: PageRule<D>, A: Allocator> Store<D, R, A> {
         ensures refused { IfErr result (λ _. HasNoStock hand.new.seat × ((now : ℕ) × M.then (known hand.old.seat) now (known hand.new.seat))) }
         ensures why { IfErr result (IsWhy hand.new.seat pages frames) }
     {
-        let clock = self.table.shared.load::<Allot>(&mut hand.seat, self.layout.clock());
+        let clock = self
+            .table
+            .shared
+            .load::<Allot>(&mut hand.seat, self.layout.clock());
         if clock >= END_OF_TIME {
             self.refuse::<M>(hand);
             return Err(NoRoom::Clock);
@@ -71,7 +74,9 @@ impl<D, R: PageRule<D>, A: Allocator> Store<D, R, A> {
         ensures stock { (hand.new.seat.me.0.stock ≡ hand.old.seat.me.0.stock) × (hand.new.seat.me.0.seen ≡ hand.old.seat.me.0.seen) }
         ensures told { (now : ℕ) × M.then (known hand.old.seat) now (known hand.new.seat) }
     {
-        self.table.shared.load::<Refuse<M>>(&mut hand.seat, self.layout.clock());
+        self.table
+            .shared
+            .load::<Refuse<M>>(&mut hand.seat, self.layout.clock());
     }
 
     // Tries each frame once, from the hand's cursor on, until there are enough.
@@ -127,7 +132,10 @@ impl<D, R: PageRule<D>, A: Allocator> Store<D, R, A> {
             return;
         }
         let mine = 4 * hand.number as u64 + 2;
-        let found = self.table.shared.compare_exchange::<Reserve>(&mut hand.seat, at, 0, mine);
+        let found = self
+            .table
+            .shared
+            .compare_exchange::<Reserve>(&mut hand.seat, at, 0, mine);
         if found == 0 {
             stock.frames[stock.count as usize] = frame;
             stock.count += 1;
@@ -147,7 +155,12 @@ impl<D, R: PageRule<D>, A: Allocator> Store<D, R, A> {
             let mine = 4 * hand.number as u64 + 2;
             self.table
                 .shared
-                .compare_exchange::<Return>(&mut hand.seat, self.layout.frame_owner(frame), mine, 0);
+                .compare_exchange::<Return>(
+                    &mut hand.seat,
+                    self.layout.frame_owner(frame),
+                    mine,
+                    0,
+                );
         }
     }
 
@@ -161,7 +174,11 @@ impl<D, R: PageRule<D>, A: Allocator> Store<D, R, A> {
     {
         let pages = self.layout.pages;
         let hint = self.least_free.load(Ordering::SeqCst);
-        let first = if hint < pages as u64 { (hint as u32).max(1) } else { 1 };
+        let first = if hint < pages as u64 {
+            (hint as u32).max(1)
+        } else {
+            1
+        };
         if let Some(page) = self.take_from::<T>(hand, first, pages) {
             return Some(page);
         }

@@ -54,7 +54,10 @@ impl<D, R: PageRule<D>, A: Allocator> Store<D, R, A> {
         ensures running { IsRunning hand.new.seat }
         ensures told { (now : ℕ) × M.then (known hand.old.seat) now (known hand.new.seat) }
     {
-        let clock = self.table.shared.load::<Clock>(&mut hand.seat, self.layout.clock());
+        let clock = self
+            .table
+            .shared
+            .load::<Clock>(&mut hand.seat, self.layout.clock());
         let process = self.layout.process(hand.number);
         self.table
             .shared
@@ -99,7 +102,10 @@ impl<D, R: PageRule<D>, A: Allocator> Store<D, R, A> {
         ensures same { IsSameHand hand.old.seat hand.new.seat × IsSameStage hand.old.seat hand.new.seat × IsSameStock hand.old.seat hand.new.seat }
         ensures told { (owner : Owner) × M.then (known hand.old.seat) page owner words.new (known hand.new.seat) }
     {
-        let found = self.table.shared.load::<Look<M>>(&mut hand.seat, self.layout.page(page));
+        let found = self
+            .table
+            .shared
+            .load::<Look<M>>(&mut hand.seat, self.layout.page(page));
         if found == 0 {
             *words = [0; 32];
         } else {

@@ -9,9 +9,12 @@ use Rattle.bl_store.proofs.Time.{looks}
 use Rattle.bl_store.proofs.store.Store.get_into.Goals as goal
 
 pub load-found-requires : goal.load-found-requires
-load-found-requires g c = let st = c.args.self.now in let wide = st.wide in let own = c.args.hand.now.own in let passes = ap (λ (z : Layout). z.passes) st.key in let pages = ap (λ (z : Layout). z.pages) st.key in
-    (search rules, omega arith, looks _ _ _ g.M.PagePlay.then _ _ _ _ c.args.page _ (omega arith) (omega arith) (c.requires.own.1 ∙ sym st.key) c.requires.running.1
-        (subst (λ (z : Layout × ℕ). Gets g.R.PageRule.holds z.0 z.1 c.args.hand.now.seat.me.0.known c.args.page g.M.PagePlay.then) (λ i. (sym st.key i, own.0 i)) c.requires.rule))
+load-found-requires g c = let st = c.args.self.now in let wide = st.wide in let own = c.args.hand.now.own in let passes = ap (λ (z : Layout). z.passes) st.key in let pages = ap (λ (z : Layout). z.pages) st.key in (
+  search rules,
+  omega arith,
+  looks _ _ _ g.M.PagePlay.then _ _ _ _ c.args.page _ (omega arith) (omega arith) (c.requires.own.1 ∙ sym st.key) c.requires.running.1
+      (subst (λ (z : Layout × ℕ). Gets g.R.PageRule.holds z.0 z.1 c.args.hand.now.seat.me.0.known c.args.page g.M.PagePlay.then) (λ i. (sym st.key i, own.0 i)) c.requires.rule),
+)
 
 pub overflow_cast-found : goal.overflow_cast-found
 overflow_cast-found g c = let l = c.args.hand.now.seat.me.0.layout in let pages = l.pages_within.1 in let passes = l.passes_within.1 in let m = c.requires.own.1 in let same = ap (λ (z : Layout). z.passes) m in let e = c.load-found.ensures.2 in let t = e.3 c.args.page (omega arith) in

@@ -22,8 +22,7 @@ returns-then-found-eq0-clause-stock g c = let e = c.load.ensures.2.0 in let f = 
     let t = (f.4 c.args.frame (omega arith)).0 c.if-found-eq0.true in let was = c.requires.stock.0 in let fs : List ℕ = c.args.stock.now.frames in let n : ℕ = c.args.stock.now.count in
     let size : length fs ≡ 3 = search rules in let less = c.requires.stock.1 in let puts = f.3.0 in let puts' = e.2.1 in let enough = c.requires.stock.2 in
     let same : c.compare_exchange-found.new.seat.me.0.layout ≡ c.args.hand.now.seat.me.0.layout = f.0.0 ∙ e.0.0 in let total : frame_count c.compare_exchange-found.new.seat.me.0.layout ≡ frame_count c.args.hand.now.seat.me.0.layout = ap (λ (z : Layout). frame_count z) same in
-    let all : frame_count c.args.hand.now.seat.me.0.layout ≡ frame_count c.args.self.now.layout = ap (λ (z : Layout). frame_count z) c.requires.own.1 in
-    (
+    let all : frame_count c.args.hand.now.seat.me.0.layout ≡ frame_count c.args.self.now.layout = ap (λ (z : Layout). frame_count z) c.requires.own.1 in (
       record {
         frames = t.0 ∙ (ap (λ (z : List Draft). draft c.args.frame [] ∷ z) (e.2.0 ∙ was.frames) ∙ sym (drafts_push fs n c.args.frame (omega arith)));
         ticks = omega arith;
@@ -45,8 +44,7 @@ returns-then-found-eq0-clause-kept g c = let e = c.load.ensures.2 in let f = c.c
 pub returns-else-found-eq0-clause-stock : goal.returns-else-found-eq0-clause-stock
 returns-else-found-eq0-clause-stock g c = let e = c.load.ensures.2.0 in let f = c.compare_exchange-found.ensures.2 in let layout = e.0.0 ∙ c.requires.own.1 in let passes = ap (λ (z : Layout). z.passes) layout in let pages = ap (λ (z : Layout). z.pages) layout in
     let t = (f.4 c.args.frame (omega arith)).1 c.if-found-eq0.false in let was = c.requires.stock.0 in let ticks = was.ticks in let puts = f.3.0 in let puts' = e.2.1 in
-    let same : c.compare_exchange-found.new.seat.me.0.layout ≡ c.args.hand.now.seat.me.0.layout = f.0.0 ∙ e.0.0 in
-    (
+    let same : c.compare_exchange-found.new.seat.me.0.layout ≡ c.args.hand.now.seat.me.0.layout = f.0.0 ∙ e.0.0 in (
       record {
         frames = t.0 ∙ (e.2.0 ∙ was.frames);
         ticks = omega arith;
