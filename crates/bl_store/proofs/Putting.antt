@@ -36,15 +36,15 @@ tail_of [] = []
 tail_of (d ∷ ds) = ds
 
 -- what becomes of the frames at a put of the page x by the hand q
-record Passing (l : Layout) (ws : List ℕ) (fs gs : List Frame) (q x f : ℕ) (xs : List ℕ) (ds : List Draft) : Type 0 where
-  count : length gs ≡ length fs
-  page : get_elem? gs f ≡ some (used (shown x) xs)
-  pages : (y n : ℕ) (ys : List ℕ) → y ≢ x → PageIs fs y n ys → PageIs gs y n ys
-  framed : (h : ℕ) (st : Frame) → get_elem? gs h ≡ some st → FrameIs l ws h st
-  reads : (b h : ℕ) (ys : List ℕ) → Readable fs b h ys → Readable gs b h ys
-  stocks : (j : ℕ) (es : List Draft) → j ≢ q → Stocks fs j es → Stocks gs j es
-  own : Stocks gs q ds
-  drops : (j : ℕ) (d : Dropping) → j ≢ q → Drops fs j d → Drops gs j d
+pub record Passing (l : Layout) (ws : List ℕ) (fs gs : List Frame) (q x f : ℕ) (xs : List ℕ) (ds : List Draft) : Type 0 where
+  pub count : length gs ≡ length fs
+  pub page : get_elem? gs f ≡ some (used (shown x) xs)
+  pub pages : (y n : ℕ) (ys : List ℕ) → y ≢ x → PageIs fs y n ys → PageIs gs y n ys
+  pub framed : (h : ℕ) (st : Frame) → get_elem? gs h ≡ some st → FrameIs l ws h st
+  pub reads : (b h : ℕ) (ys : List ℕ) → Readable fs b h ys → Readable gs b h ys
+  pub stocks : (j : ℕ) (es : List Draft) → j ≢ q → Stocks fs j es → Stocks gs j es
+  pub own : Stocks gs q ds
+  pub drops : (j : ℕ) (d : Dropping) → j ≢ q → Drops fs j d → Drops gs j d
 
 module _ {D : Type 0} (l : Layout) (first : D) (holds : Pages D → Type 0) where
   abbrev St : Type 0
@@ -60,6 +60,25 @@ module _ {D : Type 0} (l : Layout) (first : D) (holds : Pages D → Type 0) wher
   abbrev Leads : St → ℕ → ℕ → ℕ → M → (M → Type 0) → Type 0
   Leads s i n id me then' = (w : View D) × (a : Act (Unit {0})) × Valid s.homes me.1 a × Rule (stepped s i n id me.1 w a) × then' (w, carried_after me.1 a)
 
+  -- what the words show after a put
+  pub shows_put : (ws0 : List ℕ) (s : Pages D) (fs gs : List Frame) (q x f i n : ℕ) (xs : List ℕ) (ds : List Draft) → i ≡ page_at l x → n ≡ f + 1 → x < l.pages → IsOrderly l s → Shows l ws0 s fs → Passing l ws0 fs gs q x f xs ds → Shows l (set ws0 i n) (written s x xs) gs
+  shows_put ws0 s fs gs q x f i n xs ds i_is n_is inside orderly sh go = let counts = orderly.contents in let owned' = orderly.owners in let total = sh.frame_total in let wide = sh.wide in let ws : List ℕ = set ws0 i n in
+      let owners : (y : ℕ) → y < length s.owners → get_or ws (owner_at l y) 0 ≡ get_or ws0 (owner_at l y) 0 = (λ y below. get_or-set_other ws0 i (owner_at l y) n 0 (λ z. omega arith)) in
+      let process : (k : ℕ) → k < l.passes → get_or ws (process_at k) 0 ≡ get_or ws0 (process_at k) 0 = (λ k below. get_or-set_other ws0 i (process_at k) n 0 (λ z. omega arith)) in
+      record {
+        wide = length-set ws0 i n ∙ sh.wide;
+        frame_total = go.count ∙ sh.frame_total;
+        clock = get_or-set_other ws0 i 0 n 0 (λ z. omega arith) ∙ sh.clock;
+        process = λ k sg' d' below at_k. subst (λ (z : ℕ). ProcessIs z sg') (sym (process k below)) (sh.process k sg' d' below at_k);
+        page = λ y ys e. ⊎_elim
+            (λ (t : (y ≡ x) × (xs ≡ ys)). let same = t.0 in inr (f, get_or-set_at ws0 i (page_at l y) n 0 (omega arith) (omega arith) ∙ n_is, subst (λ (z : ℕ × List ℕ). get_elem? gs f ≡ some (used (shown z.0) z.1)) (λ k. (sym t.0 k, t.1 k)) go.page))
+            (λ (t : (y ≢ x) × (get_elem? s.contents y ≡ some ys)). let other = t.0 in let low = at_below s.contents y ys t.1 in
+            subst (λ (z : ℕ). PageIs gs y z ys) (sym (get_or-set_other ws0 i (page_at l y) n 0 (λ z. other (omega arith)))) (go.pages y (get_or ws0 (page_at l y) 0) ys t.0 (sh.page y ys t.1)))
+            (at_set s.contents x y xs ys e);
+        owner = λ y o e. subst (λ (z : ℕ). OwnerIs z o) (sym (owners y (at_below s.owners y o e))) (sh.owner y o e);
+        frame = λ h fr e. let low = at_below gs h fr e in let same = go.count in frame_same l ws0 ws h (get_or-set_other ws0 i (state_at l h) n 0 (λ z. omega arith)) (λ k small. get_or-set_other ws0 i (place_at l h k) n 0 (λ z. omega arith)) fr (go.framed h fr e);
+      }
+
   put_step : (st : St) (r : Rule st) (i n id : ℕ) (cs : List (ℕ × Unit {0})) (v : View D) (gs : List Frame) (x f : ℕ) (xs : List ℕ) (ds : List Draft) (dr : Dropping) (d : D) → i ≡ page_at l x → n ≡ f + 1 → x < l.pages → get_elem? st.views id ≡ some v
       → Passing l st.words r.frames gs v.number x f xs ds → Drops gs v.number dr → holds (told (written r.pages x xs) v.number (stage_of v.stamp) d) → Rule (stepped st i n id cs (record v { stock = ds; known = d; dropping = dr }) keeps)
   put_step st r i n id cs v gs x f xs ds dr d i_is n_is inside at go drops kept = let mine = r.seats id v at in let s : Pages D = r.pages in let q : ℕ = v.number in let sg : Stage = stage_of v.stamp in
@@ -67,19 +86,7 @@ module _ {D : Type 0} (l : Layout) (first : D) (holds : Pages D → Type 0) wher
       let ws : List ℕ = set st.words i n in let s1 : Pages D = written s x xs in let s' : Pages D = told s1 q sg d in
       let owners : (y : ℕ) → y < length s.owners → get_or ws (owner_at l y) 0 ≡ get_or st.words (owner_at l y) 0 = (λ y below. get_or-set_other st.words i (owner_at l y) n 0 (λ z. omega arith)) in
       let process : (k : ℕ) → k < l.passes → get_or ws (process_at k) 0 ≡ get_or st.words (process_at k) 0 = (λ k below. get_or-set_other st.words i (process_at k) n 0 (λ z. omega arith)) in
-      let shows : Shows l ws s1 gs = record {
-        wide = length-set st.words i n ∙ r.shows.wide;
-        frame_total = go.count ∙ r.shows.frame_total;
-        clock = get_or-set_other st.words i 0 n 0 (λ z. omega arith) ∙ r.shows.clock;
-        process = λ k sg' d' below at_k. subst (λ (z : ℕ). ProcessIs z sg') (sym (process k below)) (r.shows.process k sg' d' below at_k);
-        page = λ y ys e. ⊎_elim
-            (λ (t : (y ≡ x) × (xs ≡ ys)). let same = t.0 in inr (f, get_or-set_at st.words i (page_at l y) n 0 (omega arith) (omega arith) ∙ n_is, subst (λ (z : ℕ × List ℕ). get_elem? gs f ≡ some (used (shown z.0) z.1)) (λ k. (sym t.0 k, t.1 k)) go.page))
-            (λ (t : (y ≢ x) × (get_elem? s.contents y ≡ some ys)). let other = t.0 in let low = at_below s.contents y ys t.1 in
-            subst (λ (z : ℕ). PageIs gs y z ys) (sym (get_or-set_other st.words i (page_at l y) n 0 (λ z. other (omega arith)))) (go.pages y (get_or st.words (page_at l y) 0) ys t.0 (r.shows.page y ys t.1)))
-            (at_set s.contents x y xs ys e);
-        owner = λ y o e. subst (λ (z : ℕ). OwnerIs z o) (sym (owners y (at_below s.owners y o e))) (r.shows.owner y o e);
-        frame = λ h fr e. let low = at_below gs h fr e in let same = go.count in frame_same l st.words ws h (get_or-set_other st.words i (state_at l h) n 0 (λ z. omega arith)) (λ k small. get_or-set_other st.words i (place_at l h k) n 0 (λ z. omega arith)) fr (go.framed h fr e);
-      } in
+      let shows : Shows l ws s1 gs = shows_put st.words s r.frames gs q x f i n xs ds i_is n_is inside r.orderly r.shows go in
       let moves : Goes l st.words ws s s' r.frames gs r.budgets r.budgets q = record {
         clock = le_refl s.clock;
         hands = λ k other. set_else s.hands q k (sg, d) other;
@@ -113,25 +120,25 @@ module _ {D : Type 0} (l : Layout) (first : D) (holds : Pages D → Type 0) wher
       reads_own ws fs gs sp (At h ys) stay is = (is.0, is.1, stay is.0 h ys is.2)
 
   -- the page had no frame
-  first_put : (st : St) (r : Rule st) (q x f : ℕ) (xs : List ℕ) (ds : List Draft) → get_elem? r.frames f ≡ some (used (drafted q (length ds)) xs) → length xs ≡ 32 → Stocks r.frames q ds
-      → Passing l st.words r.frames (set r.frames f (used (shown x) xs)) q x f xs ds
-  first_put st r q x f xs ds here whole rest = let old : Frame = used (drafted q (length ds)) xs in let new : Frame = used (shown x) xs in record {
-    count = length-set r.frames f new;
-    page = set_there r.frames f old new here;
-    pages = λ y n ys other. page_kept r.frames f old new y n ys here (λ zs e. cc);
-    framed = λ h fr e. ⊎_elim (λ (t : (h ≡ f) × (new ≡ fr)). subst (λ (z : Frame). FrameIs l st.words h z) t.1 (let was = r.shows.frame h old (ap (get_elem? r.frames) t.0 ∙ here) in ((q, was.0), whole, was.2, was.3)))
-        (λ (t : (h ≢ f) × (get_elem? r.frames h ≡ some fr)). r.shows.frame h fr t.1) (at_set r.frames f h new fr e);
-    reads = λ b h ys is. reads_kept r.frames f old new b h ys here (λ u e may. let as_used : drafted q (length ds) ≡ u = cc in absurd (subst (MayRead b) (sym as_used) may)) is;
-    stocks = λ j es other is. stocks_kept r.frames f old new j es here (λ k ys _ e. other cc) is;
-    own = stocks_kept r.frames f old new q ds here (λ k ys low e. let place : k ≡ length ds = cc in absurd (omega arith)) rest;
-    drops = λ j d other is. drops_kept r.frames f old new j d here (λ ys e. cc) (λ t ys e. cc) is;
+  pub first_put : (ws : List ℕ) (fs : List Frame) (framed : (h : ℕ) (fr : Frame) → get_elem? fs h ≡ some fr → FrameIs l ws h fr) (q x f : ℕ) (xs : List ℕ) (ds : List Draft) → get_elem? fs f ≡ some (used (drafted q (length ds)) xs) → length xs ≡ 32 → Stocks fs q ds
+      → Passing l ws fs (set fs f (used (shown x) xs)) q x f xs ds
+  first_put ws fs framed q x f xs ds here whole rest = let old : Frame = used (drafted q (length ds)) xs in let new : Frame = used (shown x) xs in record {
+    count = length-set fs f new;
+    page = set_there fs f old new here;
+    pages = λ y n ys other. page_kept fs f old new y n ys here (λ zs e. cc);
+    framed = λ h fr e. ⊎_elim (λ (t : (h ≡ f) × (new ≡ fr)). subst (λ (z : Frame). FrameIs l ws h z) t.1 (let was = framed h old (ap (get_elem? fs) t.0 ∙ here) in ((q, was.0), whole, was.2, was.3)))
+        (λ (t : (h ≢ f) × (get_elem? fs h ≡ some fr)). framed h fr t.1) (at_set fs f h new fr e);
+    reads = λ b h ys is. reads_kept fs f old new b h ys here (λ u e may. let as_used : drafted q (length ds) ≡ u = cc in absurd (subst (MayRead b) (sym as_used) may)) is;
+    stocks = λ j es other is. stocks_kept fs f old new j es here (λ k ys _ e. other cc) is;
+    own = stocks_kept fs f old new q ds here (λ k ys low e. let place : k ≡ length ds = cc in absurd (omega arith)) rest;
+    drops = λ j d other is. drops_kept fs f old new j d here (λ ys e. cc) (λ t ys e. cc) is;
   }
 
   -- the page had the frame g
   next_put : (st : St) (r : Rule st) (q x f g : ℕ) (xs ys : List ℕ) (ds : List Draft) → get_elem? r.frames f ≡ some (used (drafted q (length ds)) xs) → length xs ≡ 32 → Stocks r.frames q ds → get_elem? r.frames g ≡ some (used (shown x) ys)
       → Passing l st.words r.frames (set (set r.frames f (used (shown x) xs)) g (used (dropped q) ys)) q x f xs ds
   next_put st r q x f g xs ys ds here whole rest there_g = let new : Frame = used (shown x) xs in let old : Frame = used (shown x) ys in let last : Frame = used (dropped q) ys in let gs : List Frame = set r.frames f new in
-      let a = first_put st r q x f xs ds here whole rest in let other : f ≢ g = (λ e. let no : used (drafted q (length ds)) xs ≡ old = some-injective (used (drafted q (length ds)) xs) old (sym here ∙ (ap (get_elem? r.frames) e ∙ there_g)) in cc) in
+      let a = first_put st.words r.frames r.shows.frame q x f xs ds here whole rest in let other : f ≢ g = (λ e. let no : used (drafted q (length ds)) xs ≡ old = some-injective (used (drafted q (length ds)) xs) old (sym here ∙ (ap (get_elem? r.frames) e ∙ there_g)) in cc) in
       let here_g : get_elem? gs g ≡ some old = set_else r.frames f g new (λ e. other (sym e)) ∙ there_g in record {
         count = length-set gs g last ∙ a.count;
         page = set_else gs g f last other ∙ a.page;
@@ -159,7 +166,7 @@ module _ {D : Type 0} (l : Layout) (first : D) (holds : Pages D → Type 0) wher
         record me.0 { stock = ds; known = t.1; dropping = Empty },
         keeps,
         tt,
-        put_step st r i n id me.1 me.0 (set r.frames f (used (shown x) xs)) x f xs ds Empty t.1 i_is n_is inside at (first_put st r q x f xs ds here whole known.1) tt t.2,
+        put_step st r i n id me.1 me.0 (set r.frames f (used (shown x) xs)) x f xs ds Empty t.1 i_is n_is inside at (first_put st.words r.frames r.shows.frame q x f xs ds here whole known.1) tt t.2,
         ((refl, refl), refl, (refl, refl), tells, λ g is. absurd (omega arith)),
       ))
       (λ (e : (g : ℕ) × (before ≡ g + 1) × (get_elem? r.frames g ≡ some (used (shown x) page.0))). let gs : List Frame = set r.frames f (used (shown x) xs) in let up = e.1 in let within = at_below r.frames e.0 (used (shown x) page.0) e.2 in (
