@@ -7,3 +7,4 @@ mod Owning
 mod Ticking
 mod Sweeping
 mod StockLemmas
+mod Dealing

@@ -1,5 +1,5 @@
 -- Lists read by `get_elem?`, and sums of numbers.
-use Rattle.std.proofs.Common.{◌≡◌, ◌≢◌, ◌⊎◌, ℕ, zero, suc, ◌+◌, ◌*◌, ◌<◌, ◌≤◌, List, [], ◌∷◌, length, set, sym, refl, ap, ◌∙◌, arith}
+use Rattle.std.proofs.Common.{◌≡◌, ◌≢◌, ◌⊎◌, ℕ, zero, suc, ◌+◌, ◌*◌, ◌<◌, ◌≤◌, List, [], ◌∷◌, length, get_or, set, sym, refl, ap, ◌∙◌, arith}
 use mathlib.Core.Option.{some, some-ne-none, some-injective}
 use lib.ListN.{get_elem?}
 use Rattle.bl_store.specs.Frames.{total_of}
@@ -19,6 +19,12 @@ module _ {A : Type 0} where
   -- what is listed at two places is listed once
   pub one_there : (l : List A) (i : ℕ) (a b : A) → get_elem? l i ≡ some a → get_elem? l i ≡ some b → a ≡ b
   one_there l i a b e f = some-injective a b (sym e ∙ f)
+
+  -- what is listed at an index is there
+  pub index_there : (l : List A) (i : ℕ) (d : A) → i < length l → get_elem? l i ≡ some (get_or l i d)
+  index_there [] i d h = absurd (omega arith)
+  index_there (x ∷ xs) zero d h = refl
+  index_there (x ∷ xs) (suc i) d h = index_there xs i d (omega arith)
 
   pub set_there : (l : List A) (i : ℕ) (a b : A) → get_elem? l i ≡ some a → get_elem? (set l i b) i ≡ some b
   set_there l i a b e = set_here l i b (at_below l i a e)

@@ -149,8 +149,19 @@ module _ {D : Type 0} where
     pub sweeps : SweepIs s v.sweep
     pub budget : get_elem? bs v.number ≡ some (v.puts + v.retires)
 
+  -- what a hand knows that has done nothing, has the number n, and deals out the numbers from the next one up to m
+  abbrev pub share : Layout → D → ℕ → ℕ → View D
+  share l d n m = record { layout = l; number = n; upto = m; stamp = Out; reading = Nowhere; stock = []; dropping = Empty; sealing = Unsealed; sweep = Still; puts = 0; retires = 0; releases = 0; seen = []; known = d }
+
+  -- how such a hand is cut in two
+  abbrev pub own_share : View D → View D
+  own_share v = record v { upto = v.number + 1 }
+
+  abbrev pub next_share : View D → View D
+  next_share v = record v { number = v.number + 1 }
+
   abbrev pub starting : Layout → D → View D
-  starting l d = record { layout = l; number = 0; upto = l.passes; stamp = Out; reading = Nowhere; stock = []; dropping = Empty; sealing = Unsealed; sweep = Still; puts = 0; retires = 0; releases = 0; seen = []; known = d }
+  starting l d = share l d 0 l.passes
 
 abbrev pub total_of : List ℕ → ℕ
 total_of [] = 0

@@ -14,6 +14,7 @@
 //! concurrent operations on B-trees" (1981). Stamps, frames and their release are this project's own.
 #![tactic(auto)]
 
+mod opening;
 mod owner;
 mod plays;
 mod put;

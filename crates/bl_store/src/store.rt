@@ -14,6 +14,7 @@ use std::alloc::{Allocator, Global};
 use std::sync::atomic::AtomicU64;
 
 /// One who reads and writes pages. Hands are numbered from 0, and no two of a store share a number.
+#[derive(Drop)]
 pub struct Hand<D> {
     pub(crate) seat: Seat<(), View<D>>,
     pub(crate) number: u32,
