@@ -27,7 +27,7 @@ impl<D, R: PageRule<D>, A: Allocator> Store<D, R, A> {
         requires own { IsOf self.now.table.shared.table_id self.now.layout hand.old.seat }
         requires few { (pages ≤ 1) × (frames ≤ 3) }
         requires empty { HasNoStock hand.old.seat }
-        requires takes { (x : ℕ) → Takes R.holds self.now.layout hand.old.number (known hand.old.seat) x T.then }
+        requires takes { pages ≡ 1 → (x : ℕ) → Takes R.holds self.now.layout hand.old.number (known hand.old.seat) x T.then }
         requires refuses { Refuses R.holds self.now.layout hand.old.number (known hand.old.seat) M.then }
         ensures same { IsSameHand hand.old.seat hand.new.seat × IsSameStage hand.old.seat hand.new.seat }
         ensures stock { IfOk result (λ s. IsStockOf hand.new.seat s × (s.count ≡ frames) × MayRetire hand.new.seat) }

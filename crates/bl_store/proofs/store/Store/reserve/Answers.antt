@@ -18,4 +18,5 @@ returns-then-stock-frames-clause-why g c = let less = c.if-stock-frames.true in 
 pub take-stock-requires-clause-takes : goal.take-stock-requires-clause-takes
 take-stock-requires-clause-takes g c = let e = c.load-clock.ensures.2 in let same = c.reserve_frames.ensures.same.0 in
     let number : c.args.hand.now.number ≡ c.reserve_frames.new.hand.number = c.args.hand.now.own.0 ∙ (sym e.0.1 ∙ (sym same.2 ∙ sym c.reserve_frames.new.hand.own.0)) in
-    λ x. subst (λ (z : ℕ × g.row.D.Denot). Takes g.R.PageRule.holds c.args.self.now.layout z.0 z.1 x g.T.PagePlay.then) (λ i. (number i, sym (same.4 ∙ e.2) i)) (c.requires.takes x)
+    let few = c.requires.few.0 in let some_page = c.if-pages-gt0.true in let one : c.args.pages ≡ 1 = omega arith in
+    λ x. subst (λ (z : ℕ × g.row.D.Denot). Takes g.R.PageRule.holds c.args.self.now.layout z.0 z.1 x g.T.PagePlay.then) (λ i. (number i, sym (same.4 ∙ e.2) i)) (c.requires.takes one x)
