@@ -200,3 +200,39 @@ pub fn sweep(store: &Held, hand: &mut Hand<Mine>) -> u32
 {
     store.sweep::<Still>(hand)
 }
+
+/// Gives page 0 or 1 one word, 32 times, where it can be latched and a frame is free. Returns whether it did.
+pub fn change(store: &Held, hand: &mut Hand<Mine>, page: u32, word: u64) -> bool
+    requires own { IsOf store.now.table.shared.table_id store.now.layout hand.old.seat }
+    requires page { page < 2 }
+    requires empty { (known hand.old.seat ≡ holding None) × HasNoStock hand.old.seat }
+    ensures same { IsSameHand hand.old.seat hand.new.seat × IsSameStage hand.old.seat hand.new.seat }
+    ensures empty { (known hand.new.seat ≡ holding None) × HasNoStock hand.new.seat }
+{
+    if !latch(store, hand, page) {
+        return false;
+    }
+    let Ok(mut stock) = reserve(store, hand, 0, 1) else {
+        open(store, hand, page);
+        return false;
+    };
+    fill(store, hand, page, word, &mut stock);
+    open(store, hand, page);
+    true
+}
+
+/// The words of page 0 or 1, as a process of their own sees them.
+pub fn read_once(store: &Held, hand: &mut Hand<Mine>, page: u32) -> [u64; 32]
+    requires own { IsOf store.now.table.shared.table_id store.now.layout hand.old.seat }
+    requires page { page < 2 }
+    requires idle { IsIdle hand.old.seat }
+    requires empty { (known hand.old.seat ≡ holding None) × HasNoStock hand.old.seat }
+    ensures same { IsSameHand hand.old.seat hand.new.seat × IsIdle hand.new.seat }
+    ensures empty { (known hand.new.seat ≡ holding None) × HasNoStock hand.new.seat }
+    ensures whole { AllSame result }
+{
+    begin(store, hand);
+    let words = look(store, hand, page);
+    end(store, hand);
+    words
+}
