@@ -1,0 +1,3 @@
+pub mod Statuses
+pub mod Said
+pub mod Rows

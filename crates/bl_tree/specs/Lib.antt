@@ -1,0 +1,5 @@
+pub mod Nodes
+pub mod Laws
+pub mod Walks
+pub mod Trees
+pub mod Moves
