@@ -4,12 +4,32 @@ use Rattle.std.proofs.lemmas.Bool.{cases_eq}
 use Rattle.bl_tree.specs.Nodes.{Shape, Node, Look, Covers}
 use Rattle.bl_tree.specs.Trees.{Status, IsLive, IsShape, Tree, shapes, IsChild, IsTree}
 use Rattle.bl_tree.specs.Trees.Status.{Live, Left, Right}
-use Rattle.bl_tree.specs.Moves.{IsMapRow, ChangesRow}
-use Rattle.bl_tree.proofs.Statuses.{live_live, same_shapes, same_leftmost}
+use Rattle.bl_tree.specs.Moves.{IsMapRow, MayList, ChangesRow}
+use Rattle.bl_tree.proofs.Statuses.{same_shapes, same_leftmost, not_here}
 
--- what another page covers on the same level is another key
-pub not_here : {top : ℕ} {st : ℕ → Status} {shape : ℕ → Shape} {sep : ℕ → ℕ} (x z k j : ℕ) → IsShape top st shape sep → st x ≡ Live → IsLive (st z) → (shape z).level ≡ (shape x).level → Covers (shape x) k → Covers (shape z) j → z ≢ x → j ≢ k
-not_here {st = st} {shape = shape} x z k j g s h same c d zx jk = zx (g.apart z x k h (rw s live_live) same (rw jk at d) c (λ i. cc (g.left z x i)) (λ i. cc (g.right x z i)))
+-- another page says what its level says, when a row of x has changed
+pub row_others : {top : ℕ} {t : Tree} {v : Option ℕ} {map : ℕ → Look} (x z k j : ℕ) → IsTree top t → t.status x ≡ Live → Covers (t.node x).shape k → IsMapRow (t.node x).shape.level k v t.map map → IsLive (t.status z) → Covers (t.node z).shape j → z ≢ x → (t.node z).look j ≡ map (t.node z).shape.level j
+row_others {t = t} x z k j g s c m h d zx = g.agree z j h d ∙ sym (elim (cases_eq (t.node z).shape.level (t.node x).shape.level) [
+  | inl level ↦ rw level (m.rest j (not_here x z k j g.side s h level c d zx))
+  | inr level ↦ ap (λ f. f j) (m.others _ level)
+])
+
+-- the page itself
+pub row_here : {l k : ℕ} {v w : Option ℕ} {m map : ℕ → Look} (j : ℕ) → IsMapRow l k v m map → (j ≡ k → w ≡ v) → (j ≢ k → w ≡ m l j) → w ≡ map l j
+row_here {k = k} j m here rest = elim (cases_eq j k) [
+  | inl jk ↦ here jk ∙ rw jk (sym m.here)
+  | inr jk ↦ rest jk ∙ sym (m.rest j jk)
+]
+
+-- what is listed then
+pub row_listed : {top : ℕ} {t : Tree} {level k : ℕ} {v : Option ℕ} {map : ℕ → Look} → IsTree top t → IsMapRow level k v t.map map → MayList t level k v → (l j c : ℕ) → map (suc l) j ≡ Some c → IsChild t l j c
+row_listed {level = level} {k = k} g m child l j c h = elim (cases_eq (suc l) level) [
+  | inl same ↦ elim (cases_eq j k) [
+    | inl jk ↦ rw jk (child l c same (sym m.here ∙ rw (same, jk) at h))
+    | inr jk ↦ g.listed l j c (rw same (sym (m.rest j jk) ∙ rw same at h))
+  ]
+  | inr apart ↦ g.listed l j c (ap (λ f. f j) (sym (m.others _ apart)) ∙ h)
+]
 
 pub ChangesRow-keeps : {top x k : ℕ} {v : Option ℕ} {b : Node} {t t' : Tree} → ChangesRow x k v b t t' → IsTree top t → IsTree top t'
 ChangesRow-keeps {top} {x} {k} {v} {b} {t} {t'} m g =
@@ -24,24 +44,10 @@ ChangesRow-keeps {top} {x} {k} {v} {b} {t} {t'} m g =
           let hz : IsLive (t.status z) = rw m.status at h in
           let dz : Covers (t.node z).shape j = rw (same z) at d in
           rw (same z) (elim (cases_eq z x) [
-            | inl zx ↦
-                let look : (t'.node z).look j ≡ b.look j = ap (λ i. (t'.node i).look j) zx ∙ ap (λ n. n.look j) m.put.node.at in
-                elim (cases_eq j k) [
-                  | inl jk ↦ look ∙ rw (jk, zx) (m.row.here ∙ sym m.map.here)
-                  | inr jk ↦ look ∙ (m.row.rest j jk ∙ rw (← zx) (g.agree z j hz dz ∙ sym (rw zx (m.map.rest j jk))))
-                ]
-            | inr zx ↦ ap (λ n. n.look j) (m.put.node.others z zx) ∙ (g.agree z j hz dz ∙ sym (elim (cases_eq (t.node z).shape.level (t.node x).shape.level) [
-              | inl level ↦ rw level (m.map.rest j (not_here x z k j g.side m.live hz level m.row.covered dz zx))
-              | inr level ↦ ap (λ f. f j) (m.map.others _ level)
-            ]))
+            | inl zx ↦ rw (zx, m.put.node.at) (row_here j m.map (λ jk. rw jk m.row.here) (λ jk. m.row.rest j jk ∙ g.agree x j (rw zx at hz) (rw zx at dz)))
+            | inr zx ↦ ap (λ n. n.look j) (m.put.node.others z zx) ∙ row_others x z k j g m.live m.row.covered m.map hz dz zx
           ]);
-      listed = λ l j c h. child l j c (elim (cases_eq (suc l) (t.node x).shape.level) [
-        | inl level ↦ elim (cases_eq j k) [
-          | inl jk ↦ rw jk (m.child l c level (sym m.map.here ∙ rw (level, jk) at h))
-          | inr jk ↦ g.listed l j c (rw level (sym (m.map.rest j jk) ∙ rw level at h))
-        ]
-        | inr level ↦ g.listed l j c (ap (λ f. f j) (sym (m.map.others _ level)) ∙ h)
-      ]);
+      listed = λ l j c h. child l j c (row_listed g m.map m.child l j c h);
       anchored = rw m.status g.anchored;
       some_level = rw m.put.roots g.some_level;
       few_levels = rw m.put.roots g.few_levels;

@@ -3,7 +3,7 @@ use Rattle.std.proofs.Common.{ℕ, ◌≡◌, ◌≢◌, ◌<◌, false, true, r
 use Rattle.std.proofs.lemmas.Bool.{false≢true}
 use Rattle.std.proofs.Math.Path.{fun_ext}
 use Rattle.bl_page.specs.Machine.{IsAt}
-use Rattle.bl_tree.specs.Nodes.{Shape, Node, Roots}
+use Rattle.bl_tree.specs.Nodes.{Shape, Node, Roots, Covers}
 use Rattle.bl_tree.specs.Trees.{Status, is_live, IsLive, IsShape, Tree, shapes, IsChild}
 use Rattle.bl_tree.specs.Trees.Status.{Free, Fresh, Live, Left, Right, Gone, Anchored}
 
@@ -47,5 +47,9 @@ pub same_shapes : {top : ℕ} {st st' : ℕ → Status} {shape shape' : ℕ → 
 same_shapes a b c g = rw (a, fun_ext b, c) g
 
 -- the leftmost pages where page 0 says what it said
-pub same_leftmost : {t t' : Tree} → t'.roots ≡ t.roots → ((l : ℕ) → l < t.roots.levels → IsChild t' l 0 (t.roots.leftmost l)) → (l : ℕ) → l < t'.roots.levels → IsChild t' l 0 (t'.roots.leftmost l)
-same_leftmost {t' = t'} e f = subst (λ (r : Roots). (l : ℕ) → l < r.levels → IsChild t' l 0 (r.leftmost l)) (sym e) f
+pub same_leftmost : {r r' : Roots} {t : Tree} → r' ≡ r → ((l : ℕ) → l < r.levels → IsChild t l 0 (r.leftmost l)) → (l : ℕ) → l < r'.levels → IsChild t l 0 (r'.leftmost l)
+same_leftmost {t = t} e f = subst (λ (q : Roots). (l : ℕ) → l < q.levels → IsChild t l 0 (q.leftmost l)) (sym e) f
+
+-- what another page covers on the same level is another key
+pub not_here : {top : ℕ} {st : ℕ → Status} {shape : ℕ → Shape} {sep : ℕ → ℕ} (x z k j : ℕ) → IsShape top st shape sep → st x ≡ Live → IsLive (st z) → (shape z).level ≡ (shape x).level → Covers (shape x) k → Covers (shape z) j → z ≢ x → j ≢ k
+not_here {st = st} {shape = shape} x z k j g s h same c d zx jk = zx (g.apart z x k h (rw s live_live) same (rw jk at d) c (λ i. cc (g.left z x i)) (λ i. cc (g.right x z i)))
