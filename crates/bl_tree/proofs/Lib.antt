@@ -4,5 +4,7 @@ pub mod Rows
 pub mod SplitShapes
 pub mod Splits
 pub mod MergeShapes
+pub mod Merges
 pub mod GainShapes
 pub mod LossShapes
+pub mod Evenings

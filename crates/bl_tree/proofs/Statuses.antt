@@ -53,3 +53,7 @@ same_leftmost {t = t} e f = subst (λ (q : Roots). (l : ℕ) → l < q.levels �
 -- what another page covers on the same level is another key
 pub not_here : {top : ℕ} {st : ℕ → Status} {shape : ℕ → Shape} {sep : ℕ → ℕ} (x z k j : ℕ) → IsShape top st shape sep → st x ≡ Live → IsLive (st z) → (shape z).level ≡ (shape x).level → Covers (shape x) k → Covers (shape z) j → z ≢ x → j ≢ k
 not_here {st = st} {shape = shape} x z k j g s h same c d zx jk = zx (g.apart z x k h (rw s live_live) same (rw jk at d) c (λ i. cc (g.left z x i)) (λ i. cc (g.right x z i)))
+
+-- page 0 is no page of a level
+pub not_anchor : (st : ℕ → Status) (x : ℕ) → IsLive (st x) → st 0 ≡ Anchored → 0 ≢ x
+not_anchor st x h a i = not_dead st 0 x (rw a anchored_dead) h (sym i)
