@@ -8,3 +8,5 @@ pub mod Merges
 pub mod GainShapes
 pub mod LossShapes
 pub mod Evenings
+pub mod Relists
+pub mod Asides
