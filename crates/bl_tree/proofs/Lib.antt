@@ -10,3 +10,4 @@ pub mod LossShapes
 pub mod Evenings
 pub mod Relists
 pub mod Asides
+pub mod Growths
