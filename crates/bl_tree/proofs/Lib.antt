@@ -11,3 +11,4 @@ pub mod Evenings
 pub mod Relists
 pub mod Asides
 pub mod Growths
+pub mod LawsHold

@@ -1,5 +1,5 @@
 -- The lone walk of a key: the pages that a search would meet if nothing changed meanwhile.
-use Rattle.std.specs.Prelude.{◌≡◌, ◌≢◌, ℕ, suc, ◌<◌, ◌≤◌, Some, None, List, [], ◌∷◌, All}
+use Rattle.std.specs.Prelude.{◌≡◌, ◌≢◌, ℕ, suc, ◌<◌, ◌≤◌, Some, None, List, [], ◌∷◌}
 use Rattle.bl_tree.specs.Nodes.{Node, Look, Covers, Roots}
 
 -- The child of a key: the one listed with the greatest key that is not above it.
@@ -16,10 +16,14 @@ pub data IsWalk (node : ℕ → Node) (k : ℕ) : ℕ → List ℕ → ℕ → T
   Right : {x leaf : ℕ} {pages : List ℕ} → (node x).shape.end ≤ k → IsWalk node k (node x).shape.right pages leaf → IsWalk node k x (x ∷ pages) leaf
   Down : {x c leaf : ℕ} {pages : List ℕ} → 0 < (node x).shape.level → Covers (node x).shape k → IsChildOf (node x).look k c → IsWalk node k c pages leaf → IsWalk node k x (x ∷ pages) leaf
 
--- none of them stands twice
+-- the page is none of these
+abbrev pub IsNoneOf : ℕ → List ℕ → Type 0
+IsNoneOf x [] = Unit {0}
+IsNoneOf x (y ∷ ys) = (x ≢ y) × IsNoneOf x ys
+
 abbrev pub NoneTwice : List ℕ → Type 0
 NoneTwice [] = Unit {0}
-NoneTwice (x ∷ xs) = All (λ y. x ≢ y) xs × NoneTwice xs
+NoneTwice (x ∷ xs) = IsNoneOf x xs × NoneTwice xs
 
 -- From page 0 the walk goes to the leftmost page of the top level. It ends at a live leaf that covers the key, and meets
 -- no page twice.
