@@ -12,3 +12,5 @@ pub mod Relists
 pub mod Asides
 pub mod Growths
 pub mod LawsHold
+pub mod WalksEnd
+pub mod SoundStarts

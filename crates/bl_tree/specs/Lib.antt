@@ -3,3 +3,4 @@ pub mod Laws
 pub mod Walks
 pub mod Trees
 pub mod Moves
+pub mod Starts
