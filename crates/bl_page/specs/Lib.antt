@@ -1,2 +1,4 @@
 pub mod Pairs
+pub mod Words
+pub mod Faults
 pub mod Machine

@@ -1,17 +1,73 @@
--- Pairs of a page: each is a key with its value, or a least key with its child.
+-- Pairs of a page: each is a key with its value, or the least key of a child with the child's number.
 use Rattle.std.specs.Prelude.{◌≡◌, ℕ, ◌+◌, ◌<◌, ◌≤◌, ◌^◌, ◌==◌, if◌then◌else◌, Option, Some, None, List, [], ◌∷◌}
 use Rattle.std.specs.Coded.{×_prop, Unit-prop, le_prop}
+use Rattle.std.proofs.Props.{props}
 
--- the keys rise strictly, from that key on
+-- The keys below a bound. A bound of 0 is no bound.
+abbrev pub end_of : ℕ → ℕ
+end_of high = if high == 0 then 2 ^ 64 else high
+
+-- Bounds are half open.
+abbrev pub IsWithin : ℕ → ℕ → ℕ → Type 0
+IsWithin low high k = (low ≤ k) × (k < end_of high)
+
+-- a page number that an entry may have
+abbrev pub IsChild : ℕ → Type 0
+IsChild x = (0 < x) × (x < 2 ^ 16)
+
+-- The keys rise strictly, from that key on.
 abbrev pub RisesFrom : ℕ → List (ℕ × ℕ) → Type 0
 RisesFrom least [] = Unit {0}
 RisesFrom least (pair ∷ pairs) = (least ≤ pair.0) × RisesFrom (pair.0 + 1) pairs
 
--- the value that is listed with the key, or the child
+-- Every key is within the bounds.
+abbrev pub AllWithin : ℕ → ℕ → List (ℕ × ℕ) → Type 0
+AllWithin low high [] = Unit {0}
+AllWithin low high (pair ∷ pairs) = IsWithin low high pair.0 × AllWithin low high pairs
+
+-- The pairs begin with that key.
+abbrev pub BeginsWith : ℕ → List (ℕ × ℕ) → Type 0
+BeginsWith low [] = ⊥
+BeginsWith low (pair ∷ pairs) = pair.0 ≡ low
+
+-- Every pair names a page.
+abbrev pub NameChildren : List (ℕ × ℕ) → Type 0
+NameChildren [] = Unit {0}
+NameChildren (pair ∷ pairs) = IsChild pair.1 × NameChildren pairs
+
+abbrev pub AreChildren : List ℕ → Type 0
+AreChildren [] = Unit {0}
+AreChildren (x ∷ xs) = IsChild x × AreChildren xs
+
+-- what is listed with the key
 abbrev pub lookup : List (ℕ × ℕ) → ℕ → Option ℕ
 lookup [] k = None
 lookup (pair ∷ pairs) k = if pair.0 == k then Some pair.1 else lookup pairs k
 
+-- Such facts have one proof at most, so that pages with the same words are the same.
+
 pub RisesFrom-prop : (least : ℕ) (pairs : List (ℕ × ℕ)) → IsProp (RisesFrom least pairs)
 RisesFrom-prop least [] = Unit-prop
 RisesFrom-prop least (pair ∷ pairs) = ×_prop le_prop (RisesFrom-prop (pair.0 + 1) pairs)
+
+pub IsWithin-prop : (low high k : ℕ) → IsProp (IsWithin low high k)
+IsWithin-prop low high k = ×_prop le_prop le_prop
+
+pub IsChild-prop : (x : ℕ) → IsProp (IsChild x)
+IsChild-prop x = ×_prop le_prop le_prop
+
+pub AllWithin-prop : (low high : ℕ) (pairs : List (ℕ × ℕ)) → IsProp (AllWithin low high pairs)
+AllWithin-prop low high [] = Unit-prop
+AllWithin-prop low high (pair ∷ pairs) = ×_prop (IsWithin-prop low high pair.0) (AllWithin-prop low high pairs)
+
+pub BeginsWith-prop : (low : ℕ) (pairs : List (ℕ × ℕ)) → IsProp (BeginsWith low pairs)
+BeginsWith-prop low [] = hlevel props
+BeginsWith-prop low (pair ∷ pairs) = hlevel props
+
+pub NameChildren-prop : (pairs : List (ℕ × ℕ)) → IsProp (NameChildren pairs)
+NameChildren-prop [] = Unit-prop
+NameChildren-prop (pair ∷ pairs) = ×_prop (IsChild-prop pair.1) (NameChildren-prop pairs)
+
+pub AreChildren-prop : (xs : List ℕ) → IsProp (AreChildren xs)
+AreChildren-prop [] = Unit-prop
+AreChildren-prop (x ∷ xs) = ×_prop (IsChild-prop x) (AreChildren-prop xs)

@@ -1,20 +1,9 @@
-//! Pages.
+//! Pages of a B-link tree, and their 32 words.
 #![tactic(auto)]
 
-ghost use Rattle.std.specs.Prelude.{◌≡◌, ◌<◌};
-ghost use Rattle.bl_page.specs.Pairs.{lookup, RisesFrom, RisesFrom-prop};
+mod page;
+mod reading;
+mod words;
 
-use arrayvec::ArrayVec;
-
-#[derive(Drop)]
-pub struct Leaf {
-    pub low: u64,
-    pub rows: ArrayVec<(u64, u64), 14>,
-    ghost order: { RisesFrom low rows.items } by { RisesFrom-prop low rows.items },
-}
-
-#[derive(Drop)]
-pub enum Page {
-    Leaf(Leaf),
-    Dead(u64),
-}
+pub use page::{Anchor, Dead, Inner, Leaf, Page, Pairs, WordFault};
+pub use reading::from_words;
