@@ -14,3 +14,5 @@ pub mod Growths
 pub mod LawsHold
 pub mod WalksEnd
 pub mod SoundStarts
+pub mod Opening
+pub mod SoundPages

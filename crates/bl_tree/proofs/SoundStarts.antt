@@ -36,10 +36,10 @@ bool_cases : (b : Bool) → (b ≡ true) ⊎ (b ≡ false)
 bool_cases true = inl refl
 bool_cases false = inr refl
 
-start_zero : (live : ℕ → Bool) → start_status live 0 ≡ Anchored
+pub start_zero : (live : ℕ → Bool) → start_status live 0 ≡ Anchored
 start_zero live = refl
 
-start_live : (live : ℕ → Bool) (x : ℕ) → live 0 ≡ false → live x ≡ true → start_status live x ≡ Live
+pub start_live : (live : ℕ → Bool) (x : ℕ) → live 0 ≡ false → live x ≡ true → start_status live x ≡ Live
 start_live live x z h = elim (cases_eq x 0) [
   | inl i ↦ absurd (false≢true (sym z ∙ (ap live (sym i) ∙ h)))
   | inr i ↦ grind arith
@@ -54,7 +54,7 @@ start_kinds live x = elim (cases_eq x 0) [
   ]
 ]
 
-alive : (live : ℕ → Bool) (x : ℕ) → IsLive (start_status live x) → live x ≡ true
+pub alive : (live : ℕ → Bool) (x : ℕ) → IsLive (start_status live x) → live x ≡ true
 alive live x h = elim (start_kinds live x) [
   | inl e ↦ absurd (false≢true (sym anchored_dead ∙ (ap is_live (sym e) ∙ h)))
   | inr r ↦ elim r [
@@ -63,7 +63,7 @@ alive live x h = elim (start_kinds live x) [
   ]
 ]
 
-none_paired : (live : ℕ → Bool) (x y : ℕ) → (start_status live x ≢ Left y) × (start_status live x ≢ Right y)
+pub none_paired : (live : ℕ → Bool) (x y : ℕ) → (start_status live x ≢ Left y) × (start_status live x ≢ Right y)
 none_paired live x y = elim (start_kinds live x) [
   | inl e ↦ (λ f. cc, λ f. cc)
   | inr r ↦ elim r [

@@ -4,3 +4,4 @@ pub mod Walks
 pub mod Trees
 pub mod Moves
 pub mod Starts
+pub mod Pages
