@@ -1,10 +1,9 @@
 -- A page that is not in the tree changes.
-use Rattle.std.proofs.Common.{ℕ, ◌≡◌, ◌≢◌, ◌⊎◌, ◌≤◌, ◌<◌, Option, Some, None, true, false, suc, arith, ap, sym, ◌∙◌, refl, inl, inr}
-use Rattle.std.proofs.lemmas.Bool.{cases_eq, cases_lt, false≢true}
-use Rattle.bl_page.specs.Machine.{IsAt}
-use Rattle.bl_tree.specs.Nodes.{Shape, Node, Look, Covers}
-use Rattle.bl_tree.specs.Trees.{Status, is_live, IsLive, IsShape, Tree, shapes, IsChild, IsTree}
-use Rattle.bl_tree.specs.Trees.Status.{Fresh, Live, Left, Right, Gone, Anchored}
+use Rattle.std.proofs.Common.{ℕ, ◌≡◌, ◌≢◌, ◌<◌, false, ap, sym, ◌∙◌, inl, inr}
+use Rattle.std.proofs.lemmas.Bool.{cases_eq, false≢true}
+use Rattle.bl_tree.specs.Nodes.{Shape}
+use Rattle.bl_tree.specs.Trees.{Status, is_live, IsLive, IsShape, Tree, IsChild, IsTree}
+use Rattle.bl_tree.specs.Trees.Status.{Left}
 use Rattle.bl_tree.specs.Moves.{Aside}
 use Rattle.bl_tree.proofs.Statuses.{not_dead, left_live, right_live, same_leftmost}
 

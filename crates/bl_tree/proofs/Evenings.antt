@@ -1,13 +1,13 @@
 -- The two puts of an evening that change bounds: one page gains, then the other loses.
-use Rattle.std.proofs.Common.{ℕ, ◌≡◌, ◌≢◌, ◌⊎◌, ◌≤◌, ◌<◌, Option, Some, None, true, false, suc, arith, ap, sym, ◌∙◌, refl, inl, inr}
-use Rattle.std.proofs.lemmas.Bool.{cases_eq, cases_lt, false≢true}
+use Rattle.std.proofs.Common.{ℕ, ◌≡◌, arith, ap, sym, ◌∙◌, refl, inl, inr}
+use Rattle.std.proofs.lemmas.Bool.{cases_eq, cases_lt}
 use Rattle.bl_page.specs.Machine.{IsAt}
-use Rattle.bl_tree.specs.Nodes.{Shape, Node, Look, Covers}
-use Rattle.bl_tree.specs.Trees.{Status, is_live, IsLive, IsShape, Tree, shapes, IsChild, IsTree}
-use Rattle.bl_tree.specs.Trees.Status.{Fresh, Live, Left, Right, Gone, Anchored}
+use Rattle.bl_tree.specs.Nodes.{Node, Covers}
+use Rattle.bl_tree.specs.Trees.{IsLive, IsShape, Tree, shapes, IsTree}
+use Rattle.bl_tree.specs.Trees.Status.{Live, Left}
 use Rattle.bl_tree.specs.Moves.{IsAtTwo, GainsLeft, GainsRight, LosesLeft, LosesRight}
 use Rattle.bl_tree.proofs.Statuses.{live_live, left_live, right_live, shape_at, not_anchor}
-use Rattle.bl_tree.proofs.Said.{IsSaid, Says, Says-keeps}
+use Rattle.bl_tree.proofs.Said.{Says-keeps}
 use Rattle.bl_tree.proofs.GainShapes.{gain_left_shape, gain_right_shape}
 use Rattle.bl_tree.proofs.LossShapes.{lose_right_shape, lose_left_shape}
 
@@ -106,16 +106,16 @@ pub LosesRight-keeps : {top x y : ℕ} {d : Node} {t t' : Tree} → LosesRight x
 LosesRight-keeps {top} {x} {y} {d} {t} {t'} m g =
     let c = m.loss in
     lose m.left m.put.node m.status (rw (g.side.left x y m.left) (right_live x)) c.level
-      (λ k e. ((omega (arith, m.meets, c.low), omega (arith, c.end)), c.look k (omega (arith, c.low))))
-      m.put.roots m.stays.sep m.stays.map
-      (lose_right_shape top x y d.shape t.status t'.status (shapes t.node) (shapes t'.node) t.sep m.left m.level m.below m.meets m.inner m.linked m.y_sep c.level c.low c.end c.right (shape_at m.put.node) m.status g.side)
-      g
+    (λ k e. ((omega (arith, m.meets, c.low), omega (arith, c.end)), c.look k (omega (arith, c.low))))
+    m.put.roots m.stays.sep m.stays.map
+    (lose_right_shape top x y d.shape t.status t'.status (shapes t.node) (shapes t'.node) t.sep m.left m.level m.below m.meets m.inner m.linked m.y_sep c.level c.low c.end c.right (shape_at m.put.node) m.status g.side)
+    g
 
 pub LosesLeft-keeps : {top x y : ℕ} {b : Node} {t t' : Tree} → LosesLeft x y b t t' → IsTree top t → IsTree top t'
 LosesLeft-keeps {top} {x} {y} {b} {t} {t'} m g =
     let c = m.loss in
     lose m.left m.put.node m.status (rw m.left (left_live y)) c.level
-      (λ k e. ((omega (arith, c.low), omega (arith, c.end, m.meets)), c.look k (omega (arith, c.end))))
-      m.put.roots m.stays.sep m.stays.map
-      (lose_left_shape top x y b.shape t.status t'.status (shapes t.node) (shapes t'.node) t.sep m.left m.level m.below m.meets m.y_sep c.level c.low c.end c.right (shape_at m.put.node) m.status g.side)
-      g
+    (λ k e. ((omega (arith, c.low), omega (arith, c.end, m.meets)), c.look k (omega (arith, c.end))))
+    m.put.roots m.stays.sep m.stays.map
+    (lose_left_shape top x y b.shape t.status t'.status (shapes t.node) (shapes t'.node) t.sep m.left m.level m.below m.meets m.y_sep c.level c.low c.end c.right (shape_at m.put.node) m.status g.side)
+    g

@@ -1,12 +1,12 @@
 -- The bounds and links of pages through the first put of an evening.
-use Rattle.std.proofs.Common.{◌-◌, ℕ, ◌≡◌, ◌≢◌, ◌<◌, ◌≤◌, true, false, arith, ap, sym, ◌∙◌, refl, inl, inr}
-use Rattle.std.proofs.lemmas.Bool.{cases_eq, false≢true}
+use Rattle.std.proofs.Common.{◌-◌, ℕ, ◌≡◌, ◌≢◌, ◌<◌, arith, ap, sym, ◌∙◌, inl, inr}
+use Rattle.std.proofs.lemmas.Bool.{cases_eq}
 use Rattle.bl_page.specs.Machine.{IsAt}
-use Rattle.bl_tree.specs.Nodes.{Shape, Covers}
-use Rattle.bl_tree.specs.Trees.{Status, is_live, IsLive, IsShape}
-use Rattle.bl_tree.specs.Trees.Status.{Fresh, Live, Left, Right, Gone}
+use Rattle.bl_tree.specs.Nodes.{Shape}
+use Rattle.bl_tree.specs.Trees.{Status, IsLive, IsShape}
+use Rattle.bl_tree.specs.Trees.Status.{Live, Left, Right}
 use Rattle.bl_tree.specs.Moves.{IsAtTwo}
-use Rattle.bl_tree.proofs.Statuses.{live_live, left_live, right_live, gone_dead, fresh_dead}
+use Rattle.bl_tree.proofs.Statuses.{live_live, left_live, right_live}
 
 -- an evening's first put: the left page x takes the front of its right neighbour y
 pub gain_left_shape : (top x y : ℕ) (b : Shape) (st st' : ℕ → Status) (shape shape' : ℕ → Shape) (sep : ℕ → ℕ) → st x ≡ Live → st y ≡ Live → (shape x).end < top → (shape x).right ≡ y → b.level ≡ (shape x).level → b.low ≡ (shape x).low → (shape y).low < b.end → b.end < (shape y).end → b.right ≡ y → IsAt x b shape shape' → IsAtTwo x y (Left y) (Right x) st st' → IsShape top st shape sep → IsShape top st' shape' sep

@@ -1,12 +1,12 @@
 -- The tree grows: page 0 names a new top level of one page.
-use Rattle.std.proofs.Common.{ℕ, ◌≡◌, ◌≢◌, ◌⊎◌, ◌≤◌, ◌<◌, Option, Some, None, true, false, suc, arith, ap, sym, ◌∙◌, refl, inl, inr}
-use Rattle.std.proofs.lemmas.Bool.{cases_eq, cases_lt, false≢true}
+use Rattle.std.proofs.Common.{ℕ, ◌≡◌, ◌≢◌, ◌<◌, Some, false, suc, arith, ap, sym, ◌∙◌, refl, inl, inr}
+use Rattle.std.proofs.lemmas.Bool.{cases_eq}
 use Rattle.bl_page.specs.Machine.{IsAt}
-use Rattle.bl_tree.specs.Nodes.{Shape, Node, Look, Covers}
-use Rattle.bl_tree.specs.Trees.{Status, is_live, IsLive, IsShape, Tree, shapes, IsChild, IsTree}
-use Rattle.bl_tree.specs.Trees.Status.{Fresh, Live, Left, Right, Gone, Anchored}
+use Rattle.bl_tree.specs.Nodes.{Shape}
+use Rattle.bl_tree.specs.Trees.{Status, is_live, IsLive, IsShape, Tree, IsChild, IsTree}
+use Rattle.bl_tree.specs.Trees.Status.{Fresh, Live, Left, Anchored}
 use Rattle.bl_tree.specs.Moves.{Grows}
-use Rattle.bl_tree.proofs.Statuses.{live_live, fresh_dead, anchored_dead, not_dead, not_anchor}
+use Rattle.bl_tree.proofs.Statuses.{live_live, fresh_dead, anchored_dead, not_dead}
 
 grow_shape : {top y : ℕ} {st st' : ℕ → Status} {shape shape' : ℕ → Shape} {sep : ℕ → ℕ} → 0 < top → st y ≡ Fresh → st 0 ≡ Anchored → ((z : ℕ) → IsLive (st z) → (shape z).level ≢ (shape y).level) → (shape y).low ≡ 0 → (shape y).end ≡ top → (shape y).right ≡ 0 → sep y ≡ 0 → IsAt y Live st st' → ((z : ℕ) → z ≢ 0 → shape' z ≡ shape z) → IsShape top st shape sep → IsShape top st' shape' sep
 grow_shape {top} {y} {st} {st'} {shape} {shape'} {sep} some sy s0 new low end right sep_y u w g =

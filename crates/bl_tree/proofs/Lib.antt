@@ -11,8 +11,3 @@ pub mod Evenings
 pub mod Relists
 pub mod Asides
 pub mod Growths
-pub mod LawsHold
-pub mod WalksEnd
-pub mod SoundStarts
-pub mod Opening
-pub mod SoundPages

@@ -1,12 +1,12 @@
 -- The bounds and links of pages through the last put of an evening.
-use Rattle.std.proofs.Common.{◌-◌, ℕ, ◌≡◌, ◌≢◌, ◌<◌, ◌≤◌, true, false, arith, ap, sym, ◌∙◌, refl, inl, inr}
-use Rattle.std.proofs.lemmas.Bool.{cases_eq, false≢true}
+use Rattle.std.proofs.Common.{◌-◌, ℕ, ◌≡◌, ◌≢◌, ◌<◌, ◌≤◌, arith, ap, sym, ◌∙◌, inl, inr}
+use Rattle.std.proofs.lemmas.Bool.{cases_eq}
 use Rattle.bl_page.specs.Machine.{IsAt}
 use Rattle.bl_tree.specs.Nodes.{Shape, Covers}
-use Rattle.bl_tree.specs.Trees.{Status, is_live, IsLive, IsShape}
-use Rattle.bl_tree.specs.Trees.Status.{Fresh, Live, Left, Right, Gone}
+use Rattle.bl_tree.specs.Trees.{Status, IsLive, IsShape}
+use Rattle.bl_tree.specs.Trees.Status.{Live, Left, Right}
 use Rattle.bl_tree.specs.Moves.{IsAtTwo}
-use Rattle.bl_tree.proofs.Statuses.{live_live, left_live, right_live, gone_dead, fresh_dead}
+use Rattle.bl_tree.proofs.Statuses.{live_live, left_live, right_live}
 
 -- the same of a page that is being evened
 pub one_left_mid : (top x y z : ℕ) (st : ℕ → Status) (shape : ℕ → Shape) (sep : ℕ → ℕ) → st x ≡ Left y → IsLive (st z) → (shape x).level ≡ (shape y).level → (shape x).low < (shape y).low → (shape y).low ≤ (shape x).end → (shape z).end < top → (shape z).right ≡ y → z ≢ y → IsShape top st shape sep → z ≡ x

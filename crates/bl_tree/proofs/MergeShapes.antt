@@ -1,12 +1,12 @@
 -- The bounds and links of pages through a merge.
-use Rattle.std.proofs.Common.{◌-◌, ℕ, ◌≡◌, ◌≢◌, ◌<◌, ◌≤◌, true, false, arith, ap, sym, ◌∙◌, refl, inl, inr}
+use Rattle.std.proofs.Common.{◌-◌, ℕ, ◌≡◌, ◌≢◌, ◌<◌, false, arith, ap, sym, ◌∙◌, inl, inr}
 use Rattle.std.proofs.lemmas.Bool.{cases_eq, false≢true}
 use Rattle.bl_page.specs.Machine.{IsAt}
-use Rattle.bl_tree.specs.Nodes.{Shape, Covers}
+use Rattle.bl_tree.specs.Nodes.{Shape}
 use Rattle.bl_tree.specs.Trees.{Status, is_live, IsLive, IsShape}
-use Rattle.bl_tree.specs.Trees.Status.{Fresh, Live, Left, Right, Gone}
+use Rattle.bl_tree.specs.Trees.Status.{Live, Left, Right, Gone}
 use Rattle.bl_tree.specs.Moves.{IsAtTwo}
-use Rattle.bl_tree.proofs.Statuses.{live_live, left_live, right_live, gone_dead, fresh_dead}
+use Rattle.bl_tree.proofs.Statuses.{live_live, left_live, right_live, gone_dead}
 
 -- a merge's first put: the left page x takes all of its right neighbour y
 pub join_shape : (top x y : ℕ) (b : Shape) (st st' : ℕ → Status) (shape shape' : ℕ → Shape) (sep : ℕ → ℕ) → st x ≡ Live → st y ≡ Live → (shape x).end < top → (shape x).right ≡ y → b.level ≡ (shape x).level → b.low ≡ (shape x).low → b.end ≡ (shape y).end → b.right ≡ (shape y).right → IsAt x b shape shape' → IsAtTwo x y (Left y) (Right x) st st' → IsShape top st shape sep → IsShape top st' shape' sep

@@ -1,13 +1,11 @@
 -- The two puts of a merge that change bounds: the left page takes all, the right page dies.
-use Rattle.std.proofs.Common.{ℕ, ◌≡◌, ◌≢◌, ◌⊎◌, ◌≤◌, ◌<◌, Option, Some, None, true, false, suc, arith, ap, sym, ◌∙◌, refl, inl, inr}
-use Rattle.std.proofs.lemmas.Bool.{cases_eq, cases_lt, false≢true}
-use Rattle.bl_page.specs.Machine.{IsAt}
-use Rattle.bl_tree.specs.Nodes.{Shape, Node, Look, Covers}
-use Rattle.bl_tree.specs.Trees.{Status, is_live, IsLive, IsShape, Tree, shapes, IsChild, IsTree}
-use Rattle.bl_tree.specs.Trees.Status.{Fresh, Live, Left, Right, Gone, Anchored}
-use Rattle.bl_tree.specs.Moves.{IsAtTwo, Joins, Dies}
+use Rattle.std.proofs.Common.{ℕ, ◌≡◌, ◌≢◌, ◌⊎◌, Some, None, false, suc, arith, ap, sym, ◌∙◌, refl, inl, inr}
+use Rattle.std.proofs.lemmas.Bool.{cases_eq, cases_lt}
+use Rattle.bl_tree.specs.Nodes.{Node, Covers}
+use Rattle.bl_tree.specs.Trees.{is_live, IsLive, Tree, shapes, IsChild, IsTree}
+use Rattle.bl_tree.specs.Moves.{Joins, Dies}
 use Rattle.bl_tree.proofs.Statuses.{live_live, left_live, right_live, gone_dead, not_dead, shape_at, not_anchor}
-use Rattle.bl_tree.proofs.Said.{IsSaid, Says, Says-keeps}
+use Rattle.bl_tree.proofs.Said.{Says-keeps}
 use Rattle.bl_tree.proofs.MergeShapes.{join_shape, die_shape}
 
 pub Joins-keeps : {top x y : ℕ} {b : Node} {t t' : Tree} → Joins top x y b t t' → IsTree top t → IsTree top t'

@@ -1,11 +1,11 @@
 -- The parent's put of an evening: a child is listed by another key.
-use Rattle.std.proofs.Common.{ℕ, ◌≡◌, ◌≢◌, ◌⊎◌, ◌≤◌, ◌<◌, Option, Some, None, true, false, suc, arith, ap, sym, ◌∙◌, refl, inl, inr}
-use Rattle.std.proofs.lemmas.Bool.{cases_eq, cases_lt, false≢true}
+use Rattle.std.proofs.Common.{ℕ, ◌≡◌, ◌≢◌, ◌≤◌, Some, suc, arith, ap, sym, ◌∙◌, refl, inl, inr}
+use Rattle.std.proofs.lemmas.Bool.{cases_eq}
 use Rattle.bl_page.specs.Machine.{IsAt}
-use Rattle.bl_tree.specs.Nodes.{Shape, Node, Look, Covers}
-use Rattle.bl_tree.specs.Trees.{Status, is_live, IsLive, IsShape, Tree, shapes, IsChild, IsTree}
-use Rattle.bl_tree.specs.Trees.Status.{Fresh, Live, Left, Right, Gone, Anchored}
-use Rattle.bl_tree.specs.Moves.{IsRelisted, Relists}
+use Rattle.bl_tree.specs.Nodes.{Shape, Node, Covers}
+use Rattle.bl_tree.specs.Trees.{Status, IsLive, IsShape, Tree, IsChild, IsTree}
+use Rattle.bl_tree.specs.Trees.Status.{Right}
+use Rattle.bl_tree.specs.Moves.{Relists}
 use Rattle.bl_tree.proofs.Statuses.{right_live, same_shapes, same_leftmost, not_here}
 
 resep_shape : {top x y e : ℕ} {st : ℕ → Status} {shape : ℕ → Shape} {sep sep' : ℕ → ℕ} → st y ≡ Right x → (shape y).low ≤ e → IsAt y e sep sep' → IsShape top st shape sep → IsShape top st shape sep'

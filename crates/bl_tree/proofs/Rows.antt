@@ -1,9 +1,9 @@
 -- A row of one page changes.
-use Rattle.std.proofs.Common.{ℕ, ◌≡◌, ◌≢◌, ◌≤◌, ◌<◌, Option, Some, suc, ap, sym, ◌∙◌, inl, inr}
+use Rattle.std.proofs.Common.{ℕ, ◌≡◌, ◌≢◌, Option, Some, suc, ap, sym, ◌∙◌, inl, inr}
 use Rattle.std.proofs.lemmas.Bool.{cases_eq}
-use Rattle.bl_tree.specs.Nodes.{Shape, Node, Look, Covers}
-use Rattle.bl_tree.specs.Trees.{Status, IsLive, IsShape, Tree, shapes, IsChild, IsTree}
-use Rattle.bl_tree.specs.Trees.Status.{Live, Left, Right}
+use Rattle.bl_tree.specs.Nodes.{Node, Look, Covers}
+use Rattle.bl_tree.specs.Trees.{IsLive, Tree, IsChild, IsTree}
+use Rattle.bl_tree.specs.Trees.Status.{Live}
 use Rattle.bl_tree.specs.Moves.{IsMapRow, MayList, ChangesRow}
 use Rattle.bl_tree.proofs.Statuses.{same_shapes, same_leftmost, not_here}
 

@@ -1,7 +1,7 @@
 -- Pages move, and what they say does not: then the tree stays a tree.
-use Rattle.std.proofs.Common.{ℕ, ◌≡◌, ◌⊎◌, ◌≤◌, ◌<◌, Option, Some, suc, arith, ap, sym, ◌∙◌, refl, inl, inr}
-use Rattle.bl_tree.specs.Nodes.{Shape, Node, Look, Covers}
-use Rattle.bl_tree.specs.Trees.{Status, IsLive, IsShape, Tree, shapes, IsChild, IsTree}
+use Rattle.std.proofs.Common.{ℕ, ◌≡◌, ◌⊎◌, Option, Some, suc, arith, ap, sym, ◌∙◌, refl, inl, inr}
+use Rattle.bl_tree.specs.Nodes.{Covers}
+use Rattle.bl_tree.specs.Trees.{IsLive, IsShape, Tree, shapes, IsChild, IsTree}
 use Rattle.bl_tree.specs.Trees.Status.{Anchored}
 use Rattle.bl_tree.proofs.Statuses.{same_leftmost}
 

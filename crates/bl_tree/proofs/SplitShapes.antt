@@ -1,12 +1,11 @@
 -- The bounds and links of pages through a split.
-use Rattle.std.proofs.Common.{◌-◌, ℕ, ◌≡◌, ◌≢◌, ◌<◌, ◌≤◌, true, false, arith, ap, sym, ◌∙◌, refl, inl, inr}
-use Rattle.std.proofs.lemmas.Bool.{cases_eq, false≢true}
+use Rattle.std.proofs.Common.{ℕ, ◌≡◌, ◌≢◌, ◌<◌, arith, sym, ◌∙◌, refl, inl, inr}
+use Rattle.std.proofs.lemmas.Bool.{cases_eq}
 use Rattle.bl_page.specs.Machine.{IsAt}
 use Rattle.bl_tree.specs.Nodes.{Shape, Covers}
-use Rattle.bl_tree.specs.Trees.{Status, is_live, IsLive, IsShape}
-use Rattle.bl_tree.specs.Trees.Status.{Fresh, Live, Left, Right, Gone}
-use Rattle.bl_tree.specs.Moves.{IsAtTwo}
-use Rattle.bl_tree.proofs.Statuses.{live_live, left_live, right_live, fresh_dead, not_here}
+use Rattle.bl_tree.specs.Trees.{Status, IsShape}
+use Rattle.bl_tree.specs.Trees.Status.{Fresh, Live}
+use Rattle.bl_tree.proofs.Statuses.{live_live, fresh_dead, not_here}
 
 -- the old page x of a cut is put, and the new one is live: the shape
 pub cut_shape : (top x y : ℕ) (b : Shape) (st st' : ℕ → Status) (shape shape' : ℕ → Shape) (sep : ℕ → ℕ) → st x ≡ Live → st y ≡ Fresh → (shape x).low < (shape y).low → (shape y).low < (shape x).end → b.level ≡ (shape x).level → b.low ≡ (shape x).low → b.end ≡ (shape y).low → b.right ≡ y → (shape y).level ≡ (shape x).level → (shape y).end ≡ (shape x).end → (shape y).right ≡ (shape x).right → sep y ≡ (shape y).low → IsAt x b shape shape' → IsAt y Live st st' → IsShape top st shape sep → IsShape top st' shape' sep

@@ -1,10 +1,10 @@
 -- A split is published, with the row for which it is made.
-use Rattle.std.proofs.Common.{ℕ, ◌≡◌, ◌≢◌, ◌≤◌, ◌<◌, Option, Some, suc, arith, ap, sym, ◌∙◌, inl, inr}
-use Rattle.std.proofs.lemmas.Bool.{cases_eq, cases_lt}
-use Rattle.bl_tree.specs.Nodes.{Shape, Node, Look, Covers}
-use Rattle.bl_tree.specs.Trees.{Status, is_live, IsLive, Tree, shapes, IsChild, IsTree}
-use Rattle.bl_tree.specs.Trees.Status.{Fresh, Live, Anchored}
-use Rattle.bl_tree.specs.Moves.{IsMapRow, Splits}
+use Rattle.std.proofs.Common.{ℕ, ◌≡◌, ◌≢◌, ◌<◌, Option, arith, ap, ◌∙◌, inl, inr}
+use Rattle.std.proofs.lemmas.Bool.{cases_eq}
+use Rattle.bl_tree.specs.Nodes.{Node, Covers}
+use Rattle.bl_tree.specs.Trees.{IsLive, Tree, shapes, IsChild, IsTree}
+use Rattle.bl_tree.specs.Trees.Status.{Fresh, Anchored}
+use Rattle.bl_tree.specs.Moves.{Splits}
 use Rattle.bl_tree.proofs.Statuses.{live_live, fresh_dead, not_dead, shape_at, same_leftmost}
 use Rattle.bl_tree.proofs.Rows.{row_others, row_here, row_listed}
 use Rattle.bl_tree.proofs.SplitShapes.{cut_shape}

@@ -2,9 +2,9 @@
 -- A move says what page gets which contents, where pages then stand, and what the levels then say at each key.
 use Rattle.std.specs.Prelude.{◌≡◌, ◌≢◌, ℕ, suc, ◌<◌, ◌≤◌, false, Option, Some, None}
 use Rattle.bl_page.specs.Machine.{IsAt}
-use Rattle.bl_tree.specs.Nodes.{Shape, Node, Look, Covers, Roots}
-use Rattle.bl_tree.specs.Trees.{Status, is_live, Tree, IsChild}
-use Rattle.bl_tree.specs.Trees.Status.{Fresh, Live, Left, Right, Gone, Anchored}
+use Rattle.bl_tree.specs.Nodes.{Node, Look, Covers}
+use Rattle.bl_tree.specs.Trees.{is_live, Tree, IsChild}
+use Rattle.bl_tree.specs.Trees.Status.{Fresh, Live, Left, Right, Gone}
 
 -- two places change
 pub record IsAtTwo {A : Type 0} (x y : ℕ) (a b : A) (old new : ℕ → A) : Type 0 where

@@ -1,6 +1,6 @@
 -- The invariant of the tree: facts about one page, or a page and its neighbour, that every move keeps.
 -- It speaks of more than the pages say: where each page stands, and the key that it is listed by.
-use Rattle.std.specs.Prelude.{◌≡◌, ◌≢◌, ℕ, suc, ◌<◌, ◌≤◌, Bool, true, false, Option, Some}
+use Rattle.std.specs.Prelude.{◌≡◌, ◌≢◌, ℕ, suc, ◌<◌, ◌≤◌, Bool, true, false, Some}
 use Rattle.bl_tree.specs.Nodes.{Shape, Node, Look, Covers, Roots}
 
 -- Where a page stands: it is free, taken and not yet named by any page, in the tree, or dead and not yet released. While
@@ -68,12 +68,3 @@ pub record IsTree (top : ℕ) (t : Tree) : Type 0 where
   pub few_levels : t.roots.levels ≤ 12
   pub leftmost : (l : ℕ) → l < t.roots.levels → IsChild t l 0 (t.roots.leftmost l)
   pub below : (x : ℕ) → IsLive (t.status x) → (t.node x).shape.level < t.roots.levels
-
--- What each leaf and each inner page says, whatever tree it is in: it lists keys that it covers, and as an inner page one
--- child from its low on.
-pub record IsSoundNode (n : Node) : Type 0 where
-  pub covered : (k v : ℕ) → n.look k ≡ Some v → Covers n.shape k
-  pub first : 0 < n.shape.level → (c : ℕ) × (n.look n.shape.low ≡ Some c)
-
-abbrev pub AllSound : Tree → Type 0
-AllSound t = (x : ℕ) → IsLive (t.status x) → IsSoundNode (t.node x)

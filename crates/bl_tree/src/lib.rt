@@ -1,7 +1,10 @@
-//! The tree of the index without processes: its levels, its moves, and the laws that hold at every moment.
+//! The moves of the tree, without processes.
 //!
-//! The definitions for the reader are in `specs/`: `Nodes` (what a page says), `Laws` (agreement with the map, overlap,
-//! the chain of a level, the listing of children) and `Walks` (the lone walk of a key). `Trees` and `Moves` are for the
-//! crates of the core alone: an invariant of local facts, and each change of a page as a relation. The crate proves that
-//! each move keeps the invariant, that the opening tree and the tree of sound pages have it, and that it implies the laws.
+//! `specs/Nodes` says what a page says of the tree. `specs/Trees` is an invariant of local facts: about one page, or a
+//! page and its neighbour. `specs/Moves` has each change of a page as a relation between two trees: a row, a split, growth,
+//! the puts of a merge and of an evening, and what happens to a page that is not in the tree. `proofs/` shows that each of
+//! them keeps the invariant. The crate has no code; it is for the crates of the core, whose processes make these moves.
+//!
+//! The tree is that of Lehman and Yao, "Efficient locking for concurrent operations on B-trees" (ACM TODS 6(4), 1981),
+//! with compression in the background after Sagiv (JCSS 33, 1986).
 #![tactic(auto)]

@@ -1,11 +1,12 @@
 -- The lone walk of each key ends at the live leaf that covers it, and meets no page twice.
-use Rattle.std.proofs.Common.{ℕ, ◌≡◌, ◌≢◌, ◌⊎◌, ◌≤◌, ◌<◌, ◌+◌, ◌-◌, Option, Some, None, zero, suc, List, [], ◌∷◌, subst, arith, ap, sym, ◌∙◌, refl, inl, inr}
+use Rattle.std.proofs.Common.{ℕ, ◌≡◌, ◌≢◌, ◌⊎◌, ◌≤◌, ◌<◌, ◌+◌, ◌-◌, Option, Some, None, zero, suc, List, [], ◌∷◌, arith, ap, sym, ◌∙◌, refl, inl, inr}
 use Rattle.std.proofs.lemmas.Bool.{cases_eq, cases_lt}
-use Rattle.bl_tree.specs.Nodes.{Shape, Node, Look, Covers, Roots, unbounded}
-use Rattle.bl_tree.specs.Walks.{IsChildOf, IsWalk, IsNoneOf, NoneTwice, HasLoneWalk}
-use Rattle.bl_tree.specs.Walks.IsWalk.{Ends, Right, Down}
-use Rattle.bl_tree.specs.Trees.{Status, IsLive, Tree, IsChild, IsTree, IsSoundNode, AllSound}
-use Rattle.bl_tree.proofs.LawsHold.{live}
+use Rattle.bl_tree.specs.Nodes.{Node, Look, Covers, unbounded}
+use Rattle.bl_laws.specs.Walks.{IsChildOf, IsWalk, IsNoneOf, NoneTwice, HasLoneWalk}
+use Rattle.bl_laws.specs.Walks.IsWalk.{Ends, Right, Down}
+use Rattle.bl_tree.specs.Trees.{Tree, IsTree}
+use Rattle.bl_laws.specs.Pages.{AllSound}
+use Rattle.bl_laws.proofs.LawsHold.{live}
 
 some_or_none : (o : Option ℕ) → ((c : ℕ) × (o ≡ Some c)) ⊎ (o ≡ None)
 some_or_none (Some c) = inl (c, refl)

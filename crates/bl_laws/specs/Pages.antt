@@ -1,9 +1,10 @@
 -- What each kind of page says of the tree.
-use Rattle.std.specs.Prelude.{◌≡◌, ℕ, None, length, get_or}
+use Rattle.std.specs.Prelude.{◌≡◌, ℕ, ◌<◌, None, Some, length, get_or}
 use Rattle.bl_page.specs.declared.page.Page.{Page}
 use Rattle.bl_page.specs.declared.page.Page.TheVariants.{Anchor, Leaf, Inner, Dead}
 use Rattle.bl_page.specs.Pairs.{end_of, lookup}
-use Rattle.bl_tree.specs.Nodes.{Shape, Node, Roots}
+use Rattle.bl_tree.specs.Nodes.{Node, Roots, Covers}
+use Rattle.bl_tree.specs.Trees.{IsLive, Tree}
 
 -- The anchor and a dead page cover no key: they end at 0.
 abbrev pub node_of : Page → Node
@@ -25,3 +26,12 @@ IsTreePage (Anchor a) = ⊥
 IsTreePage (Leaf l) = Unit {0}
 IsTreePage (Inner i) = Unit {0}
 IsTreePage (Dead d) = ⊥
+
+-- What each leaf and each inner page says, whatever tree it is in: it lists keys that it covers, and as an inner page one
+-- child from its low on.
+pub record IsSoundNode (n : Node) : Type 0 where
+  pub covered : (k v : ℕ) → n.look k ≡ Some v → Covers n.shape k
+  pub first : 0 < n.shape.level → (c : ℕ) × (n.look n.shape.low ≡ Some c)
+
+abbrev pub AllSound : Tree → Type 0
+AllSound t = (x : ℕ) → IsLive (t.status x) → IsSoundNode (t.node x)

@@ -1,9 +1,10 @@
 -- The invariant implies the laws of the tree.
-use Rattle.std.proofs.Common.{ℕ, ◌≡◌, ◌≢◌, ◌⊎◌, ◌≤◌, ◌<◌, ◌+◌, Option, Some, None, zero, suc, List, [], ◌∷◌, ◌-◌, subst, arith, ap, sym, ◌∙◌, refl, inl, inr}
+use Rattle.std.proofs.Common.{ℕ, ◌≡◌, ◌≢◌, ◌⊎◌, ◌≤◌, ◌<◌, ◌+◌, zero, suc, List, [], ◌∷◌, ◌-◌, subst, arith, ap, sym, ◌∙◌, refl, inl, inr}
 use Rattle.std.proofs.lemmas.Bool.{cases_eq, cases_lt}
-use Rattle.bl_tree.specs.Nodes.{Shape, Node, Look, Covers, Roots, unbounded}
-use Rattle.bl_tree.specs.Laws.{Agreement, Overlap, IsLinked, IsChain, HasChain, IsListed, Listing}
-use Rattle.bl_tree.specs.Trees.{Status, IsLive, Tree, IsChild, IsTree, IsSoundNode, AllSound}
+use Rattle.bl_tree.specs.Nodes.{unbounded}
+use Rattle.bl_laws.specs.Laws.{Agreement, Overlap, IsLinked, IsChain, HasChain, IsListed, Listing}
+use Rattle.bl_tree.specs.Trees.{Status, IsLive, Tree, IsTree}
+use Rattle.bl_laws.specs.Pages.{AllSound}
 use Rattle.bl_tree.specs.Trees.Status.{Free, Fresh, Live, Left, Right, Gone, Anchored}
 
 abbrev pub live : Tree → ℕ → Type 0

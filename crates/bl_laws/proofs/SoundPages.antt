@@ -1,12 +1,10 @@
 -- A leaf and an inner page are sound nodes, by the rules that their types keep.
-use Rattle.std.proofs.Common.{ℕ, ◌≡◌, ◌≢◌, ◌≤◌, ◌<◌, ◌==◌, true, false, if◌then◌else◌, Option, Some, None, List, [], ◌∷◌, arith, ap, sym, ◌∙◌, refl, inl, inr}
+use Rattle.std.proofs.Common.{ℕ, ◌≡◌, ◌<◌, ◌==◌, if◌then◌else◌, Some, List, [], ◌∷◌, arith, sym, ◌∙◌, inl, inr}
 use Rattle.std.proofs.lemmas.Bool.{cases_eq}
 use Rattle.bl_page.specs.declared.page.Page.{Page}
 use Rattle.bl_page.specs.declared.page.Page.TheVariants.{Anchor, Leaf, Inner, Dead}
-use Rattle.bl_page.specs.Pairs.{end_of, IsWithin, AllWithin, BeginsWith, lookup}
-use Rattle.bl_tree.specs.Nodes.{Shape, Node, Covers}
-use Rattle.bl_tree.specs.Pages.{node_of, IsTreePage}
-use Rattle.bl_tree.specs.Trees.{IsSoundNode}
+use Rattle.bl_page.specs.Pairs.{IsWithin, AllWithin, BeginsWith, lookup}
+use Rattle.bl_laws.specs.Pages.{node_of, IsTreePage, IsSoundNode}
 
 -- what is listed is within the bounds
 listed_within : (low high : ℕ) (pairs : List (ℕ × ℕ)) (k v : ℕ) → AllWithin low high pairs → lookup pairs k ≡ Some v → IsWithin low high k

@@ -1,6 +1,6 @@
 -- Sound pages: what holds of a tree's pages when nothing is under way, so that work may begin.
-use Rattle.std.specs.Prelude.{◌≡◌, ℕ, suc, ◌<◌, ◌≤◌, ◌==◌, Bool, false, IsTrue, if◌then◌else◌, Option, Some, None}
-use Rattle.bl_tree.specs.Nodes.{Node, Look, Covers, Roots, unbounded}
+use Rattle.std.specs.Prelude.{◌≡◌, ℕ, suc, ◌<◌, ◌≤◌, Bool, false, IsTrue, Some}
+use Rattle.bl_tree.specs.Nodes.{Node, Roots, unbounded}
 
 -- y is reached from x by right links
 pub data IsReached (node : ℕ → Node) : ℕ → ℕ → Type 0 where

@@ -1,10 +1,9 @@
 -- The opening tree: one empty leaf, page 1, that covers every key.
-use Rattle.std.proofs.Common.{ℕ, ◌≡◌, ◌≢◌, ◌⊎◌, ◌≤◌, ◌<◌, ◌==◌, Bool, true, false, None, zero, suc, arith, ap, sym, ◌∙◌, refl, inl, inr}
-use Rattle.bl_tree.specs.Nodes.{Shape, Node, Look, Covers, Roots, unbounded}
-use Rattle.bl_tree.specs.Trees.{Status, is_live, IsLive, Tree, IsTree}
-use Rattle.bl_tree.specs.Trees.Status.{Free, Live}
+use Rattle.std.proofs.Common.{ℕ, ◌≡◌, ◌<◌, ◌==◌, true, None, arith, ap, sym, ◌∙◌, refl}
+use Rattle.bl_tree.specs.Nodes.{Node, Roots, unbounded}
+use Rattle.bl_tree.specs.Trees.{IsLive, Tree, IsTree}
 use Rattle.bl_tree.proofs.Statuses.{live_live}
-use Rattle.bl_tree.proofs.SoundStarts.{start_status, start_zero, start_live, alive, none_paired}
+use Rattle.bl_laws.proofs.SoundStarts.{start_status, start_zero, alive, none_paired}
 
 abbrev pub empty_leaf : Node
 empty_leaf = record { shape = record { level = 0; low = 0; end = unbounded; right = 0 }; look = λ k. None }

@@ -1,12 +1,12 @@
 -- Sound pages are a tree.
-use Rattle.std.proofs.Common.{ℕ, ◌≡◌, ◌≢◌, ◌⊎◌, ◌≤◌, ◌<◌, ◌+◌, ◌-◌, ◌==◌, Bool, true, false, IsTrue, if◌then◌else◌, Option, Some, None, zero, suc, subst, arith, ap, sym, ◌∙◌, refl, inl, inr}
+use Rattle.std.proofs.Common.{ℕ, ◌≡◌, ◌≢◌, ◌⊎◌, ◌≤◌, ◌<◌, ◌+◌, ◌==◌, Bool, true, false, if◌then◌else◌, Some, None, zero, suc, arith, ap, sym, ◌∙◌, refl, inl, inr}
 use Rattle.std.specs.Prelude.{nat_lt}
 use Rattle.std.proofs.lemmas.Bool.{cases_eq, cases_lt, false≢true}
 use Rattle.std.proofs.lemmas.Bool.Decides.{nat_tests}
-use Rattle.bl_tree.specs.Nodes.{Shape, Node, Look, Covers, Roots, unbounded}
-use Rattle.bl_tree.specs.Starts.{IsReached, AreSound}
-use Rattle.bl_tree.specs.Starts.IsReached.{Here, Next}
-use Rattle.bl_tree.specs.Trees.{Status, is_live, IsLive, Tree, IsChild, IsTree}
+use Rattle.bl_tree.specs.Nodes.{Node, Look, Covers, Roots, unbounded}
+use Rattle.bl_laws.specs.Starts.{IsReached, AreSound}
+use Rattle.bl_laws.specs.Starts.IsReached.{Here, Next}
+use Rattle.bl_tree.specs.Trees.{Status, is_live, IsLive, Tree, IsTree}
 use Rattle.bl_tree.specs.Trees.Status.{Free, Live, Left, Right, Anchored}
 use Rattle.bl_tree.proofs.Statuses.{live_live, free_dead, anchored_dead}
 
