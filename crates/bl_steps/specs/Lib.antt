@@ -1,0 +1,3 @@
+pub mod Trails
+pub mod Moments
+pub mod Worlds
