@@ -41,10 +41,10 @@ second_listed = record { alive = (omega arith, omega arith); lower = refl; low =
 
 -- The lone walk of 12 goes down to page 2. Before the post it goes down to page 1, and from there to the right.
 walk_down : IsWalk (pages parent) 12 3 (3 ∷ 2 ∷ []) 2
-walk_down = Down {c = 2} (omega arith) (omega arith, omega arith) (record { key = 9; not_above = omega arith; listed = refl; greatest = λ j a b. grind arith }) (Ends refl (omega arith, omega arith))
+walk_down = Down {c = 2} (omega arith) (omega arith, omega arith) (record { key = 9; listed = refl; reached = omega arith; greatest = λ j o f le. grind arith }) (Ends refl (omega arith, omega arith))
 
 walk_across : IsWalk (pages young_parent) 12 3 (3 ∷ 1 ∷ 2 ∷ []) 2
-walk_across = Down {c = 1} (omega arith) (omega arith, omega arith) (record { key = 0; not_above = omega arith; listed = refl; greatest = λ j a b. grind arith }) (Right (omega arith) (Ends refl (omega arith, omega arith)))
+walk_across = Down {c = 1} (omega arith) (omega arith, omega arith) (record { key = 0; listed = refl; reached = omega arith; greatest = λ j o f le. grind arith }) (Right (omega arith) (Ends refl (omega arith, omega arith)))
 
 no_page_twice : NoneTwice (3 ∷ 1 ∷ 2 ∷ [])
 no_page_twice = ((λ e. absurd (omega arith), (λ e. absurd (omega arith), tt)), ((λ e. absurd (omega arith), tt), (tt, tt)))

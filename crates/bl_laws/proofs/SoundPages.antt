@@ -3,18 +3,19 @@ use Rattle.std.proofs.Common.{ℕ, ◌≡◌, ◌<◌, ◌==◌, if◌then◌els
 use Rattle.std.proofs.lemmas.Bool.{cases_eq}
 use Rattle.bl_page.specs.declared.page.Page.{Page}
 use Rattle.bl_page.specs.declared.page.Page.TheVariants.{Anchor, Leaf, Inner, Dead}
-use Rattle.bl_page.specs.Pairs.{IsWithin, AllWithin, BeginsWith, lookup}
+use Rattle.bl_page.specs.Pairs.{IsWithin, AllWithin, BeginsWith}
+use Rattle.bl_model.specs.Rows.{map_of}
 use Rattle.bl_laws.specs.Pages.{node_of, IsTreePage, IsSoundNode}
 
 -- what is listed is within the bounds
-listed_within : (low high : ℕ) (pairs : List (ℕ × ℕ)) (k v : ℕ) → AllWithin low high pairs → lookup pairs k ≡ Some v → IsWithin low high k
+listed_within : (low high : ℕ) (pairs : List (ℕ × ℕ)) (k v : ℕ) → AllWithin low high pairs → map_of pairs k ≡ Some v → IsWithin low high k
 listed_within low high [] k v h e = cc
 listed_within low high (pair ∷ pairs) k v h e = elim (cases_eq pair.0 k) [
   | inl i ↦ rw i at h.0
-  | inr i ↦ listed_within low high pairs k v h.1 (let f : (if pair.0 == k then Some pair.1 else lookup pairs k) ≡ lookup pairs k = grind arith in sym f ∙ e)
+  | inr i ↦ listed_within low high pairs k v h.1 (let f : (if pair.0 == k then Some pair.1 else map_of pairs k) ≡ map_of pairs k = grind arith in sym f ∙ e)
 ]
 
-first_listed : (low : ℕ) (pairs : List (ℕ × ℕ)) → BeginsWith low pairs → (c : ℕ) × (lookup pairs low ≡ Some c)
+first_listed : (low : ℕ) (pairs : List (ℕ × ℕ)) → BeginsWith low pairs → (c : ℕ) × (map_of pairs low ≡ Some c)
 first_listed low [] h = absurd h
 first_listed low (pair ∷ pairs) h = (pair.1, (let e : pair.0 ≡ low = h in grind arith))
 

@@ -19,19 +19,19 @@ pub record HasChild (look : Look) (low k : ℕ) : Type 0 where
   pub above : low ≤ of.key
 
 pub has_child : (look : Look) (low c : ℕ) → look low ≡ Some c → (n k : ℕ) → k ≡ low + n → HasChild look low k
-has_child look low c h zero k e = record { child = c; of = record { key = low; not_above = omega arith; listed = h; greatest = λ j a b. absurd (omega arith) }; above = omega arith }
+has_child look low c h zero k e = record { child = c; of = record { key = low; listed = h; reached = omega arith; greatest = λ j o f le. omega arith }; above = omega arith }
 has_child look low c h (suc n) k e = elim (some_or_none (look k)) [
-  | inl s ↦ record { child = s.0; of = record { key = k; not_above = omega arith; listed = s.1; greatest = λ j a b. absurd (omega arith) }; above = omega arith }
+  | inl s ↦ record { child = s.0; of = record { key = k; listed = s.1; reached = omega arith; greatest = λ j o f le. le }; above = omega arith }
   | inr s ↦
       let r = has_child look low c h n (k - 1) (omega arith) in
-      let not_above = r.of.not_above in
+      let reached = r.of.reached in
       record {
         child = r.child;
         of = record {
           key = r.of.key;
-          not_above = omega arith;
           listed = r.of.listed;
-          greatest = λ j a b. elim (cases_eq j k) [ inl i ↦ rw i s | inr i ↦ r.of.greatest j a (omega arith) ];
+          reached = omega arith;
+          greatest = λ j o f le. elim (cases_eq j k) [ inl i ↦ absurd (let g : look k ≡ Some o = rw i at f in cc) | inr i ↦ r.of.greatest j o f (omega arith) ];
         };
         above = r.above;
       }
@@ -117,7 +117,7 @@ walk_from {t = t} k (suc l) x g s b h level low = right_walk k (suc l) (suc k) x
     let f = (s z i).first above in
     let c_low = c.0 in
     let r = has_child (t.node z).look (t.node z).shape.low f.0 f.1 (k - (t.node z).shape.low) k (omega arith) in
-    let not_above = r.of.not_above in
+    let reached = r.of.reached in
     let r_above = r.above in
     let listed : t.map (suc l) r.of.key ≡ Some r.child = rw (← e) (sym (g.agree z r.of.key i (r_above, omega (arith, c.1))) ∙ r.of.listed) in
     let o = g.listed l r.of.key r.child listed in

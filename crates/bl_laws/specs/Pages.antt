@@ -2,15 +2,16 @@
 use Rattle.std.specs.Prelude.{◌≡◌, ℕ, ◌<◌, None, Some, length, get_or}
 use Rattle.bl_page.specs.declared.page.Page.{Page}
 use Rattle.bl_page.specs.declared.page.Page.TheVariants.{Anchor, Leaf, Inner, Dead}
-use Rattle.bl_page.specs.Pairs.{end_of, lookup}
+use Rattle.bl_model.specs.Rows.{map_of}
+use Rattle.bl_page.specs.Pairs.{end_of}
 use Rattle.bl_tree.specs.Nodes.{Node, Roots, Covers}
 use Rattle.bl_tree.specs.Trees.{IsLive, Tree}
 
 -- The anchor and a dead page cover no key: they end at 0.
 abbrev pub node_of : Page → Node
 node_of (Anchor a) = record { shape = record { level = 0; low = 0; end = 0; right = 0 }; look = λ k. None }
-node_of (Leaf l) = record { shape = record { level = 0; low = l.low; end = end_of l.high; right = l.right }; look = lookup l.rows.items }
-node_of (Inner i) = record { shape = record { level = i.level; low = i.low; end = end_of i.high; right = i.right }; look = lookup i.children.items }
+node_of (Leaf l) = record { shape = record { level = 0; low = l.low; end = end_of l.high; right = l.right }; look = map_of l.rows.items }
+node_of (Inner i) = record { shape = record { level = i.level; low = i.low; end = end_of i.high; right = i.right }; look = map_of i.children.items }
 node_of (Dead d) = record { shape = record { level = d.level; low = d.low; end = 0; right = d.right }; look = λ k. None }
 
 -- what page 0 says of the levels

@@ -5,9 +5,9 @@ use Rattle.bl_tree.specs.Nodes.{Node, Look, Covers, Roots}
 -- The child of a key: the one listed with the greatest key that is not above it.
 pub record IsChildOf (look : Look) (k c : ℕ) : Type 0 where
   pub key : ℕ
-  pub not_above : key ≤ k
   pub listed : look key ≡ Some c
-  pub greatest : (j : ℕ) → key < j → j ≤ k → look j ≡ None
+  pub reached : key ≤ k
+  pub greatest : (j other : ℕ) → look j ≡ Some other → j ≤ k → j ≤ key
 
 -- The pages met from one page on: to the right where the key is beyond the page's bound, else down to the key's child,
 -- until a leaf covers it.

@@ -129,10 +129,10 @@ fits (page.Inner n) =
       cover = (subst (AllWithin n.low n.high) (sym same) n.cover, subst (BeginsWith n.low) (sym same) n.first, subst NameChildren (sym same) n.pages);
       rest = λ i past lt. layout-rest (head 3 n.level size) n.low n.high n.right (entries_of children) i (omega (arith, count, past, length-entries_of children));
     }
-    where
-      some_first : (low : ℕ) (pairs : List (ℕ × ℕ)) → BeginsWith low pairs → 0 < length pairs
-      some_first low [] h = absurd h
-      some_first low (pair ∷ pairs) h = omega arith
+  where
+    some_first : (low : ℕ) (pairs : List (ℕ × ℕ)) → BeginsWith low pairs → 0 < length pairs
+    some_first low [] h = absurd h
+    some_first low (pair ∷ pairs) h = omega arith
 fits (page.Dead d) =
     let level : d.level < 2 ^ 16 = omega (arith, d.below_limit) in
     record {

@@ -1,4 +1,5 @@
 pub mod Same
+pub mod Lookups
 pub mod PairsIn
 pub mod PagesIn
 pub mod Writing

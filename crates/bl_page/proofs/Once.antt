@@ -39,7 +39,7 @@ once (page.Leaf l) (page.Leaf m) e =
     ap page.Leaf (leaf_same l m (ap (λ w. get_or w 1 0) e) (ap (λ w. get_or w 2 0) e) (ap (λ w. get_or w 3 0) e) (vec_same l.rows m.rows (sym (rows_again l) ∙ ap pairs_of e ∙ rows_again m)))
 once (page.Inner n) (page.Inner o) e =
     let level : n.level ≡ o.level = sym (head-level 3 n.level (length n.children.items) (omega (arith, n.below_limit)) (omega (arith, n.few))) ∙ ap level_in e
-        ∙ head-level 3 o.level (length o.children.items) (omega (arith, o.below_limit)) (omega (arith, o.few)) in
+    ∙ head-level 3 o.level (length o.children.items) (omega (arith, o.below_limit)) (omega (arith, o.few)) in
     ap page.Inner (inner_same n o level (ap (λ w. get_or w 1 0) e) (ap (λ w. get_or w 2 0) e) (ap (λ w. get_or w 3 0) e) (vec_same n.children o.children (sym (children_again n) ∙ ap pairs_of e ∙ children_again o)))
 once (page.Dead d) (page.Dead f) e =
     let level : d.level ≡ f.level = sym (head-level 4 d.level 0 (omega (arith, d.below_limit)) (omega arith)) ∙ ap level_in e ∙ head-level 4 f.level 0 (omega (arith, f.below_limit)) (omega arith) in

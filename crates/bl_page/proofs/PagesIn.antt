@@ -17,8 +17,8 @@ pub not_children : (words : List ℕ) (count i : ℕ) → i < count → count �
 not_children words count i lt few other all =
     let at : get_or (take count (drop 4 words)) i 0 ≡ get_or words (4 + i) 0 = get_or-take count (drop 4 words) i 0 lt ∙ get_or-drop 4 words i 0 in
     other (subst IsChild at (AreChildren-at (take count (drop 4 words)) i all (omega (arith, length_take count (drop 4 words) few))))
-    where
-      length_take : (n : ℕ) (xs : List ℕ) → n ≤ length xs → length (take n xs) ≡ n
-      length_take zero xs h = omega arith
-      length_take (suc n) [] h = absurd (omega arith)
-      length_take (suc n) (x ∷ xs) h = ap suc (length_take n xs (omega arith))
+  where
+    length_take : (n : ℕ) (xs : List ℕ) → n ≤ length xs → length (take n xs) ≡ n
+    length_take zero xs h = omega arith
+    length_take (suc n) [] h = absurd (omega arith)
+    length_take (suc n) (x ∷ xs) h = ap suc (length_take n xs (omega arith))

@@ -46,7 +46,7 @@ layout_is (a ∷ b ∷ c ∷ d ∷ xs) first low high right n entries long few i
     let xs_long : length xs ≡ 28 = omega arith in
     let size : length entries ≡ n = ap length front ∙ length-take-le n xs (omega arith) in
     let shift = λ (i : ℕ) (h : n ≤ i) (lt : i < 28). (let e : 4 + i ≡ suc (suc (suc (suc i))) = omega arith in
-        ap (λ k. get_or (a ∷ b ∷ c ∷ d ∷ xs) k 0) (sym e) ∙ rest (4 + i) (omega arith) (omega arith)) in
+    ap (λ k. get_or (a ∷ b ∷ c ∷ d ∷ xs) k 0) (sym e) ∙ rest (4 + i) (omega arith) (omega arith)) in
     let tail = behind xs n xs_long few shift in
     ap (λ w. w ∷ b ∷ c ∷ d ∷ xs) is_first ∙ ap (λ w. first ∷ w ∷ c ∷ d ∷ xs) is_low ∙ ap (λ w. first ∷ low ∷ w ∷ d ∷ xs) is_high ∙ ap (λ w. first ∷ low ∷ high ∷ w ∷ xs) is_right
     ∙ ap (λ (t : List ℕ). first ∷ low ∷ high ∷ right ∷ t) (tail ∙ ap (λ t. t ++ replicate {A = ℕ} (28 - n) 0) (sym front) ∙ ap (λ m. entries ++ replicate {A = ℕ} (28 - m) 0) (sym size))

@@ -1,4 +1,5 @@
 pub mod Pairs
+pub mod Pages
 pub mod Words
 pub mod Faults
 pub mod Machine

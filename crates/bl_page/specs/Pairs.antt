@@ -1,5 +1,6 @@
 -- Pairs of a page: each is a key with its value, or the least key of a child with the child's number.
-use Rattle.std.specs.Prelude.{◌≡◌, ℕ, ◌+◌, ◌<◌, ◌≤◌, ◌^◌, ◌==◌, if◌then◌else◌, Option, Some, None, List, [], ◌∷◌}
+use Rattle.std.specs.Prelude.{◌≡◌, ℕ, ◌+◌, ◌<◌, ◌≤◌, ◌^◌, ◌==◌, if◌then◌else◌, nat_lt, Some, List, [], ◌∷◌}
+use Rattle.bl_model.specs.Rows.{map_of}
 use Rattle.std.specs.Coded.{×_prop, Unit-prop, le_prop}
 use Rattle.std.proofs.Props.{props}
 
@@ -39,10 +40,17 @@ abbrev pub AreChildren : List ℕ → Type 0
 AreChildren [] = Unit {0}
 AreChildren (x ∷ xs) = IsChild x × AreChildren xs
 
--- what is listed with the key
-abbrev pub lookup : List (ℕ × ℕ) → ℕ → Option ℕ
-lookup [] k = None
-lookup (pair ∷ pairs) k = if pair.0 == k then Some pair.1 else lookup pairs k
+-- The child is listed with the greatest key that is not above k.
+pub record IsChildFor (pairs : List (ℕ × ℕ)) (k child : ℕ) : Type 0 where
+  pub key : ℕ
+  pub listed : map_of pairs key ≡ Some child
+  pub reached : key ≤ k
+  pub greatest : (j c : ℕ) → map_of pairs j ≡ Some c → j ≤ k → j ≤ key
+
+-- how many keys are at or below k, where the keys rise
+abbrev pub place : ℕ → List (ℕ × ℕ) → ℕ
+place k [] = 0
+place k (pair ∷ pairs) = if nat_lt k pair.0 then 0 else place k pairs + 1
 
 -- Such facts have one proof at most, so that pages with the same words are the same.
 

@@ -1,9 +1,16 @@
 //! Pages of a B-link tree, and their 32 words.
 #![tactic(auto)]
 
+mod keys;
 mod page;
+mod pairs;
 mod reading;
 mod words;
 
+pub use keys::is_within;
 pub use page::{Anchor, Dead, Inner, Leaf, Page, Pairs, WordFault};
+pub use pairs::{listed_with, place_of};
 pub use reading::from_words;
+
+#[cfg(test)]
+mod tests;

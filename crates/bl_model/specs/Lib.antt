@@ -1,0 +1,5 @@
+pub mod Map
+pub mod History
+pub mod Rows
+pub mod Plain
+pub mod Stream

@@ -1,0 +1,64 @@
+-- One ordered map: what an operation may answer, and the map after it.
+use Rattle.std.specs.Prelude.{◌≡◌, ℕ, ◌≤◌, ◌<◌, ◌↔◌, List, Contains, Option, None, Some, IsSome, if◌then◌else◌, ◌==◌}
+use Rattle.bl_model.specs.declared.operation.Op.{Op}
+use Rattle.bl_model.specs.declared.operation.Op.TheVariants.{Find, Insert, Delete, Part}
+use Rattle.bl_model.specs.declared.operation.Next.{Next}
+use Rattle.bl_model.specs.declared.operation.Next.TheVariants.{More, End}
+use Rattle.bl_model.specs.declared.operation.Reply.{Reply}
+use Rattle.bl_model.specs.declared.operation.Reply.TheVariants.{Found, Absent, Inserted, Present, Deleted, Rows, NoRoom}
+use Rattle.bl_model.specs.Rows.{HasRisingKeys}
+
+-- a map: the value at each key that it has
+abbrev pub Map : Type 0
+Map = ℕ → Option ℕ
+
+-- the map with no key
+abbrev pub empty : Map
+empty key = None
+
+-- m with the value at the key, in place of what it has there
+abbrev pub with_pair : Map → ℕ → ℕ → Map
+with_pair m key value j = if j == key then Some value else m j
+
+-- m with nothing at the key
+abbrev pub without_key : Map → ℕ → Map
+without_key m key j = if j == key then None else m j
+
+-- the two maps agree at every key
+abbrev pub SameMap : Map → Map → Type 0
+SameMap m n = (key : ℕ) → n key ≡ m key
+
+-- The rows are the pairs of m whose keys are taken, in rising order of the keys.
+pub record ListsPairs (m : Map) (Takes : ℕ → Type 0) (rows : List (ℕ × ℕ)) : Type 0 where
+  pub rising : HasRisingKeys rows
+  pub pairs : (key value : ℕ) → Contains rows (key, value) ↔ ((m key ≡ Some value) × Takes key)
+
+-- A part of m from a key on: the pairs up to the key where the next part begins, which is a greater one, or all of them.
+abbrev pub IsPart : Map → ℕ → List (ℕ × ℕ) → Next → Type 0
+IsPart m from rows (More next) = (from < next) × ListsPairs m (λ key. (from ≤ key) × (key < next)) rows
+IsPart m from rows End = ListsPairs m (λ key. from ≤ key) rows
+
+-- On m, the operation may answer this.
+abbrev pub MayAnswer : Map → Op → Reply → Type 0
+MayAnswer m (Find key) (Found value) = m key ≡ Some value
+MayAnswer m (Find key) Absent = m key ≡ None
+MayAnswer m (Insert key value) Inserted = m key ≡ None
+MayAnswer m (Insert key value) (Present there) = m key ≡ Some there
+MayAnswer m (Insert key value) NoRoom = m key ≡ None
+MayAnswer m (Delete key) (Deleted value) = m key ≡ Some value
+MayAnswer m (Delete key) Absent = m key ≡ None
+MayAnswer m (Delete key) NoRoom = IsSome (m key)
+MayAnswer m (Part from) (Rows rows next) = IsPart m from rows.items next
+-- no other reply is given
+MayAnswer m op reply = ⊥
+
+-- the map after the operation was answered like this: only Inserted and Deleted change it
+abbrev pub map_step : Op → Reply → Map → Map
+map_step (Insert key value) Inserted m = with_pair m key value
+map_step (Delete key) (Deleted value) m = without_key m key
+map_step op reply m = m
+
+-- From old, the operation may answer this, and it leaves new.
+pub record IsMapStep (old : Map) (op : Op) (reply : Reply) (new : Map) : Type 0 where
+  pub answer : MayAnswer old op reply
+  pub after : SameMap (map_step op reply old) new

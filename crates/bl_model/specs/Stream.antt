@@ -1,0 +1,18 @@
+-- What a contract sees of a watched stream.
+use Rattle.std.specs.Prelude.{ℕ, ◌==◌, Bool, true, ◌&&◌, nat_lt, List, length, Result, Ok, Err, refl}
+use Rattle.std.specs.Coded.{Coded, code_by, coded×, coded_bool}
+
+-- the stream, and whether a call on it has failed
+pub record Stream (T : Type 0) : Type 0 where
+  pub inner : T
+  pub failed : Bool
+
+-- a watched stream is stored as the pair of its parts
+abbrev pub stream_code : {T : Type 0} → Coded T → Coded (Stream T)
+stream_code {T} code =
+    code_by (T × Bool) (coded× code coded_bool) (λ s. (s.inner, s.failed)) (λ p. record { inner = p.0; failed = p.1 }) (λ _. refl)
+
+-- a write failed: it gave an error, or took nothing of a piece that isn't empty
+abbrev pub write_failed : {E : Type 0} → Result ℕ E → List ℕ → Bool
+write_failed (Ok count) piece = (count == 0) && nat_lt 0 (length piece)
+write_failed (Err e) piece = true

@@ -1,0 +1,17 @@
+//! Operations on one ordered map from `u64` keys to `u64` values, and their replies.
+//!
+//! Every other crate of the index stands on the definitions of this one: what an operation may answer, the map after
+//! it, a part of a map, and a legal history (`specs/Map.antt`, `specs/History.antt`). `PlainMap` is the map at its
+//! simplest, for tests and replay, and its contract is those definitions and nothing more. `Watched` tells a caller
+//! whether a reader or a writer that it lends has failed.
+#![tactic(auto)]
+
+pub mod operation;
+pub mod plain;
+pub mod stream;
+#[cfg(test)]
+mod tests;
+
+pub use operation::{Entry, Next, Op, Reply};
+pub use plain::PlainMap;
+pub use stream::Watched;

@@ -1,0 +1,53 @@
+//! What is asked of a map, and what it answers.
+
+use arrayvec::ArrayVec;
+
+/// An operation on the map. Every key and every value is allowed.
+#[derive(Clone, Copy, Debug, PartialEq, Eq)]
+pub enum Op {
+    /// Looks a key up.
+    Find(u64),
+    /// Puts a value at a key that has none; a value that is there stays.
+    Insert(u64, u64),
+    /// Takes a key and its value away.
+    Delete(u64),
+    /// Lists some of the pairs, from a key on.
+    Part(u64),
+}
+
+/// What the map answers.
+#[derive(Clone, Debug, PartialEq, Eq, Drop)]
+pub enum Reply {
+    /// The value at the key of a `Find`.
+    Found(u64),
+    /// The key of a `Find` or a `Delete` isn't there.
+    Absent,
+    /// The pair of an `Insert` is there now.
+    Inserted,
+    /// The key of an `Insert` was there with this value, and still is.
+    Present(u64),
+    /// The key of a `Delete` was there with this value, and isn't any more.
+    Deleted(u64),
+    /// The pairs of a `Part` in rising order of their keys, and where the next part begins.
+    Rows(ArrayVec<(u64, u64), 14>, Next),
+    /// There was no room for a change, and the map is as it was.
+    NoRoom,
+}
+
+/// How far a part went.
+#[derive(Clone, Copy, Debug, PartialEq, Eq)]
+pub enum Next {
+    /// Up to this key, which is not among its rows. It is greater than the key that the part began with.
+    More(u64),
+    /// To the end of the map.
+    End,
+}
+
+/// One answered operation of a history.
+#[derive(Clone, Debug, PartialEq, Eq, Drop)]
+pub struct Entry {
+    /// The number of the pass that asked, from 0.
+    pub pass: u32,
+    pub op: Op,
+    pub reply: Reply,
+}

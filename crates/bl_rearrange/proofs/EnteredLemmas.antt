@@ -1,0 +1,154 @@
+-- Pairs that rise, with one more or one less.
+use Rattle.std.proofs.Common.{◌≡◌, ◌≢◌, ℕ, zero, suc, ◌+◌, ◌-◌, ◌<◌, ◌≤◌, List, [], ◌∷◌, ◌++◌, length, take, drop, get_or, None, Some, true, false, refl, ap, sym, subst, ◌∙◌, add-one, inl, inr, arith}
+use Rattle.std.specs.Prelude.{nat_lt, ◌==◌, IsSome}
+use Rattle.std.specs.List.{insert}
+use Rattle.std.proofs.lemmas.Bool.{cases_lt, cases_eq}
+use Rattle.bl_model.specs.Map.{with_pair, without_key, SameMap}
+use Rattle.bl_model.specs.Rows.{map_of}
+use Rattle.bl_page.specs.Pairs.{RisesFrom, AllWithin, BeginsWith, NameChildren, IsWithin, IsChild, place, end_of}
+use Rattle.bl_page.proofs.Lookups.{map_of_below}
+use Rattle.bl_rearrange.specs.Entered.{entered, dropped}
+
+-- what `insert` at the place of the key gives
+pub insert-place : (key word : ℕ) (pairs : List (ℕ × ℕ)) → insert pairs (place key pairs) (key, word) ≡ entered key word pairs
+insert-place key word [] = refl
+insert-place key word (pair ∷ pairs) = elim (cases_lt key pair.0) [
+  | inl lt ↦ let e : nat_lt key pair.0 ≡ true = grind arith in rw e refl
+  | inr ge ↦ let e : nat_lt key pair.0 ≡ false = grind arith in rw (e, add-one) (ap (λ t. pair ∷ t) (insert-place key word pairs))
+]
+
+pub length-entered : (key word : ℕ) (pairs : List (ℕ × ℕ)) → length (entered key word pairs) ≡ length pairs + 1
+length-entered key word [] = refl
+length-entered key word (pair ∷ pairs) = grind (arith, length-entered key word pairs)
+
+pub map_of-entered_same : (key word : ℕ) (pairs : List (ℕ × ℕ)) → map_of pairs key ≡ None → map_of (entered key word pairs) key ≡ Some word
+map_of-entered_same key word [] h = grind arith
+map_of-entered_same key word (pair ∷ pairs) h = grind (arith, map_of-entered_same key word pairs)
+
+pub map_of-entered_other : (key word j : ℕ) (pairs : List (ℕ × ℕ)) → j ≢ key → map_of (entered key word pairs) j ≡ map_of pairs j
+map_of-entered_other key word j [] n = grind arith
+map_of-entered_other key word j (pair ∷ pairs) n = grind (arith, map_of-entered_other key word j pairs n)
+
+pub map_of-entered : (key word : ℕ) (pairs : List (ℕ × ℕ)) → map_of pairs key ≡ None → SameMap (with_pair (map_of pairs) key word) (map_of (entered key word pairs))
+map_of-entered key word pairs h j = elim (cases_eq j key) [
+  | inl same ↦ grind (arith, map_of-entered_same key word pairs h, same)
+  | inr other ↦ grind (arith, map_of-entered_other key word j pairs other, other)
+]
+
+pub RisesFrom-entered : (key word least : ℕ) (pairs : List (ℕ × ℕ)) → least ≤ key → map_of pairs key ≡ None → RisesFrom least pairs → RisesFrom least (entered key word pairs)
+RisesFrom-entered key word least [] le none h = (le, tt)
+RisesFrom-entered key word least (pair ∷ pairs) le none h = elim (cases_lt key pair.0) [
+  | inl lt ↦ let e : nat_lt key pair.0 ≡ true = grind arith in rw e (le, (omega arith, h.1))
+  | inr ge ↦
+      let e : nat_lt key pair.0 ≡ false = grind arith in
+      let other : pair.0 ≢ key = λ i. absurd (grind arith) in
+      let none' : map_of pairs key ≡ None = grind arith in
+      rw e (h.0, RisesFrom-entered key word (pair.0 + 1) pairs (omega arith) none' h.1)
+]
+
+pub AllWithin-entered : (key word low high : ℕ) (pairs : List (ℕ × ℕ)) → IsWithin low high key → AllWithin low high pairs → AllWithin low high (entered key word pairs)
+AllWithin-entered key word low high [] within h = (within, tt)
+AllWithin-entered key word low high (pair ∷ pairs) within h = elim (cases_lt key pair.0) [
+  | inl lt ↦ let e : nat_lt key pair.0 ≡ true = grind arith in rw e (within, h)
+  | inr ge ↦ let e : nat_lt key pair.0 ≡ false = grind arith in rw e (h.0, AllWithin-entered key word low high pairs within h.1)
+]
+
+pub BeginsWith-entered : (key word low : ℕ) (pairs : List (ℕ × ℕ)) → low ≤ key → map_of pairs key ≡ None → BeginsWith low pairs → BeginsWith low (entered key word pairs)
+BeginsWith-entered key word low [] le none h = absurd h
+BeginsWith-entered key word low (pair ∷ pairs) le none h = elim (cases_lt key pair.0) [
+  | inl lt ↦ absurd (omega (arith, h))
+  | inr ge ↦ let e : nat_lt key pair.0 ≡ false = grind arith in rw e h
+]
+
+pub NameChildren-entered : (key word : ℕ) (pairs : List (ℕ × ℕ)) → IsChild word → NameChildren pairs → NameChildren (entered key word pairs)
+NameChildren-entered key word [] is h = (is, tt)
+NameChildren-entered key word (pair ∷ pairs) is h = elim (cases_lt key pair.0) [
+  | inl lt ↦ let e : nat_lt key pair.0 ≡ true = grind arith in rw e (is, h)
+  | inr ge ↦ let e : nat_lt key pair.0 ≡ false = grind arith in rw e (h.0, NameChildren-entered key word pairs is h.1)
+]
+
+-- the pair is entered before or behind a cut
+pub entered-lower : (key word n : ℕ) (pairs : List (ℕ × ℕ)) → place key pairs ≤ n → entered key word (take n pairs) ++ drop n pairs ≡ entered key word pairs
+entered-lower key word zero [] le = refl
+entered-lower key word (suc n) [] le = refl
+entered-lower key word zero (pair ∷ pairs) le = elim (cases_lt key pair.0) [
+  | inl lt ↦ let e : nat_lt key pair.0 ≡ true = grind arith in rw e refl
+  | inr ge ↦ let e : nat_lt key pair.0 ≡ false = grind arith in let le' = rw e at le in absurd (omega arith)
+]
+entered-lower key word (suc n) (pair ∷ pairs) le = elim (cases_lt key pair.0) [
+  | inl lt ↦ let e : nat_lt key pair.0 ≡ true = grind arith in rw e (ap (λ t. (key, word) ∷ pair ∷ t) (take-drop n pairs))
+  | inr ge ↦ let e : nat_lt key pair.0 ≡ false = grind arith in let le' = rw e at le in rw e (ap (λ t. pair ∷ t) (entered-lower key word n pairs (omega arith)))
+]
+  where
+    take-drop : (n : ℕ) (xs : List (ℕ × ℕ)) → take n xs ++ drop n xs ≡ xs
+    take-drop zero xs = refl
+    take-drop (suc n) [] = refl
+    take-drop (suc n) (x ∷ xs) = ap (λ t. x ∷ t) (take-drop n xs)
+
+pub entered-upper : (key word n : ℕ) (pairs : List (ℕ × ℕ)) → n ≤ place key pairs → take n pairs ++ entered key word (drop n pairs) ≡ entered key word pairs
+entered-upper key word zero pairs le = refl
+entered-upper key word (suc n) [] le = absurd (omega arith)
+entered-upper key word (suc n) (pair ∷ pairs) le = elim (cases_lt key pair.0) [
+  | inl lt ↦ let e : nat_lt key pair.0 ≡ true = grind arith in let le' = rw e at le in absurd (omega arith)
+  | inr ge ↦ let e : nat_lt key pair.0 ≡ false = grind arith in let le' = rw e at le in rw e (ap (λ t. pair ∷ t) (entered-upper key word n pairs (omega arith)))
+]
+
+-- ---- one pair less
+
+pub length-dropped_le : (key : ℕ) (pairs : List (ℕ × ℕ)) → length (dropped key pairs) ≤ length pairs
+length-dropped_le key [] = omega arith
+length-dropped_le key (pair ∷ pairs) = grind (arith, length-dropped_le key pairs)
+
+pub length-dropped : (key value : ℕ) (pairs : List (ℕ × ℕ)) → map_of pairs key ≡ Some value → length (dropped key pairs) + 1 ≡ length pairs
+length-dropped key value [] h = absurd cc
+length-dropped key value (pair ∷ pairs) h = elim (cases_eq pair.0 key) [
+  | inl same ↦ grind (arith, same)
+  | inr other ↦ let rest : map_of pairs key ≡ Some value = grind (arith, h, other) in grind (arith, length-dropped key value pairs rest, other)
+]
+
+RisesFrom-from : (a b : ℕ) (pairs : List (ℕ × ℕ)) → a ≤ b → RisesFrom b pairs → RisesFrom a pairs
+RisesFrom-from a b [] le h = tt
+RisesFrom-from a b (pair ∷ pairs) le h = (omega arith, h.1)
+
+pub RisesFrom-dropped : (key least : ℕ) (pairs : List (ℕ × ℕ)) → RisesFrom least pairs → RisesFrom least (dropped key pairs)
+RisesFrom-dropped key least [] h = tt
+RisesFrom-dropped key least (pair ∷ pairs) h = elim (cases_eq pair.0 key) [
+  | inl same ↦ let e : (pair.0 == key) ≡ true = grind arith in rw e (RisesFrom-from least (pair.0 + 1) pairs (omega (arith, h.0)) h.1)
+  | inr other ↦ let e : (pair.0 == key) ≡ false = grind arith in rw e (h.0, RisesFrom-dropped key (pair.0 + 1) pairs h.1)
+]
+
+pub AllWithin-dropped : (key low high : ℕ) (pairs : List (ℕ × ℕ)) → AllWithin low high pairs → AllWithin low high (dropped key pairs)
+AllWithin-dropped key low high [] h = tt
+AllWithin-dropped key low high (pair ∷ pairs) h = elim (cases_eq pair.0 key) [
+  | inl same ↦ let e : (pair.0 == key) ≡ true = grind arith in rw e h.1
+  | inr other ↦ let e : (pair.0 == key) ≡ false = grind arith in rw e (h.0, AllWithin-dropped key low high pairs h.1)
+]
+
+pub BeginsWith-dropped : (key low : ℕ) (pairs : List (ℕ × ℕ)) → key ≢ low → BeginsWith low pairs → BeginsWith low (dropped key pairs)
+BeginsWith-dropped key low [] other h = absurd h
+BeginsWith-dropped key low (pair ∷ pairs) other h = let e : (pair.0 == key) ≡ false = grind (arith, h, other) in rw e h
+
+pub NameChildren-dropped : (key : ℕ) (pairs : List (ℕ × ℕ)) → NameChildren pairs → NameChildren (dropped key pairs)
+NameChildren-dropped key [] h = tt
+NameChildren-dropped key (pair ∷ pairs) h = elim (cases_eq pair.0 key) [
+  | inl same ↦ let e : (pair.0 == key) ≡ true = grind arith in rw e h.1
+  | inr other ↦ let e : (pair.0 == key) ≡ false = grind arith in rw e (h.0, NameChildren-dropped key pairs h.1)
+]
+
+-- where the keys rise, the key is not there any more
+pub map_of-dropped_same : (key least : ℕ) (pairs : List (ℕ × ℕ)) → RisesFrom least pairs → map_of (dropped key pairs) key ≡ None
+map_of-dropped_same key least [] h = refl
+map_of-dropped_same key least (pair ∷ pairs) h = elim (cases_eq pair.0 key) [
+  | inl same ↦ let e : (pair.0 == key) ≡ true = grind arith in rw e (map_of_below (pair.0 + 1) key pairs h.1 (omega arith))
+  | inr other ↦ grind (arith, map_of-dropped_same key (pair.0 + 1) pairs h.1, other)
+]
+
+pub map_of-dropped_other : (key j : ℕ) (pairs : List (ℕ × ℕ)) → j ≢ key → map_of (dropped key pairs) j ≡ map_of pairs j
+map_of-dropped_other key j [] n = refl
+map_of-dropped_other key j (pair ∷ pairs) n = grind (arith, map_of-dropped_other key j pairs n)
+
+pub map_of-dropped : (key least : ℕ) (pairs : List (ℕ × ℕ)) → RisesFrom least pairs → SameMap (without_key (map_of pairs) key) (map_of (dropped key pairs))
+map_of-dropped key least pairs h j = elim (cases_eq j key) [
+  | inl same ↦ grind (arith, map_of-dropped_same key least pairs h, same)
+  | inr other ↦ grind (arith, map_of-dropped_other key j pairs other, other)
+]

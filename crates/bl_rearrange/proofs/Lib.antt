@@ -1,0 +1,3 @@
+pub mod EnteredLemmas
+pub mod Cuts
+pub mod Parts

@@ -1,0 +1,2 @@
+pub mod Entered
+pub mod Rearranged

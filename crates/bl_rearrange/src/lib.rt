@@ -1,0 +1,14 @@
+//! Rearranging the pairs of pages: one page with a pair more, in two pages where it is full, or with a pair less.
+//!
+//! Promised to whoever moves pages of a tree: the pairs together are kept, with the new one or without the dropped one,
+//! seen as a map from keys; kind, level, bounds and links are said page by page. Nothing is allocated, and no page is
+//! copied.
+#![tactic(auto)]
+
+mod fitted;
+mod pairs;
+
+pub use fitted::{Fitted, with_pair, without};
+
+#[cfg(test)]
+mod tests;
