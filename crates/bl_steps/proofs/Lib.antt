@@ -1,1 +1,4 @@
 pub mod Pushes
+pub mod Frames
+pub mod Steady
+pub mod Records

@@ -2,7 +2,7 @@
 -- knows: the pages that it holds, those that it may go to, what it has said and done. A kind of process P comes with a
 -- table, know, from its states to what they know.
 use Rattle.std.specs.Prelude.{◌≡◌, ◌≢◌, ◌⊎◌, ℕ, suc, ◌<◌, ◌≤◌, ◌++◌, Bool, true, false, Option, Some, None, List, [], ◌∷◌}
-use Rattle.bl_model.specs.Map.{Map}
+use Rattle.bl_model.specs.Map.{Map, MayAnswer, map_step}
 use Rattle.bl_model.specs.History.{IsLegalFrom, final_map}
 use Rattle.bl_model.specs.declared.operation.Reply.{Reply}
 use Rattle.bl_page.specs.declared.page.Page.{Page}
@@ -199,6 +199,9 @@ pub record IsRecorded {P : Type 0} (w : World P) : Type 0 where
   pub legal : IsLegalFrom w.first (history_of w.trail)
   pub map : (k : ℕ) → w.map 0 k ≡ final_map w.first (history_of w.trail) k
   pub since : (p : Name) (since : ℕ) → w.now.phase p ≡ Running since → since ≤ w.now.clock
+
+-- fresh pages are fresh by the trail, and live ones are not
+pub record AreNamed {P : Type 0} (w : World P) : Type 0 where
   pub fresh : (y : ℕ) → w.status y ≡ Fresh → IsFresh w.now w.trail y
   pub named : (y : ℕ) → IsLive (w.status y) → IsFresh w.now w.trail y → ⊥
 
@@ -206,9 +209,19 @@ pub record IsGood {P : Type 0} (know : P → Know) (w : World P) : Type 0 where
   pub tree : IsTree unbounded (tree_of w)
   pub owned : AreOwned know w
   pub recorded : IsRecorded w
+  pub names : AreNamed w
   pub gone : (x : ℕ) → w.status x ≡ Gone → IsGone w x
   pub middles : (x y : ℕ) → w.status y ≡ Right x → HasMiddle know w x y
   pub sure : (p : Name) → IsSure w p (know (w.proc p))
+
+-- what the map has to do with what is said at an event
+abbrev pub MapsTo : Map → Map → Option Said → Type 0
+MapsTo m m' None = (k : ℕ) → m' k ≡ m k
+MapsTo m m' (Some said) = MayAnswer m said.op said.reply × ((k : ℕ) → m' k ≡ map_step said.op said.reply m k)
+
+-- an event at which nothing is seen and nothing said
+abbrev pub silent : Name → Act Page Reply → Mark
+silent p act = record { event = record { process = p; act = act }; saw = None; said = None }
 
 -- One event of p, after which p is b. The trail has one mark more, of that event.
 pub record Extends {P : Type 0} (w w' : World P) (m : Mark) (b : P) : Type 0 where
