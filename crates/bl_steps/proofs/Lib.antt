@@ -2,3 +2,4 @@ pub mod Pushes
 pub mod Frames
 pub mod Steady
 pub mod Records
+pub mod Names

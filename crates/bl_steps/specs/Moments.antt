@@ -25,13 +25,17 @@ pub record After (marks : Trail) (Last : Act Page Reply → Type 0) : Type 0 whe
   pub is : Last last.event.act
   pub never_again : (mark : Mark) → Contains since mark → Last mark.event.act → ⊥
 
+-- these are the marks of a process that took the page, has not got it otherwise since, and has put no other page since
+pub record IsFreshBy (marks : Trail) (y : ℕ) : Type 0 where
+  pub taken : After marks (λ a. (a ≡ Act.Take y) ⊎ (a ≡ Act.Latch y))
+  pub by_take : taken.last.event.act ≡ Act.Take y
+  pub put_no_other : (x : ℕ) → x ≢ y → Puts taken.since x → ⊥
+
 -- Fresh: a process holds the page since it took it, and has put no other page since. So no page names it yet.
 pub record IsFresh (s : State Page) (trail : Trail) (y : ℕ) : Type 0 where
   pub holder : Name
   pub held : s.owner y ≡ Held holder
-  pub taken : After (marks_of holder trail) (λ a. (a ≡ Act.Take y) ⊎ (a ≡ Act.Latch y))
-  pub by_take : taken.last.event.act ≡ Act.Take y
-  pub put_no_other : (x : ℕ) → x ≢ y → Puts taken.since x → ⊥
+  pub by : IsFreshBy (marks_of holder trail) y
 
 -- Live: open or held, a leaf or an inner page, and not fresh.
 pub record IsLivePage (s : State Page) (trail : Trail) (x : ℕ) : Type 0 where
