@@ -3,3 +3,4 @@ pub mod Frames
 pub mod Steady
 pub mod Records
 pub mod Names
+pub mod Ghosts

@@ -1,0 +1,96 @@
+-- Events that change no page's contents: the tree stays as it is.
+use Rattle.std.proofs.Common.{ℕ, ◌≡◌, ◌≢◌, ◌⊎◌, ◌≤◌, ◌<◌, ◌++◌, Bool, true, false, Option, Some, None, suc, List, [], ◌∷◌, subst, arith, ap, sym, ◌∙◌, refl, inl, inr}
+use Rattle.std.proofs.Math.Path.{fun_ext}
+use Rattle.bl_model.specs.declared.operation.Reply.{Reply}
+use Rattle.bl_page.specs.declared.page.Page.{Page}
+use Rattle.bl_page.specs.Machine.{Name, Owner, Phase, State, Act, IsAt}
+use Rattle.bl_page.specs.Machine.Owner.{Released, Held, Retired}
+use Rattle.bl_tree.specs.Nodes.{Node, unbounded}
+use Rattle.bl_tree.specs.Trees.{Status, IsLive, Tree, IsTree}
+use Rattle.bl_tree.specs.Trees.Status.{Fresh, Live, Right, Gone, Anchored}
+use Rattle.bl_laws.specs.Pages.{node_of, roots_of}
+use Rattle.bl_steps.specs.Trails.{Mark, Trail}
+use Rattle.bl_steps.specs.Worlds.{Know, World, nodes, tree_of, was_in, MayGet, MapsTo, IsSure, IsRelied, Child, Holds, HasMiddle, IsGone, AreOwned, AreNamed, IsRecorded, IsGood, Extends}
+use Rattle.bl_steps.proofs.Pushes.{name_cases, MaySay}
+use Rattle.bl_steps.proofs.Frames.{Leaves, all_sure}
+use Rattle.bl_steps.proofs.Steady.{Steady, was_live, may_still, passed_still, gone_still}
+use Rattle.bl_steps.proofs.Records.{IsInner, same_phases, record_inner}
+use Rattle.bl_steps.proofs.Names.{MayName, names_step}
+
+pub record SameGhosts {P : Type 0} (w w' : World P) : Type 0 where
+  pub contents : (x : ℕ) → w'.now.contents x ≡ w.now.contents x
+  pub status : w'.status ≡ w.status
+  pub sep : w'.sep ≡ w.sep
+  pub map : w'.map ≡ w.map
+
+pub same_tree : {P : Type 0} {w w' : World P} → SameGhosts w w' → IsTree unbounded (tree_of w) → IsTree unbounded (tree_of w')
+same_tree {w = w} {w' = w'} s g =
+    let c : w'.now.contents ≡ w.now.contents = fun_ext s.contents in
+    let e : tree_of w' ≡ tree_of w = λ i. record { node = λ x. node_of (c i x); roots = roots_of (c i 0); status = s.status i; sep = s.sep i; map = s.map i } in
+    subst (λ (t : Tree). IsTree unbounded t) (sym e) g
+
+pub middles_step : {P : Type 0} (know : P → Know) (w w' : World P) (m : Mark) (b : P) (x y : ℕ) → Extends w w' m b → (know b).middle ≡ (know (w.proc m.event.process)).middle → HasMiddle know w x y → HasMiddle know w' x y
+middles_step know w w' m b x y e same h = record {
+  by = h.by;
+  parent = h.parent;
+  is = elim (name_cases h.by m.event.process) [
+    | inl i ↦ rw (i, e.proc.at) (same ∙ rw (← i) h.is)
+    | inr i ↦ rw (e.proc.others h.by i) h.is
+  ];
+}
+
+-- who holds what, where only p gets or gives a page
+pub held_step : {P : Type 0} (know : P → Know) (w w' : World P) (m : Mark) (b : P) → Extends w w' m b → ((x : ℕ) → w'.now.owner x ≡ Held m.event.process → Holds (know b).holds x) → ((x : ℕ) (q : Name) → q ≢ m.event.process → w'.now.owner x ≡ Held q → w.now.owner x ≡ Held q) → AreOwned know w → (x : ℕ) (q : Name) → w'.now.owner x ≡ Held q → Holds (know (w'.proc q)).holds x
+held_step know w w' m b e own others g x q h = elim (name_cases q m.event.process) [
+  | inl i ↦ rw (i, e.proc.at) (own x (rw i at h))
+  | inr i ↦ rw (e.proc.others q i) (g.held x q (others x q i h))
+]
+
+-- An inner event that changes no contents, no status and no retirement.
+pub record Still {P : Type 0} (know : P → Know) (w w' : World P) (m : Mark) (b : P) : Type 0 where
+  pub extends : Extends w w' m b
+  pub inner : IsInner m.event.act
+  pub ghosts : SameGhosts w w'
+  pub retired : (x time : ℕ) → w.now.owner x ≡ Retired time → w'.now.owner x ≡ Retired time
+  pub retired_back : (x time : ℕ) → w'.now.owner x ≡ Retired time → w.now.owner x ≡ Retired time
+  pub others : (q : Name) (x : ℕ) → q ≢ m.event.process → w.now.owner x ≡ Held q → w'.now.owner x ≡ Held q
+  pub middle : (know b).middle ≡ (know (w.proc m.event.process)).middle
+
+pub still_steady : {P : Type 0} {know : P → Know} {w w' : World P} {m : Mark} {b : P} → Still know w w' m b → Steady w w'
+still_steady {w = w} {w' = w'} {m = m} s = record {
+  phase = same_phases w.now w'.now m.event.process m.event.act s.inner s.extends.steps.changes;
+  clock = s.extends.steps.on;
+  retired = s.retired;
+  retired_back = s.retired_back;
+  was = λ x h. rw s.ghosts.status h;
+  level = λ x h. ap (λ c. (node_of c).shape.level) (s.ghosts.contents x);
+}
+
+pub still_leaves : {P : Type 0} {know : P → Know} {w w' : World P} {m : Mark} {b : P} → Still know w w' m b → Leaves w w' m.event.process
+still_leaves {w = w} {w' = w'} s =
+    let steady = still_steady s in
+    record {
+      owner = λ q x n h. s.others q x n h;
+      contents = λ q x n h. s.ghosts.contents x;
+      status = λ q x n h. ap (λ f. f x) s.ghosts.status;
+      sep = λ q x n h. ap (λ f. f x) s.ghosts.sep;
+      relied = λ q c n h. (rw s.ghosts.status h.alive, ap (λ f. f c.at) s.ghosts.sep);
+      may = λ q x n h. may_still w w' steady q x h;
+      level = steady.level;
+      live_was = λ x h. was_live (w.status x) h;
+      phase = λ q n. steady.phase q;
+      passed = λ p h. passed_still w w' steady p h;
+    }
+
+pub still_keeps : {P : Type 0} (know : P → Know) (w w' : World P) (m : Mark) (b : P) → Still know w w' m b → MaySay w.trail m → MapsTo (w.map 0) (w'.map 0) m.said → MayName w w' m → AreOwned know w' → IsSure w' m.event.process (know b) → IsGood know w → IsGood know w'
+still_keeps know w w' m b s say maps name owned own g =
+    let steady = still_steady s in
+    record {
+      tree = same_tree s.ghosts g.tree;
+      owned = owned;
+      recorded = record_inner w w' m b s.extends s.inner say maps g.recorded;
+      names = names_step w w' m s.extends.trail name g.names;
+      gone = λ x h. let o : w.status x ≡ Gone = rw s.ghosts.status at h in gone_still w w' steady x o (ap node_of (s.ghosts.contents x)) (g.gone x o);
+      middles = λ x y h. middles_step know w w' m b x y s.extends s.middle (g.middles x y (rw s.ghosts.status at h));
+      sure = all_sure know w w' m b s.extends (still_leaves s) g.sure own;
+    }
