@@ -4,3 +4,4 @@ pub mod Steady
 pub mod Records
 pub mod Names
 pub mod Ghosts
+pub mod Watches
