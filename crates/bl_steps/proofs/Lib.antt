@@ -5,3 +5,4 @@ pub mod Records
 pub mod Names
 pub mod Ghosts
 pub mod Watches
+pub mod Latches
