@@ -55,6 +55,8 @@ pub record Still {P : Type 0} (know : P → Know) (w w' : World P) (m : Mark) (b
   pub retired_back : (x time : ℕ) → w'.now.owner x ≡ Retired time → w.now.owner x ≡ Retired time
   pub others : (q : Name) (x : ℕ) → q ≢ m.event.process → w.now.owner x ≡ Held q → w'.now.owner x ≡ Held q
   pub middle : (know b).middle ≡ (know (w.proc m.event.process)).middle
+  -- whoever holds a dead page held it, and still holds the page that it leads to
+  pub dead : (x : ℕ) (q : Name) → w.status x ≡ Gone → w'.now.owner x ≡ Held q → (w.now.owner x ≡ Held q) × (w.now.owner (nodes w.now x).shape.right ≡ Held q → w'.now.owner (nodes w.now x).shape.right ≡ Held q)
 
 pub still_steady : {P : Type 0} {know : P → Know} {w w' : World P} {m : Mark} {b : P} → Still know w w' m b → Steady w w'
 still_steady {w = w} {w' = w'} {m = m} s = record {
@@ -90,7 +92,12 @@ still_keeps know w w' m b s say maps name owned own g =
       owned = owned;
       recorded = record_inner w w' m b s.extends s.inner say maps g.recorded;
       names = names_step w w' m s.extends.trail name g.names;
-      gone = λ x h. let o : w.status x ≡ Gone = rw s.ghosts.status at h in gone_still w w' steady x o (ap node_of (s.ghosts.contents x)) (g.gone x o);
+      gone = λ x h.
+          let o : w.status x ≡ Gone = rw s.ghosts.status at h in
+          gone_still w w' steady x o (ap node_of (s.ghosts.contents x)) (λ q held.
+              let d = s.dead x q o held in
+              let old = (g.gone x o).not_yet q d.0 in
+              (d.0, d.1 old.0, rw s.ghosts.status old.1)) (g.gone x o);
       middles = λ x y h. middles_step know w w' m b x y s.extends s.middle (g.middles x y (rw s.ghosts.status at h));
       sure = all_sure know w w' m b s.extends (still_leaves s) g.sure own;
     }

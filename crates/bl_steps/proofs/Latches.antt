@@ -29,6 +29,7 @@ Latches-keeps know w w' p x b s g =
     let back : (y : ℕ) → y ≢ x → w'.now.owner y ≡ w.now.owner y = owner.others in
     let not_x : (y : ℕ) (o : Owner) → w'.now.owner y ≡ o → o ≢ Held p → y ≢ x = λ y o h n i. n (sym h ∙ (ap w'.now.owner i ∙ owner.at)) in
     let was_not_x : (y : ℕ) (o : Owner) → w.now.owner y ≡ o → o ≢ Owner.Open → y ≢ x = λ y o h n i. n (sym h ∙ (ap w.now.owner i ∙ was)) in
+    let not_gone : w.status x ≢ Gone = λ e. elim (g.owned.opened x was) [ inl o ↦ cc | inr o ↦ cc ] in
     let still : Still know w w' (silent p (Latch x)) b = record {
       extends = s.extends;
       inner = (λ e. cc, λ a e. cc);
@@ -37,6 +38,7 @@ Latches-keeps know w w' p x b s g =
       retired_back = λ y t h. sym (back y (not_x y (Retired t) h (λ e. cc))) ∙ h;
       others = λ q y n h. back y (was_not_x y (Held q) h (λ e. cc)) ∙ h;
       middle = s.middle;
+      dead = λ y q d h. (sym (back y (λ i. not_gone (ap w.status (sym i) ∙ d))) ∙ h, λ e. back _ (was_not_x _ (Held q) e (λ v. cc)) ∙ e);
     } in
     still_keeps know w w' (silent p (Latch x)) b still (may_say know w (silent p (Latch x)) still.inner (λ said h. cc) g) (λ k. ap (λ f. f 0 k) s.ghost.map)
       (record {
@@ -70,6 +72,8 @@ pub record Opens {P : Type 0} (know : P → Know) (w w' : World P) (p : Name) (x
   pub extends : Extends w w' (silent p (Act.Open x)) b
   pub ghost : SameGhost w w'
   pub named : (w.status x ≡ Live) ⊎ (w.status x ≡ Anchored)
+  -- a page that p has marked dead it retires before it opens another
+  pub no_dead : (y : ℕ) → w.status y ≡ Gone → w.now.owner y ≢ Held p
   pub middle : (know b).middle ≡ (know (w.proc p)).middle
   pub places : (y : ℕ) → y ≢ x → Holds (know (w.proc p)).holds y → Holds (know b).holds y
   pub learns : Learns w w' (silent p (Act.Open x)) (know b)
@@ -84,6 +88,7 @@ Opens-keeps know w w' p x b s g =
     let not_x : (y : ℕ) (o : Owner) → w'.now.owner y ≡ o → o ≢ Owner.Open → y ≢ x = λ y o h n i. n (sym h ∙ (ap w'.now.owner i ∙ owner.at)) in
     let was_not_x : (y : ℕ) (o : Owner) → w.now.owner y ≡ o → o ≢ Held p → y ≢ x = λ y o h n i. n (sym h ∙ (ap w.now.owner i ∙ was)) in
     let not_fresh : w.status x ≢ Fresh = λ e. elim s.named [ inl o ↦ cc | inr o ↦ cc ] in
+    let not_gone : w.status x ≢ Gone = λ e. elim s.named [ inl o ↦ cc | inr o ↦ cc ] in
     let still : Still know w w' (silent p (Act.Open x)) b = record {
       extends = s.extends;
       inner = (λ e. cc, λ a e. cc);
@@ -92,6 +97,9 @@ Opens-keeps know w w' p x b s g =
       retired_back = λ y t h. sym (back y (not_x y (Retired t) h (λ e. cc))) ∙ h;
       others = λ q y n h. back y (was_not_x y (Held q) h (λ e. n cc)) ∙ h;
       middle = s.middle;
+      dead = λ y q d h.
+          let was_held : w.now.owner y ≡ Held q = sym (back y (λ i. not_gone (ap w.status (sym i) ∙ d))) ∙ h in
+          (was_held, λ e. back _ (was_not_x _ (Held q) e (λ v. s.no_dead y d (let i : q ≡ p = cc in was_held ∙ ap Held i))) ∙ e);
     } in
     still_keeps know w w' (silent p (Act.Open x)) b still (may_say know w (silent p (Act.Open x)) still.inner (λ said h. cc) g) (λ k. ap (λ f. f 0 k) s.ghost.map)
       (record {

@@ -55,15 +55,16 @@ module _ {P : Type 0} (w w' : World P) (s : Steady w w') where
   passed_still p h = (omega (arith, h.0, s.clock), λ q since below runs. h.1 q since below (sym (s.phase q) ∙ runs))
 
   -- a dead page that is not put
-  pub gone_still : (x : ℕ) → w.status x ≡ Gone → nodes w'.now x ≡ nodes w.now x → IsGone w x → IsGone w' x
-  gone_still x e n h =
+  pub gone_still : (x : ℕ) → w.status x ≡ Gone → nodes w'.now x ≡ nodes w.now x → ((q : Name) → w'.now.owner x ≡ Held q → (w.now.owner x ≡ Held q) × (w'.now.owner (nodes w.now x).shape.right ≡ Held q) × IsLive (w'.status (nodes w.now x).shape.right)) → IsGone w x → IsGone w' x
+  gone_still x e n yet h =
       let was : was_in (w.status x) ≡ true = rw e was_gone in
       record {
         end = rw n h.end;
         leads = λ p may.
             let old = h.leads p (may_before p x was may) in
             rw n (may_still p (nodes w.now x).shape.right old.0, s.level (nodes w.now x).shape.right old.0.was ∙ old.1);
-        not_yet = λ f.
-            let old = h.not_yet (λ t i. f t (s.retired x t i)) in
-            rw n (s.was (nodes w.now x).shape.right old.0, λ t i. old.1 t (s.retired_back (nodes w.now x).shape.right t i), s.level (nodes w.now x).shape.right old.0 ∙ old.2);
+        not_yet = λ q held.
+            let now = yet q held in
+            let old = h.not_yet q now.0 in
+            rw n (now.1, now.2, s.level (nodes w.now x).shape.right (was_live (w.status (nodes w.now x).shape.right) old.1) ∙ old.2);
       }
