@@ -6,3 +6,4 @@ pub mod Names
 pub mod Ghosts
 pub mod Watches
 pub mod Latches
+pub mod Outside
