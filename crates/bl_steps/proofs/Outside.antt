@@ -123,3 +123,200 @@ Takes-keeps know w w' p x b s g =
         passed = λ a h. passed_still w w' steady a h;
       })
       s.own g
+
+-- p retires page x, which is dead
+pub record Retires {P : Type 0} (know : P → Know) (w w' : World P) (p : Name) (x : ℕ) (b : P) : Type 0 where
+  pub extends : Extends w w' (silent p (Retire x)) b
+  pub gone : w.status x ≡ Gone
+  pub status : w'.status ≡ w.status
+  pub sep : w'.sep ≡ w.sep
+  pub map : w'.map ≡ w.map
+  pub middle : (know b).middle ≡ (know (w.proc p)).middle
+  pub places : (y : ℕ) → y ≢ x → Holds (know (w.proc p)).holds y → Holds (know b).holds y
+  pub own : IsSure w' p (know b)
+
+pub Retires-keeps : {P : Type 0} (know : P → Know) (w w' : World P) (p : Name) (x : ℕ) (b : P) → Retires know w w' p x b → IsGood know w → IsGood know w'
+Retires-keeps know w w' p x b s g =
+    let change = s.extends.steps.changes in
+    let owner = change.3.1 in
+    let on = s.extends.steps.on in
+    let was : w.now.owner x ≡ Held p = s.extends.steps.enabled in
+    let back : (y : ℕ) → y ≢ x → w'.now.owner y ≡ w.now.owner y = owner.others in
+    let not_x : (y : ℕ) (o : Owner) → w'.now.owner y ≡ o → o ≢ Retired change.0 → y ≢ x = λ y o h n i. n (sym h ∙ (ap w'.now.owner i ∙ owner.at)) in
+    let was_not_x : (y : ℕ) (o : Owner) → w.now.owner y ≡ o → o ≢ Held p → y ≢ x = λ y o h n i. n (sym h ∙ (ap w.now.owner i ∙ was)) in
+    let status_was_not : (y : ℕ) (a : Status) → w.status y ≡ a → a ≢ Gone → y ≢ x = λ y a h n i. n (sym h ∙ (ap w.status i ∙ s.gone)) in
+    let live_was_not : (y : ℕ) → IsLive (w.status y) → y ≢ x = λ y h. not_dead w.status x y (rw s.gone gone_dead) h in
+    let inner : IsInner (Retire x) = (λ e. cc, λ a e. cc) in
+    let node : (y : ℕ) → nodes w'.now y ≡ nodes w.now y = λ y. ap node_of (change.3.0 y) in
+    let may : (q : Name) (y : ℕ) → MayGet w q y → MayGet w' q y = λ q y h. record {
+      since = h.since;
+      runs = change.3.2 q ∙ h.runs;
+      was = rw s.status h.was;
+      kept = λ t e. elim (cases_eq y x) [
+        | inl i ↦
+            let f : Retired t ≡ Retired change.0 = sym e ∙ (ap w'.now.owner i ∙ owner.at) in
+            let v : t ≡ change.0 = cc in
+            let old = g.recorded.since q h.since h.runs in
+            omega (arith, change.1)
+        | inr i ↦ h.kept t (sym (back y i) ∙ e)
+      ];
+    } in
+    let may_back : (q : Name) (y : ℕ) → MayGet w' q y → MayGet w q y = λ q y h. record {
+      since = h.since;
+      runs = sym (change.3.2 q) ∙ h.runs;
+      was = rw s.status at h.was;
+      kept = λ t e. h.kept t (back y (was_not_x y (Retired t) e (λ v. cc)) ∙ e);
+    } in
+    inner_keeps know w w' (silent p (Retire x)) b s.extends inner
+      (Aside-keeps {x = x} {t = tree_of w} {t' = tree_of w'} (record {
+        dead = rw s.gone gone_dead;
+        dead_after = rw (s.status, s.gone) gone_dead;
+        other = λ i. (let a : w.status x ≡ Anchored = rw i g.tree.anchored in cc (s.gone));
+        node = λ z n. node z;
+        status = λ z n. ap (λ f. f z) s.status;
+        sep = λ z n. ap (λ f. f z) s.sep;
+        roots = ap roots_of (change.3.0 0);
+        map = s.map;
+      }) g.tree)
+      (record {
+        released = λ y h. rw s.status (g.owned.released y (sym (back y (not_x y Released h (λ e. cc))) ∙ h));
+        free = λ y h. let o = g.owned.free y (rw s.status at h) in back y (was_not_x y Released o (λ e. cc)) ∙ o;
+        opened = λ y h. rw s.status (g.owned.opened y (sym (back y (not_x y Owner.Open h (λ e. cc))) ∙ h));
+        retired = λ y t h. elim (cases_eq y x) [
+          | inl i ↦ (rw (s.status, i) s.gone, (let f : Retired t ≡ Retired change.0 = sym h ∙ (ap w'.now.owner i ∙ owner.at) in let v : t ≡ change.0 = cc in omega (arith, change.2)))
+          | inr i ↦ let o = g.owned.retired y t (sym (back y i) ∙ h) in (rw s.status o.0, omega (arith, o.1))
+        ];
+        held = held_step know w w' (silent p (Retire x)) b s.extends
+          (λ y h. let n = not_x y (Held p) h (λ e. cc) in s.places y n (g.owned.held y p (sym (back y n) ∙ h)))
+          (λ y q n h. sym (back y (not_x y (Held q) h (λ e. cc))) ∙ h) g.owned;
+        small = λ y h. rw s.extends.size (g.owned.small y (rw s.status at h));
+        one_anchor = λ y h. g.owned.one_anchor y (rw s.status at h);
+      })
+      (may_say know w (silent p (Retire x)) inner (λ said h. cc) g)
+      (λ k. ap (λ f. f 0 k) s.map)
+      (record {
+        fresh = λ y h.
+            let f : w.status y ≡ Fresh = rw s.status at h in
+            inr (f, λ q e. back y (status_was_not y Fresh f (λ v. cc)) ∙ e, λ e. cc, λ e. cc, λ z c n e o. cc);
+        not_taken = λ y h e. cc;
+        live = λ y h. let l : IsLive (w.status y) = rw s.status at h in inl (l, λ q e. inl (sym (back y (live_was_not y l)) ∙ e));
+      })
+      (λ y h.
+        let o : w.status y ≡ Gone = rw s.status at h in
+        let old = g.gone y o in
+        record {
+          end = rw (node y) old.end;
+          leads = λ q m. let k = old.leads q (may_back q y m) in rw (node y) (may q (nodes w.now y).shape.right k.0, ap (λ v. v.shape.level) (node (nodes w.now y).shape.right) ∙ k.1);
+          not_yet = λ q held.
+              let v = sym (back y (not_x y (Held q) held (λ e. cc))) ∙ held in
+              let k = old.not_yet q v in
+              rw (node y) (back _ (live_was_not _ k.1) ∙ k.0, rw s.status k.1, ap (λ v. v.shape.level) (node (nodes w.now y).shape.right) ∙ k.2);
+        })
+      (λ a y h. middles_step know w w' (silent p (Retire x)) b a y s.extends s.middle (g.middles a y (rw s.status at h)))
+      (record {
+        owner = λ q y n h. back y (was_not_x y (Held q) h (λ e. n cc)) ∙ h;
+        contents = λ q y n h. change.3.0 y;
+        status = λ q y n h. ap (λ f. f y) s.status;
+        sep = λ q y n h. ap (λ f. f y) s.sep;
+        relied = λ q c n h. (rw s.status h.alive, ap (λ f. f c.at) s.sep);
+        may = λ q y n h. may q y h;
+        level = λ y h. ap (λ v. v.shape.level) (node y);
+        live_was = λ y h. was_live (w.status y) h;
+        phase = λ q n. change.3.2 q;
+        passed = λ a h. (omega (arith, h.0), λ q since below runs. h.1 q since below (sym (change.3.2 q) ∙ runs));
+      })
+      s.own g
+
+-- p releases page x, which was retired before every process that runs began
+pub record Releases {P : Type 0} (know : P → Know) (w w' : World P) (p : Name) (x : ℕ) (b : P) : Type 0 where
+  pub extends : Extends w w' (silent p (Release x)) b
+  pub status : IsAt x Free w.status w'.status
+  pub sep : w'.sep ≡ w.sep
+  pub map : w'.map ≡ w.map
+  pub middle : (know b).middle ≡ (know (w.proc p)).middle
+  pub places : (y : ℕ) → Holds (know (w.proc p)).holds y → Holds (know b).holds y
+  pub own : IsSure w' p (know b)
+
+pub Releases-keeps : {P : Type 0} (know : P → Know) (w w' : World P) (p : Name) (x : ℕ) (b : P) → Releases know w w' p x b → IsGood know w → IsGood know w'
+Releases-keeps know w w' p x b s g =
+    let change = s.extends.steps.changes in
+    let owner = change.1 in
+    let u = s.status in
+    let on = s.extends.steps.on in
+    let enabled = s.extends.steps.enabled in
+    let was : w.now.owner x ≡ Retired enabled.0 = enabled.1 in
+    let gone : w.status x ≡ Gone = (g.owned.retired x enabled.0 was).0 in
+    let back : (y : ℕ) → y ≢ x → w'.now.owner y ≡ w.now.owner y = owner.others in
+    let not_x : (y : ℕ) (o : Owner) → w'.now.owner y ≡ o → o ≢ Released → y ≢ x = λ y o h n i. n (sym h ∙ (ap w'.now.owner i ∙ owner.at)) in
+    let was_held_not : (y : ℕ) (q : Name) → w.now.owner y ≡ Held q → y ≢ x = λ y q h i. (let v : Held q ≡ Retired enabled.0 = sym h ∙ (ap w.now.owner i ∙ was) in cc) in
+    let status_not : (y : ℕ) (a : Status) → w'.status y ≡ a → a ≢ Free → y ≢ x = λ y a h n i. n (sym h ∙ (ap w'.status i ∙ u.at)) in
+    let live_not : (y : ℕ) → IsLive (w'.status y) → y ≢ x = λ y h. not_dead w'.status x y (rw u.at free_dead) h in
+    let live_was_not : (y : ℕ) → IsLive (w.status y) → y ≢ x = λ y h. not_dead w.status x y (rw gone gone_dead) h in
+    let inner : IsInner (Release x) = (λ e. cc, λ a e. cc) in
+    let node : (y : ℕ) → nodes w'.now y ≡ nodes w.now y = λ y. ap node_of (change.0 y) in
+    let kept : (q : Name) (y : ℕ) → MayGet w q y → y ≢ x = λ q y h i. absurd (let t = h.kept enabled.0 (ap w.now.owner i ∙ was) in let o = enabled.2 q h.since h.runs in omega arith) in
+    let may : (q : Name) (y : ℕ) → MayGet w q y → MayGet w' q y = λ q y h. record {
+      since = h.since;
+      runs = change.2 q ∙ h.runs;
+      was = rw (u.others y (kept q y h)) h.was;
+      kept = λ t e. h.kept t (sym (back y (kept q y h)) ∙ e);
+    } in
+    let may_back : (q : Name) (y : ℕ) → y ≢ x → MayGet w' q y → MayGet w q y = λ q y n h. record {
+      since = h.since;
+      runs = sym (change.2 q) ∙ h.runs;
+      was = rw (u.others y n) at h.was;
+      kept = λ t e. h.kept t (back y n ∙ e);
+    } in
+    inner_keeps know w w' (silent p (Release x)) b s.extends inner
+      (Aside-keeps {x = x} {t = tree_of w} {t' = tree_of w'} (record {
+        dead = rw gone gone_dead;
+        dead_after = rw u.at free_dead;
+        other = λ i. (let a : w.status x ≡ Anchored = rw i g.tree.anchored in cc);
+        node = λ z n. node z;
+        status = u.others;
+        sep = λ z n. ap (λ f. f z) s.sep;
+        roots = ap roots_of (change.0 0);
+        map = s.map;
+      }) g.tree)
+      (record {
+        released = λ y h. elim (cases_eq y x) [ inl i ↦ rw i u.at | inr i ↦ u.others y i ∙ g.owned.released y (sym (back y i) ∙ h) ];
+        free = λ y h. elim (cases_eq y x) [ inl i ↦ rw i owner.at | inr i ↦ back y i ∙ g.owned.free y (sym (u.others y i) ∙ h) ];
+        opened = λ y h. let n = not_x y Owner.Open h (λ e. cc) in rw (u.others y n) (g.owned.opened y (sym (back y n) ∙ h));
+        retired = λ y t h. let n = not_x y (Retired t) h (λ e. cc) in let o = g.owned.retired y t (sym (back y n) ∙ h) in (u.others y n ∙ o.0, omega (arith, o.1));
+        held = held_step know w w' (silent p (Release x)) b s.extends
+          (λ y h. s.places y (g.owned.held y p (sym (back y (not_x y (Held p) h (λ e. cc))) ∙ h)))
+          (λ y q n h. sym (back y (not_x y (Held q) h (λ e. cc))) ∙ h) g.owned;
+        small = λ y h. rw s.extends.size (elim (cases_eq y x) [ inl i ↦ absurd (h (rw i u.at)) | inr i ↦ g.owned.small y (λ e. h (u.others y i ∙ e)) ]);
+        one_anchor = λ y h. g.owned.one_anchor y (sym (u.others y (status_not y Anchored h (λ e. cc))) ∙ h);
+      })
+      (may_say know w (silent p (Release x)) inner (λ said h. cc) g)
+      (λ k. ap (λ f. f 0 k) s.map)
+      (record {
+        fresh = λ y h. let n = status_not y Fresh h (λ e. cc) in inr (sym (u.others y n) ∙ h, λ q e. back y n ∙ e, λ e. cc, λ e. cc, λ z c m e o. cc);
+        not_taken = λ y h e. cc;
+        live = λ y h. let n = live_not y h in inl (rw (u.others y n) at h, λ q e. inl (sym (back y n) ∙ e));
+      })
+      (λ y h.
+        let n = status_not y Gone h (λ e. cc) in
+        let old = g.gone y (sym (u.others y n) ∙ h) in
+        record {
+          end = rw (node y) old.end;
+          leads = λ q m. let k = old.leads q (may_back q y n m) in rw (node y) (may q (nodes w.now y).shape.right k.0, ap (λ v. v.shape.level) (node (nodes w.now y).shape.right) ∙ k.1);
+          not_yet = λ q held.
+              let k = old.not_yet q (sym (back y n) ∙ held) in
+              rw (node y) (back _ (live_was_not _ k.1) ∙ k.0, rw (u.others _ (live_was_not _ k.1)) k.1, ap (λ v. v.shape.level) (node (nodes w.now y).shape.right) ∙ k.2);
+        })
+      (λ a y h. middles_step know w w' (silent p (Release x)) b a y s.extends s.middle (g.middles a y (sym (u.others y (status_not y (Right a) h (λ e. cc))) ∙ h)))
+      (record {
+        owner = λ q y n h. back y (was_held_not y q h) ∙ h;
+        contents = λ q y n h. change.0 y;
+        status = λ q y n h. u.others y (was_held_not y q h);
+        sep = λ q y n h. ap (λ f. f y) s.sep;
+        relied = λ q c n h. (rw (u.others c.at (live_was_not c.at h.alive)) h.alive, ap (λ f. f c.at) s.sep);
+        may = λ q y n h. may q y h;
+        level = λ y h. ap (λ v. v.shape.level) (node y);
+        live_was = λ y h. was_live (w.status y) h;
+        phase = λ q n. change.2 q;
+        passed = λ a h. (omega (arith, h.0), λ q since below runs. h.1 q since below (sym (change.2 q) ∙ runs));
+      })
+      s.own g
