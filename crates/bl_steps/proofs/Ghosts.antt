@@ -23,8 +23,8 @@ pub record SameGhosts {P : Type 0} (w w' : World P) : Type 0 where
   pub sep : w'.sep ≡ w.sep
   pub map : w'.map ≡ w.map
 
-pub same_tree : {P : Type 0} {w w' : World P} → SameGhosts w w' → IsTree unbounded (tree_of w) → IsTree unbounded (tree_of w')
-same_tree {w = w} {w' = w'} s g =
+pub same_tree : {P : Type 0} (w w' : World P) → SameGhosts w w' → IsTree unbounded (tree_of w) → IsTree unbounded (tree_of w')
+same_tree w w' s g =
     let c : w'.now.contents ≡ w.now.contents = fun_ext s.contents in
     let e : tree_of w' ≡ tree_of w = λ i. record { node = λ x. node_of (c i x); roots = roots_of (c i 0); status = s.status i; sep = s.sep i; map = s.map i } in
     subst (λ (t : Tree). IsTree unbounded t) (sym e) g
@@ -88,7 +88,7 @@ pub still_keeps : {P : Type 0} (know : P → Know) (w w' : World P) (m : Mark) (
 still_keeps know w w' m b s say maps name owned own g =
     let steady = still_steady s in
     record {
-      tree = same_tree s.ghosts g.tree;
+      tree = same_tree w w' s.ghosts g.tree;
       owned = owned;
       recorded = record_inner w w' m b s.extends s.inner say maps g.recorded;
       names = names_step w w' m s.extends.trail name g.names;
