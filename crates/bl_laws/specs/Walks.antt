@@ -1,5 +1,5 @@
 -- The lone walk of a key: the pages that a search would meet if nothing changed meanwhile.
-use Rattle.std.specs.Prelude.{◌≡◌, ◌≢◌, ℕ, suc, ◌<◌, ◌≤◌, Some, None, List, [], ◌∷◌}
+use Rattle.std.specs.Prelude.{◌≡◌, ◌≢◌, ℕ, suc, ◌<◌, ◌≤◌, Some, List, [], ◌∷◌}
 use Rattle.bl_tree.specs.Nodes.{Node, Look, Covers, Roots}
 
 -- The child of a key: the one listed with the greatest key that is not above it.

@@ -1,21 +1,19 @@
 -- A process begins, and ends.
-use Rattle.std.proofs.Common.{ℕ, ◌≡◌, ◌≢◌, ◌⊎◌, ◌≤◌, ◌<◌, ◌++◌, Bool, true, false, Option, Some, None, suc, List, [], ◌∷◌, arith, ap, sym, ◌∙◌, refl, inl, inr}
-use Rattle.std.proofs.lemmas.Bool.{cases_eq}
+use Rattle.std.proofs.Common.{ℕ, ◌≡◌, ◌≢◌, ◌⊎◌, Option, Some, arith, ap, sym, ◌∙◌, refl, inl, inr}
 use Rattle.bl_model.specs.declared.operation.Reply.{Reply}
-use Rattle.bl_page.specs.Machine.{Name, Owner, Phase, State, Act, IsAt}
+use Rattle.bl_page.specs.Machine.{Name, Owner, Phase, Act, IsAt}
 use Rattle.bl_page.specs.Machine.Owner.{Released, Held, Retired}
 use Rattle.bl_page.specs.Machine.Act.{Begin, End}
-use Rattle.bl_page.specs.Machine.Phase.{Waiting, Running, Ended}
-use Rattle.bl_tree.specs.Trees.{Status, IsLive}
-use Rattle.bl_tree.specs.Trees.Status.{Free, Fresh, Live, Gone, Anchored}
+use Rattle.bl_page.specs.Machine.Phase.{Running, Ended}
+use Rattle.bl_tree.specs.Trees.Status.{Gone}
 use Rattle.bl_laws.specs.Pages.{node_of}
-use Rattle.bl_steps.specs.Trails.{Said, Mark, Trail, Answered}
-use Rattle.bl_steps.specs.Worlds.{Passed, Know, World, nodes, was_in, MayGet, IsPassed, IsSure, Holds, IsGone, AreOwned, IsRecorded, IsGood, Extends, silent}
-use Rattle.bl_steps.proofs.Pushes.{name_cases}
-use Rattle.bl_steps.proofs.Frames.{Leaves, all_sure}
-use Rattle.bl_steps.proofs.Steady.{was_live, was_gone}
+use Rattle.bl_trails.specs.Trails.{Mark, Answered}
+use Rattle.bl_steps.specs.Worlds.{Passed, Know, World, nodes, MayGet, IsPassed, IsSure, Holds, AreOwned, IsRecorded, IsGood, Extends, silent}
+use Rattle.bl_trails.proofs.Pushes.{name_cases}
+use Rattle.bl_steps.proofs.Frames.{all_sure}
+use Rattle.bl_steps.proofs.Steady.{was_live}
 use Rattle.bl_steps.proofs.Records.{record_begin, record_end}
-use Rattle.bl_steps.proofs.Names.{MayName, names_step}
+use Rattle.bl_steps.proofs.Names.{names_step}
 use Rattle.bl_steps.proofs.Ghosts.{same_tree, middles_step, held_step}
 use Rattle.bl_steps.proofs.Watches.{SameGhost}
 
@@ -130,10 +128,13 @@ Begins-keeps know w w' p b s g =
             let le = h.kept o.0 (change.1 x ∙ o.1) in
             omega (arith, change.2.1))
       ];
-      passed = λ a h. (omega (arith, h.0), λ q since below runs. elim (name_cases q p) [
-        | inl i ↦ let f : Running since ≡ Running change.2.0 = sym runs ∙ (ap w'.now.phase i ∙ change.2.3.at) in let v : since ≡ change.2.0 = cc in omega (arith, h.0, change.2.1)
-        | inr i ↦ h.1 q since below (sym (change.2.3.others q i) ∙ runs)
-      ]);
+      passed = λ a h. (
+        omega (arith, h.0),
+        λ q since below runs. elim (name_cases q p) [
+          | inl i ↦ let f : Running since ≡ Running change.2.0 = sym runs ∙ (ap w'.now.phase i ∙ change.2.3.at) in let v : since ≡ change.2.0 = cc in omega (arith, h.0, change.2.1)
+          | inr i ↦ h.1 q since below (sym (change.2.3.others q i) ∙ runs)
+        ],
+      );
     }) g
 
 pub record Finishes {P : Type 0} (know : P → Know) (w w' : World P) (p : Name) (answer : Option Reply) (b : P) : Type 0 where
@@ -161,8 +162,11 @@ Finishes-keeps know w w' p answer b s g =
       own = s.own;
       recorded = record_end w w' p answer b s.extends s.told (λ k. ap (λ f. f 0 k) s.ghost.map) g.recorded;
       leads = λ x d h. (let f : Running h.since ≡ Ended = sym h.runs ∙ change.2.at in cc);
-      passed = λ a h. (omega (arith, h.0), λ q since below runs. elim (name_cases q p) [
-        | inl i ↦ (let f : Running since ≡ Ended = sym runs ∙ (ap w'.now.phase i ∙ change.2.at) in cc)
-        | inr i ↦ h.1 q since below (sym (change.2.others q i) ∙ runs)
-      ]);
+      passed = λ a h. (
+        omega (arith, h.0),
+        λ q since below runs. elim (name_cases q p) [
+          | inl i ↦ (let f : Running since ≡ Ended = sym runs ∙ (ap w'.now.phase i ∙ change.2.at) in cc)
+          | inr i ↦ h.1 q since below (sym (change.2.others q i) ∙ runs)
+        ],
+      );
     }) g

@@ -1,16 +1,11 @@
 -- What one process does leaves to all others what they know.
-use Rattle.std.proofs.Common.{ℕ, ◌≡◌, ◌≢◌, ◌⊎◌, ◌≤◌, ◌<◌, ◌++◌, Bool, true, false, Option, Some, None, suc, List, [], ◌∷◌, arith, ap, sym, ◌∙◌, refl, inl, inr}
-use Rattle.bl_page.specs.declared.page.Page.{Page}
-use Rattle.bl_page.specs.Machine.{Name, Owner, Phase, State, IsAt}
-use Rattle.bl_page.specs.Machine.Owner.{Held, Retired}
-use Rattle.bl_page.specs.Machine.Phase.{Running}
-use Rattle.bl_tree.specs.Nodes.{Shape, Node, Covers}
-use Rattle.bl_tree.specs.Trees.{Status, IsLive}
-use Rattle.bl_tree.specs.Trees.Status.{Live}
-use Rattle.bl_laws.specs.Pages.{node_of}
-use Rattle.bl_steps.specs.Trails.{Said, Mark, Trail, marks_of}
-use Rattle.bl_steps.specs.Worlds.{Hold, Goes, Child, Passed, Stage, Know, World, nodes, Each, IsStage, HasSaid, IfKnown, was_in, MayGet, IsHeld, IsGoes, IsRelied, IsPassed, IsSure, Extends}
-use Rattle.bl_steps.proofs.Pushes.{name_cases, HasSaid-other, marks_of-other}
+use Rattle.std.proofs.Common.{ℕ, ◌≡◌, ◌≢◌, true, Option, Some, None, List, [], ◌∷◌, sym, ◌∙◌, inl, inr}
+use Rattle.bl_page.specs.Machine.{Name}
+use Rattle.bl_page.specs.Machine.Owner.{Held}
+use Rattle.bl_tree.specs.Trees.{IsLive}
+use Rattle.bl_trails.specs.Trails.{Mark}
+use Rattle.bl_steps.specs.Worlds.{Hold, Goes, Child, Passed, Know, World, nodes, Each, was_in, MayGet, IsHeld, IsGoes, IsRelied, IsPassed, IsSure, Extends}
+use Rattle.bl_trails.proofs.Pushes.{name_cases, HasSaid-other, marks_of-other}
 
 pub Each-map : {A : Type 0} (P Q : A → Type 0) (xs : List A) → ((x : A) → P x → Q x) → Each P xs → Each Q xs
 Each-map P Q [] f h = tt

@@ -1,17 +1,15 @@
 -- Events that change no page's contents: the tree stays as it is.
-use Rattle.std.proofs.Common.{ℕ, ◌≡◌, ◌≢◌, ◌⊎◌, ◌≤◌, ◌<◌, ◌++◌, Bool, true, false, Option, Some, None, suc, List, [], ◌∷◌, subst, arith, ap, sym, ◌∙◌, refl, inl, inr}
+use Rattle.std.proofs.Common.{ℕ, ◌≡◌, ◌≢◌, subst, ap, sym, ◌∙◌, inl, inr}
 use Rattle.std.proofs.Math.Path.{fun_ext}
-use Rattle.bl_model.specs.declared.operation.Reply.{Reply}
-use Rattle.bl_page.specs.declared.page.Page.{Page}
-use Rattle.bl_page.specs.Machine.{Name, Owner, Phase, State, Act, IsAt}
-use Rattle.bl_page.specs.Machine.Owner.{Released, Held, Retired}
-use Rattle.bl_tree.specs.Nodes.{Node, unbounded}
-use Rattle.bl_tree.specs.Trees.{Status, IsLive, Tree, IsTree}
-use Rattle.bl_tree.specs.Trees.Status.{Fresh, Live, Right, Gone, Anchored}
+use Rattle.bl_page.specs.Machine.{Name}
+use Rattle.bl_page.specs.Machine.Owner.{Held, Retired}
+use Rattle.bl_tree.specs.Nodes.{unbounded}
+use Rattle.bl_tree.specs.Trees.{Tree, IsTree}
+use Rattle.bl_tree.specs.Trees.Status.{Gone}
 use Rattle.bl_laws.specs.Pages.{node_of, roots_of}
-use Rattle.bl_steps.specs.Trails.{Mark, Trail}
-use Rattle.bl_steps.specs.Worlds.{Know, World, nodes, tree_of, was_in, MayGet, MapsTo, IsSure, IsRelied, Child, Holds, HasMiddle, IsGone, AreOwned, AreNamed, IsRecorded, IsGood, Extends}
-use Rattle.bl_steps.proofs.Pushes.{name_cases, MaySay}
+use Rattle.bl_trails.specs.Trails.{Mark}
+use Rattle.bl_steps.specs.Worlds.{Know, World, nodes, tree_of, MapsTo, IsSure, Holds, HasMiddle, AreOwned, IsGood, Extends}
+use Rattle.bl_trails.proofs.Pushes.{name_cases, MaySay}
 use Rattle.bl_steps.proofs.Frames.{Leaves, all_sure}
 use Rattle.bl_steps.proofs.Steady.{Steady, was_live, may_still, passed_still, gone_still}
 use Rattle.bl_steps.proofs.Records.{IsInner, same_phases, record_inner}
@@ -95,9 +93,9 @@ still_keeps know w w' m b s say maps name owned own g =
       gone = λ x h.
           let o : w.status x ≡ Gone = rw s.ghosts.status at h in
           gone_still w w' steady x o (ap node_of (s.ghosts.contents x)) (λ q held.
-              let d = s.dead x q o held in
-              let old = (g.gone x o).not_yet q d.0 in
-              (d.0, d.1 old.0, rw s.ghosts.status old.1)) (g.gone x o);
+          let d = s.dead x q o held in
+          let old = (g.gone x o).not_yet q d.0 in
+          (d.0, d.1 old.0, rw s.ghosts.status old.1)) (g.gone x o);
       middles = λ x y h. middles_step know w w' m b x y s.extends s.middle (g.middles x y (rw s.ghosts.status at h));
       sure = all_sure know w w' m b s.extends (still_leaves s) g.sure own;
     }

@@ -1,4 +1,3 @@
-pub mod Pushes
 pub mod Frames
 pub mod Steady
 pub mod Records

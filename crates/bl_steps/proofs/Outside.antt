@@ -1,23 +1,21 @@
 -- Pages outside the tree: a free page is taken, a dead page is retired, a retired page is released.
-use Rattle.std.proofs.Common.{ℕ, ◌≡◌, ◌≢◌, ◌⊎◌, ◌≤◌, ◌<◌, ◌++◌, Bool, true, false, Option, Some, None, suc, List, [], ◌∷◌, arith, ap, sym, ◌∙◌, refl, inl, inr}
+use Rattle.std.proofs.Common.{ℕ, ◌≡◌, ◌≢◌, ◌<◌, arith, ap, sym, ◌∙◌, inl, inr}
 use Rattle.std.proofs.lemmas.Bool.{cases_eq, false≢true}
-use Rattle.bl_page.specs.Machine.{Name, Owner, Phase, State, Act, IsAt}
+use Rattle.bl_page.specs.Machine.{Name, Owner, IsAt}
 use Rattle.bl_page.specs.Machine.Owner.{Released, Held, Retired}
 use Rattle.bl_page.specs.Machine.Act.{Take, Retire, Release}
-use Rattle.bl_page.specs.Machine.Phase.{Running}
-use Rattle.bl_tree.specs.Nodes.{Node, unbounded}
-use Rattle.bl_tree.specs.Trees.{Status, is_live, IsLive, Tree, IsTree}
-use Rattle.bl_tree.specs.Trees.Status.{Free, Fresh, Live, Right, Gone, Anchored}
-use Rattle.bl_tree.specs.Moves.{Aside}
+use Rattle.bl_tree.specs.Nodes.{unbounded}
+use Rattle.bl_tree.specs.Trees.{Status, IsLive, IsTree}
+use Rattle.bl_tree.specs.Trees.Status.{Free, Fresh, Right, Gone, Anchored}
 use Rattle.bl_tree.proofs.Statuses.{free_dead, fresh_dead, gone_dead, not_dead}
 use Rattle.bl_tree.proofs.Asides.{Aside-keeps}
 use Rattle.bl_laws.specs.Pages.{node_of, roots_of}
-use Rattle.bl_steps.specs.Trails.{Said, Mark, Trail}
-use Rattle.bl_steps.specs.Worlds.{Passed, Know, World, nodes, tree_of, was_in, MapsTo, MayGet, IsPassed, IsSure, Holds, HasMiddle, IsGone, AreOwned, IsGood, Extends, silent}
-use Rattle.bl_steps.proofs.Pushes.{MaySay}
+use Rattle.bl_trails.specs.Trails.{Mark}
+use Rattle.bl_steps.specs.Worlds.{Know, World, nodes, tree_of, was_in, MapsTo, MayGet, IsSure, Holds, HasMiddle, IsGone, AreOwned, IsGood, Extends, silent}
+use Rattle.bl_trails.proofs.Pushes.{MaySay}
 use Rattle.bl_steps.proofs.Frames.{Leaves, all_sure}
-use Rattle.bl_steps.proofs.Steady.{Steady, was_live, was_gone, free_not, may_still, may_before, passed_still, gone_still}
-use Rattle.bl_steps.proofs.Records.{IsInner, same_phases, record_inner}
+use Rattle.bl_steps.proofs.Steady.{Steady, was_live, free_not, may_still, passed_still, gone_still}
+use Rattle.bl_steps.proofs.Records.{IsInner, record_inner}
 use Rattle.bl_steps.proofs.Names.{MayName, names_step}
 use Rattle.bl_steps.proofs.Ghosts.{middles_step, held_step}
 use Rattle.bl_steps.proofs.Watches.{may_say}
@@ -71,58 +69,58 @@ Takes-keeps know w w' p x b s g =
       level = λ y h. ap (λ c. (node_of c).shape.level) (change.0 y);
     } in
     inner_keeps know w w' (silent p (Take x)) b s.extends inner
-      (Aside-keeps {x = x} {t = tree_of w} {t' = tree_of w'} (record {
-        dead = rw free free_dead;
-        dead_after = rw u.at fresh_dead;
-        other = λ i. (let a : w.status x ≡ Anchored = rw i g.tree.anchored in cc);
-        node = λ z n. ap node_of (change.0 z);
-        status = u.others;
-        sep = λ z n. ap (λ f. f z) s.sep;
-        roots = ap roots_of (change.0 0);
-        map = s.map;
-      }) g.tree)
-      (record {
-        released = λ y h. let n = not_x y Released h (λ e. cc) in u.others y n ∙ g.owned.released y (sym (back y n) ∙ h);
-        free = λ y h. let n = status_not y Free h (λ e. cc) in back y n ∙ g.owned.free y (sym (u.others y n) ∙ h);
-        opened = λ y h. let n = not_x y Owner.Open h (λ e. cc) in rw (u.others y n) (g.owned.opened y (sym (back y n) ∙ h));
-        retired = λ y t h. let n = not_x y (Retired t) h (λ e. cc) in let o = g.owned.retired y t (sym (back y n) ∙ h) in (u.others y n ∙ o.0, omega (arith, o.1));
-        held = held_step know w w' (silent p (Take x)) b s.extends
+    (Aside-keeps {x = x} {t = tree_of w} {t' = tree_of w'} (record {
+      dead = rw free free_dead;
+      dead_after = rw u.at fresh_dead;
+      other = λ i. (let a : w.status x ≡ Anchored = rw i g.tree.anchored in cc);
+      node = λ z n. ap node_of (change.0 z);
+      status = u.others;
+      sep = λ z n. ap (λ f. f z) s.sep;
+      roots = ap roots_of (change.0 0);
+      map = s.map;
+    }) g.tree)
+    (record {
+      released = λ y h. let n = not_x y Released h (λ e. cc) in u.others y n ∙ g.owned.released y (sym (back y n) ∙ h);
+      free = λ y h. let n = status_not y Free h (λ e. cc) in back y n ∙ g.owned.free y (sym (u.others y n) ∙ h);
+      opened = λ y h. let n = not_x y Owner.Open h (λ e. cc) in rw (u.others y n) (g.owned.opened y (sym (back y n) ∙ h));
+      retired = λ y t h. let n = not_x y (Retired t) h (λ e. cc) in let o = g.owned.retired y t (sym (back y n) ∙ h) in (u.others y n ∙ o.0, omega (arith, o.1));
+      held = held_step know w w' (silent p (Take x)) b s.extends
           (λ y h. elim (cases_eq y x) [ inl i ↦ rw i s.here | inr i ↦ s.places y (g.owned.held y p (sym (back y i) ∙ h)) ])
           (λ y q n h. sym (back y (not_x y (Held q) h (λ e. n cc))) ∙ h) g.owned;
-        small = λ y h. rw s.extends.size (elim (cases_eq y x) [ inl i ↦ rw i s.within | inr i ↦ g.owned.small y (λ e. h (u.others y i ∙ e)) ]);
-        one_anchor = λ y h. g.owned.one_anchor y (sym (u.others y (status_not y Anchored h (λ e. cc))) ∙ h);
-      })
-      (may_say know w (silent p (Take x)) inner (λ said h. cc) g)
-      (λ k. ap (λ f. f 0 k) s.map)
-      (record {
-        fresh = λ y h. elim (cases_eq y x) [
-          | inl i ↦ inl (ap Take (sym i), ap w'.now.owner i ∙ owner.at)
-          | inr i ↦ inr (sym (u.others y i) ∙ h, λ q e. back y i ∙ e, (λ e. i (let v : x ≡ y = cc in sym v)), λ e. cc, λ z c n e o. cc)
-        ];
-        not_taken = λ y h e. live_not y h (let v : x ≡ y = cc in sym v);
-        live = λ y h. let n = live_not y h in inl (rw (u.others y n) at h, λ q e. inl (sym (back y n) ∙ e));
-      })
-      (λ y h.
-        let n = status_not y Gone h (λ e. cc) in
-        let o = sym (u.others y n) ∙ h in
-        gone_still w w' steady y o (ap node_of (change.0 y)) (λ q held.
-          let v = sym (back y n) ∙ held in
-          let old = (g.gone y o).not_yet q v in
-          (v, back _ (live_was_not _ old.1) ∙ old.0, rw (u.others _ (live_was_not _ old.1)) old.1)) (g.gone y o))
-      (λ a y h. middles_step know w w' (silent p (Take x)) b a y s.extends s.middle (g.middles a y (sym (u.others y (status_not y (Right a) h (λ e. cc))) ∙ h)))
-      (record {
-        owner = λ q y n h. back y (was_not_x y (Held q) h (λ e. cc)) ∙ h;
-        contents = λ q y n h. change.0 y;
-        status = λ q y n h. u.others y (was_not_x y (Held q) h (λ e. cc));
-        sep = λ q y n h. ap (λ f. f y) s.sep;
-        relied = λ q c n h. (rw (u.others c.at (live_was_not c.at h.alive)) h.alive, ap (λ f. f c.at) s.sep);
-        may = λ q y n h. may_still w w' steady q y h;
-        level = steady.level;
-        live_was = λ y h. was_live (w.status y) h;
-        phase = λ q n. change.2 q;
-        passed = λ a h. passed_still w w' steady a h;
-      })
-      s.own g
+      small = λ y h. rw s.extends.size (elim (cases_eq y x) [ inl i ↦ rw i s.within | inr i ↦ g.owned.small y (λ e. h (u.others y i ∙ e)) ]);
+      one_anchor = λ y h. g.owned.one_anchor y (sym (u.others y (status_not y Anchored h (λ e. cc))) ∙ h);
+    })
+    (may_say know w (silent p (Take x)) inner (λ said h. cc) g)
+    (λ k. ap (λ f. f 0 k) s.map)
+    (record {
+      fresh = λ y h. elim (cases_eq y x) [
+        | inl i ↦ inl (ap Take (sym i), ap w'.now.owner i ∙ owner.at)
+        | inr i ↦ inr (sym (u.others y i) ∙ h, λ q e. back y i ∙ e, (λ e. i (let v : x ≡ y = cc in sym v)), λ e. cc, λ z c n e o. cc)
+      ];
+      not_taken = λ y h e. live_not y h (let v : x ≡ y = cc in sym v);
+      live = λ y h. let n = live_not y h in inl (rw (u.others y n) at h, λ q e. inl (sym (back y n) ∙ e));
+    })
+    (λ y h.
+    let n = status_not y Gone h (λ e. cc) in
+    let o = sym (u.others y n) ∙ h in
+    gone_still w w' steady y o (ap node_of (change.0 y)) (λ q held.
+    let v = sym (back y n) ∙ held in
+    let old = (g.gone y o).not_yet q v in
+    (v, back _ (live_was_not _ old.1) ∙ old.0, rw (u.others _ (live_was_not _ old.1)) old.1)) (g.gone y o))
+    (λ a y h. middles_step know w w' (silent p (Take x)) b a y s.extends s.middle (g.middles a y (sym (u.others y (status_not y (Right a) h (λ e. cc))) ∙ h)))
+    (record {
+      owner = λ q y n h. back y (was_not_x y (Held q) h (λ e. cc)) ∙ h;
+      contents = λ q y n h. change.0 y;
+      status = λ q y n h. u.others y (was_not_x y (Held q) h (λ e. cc));
+      sep = λ q y n h. ap (λ f. f y) s.sep;
+      relied = λ q c n h. (rw (u.others c.at (live_was_not c.at h.alive)) h.alive, ap (λ f. f c.at) s.sep);
+      may = λ q y n h. may_still w w' steady q y h;
+      level = steady.level;
+      live_was = λ y h. was_live (w.status y) h;
+      phase = λ q n. change.2 q;
+      passed = λ a h. passed_still w w' steady a h;
+    })
+    s.own g
 
 -- p retires page x, which is dead
 pub record Retires {P : Type 0} (know : P → Know) (w w' : World P) (p : Name) (x : ℕ) (b : P) : Type 0 where
@@ -168,64 +166,64 @@ Retires-keeps know w w' p x b s g =
       kept = λ t e. h.kept t (back y (was_not_x y (Retired t) e (λ v. cc)) ∙ e);
     } in
     inner_keeps know w w' (silent p (Retire x)) b s.extends inner
-      (Aside-keeps {x = x} {t = tree_of w} {t' = tree_of w'} (record {
-        dead = rw s.gone gone_dead;
-        dead_after = rw (s.status, s.gone) gone_dead;
-        other = λ i. (let a : w.status x ≡ Anchored = rw i g.tree.anchored in cc (s.gone));
-        node = λ z n. node z;
-        status = λ z n. ap (λ f. f z) s.status;
-        sep = λ z n. ap (λ f. f z) s.sep;
-        roots = ap roots_of (change.3.0 0);
-        map = s.map;
-      }) g.tree)
-      (record {
-        released = λ y h. rw s.status (g.owned.released y (sym (back y (not_x y Released h (λ e. cc))) ∙ h));
-        free = λ y h. let o = g.owned.free y (rw s.status at h) in back y (was_not_x y Released o (λ e. cc)) ∙ o;
-        opened = λ y h. rw s.status (g.owned.opened y (sym (back y (not_x y Owner.Open h (λ e. cc))) ∙ h));
-        retired = λ y t h. elim (cases_eq y x) [
-          | inl i ↦ (rw (s.status, i) s.gone, (let f : Retired t ≡ Retired change.0 = sym h ∙ (ap w'.now.owner i ∙ owner.at) in let v : t ≡ change.0 = cc in omega (arith, change.2)))
-          | inr i ↦ let o = g.owned.retired y t (sym (back y i) ∙ h) in (rw s.status o.0, omega (arith, o.1))
-        ];
-        held = held_step know w w' (silent p (Retire x)) b s.extends
+    (Aside-keeps {x = x} {t = tree_of w} {t' = tree_of w'} (record {
+      dead = rw s.gone gone_dead;
+      dead_after = rw (s.status, s.gone) gone_dead;
+      other = λ i. (let a : w.status x ≡ Anchored = rw i g.tree.anchored in cc (s.gone));
+      node = λ z n. node z;
+      status = λ z n. ap (λ f. f z) s.status;
+      sep = λ z n. ap (λ f. f z) s.sep;
+      roots = ap roots_of (change.3.0 0);
+      map = s.map;
+    }) g.tree)
+    (record {
+      released = λ y h. rw s.status (g.owned.released y (sym (back y (not_x y Released h (λ e. cc))) ∙ h));
+      free = λ y h. let o = g.owned.free y (rw s.status at h) in back y (was_not_x y Released o (λ e. cc)) ∙ o;
+      opened = λ y h. rw s.status (g.owned.opened y (sym (back y (not_x y Owner.Open h (λ e. cc))) ∙ h));
+      retired = λ y t h. elim (cases_eq y x) [
+        | inl i ↦ (rw (s.status, i) s.gone, (let f : Retired t ≡ Retired change.0 = sym h ∙ (ap w'.now.owner i ∙ owner.at) in let v : t ≡ change.0 = cc in omega (arith, change.2)))
+        | inr i ↦ let o = g.owned.retired y t (sym (back y i) ∙ h) in (rw s.status o.0, omega (arith, o.1))
+      ];
+      held = held_step know w w' (silent p (Retire x)) b s.extends
           (λ y h. let n = not_x y (Held p) h (λ e. cc) in s.places y n (g.owned.held y p (sym (back y n) ∙ h)))
           (λ y q n h. sym (back y (not_x y (Held q) h (λ e. cc))) ∙ h) g.owned;
-        small = λ y h. rw s.extends.size (g.owned.small y (rw s.status at h));
-        one_anchor = λ y h. g.owned.one_anchor y (rw s.status at h);
-      })
-      (may_say know w (silent p (Retire x)) inner (λ said h. cc) g)
-      (λ k. ap (λ f. f 0 k) s.map)
-      (record {
-        fresh = λ y h.
-            let f : w.status y ≡ Fresh = rw s.status at h in
-            inr (f, λ q e. back y (status_was_not y Fresh f (λ v. cc)) ∙ e, λ e. cc, λ e. cc, λ z c n e o. cc);
-        not_taken = λ y h e. cc;
-        live = λ y h. let l : IsLive (w.status y) = rw s.status at h in inl (l, λ q e. inl (sym (back y (live_was_not y l)) ∙ e));
-      })
-      (λ y h.
-        let o : w.status y ≡ Gone = rw s.status at h in
-        let old = g.gone y o in
-        record {
-          end = rw (node y) old.end;
-          leads = λ q m. let k = old.leads q (may_back q y m) in rw (node y) (may q (nodes w.now y).shape.right k.0, ap (λ v. v.shape.level) (node (nodes w.now y).shape.right) ∙ k.1);
-          not_yet = λ q held.
-              let v = sym (back y (not_x y (Held q) held (λ e. cc))) ∙ held in
-              let k = old.not_yet q v in
-              rw (node y) (back _ (live_was_not _ k.1) ∙ k.0, rw s.status k.1, ap (λ v. v.shape.level) (node (nodes w.now y).shape.right) ∙ k.2);
-        })
-      (λ a y h. middles_step know w w' (silent p (Retire x)) b a y s.extends s.middle (g.middles a y (rw s.status at h)))
-      (record {
-        owner = λ q y n h. back y (was_not_x y (Held q) h (λ e. n cc)) ∙ h;
-        contents = λ q y n h. change.3.0 y;
-        status = λ q y n h. ap (λ f. f y) s.status;
-        sep = λ q y n h. ap (λ f. f y) s.sep;
-        relied = λ q c n h. (rw s.status h.alive, ap (λ f. f c.at) s.sep);
-        may = λ q y n h. may q y h;
-        level = λ y h. ap (λ v. v.shape.level) (node y);
-        live_was = λ y h. was_live (w.status y) h;
-        phase = λ q n. change.3.2 q;
-        passed = λ a h. (omega (arith, h.0), λ q since below runs. h.1 q since below (sym (change.3.2 q) ∙ runs));
-      })
-      s.own g
+      small = λ y h. rw s.extends.size (g.owned.small y (rw s.status at h));
+      one_anchor = λ y h. g.owned.one_anchor y (rw s.status at h);
+    })
+    (may_say know w (silent p (Retire x)) inner (λ said h. cc) g)
+    (λ k. ap (λ f. f 0 k) s.map)
+    (record {
+      fresh = λ y h.
+          let f : w.status y ≡ Fresh = rw s.status at h in
+          inr (f, λ q e. back y (status_was_not y Fresh f (λ v. cc)) ∙ e, λ e. cc, λ e. cc, λ z c n e o. cc);
+      not_taken = λ y h e. cc;
+      live = λ y h. let l : IsLive (w.status y) = rw s.status at h in inl (l, λ q e. inl (sym (back y (live_was_not y l)) ∙ e));
+    })
+    (λ y h.
+    let o : w.status y ≡ Gone = rw s.status at h in
+    let old = g.gone y o in
+    record {
+      end = rw (node y) old.end;
+      leads = λ q m. let k = old.leads q (may_back q y m) in rw (node y) (may q (nodes w.now y).shape.right k.0, ap (λ v. v.shape.level) (node (nodes w.now y).shape.right) ∙ k.1);
+      not_yet = λ q held.
+          let v = sym (back y (not_x y (Held q) held (λ e. cc))) ∙ held in
+          let k = old.not_yet q v in
+          rw (node y) (back _ (live_was_not _ k.1) ∙ k.0, rw s.status k.1, ap (λ v. v.shape.level) (node (nodes w.now y).shape.right) ∙ k.2);
+    })
+    (λ a y h. middles_step know w w' (silent p (Retire x)) b a y s.extends s.middle (g.middles a y (rw s.status at h)))
+    (record {
+      owner = λ q y n h. back y (was_not_x y (Held q) h (λ e. n cc)) ∙ h;
+      contents = λ q y n h. change.3.0 y;
+      status = λ q y n h. ap (λ f. f y) s.status;
+      sep = λ q y n h. ap (λ f. f y) s.sep;
+      relied = λ q c n h. (rw s.status h.alive, ap (λ f. f c.at) s.sep);
+      may = λ q y n h. may q y h;
+      level = λ y h. ap (λ v. v.shape.level) (node y);
+      live_was = λ y h. was_live (w.status y) h;
+      phase = λ q n. change.3.2 q;
+      passed = λ a h. (omega (arith, h.0), λ q since below runs. h.1 q since below (sym (change.3.2 q) ∙ runs));
+    })
+    s.own g
 
 -- p releases page x, which was retired before every process that runs began
 pub record Releases {P : Type 0} (know : P → Know) (w w' : World P) (p : Name) (x : ℕ) (b : P) : Type 0 where
@@ -268,55 +266,55 @@ Releases-keeps know w w' p x b s g =
       kept = λ t e. h.kept t (back y n ∙ e);
     } in
     inner_keeps know w w' (silent p (Release x)) b s.extends inner
-      (Aside-keeps {x = x} {t = tree_of w} {t' = tree_of w'} (record {
-        dead = rw gone gone_dead;
-        dead_after = rw u.at free_dead;
-        other = λ i. (let a : w.status x ≡ Anchored = rw i g.tree.anchored in cc);
-        node = λ z n. node z;
-        status = u.others;
-        sep = λ z n. ap (λ f. f z) s.sep;
-        roots = ap roots_of (change.0 0);
-        map = s.map;
-      }) g.tree)
-      (record {
-        released = λ y h. elim (cases_eq y x) [ inl i ↦ rw i u.at | inr i ↦ u.others y i ∙ g.owned.released y (sym (back y i) ∙ h) ];
-        free = λ y h. elim (cases_eq y x) [ inl i ↦ rw i owner.at | inr i ↦ back y i ∙ g.owned.free y (sym (u.others y i) ∙ h) ];
-        opened = λ y h. let n = not_x y Owner.Open h (λ e. cc) in rw (u.others y n) (g.owned.opened y (sym (back y n) ∙ h));
-        retired = λ y t h. let n = not_x y (Retired t) h (λ e. cc) in let o = g.owned.retired y t (sym (back y n) ∙ h) in (u.others y n ∙ o.0, omega (arith, o.1));
-        held = held_step know w w' (silent p (Release x)) b s.extends
+    (Aside-keeps {x = x} {t = tree_of w} {t' = tree_of w'} (record {
+      dead = rw gone gone_dead;
+      dead_after = rw u.at free_dead;
+      other = λ i. (let a : w.status x ≡ Anchored = rw i g.tree.anchored in cc);
+      node = λ z n. node z;
+      status = u.others;
+      sep = λ z n. ap (λ f. f z) s.sep;
+      roots = ap roots_of (change.0 0);
+      map = s.map;
+    }) g.tree)
+    (record {
+      released = λ y h. elim (cases_eq y x) [ inl i ↦ rw i u.at | inr i ↦ u.others y i ∙ g.owned.released y (sym (back y i) ∙ h) ];
+      free = λ y h. elim (cases_eq y x) [ inl i ↦ rw i owner.at | inr i ↦ back y i ∙ g.owned.free y (sym (u.others y i) ∙ h) ];
+      opened = λ y h. let n = not_x y Owner.Open h (λ e. cc) in rw (u.others y n) (g.owned.opened y (sym (back y n) ∙ h));
+      retired = λ y t h. let n = not_x y (Retired t) h (λ e. cc) in let o = g.owned.retired y t (sym (back y n) ∙ h) in (u.others y n ∙ o.0, omega (arith, o.1));
+      held = held_step know w w' (silent p (Release x)) b s.extends
           (λ y h. s.places y (g.owned.held y p (sym (back y (not_x y (Held p) h (λ e. cc))) ∙ h)))
           (λ y q n h. sym (back y (not_x y (Held q) h (λ e. cc))) ∙ h) g.owned;
-        small = λ y h. rw s.extends.size (elim (cases_eq y x) [ inl i ↦ absurd (h (rw i u.at)) | inr i ↦ g.owned.small y (λ e. h (u.others y i ∙ e)) ]);
-        one_anchor = λ y h. g.owned.one_anchor y (sym (u.others y (status_not y Anchored h (λ e. cc))) ∙ h);
-      })
-      (may_say know w (silent p (Release x)) inner (λ said h. cc) g)
-      (λ k. ap (λ f. f 0 k) s.map)
-      (record {
-        fresh = λ y h. let n = status_not y Fresh h (λ e. cc) in inr (sym (u.others y n) ∙ h, λ q e. back y n ∙ e, λ e. cc, λ e. cc, λ z c m e o. cc);
-        not_taken = λ y h e. cc;
-        live = λ y h. let n = live_not y h in inl (rw (u.others y n) at h, λ q e. inl (sym (back y n) ∙ e));
-      })
-      (λ y h.
-        let n = status_not y Gone h (λ e. cc) in
-        let old = g.gone y (sym (u.others y n) ∙ h) in
-        record {
-          end = rw (node y) old.end;
-          leads = λ q m. let k = old.leads q (may_back q y n m) in rw (node y) (may q (nodes w.now y).shape.right k.0, ap (λ v. v.shape.level) (node (nodes w.now y).shape.right) ∙ k.1);
-          not_yet = λ q held.
-              let k = old.not_yet q (sym (back y n) ∙ held) in
-              rw (node y) (back _ (live_was_not _ k.1) ∙ k.0, rw (u.others _ (live_was_not _ k.1)) k.1, ap (λ v. v.shape.level) (node (nodes w.now y).shape.right) ∙ k.2);
-        })
-      (λ a y h. middles_step know w w' (silent p (Release x)) b a y s.extends s.middle (g.middles a y (sym (u.others y (status_not y (Right a) h (λ e. cc))) ∙ h)))
-      (record {
-        owner = λ q y n h. back y (was_held_not y q h) ∙ h;
-        contents = λ q y n h. change.0 y;
-        status = λ q y n h. u.others y (was_held_not y q h);
-        sep = λ q y n h. ap (λ f. f y) s.sep;
-        relied = λ q c n h. (rw (u.others c.at (live_was_not c.at h.alive)) h.alive, ap (λ f. f c.at) s.sep);
-        may = λ q y n h. may q y h;
-        level = λ y h. ap (λ v. v.shape.level) (node y);
-        live_was = λ y h. was_live (w.status y) h;
-        phase = λ q n. change.2 q;
-        passed = λ a h. (omega (arith, h.0), λ q since below runs. h.1 q since below (sym (change.2 q) ∙ runs));
-      })
-      s.own g
+      small = λ y h. rw s.extends.size (elim (cases_eq y x) [ inl i ↦ absurd (h (rw i u.at)) | inr i ↦ g.owned.small y (λ e. h (u.others y i ∙ e)) ]);
+      one_anchor = λ y h. g.owned.one_anchor y (sym (u.others y (status_not y Anchored h (λ e. cc))) ∙ h);
+    })
+    (may_say know w (silent p (Release x)) inner (λ said h. cc) g)
+    (λ k. ap (λ f. f 0 k) s.map)
+    (record {
+      fresh = λ y h. let n = status_not y Fresh h (λ e. cc) in inr (sym (u.others y n) ∙ h, λ q e. back y n ∙ e, λ e. cc, λ e. cc, λ z c m e o. cc);
+      not_taken = λ y h e. cc;
+      live = λ y h. let n = live_not y h in inl (rw (u.others y n) at h, λ q e. inl (sym (back y n) ∙ e));
+    })
+    (λ y h.
+    let n = status_not y Gone h (λ e. cc) in
+    let old = g.gone y (sym (u.others y n) ∙ h) in
+    record {
+      end = rw (node y) old.end;
+      leads = λ q m. let k = old.leads q (may_back q y n m) in rw (node y) (may q (nodes w.now y).shape.right k.0, ap (λ v. v.shape.level) (node (nodes w.now y).shape.right) ∙ k.1);
+      not_yet = λ q held.
+          let k = old.not_yet q (sym (back y n) ∙ held) in
+          rw (node y) (back _ (live_was_not _ k.1) ∙ k.0, rw (u.others _ (live_was_not _ k.1)) k.1, ap (λ v. v.shape.level) (node (nodes w.now y).shape.right) ∙ k.2);
+    })
+    (λ a y h. middles_step know w w' (silent p (Release x)) b a y s.extends s.middle (g.middles a y (sym (u.others y (status_not y (Right a) h (λ e. cc))) ∙ h)))
+    (record {
+      owner = λ q y n h. back y (was_held_not y q h) ∙ h;
+      contents = λ q y n h. change.0 y;
+      status = λ q y n h. u.others y (was_held_not y q h);
+      sep = λ q y n h. ap (λ f. f y) s.sep;
+      relied = λ q c n h. (rw (u.others c.at (live_was_not c.at h.alive)) h.alive, ap (λ f. f c.at) s.sep);
+      may = λ q y n h. may q y h;
+      level = λ y h. ap (λ v. v.shape.level) (node y);
+      live_was = λ y h. was_live (w.status y) h;
+      phase = λ q n. change.2 q;
+      passed = λ a h. (omega (arith, h.0), λ q since below runs. h.1 q since below (sym (change.2 q) ∙ runs));
+    })
+    s.own g

@@ -1,5 +1,5 @@
 -- The trail of a world goes on: its steps are legal, its points are points, and its history is legal.
-use Rattle.std.proofs.Common.{ℕ, ◌≡◌, ◌≢◌, ◌⊎◌, ◌≤◌, ◌<◌, ◌++◌, Bool, true, false, Option, Some, None, suc, List, [], ◌∷◌, length, subst, arith, ap, sym, ◌∙◌, refl, inl, inr, append-nil}
+use Rattle.std.proofs.Common.{ℕ, ◌≡◌, ◌≢◌, ◌≤◌, ◌++◌, Option, Some, None, List, [], ◌∷◌, length, subst, arith, ap, sym, ◌∙◌, refl, inl, inr, append-nil}
 use Rattle.std.proofs.Math.Path.{fun_ext}
 use Rattle.bl_model.specs.declared.operation.Reply.{Reply}
 use Rattle.bl_model.specs.declared.operation.Entry.{Entry}
@@ -7,12 +7,12 @@ use Rattle.bl_model.specs.Map.{Map, MayAnswer, map_step}
 use Rattle.bl_model.specs.History.{IsLegalFrom, final_map}
 use Rattle.bl_model.proofs.Histories.{final_map-push, legal_push}
 use Rattle.bl_page.specs.declared.page.Page.{Page}
-use Rattle.bl_page.specs.Machine.{Name, Owner, Phase, State, Act, IsAt, Changes, SamePhases}
+use Rattle.bl_page.specs.Machine.{Name, State, Act, Changes, SamePhases}
 use Rattle.bl_page.specs.Machine.Act.{Begin, End, Get, Put, Take, Latch, Retire, Look, Release, Miss}
 use Rattle.bl_page.specs.Machine.Phase.{Waiting, Running, Ended}
-use Rattle.bl_steps.specs.Trails.{Said, Mark, Trail, entries_at, history_of, DoesAt, Answered, IsMarked}
-use Rattle.bl_steps.specs.Worlds.{World, MapsTo, IsPhase, HasSaid, IsRecorded, silent, Extends}
-use Rattle.bl_steps.proofs.Pushes.{name_cases, MaySay, IsMarked-push, LeadsOn-push, history_of-push, IsPhase-other, IsPhase-inner, DoesAt-push, DoesAt-last, DoesAt-cases}
+use Rattle.bl_trails.specs.Trails.{Said, Mark, entries_at, history_of, Answered, IsPhase}
+use Rattle.bl_steps.specs.Worlds.{World, MapsTo, IsRecorded, silent, Extends}
+use Rattle.bl_trails.proofs.Pushes.{name_cases, MaySay, IsMarked-push, LeadsOn-push, history_of-push, IsPhase-other, IsPhase-inner, DoesAt-push, DoesAt-last, DoesAt-cases}
 
 -- an event that is neither begin nor end
 abbrev pub IsInner : Act Page Reply → Type 0
@@ -58,9 +58,9 @@ pub record_inner : {P : Type 0} (w w' : World P) (m : Mark) (b : P) → Extends 
 record_inner w w' m b e i say maps g =
     let same = same_phases w.now w'.now m.event.process m.event.act i e.steps.changes in
     record_step w w' m b e say maps
-      (λ p. rw (same p) (IsPhase-inner w.trail m p (w.now.phase p) i.0 i.1 (g.phases p)))
-      (λ p since h. let old = g.since p since (sym (same p) ∙ h) in omega (arith, e.steps.on))
-      g
+    (λ p. rw (same p) (IsPhase-inner w.trail m p (w.now.phase p) i.0 i.1 (g.phases p)))
+    (λ p since h. let old = g.since p since (sym (same p) ∙ h) in omega (arith, e.steps.on))
+    g
 
 -- p begins
 pub record_begin : {P : Type 0} (w w' : World P) (p : Name) (b : P) → Extends w w' (silent p Begin) b → ((k : ℕ) → w'.map 0 k ≡ w.map 0 k) → IsRecorded w → IsRecorded w'
@@ -69,18 +69,21 @@ record_begin w w' p b e maps g =
     let steps = e.steps.changes in
     let none : IsPhase w.trail p Waiting = rw e.steps.enabled at (g.phases p) in
     record_step w w' m b e (record { point = λ said h. cc; end = λ a h. cc }) maps
-      (λ q. elim (name_cases q p) [
-        | inl i ↦ rw (i, steps.2.3.at) ((length w.trail, DoesAt-last w.trail m), λ j a d. elim (DoesAt-cases w.trail m d) [
+    (λ q. elim (name_cases q p) [
+      | inl i ↦ rw (i, steps.2.3.at) (
+        (length w.trail, DoesAt-last w.trail m),
+        λ j a d. elim (DoesAt-cases w.trail m d) [
           | inl o ↦ none.1 j a o
           | inr o ↦ let f : Begin ≡ End a = ap (λ v. v.act) o.1 in cc
-        ])
-        | inr i ↦ rw (steps.2.3.others q i) (IsPhase-other w.trail m q (w.now.phase q) (λ v. i (sym v)) (g.phases q))
-      ])
-      (λ q since h. elim (name_cases q p) [
-        | inl i ↦ let f : Running since ≡ Running steps.2.0 = sym h ∙ (ap w'.now.phase i ∙ steps.2.3.at) in let v : since ≡ steps.2.0 = cc in omega (arith, steps.2.2)
-        | inr i ↦ let old = g.since q since (sym (steps.2.3.others q i) ∙ h) in omega (arith, e.steps.on)
-      ])
-      g
+        ],
+      )
+      | inr i ↦ rw (steps.2.3.others q i) (IsPhase-other w.trail m q (w.now.phase q) (λ v. i (sym v)) (g.phases q))
+    ])
+    (λ q since h. elim (name_cases q p) [
+      | inl i ↦ let f : Running since ≡ Running steps.2.0 = sym h ∙ (ap w'.now.phase i ∙ steps.2.3.at) in let v : since ≡ steps.2.0 = cc in omega (arith, steps.2.2)
+      | inr i ↦ let old = g.since q since (sym (steps.2.3.others q i) ∙ h) in omega (arith, e.steps.on)
+    ])
+    g
 
 -- p ends, with the answer that it said, or with none
 pub record_end : {P : Type 0} (w w' : World P) (p : Name) (answer : Option Reply) (b : P) → Extends w w' (silent p (End answer)) b → Answered w.trail p answer → ((k : ℕ) → w'.map 0 k ≡ w.map 0 k) → IsRecorded w → IsRecorded w'
@@ -90,12 +93,12 @@ record_end w w' p answer b e told maps g =
     let runs = e.steps.enabled.0 in
     let began : IsPhase w.trail p (Running runs.0) = rw runs.1 at (g.phases p) in
     record_step w w' m b e (record { point = λ said h. cc; end = λ a h. (refl, (let i : a ≡ answer = cc in rw i told)) }) maps
-      (λ q. elim (name_cases q p) [
-        | inl i ↦ rw (i, steps.2.at) (began.0.0, DoesAt-push w.trail m began.0.1)
-        | inr i ↦ rw (steps.2.others q i) (IsPhase-other w.trail m q (w.now.phase q) (λ v. i (sym v)) (g.phases q))
-      ])
-      (λ q since h. elim (name_cases q p) [
-        | inl i ↦ let f : Running since ≡ Ended = sym h ∙ (ap w'.now.phase i ∙ steps.2.at) in cc
-        | inr i ↦ let old = g.since q since (sym (steps.2.others q i) ∙ h) in omega (arith, e.steps.on)
-      ])
-      g
+    (λ q. elim (name_cases q p) [
+      | inl i ↦ rw (i, steps.2.at) (began.0.0, DoesAt-push w.trail m began.0.1)
+      | inr i ↦ rw (steps.2.others q i) (IsPhase-other w.trail m q (w.now.phase q) (λ v. i (sym v)) (g.phases q))
+    ])
+    (λ q since h. elim (name_cases q p) [
+      | inl i ↦ let f : Running since ≡ Ended = sym h ∙ (ap w'.now.phase i ∙ steps.2.at) in cc
+      | inr i ↦ let old = g.since q since (sym (steps.2.others q i) ∙ h) in omega (arith, e.steps.on)
+    ])
+    g

@@ -1,13 +1,9 @@
 -- Events that release no page and let no process begin or end.
-use Rattle.std.proofs.Common.{ℕ, ◌≡◌, ◌≢◌, ◌⊎◌, ◌≤◌, ◌<◌, ◌++◌, Bool, true, false, Option, Some, None, suc, List, [], ◌∷◌, arith, ap, sym, ◌∙◌, refl, inl, inr}
-use Rattle.bl_page.specs.declared.page.Page.{Page}
-use Rattle.bl_page.specs.Machine.{Name, Owner, Phase, State, IsAt}
+use Rattle.std.proofs.Common.{ℕ, ◌≡◌, ◌≤◌, true, false, Some, arith, sym, ◌∙◌, refl}
+use Rattle.bl_page.specs.Machine.{Name}
 use Rattle.bl_page.specs.Machine.Owner.{Held, Retired}
-use Rattle.bl_page.specs.Machine.Phase.{Running}
-use Rattle.bl_tree.specs.Nodes.{Shape, Node, Covers}
 use Rattle.bl_tree.specs.Trees.{Status, is_live, IsLive}
 use Rattle.bl_tree.specs.Trees.Status.{Free, Fresh, Live, Left, Right, Gone, Anchored}
-use Rattle.bl_laws.specs.Pages.{node_of}
 use Rattle.bl_steps.specs.Worlds.{Passed, World, nodes, was_in, MayGet, IsPassed, IsGone}
 
 pub was_live : (s : Status) → IsLive s → was_in s ≡ true

@@ -1,24 +1,18 @@
 -- Gets, looks and misses, latches and opens: what a process learns by them, and that the world stays good.
-use Rattle.std.proofs.Common.{ℕ, ◌≡◌, ◌≢◌, ◌⊎◌, ◌≤◌, ◌<◌, ◌++◌, Bool, true, false, Option, Some, None, suc, List, [], ◌∷◌, subst, arith, ap, sym, ◌∙◌, refl, inl, inr}
-use Rattle.std.proofs.lemmas.Bool.{cases_eq, false≢true}
+use Rattle.std.proofs.Common.{ℕ, ◌≡◌, ◌≢◌, ◌++◌, Some, None, [], ◌∷◌, arith, ap, sym, ◌∙◌, refl, inl, inr}
 use Rattle.bl_model.specs.declared.operation.Reply.{Reply}
 use Rattle.bl_page.specs.declared.page.Page.{Page}
-use Rattle.bl_page.specs.Machine.{Name, Owner, Phase, State, Act, IsAt, Changes, SameContents, SameOwners}
-use Rattle.bl_page.specs.Machine.Owner.{Released, Held, Retired}
+use Rattle.bl_page.specs.Machine.{Name, State, Act, Changes, SameContents, SameOwners}
+use Rattle.bl_page.specs.Machine.Owner.{Held}
 use Rattle.bl_page.specs.Machine.Phase.{Running}
 use Rattle.bl_page.specs.Machine.Act.{Begin, End, Get, Put, Take, Latch, Retire, Look, Release, Miss}
-use Rattle.bl_tree.specs.Trees.{Status, is_live, IsLive}
-use Rattle.bl_tree.specs.Trees.Status.{Free, Fresh, Live, Gone, Anchored}
-use Rattle.bl_tree.proofs.Statuses.{fresh_dead}
-use Rattle.bl_laws.specs.Pages.{node_of}
-use Rattle.bl_steps.specs.Trails.{Said, Mark, Trail, marks_of}
-use Rattle.bl_steps.specs.Worlds.{Hold, Goes, Child, Know, World, nodes, MapsTo, Each, IsStage, HasSaid, IfKnown, IsPhase, MayGet, IsHeld, IsGoes, IsRelied, IsPassed, IsSure, Holds, AreOwned, IsGood, Extends, silent}
-use Rattle.bl_steps.proofs.Pushes.{name_cases, MaySay, marks_of-own}
+use Rattle.bl_trails.specs.Trails.{Said, Mark, marks_of, HasSaid, IsPhase}
+use Rattle.bl_steps.specs.Worlds.{Know, World, MapsTo, Each, IsStage, IfKnown, IsHeld, IsGoes, IsRelied, IsPassed, IsSure, Holds, IsGood, Extends}
+use Rattle.bl_trails.proofs.Pushes.{MaySay, marks_of-own}
 use Rattle.bl_steps.proofs.Frames.{Each-map}
-use Rattle.bl_steps.proofs.Steady.{Steady, may_still, passed_still}
+use Rattle.bl_steps.proofs.Steady.{may_still, passed_still}
 use Rattle.bl_steps.proofs.Records.{IsInner}
-use Rattle.bl_steps.proofs.Names.{MayName}
-use Rattle.bl_steps.proofs.Ghosts.{SameGhosts, Still, still_steady, still_keeps, held_step}
+use Rattle.bl_steps.proofs.Ghosts.{Still, still_steady, still_keeps, held_step}
 
 -- What p knows after the event, told by the world before it, but for the owners.
 pub record Learns {P : Type 0} (w w' : World P) (m : Mark) (k : Know) : Type 0 where
@@ -135,19 +129,19 @@ Watches-keeps know w w' m b s g =
       dead = λ x q d h. (sym (same.1 x) ∙ h, λ e. same.1 _ ∙ e);
     } in
     still_keeps know w w' m b still (may_say know w m (watch_inner m.event.act s.watch) s.point g) (rw (s.ghost.map) s.maps)
-      (record {
-        fresh = λ y h. inr (rw s.ghost.status at h, λ q e. same.1 y ∙ e, (same.2 y).0, (same.2 y).1, λ x c n e o. same.3 x c e);
-        not_taken = λ y h. (same.2 y).0;
-        live = λ y h. inl (rw s.ghost.status at h, λ q e. inl (sym (same.1 y) ∙ e));
-      })
-      (record {
-        released = λ x h. rw s.ghost.status (g.owned.released x (sym (same.1 x) ∙ h));
-        free = λ x h. same.1 x ∙ g.owned.free x (rw s.ghost.status at h);
-        opened = λ x h. rw s.ghost.status (g.owned.opened x (sym (same.1 x) ∙ h));
-        retired = λ x t h. let o = g.owned.retired x t (sym (same.1 x) ∙ h) in (rw s.ghost.status o.0, omega (arith, o.1));
-        held = held_step know w w' m b s.extends (λ x h. s.places x (g.owned.held x m.event.process (sym (same.1 x) ∙ h))) (λ x q n h. sym (same.1 x) ∙ h) g.owned;
-        small = λ x h. rw s.extends.size (g.owned.small x (rw s.ghost.status at h));
-        one_anchor = λ x h. g.owned.one_anchor x (rw s.ghost.status at h);
-      })
-      (learns_sure know w w' m b (know b) still s.learns)
-      g
+    (record {
+      fresh = λ y h. inr (rw s.ghost.status at h, λ q e. same.1 y ∙ e, (same.2 y).0, (same.2 y).1, λ x c n e o. same.3 x c e);
+      not_taken = λ y h. (same.2 y).0;
+      live = λ y h. inl (rw s.ghost.status at h, λ q e. inl (sym (same.1 y) ∙ e));
+    })
+    (record {
+      released = λ x h. rw s.ghost.status (g.owned.released x (sym (same.1 x) ∙ h));
+      free = λ x h. same.1 x ∙ g.owned.free x (rw s.ghost.status at h);
+      opened = λ x h. rw s.ghost.status (g.owned.opened x (sym (same.1 x) ∙ h));
+      retired = λ x t h. let o = g.owned.retired x t (sym (same.1 x) ∙ h) in (rw s.ghost.status o.0, omega (arith, o.1));
+      held = held_step know w w' m b s.extends (λ x h. s.places x (g.owned.held x m.event.process (sym (same.1 x) ∙ h))) (λ x q n h. sym (same.1 x) ∙ h) g.owned;
+      small = λ x h. rw s.extends.size (g.owned.small x (rw s.ghost.status at h));
+      one_anchor = λ x h. g.owned.one_anchor x (rw s.ghost.status at h);
+    })
+    (learns_sure know w w' m b (know b) still s.learns)
+    g

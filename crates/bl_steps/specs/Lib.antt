@@ -1,3 +1,1 @@
-pub mod Trails
-pub mod Moments
 pub mod Worlds

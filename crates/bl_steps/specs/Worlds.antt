@@ -6,16 +6,15 @@ use Rattle.bl_model.specs.Map.{Map, MayAnswer, map_step}
 use Rattle.bl_model.specs.History.{IsLegalFrom, final_map}
 use Rattle.bl_model.specs.declared.operation.Reply.{Reply}
 use Rattle.bl_page.specs.declared.page.Page.{Page}
-use Rattle.bl_page.specs.Machine.{Name, Owner, Phase, State, Act, Event, IsAt, IsRunning, Steps}
+use Rattle.bl_page.specs.Machine.{Name, Owner, Phase, State, Act, IsAt, Steps}
 use Rattle.bl_page.specs.Machine.Owner.{Released, Held, Retired}
 use Rattle.bl_page.specs.Machine.Phase.{Waiting, Running, Ended}
-use Rattle.bl_page.specs.Machine.Act.{Begin, End, Get}
-use Rattle.bl_tree.specs.Nodes.{Shape, Node, Look, Covers, unbounded}
-use Rattle.bl_tree.specs.Trees.{Status, is_live, IsLive, Tree, IsTree}
+use Rattle.bl_tree.specs.Nodes.{Node, Look, Covers, unbounded}
+use Rattle.bl_tree.specs.Trees.{Status, IsLive, Tree, IsTree}
 use Rattle.bl_tree.specs.Trees.Status.{Free, Fresh, Live, Left, Right, Gone, Anchored}
 use Rattle.bl_laws.specs.Pages.{node_of, roots_of}
-use Rattle.bl_steps.specs.Trails.{Said, Mark, Trail, history_of, marks_of, DoesAt, SaysAt, IsMarked}
-use Rattle.bl_steps.specs.Moments.{IsFresh}
+use Rattle.bl_trails.specs.Trails.{Said, Mark, Trail, history_of, marks_of, IsMarked, Saw, LeadsOn, IsPhase, HasSaid}
+use Rattle.bl_trails.specs.Moments.{IsFresh}
 
 -- What a process knows
 
@@ -88,29 +87,10 @@ abbrev pub Each : {A : Type 0} → (A → Type 0) → List A → Type 0
 Each P [] = Unit {0}
 Each P (x ∷ xs) = P x × Each P xs
 
--- the marks lead from one state to another, and each get saw what the page held
-abbrev pub Saw : State Page → Act Page Reply → Option Page → Type 0
-Saw s (Get x) saw = saw ≡ Some (s.contents x)
-Saw s a saw = Unit {0}
-
-abbrev pub LeadsOn : State Page → Trail → State Page → Type 0
-LeadsOn s [] s' = s' ≡ s
-LeadsOn s (m ∷ ms) s' = (mid : State Page) × Steps s m.event mid × Saw s m.event.act m.saw × LeadsOn mid ms s'
-
--- where a process stands, as the trail tells it
-abbrev pub IsPhase : Trail → Name → Phase → Type 0
-IsPhase trail p Waiting = ((i : ℕ) → DoesAt trail i p Begin → ⊥) × ((i : ℕ) (a : Option Reply) → DoesAt trail i p (End a) → ⊥)
-IsPhase trail p (Running since) = ((i : ℕ) × DoesAt trail i p Begin) × ((i : ℕ) (a : Option Reply) → DoesAt trail i p (End a) → ⊥)
-IsPhase trail p Ended = (i : ℕ) × DoesAt trail i p Begin
-
 abbrev pub IsStage : Stage → Phase → Type 0
 IsStage Early phase = phase ≡ Waiting
 IsStage Busy phase = (since : ℕ) × (phase ≡ Running since)
 IsStage Late phase = phase ≡ Ended
-
-abbrev pub HasSaid : Trail → Name → Option Said → Type 0
-HasSaid trail p None = (i : ℕ) (said : Said) → SaysAt trail i p said → ⊥
-HasSaid trail p (Some said) = (i : ℕ) × SaysAt trail i p said
 
 abbrev pub IfKnown : {A : Type 0} → Option A → A → Type 0
 IfKnown None a = Unit {0}

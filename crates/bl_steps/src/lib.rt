@@ -1,7 +1,7 @@
-//! Steps of processes on the pages of the index: what they leave behind, and what stays true.
+//! Worlds of processes on the pages of the index, and the invariant that every event keeps.
 //!
-//! `specs/Trails` has the trail of a world: its events, each with what a get saw and with the answer whose point it is.
-//! Step list and history are its projections. `specs/Moments` says which pages are live and which are in the middle of a
-//! compression. `specs/Worlds` has the invariant of a world, for processes of any kind: what each holds, where it may go,
-//! and what it knows. `proofs/` shows once what one event of one process leaves to all others. The crate has no code.
+//! `specs/Worlds` has the world, with processes of any kind: a table says of each state what the process holds, where it
+//! may go, and what it knows. `proofs/` shows once, for every kind of process, what an event of one process leaves to the
+//! others, and that each event keeps the invariant: begin, end, get, look, miss, latch, open, take, retire and release.
+//! The crate has no code; it is for the crates of the core.
 #![tactic(auto)]

@@ -1,15 +1,14 @@
 -- A trail goes on by one mark.
-use Rattle.std.proofs.Common.{ℕ, ◌≡◌, ◌≢◌, ◌⊎◌, ◌≤◌, ◌<◌, ◌++◌, ◌==◌, Bool, true, false, if◌then◌else◌, Option, Some, None, zero, suc, List, [], ◌∷◌, length, arith, ap, sym, ◌∙◌, refl, inl, inr, append_assoc, append-nil}
+use Rattle.std.proofs.Common.{ℕ, ◌≡◌, ◌≢◌, ◌⊎◌, ◌<◌, ◌++◌, true, false, Option, Some, None, zero, suc, List, [], ◌∷◌, length, arith, ap, sym, ◌∙◌, refl, inl, inr, append_assoc, append-nil}
 use Rattle.std.specs.Prelude.{slice_get}
-use Rattle.std.proofs.lemmas.Bool.{cases_eq, cases_lt, false≢true}
+use Rattle.std.proofs.lemmas.Bool.{cases_eq}
 use Rattle.std.proofs.lemmas.Option.{slice_get_within}
 use Rattle.bl_model.specs.declared.operation.Reply.{Reply}
 use Rattle.bl_page.specs.declared.page.Page.{Page}
-use Rattle.bl_page.specs.Machine.{Name, Act, Event, Steps, State, Phase}
+use Rattle.bl_page.specs.Machine.{Name, Act, Steps, State, Phase}
 use Rattle.bl_page.specs.Machine.Act.{Begin, End}
 use Rattle.bl_page.specs.Machine.Phase.{Waiting, Running, Ended}
-use Rattle.bl_steps.specs.Trails.{Said, Mark, Trail, events_of, entries_at, history_of, same_name, marks_of, DoesAt, SaysAt, IsPoint, Answered, IsMarked}
-use Rattle.bl_steps.specs.Worlds.{Saw, LeadsOn, IsPhase, HasSaid}
+use Rattle.bl_trails.specs.Trails.{Said, Mark, Trail, entries_at, history_of, same_name, marks_of, DoesAt, SaysAt, IsPoint, Answered, IsMarked, Saw, LeadsOn, IsPhase, HasSaid}
 
 get_old : {A : Type 0} (xs : List A) (y : A) (i : ℕ) → i < length xs → slice_get (xs ++ y ∷ []) i ≡ slice_get xs i
 get_old [] y i h = absurd (omega arith)

@@ -1,11 +1,12 @@
 -- Trails: what has happened, event by event, with the point of each answered operation.
-use Rattle.std.specs.Prelude.{◌≡◌, ◌≢◌, ℕ, ◌<◌, ◌≤◌, ◌==◌, ◌&&◌, ◌++◌, Bool, if◌then◌else◌, Option, Some, None, List, [], ◌∷◌, map, slice_get}
+use Rattle.std.specs.Prelude.{◌≡◌, ℕ, ◌<◌, ◌≤◌, ◌==◌, ◌&&◌, ◌++◌, Bool, if◌then◌else◌, Option, Some, None, List, [], ◌∷◌, slice_get}
 use Rattle.bl_model.specs.declared.operation.Op.{Op}
 use Rattle.bl_model.specs.declared.operation.Reply.{Reply}
 use Rattle.bl_model.specs.declared.operation.Entry.{Entry}
 use Rattle.bl_page.specs.declared.page.Page.{Page}
-use Rattle.bl_page.specs.Machine.{Name, Act, Event}
-use Rattle.bl_page.specs.Machine.Act.{Begin, End}
+use Rattle.bl_page.specs.Machine.{Name, State, Phase, Act, Event, Steps}
+use Rattle.bl_page.specs.Machine.Act.{Begin, End, Get}
+use Rattle.bl_page.specs.Machine.Phase.{Waiting, Running, Ended}
 
 -- an answered operation
 pub record Said : Type 0 where
@@ -74,3 +75,23 @@ pub record IsMarked (trail : Trail) : Type 0 where
   pub points : (i : ℕ) (p : Name) (said : Said) → SaysAt trail i p said → IsPoint trail i p
   pub once : (i j : ℕ) (p : Name) (said other : Said) → SaysAt trail i p said → SaysAt trail j p other → i ≡ j
   pub answered : (i : ℕ) (p : Name) (answer : Option Reply) → DoesAt trail i p (End answer) → Answered trail p answer
+
+-- the marks lead from one state to another, and each get saw what the page held
+abbrev pub Saw : State Page → Act Page Reply → Option Page → Type 0
+Saw s (Get x) saw = saw ≡ Some (s.contents x)
+Saw s a saw = Unit {0}
+
+abbrev pub LeadsOn : State Page → Trail → State Page → Type 0
+LeadsOn s [] s' = s' ≡ s
+LeadsOn s (m ∷ ms) s' = (mid : State Page) × Steps s m.event mid × Saw s m.event.act m.saw × LeadsOn mid ms s'
+
+-- where a process stands, as the trail tells it
+abbrev pub IsPhase : Trail → Name → Phase → Type 0
+IsPhase trail p Waiting = ((i : ℕ) → DoesAt trail i p Begin → ⊥) × ((i : ℕ) (a : Option Reply) → DoesAt trail i p (End a) → ⊥)
+IsPhase trail p (Running since) = ((i : ℕ) × DoesAt trail i p Begin) × ((i : ℕ) (a : Option Reply) → DoesAt trail i p (End a) → ⊥)
+IsPhase trail p Ended = (i : ℕ) × DoesAt trail i p Begin
+
+-- what an operation of p has said so far
+abbrev pub HasSaid : Trail → Name → Option Said → Type 0
+HasSaid trail p None = (i : ℕ) (said : Said) → SaysAt trail i p said → ⊥
+HasSaid trail p (Some said) = (i : ℕ) × SaysAt trail i p said

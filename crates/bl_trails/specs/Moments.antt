@@ -1,13 +1,12 @@
 -- Which pages are in the tree at a moment, and which are in the middle of a compression. Both are told by the owners and by
 -- what their holders have done.
-use Rattle.std.specs.Prelude.{◌≡◌, ◌≢◌, ◌⊎◌, ℕ, ◌++◌, List, [], ◌∷◌, Contains}
+use Rattle.std.specs.Prelude.{◌≡◌, ◌≢◌, ◌⊎◌, ℕ, ◌++◌, ◌∷◌, Contains}
 use Rattle.bl_model.specs.declared.operation.Reply.{Reply}
 use Rattle.bl_page.specs.declared.page.Page.{Page}
 use Rattle.bl_page.specs.Machine.{Name, Owner, State, Act}
 use Rattle.bl_page.specs.Machine.Owner.{Held}
-use Rattle.bl_tree.specs.Nodes.{Node}
 use Rattle.bl_laws.specs.Pages.{node_of, IsTreePage}
-use Rattle.bl_steps.specs.Trails.{Mark, Trail, marks_of}
+use Rattle.bl_trails.specs.Trails.{Mark, Trail, marks_of}
 
 -- one of these puts the page
 pub record Puts (marks : Trail) (x : ℕ) : Type 0 where
