@@ -5,7 +5,7 @@ use Rattle.bl_page.specs.Machine.{Name}
 use Rattle.bl_page.specs.Machine.Owner.{Held, Retired}
 use Rattle.bl_tree.specs.Nodes.{unbounded}
 use Rattle.bl_tree.specs.Trees.{Tree, IsTree}
-use Rattle.bl_tree.specs.Trees.Status.{Gone}
+use Rattle.bl_tree.specs.Trees.Status.{Right, Gone}
 use Rattle.bl_laws.specs.Pages.{node_of, roots_of}
 use Rattle.bl_trails.specs.Trails.{Mark}
 use Rattle.bl_steps.specs.Worlds.{Know, World, nodes, tree_of, MapsTo, IsSure, Holds, HasMiddle, AreOwned, IsGood, Extends}
@@ -27,14 +27,15 @@ same_tree w w' s g =
     let e : tree_of w' ≡ tree_of w = λ i. record { node = λ x. node_of (c i x); roots = roots_of (c i 0); status = s.status i; sep = s.sep i; map = s.map i } in
     subst (λ (t : Tree). IsTree unbounded t) (sym e) g
 
-pub middles_step : {P : Type 0} (know : P → Know) (w w' : World P) (m : Mark) (b : P) (x y : ℕ) → Extends w w' m b → (know b).middle ≡ (know (w.proc m.event.process)).middle → HasMiddle know w x y → HasMiddle know w' x y
-middles_step know w w' m b x y e same h = record {
+pub middles_step : {P : Type 0} (know : P → Know) (w w' : World P) (m : Mark) (b : P) (x y : ℕ) → Extends w w' m b → (know b).middle ≡ (know (w.proc m.event.process)).middle → ((q : Name) → w.now.owner y ≡ Held q → w'.now.owner y ≡ Held q) → HasMiddle know w x y → HasMiddle know w' x y
+middles_step know w w' m b x y e same kept h = record {
   by = h.by;
   parent = h.parent;
   is = elim (name_cases h.by m.event.process) [
     | inl i ↦ rw (i, e.proc.at) (same ∙ rw (← i) h.is)
     | inr i ↦ rw (e.proc.others h.by i) h.is
   ];
+  held = kept h.by h.held;
 }
 
 -- who holds what, where only p gets or gives a page
@@ -53,6 +54,8 @@ pub record Still {P : Type 0} (know : P → Know) (w w' : World P) (m : Mark) (b
   pub retired_back : (x time : ℕ) → w'.now.owner x ≡ Retired time → w.now.owner x ≡ Retired time
   pub others : (q : Name) (x : ℕ) → q ≢ m.event.process → w.now.owner x ≡ Held q → w'.now.owner x ≡ Held q
   pub middle : (know b).middle ≡ (know (w.proc m.event.process)).middle
+  -- whoever holds the right page of a compression keeps it
+  pub paired : (x y : ℕ) (q : Name) → w.status y ≡ Right x → w.now.owner y ≡ Held q → w'.now.owner y ≡ Held q
   -- whoever holds a dead page held it, and still holds the page that it leads to
   pub dead : (x : ℕ) (q : Name) → w.status x ≡ Gone → w'.now.owner x ≡ Held q → (w.now.owner x ≡ Held q) × (w.now.owner (nodes w.now x).shape.right ≡ Held q → w'.now.owner (nodes w.now x).shape.right ≡ Held q)
 
@@ -96,6 +99,6 @@ still_keeps know w w' m b s say maps name owned own g =
           let d = s.dead x q o held in
           let old = (g.gone x o).not_yet q d.0 in
           (d.0, d.1 old.0, rw s.ghosts.status old.1)) (g.gone x o);
-      middles = λ x y h. middles_step know w w' m b x y s.extends s.middle (g.middles x y (rw s.ghosts.status at h));
+      middles = λ x y h. let o : w.status y ≡ Right x = rw s.ghosts.status at h in middles_step know w w' m b x y s.extends s.middle (λ q k. s.paired x y q o k) (g.middles x y o);
       sure = all_sure know w w' m b s.extends (still_leaves s) g.sure own;
     }

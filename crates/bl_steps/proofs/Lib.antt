@@ -7,3 +7,4 @@ pub mod Watches
 pub mod Latches
 pub mod Outside
 pub mod Ends
+pub mod Puts

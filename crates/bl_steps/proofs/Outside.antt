@@ -107,7 +107,7 @@ Takes-keeps know w w' p x b s g =
     let v = sym (back y n) ∙ held in
     let old = (g.gone y o).not_yet q v in
     (v, back _ (live_was_not _ old.1) ∙ old.0, rw (u.others _ (live_was_not _ old.1)) old.1)) (g.gone y o))
-    (λ a y h. middles_step know w w' (silent p (Take x)) b a y s.extends s.middle (g.middles a y (sym (u.others y (status_not y (Right a) h (λ e. cc))) ∙ h)))
+    (λ a y h. middles_step know w w' (silent p (Take x)) b a y s.extends s.middle (λ q k. back y (was_not_x y (Held q) k (λ e. cc)) ∙ k) (g.middles a y (sym (u.others y (status_not y (Right a) h (λ e. cc))) ∙ h)))
     (record {
       owner = λ q y n h. back y (was_not_x y (Held q) h (λ e. cc)) ∙ h;
       contents = λ q y n h. change.0 y;
@@ -210,7 +210,7 @@ Retires-keeps know w w' p x b s g =
           let k = old.not_yet q v in
           rw (node y) (back _ (live_was_not _ k.1) ∙ k.0, rw s.status k.1, ap (λ v. v.shape.level) (node (nodes w.now y).shape.right) ∙ k.2);
     })
-    (λ a y h. middles_step know w w' (silent p (Retire x)) b a y s.extends s.middle (g.middles a y (rw s.status at h)))
+    (λ a y h. let o : w.status y ≡ Right a = rw s.status at h in middles_step know w w' (silent p (Retire x)) b a y s.extends s.middle (λ q k. back y (status_was_not y (Right a) o (λ e. cc)) ∙ k) (g.middles a y o))
     (record {
       owner = λ q y n h. back y (was_not_x y (Held q) h (λ e. n cc)) ∙ h;
       contents = λ q y n h. change.3.0 y;
@@ -304,7 +304,7 @@ Releases-keeps know w w' p x b s g =
           let k = old.not_yet q (sym (back y n) ∙ held) in
           rw (node y) (back _ (live_was_not _ k.1) ∙ k.0, rw (u.others _ (live_was_not _ k.1)) k.1, ap (λ v. v.shape.level) (node (nodes w.now y).shape.right) ∙ k.2);
     })
-    (λ a y h. middles_step know w w' (silent p (Release x)) b a y s.extends s.middle (g.middles a y (sym (u.others y (status_not y (Right a) h (λ e. cc))) ∙ h)))
+    (λ a y h. middles_step know w w' (silent p (Release x)) b a y s.extends s.middle (λ q k. back y (was_held_not y q k) ∙ k) (g.middles a y (sym (u.others y (status_not y (Right a) h (λ e. cc))) ∙ h)))
     (record {
       owner = λ q y n h. back y (was_held_not y q h) ∙ h;
       contents = λ q y n h. change.0 y;

@@ -154,6 +154,7 @@ pub record HasMiddle {P : Type 0} (know : P → Know) (w : World P) (x y : ℕ) 
   pub by : Name
   pub parent : ℕ
   pub is : (know (w.proc by)).middle ≡ Some (record { parent = parent; left = x; right = y })
+  pub held : w.now.owner y ≡ Held by
 
 -- A dead page leads to the left, to a page that is or was of its level, and whoever may get the one may get the other. Until
 -- it is retired, one process holds both.
