@@ -1,11 +1,14 @@
 -- Which pages are in the tree at a moment, and which are in the middle of a compression. Both are told by the owners and by
 -- what their holders have done.
-use Rattle.std.specs.Prelude.{◌≡◌, ◌≢◌, ◌⊎◌, ℕ, ◌++◌, ◌∷◌, Contains}
+use Rattle.std.specs.Prelude.{◌≡◌, ◌≢◌, ◌⊎◌, ℕ, ◌<◌, ◌++◌, ◌∷◌, Contains}
 use Rattle.bl_model.specs.declared.operation.Reply.{Reply}
 use Rattle.bl_page.specs.declared.page.Page.{Page}
 use Rattle.bl_page.specs.Machine.{Name, Owner, State, Act}
 use Rattle.bl_page.specs.Machine.Owner.{Held}
-use Rattle.bl_laws.specs.Pages.{node_of, IsTreePage}
+use Rattle.bl_tree.specs.Nodes.{Look, unbounded}
+use Rattle.bl_laws.specs.Pages.{node_of, roots_of, IsTreePage}
+use Rattle.bl_laws.specs.Laws.{Agreement, Overlap, HasChain, Listing}
+use Rattle.bl_laws.specs.Walks.{HasLoneWalk}
 use Rattle.bl_trails.specs.Trails.{Mark, Trail, marks_of}
 
 -- one of these puts the page
@@ -59,3 +62,12 @@ pub record InEvening (s : State Page) (trail : Trail) (y : ℕ) : Type 0 where
   pub left : ℕ
   pub linked : (node_of (s.contents left)).shape.right ≡ y
   pub middle : InMiddle s trail left y
+
+-- The laws of the tree at a moment: its live leaves agree with the map, live pages overlap only in the middle of a
+-- compression, each level has its chain, children are listed as they are, and the lone walk of each key finds its leaf.
+pub record HasLaws (s : State Page) (trail : Trail) (map : Look) : Type 0 where
+  pub agreement : Agreement (IsLivePage s trail) (λ x. node_of (s.contents x)) map
+  pub overlap : Overlap (IsLivePage s trail) (λ x. node_of (s.contents x)) (InMiddle s trail)
+  pub chains : (level : ℕ) → level < (roots_of (s.contents 0)).levels → HasChain (IsLivePage s trail) (λ x. node_of (s.contents x)) (roots_of (s.contents 0)) (InMiddle s trail) level
+  pub listing : Listing (IsLivePage s trail) (λ x. node_of (s.contents x)) (InEvening s trail)
+  pub walks : (k : ℕ) → k < unbounded → HasLoneWalk (IsLivePage s trail) (λ x. node_of (s.contents x)) (roots_of (s.contents 0)) k
