@@ -1,1 +1,2 @@
 pub mod WorldLaws
+pub mod Starts

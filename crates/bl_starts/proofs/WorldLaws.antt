@@ -1,23 +1,20 @@
 -- A good world has the laws of the tree.
-use Rattle.std.proofs.Common.{ℕ, ◌≡◌, ◌≢◌, ◌⊎◌, ◌≤◌, ◌<◌, Bool, true, false, Option, Some, None, suc, List, [], ◌∷◌, arith, ap, sym, ◌∙◌, refl, inl, inr}
+use Rattle.std.proofs.Common.{ℕ, ◌≡◌, ◌⊎◌, ◌<◌, List, [], ◌∷◌, arith, ap, sym, ◌∙◌, refl, inl, inr}
 use Rattle.std.proofs.lemmas.Bool.{false≢true}
 use Rattle.bl_page.specs.declared.page.Page.{Page}
 use Rattle.bl_page.specs.declared.page.Page.TheVariants.{Anchor, Leaf, Inner, Dead}
-use Rattle.bl_page.specs.Machine.{Name, Owner, State}
+use Rattle.bl_page.specs.Machine.{Name, Owner}
 use Rattle.bl_page.specs.Machine.Owner.{Released, Held, Retired}
-use Rattle.bl_tree.specs.Nodes.{Node, Look, Covers, Roots, unbounded}
-use Rattle.bl_tree.specs.Trees.{Status, is_live, IsLive, Tree, IsTree}
+use Rattle.bl_tree.specs.Trees.{Status, is_live, IsLive}
 use Rattle.bl_tree.specs.Trees.Status.{Free, Fresh, Live, Left, Right, Gone, Anchored}
 use Rattle.bl_tree.proofs.Statuses.{live_live, left_live, right_live, free_dead, gone_dead}
-use Rattle.bl_laws.specs.Pages.{node_of, roots_of, IsTreePage, IsSoundNode, AllSound}
-use Rattle.bl_laws.specs.Laws.{Agreement, Overlap, IsLinked, IsChain, HasChain, IsListed, Listing}
-use Rattle.bl_laws.specs.Walks.{HasLoneWalk}
+use Rattle.bl_laws.specs.Pages.{node_of, roots_of, IsTreePage, AllSound}
+use Rattle.bl_laws.specs.Laws.{IsChain}
 use Rattle.bl_laws.proofs.LawsHold.{live, KnowsMiddles, agreement, overlap, has_chain, listing}
 use Rattle.bl_laws.proofs.WalksEnd.{lone_walk}
 use Rattle.bl_laws.proofs.SoundPages.{sound_node, wide_page}
-use Rattle.bl_trails.specs.Trails.{Trail}
-use Rattle.bl_trails.specs.Moments.{IsFresh, IsLivePage, InMiddle, InEvening, HasLaws}
-use Rattle.bl_steps.specs.Worlds.{Know, World, nodes, tree_of, IsGone, AreOwned, AreNamed, IsGood}
+use Rattle.bl_trails.specs.Moments.{IsLivePage, InMiddle, InEvening, HasLaws}
+use Rattle.bl_steps.specs.Worlds.{Know, World, nodes, tree_of, IsGood}
 use Rattle.bl_starts.specs.Told.{TellsMiddles}
 
 -- a page that covers keys is a leaf or an inner page
