@@ -10,17 +10,14 @@ use Rattle.bl_tree.specs.Nodes.{unbounded}
 use Rattle.bl_tree.specs.Trees.{IsLive, IsTree}
 use Rattle.bl_tree.specs.Trees.Status.{Free, Fresh, Right, Gone, Anchored}
 use Rattle.bl_laws.specs.Pages.{node_of}
-use Rattle.bl_trails.specs.Trails.{Said, Mark, HasSaid}
-use Rattle.bl_steps.specs.Worlds.{Child, Know, World, nodes, tree_of, was_in, MapsTo, IsRelied, IsSure, Holds, IsGood, Extends}
+use Rattle.bl_trails.specs.Trails.{Said, HasSaid}
+use Rattle.bl_steps.specs.Worlds.{Child, Know, World, nodes, tree_of, was_in, MapsTo, IsRelied, IsSure, Holds, IsGood, Extends, put_mark}
 use Rattle.bl_trails.proofs.Pushes.{name_cases}
 use Rattle.bl_steps.proofs.Steady.{Steady, was_live, may_still, passed_still, gone_still}
 use Rattle.bl_steps.proofs.Records.{IsInner}
 use Rattle.bl_steps.proofs.Ghosts.{held_step}
 use Rattle.bl_steps.proofs.Watches.{may_say}
 use Rattle.bl_steps.proofs.Outside.{inner_keeps}
-
-abbrev pub put_mark : Name → ℕ → Page → Option Said → Mark
-put_mark p x c said = record { event = record { process = p; act = Put x c }; saw = None; said = said }
 
 -- a page that p marks dead leads to a live page of its level that p holds
 pub record Marks {P : Type 0} (w w' : World P) (p : Name) (x : ℕ) : Type 0 where

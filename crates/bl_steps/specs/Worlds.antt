@@ -205,6 +205,10 @@ MapsTo m m' (Some said) = MayAnswer m said.op said.reply × ((k : ℕ) → m' k 
 abbrev pub silent : Name → Act Page Reply → Mark
 silent p act = record { event = record { process = p; act = act }; saw = None; said = None }
 
+-- a put, at which an operation may have its point
+abbrev pub put_mark : Name → ℕ → Page → Option Said → Mark
+put_mark p x c said = record { event = record { process = p; act = Act.Put x c }; saw = None; said = said }
+
 -- One event of p, after which p is b. The trail has one mark more, of that event.
 pub record Extends {P : Type 0} (w w' : World P) (m : Mark) (b : P) : Type 0 where
   pub start : w'.start ≡ w.start
