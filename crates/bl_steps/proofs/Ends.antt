@@ -79,7 +79,7 @@ turns_keeps know w w' m b phase s g =
             ];
             not_yet = λ q held. let k = old.not_yet q (sym (s.owner x) ∙ held) in rw (node x) (s.owner _ ∙ k.0, rw s.ghost.status k.1, ap (λ v. v.shape.level) (node (nodes w.now x).shape.right) ∙ k.2);
           };
-      middles = λ x y h. middles_step know w w' m b x y s.extends s.middle (λ q k. s.owner y ∙ k) (g.middles x y (rw s.ghost.status at h));
+      middles = λ x y h. let o : w.status y ≡ _ = rw s.ghost.status at h in let i = g.middles x y o in middles_step know w w' m b x y s.extends s.middle i (λ z k l. (s.owner z ∙ k, ap (λ f. f z) s.ghost.status, node z)) o;
       sure = all_sure know w w' m b s.extends (record {
         owner = λ q x n h. s.owner x ∙ h;
         contents = λ q x n h. s.contents x;

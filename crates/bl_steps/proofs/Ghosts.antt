@@ -1,11 +1,11 @@
 -- Events that change no page's contents: the tree stays as it is.
-use Rattle.std.proofs.Common.{ℕ, ◌≡◌, ◌≢◌, subst, ap, sym, ◌∙◌, inl, inr}
+use Rattle.std.proofs.Common.{◌⊎◌, ℕ, ◌≡◌, ◌≢◌, subst, ap, sym, ◌∙◌, inl, inr}
 use Rattle.std.proofs.Math.Path.{fun_ext}
 use Rattle.bl_page.specs.Machine.{Name}
 use Rattle.bl_page.specs.Machine.Owner.{Held, Retired}
 use Rattle.bl_tree.specs.Nodes.{unbounded}
 use Rattle.bl_tree.specs.Trees.{Tree, IsTree}
-use Rattle.bl_tree.specs.Trees.Status.{Right, Gone}
+use Rattle.bl_tree.specs.Trees.Status.{Live, Right, Gone}
 use Rattle.bl_laws.specs.Pages.{node_of, roots_of}
 use Rattle.bl_trails.specs.Trails.{Mark}
 use Rattle.bl_steps.specs.Worlds.{Know, World, nodes, tree_of, MapsTo, IsSure, Holds, HasMiddle, AreOwned, IsGood, Extends}
@@ -27,16 +27,24 @@ same_tree w w' s g =
     let e : tree_of w' ≡ tree_of w = λ i. record { node = λ x. node_of (c i x); roots = roots_of (c i 0); status = s.status i; sep = s.sep i; map = s.map i } in
     subst (λ (t : Tree). IsTree unbounded t) (sym e) g
 
-pub middles_step : {P : Type 0} (know : P → Know) (w w' : World P) (m : Mark) (b : P) (x y : ℕ) → Extends w w' m b → (know b).middle ≡ (know (w.proc m.event.process)).middle → ((q : Name) → w.now.owner y ≡ Held q → w'.now.owner y ≡ Held q) → HasMiddle know w x y → HasMiddle know w' x y
-middles_step know w w' m b x y e same kept h = record {
-  by = h.by;
-  parent = h.parent;
-  is = elim (name_cases h.by m.event.process) [
-    | inl i ↦ rw (i, e.proc.at) (same ∙ rw (← i) h.is)
-    | inr i ↦ rw (e.proc.others h.by i) h.is
-  ];
-  held = kept h.by h.held;
-}
+-- the middle of a compression, where neither the parent nor the right page changes
+pub middles_step : {P : Type 0} (know : P → Know) (w w' : World P) (m : Mark) (b : P) (x y : ℕ) → Extends w w' m b → (know b).middle ≡ (know (w.proc m.event.process)).middle → (h : HasMiddle know w x y) → ((z : ℕ) → w.now.owner z ≡ Held h.by → (w.status z ≡ Live) ⊎ (w.status z ≡ Right x) → (w'.now.owner z ≡ Held h.by) × (w'.status z ≡ w.status z) × (nodes w'.now z ≡ nodes w.now z)) → w.status y ≡ Right x → HasMiddle know w' x y
+middles_step know w w' m b x y e same h kept right =
+    let a = kept h.parent h.parent_held (inl h.parent_live) in
+    let c = kept y h.held (inr right) in
+    record {
+      by = h.by;
+      parent = h.parent;
+      is = elim (name_cases h.by m.event.process) [
+        | inl i ↦ rw (i, e.proc.at) (same ∙ rw (← i) h.is)
+        | inr i ↦ rw (e.proc.others h.by i) h.is
+      ];
+      held = c.0;
+      parent_held = a.0;
+      parent_live = a.1 ∙ h.parent_live;
+      parent_level = rw (a.2, c.2) h.parent_level;
+      parent_covers = rw (a.2, c.2) h.parent_covers;
+    }
 
 -- who holds what, where only p gets or gives a page
 pub held_step : {P : Type 0} (know : P → Know) (w w' : World P) (m : Mark) (b : P) → Extends w w' m b → ((x : ℕ) → w'.now.owner x ≡ Held m.event.process → Holds (know b).holds x) → ((x : ℕ) (q : Name) → q ≢ m.event.process → w'.now.owner x ≡ Held q → w.now.owner x ≡ Held q) → AreOwned know w → (x : ℕ) (q : Name) → w'.now.owner x ≡ Held q → Holds (know (w'.proc q)).holds x
@@ -54,8 +62,8 @@ pub record Still {P : Type 0} (know : P → Know) (w w' : World P) (m : Mark) (b
   pub retired_back : (x time : ℕ) → w'.now.owner x ≡ Retired time → w.now.owner x ≡ Retired time
   pub others : (q : Name) (x : ℕ) → q ≢ m.event.process → w.now.owner x ≡ Held q → w'.now.owner x ≡ Held q
   pub middle : (know b).middle ≡ (know (w.proc m.event.process)).middle
-  -- whoever holds the right page of a compression keeps it
-  pub paired : (x y : ℕ) (q : Name) → w.status y ≡ Right x → w.now.owner y ≡ Held q → w'.now.owner y ≡ Held q
+  -- whoever is in the middle of a compression keeps its pages
+  pub paired : (x y : ℕ) → (h : HasMiddle know w x y) → w.status y ≡ Right x → (z : ℕ) → w.now.owner z ≡ Held h.by → (w.status z ≡ Live) ⊎ (w.status z ≡ Right x) → w'.now.owner z ≡ Held h.by
   -- whoever holds a dead page held it, and still holds the page that it leads to
   pub dead : (x : ℕ) (q : Name) → w.status x ≡ Gone → w'.now.owner x ≡ Held q → (w.now.owner x ≡ Held q) × (w.now.owner (nodes w.now x).shape.right ≡ Held q → w'.now.owner (nodes w.now x).shape.right ≡ Held q)
 
@@ -99,6 +107,6 @@ still_keeps know w w' m b s say maps name owned own g =
           let d = s.dead x q o held in
           let old = (g.gone x o).not_yet q d.0 in
           (d.0, d.1 old.0, rw s.ghosts.status old.1)) (g.gone x o);
-      middles = λ x y h. let o : w.status y ≡ Right x = rw s.ghosts.status at h in middles_step know w w' m b x y s.extends s.middle (λ q k. s.paired x y q o k) (g.middles x y o);
+      middles = λ x y h. let o : w.status y ≡ Right x = rw s.ghosts.status at h in let h = g.middles x y o in middles_step know w w' m b x y s.extends s.middle h (λ z k l. (s.paired x y h o z k l, ap (λ f. f z) s.ghosts.status, ap node_of (s.ghosts.contents z))) o;
       sure = all_sure know w w' m b s.extends (still_leaves s) g.sure own;
     }

@@ -1,5 +1,5 @@
 -- Latches and opens keep the world good.
-use Rattle.std.proofs.Common.{ℕ, ◌≡◌, ◌≢◌, ◌⊎◌, arith, ap, sym, ◌∙◌, inl, inr}
+use Rattle.std.proofs.Common.{Some, None, ℕ, ◌≡◌, ◌≢◌, ◌⊎◌, arith, ap, sym, ◌∙◌, inl, inr}
 use Rattle.std.proofs.lemmas.Bool.{cases_eq}
 use Rattle.bl_page.specs.Machine.{Name, Owner, Act}
 use Rattle.bl_page.specs.Machine.Owner.{Released, Held, Retired}
@@ -36,7 +36,7 @@ Latches-keeps know w w' p x b s g =
       retired_back = λ y t h. sym (back y (not_x y (Retired t) h (λ e. cc))) ∙ h;
       others = λ q y n h. back y (was_not_x y (Held q) h (λ e. cc)) ∙ h;
       middle = s.middle;
-      paired = λ a y q d h. back y (was_not_x y (Held q) h (λ e. cc)) ∙ h;
+      paired = λ a y h d z k l. back z (was_not_x z (Held h.by) k (λ e. cc)) ∙ k;
       dead = λ y q d h. (sym (back y (λ i. not_gone (ap w.status (sym i) ∙ d))) ∙ h, λ e. back _ (was_not_x _ (Held q) e (λ v. cc)) ∙ e);
     } in
     still_keeps know w w' (silent p (Latch x)) b still (may_say know w (silent p (Latch x)) still.inner (λ said h. cc) g) (λ k. ap (λ f. f 0 k) s.ghost.map)
@@ -80,6 +80,8 @@ pub record Opens {P : Type 0} (know : P → Know) (w w' : World P) (p : Name) (x
   pub extends : Extends w w' (silent p (Act.Open x)) b
   pub ghost : SameGhost w w'
   pub named : (w.status x ≡ Live) ⊎ (w.status x ≡ Anchored)
+  -- p opens no page in the middle of a compression
+  pub no_middle : (know (w.proc p)).middle ≡ None
   -- a page that p has marked dead it retires before it opens another
   pub no_dead : (y : ℕ) → w.status y ≡ Gone → w.now.owner y ≢ Held p
   pub middle : (know b).middle ≡ (know (w.proc p)).middle
@@ -96,7 +98,6 @@ Opens-keeps know w w' p x b s g =
     let not_x : (y : ℕ) (o : Owner) → w'.now.owner y ≡ o → o ≢ Owner.Open → y ≢ x = λ y o h n i. n (sym h ∙ (ap w'.now.owner i ∙ owner.at)) in
     let was_not_x : (y : ℕ) (o : Owner) → w.now.owner y ≡ o → o ≢ Held p → y ≢ x = λ y o h n i. n (sym h ∙ (ap w.now.owner i ∙ was)) in
     let not_fresh : w.status x ≢ Fresh = λ e. elim s.named [ inl o ↦ cc | inr o ↦ cc ] in
-    let not_right : (a : ℕ) → w.status x ≢ Right a = λ a e. elim s.named [ inl o ↦ cc | inr o ↦ cc ] in
     let not_gone : w.status x ≢ Gone = λ e. elim s.named [ inl o ↦ cc | inr o ↦ cc ] in
     let still : Still know w w' (silent p (Act.Open x)) b = record {
       extends = s.extends;
@@ -106,7 +107,7 @@ Opens-keeps know w w' p x b s g =
       retired_back = λ y t h. sym (back y (not_x y (Retired t) h (λ e. cc))) ∙ h;
       others = λ q y n h. back y (was_not_x y (Held q) h (λ e. n cc)) ∙ h;
       middle = s.middle;
-      paired = λ a y q d h. back y (λ i. not_right a (ap w.status (sym i) ∙ d)) ∙ h;
+      paired = λ a y h d z k l. back z (was_not_x z (Held h.by) k (λ e. (let i : h.by ≡ p = cc in let f : (know (w.proc h.by)).middle ≡ None = rw i s.no_middle in cc (h.is)))) ∙ k;
       dead = λ y q d h.
           let was_held : w.now.owner y ≡ Held q = sym (back y (λ i. not_gone (ap w.status (sym i) ∙ d))) ∙ h in
           (was_held, λ e. back _ (was_not_x _ (Held q) e (λ v. s.no_dead y d (let i : q ≡ p = cc in was_held ∙ ap Held i))) ∙ e);

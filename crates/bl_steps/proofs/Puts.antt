@@ -1,14 +1,14 @@
 -- A process puts a page that it holds.
-use Rattle.std.proofs.Common.{ℕ, ◌≡◌, ◌≢◌, ◌⊎◌, true, Option, Some, None, arith, ap, sym, ◌∙◌, refl, inl, inr}
+use Rattle.std.proofs.Common.{suc, ℕ, ◌≡◌, ◌≢◌, ◌⊎◌, true, Option, Some, None, arith, ap, sym, ◌∙◌, refl, inl, inr}
 use Rattle.std.proofs.lemmas.Bool.{cases_eq}
 use Rattle.bl_page.specs.declared.page.Page.{Page}
 use Rattle.bl_page.specs.Machine.{Name, Owner}
 use Rattle.bl_page.specs.Machine.Owner.{Released, Held, Retired}
 use Rattle.bl_page.specs.Machine.Act.{Put}
 use Rattle.bl_page.specs.Machine.Phase.{Running}
-use Rattle.bl_tree.specs.Nodes.{unbounded}
+use Rattle.bl_tree.specs.Nodes.{Covers, unbounded}
 use Rattle.bl_tree.specs.Trees.{IsLive, IsTree}
-use Rattle.bl_tree.specs.Trees.Status.{Free, Fresh, Right, Gone, Anchored}
+use Rattle.bl_tree.specs.Trees.Status.{Free, Fresh, Live, Right, Gone, Anchored}
 use Rattle.bl_laws.specs.Pages.{node_of}
 use Rattle.bl_trails.specs.Trails.{Said, HasSaid}
 use Rattle.bl_steps.specs.Worlds.{Child, Know, World, nodes, tree_of, was_in, MapsTo, IsRelied, IsSure, Holds, IsGood, Extends, put_mark}
@@ -26,6 +26,15 @@ pub record Marks {P : Type 0} (w w' : World P) (p : Name) (x : ℕ) : Type 0 whe
   pub held : w.now.owner (nodes w'.now x).shape.right ≡ Held p
   pub level : (nodes w'.now (nodes w'.now x).shape.right).shape.level ≡ (nodes w'.now x).shape.level
 
+-- p is in the middle of a compression of the two after its put
+pub record InMiddleOf {P : Type 0} (know : P → Know) (w w' : World P) (p : Name) (b : P) (a y : ℕ) : Type 0 where
+  pub parent : ℕ
+  pub is : (know b).middle ≡ Some (record { parent = parent; left = a; right = y })
+  pub held : w.now.owner parent ≡ Held p
+  pub live : w'.status parent ≡ Live
+  pub level : (nodes w'.now parent).shape.level ≡ suc (nodes w'.now y).shape.level
+  pub covers : Covers (nodes w'.now parent).shape (nodes w'.now y).shape.low
+
 -- p puts page x. Where pages stand, and by which keys they are listed, changes at pages that p holds alone.
 pub record Puts {P : Type 0} (know : P → Know) (w w' : World P) (p : Name) (x : ℕ) (c : Page) (said : Option Said) (b : P) : Type 0 where
   pub extends : Extends w w' (put_mark p x c said) b
@@ -40,7 +49,7 @@ pub record Puts {P : Type 0} (know : P → Know) (w w' : World P) (p : Name) (x 
   pub becomes : (y : ℕ) → w.now.owner y ≡ Held p → IsLive (w'.status y) → IsLive (w.status y) ⊎ (y ≢ x)
   pub gone : (y : ℕ) → w.now.owner y ≡ Held p → w'.status y ≡ Gone → (y ≡ x) × Marks w w' p x
   pub no_dead : (y : ℕ) → w.now.owner y ≡ Held p → w.status y ≢ Gone
-  pub middle : (a y : ℕ) → w.now.owner y ≡ Held p → w'.status y ≡ Right a → (parent : ℕ) × ((know b).middle ≡ Some (record { parent = parent; left = a; right = y }))
+  pub middle : (a y : ℕ) → w.now.owner y ≡ Held p → w'.status y ≡ Right a → InMiddleOf know w w' p b a y
   pub relied : (q : Name) (c : Child) → q ≢ p → IsRelied w q c → w.now.owner c.at ≡ Held p → IsLive (w'.status c.at) × (w'.sep c.at ≡ w.sep c.at)
   pub places : (y : ℕ) → Holds (know (w.proc p)).holds y → Holds (know b).holds y
   pub point : (s : Said) → said ≡ Some s → ((since : ℕ) × (w.now.phase p ≡ Running since)) × HasSaid w.trail p None
@@ -131,11 +140,14 @@ Puts-keeps know w w' p x c said b s g =
           (f, back (nodes w.now y).shape.right ∙ k.0, rw (s.status (nodes w.now y).shape.right other) k.1)) (g.gone y o)
     ])
     (λ a y h. elim (mine p (w.now.owner y)) [
-      | inl i ↦ let k = s.middle a y i h in record { by = p; parent = k.0; is = rw (s.extends.proc.at) k.1; held = back y ∙ i }
+      | inl i ↦ let k = s.middle a y i h in record { by = p; parent = k.parent; is = rw (s.extends.proc.at) k.is; held = back y ∙ i; parent_held = back k.parent ∙ k.held; parent_live = k.live; parent_level = k.level; parent_covers = k.covers }
       | inr i ↦
           let k = g.middles a y (sym (s.status y i) ∙ h) in
           let n : k.by ≢ p = λ v. i (k.held ∙ ap Held v) in
-          record { by = k.by; parent = k.parent; is = rw (s.extends.proc.others k.by n) k.is; held = back y ∙ k.held }
+          let other = not_held k.by k.parent n k.parent_held in
+          let parent_node = node k.parent (not_x k.by k.parent n k.parent_held) in
+          let right_node = node y (not_x k.by y n k.held) in
+          record { by = k.by; parent = k.parent; is = rw (s.extends.proc.others k.by n) k.is; held = back y ∙ k.held; parent_held = back k.parent ∙ k.parent_held; parent_live = s.status k.parent other ∙ k.parent_live; parent_level = rw (parent_node, right_node) k.parent_level; parent_covers = rw (parent_node, right_node) k.parent_covers }
     ])
     (record {
       owner = λ q y n h. back y ∙ h;

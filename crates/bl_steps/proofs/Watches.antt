@@ -126,7 +126,7 @@ Watches-keeps know w w' m b s g =
       retired_back = λ x t h. sym (same.1 x) ∙ h;
       others = λ q x n h. same.1 x ∙ h;
       middle = s.middle;
-      paired = λ x y q d h. same.1 y ∙ h;
+      paired = λ x y h d z k l. same.1 z ∙ k;
       dead = λ x q d h. (sym (same.1 x) ∙ h, λ e. same.1 _ ∙ e);
     } in
     still_keeps know w w' m b still (may_say know w m (watch_inner m.event.act s.watch) s.point g) (rw (s.ghost.map) s.maps)

@@ -150,11 +150,16 @@ abbrev pub Holds : List Hold → ℕ → Type 0
 Holds [] x = ⊥
 Holds (h ∷ hs) x = (h.at ≡ x) ⊎ Holds hs x
 
+-- A process is in the middle of a compression: it holds the right page and the parent, which covers the right page's low.
 pub record HasMiddle {P : Type 0} (know : P → Know) (w : World P) (x y : ℕ) : Type 0 where
   pub by : Name
   pub parent : ℕ
   pub is : (know (w.proc by)).middle ≡ Some (record { parent = parent; left = x; right = y })
   pub held : w.now.owner y ≡ Held by
+  pub parent_held : w.now.owner parent ≡ Held by
+  pub parent_live : w.status parent ≡ Live
+  pub parent_level : (nodes w.now parent).shape.level ≡ suc (nodes w.now y).shape.level
+  pub parent_covers : Covers (nodes w.now parent).shape (nodes w.now y).shape.low
 
 -- A dead page leads to the left, to a page that is or was of its level, and whoever may get the one may get the other. Until
 -- it is retired, one process holds both.
