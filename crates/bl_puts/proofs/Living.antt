@@ -1,5 +1,5 @@
 -- Puts by which no page dies and no live page is listed by another key.
-use Rattle.std.proofs.Common.{ℕ, ◌≡◌, ◌≢◌, ◌⊎◌, true, false, Option, Some, ap, sym, ◌∙◌, inl, inr}
+use Rattle.std.proofs.Common.{None, ℕ, ◌≡◌, ◌≢◌, ◌⊎◌, true, false, Option, ap, sym, ◌∙◌, inl, inr}
 use Rattle.std.proofs.lemmas.Bool.{false≢true}
 use Rattle.bl_page.specs.declared.page.Page.{Page}
 use Rattle.bl_page.specs.Machine.{Name}
@@ -12,7 +12,7 @@ use Rattle.bl_laws.specs.Pages.{node_of}
 use Rattle.bl_trails.specs.Trails.{Said}
 use Rattle.bl_steps.specs.Worlds.{Know, World, nodes, tree_of, was_in, IsGood}
 use Rattle.bl_steps.proofs.Steady.{was_live, fresh_not}
-use Rattle.bl_steps.proofs.Puts.{Puts}
+use Rattle.bl_steps.proofs.Puts.{Puts, InMiddleOf}
 use Rattle.bl_puts.specs.Puts.{Owes}
 
 pub record Living {P : Type 0} (know : P → Know) (w w' : World P) (p : Name) (x : ℕ) (c : Page) (said : Option Said) (b : P) : Type 0 where
@@ -22,7 +22,7 @@ pub record Living {P : Type 0} (know : P → Know) (w w' : World P) (p : Name) (
   pub sep : (y : ℕ) → (w'.sep y ≡ w.sep y) ⊎ ((w.now.owner y ≡ Held p) × (w.status y ≡ Fresh))
   pub level : was_in (w.status x) ≡ true → (node_of c).shape.level ≡ (nodes w.now x).shape.level
   pub alone : (y : ℕ) → w.now.owner y ≡ Held p → w'.status y ≡ Fresh → y ≡ x
-  pub middle : (a y : ℕ) → w.now.owner y ≡ Held p → w'.status y ≡ Right a → (parent : ℕ) × ((know b).middle ≡ Some (record { parent = parent; left = a; right = y }))
+  pub middle : (a y : ℕ) → w.now.owner y ≡ Held p → w'.status y ≡ Right a → InMiddleOf know w w' p b a y
 
 -- a live status is none of these
 not_live : (a b : Status) → is_live b ≡ false → a ≡ b → IsLive a → ⊥
@@ -77,9 +77,24 @@ Living-puts know w w' p x c said b s =
       own = s.owes.own;
     }
 
--- whoever stays in the middle of what it was in the middle of
-pub middle_kept : {P : Type 0} (know : P → Know) (w : World P) (p : Name) (b : P) (a y : ℕ) → (know b).middle ≡ (know (w.proc p)).middle → IsGood know w → w.now.owner y ≡ Held p → w.status y ≡ Right a → (parent : ℕ) × ((know b).middle ≡ Some (record { parent = parent; left = a; right = y }))
-middle_kept know w p b a y same g o h =
+-- who is in the middle of no compression holds no page of one
+pub none_middle : {P : Type 0} (know : P → Know) (w : World P) (p : Name) (a y : ℕ) → (know (w.proc p)).middle ≡ None → IsGood know w → w.now.owner y ≡ Held p → w.status y ≡ Right a → ⊥
+none_middle know w p a y none g o h =
     let k = g.middles a y h in
     let i : k.by ≡ p = cc (k.held, o) in
-    (k.parent, same ∙ rw (← i) k.is)
+    let f : (know (w.proc k.by)).middle ≡ None = rw i none in
+    cc (k.is)
+
+-- whoever stays in the middle of what it was in the middle of, where no bound changes
+pub middle_kept : {P : Type 0} (know : P → Know) (w w' : World P) (p : Name) (b : P) (a y : ℕ) → (know b).middle ≡ (know (w.proc p)).middle → w'.status ≡ w.status → ((z : ℕ) → (nodes w'.now z).shape ≡ (nodes w.now z).shape) → IsGood know w → w.now.owner y ≡ Held p → w.status y ≡ Right a → InMiddleOf know w w' p b a y
+middle_kept know w w' p b a y same status shape g o h =
+    let k = g.middles a y h in
+    let i : k.by ≡ p = cc (k.held, o) in
+    record {
+      parent = k.parent;
+      is = same ∙ rw (← i) k.is;
+      held = k.parent_held ∙ ap Held i;
+      live = ap (λ f. f k.parent) status ∙ k.parent_live;
+      level = rw (shape k.parent, shape y) k.parent_level;
+      covers = rw (shape k.parent, shape y) k.parent_covers;
+    }

@@ -14,11 +14,11 @@ use Rattle.bl_tree.proofs.Growths.{Grows-keeps}
 use Rattle.bl_tree.proofs.Asides.{Aside-keeps}
 use Rattle.bl_laws.specs.Pages.{node_of, roots_of}
 use Rattle.bl_trails.specs.Trails.{Said}
-use Rattle.bl_steps.specs.Worlds.{Know, World, tree_of, was_in, IsGood}
+use Rattle.bl_steps.specs.Worlds.{nodes, Know, World, tree_of, was_in, IsGood}
 use Rattle.bl_steps.proofs.Steady.{fresh_not, anchored_not}
 use Rattle.bl_steps.proofs.Puts.{Puts-keeps}
 use Rattle.bl_puts.specs.Puts.{Owes, PutsFresh, PutsRow, PutsSplit, PutsTop}
-use Rattle.bl_puts.proofs.Living.{Living-puts, middle_kept}
+use Rattle.bl_puts.proofs.Living.{Living-puts, none_middle, middle_kept}
 
 -- the put of a page that is not page 0
 put_page : {P : Type 0} {know : P → Know} (w w' : World P) {p : Name} {x : ℕ} {c : Page} {said : Option Said} {b : P} → Owes know w w' p x c said b → 0 ≢ x → IsPut x (node_of c) (tree_of w) (tree_of w')
@@ -50,12 +50,16 @@ PutsFresh-keeps know w w' p y key c b s g =
       sep = λ z. elim (cases_eq z y) [ inl i ↦ inr (rw i held, rw i s.fresh) | inr i ↦ inl (s.sep.others z i) ];
       level = λ h. absurd (false≢true (sym fresh_not ∙ (ap was_in (sym s.fresh) ∙ h)));
       alone = λ z o h. s.only z o (rw s.status at h);
-      middle = λ a z o h. middle_kept know w p b a z s.middle g o (rw s.status at h);
+      middle = λ a z o h. absurd (none_middle know w p a z s.no_middle g o (rw s.status at h));
     })) g
 
 pub PutsRow-keeps : {P : Type 0} (know : P → Know) (w w' : World P) (p : Name) (x k : ℕ) (v : Option ℕ) (c : Page) (said : Option Said) (b : P) → PutsRow know w w' p x k v c said b → IsGood know w → IsGood know w'
 PutsRow-keeps know w w' p x k v c said b s g =
     let put = put_page w w' s.owes (not_zero know w x Live g s.live (λ e. cc)) in
+    let same : (z : ℕ) → (nodes w'.now z).shape ≡ (nodes w.now z).shape = λ z. elim (cases_eq z x) [
+      | inl i ↦ ap (λ v. (nodes w'.now v).shape) i ∙ (ap (λ n. n.shape) put.node.at ∙ (s.row.shape ∙ ap (λ v. (nodes w.now v).shape) (sym i)))
+      | inr i ↦ ap (λ n. n.shape) (put.node.others z i)
+    ] in
     Puts-keeps know w w' p x c said b (Living-puts know w w' p x c said b (record {
       owes = s.owes;
       tree = ChangesRow-keeps {x = x} {k = k} {v = v} {b = node_of c} {t = tree_of w} {t' = tree_of w'} (record { live = s.live; row = s.row; child = s.child; put = put; status = s.status; sep = s.sep; map = s.map }) g.tree;
@@ -63,7 +67,7 @@ PutsRow-keeps know w w' p x k v c said b s g =
       sep = λ z. inl (ap (λ f. f z) s.sep);
       level = λ h. ap (λ n. n.level) s.row.shape;
       alone = λ z o h. absurd (s.none_fresh z o (rw s.status at h));
-      middle = λ a z o h. middle_kept know w p b a z s.middle g o (rw s.status at h);
+      middle = λ a z o h. middle_kept know w w' p b a z s.middle s.status same g o (rw s.status at h);
     })) g
 
 pub PutsSplit-keeps : {P : Type 0} (know : P → Know) (w w' : World P) (p : Name) (x y k : ℕ) (v : Option ℕ) (c : Page) (said : Option Said) (b : P) → PutsSplit know w w' p x y k v c said b → IsGood know w → IsGood know w'
@@ -79,7 +83,7 @@ PutsSplit-keeps know w w' p x y k v c said b s g =
       sep = λ z. inl (ap (λ f. f z) s.sep);
       level = λ h. s.cut.level;
       alone = λ z o h. let n = not_y z Fresh h (λ e. cc) in absurd (n (s.only z o (sym (u.others z n) ∙ h)));
-      middle = λ a z o h. middle_kept know w p b a z s.middle g o (sym (u.others z (not_y z (Right a) h (λ e. cc))) ∙ h);
+      middle = λ a z o h. absurd (none_middle know w p a z s.no_middle g o (sym (u.others z (not_y z (Right a) h (λ e. cc))) ∙ h));
     })) g
 
 pub PutsTop-keeps : {P : Type 0} (know : P → Know) (w w' : World P) (p : Name) (y : ℕ) (c : Page) (b : P) → PutsTop know w w' p y c b → IsGood know w → IsGood know w'
@@ -111,5 +115,5 @@ PutsTop-keeps know w w' p y c b s g =
       sep = λ z. inl (ap (λ f. f z) s.sep);
       level = λ h. absurd (false≢true (sym anchored_not ∙ (ap was_in (sym g.tree.anchored) ∙ h)));
       alone = λ z o h. let n = not_y z Fresh h (λ e. cc) in absurd (n (s.only z o (sym (u.others z n) ∙ h)));
-      middle = λ a z o h. middle_kept know w p b a z s.middle g o (sym (u.others z (not_y z (Right a) h (λ e. cc))) ∙ h);
+      middle = λ a z o h. absurd (none_middle know w p a z s.no_middle g o (sym (u.others z (not_y z (Right a) h (λ e. cc))) ∙ h));
     })) g

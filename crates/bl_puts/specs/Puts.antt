@@ -25,7 +25,7 @@ pub record PutsFresh {P : Type 0} (know : P → Know) (w w' : World P) (p : Name
   pub owes : Owes know w w' p y c None b
   pub fresh : w.status y ≡ Fresh
   pub only : (z : ℕ) → w.now.owner z ≡ Held p → w.status z ≡ Fresh → z ≡ y
-  pub middle : (know b).middle ≡ (know (w.proc p)).middle
+  pub no_middle : (know (w.proc p)).middle ≡ None
   pub status : w'.status ≡ w.status
   pub sep : IsAt y key w.sep w'.sep
   pub map : w'.map ≡ w.map
@@ -52,7 +52,7 @@ pub record PutsSplit {P : Type 0} (know : P → Know) (w w' : World P) (p : Name
   pub cut : IsCut y k v (nodes w.now x) (node_of c) (nodes w.now y)
   pub y_sep : w.sep y ≡ (nodes w.now y).shape.low
   pub child : MayList (tree_of w) (nodes w.now x).shape.level k v
-  pub middle : (know b).middle ≡ (know (w.proc p)).middle
+  pub no_middle : (know (w.proc p)).middle ≡ None
   pub status : IsAt y Live w.status w'.status
   pub sep : w'.sep ≡ w.sep
   pub map : IsMapRow (nodes w.now x).shape.level k v w.map w'.map
@@ -73,7 +73,7 @@ pub record PutsTop {P : Type 0} (know : P → Know) (w w' : World P) (p : Name) 
   pub others : (k : ℕ) → k ≢ 0 → (nodes w.now y).look k ≡ None
   pub levels : (roots_of c).levels ≡ suc (roots_of (w.now.contents 0)).levels
   pub leftmost : IsAt (roots_of (w.now.contents 0)).levels y (roots_of (w.now.contents 0)).leftmost (roots_of c).leftmost
-  pub middle : (know b).middle ≡ (know (w.proc p)).middle
+  pub no_middle : (know (w.proc p)).middle ≡ None
   pub status : IsAt y Live w.status w'.status
   pub sep : w'.sep ≡ w.sep
   pub map : IsAt (roots_of (w.now.contents 0)).levels (nodes w.now y).look w.map w'.map
