@@ -15,7 +15,7 @@ pub record KnowsMiddles (t : Tree) (Middle : ℕ → ℕ → Type 0) (Evened : �
   pub middle : (x y : ℕ) → t.status y ≡ Right x → Middle x y
   pub evened : (x y : ℕ) → t.status y ≡ Right x → ((t.node y).shape.low ≡ t.sep y) ⊎ Evened y
 
-left_of : (s : Status) (y : ℕ) → (s ≡ Left y) ⊎ (s ≢ Left y)
+pub left_of : (s : Status) (y : ℕ) → (s ≡ Left y) ⊎ (s ≢ Left y)
 left_of Free y = inr (λ e. cc)
 left_of Fresh y = inr (λ e. cc)
 left_of Live y = inr (λ e. cc)
@@ -24,7 +24,7 @@ left_of (Right m) y = inr (λ e. cc)
 left_of Gone y = inr (λ e. cc)
 left_of Anchored y = inr (λ e. cc)
 
-right_of : (s : Status) → ((m : ℕ) × (s ≡ Right m)) ⊎ ((y : ℕ) → s ≢ Right y)
+pub right_of : (s : Status) → ((m : ℕ) × (s ≡ Right m)) ⊎ ((y : ℕ) → s ≢ Right y)
 right_of Free = inr (λ y e. cc)
 right_of Fresh = inr (λ y e. cc)
 right_of Live = inr (λ y e. cc)

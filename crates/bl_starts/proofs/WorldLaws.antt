@@ -24,7 +24,7 @@ tree_page know w x g h = wide_page (w.now.contents x) (g.tree.side.wide x h)
 pub all_sound : {P : Type 0} (know : P → Know) (w : World P) → IsGood know w → AllSound (tree_of w)
 all_sound know w g = λ x h. sound_node (w.now.contents x) (tree_page know w x g h)
 
-wide_bound : (c : Page) → IsTreePage c → 0 < (node_of c).shape.end
+pub wide_bound : (c : Page) → IsTreePage c → 0 < (node_of c).shape.end
 wide_bound (Anchor a) h = absurd h
 wide_bound (Leaf l) h = omega (arith, l.bounds)
 wide_bound (Inner i) h = omega (arith, i.bounds)

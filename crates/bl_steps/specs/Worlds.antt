@@ -210,6 +210,10 @@ MapsTo m m' (Some said) = MayAnswer m said.op said.reply × ((k : ℕ) → m' k 
 abbrev pub silent : Name → Act Page Reply → Mark
 silent p act = record { event = record { process = p; act = act }; saw = None; said = None }
 
+-- a get, which sees the page, and at which an operation may have its point
+abbrev pub get_mark : Name → ℕ → Page → Option Said → Mark
+get_mark p x c said = record { event = record { process = p; act = Act.Get x }; saw = Some c; said = said }
+
 -- a put, at which an operation may have its point
 abbrev pub put_mark : Name → ℕ → Page → Option Said → Mark
 put_mark p x c said = record { event = record { process = p; act = Act.Put x c }; saw = None; said = said }
