@@ -5,13 +5,15 @@ use Rattle.bl_model.specs.declared.operation.Reply.{Reply}
 use Rattle.bl_model.specs.declared.operation.Reply.TheVariants.{Found, Absent, Inserted, Present, Deleted, Rows, NoRoom}
 use Rattle.bl_model.specs.Map.{MayAnswer}
 use Rattle.bl_page.specs.declared.page.Page.{Page}
-use Rattle.bl_page.specs.Machine.{Name, Owner, Phase, State}
+use Rattle.bl_page.specs.Machine.{Name, Owner, Phase, State, Steps}
+use Rattle.bl_page.specs.Machine.Act.{Get}
 use Rattle.bl_tree.specs.Nodes.{Covers, unbounded}
 use Rattle.bl_laws.specs.Pages.{node_of, roots_of, IsTreePage}
 use Rattle.bl_trails.specs.Trails.{Said, Mark, Trail, HasSaid}
 use Rattle.bl_trails.proofs.Pushes.{HasSaid-silent, SaysAt-last}
 use Rattle.bl_steps.specs.Worlds.{Know, World, nodes, MapsTo, MayGet, IsGoes, IsSure, IsGood, get_mark}
-use Rattle.bl_steps.proofs.Watches.{Learns}
+use Rattle.bl_steps.proofs.Watches.{Learns, Watches-keeps}
+use Rattle.bl_steps.proofs.After.{after, Extends-after}
 use Rattle.bl_descents.specs.Finds.{Search, Answers, Leads, know_search}
 use Rattle.bl_descents.specs.Finds.Search.{New, AtAnchor, At, Ending, Over}
 use Rattle.bl_descents.specs.Finds.Leads.{Again, OnDead, OnRight, OnDown, Answer}
@@ -106,3 +108,34 @@ module _ {P : Type 0} (know : P → Know) (w w' : World P) (g : IsGood know w) (
   search_maps key x (Deleted v) may kind at covers a = absurd a
   search_maps key x (Rows rows next) may kind at covers a = absurd a
   search_maps key x NoRoom may kind at covers a = absurd a
+
+-- In a world of searches alone: a get of a page leads to a good world, which is given here.
+pub search_get : (w : World Search) (now : State Page) (p : Name) (key x : ℕ) (b : Search) → w.proc p ≡ At key x → Steps {A = Reply} w.now (record { process = p; act = Get x }) now → Leads (w.now.contents x) key b → IsGood know_search w → IsGood know_search (after w now (get_mark p x (w.now.contents x) (said_by b)) b w.status w.sep w.map)
+search_get w now p key x b at steps leads g =
+    let m = get_mark p x (w.now.contents x) (said_by b) in
+    let next = after w now m b w.status w.sep w.map in
+    let sure : IsSure w p (know_search (At key x)) = rw at at (g.sure p) in
+    let none : (x y : ℕ) → w.proc p ≡ At x y → (know_search (w.proc p)).middle ≡ None = λ x y e. rw e refl in
+    Watches-keeps know_search w next m b (record {
+      extends = Extends-after w now m b w.status w.sep w.map steps refl;
+      watch = tt;
+      ghost = record { status = refl; sep = refl; map = refl };
+      middle = rw at (no_middle b);
+      places = λ z h. absurd (rw at at h);
+      point = λ said e. (sure.stage, sure.said);
+      maps = maps b leads sure;
+      learns = search_learns know_search w next g p key x b leads sure;
+    }) g
+  where
+    no_middle : (s : Search) → (know_search s).middle ≡ None
+    no_middle (New k) = refl
+    no_middle (AtAnchor k) = refl
+    no_middle (At k y) = refl
+    no_middle (Ending k r) = refl
+    no_middle (Over k r) = refl
+    maps : (s : Search) → Leads (w.now.contents x) key s → IsSure w p (know_search (At key x)) → MapsTo (w.map 0) (w.map 0) (said_by s)
+    maps (New k) h sure = λ j. refl
+    maps (AtAnchor k) h sure = λ j. refl
+    maps (At k y) h sure = λ j. refl
+    maps (Over k r) h sure = λ j. refl
+    maps (Ending k r) (Answer kind level covers answers) sure = search_maps know_search w w g p key x r sure.goes.0.may kind level covers answers

@@ -1,3 +1,4 @@
+pub mod After
 pub mod Frames
 pub mod Steady
 pub mod Records

@@ -37,10 +37,10 @@ name_cases p q = elim (cases_eq p.pass q.pass) [
   | inr a ↦ inr (λ e. a (ap (λ n. n.pass) e))
 ]
 
-same_self : (p : Name) → same_name p p ≡ true
+pub same_self : (p : Name) → same_name p p ≡ true
 same_self p = grind arith
 
-not_same : (p q : Name) → p ≢ q → same_name p q ≡ false
+pub not_same : (p q : Name) → p ≢ q → same_name p q ≡ false
 not_same p q n = elim (cases_eq p.pass q.pass) [
   | inl a ↦ elim (cases_eq p.number q.number) [
     | inl b ↦ absurd (n (λ i. record { pass = a i; number = b i }))
