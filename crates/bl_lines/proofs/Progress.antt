@@ -1,6 +1,6 @@
 -- How far one worker has come in its sections.
-use Rattle.std.proofs.Common.{◌≡◌, ◌≢◌, ℕ, suc, ◌+◌, ◌<◌, ◌≤◌, ◌^◌, ◌⊎◌, List, [], ◌∷◌, ◌++◌, length, map, refl, ap, sym, ◌∙◌, subst, append_assoc, length-append, arith, inl, inr}
-use Rattle.std.specs.Prelude.{All, flat_map, sum_by, Ok, Err}
+use Rattle.std.proofs.Common.{◌≡◌, ◌≢◌, ℕ, suc, ◌+◌, ◌≤◌, ◌^◌, ◌⊎◌, List, [], ◌∷◌, ◌++◌, length, map, refl, ap, sym, ◌∙◌, subst, append_assoc, length-append, arith, inl, inr}
+use Rattle.std.specs.Prelude.{All, sum_by, Ok, Err}
 use Rattle.std.proofs.lemmas.Grind.{common_steps}
 use Rattle.std.proofs.lemmas.List.{append-nil, flat_map_more}
 use Rattle.std.proofs.lemmas.List.Sums.{sum_by-append}
@@ -16,8 +16,8 @@ use Rattle.bl_lines.specs.declared.serving.ServeFault.TheVariants.{Read, Write, 
 use Rattle.bl_lines.specs.declared.serving.Totals.{Totals}
 use Rattle.bl_lines.specs.declared.serving.SectionEnd.{SectionEnd}
 use Rattle.bl_lines.specs.declared.serving.SectionEnd.TheVariants as section_end
-use Rattle.bl_lines.specs.Lines.{Line, IsLine, HasNoLf, Answer, Replied, Scanned, Synced, Malformed, entries, input_of, output_of, rest_text}
-use Rattle.bl_lines.specs.Served.{Section, IsSection, IsFinished, HasNoSync, HasNoSyncInside, Interleaves, lines_of, history_of, malformed_of, one_if_any, Served, Stopped, Serves, Stops, Leaves, ComesFrom}
+use Rattle.bl_lines.specs.Lines.{Line, IsLine, Answer, Replied, Scanned, Synced, Malformed, entries, input_of, output_of, rest_text}
+use Rattle.bl_lines.specs.Served.{Section, IsSection, IsFinished, HasNoSync, HasNoSyncInside, Interleaves, lines_of, history_of, malformed_of, Stopped, Serves, Stops, Leaves}
 use Rattle.bl_lines.specs.Turns.{serial, AnswersLines, CountsLines, EndsWithSync, EndsSection, ReadsSection}
 use Rattle.bl_lines.specs.Streams.{EndsRead}
 use Rattle.bl_lines.proofs.Sections.{output_append, no_sync_any, no_sync_inside}

@@ -6,7 +6,7 @@ use Rattle.bl_model.specs.History.{IsLegalFrom, final_map}
 use Rattle.bl_lines.specs.declared.serving.ServeFault.{ServeFault}
 use Rattle.bl_lines.specs.declared.serving.ServeFault.TheVariants.{Read, Write, Memory}
 use Rattle.bl_lines.specs.declared.serving.Totals.{Totals}
-use Rattle.bl_lines.specs.Lines.{Line, IsLine, HasNoLf, Answer, Replied, Scanned, Synced, Malformed, entries, input_of, output_of, rest_text}
+use Rattle.bl_lines.specs.Lines.{Line, IsLine, HasNoLf, Answer, Synced, Malformed, entries, input_of, output_of, rest_text}
 
 -- The history takes the entries of the lists, those of one list in their order, in any order otherwise.
 abbrev pub Interleaves : List (List Entry) → List Entry → Type 0

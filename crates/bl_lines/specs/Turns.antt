@@ -1,5 +1,5 @@
 -- How one worker answers lines one after another. Private functions cite this, and no public clause does.
-use Rattle.std.specs.Prelude.{◌≡◌, ◌≢◌, ℕ, ◌+◌, ◌<◌, ◌≤◌, ◌^◌, ◌⊎◌, suc, List, [], ◌∷◌, ◌++◌, All, flat_map, length, sum_by, Result, Ok, Err}
+use Rattle.std.specs.Prelude.{◌≡◌, ℕ, ◌+◌, ◌<◌, ◌≤◌, ◌^◌, ◌⊎◌, suc, List, [], ◌∷◌, ◌++◌, All, flat_map, length, sum_by, Result, Ok, Err}
 use Rattle.bl_model.specs.declared.operation.Entry.{Entry}
 use Rattle.bl_model.specs.Map.{Map, SameMap}
 use Rattle.bl_model.specs.History.{IsLegalFrom, final_map}
@@ -12,7 +12,7 @@ use Rattle.bl_lines.specs.declared.serving.Reading.{Reading}
 use Rattle.bl_lines.specs.declared.serving.Reading.TheVariants as reading
 use Rattle.bl_lines.specs.declared.serving.SectionEnd.{SectionEnd}
 use Rattle.bl_lines.specs.declared.serving.SectionEnd.TheVariants as section_end
-use Rattle.bl_lines.specs.Lines.{Line, IsLine, HasNoLf, Fits, Answer, Replied, Scanned, Synced, Malformed, entries, input_of, output_of, rest_text}
+use Rattle.bl_lines.specs.Lines.{Line, IsLine, HasNoLf, Fits, Answer, Replied, Synced, Malformed, entries, input_of, output_of, rest_text}
 use Rattle.bl_lines.specs.Served.{HasNoSync, HasNoSyncInside, malformed_of, one_if_any}
 use Rattle.bl_lines.specs.Streams.{EndsRead}
 

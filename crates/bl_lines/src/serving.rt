@@ -52,7 +52,7 @@ impl From<AllocError> for ServeFault {
 
 /// What came next, answered.
 #[derive(Debug, PartialEq, Eq, Drop)]
-pub enum Reading {
+enum Reading {
     /// A whole line.
     Line(Response),
     /// Bytes after the last LF.
@@ -63,7 +63,7 @@ pub enum Reading {
 
 /// How a section ended.
 #[derive(Clone, Copy, Debug, PartialEq, Eq)]
-pub enum SectionEnd {
+enum SectionEnd {
     /// By a sync.
     Synced,
     /// With the input.
@@ -105,7 +105,8 @@ fn answer_next<M: Answers, R: Read>(
     reader: &mut Watched<R>,
     line: &mut ArrayVec<u8, KEPT>,
 ) -> Result<Reading, Failed>
-    ensures { (bytes : List ℕ) × (more : List ℕ) × Consumes (R.remaining reader.old.inner) (R.remaining reader.new.inner) more
+    ensures { (bytes : List ℕ) × (more : List ℕ)
+        × Consumes (R.remaining reader.old.inner) (R.remaining reader.new.inner) more
         × GivesAnswer (source.old ++ more) bytes result source.new (M.map map.old) (M.map map.new)
         (IsAtEnd (R.remaining reader.new.inner)) (reader.new.failed ≡ true) }
 {
@@ -127,7 +128,8 @@ fn print_line(
     requires requests { totals.old.requests + 1 < 2 ^ 64 }
     requires malformed { totals.old.malformed + 1 < 2 ^ 64 }
     requires sections { totals.old.sections + 1 < 2 ^ 64 }
-    ensures text { OnOk result (text.new.items ≡ text.old.items ++ numbered (totals.old.requests + 1) (response_text response.now)) }
+    ensures text { OnOk result
+        (text.new.items ≡ text.old.items ++ numbered (totals.old.requests + 1) (response_text response.now)) }
     ensures counts { OnOk result (CountsLine totals.old totals.new response.now) }
 {
     push_line(text, totals.requests + 1, response)?;
@@ -146,7 +148,8 @@ fn serve_section<M: Answers, R: Read>(
     requires text { text.old.items ≡ [] }
     requires malformed { totals.old.malformed ≤ totals.old.requests }
     requires sections { totals.old.sections ≤ totals.old.requests }
-    ensures { (lines : List Line) × (rest : List ℕ) × (more : List ℕ) × Consumes (R.remaining reader.old.inner) (R.remaining reader.new.inner) more
+    ensures { (lines : List Line) × (rest : List ℕ) × (more : List ℕ)
+        × Consumes (R.remaining reader.old.inner) (R.remaining reader.new.inner) more
         × ReadsSection (M.map map.old) (M.map map.new) (source.old ++ more) source.new lines rest
         × EndsSection result totals.old totals.new lines rest source.new text.new.items
         (IsAtEnd (R.remaining reader.new.inner)) (reader.new.failed ≡ true) }
@@ -188,8 +191,10 @@ pub fn serve<M: Answers, R: Read, W: Write>(
         × Consumes (R.remaining reader.old.inner) (R.remaining reader.new.inner) (input ++ ahead)
         × Appends (W.contents writer.old.inner) (W.contents writer.new.inner) output
         × MatchResult result
-        (λ totals. Serves (M.map map.old) (M.map map.new) input output totals × EndsRead input ahead (IsAtEnd (R.remaining reader.new.inner)))
-        (λ fault. Stops (M.map map.old) (input ++ ahead) output fault (reader.new.failed ≡ true) (writer.new.failed ≡ true)) }
+        (λ totals. Serves (M.map map.old) (M.map map.new) input output totals
+        × EndsRead input ahead (IsAtEnd (R.remaining reader.new.inner)))
+        (λ fault. Stops (M.map map.old) (input ++ ahead) output fault
+        (reader.new.failed ≡ true) (writer.new.failed ≡ true)) }
 {
     let mut source = Source::new(alloc)?;
     let mut text = Vec::new(alloc);

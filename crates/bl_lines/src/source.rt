@@ -54,7 +54,8 @@ impl Model for Source {
 
     ghost view = { λ source. take (source.upto - source.from) (drop source.from source.bytes.items) };
 
-    ghost invariant = { λ source. (source.from ≤ source.upto) × (source.upto ≤ length source.bytes.items) × (length source.bytes.items ≡ 65536) };
+    ghost invariant = { λ source. (source.from ≤ source.upto)
+        × (source.upto ≤ length source.bytes.items) × (length source.bytes.items ≡ 65536) };
 }
 
 /// Puts the bytes behind the line, as far as there is room.
@@ -67,7 +68,8 @@ fn keep(line: &mut ArrayVec<u8, KEPT>, piece: &[u8])
 
 /// Reads once, and again where the call was interrupted.
 fn read_some<R: Read>(reader: &mut Watched<R>, buffer: &mut [u8]) -> Result<usize, Failed>
-    ensures { ReadsSome result (R.remaining reader.old.inner) (R.remaining reader.new.inner) buffer.new (reader.new.failed ≡ true) }
+    ensures { ReadsSome result (R.remaining reader.old.inner) (R.remaining reader.new.inner) buffer.new
+        (reader.new.failed ≡ true) }
 {
     for _ in 0..u64::MAX {
         match reader.read(buffer) {
@@ -106,7 +108,8 @@ impl Source {
         ensures { MatchResult result
             (λ _. Consumes (R.remaining reader.old.inner) (R.remaining reader.new.inner) self.new
             × (self.new ≡ [] → IsAtEnd (R.remaining reader.new.inner)))
-            (λ _. Keeps (R.remaining reader.old.inner) (R.remaining reader.new.inner) × (self.new ≡ []) × (reader.new.failed ≡ true)) }
+            (λ _. Keeps (R.remaining reader.old.inner) (R.remaining reader.new.inner) × (self.new ≡ [])
+            × (reader.new.failed ≡ true)) }
     {
         self.from = 0;
         self.upto = 0;
@@ -116,8 +119,10 @@ impl Source {
 
     /// Reads ahead where nothing is left, and says whether a byte is there.
     fn is_ready<R: Read>(&mut self, reader: &mut Watched<R>) -> Result<bool, Failed>
-        ensures { (more : List ℕ) × Consumes (R.remaining reader.old.inner) (R.remaining reader.new.inner) more
-            × GivesMore self.old more result self.new (IsAtEnd (R.remaining reader.new.inner)) (reader.new.failed ≡ true) }
+        ensures { (more : List ℕ)
+            × Consumes (R.remaining reader.old.inner) (R.remaining reader.new.inner) more
+            × GivesMore self.old more result self.new
+            (IsAtEnd (R.remaining reader.new.inner)) (reader.new.failed ≡ true) }
     {
         if self.is_empty() {
             self.fill(reader)?;
@@ -128,7 +133,8 @@ impl Source {
     /// Takes the bytes before the first LF and that LF, or all bytes where there is none, and says whether there was
     /// one. The bytes before it go behind the line.
     fn take_piece(&mut self, line: &mut ArrayVec<u8, KEPT>) -> bool
-        ensures { (piece : List ℕ) × HasNoLf piece × (line.new.items ≡ take KEPT (line.old.items ++ piece))
+        ensures { (piece : List ℕ) × HasNoLf piece
+            × (line.new.items ≡ take KEPT (line.old.items ++ piece))
             × MatchBool result (self.old ≡ piece ++ 10 ∷ self.new) ((self.old ≡ piece) × (self.new ≡ [])) }
     {
         let ahead = &self.bytes[self.from..self.upto];
@@ -152,9 +158,11 @@ impl Source {
         reader: &mut Watched<R>,
         line: &mut ArrayVec<u8, KEPT>,
     ) -> Result<Cut, Failed>
-        ensures { (bytes : List ℕ) × (more : List ℕ) × Consumes (R.remaining reader.old.inner) (R.remaining reader.new.inner) more
+        ensures { (bytes : List ℕ) × (more : List ℕ)
+            × Consumes (R.remaining reader.old.inner) (R.remaining reader.new.inner) more
             × (line.new.items ≡ take KEPT bytes)
-            × CutsLine (self.old ++ more) bytes result self.new (IsAtEnd (R.remaining reader.new.inner)) (reader.new.failed ≡ true) }
+            × CutsLine (self.old ++ more) bytes result self.new
+            (IsAtEnd (R.remaining reader.new.inner)) (reader.new.failed ≡ true) }
     {
         line.clear();
         for _ in 0..u64::MAX {

@@ -32,7 +32,8 @@ fn write_text<W: Write>(writer: &mut Watched<W>, text: &[u8]) -> Result<(), Fail
     Err(Failed)
 }
 
-/// Writes the whole text and flushes the writer. Where one of these fails, a beginning of the text is out.
+/// Writes the whole text and flushes the writer. Where one of these fails, a beginning of the text is out. No clause can
+/// say that a flush was handed on: tests count flushes and fail one.
 pub fn write_out<W: Write>(writer: &mut Watched<W>, text: &[u8]) -> Result<(), Failed>
     ensures ok { OnOk result (Appends (W.contents writer.old.inner) (W.contents writer.new.inner) text.now) }
     ensures err { OnErr result (StartsOut (W.contents writer.old.inner) (W.contents writer.new.inner) text.now) }

@@ -1,7 +1,7 @@
 //! A map in a sorted vector.
 
 ghost use Rattle.std.specs.Prelude.{◌≡◌, ◌≢◌, [], IfOk, IfErr, OnErr};
-ghost use Rattle.bl_model.specs.Map.{IsMapStep};
+ghost use Rattle.bl_model.specs.Map.{IsMapStep, SameMap, empty};
 ghost use Rattle.bl_model.specs.Plain.{BeginsPart, FillsPart, NeedsRoom};
 ghost use Rattle.bl_model.specs.Rows.{HasRisingKeys, IsAt, IsGapFor, map_of};
 
@@ -45,7 +45,8 @@ fn part(rows: &[(u64, u64)]) -> Reply
 impl PlainMap {
     /// The map with no key. It takes no memory until the first insert.
     pub fn new(alloc: Global) -> PlainMap
-        ensures { result ≡ [] }
+        ensures rows { result ≡ [] }
+        ensures map { SameMap empty (map_of result) }
     {
         PlainMap {
             rows: Vec::new(alloc),

@@ -12,7 +12,7 @@ use std::marker::Model;
 /// A reader or a writer that hands on each call, and keeps whether one has failed since it was made.
 ///
 /// A call has failed where it gave an error, also `Interrupted`, after which a caller may try again. A write has failed
-/// too where it took 0 bytes of a piece that isn't empty.
+/// too where it took 0 bytes of a piece that isn't empty. No clause can say that a flush was handed on: a test shows it.
 #[derive(Drop)]
 pub struct Watched<T> {
     inner: T,

@@ -1,6 +1,6 @@
-use Rattle.std.proofs.Common.{◌≡◌, rules, Some}
+use Rattle.std.proofs.Common.{rules, Some}
 use Rattle.bl_model.specs.declared.operation.Op.TheVariants.{Find, Insert, Delete}
-use Rattle.bl_lines.specs.declared.request.Request.TheVariants.{Ask, Sync}
+use Rattle.bl_lines.specs.declared.request.Request.TheVariants.{Ask}
 use Rattle.bl_lines.specs.Text.{Means}
 use Rattle.bl_lines.proofs.Long.{long_none}
 use Rattle.bl_lines.proofs.request.parse.Goals as goal

@@ -1,4 +1,4 @@
-use Rattle.std.proofs.Common.{◌≡◌, ℕ, ◌≤◌, List, ◌++◌}
+use Rattle.std.proofs.Common.{ℕ, ◌≤◌, List, ◌++◌}
 use Rattle.std.specs.Io.KnownBytes.{Appends, Consumes}
 use Rattle.bl_lines.specs.Served.{Section}
 use Rattle.bl_lines.proofs.Progress.{Progress}

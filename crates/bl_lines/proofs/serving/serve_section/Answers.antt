@@ -1,7 +1,6 @@
-use Rattle.std.proofs.Common.{◌≡◌, ◌≢◌, ◌+◌, ◌++◌, ◌∷◌, [], suc, refl, ap, ◌∙◌, sym, length, arith, append-nil, Err, rules}
+use Rattle.std.proofs.Common.{◌≡◌, ◌≢◌, ◌+◌, ◌++◌, ◌∷◌, [], suc, refl, ap, ◌∙◌, sym, length, arith, append-nil, Err}
 use Rattle.std.proofs.lemmas.Result.{err_from_is_err_and}
 use Rattle.std.proofs.lemmas.List.Elements.{All-nil}
-use Rattle.bl_lines.specs.declared.serving.ServeFault.TheVariants.{Memory}
 use Rattle.bl_lines.specs.declared.print.Response.TheVariants as response
 use Rattle.bl_lines.specs.Lines.{IsLine, Line, Synced}
 use Rattle.bl_lines.proofs.Known.{consumes_more, consumes_start}

@@ -1,4 +1,4 @@
-use Rattle.std.proofs.Common.{◌≡◌, refl, [], ◌++◌, append-nil, length, ap, arith, inl}
+use Rattle.std.proofs.Common.{[], ◌++◌, append-nil, length, ap, arith, inl}
 use Rattle.std.proofs.lemmas.Bool.Decides.{nat_tests}
 use Rattle.bl_lines.proofs.Known.{consumes_more, consumes_start}
 use Rattle.bl_lines.proofs.Cuts.{no_lf_nil, no_lf_more, kept_more, short_line, long_line_cut, some_byte, line_ends, line_goes_on, line_stops, count_on}

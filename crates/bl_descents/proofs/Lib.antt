@@ -1,0 +1,3 @@
+pub mod Descents
+pub mod Children
+pub mod Searches

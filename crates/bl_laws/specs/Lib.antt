@@ -1,0 +1,4 @@
+pub mod Laws
+pub mod Walks
+pub mod Starts
+pub mod Pages

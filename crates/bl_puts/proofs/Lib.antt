@@ -1,0 +1,3 @@
+pub mod Living
+pub mod Moves
+pub mod Fitted

@@ -1,0 +1,11 @@
+pub mod After
+pub mod Frames
+pub mod Steady
+pub mod Records
+pub mod Names
+pub mod Ghosts
+pub mod Watches
+pub mod Latches
+pub mod Outside
+pub mod Ends
+pub mod Puts

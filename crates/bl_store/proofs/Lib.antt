@@ -1,0 +1,10 @@
+mod Lists
+mod Keeps
+mod Time
+mod Reserving
+mod Putting
+mod Owning
+mod Ticking
+mod Sweeping
+mod StockLemmas
+mod Dealing

@@ -1,0 +1,97 @@
+-- A sweep looks at each process word.
+use Rattle.std.proofs.Common.{◌≡◌, ◌≢◌, ◌⊎◌, ℕ, zero, suc, ◌+◌, ◌-◌, ◌*◌, ◌%◌, ◌^◌, ◌<◌, ◌≤◌, Bool, eqb, min, List, [], ◌∷◌, ◌++◌, length, replicate, get_or, set, sym, refl, ap, ◌∙◌, subst, inl, inr, ⊎_elim, arith, le_refl, length-set, get_or-set_other, get_or-set_same, lt_of_not-le}
+use mathlib.Core.Logic.{dite}
+use mathlib.Core.Option.{none, some, some-injective}
+use native.Mathlib.Decide.{dec_le, ℕ_discrete}
+use lib.ListN.{get_elem?}
+use lib.Seq.{set-get_or}
+use prog.Atomic.{either}
+use Rattle.std.proofs.lemmas.Grind.{get_or-set_at}
+use Rattle.std.proofs.lemmas.List.{get_or_append_left, get_or-append_right, length-append}
+use Rattle.atomic_table.specs.Table.{State, Me, step, keeps, Act, Valid, carried_after, stepped, Allows}
+use Rattle.atomic_table.proofs.Lists.{at_set, set_here, set_else, set_again, exchanged}
+use Rattle.bl_layout.specs.declared.layout.Layout.{Layout}
+use Rattle.bl_layout.specs.Words.{frame_count, word_count}
+use Rattle.bl_store.specs.Pages.{Owner, Released, Open, Held, Retired, Stage, Idle, Running, Pages, Stands, IsPage, IsOrderly, AllBeganAfter, told, owned, written, later, Puts, Takes, Latches, Misses, Opens, Retires, Refuses, Releases}
+use Rattle.bl_store.specs.Frames.{process_at, page_at, owner_at, state_at, place_at, Use, drafted, shown, dropped, timed, retired, Frame, free, used, IsTaken, StateIs, Full, FrameIs, PageIs, OwnerIs, ProcessIs, stage_of, IsRead, MayRead, Readable, Reads, Stocks, Drops, Seals, Swept, SweepIs, Knows, total_of, Budgeted, Shows, IsApart, Kept}
+use Rattle.bl_store.specs.Told.{lower, horizoned, passed}
+use Rattle.bl_store.specs.declared.view.View.{View}
+use Rattle.bl_store.specs.declared.view.Stamp.{Stamp}
+use Rattle.bl_store.specs.declared.view.Stamp.TheVariants.{Out, Clocked, In}
+use Rattle.bl_store.specs.declared.view.Reading.{Reading}
+use Rattle.bl_store.specs.declared.view.Reading.TheVariants.{Nowhere, At}
+use Rattle.bl_store.specs.declared.view.Draft.{Draft}
+use Rattle.bl_store.specs.declared.view.Dropping.{Dropping}
+use Rattle.bl_store.specs.declared.view.Dropping.TheVariants.{Empty, Dropped, Timed}
+use Rattle.bl_store.specs.declared.view.Sealing.{Sealing}
+use Rattle.bl_store.specs.declared.view.Sealing.TheVariants.{Unsealed, Sealed}
+use Rattle.bl_store.specs.declared.view.Sweep.{Sweep}
+use Rattle.bl_store.specs.declared.view.Sweep.TheVariants.{Still, Over}
+use Rattle.bl_store.proofs.Lists.{at_below, there, one_there, set_there, total_set, total_small}
+use Rattle.bl_store.proofs.Keeps.{frame_same, frame_kept, page_kept, reads_kept, stocks_kept, drops_kept, shows_told, shows_frame, shows_state, shows_process, shows_owner, shows_later, orderly_told, orderly_owned, orderly_written, orderly_later, swept_told, seal_same, Goes, reads_stay, sweeps_stay, Own, moved, unmoved}
+use Rattle.bl_store.proofs.Time.{low_clock, goes_on, goes_told, began_by, told_load}
+use Rattle.std.proofs.Math.Nat.{min-le_left, min-le_right}
+use Rattle.bl_store.proofs.Reserving.{idle_step, silent_load}
+
+abbrev time_of : Sweep → ℕ
+time_of Still = 0
+time_of (Over m k) = m
+
+pub lower_none : (m n : ℕ) → n ≡ 0 → lower m n ≡ m
+lower_none m zero e = refl
+lower_none m (suc c) e = absurd (omega arith)
+
+pub lower_some : (m n : ℕ) → n ≢ 0 → lower m n ≡ min m (n - 1)
+lower_some m zero e = absurd (e refl)
+lower_some m (suc c) e = let same : c ≡ suc c - 1 = omega arith in ap (λ (z : ℕ). min m z) same
+
+lower_both : (m n : ℕ) → lower m n ≤ m
+lower_both m zero = le_refl m
+lower_both m (suc c) = min-le_left m c
+
+-- a process whose word is n began at the lower time or after it
+lower_began : (m n b : ℕ) → 0 < n → n ≤ b + 1 → lower m n ≤ b
+lower_began m zero b some_word near = absurd (omega arith)
+lower_began m (suc c) b some_word near = let low = min-le_right m c in omega arith
+
+module _ {D : Type 0} (l : Layout) (first : D) (holds : Pages D → Type 0) where
+  abbrev St : Type 0
+  St = State (Unit {0}) (View D)
+
+  abbrev M : Type 0
+  M = Me (Unit {0}) (View D)
+
+  abbrev Rule : St → Type 0
+  Rule = Kept l first holds
+
+  -- a step at which the word i becomes n
+  abbrev Leads : St → ℕ → ℕ → ℕ → M → (M → Type 0) → Type 0
+  Leads s i n id me then' = (w : View D) × (a : Act (Unit {0})) × Valid s.homes me.1 a × Rule (stepped s i n id me.1 w a) × then' (w, carried_after me.1 a)
+
+  -- a load of the clock by which a round of looks begins
+  pub horizons : (slots id i : ℕ) (me : M) → i ≡ 0 → Allows Rule slots id me i (λ n. n) (horizoned (step slots i 0 0 none) me)
+  horizons slots id i me i_is st r _ at _ = let mine = r.seats id me.0 at in let s : Pages D = r.pages in let n : ℕ = get_or st.words i 0 in
+      let is : n ≡ s.clock = ap (λ (z : ℕ). get_or st.words z 0) i_is ∙ r.shows.clock in (
+        record me.0 { puts = me.0.puts; retires = me.0.retires; sweep = Over n 0 },
+        keeps,
+        tt,
+        silent_load l first holds st r i id me.1 me.0 me.0.puts me.0.retires (Over n 0) me.0.seen r.budgets at r.budgeted (λ k _. refl) mine.budget record { past = omega arith; later = λ k b d stands low. absurd (omega arith) },
+        (((refl, refl), refl, (refl, refl, refl), refl), refl, refl),
+      )
+
+  pub passes : (slots id i m k : ℕ) (me : M) → i ≡ process_at k → me.0.sweep ≡ Over m k → Allows Rule slots id me i (λ n. n) (passed (step slots i 0 0 none) me)
+  passes slots id i m k me i_is is st r _ at _ = let mine = r.seats id me.0 at in let s : Pages D = r.pages in let n : ℕ = get_or st.words i 0 in let orderly = r.orderly in let hands = orderly.hands in
+      let so_far : Swept s m k = subst (SweepIs s) is mine.sweeps in let past = so_far.past in let both = lower_both m n in
+      let further : Swept s (lower m n) (k + 1) = record {
+        past = omega arith;
+        later = λ j b d stands low. dite (ℕ_discrete j k)
+            (λ e. let inside = at_below s.hands j (Running b, d) stands in let now : ProcessIs (get_or st.words (process_at j) 0) (Running b) = r.shows.process j (Running b) d (omega arith) stands in
+            let same : get_or st.words (process_at j) 0 ≡ n = ap (λ (z : ℕ). get_or st.words (process_at z) 0) e ∙ ap (λ (z : ℕ). get_or st.words z 0) (sym i_is) in let some_word = now.0 in let near = now.1 in lower_began m n b (omega arith) (omega arith))
+            (λ ne. let soon = so_far.later j b d stands (omega arith) in omega arith);
+      } in (
+        record me.0 { puts = me.0.puts; retires = me.0.retires; sweep = Over (lower m n) (k + 1) },
+        keeps,
+        tt,
+        silent_load l first holds st r i id me.1 me.0 me.0.puts me.0.retires (Over (lower m n) (k + 1)) me.0.seen r.budgets at r.budgeted (λ j _. refl) mine.budget further,
+        (((refl, refl), refl, (refl, refl, refl), refl), refl, λ m' k' e equal. let is_k : k ≡ k' = omega arith in let is_m : m ≡ m' = ap time_of (sym is ∙ e) in λ z. Over (lower (is_m z) n) (is_k z + 1)),
+      )

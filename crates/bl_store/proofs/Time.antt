@@ -1,0 +1,226 @@
+-- A process begins and ends, and a page is read.
+use Rattle.std.proofs.Common.{◌≡◌, ◌≢◌, ◌⊎◌, ℕ, zero, suc, ◌+◌, ◌-◌, ◌*◌, ◌<◌, ◌≤◌, List, [], ◌∷◌, ◌++◌, length, replicate, get_or, set, sym, refl, ap, ◌∙◌, subst, inl, inr, ⊎_elim, arith, le_refl, length-set, get_or-set_other}
+use mathlib.Core.Option.{none, some}
+use lib.ListN.{get_elem?}
+use Rattle.atomic_table.specs.Table.{State, Me, step, keeps, Act, Valid, carried_after, stepped, Allows}
+use Rattle.atomic_table.proofs.Lists.{set_here, set_else}
+use Rattle.bl_layout.specs.declared.layout.Layout.{Layout}
+use Rattle.bl_layout.specs.Words.{frame_count, word_count}
+use Rattle.bl_store.specs.Pages.{Owner, Stage, Idle, Running, Pages, Stands, IsPage, IsOrderly, told, Begins, Ends, Gets}
+use Rattle.bl_store.specs.Frames.{process_at, page_at, owner_at, state_at, place_at, Use, drafted, shown, dropped, timed, retired, Frame, free, used, IsTaken, StateIs, Full, FrameIs, PageIs, OwnerIs, ProcessIs, stage_of, IsRead, MayRead, Readable, Reads, Stocks, Drops, Seals, Swept, SweepIs, Knows, Budgeted, Shows, IsApart, Kept}
+use Rattle.bl_store.specs.Told.{clocked, stamped, ended, looked, copied, Found}
+use Rattle.bl_store.specs.declared.view.View.{View}
+use Rattle.bl_store.specs.declared.view.Stamp.{Stamp}
+use Rattle.bl_store.specs.declared.view.Stamp.TheVariants.{Out, Clocked, In}
+use Rattle.bl_store.specs.declared.view.Reading.{Reading}
+use Rattle.bl_store.specs.declared.view.Reading.TheVariants.{Nowhere, At}
+use Rattle.bl_store.proofs.Lists.{at_below, there, one_there, set_there, total_small}
+use Rattle.bl_store.proofs.Keeps.{shows_told, shows_process, orderly_told, swept_told, seal_same, Goes, sweeps_stay, Own, moved, unmoved}
+
+abbrev frame_of : Reading → ℕ
+frame_of Nowhere = 0
+frame_of (At f xs) = f
+
+abbrev words_read : Reading → List ℕ
+words_read Nowhere = []
+words_read (At f xs) = xs
+
+-- a frame that may be read has 32 words
+full : (b : ℕ) (u : Use) (xs : List ℕ) → MayRead b u → Full u xs → length xs ≡ 32
+full b (drafted q k) xs may is = absurd may
+full b (shown x) xs may is = is
+full b (dropped q) xs may is = is
+full b (timed q t) xs may is = is
+full b (retired t) xs may is = is
+
+-- the clock is far below what a word holds
+pub low_clock : (l : Layout) (clock : ℕ) (bs : List ℕ) → Budgeted l.passes clock bs → clock < 2305843009213693952
+low_clock l clock bs b = let total = b.total in let few = l.passes_within.1 in omega arith
+
+module _ {D : Type 0} where
+  -- nothing that a user sees changes
+  pub goes_on : (l : Layout) (ws : List ℕ) (s : Pages D) (fs : List Frame) (bs bs' : List ℕ) (q : ℕ) → ((k : ℕ) → k ≢ q → get_elem? bs' k ≡ get_elem? bs k) → Goes l ws ws s s fs fs bs bs' q
+  goes_on l ws s fs bs bs' q budgets = record {
+    clock = le_refl s.clock;
+    hands = λ k other. refl;
+    budgets = budgets;
+    reads = λ j b f e xs stands low is. is;
+    stocks = λ j ds other is. is;
+    drops = λ j x other is. is;
+    seals = λ j x other is. is;
+    swept = λ m k is. is;
+  }
+
+  -- the hand q is told something, and goes on with its process, ends it or begins one by now
+  pub goes_told : (l : Layout) (ws ws' : List ℕ) (s : Pages D) (fs : List Frame) (bs : List ℕ) (q : ℕ) (st0 st : Stage) (d0 d : D) → Stands s q st0 d0 → ((b : ℕ) → st ≡ Running b → (st0 ≡ Running b) ⊎ (s.clock ≤ b))
+      → ((x : ℕ) → x < length s.owners → get_or ws' (owner_at l x) 0 ≡ get_or ws (owner_at l x) 0) → Goes l ws ws' s (told s q st d) fs fs bs bs q
+  goes_told l ws ws' s fs bs q st0 st d0 d here begun owners = record {
+    clock = le_refl s.clock;
+    hands = λ k other. set_else s.hands q k (st, d) other;
+    budgets = λ k other. refl;
+    reads = λ j b f e xs stands low is. is;
+    stocks = λ j ds other is. is;
+    drops = λ j x other is. is;
+    seals = λ j x other is. seal_same l ws ws' s.owners j x owners is;
+    swept = λ m k is. swept_told s (told s q st d) q st0 st d0 d m k (le_refl s.clock) here refl begun is;
+  }
+
+  pub began_by : (l : Layout) (s : Pages D) (n : ℕ) (st : Stamp) (d : D) → IsOrderly l s → Stands s n (stage_of st) d → (b : ℕ) → stage_of st ≡ Running b → b ≤ s.clock
+  began_by l s n st d o stands b e = o.begun n b d (stands ∙ ap (λ (z : Stage). some (z, d)) e)
+
+module _ {D : Type 0} (l : Layout) (first : D) (holds : Pages D → Type 0) where
+  abbrev St : Type 0
+  St = State (Unit {0}) (View D)
+
+  abbrev M : Type 0
+  M = Me (Unit {0}) (View D)
+
+  abbrev Rule : St → Type 0
+  Rule = Kept l first holds
+
+  -- a load at which the hand is told something and reads as it says
+  pub told_load : (st : St) (r : Rule st) (i id : ℕ) (cs : List (ℕ × Unit {0})) (v : View D) (rd : Reading) (d : D) → get_elem? st.views id ≡ some v → Reads r.frames v.stamp rd
+      → holds (told r.pages v.number (stage_of v.stamp) d) → Rule (stepped st i (get_or st.words i 0) id cs (record v { reading = rd; known = d }) keeps)
+  told_load st r i id cs v rd d at reads kept = let mine = r.seats id v at in let s : Pages D = r.pages in let low = mine.counted in let dealt = mine.dealt in
+      let go : Goes l st.words st.words s (told s v.number (stage_of v.stamp) d) r.frames r.frames r.budgets r.budgets v.number = goes_told l st.words st.words s r.frames r.budgets v.number (stage_of v.stamp) (stage_of v.stamp) v.known d mine.stands (λ b e. inl e) (λ x _. refl) in
+      unmoved l first holds st r i id cs v (record v { reading = rd; known = d }) (told s v.number (stage_of v.stamp) d) r.budgets at
+      (orderly_told l s v.number (stage_of v.stamp) d (began_by l s v.number v.stamp v.known r.orderly mine.stands) r.orderly)
+      (shows_told l st.words s r.frames v.number (stage_of v.stamp) d (r.shows.process v.number (stage_of v.stamp) v.known (omega arith) mine.stands) r.shows)
+      r.budgeted go
+      record {
+        layout = refl;
+        number = refl;
+        upto = refl;
+        stands = set_there s.hands v.number (stage_of v.stamp, v.known) (stage_of v.stamp, d) mine.stands;
+        clocked = mine.clocked;
+        reads = reads;
+        stocks = mine.stocks;
+        drops = mine.drops;
+        seals = mine.seals;
+        sweeps = sweeps_stay go v.sweep mine.sweeps;
+        budget = mine.budget;
+      } kept
+
+  -- a process word changes, and the hand reads nothing
+  process_step : (st : St) (r : Rule st) (i id n : ℕ) (cs : List (ℕ × Unit {0})) (v : View D) (sp : Stamp) (d : D) → get_elem? st.views id ≡ some v → i ≡ process_at v.number → ProcessIs n (stage_of sp) → IsRead r.pages.clock sp
+      → ((b : ℕ) → stage_of sp ≡ Running b → b ≡ r.pages.clock) → holds (told r.pages v.number (stage_of sp) d) → Rule (stepped st i n id cs (record v { stamp = sp; reading = Nowhere; known = d }) keeps)
+  process_step st r i id n cs v sp d at i_is is clocked' begun kept = let mine = r.seats id v at in let s : Pages D = r.pages in let low = mine.counted in let dealt = mine.dealt in let orderly = r.orderly in let counts = orderly.owners in
+      let ws : List ℕ = set st.words i n in
+      let owners : (x : ℕ) → x < length s.owners → get_or ws (owner_at l x) 0 ≡ get_or st.words (owner_at l x) 0 = (λ x below. get_or-set_other st.words i (owner_at l x) n 0 (λ z. omega arith)) in
+      let go : Goes l st.words ws s (told s v.number (stage_of sp) d) r.frames r.frames r.budgets r.budgets v.number = goes_told l st.words ws s r.frames r.budgets v.number (stage_of v.stamp) (stage_of sp) v.known d mine.stands
+      (λ b e. let now = begun b e in inr (omega arith)) owners in
+      moved l first holds st r i n id cs v (record v { stamp = sp; reading = Nowhere; known = d }) (told s v.number (stage_of sp) d) r.frames r.budgets at
+      (orderly_told l s v.number (stage_of sp) d (λ b e. let now = begun b e in omega arith) r.orderly)
+      (subst (λ (z : ℕ). Shows l (set st.words z n) (told s v.number (stage_of sp) d) r.frames) (sym i_is) (shows_process l st.words s r.frames v.number n (stage_of sp) d (omega arith) is r.shows))
+      r.budgeted go
+      record {
+        layout = refl;
+        number = refl;
+        upto = refl;
+        stands = set_there s.hands v.number (stage_of v.stamp, v.known) (stage_of sp, d) mine.stands;
+        clocked = clocked';
+        reads = tt;
+        stocks = mine.stocks;
+        drops = mine.drops;
+        seals = seal_same l st.words ws s.owners v.number v.sealing owners mine.seals;
+        sweeps = sweeps_stay go v.sweep mine.sweeps;
+        budget = mine.budget;
+      } kept
+
+  -- a load of the clock, outside a process
+  pub reads_clock : (slots id i : ℕ) (me : M) → i ≡ 0 → me.0.stamp ≡ Out → Allows Rule slots id me i (λ n. n) (clocked (step slots i 0 0 none) me)
+  reads_clock slots id i me i_is out st r _ at _ = let mine = r.seats id me.0 at in let s : Pages D = r.pages in let n : ℕ = get_or st.words i 0 in
+      let is : n ≡ s.clock = ap (λ (z : ℕ). get_or st.words z 0) i_is ∙ r.shows.clock in let bound = low_clock l s.clock r.budgets r.budgeted in
+      let w : View D = record me.0 { stamp = Clocked n; reading = Nowhere } in (
+        w,
+        keeps,
+        tt,
+        unmoved l first holds st r i id me.1 me.0 w s r.budgets at r.orderly r.shows r.budgeted (goes_on l st.words s r.frames r.budgets r.budgets me.0.number (λ k _. refl))
+            record {
+              layout = refl;
+              number = refl;
+              upto = refl;
+              stands = mine.stands ∙ ap (λ (z : Stamp). some (stage_of z, me.0.known)) out;
+              clocked = omega arith;
+              reads = tt;
+              stocks = mine.stocks;
+              drops = mine.drops;
+              seals = mine.seals;
+              sweeps = mine.sweeps;
+              budget = mine.budget;
+            } r.kept,
+        ((refl, refl), (refl, refl, refl), refl, refl, omega arith),
+      )
+
+  pub stamps : (then' : D → ℕ → D → Type 0) (slots id i n c : ℕ) (me : M) → i ≡ process_at me.0.number → n ≡ c + 1 → me.0.stamp ≡ Clocked c → Begins holds l me.0.number me.0.known then'
+      → Allows Rule slots id me i (λ _. n) (λ _. stamped then' (step slots i n 0 none) me n)
+  stamps then' slots id i n c me i_is n_is is asked st r _ at _ = let mine = r.seats id me.0 at in let s : Pages D = r.pages in let seen : c ≤ s.clock = subst (IsRead s.clock) is mine.clocked in
+      let t = asked s r.kept r.orderly (mine.stands ∙ ap (λ (z : Stamp). some (stage_of z, me.0.known)) is) in (
+        record me.0 { stamp = In s.clock; reading = Nowhere; known = t.0 },
+        keeps,
+        tt,
+        process_step st r i id n me.1 me.0 (In s.clock) t.0 at i_is (omega arith, omega arith) tt (λ b e. cc) t.1,
+        ((refl, refl), (refl, refl, refl), (s.clock, refl, t.2)),
+      )
+
+  pub finishes : (then' : D → ℕ → D → Type 0) (slots id i b : ℕ) (me : M) → i ≡ process_at me.0.number → me.0.stamp ≡ In b → Ends holds l me.0.number me.0.known then'
+      → Allows Rule slots id me i (λ _. 0) (λ _. ended then' (step slots i 0 0 none) me 0)
+  finishes then' slots id i b me i_is is asked st r _ at _ = let mine = r.seats id me.0 at in let s : Pages D = r.pages in
+      let t = asked s b r.kept r.orderly (mine.stands ∙ ap (λ (z : Stamp). some (stage_of z, me.0.known)) is) in (
+        record me.0 { stamp = Out; reading = Nowhere; known = t.1 },
+        keeps,
+        tt,
+        process_step st r i id 0 me.1 me.0 Out t.1 at i_is refl tt (λ b e. cc) t.2,
+        ((refl, refl), (refl, refl, refl), refl, (s.clock, t.3)),
+      )
+
+  pub looks : (then' : D → ℕ → Owner → List ℕ → D → Type 0) (slots id i b x : ℕ) (me : M) → i ≡ page_at l x → x < l.pages → me.0.layout ≡ l → me.0.stamp ≡ In b → Gets holds l me.0.number me.0.known x then'
+      → Allows Rule slots id me i (λ n. n) (looked then' (step slots i 0 0 none) me)
+  looks then' slots id i b x me i_is inside same is asked st r _ at _ = let mine = r.seats id me.0 at in let s : Pages D = r.pages in let orderly = r.orderly in let counts = orderly.contents in let owners = orderly.owners in
+      let page = there s.contents x (omega arith) in let own = there s.owners x (omega arith) in let n : ℕ = get_or st.words i 0 in
+      let t = asked s b page.0 own.0 r.kept r.orderly (mine.stands ∙ ap (λ (z : Stamp). some (stage_of z, me.0.known)) is) (page.1, own.1) in
+      let kept : holds (told s me.0.number (stage_of me.0.stamp) t.1) = subst (λ (z : Stamp). holds (told s me.0.number (stage_of z) t.1)) (sym is) t.2 in
+      let passes = ap (λ (z : Layout). z.passes) same in let total = r.shows.frame_total in let counts' = ap (λ (z : Layout). frame_count z) same in
+      let from : PageIs r.frames x n page.0 = subst (λ (z : ℕ). PageIs r.frames x (get_or st.words z 0) page.0) (sym i_is) (r.shows.page x page.0 page.1) in
+      ⊎_elim
+      (λ (e : (n ≡ 0) × (page.0 ≡ replicate 32 0)). (
+        record me.0 { reading = me.0.reading; known = t.1 },
+        keeps,
+        tt,
+        told_load st r i id me.1 me.0 me.0.reading t.1 at mine.reads kept,
+        ((refl, refl), refl, (refl, refl, refl), λ y equal. let back : x ≡ y = omega arith in (own.0, page.0, ((λ _. e.1), λ some_frame. absurd (some_frame e.0)), subst (λ (z : ℕ). then' me.0.known z own.0 page.0 t.1) back t.3)),
+      ))
+      (λ (e : (f : ℕ) × (n ≡ f + 1) × (get_elem? r.frames f ≡ some (used (shown x) page.0))). let up = e.1 in let within = at_below r.frames e.0 (used (shown x) page.0) e.2 in (
+        record me.0 { reading = At e.0 page.0; known = t.1 },
+        keeps,
+        tt,
+        told_load st r i id me.1 me.0 (At e.0 page.0) t.1 at (b, is, (shown x, e.2, tt)) kept,
+        (
+          (refl, refl),
+          refl,
+          (refl, refl, refl),
+          λ y equal. let back : x ≡ y = omega arith in (
+            own.0,
+            page.0,
+            ((λ nothing. absurd (omega arith)), λ _. (e.0, e.1, omega arith, (r.shows.frame e.0 (used (shown x) page.0) e.2).1, refl)),
+            subst (λ (z : ℕ). then' me.0.known z own.0 page.0 t.1) back t.3,
+          ),
+        ),
+      ))
+      from
+
+  pub copies : (slots id i f k : ℕ) (me : M) (xs : List ℕ) → i ≡ place_at l f k → me.0.reading ≡ At f xs → me.0.layout ≡ l → k < 32 → Allows Rule slots id me i (λ n. n) (copied (step slots i 0 0 none) me)
+  copies slots id i f k me xs i_is reads same more st r _ at _ = let mine = r.seats id me.0 at in let s : Pages D = r.pages in
+      let rd : Reads r.frames me.0.stamp (At f xs) = subst (Reads r.frames me.0.stamp) reads mine.reads in
+      let was = r.shows.frame f (used rd.2.0 xs) rd.2.1 in let long : length xs ≡ 32 = full rd.0 rd.2.0 xs rd.2.2 was.1 in (
+        me.0,
+        keeps,
+        tt,
+        unmoved l first holds st r i id me.1 me.0 me.0 s r.budgets at r.orderly r.shows r.budgeted (goes_on l st.words s r.frames r.budgets r.budgets me.0.number (λ k _. refl))
+            record { layout = refl; number = refl; upto = refl; stands = mine.stands; clocked = mine.clocked; reads = mine.reads; stocks = mine.stocks; drops = mine.drops; seals = mine.seals; sweeps = mine.sweeps; budget = mine.budget } r.kept,
+        (
+          refl,
+          λ g ys j e equal small. let both = sym reads ∙ e in let is_f : f ≡ g = ap frame_of both in let passes = ap (λ (z : Layout). z.passes) same in let pages = ap (λ (z : Layout). z.pages) same in let is_k : k ≡ j = omega arith in
+              ap (λ (z : ℕ). get_or st.words z 0) i_is ∙ (was.3 k (omega arith) ∙ (ap (λ (z : List ℕ). get_or z k 0) (ap words_read both) ∙ ap (λ (z : ℕ). get_or ys z 0) is_k)),
+        ),
+      )

@@ -1,0 +1,11 @@
+use Rattle.std.proofs.Common.{rules, arith, ◌≡◌, ℕ, List, [], length, take_all, refl, sym, subst, ◌∙◌}
+use Rattle.std.proofs.lemmas.List.{take-append-le}
+use Rattle.atomic_table.specs.Table.{opening}
+use Rattle.bl_store.specs.Frames.{Kept, starting}
+use Rattle.bl_store.proofs.Dealing.{opens_with}
+use Rattle.bl_store.proofs.opening.Store+D+R+Global.of_layout.Goals as goal
+
+pub of_words-requires : goal.of_words-requires
+of_words-requires g c = let ws : List ℕ = c.lay.new.words in let size : length ws ≡ c.loop.words.len = c.lay.auto.words ∙ c.as_mut_slice.ensures.len in
+    let is : c.as_slice.result.now ≡ ws = c.as_slice.ensures.value ∙ (take-append-le c.loop.words.len ws _ (omega arith) ∙ take_all _ _ (omega arith)) in
+    subst (λ (z : List ℕ). Kept {S = Unit {0}} c.args.layout g.R.PageRule.first g.R.PageRule.holds (opening z [] (starting c.args.layout g.R.PageRule.first))) (sym is) (opens_with c.args.layout c.args.first.now g.R.PageRule.first g.R.PageRule.holds ws c.requires.pages c.lay.ensures c.requires.rule)

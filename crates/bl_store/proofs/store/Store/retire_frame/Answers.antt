@@ -1,0 +1,13 @@
+use Rattle.std.proofs.Common.{rules, arith, ◌≡◌, ◌⊎◌, ℕ, zero, suc, ◌+◌, ◌-◌, ◌*◌, ◌/◌, ◌%◌, ◌<◌, ◌≤◌, List, [], ◌∷◌, ◌++◌, length, take, get_or, ap, sym, subst, refl, ◌∙◌, inl, inr, ⊎_elim}
+use Rattle.bl_layout.specs.declared.layout.Layout.{Layout}
+use Rattle.bl_layout.specs.Words.{frame_count}
+use Rattle.bl_store.proofs.Reserving.{retires_frame}
+use Rattle.bl_store.proofs.Ticking.{draws}
+use Rattle.bl_store.proofs.store.Store.retire_frame.Goals as goal
+
+pub fetch_add-time-requires : goal.fetch_add-time-requires
+fetch_add-time-requires g c = let wide = c.args.self.now.wide in let left = c.requires.ticks in (search rules, omega arith, draws _ _ _ g.R.PageRule.ticks _ _ _ c.args.frame (c.args.hand.now.seat.me.0.puts - 1) _ (search rules) c.requires.frame.1 (omega arith))
+
+pub store-requires : goal.store-requires
+store-requires g c = let st = c.args.self.now in let wide = st.wide in let passes = ap (λ (z : Layout). z.passes) st.key in let pages = ap (λ (z : Layout). z.pages) st.key in
+    (search rules, omega arith, retires_frame _ _ _ _ _ _ _ c.args.frame c.fetch_add-time.result _ (omega arith) (omega arith) (c.fetch_add-time.ensures.2.7 c.args.frame c.requires.frame.1))

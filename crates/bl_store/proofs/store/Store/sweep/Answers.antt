@@ -1,0 +1,9 @@
+use Rattle.std.proofs.Common.{rules, arith, ◌≡◌, ◌⊎◌, ℕ, zero, suc, ◌+◌, ◌-◌, ◌*◌, ◌/◌, ◌%◌, ◌<◌, ◌≤◌, List, [], ◌∷◌, ◌++◌, length, take, get_or, ap, sym, subst, refl, ◌∙◌, inl, inr, ⊎_elim}
+use Rattle.bl_layout.specs.declared.layout.Layout.{Layout}
+use Rattle.bl_layout.specs.Words.{frame_count}
+use Rattle.bl_store.specs.Pages.{Releases}
+use Rattle.bl_store.proofs.store.Store.sweep.Goals as goal
+
+pub release-requires-clause-rule : goal.release-requires-clause-rule
+release-requires-clause-rule g c = let inv = c.loop-i-2.invariant in let number : c.args.hand.now.number ≡ c.loop-i-2.hand.number = c.args.hand.now.own.0 ∙ (sym inv.same.0.2 ∙ sym c.loop-i-2.hand.own.0) in
+    λ x time. subst (λ (z : ℕ). Releases g.R.PageRule.holds c.args.self.now.layout z c.loop-i-2.hand.seat.me.0.known x time (g.M.SweepPlay.then c.loop-i-2.hand.seat.me.0.known)) number (c.requires.rule.2 c.loop-i-2.hand.seat.me.0.known x time inv.told)

@@ -1,0 +1,66 @@
+use Rattle.std.proofs.Common.{rules, arith, ◌≡◌, ◌⊎◌, ℕ, ◌+◌, ◌*◌, ◌<◌, List, [], ◌∷◌, length, slice_index, set, sym, ap, subst, ◌∙◌, inl, inr, ⊎_elim, refl}
+use Rattle.bl_layout.specs.declared.layout.Layout.{Layout}
+use Rattle.bl_layout.specs.Words.{frame_count}
+use Rattle.bl_store.specs.Frames.{state_at}
+use Rattle.bl_store.specs.Told.{draft}
+use Rattle.bl_store.specs.Hands.{Has, IsAmong, drafts}
+use Rattle.bl_store.specs.declared.view.Draft.{Draft}
+use Rattle.bl_store.proofs.Reserving.{notes, reserves}
+use Rattle.bl_store.proofs.StockLemmas.{drafts_push, among_push, among_new, within_push, has_same, has_more, has_new}
+use Rattle.bl_store.proofs.store.Store.try_frame.Goals as goal
+
+pub load-requires : goal.load-requires
+load-requires g c = let st = c.args.self.now in let wide = st.wide in (search rules, omega arith, notes _ _ _ _ _ _ _)
+
+pub compare_exchange-found-requires : goal.compare_exchange-found-requires
+compare_exchange-found-requires g c = let st = c.args.self.now in let wide = st.wide in let own = c.args.hand.now.own in let e = c.load.ensures.2.0 in let number : c.args.hand.now.number ≡ c.load.new.seat.me.0.number = own.0 ∙ sym e.0.1 in
+    let passes = ap (λ (z : Layout). z.passes) st.key in let pages = ap (λ (z : Layout). z.pages) st.key in
+    (search rules, omega arith, reserves _ _ _ _ _ _ _ c.args.frame _ (omega arith) (omega arith) (omega arith) (e.0.0 ∙ (c.requires.own.1 ∙ sym st.key)))
+
+pub returns-then-found-eq0-clause-stock : goal.returns-then-found-eq0-clause-stock
+returns-then-found-eq0-clause-stock g c = let e = c.load.ensures.2.0 in let f = c.compare_exchange-found.ensures.2 in let layout = e.0.0 ∙ c.requires.own.1 in let passes = ap (λ (z : Layout). z.passes) layout in let pages = ap (λ (z : Layout). z.pages) layout in
+    let t = (f.4 c.args.frame (omega arith)).0 c.if-found-eq0.true in let was = c.requires.stock.0 in let fs : List ℕ = c.args.stock.now.frames in let n : ℕ = c.args.stock.now.count in
+    let size : length fs ≡ 3 = search rules in let less = c.requires.stock.1 in let puts = f.3.0 in let puts' = e.2.1 in let enough = c.requires.stock.2 in
+    let same : c.compare_exchange-found.new.seat.me.0.layout ≡ c.args.hand.now.seat.me.0.layout = f.0.0 ∙ e.0.0 in let total : frame_count c.compare_exchange-found.new.seat.me.0.layout ≡ frame_count c.args.hand.now.seat.me.0.layout = ap (λ (z : Layout). frame_count z) same in
+    let all : frame_count c.args.hand.now.seat.me.0.layout ≡ frame_count c.args.self.now.layout = ap (λ (z : Layout). frame_count z) c.requires.own.1 in (
+      record {
+        frames = t.0 ∙ (ap (λ (z : List Draft). draft c.args.frame [] ∷ z) (e.2.0 ∙ was.frames) ∙ sym (drafts_push fs n c.args.frame (omega arith)));
+        ticks = omega arith;
+        few = omega arith;
+        within = subst (λ (z : ℕ). (k : ℕ) → k < n + 1 → slice_index (set fs n c.args.frame) k < z) (sym total) (within_push fs n c.args.frame (frame_count c.args.hand.now.seat.me.0.layout) (omega arith) (omega arith) was.within);
+      },
+      omega arith,
+      omega arith,
+    )
+
+pub returns-then-found-eq0-clause-tried : goal.returns-then-found-eq0-clause-tried
+returns-then-found-eq0-clause-tried g c = let size : length c.args.stock.now.frames ≡ 3 = search rules in let less = c.requires.stock.1 in inl (among_new c.args.stock.now.frames c.args.stock.now.count c.args.frame (omega arith))
+
+pub returns-then-found-eq0-clause-kept : goal.returns-then-found-eq0-clause-kept
+returns-then-found-eq0-clause-kept g c = let e = c.load.ensures.2 in let f = c.compare_exchange-found.ensures.2 in let layout = e.0.0.0 ∙ c.requires.own.1 in let passes = ap (λ (z : Layout). z.passes) layout in let pages = ap (λ (z : Layout). z.pages) layout in
+    let t = (f.4 c.args.frame (omega arith)).0 c.if-found-eq0.true in let same = f.0.0 ∙ e.0.0.0 in
+    λ x. ⊎_elim (λ h. inl (among_push c.args.stock.now.frames c.args.stock.now.count c.args.frame x h)) (λ h. inr (has_same _ _ _ _ (t.1 ∙ e.2 c.if-load-ne0.false) (ap (λ (z : Layout). state_at z x) (sym same)) h))
+
+pub returns-else-found-eq0-clause-stock : goal.returns-else-found-eq0-clause-stock
+returns-else-found-eq0-clause-stock g c = let e = c.load.ensures.2.0 in let f = c.compare_exchange-found.ensures.2 in let layout = e.0.0 ∙ c.requires.own.1 in let passes = ap (λ (z : Layout). z.passes) layout in let pages = ap (λ (z : Layout). z.pages) layout in
+    let t = (f.4 c.args.frame (omega arith)).1 c.if-found-eq0.false in let was = c.requires.stock.0 in let ticks = was.ticks in let puts = f.3.0 in let puts' = e.2.1 in
+    let same : c.compare_exchange-found.new.seat.me.0.layout ≡ c.args.hand.now.seat.me.0.layout = f.0.0 ∙ e.0.0 in (
+      record {
+        frames = t.0 ∙ (e.2.0 ∙ was.frames);
+        ticks = omega arith;
+        few = was.few;
+        within = subst (λ (z : Layout). (k : ℕ) → k < c.args.stock.now.count → slice_index c.args.stock.now.frames k < frame_count z) (sym same) was.within;
+      },
+      omega arith,
+      omega arith,
+    )
+
+pub returns-else-found-eq0-clause-tried : goal.returns-else-found-eq0-clause-tried
+returns-else-found-eq0-clause-tried g c = let e = c.load.ensures.2.0 in let f = c.compare_exchange-found.ensures.2 in let layout = e.0.0 ∙ c.requires.own.1 in let passes = ap (λ (z : Layout). z.passes) (f.0.0 ∙ layout) in let pages = ap (λ (z : Layout). z.pages) (f.0.0 ∙ layout) in
+    let passes' = ap (λ (z : Layout). z.passes) layout in let pages' = ap (λ (z : Layout). z.pages) layout in
+    let t = (f.4 c.args.frame (omega arith)).1 c.if-found-eq0.false in inr (has_new _ _ _ _ t.1 (omega arith))
+
+pub returns-else-found-eq0-clause-kept : goal.returns-else-found-eq0-clause-kept
+returns-else-found-eq0-clause-kept g c = let e = c.load.ensures.2 in let f = c.compare_exchange-found.ensures.2 in let layout = e.0.0.0 ∙ c.requires.own.1 in let passes = ap (λ (z : Layout). z.passes) layout in let pages = ap (λ (z : Layout). z.pages) layout in
+    let t = (f.4 c.args.frame (omega arith)).1 c.if-found-eq0.false in let same = f.0.0 ∙ e.0.0.0 in
+    λ x. ⊎_elim inl (λ h. inr (has_more _ _ _ _ _ t.1 (ap (λ (z : Layout). state_at z x) (sym same)) (has_same _ _ _ _ (e.2 c.if-load-ne0.false) refl h)))

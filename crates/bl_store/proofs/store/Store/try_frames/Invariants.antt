@@ -1,0 +1,14 @@
+use Rattle.std.proofs.Common.{◌≡◌, ℕ, ◌≤◌, ◌<◌}
+use Rattle.bl_store.specs.Hands.{IsQuiet, IsStockOf, IsTried}
+use Rattle.bl_store.proofs.store.Store.try_frames.Given as goal
+
+abbrev pub invariant-loop-frame : goal.invariant-loop-frame
+invariant-loop-frame g l = record {
+  same : IsQuiet l.fn.hand.seat l.hand.seat;
+  page : l.stock.page ≡ l.fn.stock.page;
+  stock : IsStockOf l.hand.seat l.stock;
+  few : l.stock.count ≤ l.fn.wanted;
+  more : l.fn.stock.count ≤ l.stock.count;
+  seen : (f : ℕ) → l.fn.from ≤ f → f < l.frame → IsTried l.hand.seat l.stock f;
+  kept : (f : ℕ) → IsTried l.fn.hand.seat l.fn.stock f → IsTried l.hand.seat l.stock f;
+}

@@ -1,0 +1,93 @@
+-- What a caller sees of a hand.
+use Rattle.std.specs.Prelude.{◌≡◌, ◌⊎◌, ℕ, zero, suc, ◌+◌, ◌<◌, ◌≤◌, List, [], ◌∷◌, slice_index}
+use Rattle.atomic_table.specs.Seated.{TableId}
+use Rattle.atomic_table.specs.declared.shared.Seat.{Seat}
+use Rattle.bl_layout.specs.declared.layout.Layout.{Layout}
+use Rattle.bl_layout.specs.Words.{frame_count}
+use Rattle.bl_store.specs.Frames.{owner_at, state_at}
+use Rattle.bl_store.specs.Told.{draft}
+use Rattle.bl_store.specs.declared.stock.Stock.{Stock}
+use Rattle.bl_store.specs.declared.stock.NoRoom.{NoRoom}
+use Rattle.bl_store.specs.declared.stock.NoRoom.TheVariants.{Pages, Frames, Clock}
+use Rattle.bl_store.specs.declared.view.Draft.{Draft}
+use Rattle.bl_store.specs.declared.view.View.{View}
+use Rattle.bl_store.specs.declared.view.Stamp.TheVariants.{Out, In}
+
+-- the number is in the list
+abbrev pub Has : List ℕ → ℕ → Type 0
+Has [] x = ⊥
+Has (y ∷ ys) x = (x ≡ y) ⊎ Has ys x
+
+-- one of the first n of the list
+abbrev pub IsAmong : ℕ → List ℕ → ℕ → Type 0
+IsAmong n xs x = (k : ℕ) × (k < n) × (slice_index xs k ≡ x)
+
+-- the first n of these frames, the last one first, with nothing written
+abbrev pub drafts : List ℕ → ℕ → List Draft
+drafts fs zero = []
+drafts fs (suc n) = draft (slice_index fs n) [] ∷ drafts fs n
+
+module _ {D : Type 0} where
+  -- what the hand knows
+  abbrev pub known : Seat (Unit {0}) (View D) → D
+  known h = h.me.0.known
+
+  abbrev pub number_of : Seat (Unit {0}) (View D) → ℕ
+  number_of h = h.me.0.number
+
+  -- a hand of the store that has this table and this layout
+  abbrev pub IsOf : TableId → Layout → Seat (Unit {0}) (View D) → Type 0
+  IsOf t l h = (h.table_id ≡ t) × (h.me.0.layout ≡ l)
+
+  -- the hand is outside a process
+  abbrev pub IsIdle : Seat (Unit {0}) (View D) → Type 0
+  IsIdle h = h.me.0.stamp ≡ Out
+
+  -- the hand is in a process
+  abbrev pub IsRunning : Seat (Unit {0}) (View D) → Type 0
+  IsRunning h = (b : ℕ) × (h.me.0.stamp ≡ In b)
+
+  -- the same hand of the same store
+  abbrev pub IsSameHand : Seat (Unit {0}) (View D) → Seat (Unit {0}) (View D) → Type 0
+  IsSameHand h h' = (h'.table_id ≡ h.table_id) × (h'.me.0.layout ≡ h.me.0.layout) × (h'.me.0.number ≡ h.me.0.number)
+
+  -- it goes on with its process, or stays outside one
+  abbrev pub IsSameStage : Seat (Unit {0}) (View D) → Seat (Unit {0}) (View D) → Type 0
+  IsSameStage h h' = h'.me.0.stamp ≡ h.me.0.stamp
+
+  -- the same frames are reserved, with leave for as many puts and retirements
+  abbrev pub IsSameStock : Seat (Unit {0}) (View D) → Seat (Unit {0}) (View D) → Type 0
+  IsSameStock h h' = (h'.me.0.stock ≡ h.me.0.stock) × (h'.me.0.puts ≡ h.me.0.puts) × (h'.me.0.retires ≡ h.me.0.retires)
+
+  -- the hand has nothing reserved
+  abbrev pub HasNoStock : Seat (Unit {0}) (View D) → Type 0
+  HasNoStock h = h.me.0.stock ≡ []
+
+  -- the stock is what this hand has reserved
+  pub record IsStockOf (h : Seat (Unit {0}) (View D)) (stock : Stock) : Type 0 where
+    pub frames : h.me.0.stock ≡ drafts stock.frames stock.count
+    pub ticks : stock.count ≤ h.me.0.puts
+    pub few : stock.count ≤ 3
+    pub within : (k : ℕ) → k < stock.count → slice_index stock.frames k < frame_count h.me.0.layout
+
+  -- the hand has leave to retire one page
+  abbrev pub MayRetire : Seat (Unit {0}) (View D) → Type 0
+  MayRetire h = h.me.0.retires ≡ 1
+
+  -- since its last reservation began, the hand saw the word taken
+  abbrev pub SawTaken : Seat (Unit {0}) (View D) → ℕ → Type 0
+  SawTaken h i = Has h.me.0.seen i
+
+  -- Why a reservation of so many pages and frames is refused: the hand saw each page from 1 upward taken, or each frame but fewer than it asked for, which it got, or the clock at its end.
+  abbrev pub IsWhy : Seat (Unit {0}) (View D) → ℕ → ℕ → NoRoom → Type 0
+  IsWhy h pages frames Pages = (pages ≡ 1) × ((x : ℕ) → 0 < x → x < h.me.0.layout.pages → SawTaken h (owner_at h.me.0.layout x))
+  IsWhy h pages frames Frames = (n : ℕ) × (got : List ℕ) × (n < frames) × ((f : ℕ) → f < frame_count h.me.0.layout → IsAmong n got f ⊎ SawTaken h (state_at h.me.0.layout f))
+  IsWhy h pages frames Clock = SawTaken h 0
+
+  -- all but the stock and what it saw taken is as before
+  abbrev pub IsQuiet : Seat (Unit {0}) (View D) → Seat (Unit {0}) (View D) → Type 0
+  IsQuiet h h' = (h'.table_id ≡ h.table_id) × (h'.me.0.layout ≡ h.me.0.layout) × (h'.me.0.number ≡ h.me.0.number) × (h'.me.0.stamp ≡ h.me.0.stamp) × (h'.me.0.known ≡ h.me.0.known) × (h'.me.0.puts ≡ h.me.0.puts) × (h'.me.0.retires ≡ h.me.0.retires)
+
+  -- the frame is in the stock, or was seen taken
+  abbrev pub IsTried : Seat (Unit {0}) (View D) → Stock → ℕ → Type 0
+  IsTried h stock f = IsAmong stock.count stock.frames f ⊎ SawTaken h (state_at h.me.0.layout f)

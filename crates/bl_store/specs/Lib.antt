@@ -1,0 +1,5 @@
+pub mod Pages
+pub mod Frames
+pub mod Opening
+pub mod Told
+pub mod Hands

@@ -1,0 +1,31 @@
+//! A store of fixed-size pages that many threads read without waiting and write under one latch a page.
+//!
+//! A page is 32 words of 64 bits. Its contents stand in a frame, which is written once and named by the
+//! page's word, so a reader takes one word and then copies at leisure. Frames that a put swaps out, and
+//! pages that are retired, are used again only when no process is left that may still read them: each hand
+//! stamps its process word with the clock when it begins, and a sweep looks at all process words.
+//!
+//! A user states a rule over the words and owners of all pages, the time, and what each hand knows
+//! ([`PageRule`]). The rule holds between any two events. Each call is one event, and asks only that the
+//! user's rule survives it; what the event tells the hand is the caller's choice ([`PagePlay`] and its
+//! kin). No call waits, and none takes memory once the store is made.
+//!
+//! The latches and right links that such pages serve are those of Lehman and Yao, "Efficient locking for
+//! concurrent operations on B-trees" (1981). Stamps, frames and their release are this project's own.
+#![tactic(auto)]
+
+mod opening;
+mod owner;
+mod plays;
+mod put;
+mod reserve;
+mod rule;
+mod stock;
+mod store;
+mod sweep;
+mod view;
+
+pub use rule::{PagePlay, PageRule, SweepPlay, TimePlay};
+pub use stock::{NoRoom, Stock};
+pub use store::{Hand, Store};
+pub use view::{Draft, Dropping, Framed, Reading, Sealing, Stamp, Sweep, View};

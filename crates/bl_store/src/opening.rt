@@ -1,0 +1,138 @@
+//! A store is made, and its hands are dealt out.
+ghost use Rattle.std.specs.Prelude.{◌≡◌, ℕ, ◌+◌, ◌<◌, ◌≤◌, false, [], length, replicate, slice_index_or, IfOk};
+ghost use Rattle.bl_layout.specs.Words.{word_count};
+ghost use Rattle.bl_store.specs.Frames.{share};
+ghost use Rattle.bl_store.specs.Opening.{first_pages, is_blank, Laid, IsDealt};
+
+use crate::rule::PageRule;
+use crate::store::{Hand, Store};
+use crate::view::View;
+use atomic_table::{Seat, Split, Table};
+use bl_layout::Layout;
+use std::alloc::{AllocError, Global};
+use std::mem;
+use std::sync::atomic::AtomicU64;
+
+// The numbers that a hand has to deal out, but its own, go to the next hand.
+pub(crate) struct Deal;
+
+impl<D> Split<View<D>> for Deal {
+    ghost use Rattle.bl_store.specs.Frames.{own_share, next_share};
+
+    ghost left = { own_share };
+
+    ghost right = { next_share };
+}
+
+impl<D, R: PageRule<D>> Store<D, R, Global> {
+    /// A store whose pages have these words, and a hand for each pass. A page with only zeros is released, every other
+    /// is open.
+    pub fn new(
+        alloc: Global,
+        first: &[[u64; 32]],
+        passes: u32,
+    ) -> Result<(Store<D, R, Global>, Vec<Hand<D>>), AllocError>
+        requires pages { (4 ≤ length first.now) × (length first.now ≤ 65536) }
+        requires passes { (1 ≤ passes) × (passes ≤ 64) }
+        requires rule { R.holds (first_pages first.now passes R.first) }
+        ensures layout { IfOk result (λ t. (t.0.layout.pages ≡ length first.now) × (t.0.layout.passes ≡ passes)) }
+        ensures hands { IfOk result (λ t. IsDealt t.0.table.shared.table_id t.0.layout R.first passes t.1.items) }
+    {
+        let layout = Layout {
+            pages: first.len() as u32,
+            passes,
+        };
+        Self::of_layout(alloc, layout, first)
+    }
+
+    fn of_layout(
+        alloc: Global,
+        layout: Layout,
+        first: &[[u64; 32]],
+    ) -> Result<(Store<D, R, Global>, Vec<Hand<D>>), AllocError>
+        requires pages { length first.now ≡ layout.pages }
+        requires rule { R.holds (first_pages first.now layout.passes R.first) }
+        ensures layout { IfOk result (λ t. t.0.layout ≡ layout) }
+        ensures hands { IfOk result (λ t. IsDealt t.0.table.shared.table_id layout R.first layout.passes t.1.items) }
+    {
+        let mut words = Vec::with_capacity(alloc, layout.words())?;
+        for _ in 0..layout.words() {
+            words.push(0u64)?;
+        }
+        lay(layout, first, words.as_mut_slice());
+        let (table, seat) = Table::of_words(alloc, words.as_slice(), &layout)?;
+        let store = Store {
+            table,
+            layout,
+            least_free: AtomicU64::new(1),
+        };
+        let hands = store.deal(alloc, seat)?;
+        Ok((store, hands))
+    }
+
+    // A hand for each number, from the seat that has them all.
+    fn deal(&self, alloc: Global, mut seat: Seat<(), View<D>>) -> Result<Vec<Hand<D>>, AllocError>
+        requires table { seat.table_id ≡ self.now.table.shared.table_id }
+        requires all { seat.me ≡ (share self.now.layout R.first 0 self.now.layout.passes, []) }
+        ensures { IfOk result (λ v. IsDealt self.now.table.shared.table_id self.now.layout R.first self.now.layout.passes v.items) }
+    {
+        let passes = self.layout.passes;
+        let mut hands = Vec::with_capacity(alloc, passes as usize)?;
+        for number in 1..passes {
+            let rest = self.table.shared.split_seat::<Deal>(&mut seat);
+            let mine = mem::replace(&mut seat, rest);
+            hands.push(Hand::of(mine, number - 1))?;
+        }
+        hands.push(Hand::of(seat, passes - 1))?;
+        Ok(hands)
+    }
+}
+
+impl<D> Hand<D> {
+    fn of(seat: Seat<(), View<D>>, number: u32) -> Hand<D>
+        requires { (number ≡ seat.me.0.number) × (number < seat.me.0.layout.passes) }
+        ensures { (result.number ≡ number) × (result.seat ≡ seat) }
+    {
+        Hand {
+            seat,
+            number,
+            frame: 0,
+            owner: 0,
+        }
+    }
+}
+
+// Gives each page that is not all zeros the frame of its own number.
+fn lay(layout: Layout, first: &[[u64; 32]], words: &mut [u64])
+    requires pages { length first.now ≡ layout.pages }
+    requires words { words.old ≡ replicate (word_count layout) 0 }
+    ensures { Laid layout first.now words.new layout.pages }
+{
+    for page in 0..layout.pages {
+        if !is_all_zeros(&first[page as usize]) {
+            lay_page(layout, first, page, words);
+        }
+    }
+}
+
+fn lay_page(layout: Layout, first: &[[u64; 32]], page: u32, words: &mut [u64])
+    requires pages { length first.now ≡ layout.pages }
+    requires page { page < layout.pages }
+    requires words { is_blank (slice_index_or first.now page []) ≡ false }
+    requires laid { Laid layout first.now words.old page }
+    ensures { Laid layout first.now words.new (page + 1) }
+{
+    let contents = first[page as usize];
+    words[layout.frame_owner(page)] = 2;
+    for place in 0..32 {
+        words[layout.frame_word(page, place)] = contents[place as usize];
+    }
+    words[layout.page(page)] = page as u64 + 1;
+    words[layout.page_owner(page)] = 1;
+}
+
+fn is_all_zeros(words: &[u64; 32]) -> bool
+    ensures { result ≡ is_blank words.now }
+{
+    words.iter().all(|word| *word == 0)
+}

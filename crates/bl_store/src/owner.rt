@@ -1,0 +1,75 @@
+//! Latches, and the retirement of a page.
+ghost use Rattle.std.specs.Prelude.{◌≡◌, ℕ, ◌+◌, ◌<◌, ◌≤◌, ◌↔◌, List, IsTrue};
+ghost use Rattle.bl_store.specs.Pages.{Owner, Open, Held, Latches, Misses, Opens, Retires};
+ghost use Rattle.bl_store.specs.Hands.{known, IsOf, IsSameHand, IsSameStage, IsSameStock, MayRetire};
+ghost use Rattle.bl_store.specs.declared.view.Sealing.TheVariants.{Sealed};
+
+use crate::plays::{Aim, Open, Seal, Silent, Try};
+use crate::rule::{PagePlay, PageRule, TimePlay};
+use crate::store::{Hand, Store};
+use std::alloc::Allocator;
+use std::marker::Brand;
+
+impl<D, R: PageRule<D>, A: Allocator> Store<D, R, A> {
+    /// Latches a page, where it is open.
+    pub fn try_latch<M: PagePlay<D>>(&self, hand: &mut Hand<D>, page: u32) -> bool
+        requires own { IsOf self.now.table.shared.table_id self.now.layout hand.old.seat }
+        requires page { page < self.now.layout.pages }
+        requires latches { Latches R.holds self.now.layout hand.old.number (known hand.old.seat) page M.then }
+        requires misses { Misses R.holds self.now.layout hand.old.number (known hand.old.seat) page M.then }
+        ensures same { IsSameHand hand.old.seat hand.new.seat × IsSameStage hand.old.seat hand.new.seat × IsSameStock hand.old.seat hand.new.seat }
+        ensures told { (owner : Owner) × (words : List ℕ) × (IsTrue result ↔ (owner ≡ Owner.Open)) × M.then (known hand.old.seat) page owner words (known hand.new.seat) }
+    {
+        let mine = 4 * hand.number as u64 + 2;
+        let at = self.layout.page_owner(page);
+        self.table
+            .shared
+            .compare_exchange::<Try<M>>(&mut hand.seat, at, 1, mine)
+            == 1
+    }
+
+    /// Opens a page that the hand holds.
+    pub fn open<M: PagePlay<D>>(&self, hand: &mut Hand<D>, page: u32)
+        requires own { IsOf self.now.table.shared.table_id self.now.layout hand.old.seat }
+        requires page { page < self.now.layout.pages }
+        requires rule { Opens R.holds self.now.layout hand.old.number (known hand.old.seat) page M.then }
+        ensures same { IsSameHand hand.old.seat hand.new.seat × IsSameStage hand.old.seat hand.new.seat × IsSameStock hand.old.seat hand.new.seat }
+        ensures told { (words : List ℕ) × M.then (known hand.old.seat) page (Held hand.old.number) words (known hand.new.seat) }
+    {
+        let at = self.layout.page_owner(page);
+        self.table.shared.store::<Open<M>>(&mut hand.seat, at, 1);
+    }
+
+    /// Retires a page that the hand holds. No process that begins later may come to it.
+    pub fn retire<M: TimePlay<D>>(&self, hand: &mut Hand<D>, page: u32)
+        requires own { IsOf self.now.table.shared.table_id self.now.layout hand.old.seat }
+        requires page { page < self.now.layout.pages }
+        requires leave { MayRetire hand.old.seat }
+        requires rule { Retires R.holds self.now.layout hand.old.number (known hand.old.seat) page M.then }
+        ensures same { IsSameHand hand.old.seat hand.new.seat × IsSameStage hand.old.seat hand.new.seat }
+        ensures stock { (hand.new.seat.me.0.stock ≡ hand.old.seat.me.0.stock) × (hand.new.seat.me.0.puts ≡ hand.old.seat.me.0.puts) }
+        ensures told { (time : ℕ) × M.then (known hand.old.seat) time (known hand.new.seat) }
+    {
+        let time = self.seal::<M, Brand>(hand, page);
+        let at = self.layout.page_owner(page);
+        self.table
+            .shared
+            .store::<Silent>(&mut hand.seat, at, 4 * time + 3);
+    }
+
+    // The tick by which the page is retired.
+    fn seal<M: TimePlay<D>, J: Aim>(&self, hand: &mut Hand<D>, page: u32) -> u64
+        requires own { IsOf self.now.table.shared.table_id self.now.layout hand.old.seat }
+        requires page { (page < self.now.layout.pages) × (page ≡ J.page) }
+        requires leave { MayRetire hand.old.seat }
+        requires rule { Retires R.holds self.now.layout hand.old.number (known hand.old.seat) page M.then }
+        ensures same { IsSameHand hand.old.seat hand.new.seat × IsSameStage hand.old.seat hand.new.seat }
+        ensures stock { (hand.new.seat.me.0.stock ≡ hand.old.seat.me.0.stock) × (hand.new.seat.me.0.puts ≡ hand.old.seat.me.0.puts) }
+        ensures sealed { (hand.new.seat.me.0.sealing ≡ Sealed page result) × (result < 2305843009213693952) }
+        ensures told { M.then (known hand.old.seat) result (known hand.new.seat) }
+    {
+        self.table
+            .shared
+            .fetch_add::<Seal<M, J>>(&mut hand.seat, self.layout.clock(), 1)
+    }
+}

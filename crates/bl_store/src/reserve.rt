@@ -1,0 +1,224 @@
+//! Reservations of frames and of a page.
+ghost use Rattle.std.specs.Prelude.{◌≡◌, ◌≢◌, ◌⊎◌, ℕ, ◌+◌, ◌*◌, ◌<◌, ◌≤◌, ◌↔◌, true, false, List, [], ◌∷◌, length, IfOk, IfErr, IfSome, IfNone, IsTrue, Some, None};
+ghost use Rattle.bl_layout.specs.Words.{frame_count, word_count};
+ghost use Rattle.bl_store.specs.Pages.{Released, Takes, Refuses};
+ghost use Rattle.bl_store.specs.Frames.{owner_at};
+ghost use Rattle.bl_store.specs.Hands.{known, IsOf, IsSameHand, IsSameStage, IsSameStock, IsQuiet, HasNoStock, IsStockOf, MayRetire, SawTaken, IsTried, IsWhy};
+
+use crate::plays::{Allot, Note, Refuse, Reserve, Return, Take};
+use crate::rule::{PagePlay, PageRule, TimePlay};
+use crate::stock::{NoRoom, Stock};
+use crate::store::{Hand, Store};
+use std::alloc::Allocator;
+use std::sync::atomic::Ordering;
+
+/// At this time and later no reservation is given.
+const END_OF_TIME: u64 = 1 << 60;
+
+impl<D, R: PageRule<D>, A: Allocator> Store<D, R, A> {
+    /// Reserves as many frames, and as many pages. Each frame and each page from 1 upward is tried once. A refused
+    /// reservation is one event, and leaves nothing reserved.
+    pub fn reserve<T: PagePlay<D>, M: TimePlay<D>>(
+        &self,
+        hand: &mut Hand<D>,
+        pages: u32,
+        frames: u32,
+    ) -> Result<Stock, NoRoom>
+        requires own { IsOf self.now.table.shared.table_id self.now.layout hand.old.seat }
+        requires few { (pages ≤ 1) × (frames ≤ 3) }
+        requires empty { HasNoStock hand.old.seat }
+        requires takes { pages ≡ 1 → (x : ℕ) → Takes R.holds self.now.layout hand.old.number (known hand.old.seat) x T.then }
+        requires refuses { Refuses R.holds self.now.layout hand.old.number (known hand.old.seat) M.then }
+        ensures same { IsSameHand hand.old.seat hand.new.seat × IsSameStage hand.old.seat hand.new.seat }
+        ensures stock { IfOk result (λ s. IsStockOf hand.new.seat s × (s.count ≡ frames) × MayRetire hand.new.seat) }
+        ensures no_page { pages ≡ 0 → IfOk result (λ s. (s.page ≡ None) × (known hand.new.seat ≡ known hand.old.seat)) }
+        ensures page { pages ≡ 1 → IfOk result (λ s. (x : ℕ) × (s.page ≡ Some x) × (0 < x) × (x < self.now.layout.pages) × ((words : List ℕ) × T.then (known hand.old.seat) x Released words (known hand.new.seat))) }
+        ensures refused { IfErr result (λ _. HasNoStock hand.new.seat × ((now : ℕ) × M.then (known hand.old.seat) now (known hand.new.seat))) }
+        ensures why { IfErr result (IsWhy hand.new.seat pages frames) }
+    {
+        let clock = self
+            .table
+            .shared
+            .load::<Allot>(&mut hand.seat, self.layout.clock());
+        if clock >= END_OF_TIME {
+            self.refuse::<M>(hand);
+            return Err(NoRoom::Clock);
+        }
+        let mut stock = Stock {
+            page: None,
+            frames: [0; 3],
+            count: 0,
+        };
+        self.reserve_frames(hand, &mut stock, frames);
+        if stock.count < frames {
+            self.give_back(hand, &mut stock);
+            self.refuse::<M>(hand);
+            return Err(NoRoom::Frames);
+        }
+        if pages > 0 {
+            stock.page = self.take::<T>(hand);
+            if stock.page.is_none() {
+                self.give_back(hand, &mut stock);
+                self.refuse::<M>(hand);
+                return Err(NoRoom::Pages);
+            }
+        }
+        Ok(stock)
+    }
+
+    // The reservation's one event, where it is refused.
+    fn refuse<M: TimePlay<D>>(&self, hand: &mut Hand<D>)
+        requires own { IsOf self.now.table.shared.table_id self.now.layout hand.old.seat }
+        requires refuses { Refuses R.holds self.now.layout hand.old.number (known hand.old.seat) M.then }
+        ensures same { IsSameHand hand.old.seat hand.new.seat × IsSameStage hand.old.seat hand.new.seat }
+        ensures stock { (hand.new.seat.me.0.stock ≡ hand.old.seat.me.0.stock) × (hand.new.seat.me.0.seen ≡ hand.old.seat.me.0.seen) }
+        ensures told { (now : ℕ) × M.then (known hand.old.seat) now (known hand.new.seat) }
+    {
+        self.table
+            .shared
+            .load::<Refuse<M>>(&mut hand.seat, self.layout.clock());
+    }
+
+    // Tries each frame once, from the hand's cursor on, until there are enough.
+    fn reserve_frames(&self, hand: &mut Hand<D>, stock: &mut Stock, wanted: u32)
+        requires own { IsOf self.now.table.shared.table_id self.now.layout hand.old.seat }
+        requires wanted { (wanted ≤ 3) × (wanted ≤ hand.old.seat.me.0.puts) }
+        requires stock { IsStockOf hand.old.seat stock.old × (stock.old.count ≤ wanted) }
+        ensures same { IsQuiet hand.old.seat hand.new.seat × (stock.new.page ≡ stock.old.page) }
+        ensures stock { IsStockOf hand.new.seat stock.new × (stock.new.count ≤ wanted) }
+        ensures seen { stock.new.count < wanted → (f : ℕ) → f < frame_count hand.new.seat.me.0.layout → IsTried hand.new.seat stock.new f }
+    {
+        let total = self.layout.frames();
+        let first = hand.frame.min(total);
+        self.try_frames(hand, stock, first, total, wanted);
+        self.try_frames(hand, stock, 0, first, wanted);
+        if stock.count > 0 {
+            hand.frame = stock.frames[stock.count as usize - 1];
+        }
+    }
+
+    // Tries the frames of a range, until there are enough.
+    fn try_frames(&self, hand: &mut Hand<D>, stock: &mut Stock, from: u32, to: u32, wanted: u32)
+        requires own { IsOf self.now.table.shared.table_id self.now.layout hand.old.seat }
+        requires range { (from ≤ to) × (to ≤ frame_count self.now.layout) }
+        requires wanted { (wanted ≤ 3) × (wanted ≤ hand.old.seat.me.0.puts) }
+        requires stock { IsStockOf hand.old.seat stock.old × (stock.old.count ≤ wanted) }
+        ensures same { IsQuiet hand.old.seat hand.new.seat × (stock.new.page ≡ stock.old.page) }
+        ensures stock { IsStockOf hand.new.seat stock.new × (stock.new.count ≤ wanted) }
+        ensures seen { stock.new.count < wanted → (f : ℕ) → from ≤ f → f < to → IsTried hand.new.seat stock.new f }
+        ensures kept { (f : ℕ) → IsTried hand.old.seat stock.old f → IsTried hand.new.seat stock.new f }
+        ensures more { stock.old.count ≤ stock.new.count }
+    {
+        for frame in from..to {
+            if stock.count == wanted {
+                return;
+            }
+            self.try_frame(hand, stock, frame);
+        }
+    }
+
+    // Reserves a frame, where it is free.
+    fn try_frame(&self, hand: &mut Hand<D>, stock: &mut Stock, frame: u32)
+        requires own { IsOf self.now.table.shared.table_id self.now.layout hand.old.seat }
+        requires frame { frame < frame_count self.now.layout }
+        requires stock { IsStockOf hand.old.seat stock.old × (stock.old.count < 3) × (stock.old.count < hand.old.seat.me.0.puts) }
+        ensures same { IsQuiet hand.old.seat hand.new.seat × (stock.new.page ≡ stock.old.page) }
+        ensures stock { IsStockOf hand.new.seat stock.new × (stock.old.count ≤ stock.new.count) × (stock.new.count ≤ stock.old.count + 1) }
+        ensures tried { IsTried hand.new.seat stock.new frame }
+        ensures kept { (f : ℕ) → IsTried hand.old.seat stock.old f → IsTried hand.new.seat stock.new f }
+    {
+        let at = self.layout.frame_owner(frame);
+        if self.table.shared.load::<Note>(&mut hand.seat, at) != 0 {
+            return;
+        }
+        let mine = 4 * hand.number as u64 + 2;
+        let found = self
+            .table
+            .shared
+            .compare_exchange::<Reserve>(&mut hand.seat, at, 0, mine);
+        if found == 0 {
+            stock.frames[stock.count as usize] = frame;
+            stock.count += 1;
+        }
+    }
+
+    // All frames of the stock are free again.
+    fn give_back(&self, hand: &mut Hand<D>, stock: &mut Stock)
+        requires own { IsOf self.now.table.shared.table_id self.now.layout hand.old.seat }
+        requires stock { IsStockOf hand.old.seat stock.old }
+        ensures same { IsQuiet hand.old.seat hand.new.seat × (hand.new.seat.me.0.seen ≡ hand.old.seat.me.0.seen) }
+        ensures stock { HasNoStock hand.new.seat }
+    {
+        while stock.count > 0 {
+            stock.count -= 1;
+            let frame = stock.frames[stock.count as usize];
+            let mine = 4 * hand.number as u64 + 2;
+            self.table
+                .shared
+                .compare_exchange::<Return>(
+                    &mut hand.seat,
+                    self.layout.frame_owner(frame),
+                    mine,
+                    0,
+                );
+        }
+    }
+
+    // Takes the least page that is released, as far as the hint goes that all hands share. Each is tried once.
+    fn take<T: PagePlay<D>>(&self, hand: &mut Hand<D>) -> Option<u32>
+        requires own { IsOf self.now.table.shared.table_id self.now.layout hand.old.seat }
+        requires takes { (x : ℕ) → Takes R.holds self.now.layout hand.old.number (known hand.old.seat) x T.then }
+        ensures same { IsSameHand hand.old.seat hand.new.seat × IsSameStage hand.old.seat hand.new.seat × IsSameStock hand.old.seat hand.new.seat }
+        ensures page { IfSome result (λ x. (0 < x) × (x < self.now.layout.pages) × ((words : List ℕ) × T.then (known hand.old.seat) x Released words (known hand.new.seat))) }
+        ensures none { IfNone result ((known hand.new.seat ≡ known hand.old.seat) × ((x : ℕ) → 0 < x → x < self.now.layout.pages → SawTaken hand.new.seat (owner_at self.now.layout x))) }
+    {
+        let pages = self.layout.pages;
+        let hint = self.least_free.load(Ordering::SeqCst);
+        let first = if hint < pages as u64 {
+            (hint as u32).max(1)
+        } else {
+            1
+        };
+        if let Some(page) = self.take_from::<T>(hand, first, pages) {
+            return Some(page);
+        }
+        self.take_from::<T>(hand, 1, first)
+    }
+
+    fn take_from<T: PagePlay<D>>(&self, hand: &mut Hand<D>, from: u32, to: u32) -> Option<u32>
+        requires own { IsOf self.now.table.shared.table_id self.now.layout hand.old.seat }
+        requires range { (0 < from) × (from ≤ to) × (to ≤ self.now.layout.pages) }
+        requires takes { (x : ℕ) → Takes R.holds self.now.layout hand.old.number (known hand.old.seat) x T.then }
+        ensures same { IsSameHand hand.old.seat hand.new.seat × IsSameStage hand.old.seat hand.new.seat × IsSameStock hand.old.seat hand.new.seat }
+        ensures page { IfSome result (λ x. (0 < x) × (x < self.now.layout.pages) × ((words : List ℕ) × T.then (known hand.old.seat) x Released words (known hand.new.seat))) }
+        ensures none { IfNone result ((known hand.new.seat ≡ known hand.old.seat) × ((x : ℕ) → from ≤ x → x < to → SawTaken hand.new.seat (owner_at self.now.layout x)) × ((i : ℕ) → SawTaken hand.old.seat i → SawTaken hand.new.seat i)) }
+    {
+        for page in from..to {
+            if self.try_page::<T>(hand, page) {
+                self.least_free.store(page as u64 + 1, Ordering::SeqCst);
+                return Some(page);
+            }
+        }
+        None
+    }
+
+    // Takes a page, where it is released.
+    fn try_page<T: PagePlay<D>>(&self, hand: &mut Hand<D>, page: u32) -> bool
+        requires own { IsOf self.now.table.shared.table_id self.now.layout hand.old.seat }
+        requires page { page < self.now.layout.pages }
+        requires takes { Takes R.holds self.now.layout hand.old.number (known hand.old.seat) page T.then }
+        ensures same { IsSameHand hand.old.seat hand.new.seat × IsSameStage hand.old.seat hand.new.seat × IsSameStock hand.old.seat hand.new.seat }
+        ensures taken { result ≡ true → (words : List ℕ) × T.then (known hand.old.seat) page Released words (known hand.new.seat) }
+        ensures missed { result ≡ false → (known hand.new.seat ≡ known hand.old.seat) × SawTaken hand.new.seat (owner_at self.now.layout page) × ((i : ℕ) → SawTaken hand.old.seat i → SawTaken hand.new.seat i) }
+    {
+        let at = self.layout.page_owner(page);
+        if self.table.shared.load::<Note>(&mut hand.seat, at) != 0 {
+            return false;
+        }
+        let mine = 4 * hand.number as u64 + 2;
+        self.table
+            .shared
+            .compare_exchange::<Take<T>>(&mut hand.seat, at, 0, mine)
+            == 0
+    }
+}

@@ -1,0 +1,129 @@
+//! The store, and the calls that begin and end a process and read pages.
+ghost use Rattle.std.specs.Prelude.{◌≡◌, ◌≢◌, ℕ, ◌+◌, ◌*◌, ◌<◌, ◌≤◌, true, false, List, [], length};
+ghost use Rattle.bl_layout.specs.Words.{frame_count, word_count};
+ghost use Rattle.bl_store.specs.Pages.{Owner, Begins, Ends, Gets};
+ghost use Rattle.bl_store.specs.Hands.{known, IsOf, IsIdle, IsRunning, IsSameHand, IsSameStage, IsSameStock};
+ghost use Rattle.bl_store.specs.declared.view.Reading.TheVariants.{At};
+
+use crate::plays::{Clock, Copy, Enter, Leave, Look};
+use crate::rule::{PagePlay, PageRule, TimePlay};
+use crate::view::{Framed, View};
+use atomic_table::{Seat, Table};
+use bl_layout::Layout;
+use std::alloc::{Allocator, Global};
+use std::sync::atomic::AtomicU64;
+
+/// One who reads and writes pages. Hands are numbered from 0, and no two of a store share a number.
+#[derive(Drop)]
+pub struct Hand<D> {
+    pub(crate) seat: Seat<(), View<D>>,
+    pub(crate) number: u32,
+    // The frame that its next reservation tries first.
+    pub(crate) frame: u32,
+    // The owner word at which its next sweep begins, counted from page 0.
+    pub(crate) owner: u32,
+    pub ghost own: { (number ≡ seat.me.0.number) × (number < seat.me.0.layout.passes) },
+}
+
+/// Pages that threads share. D is what a hand knows, and R the user's rule.
+#[derive(Drop)]
+pub struct Store<D, R: PageRule<D>, A: Allocator = Global> {
+    pub(crate) table: Table<(), View<D>, Layout, Framed<R>, A>,
+    pub(crate) layout: Layout,
+    // The least page that may be released, as one thread alone sees it. No proof rests on it.
+    pub(crate) least_free: AtomicU64,
+    pub ghost key: { table.shared.key ≡ layout },
+    pub ghost wide: { table.shared.table_id.words ≡ word_count layout },
+}
+
+impl<D> Hand<D> {
+    /// The number of the hand, by which a rule and an owner name it.
+    pub fn number(&self) -> u32
+        ensures { result ≡ self.now.seat.me.0.number }
+    {
+        self.number
+    }
+}
+
+impl<D, R: PageRule<D>, A: Allocator> Store<D, R, A> {
+    /// Begins a process of the hand.
+    pub fn begin<M: TimePlay<D>>(&self, hand: &mut Hand<D>)
+        requires own { IsOf self.now.table.shared.table_id self.now.layout hand.old.seat }
+        requires idle { IsIdle hand.old.seat }
+        requires rule { Begins R.holds self.now.layout hand.old.number (known hand.old.seat) M.then }
+        ensures same { IsSameHand hand.old.seat hand.new.seat × IsSameStock hand.old.seat hand.new.seat }
+        ensures running { IsRunning hand.new.seat }
+        ensures told { (now : ℕ) × M.then (known hand.old.seat) now (known hand.new.seat) }
+    {
+        let clock = self
+            .table
+            .shared
+            .load::<Clock>(&mut hand.seat, self.layout.clock());
+        let process = self.layout.process(hand.number);
+        self.table
+            .shared
+            .store::<Enter<M>>(&mut hand.seat, process, clock + 1);
+    }
+
+    /// Ends the hand's process, which holds no page.
+    pub fn end<M: TimePlay<D>>(&self, hand: &mut Hand<D>)
+        requires own { IsOf self.now.table.shared.table_id self.now.layout hand.old.seat }
+        requires running { IsRunning hand.old.seat }
+        requires rule { Ends R.holds self.now.layout hand.old.number (known hand.old.seat) M.then }
+        ensures same { IsSameHand hand.old.seat hand.new.seat × IsSameStock hand.old.seat hand.new.seat }
+        ensures idle { IsIdle hand.new.seat }
+        ensures told { (now : ℕ) × M.then (known hand.old.seat) now (known hand.new.seat) }
+    {
+        let process = self.layout.process(hand.number);
+        self.table
+            .shared
+            .store::<Leave<M>>(&mut hand.seat, process, 0);
+    }
+
+    /// The words of a page, which are those that it had at one event. A page that was never put has zeros.
+    pub fn get<M: PagePlay<D>>(&self, hand: &mut Hand<D>, page: u32) -> [u64; 32]
+        requires own { IsOf self.now.table.shared.table_id self.now.layout hand.old.seat }
+        requires running { IsRunning hand.old.seat }
+        requires page { page < self.now.layout.pages }
+        requires rule { Gets R.holds self.now.layout hand.old.number (known hand.old.seat) page M.then }
+        ensures same { IsSameHand hand.old.seat hand.new.seat × IsSameStage hand.old.seat hand.new.seat × IsSameStock hand.old.seat hand.new.seat }
+        ensures told { (owner : Owner) × M.then (known hand.old.seat) page owner result (known hand.new.seat) }
+    {
+        let mut words = [0u64; 32];
+        self.get_into::<M>(hand, page, &mut words);
+        words
+    }
+
+    /// The same, into a buffer of the caller's.
+    pub fn get_into<M: PagePlay<D>>(&self, hand: &mut Hand<D>, page: u32, words: &mut [u64; 32])
+        requires own { IsOf self.now.table.shared.table_id self.now.layout hand.old.seat }
+        requires running { IsRunning hand.old.seat }
+        requires page { page < self.now.layout.pages }
+        requires rule { Gets R.holds self.now.layout hand.old.number (known hand.old.seat) page M.then }
+        ensures same { IsSameHand hand.old.seat hand.new.seat × IsSameStage hand.old.seat hand.new.seat × IsSameStock hand.old.seat hand.new.seat }
+        ensures told { (owner : Owner) × M.then (known hand.old.seat) page owner words.new (known hand.new.seat) }
+    {
+        let found = self
+            .table
+            .shared
+            .load::<Look<M>>(&mut hand.seat, self.layout.page(page));
+        if found == 0 {
+            *words = [0; 32];
+        } else {
+            self.gather(hand, (found - 1) as u32, words);
+        }
+    }
+
+    fn gather(&self, hand: &mut Hand<D>, frame: u32, words: &mut [u64; 32])
+        requires own { IsOf self.now.table.shared.table_id self.now.layout hand.old.seat }
+        requires frame { frame < frame_count self.now.layout }
+        requires reads { (xs : List ℕ) × (length xs ≡ 32) × (hand.old.seat.me.0.reading ≡ At frame xs) }
+        ensures same { (hand.new.seat.table_id ≡ hand.old.seat.table_id) × (hand.new.seat.me ≡ hand.old.seat.me) }
+        ensures words { (xs : List ℕ) → length xs ≡ 32 → hand.old.seat.me.0.reading ≡ At frame xs → words.new ≡ xs }
+    {
+        let first = self.layout.frame_word(frame, 0);
+        for i in 0..32 {
+            words[i] = self.table.shared.load::<Copy>(&mut hand.seat, first + i);
+        }
+    }
+}

@@ -1,0 +1,114 @@
+//! Sweeps: pages and frames that no process can read any more are released.
+ghost use Rattle.std.specs.Prelude.{◌≡◌, ◌⊎◌, ℕ, ◌+◌, ◌*◌, ◌/◌, ◌%◌, ◌<◌, ◌≤◌, true, false, List, length};
+ghost use Rattle.bl_layout.specs.Words.{frame_count};
+ghost use Rattle.bl_store.specs.Pages.{Releases, Sweeps};
+ghost use Rattle.bl_store.specs.Hands.{known, IsOf, IsSameHand, IsSameStage, IsSameStock};
+ghost use Rattle.bl_store.specs.declared.view.Sweep.TheVariants.{Over};
+
+use crate::plays::{Free, Horizon, Pass, Release};
+use crate::rule::{PageRule, SweepPlay};
+use crate::store::{Hand, Store};
+use std::alloc::Allocator;
+use std::sync::atomic::Ordering;
+
+/// How many owner words a sweep looks at, or all where there are fewer.
+const LOOKS: u32 = 64;
+
+impl<D, R: PageRule<D>, A: Allocator> Store<D, R, A> {
+    /// Releases pages and frames that were retired before each process began that still runs. Returns how many.
+    ///
+    /// It looks at 64 owner words, or all where there are fewer, from where the hand's last sweep ended, and then
+    /// once at each process word, if it found anything retired.
+    pub fn sweep<M: SweepPlay<D>>(&self, hand: &mut Hand<D>) -> u32
+        requires own { IsOf self.now.table.shared.table_id self.now.layout hand.old.seat }
+        requires rule { Sweeps R.holds self.now.layout hand.old.number (known hand.old.seat) M.then }
+        ensures same { IsSameHand hand.old.seat hand.new.seat × IsSameStage hand.old.seat hand.new.seat × IsSameStock hand.old.seat hand.new.seat }
+        ensures told { M.then (known hand.old.seat) (known hand.new.seat) }
+        ensures count { hand.new.seat.me.0.releases ≡ hand.old.seat.me.0.releases + result }
+    {
+        let owners = self.layout.pages + self.layout.frames();
+        let looks = owners.min(LOOKS);
+        let first = hand.owner % owners;
+        let mut states = [0u64; LOOKS as usize];
+        let mut any = false;
+        for i in 0..looks {
+            let state = self.table.shared.peek(
+                self.layout.page_owner(0) + ((first + i) % owners) as usize,
+            );
+            if state % 4 == 3 {
+                states[i as usize] = state;
+                any = true;
+            }
+        }
+        hand.owner = (first + looks) % owners;
+        if !any {
+            return 0;
+        }
+        let oldest = self.oldest(hand);
+        let mut released = 0;
+        for i in 0..looks {
+            let state = states[i as usize];
+            if state % 4 == 3 && state / 4 < oldest {
+                let at = (first + i) % owners;
+                if self.release::<M>(hand, at, state, oldest) {
+                    released += 1;
+                }
+            }
+        }
+        released
+    }
+
+    // A time at which or after which each process began that still runs.
+    fn oldest(&self, hand: &mut Hand<D>) -> u64
+        requires own { IsOf self.now.table.shared.table_id self.now.layout hand.old.seat }
+        ensures same { IsSameHand hand.old.seat hand.new.seat × IsSameStage hand.old.seat hand.new.seat × IsSameStock hand.old.seat hand.new.seat × (known hand.new.seat ≡ known hand.old.seat) × (hand.new.seat.me.0.releases ≡ hand.old.seat.me.0.releases) }
+        ensures swept { hand.new.seat.me.0.sweep ≡ Over result self.now.layout.passes }
+    {
+        let mut oldest = self
+            .table
+            .shared
+            .load::<Horizon>(&mut hand.seat, self.layout.clock());
+        for pass in 0..self.layout.passes {
+            let stamp = self
+                .table
+                .shared
+                .load::<Pass>(&mut hand.seat, self.layout.process(pass));
+            if stamp != 0 {
+                oldest = oldest.min(stamp - 1);
+            }
+        }
+        oldest
+    }
+
+    // Releases the page or the frame that has the owner word, where it is still in that state of retirement.
+    fn release<M: SweepPlay<D>>(&self, hand: &mut Hand<D>, at: u32, state: u64, oldest: u64) -> bool
+        requires own { IsOf self.now.table.shared.table_id self.now.layout hand.old.seat }
+        requires at { at < self.now.layout.pages + frame_count self.now.layout }
+        requires state { (state % 4 ≡ 3) × (state / 4 < oldest) }
+        requires swept { hand.old.seat.me.0.sweep ≡ Over oldest self.now.layout.passes }
+        requires rule { (x time : ℕ) → Releases R.holds self.now.layout hand.old.number (known hand.old.seat) x time (M.then (known hand.old.seat)) }
+        ensures same { IsSameHand hand.old.seat hand.new.seat × IsSameStage hand.old.seat hand.new.seat × IsSameStock hand.old.seat hand.new.seat × (hand.new.seat.me.0.sweep ≡ hand.old.seat.me.0.sweep) }
+        ensures told { M.then (known hand.old.seat) (known hand.new.seat) ⊎ (known hand.new.seat ≡ known hand.old.seat) }
+        ensures yes { result ≡ true → hand.new.seat.me.0.releases ≡ hand.old.seat.me.0.releases + 1 }
+        ensures no { result ≡ false → hand.new.seat.me.0.releases ≡ hand.old.seat.me.0.releases }
+    {
+        if at < self.layout.pages {
+            let word = self.layout.page_owner(at);
+            let found = self
+                .table
+                .shared
+                .compare_exchange::<Free<M>>(&mut hand.seat, word, state, 0);
+            if found != state {
+                return false;
+            }
+            self.least_free.fetch_min(at as u64, Ordering::SeqCst);
+            return true;
+        }
+        let word = self.layout.frame_owner(at - self.layout.pages);
+        let found = self
+            .table
+            .shared
+            .compare_exchange::<Release>(&mut hand.seat, word, state, 0);
+        found == state
+    }
+}

@@ -1,0 +1,13 @@
+pub mod Statuses
+pub mod Said
+pub mod Rows
+pub mod SplitShapes
+pub mod Splits
+pub mod MergeShapes
+pub mod Merges
+pub mod GainShapes
+pub mod LossShapes
+pub mod Evenings
+pub mod Relists
+pub mod Asides
+pub mod Growths

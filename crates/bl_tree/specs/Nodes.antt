@@ -1,0 +1,30 @@
+-- What a page says of the tree. A leaf and an inner page are nodes of one kind, so that all levels have the same laws.
+use Rattle.std.specs.Prelude.{ℕ, ◌^◌, ◌<◌, ◌≤◌, Option}
+
+-- the end of a page without an upper bound, above every key
+abbrev pub unbounded : ℕ
+unbounded = 2 ^ 64
+
+-- A page's level, its bounds, and the page to its right. It covers the keys from low up to, but without, end.
+pub record Shape : Type 0 where
+  pub level : ℕ
+  pub low : ℕ
+  pub end : ℕ
+  pub right : ℕ
+
+-- what is listed with each key: a value, or a child
+abbrev pub Look : Type 0
+Look = ℕ → Option ℕ
+
+-- A page: on level 0 a leaf, which lists values; above it an inner page, which lists children one level lower.
+pub record Node : Type 0 where
+  pub shape : Shape
+  pub look : Look
+
+abbrev pub Covers : Shape → ℕ → Type 0
+Covers s k = (s.low ≤ k) × (k < s.end)
+
+-- Page 0: the number of levels, and the leftmost page of each.
+pub record Roots : Type 0 where
+  pub levels : ℕ
+  pub leftmost : ℕ → ℕ

@@ -1,0 +1,92 @@
+use crate::{begin, change, end, fill, latch, look, open, read_once, reserve, retire, sweep, two_hands};
+use bl_store::NoRoom;
+use std::test::Fail;
+use std::thread;
+
+// Hand 0 latches page 1, and hand 1's latch is refused. What hand 0 puts then, a thread with hand 1 gets.
+#[test]
+fn latches_refuse_a_second_hand(rt: HostRuntime) -> Result<(), Fail> {
+    let (store, mut one, mut two) = two_hands(rt.alloc(), 8)?;
+    assert!(rt; one.number() == 0 && two.number() == 1);
+    assert!(rt; latch(&store, &mut one, 1));
+    let latched = latch(&store, &mut two, 1);
+    assert!(rt; !latched);
+    let Ok(mut stock) = reserve(&store, &mut one, 0, 1) else {
+        assert!(rt; false);
+        return Ok(());
+    };
+    assert!(rt; stock.frames() == 1 && stock.page().is_none());
+    fill(&store, &mut one, 1, 7, &mut stock);
+    open(&store, &mut one, 1);
+    let (words, ()) = thread::join(&rt, move || read_once(&store, &mut two, 1), || ());
+    assert!(rt; words == [7; 32]);
+    Ok(())
+}
+
+// A page that nobody links is retired, and a sweep releases it, and nothing else.
+#[test]
+fn sweeps_release_a_retired_page(rt: HostRuntime) -> Result<(), Fail> {
+    let (store, mut one, _two) = two_hands(rt.alloc(), 8)?;
+    begin(&store, &mut one);
+    let Ok(mut stock) = reserve(&store, &mut one, 1, 1) else {
+        assert!(rt; false);
+        return Ok(());
+    };
+    let Some(page) = stock.page() else {
+        assert!(rt; false);
+        return Ok(());
+    };
+    assert!(rt; page == 2);
+    fill(&store, &mut one, page, 5, &mut stock);
+    retire(&store, &mut one, page);
+    let held_back = sweep(&store, &mut one);
+    end(&store, &mut one);
+    let released = sweep(&store, &mut one);
+    assert!(rt; held_back == 0 && released == 1);
+    let again = sweep(&store, &mut one);
+    assert!(rt; again == 0);
+    Ok(())
+}
+
+// A hand that has begun and stops holds back what is retired after it began, until it ends.
+#[test]
+fn begun_hands_hold_back_what_is_retired_later(rt: HostRuntime) -> Result<(), Fail> {
+    let (store, mut one, mut two) = two_hands(rt.alloc(), 8)?;
+    begin(&store, &mut one);
+    let mut changed = 0u64;
+    let mut released = 0u64;
+    for word in 0..31 {
+        if change(&store, &mut two, 1, word) {
+            changed += 1;
+        }
+        released += sweep(&store, &mut two) as u64;
+    }
+    assert!(rt; changed == 30 && released == 0);
+    let Err(cause) = reserve(&store, &mut two, 0, 1) else {
+        assert!(rt; false);
+        return Ok(());
+    };
+    assert!(rt; cause == NoRoom::Frames);
+    let first = look(&store, &mut one, 1);
+    assert!(rt; first == [29; 32]);
+    end(&store, &mut one);
+    let after = sweep(&store, &mut two);
+    assert!(rt; after == 30);
+    Ok(())
+}
+
+// Each released page is given once, the least first, and then there is none.
+#[test]
+fn reservations_give_each_page_once(rt: HostRuntime) -> Result<(), Fail> {
+    let (store, mut one, mut two) = two_hands(rt.alloc(), 4)?;
+    let Ok(first) = reserve(&store, &mut one, 1, 0) else {
+        assert!(rt; false);
+        return Ok(());
+    };
+    let Ok(second) = reserve(&store, &mut two, 1, 3) else {
+        assert!(rt; false);
+        return Ok(());
+    };
+    assert!(rt; first.page() == Some(2) && second.page() == Some(3) && second.frames() == 3);
+    Ok(())
+}
