@@ -33,9 +33,15 @@ fn an_opening_index(rt: HostRuntime) -> Result<(), Fail> {
 #[test]
 fn a_head_that_is_cut_or_altered(rt: HostRuntime) {
     let image = opening();
-    assert_eq!(rt; fault(rt.alloc(), &image[..1055]), Some(ImageFault::Head));
-    assert_eq!(rt; fault(rt.alloc(), &image[..31]), Some(ImageFault::Head));
-    assert_eq!(rt; fault(rt.alloc(), &[]), Some(ImageFault::Head));
+    for length in 0..1056usize {
+        if let Some(cut) = image.as_slice().get(..length) {
+            assert_eq!(rt;
+                fault(rt.alloc(), cut),
+                Some(ImageFault::Head),
+                "{length} bytes"
+            );
+        }
+    }
     for i in 0..32usize {
         let mut damaged = opening();
         damaged[i] ^= 1;
