@@ -1,4 +1,8 @@
-use crate::{begin, change, end, fill, latch, look, open, read_once, reserve, retire, sweep, two_hands};
+ghost use Rattle.one_page.specs.Holding.{IsFresh};
+
+use crate::{
+    begin, change, end, fill, latch, look, open, read_once, reserve, retire, sweep, two_hands,
+};
 use bl_store::NoRoom;
 use std::test::Fail;
 use std::thread;
@@ -18,7 +22,10 @@ fn latches_refuse_a_second_hand(rt: HostRuntime) -> Result<(), Fail> {
     assert!(rt; stock.frames() == 1 && stock.page().is_none());
     fill(&store, &mut one, 1, 7, &mut stock);
     open(&store, &mut one, 1);
-    let (words, ()) = thread::join(&rt, move || read_once(&store, &mut two, 1), || ());
+    let reader = move || -> [u64; 32]
+        requires { IsFresh store.table.shared.table_id store.layout two }
+    { read_once(&store, &mut two, 1) };
+    let (words, ()) = thread::join(&rt, reader, || ());
     assert!(rt; words == [7; 32]);
     Ok(())
 }
