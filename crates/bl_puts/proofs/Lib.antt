@@ -1,3 +1,4 @@
 pub mod Living
 pub mod Moves
 pub mod Fitted
+pub mod Compressions
