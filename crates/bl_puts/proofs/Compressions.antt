@@ -1,25 +1,19 @@
 -- The puts of compressions keep a world good.
-use Rattle.std.proofs.Common.{ℕ, ◌≡◌, ◌≢◌, ◌⊎◌, ◌≤◌, ◌<◌, Bool, true, false, Option, Some, None, suc, arith, ap, sym, ◌∙◌, refl, inl, inr}
-use Rattle.std.proofs.lemmas.Bool.{cases_eq, false≢true}
+use Rattle.std.proofs.Common.{ℕ, ◌≡◌, ◌≢◌, ◌⊎◌, None, arith, ap, sym, ◌∙◌, refl, inl, inr}
+use Rattle.std.proofs.lemmas.Bool.{cases_eq}
 use Rattle.bl_page.specs.declared.page.Page.{Page}
-use Rattle.bl_page.specs.Machine.{Name, Owner, IsAt}
-use Rattle.bl_page.specs.Machine.Owner.{Held}
-use Rattle.bl_tree.specs.Nodes.{Node, Covers, unbounded}
-use Rattle.bl_tree.specs.Trees.{Status, is_live, IsLive, Tree, IsTree}
-use Rattle.bl_tree.specs.Trees.Status.{Free, Fresh, Live, Left, Right, Gone, Anchored}
-use Rattle.bl_tree.specs.Moves.{IsAtTwo, IsPut, Joins, Dies, GainsLeft, GainsRight, LosesRight, LosesLeft, Relists}
+use Rattle.bl_page.specs.Machine.{Name}
+use Rattle.bl_tree.specs.Nodes.{unbounded}
+use Rattle.bl_tree.specs.Trees.{IsLive, IsTree}
+use Rattle.bl_tree.specs.Trees.Status.{Fresh, Live, Left, Right}
 use Rattle.bl_tree.proofs.Statuses.{live_live, left_live, right_live}
-use Rattle.bl_tree.proofs.Merges.{Joins-keeps, Dies-keeps}
-use Rattle.bl_tree.proofs.Evenings.{GainsLeft-keeps, GainsRight-keeps, LosesRight-keeps, LosesLeft-keeps}
-use Rattle.bl_tree.proofs.Relists.{Relists-keeps}
-use Rattle.bl_laws.specs.Pages.{node_of, roots_of}
-use Rattle.bl_steps.specs.Worlds.{Know, World, nodes, tree_of, was_in, IsGood}
-use Rattle.bl_steps.proofs.Steady.{was_live, was_gone}
-use Rattle.bl_steps.proofs.Puts.{Puts, Puts-keeps, InMiddleOf, Marks}
-use Rattle.bl_descents.proofs.Children.{not_relied}
-use Rattle.bl_puts.specs.Puts.{Owes}
-use Rattle.bl_puts.specs.Compressions.{Couples, PutsJoin, PutsLeftGain, PutsRightGain, PutsRelisted, Parts, PutsRightLoss, PutsLeftLoss, PutsDead}
-use Rattle.bl_puts.proofs.Living.{Living, Living-puts, none_middle, middle_kept}
+use Rattle.bl_tree.proofs.Merges.{Joins-keeps}
+use Rattle.bl_tree.proofs.Evenings.{GainsLeft-keeps, GainsRight-keeps}
+use Rattle.bl_laws.specs.Pages.{node_of}
+use Rattle.bl_steps.specs.Worlds.{Know, World, nodes, tree_of, IsGood}
+use Rattle.bl_steps.proofs.Puts.{Puts-keeps}
+use Rattle.bl_puts.specs.Compressions.{Couples, PutsJoin, PutsLeftGain, PutsRightGain}
+use Rattle.bl_puts.proofs.Living.{Living-puts, none_middle}
 use Rattle.bl_puts.proofs.Moves.{put_page, not_zero}
 
 -- the first put of a compression, whatever it does to the pages
@@ -80,16 +74,16 @@ pub PutsJoin-keeps : {P : Type 0} (know : P → Know) (w w' : World P) (p : Name
 PutsJoin-keeps know w w' p parent x y c b m g =
     let s = m.couple in
     couples_keeps know w w' p parent x y x c b s (inl refl) m.join.level
-      (Joins-keeps {x = x} {y = y} {b = node_of c} {t = tree_of w} {t' = tree_of w'} (record { live = s.live; right_live = s.right_live; bound = s.bound; linked = s.linked; join = m.join; put = put_page w w' s.owes (not_zero know w x Live g s.live (λ e. cc)); status = s.status; stays = record { sep = s.sep; map = s.map } }) g.tree) g
+    (Joins-keeps {x = x} {y = y} {b = node_of c} {t = tree_of w} {t' = tree_of w'} (record { live = s.live; right_live = s.right_live; bound = s.bound; linked = s.linked; join = m.join; put = put_page w w' s.owes (not_zero know w x Live g s.live (λ e. cc)); status = s.status; stays = record { sep = s.sep; map = s.map } }) g.tree) g
 
 pub PutsLeftGain-keeps : {P : Type 0} (know : P → Know) (w w' : World P) (p : Name) (parent x y : ℕ) (c : Page) (b : P) → PutsLeftGain know w w' p parent x y c b → IsGood know w → IsGood know w'
 PutsLeftGain-keeps know w w' p parent x y c b m g =
     let s = m.couple in
     couples_keeps know w w' p parent x y x c b s (inl refl) m.gain.level
-      (GainsLeft-keeps {x = x} {y = y} {b = node_of c} {t = tree_of w} {t' = tree_of w'} (record { live = s.live; right_live = s.right_live; bound = s.bound; linked = s.linked; gain = m.gain; put = put_page w w' s.owes (not_zero know w x Live g s.live (λ e. cc)); status = s.status; stays = record { sep = s.sep; map = s.map } }) g.tree) g
+    (GainsLeft-keeps {x = x} {y = y} {b = node_of c} {t = tree_of w} {t' = tree_of w'} (record { live = s.live; right_live = s.right_live; bound = s.bound; linked = s.linked; gain = m.gain; put = put_page w w' s.owes (not_zero know w x Live g s.live (λ e. cc)); status = s.status; stays = record { sep = s.sep; map = s.map } }) g.tree) g
 
 pub PutsRightGain-keeps : {P : Type 0} (know : P → Know) (w w' : World P) (p : Name) (parent x y : ℕ) (c : Page) (b : P) → PutsRightGain know w w' p parent x y c b → IsGood know w → IsGood know w'
 PutsRightGain-keeps know w w' p parent x y c b m g =
     let s = m.couple in
     couples_keeps know w w' p parent x y y c b s (inr refl) m.gain.level
-      (GainsRight-keeps {x = x} {y = y} {d = node_of c} {t = tree_of w} {t' = tree_of w'} (record { live = s.live; right_live = s.right_live; bound = s.bound; linked = s.linked; gain = m.gain; put = put_page w w' s.owes (not_zero know w y Live g s.right_live (λ e. cc)); status = s.status; stays = record { sep = s.sep; map = s.map } }) g.tree) g
+    (GainsRight-keeps {x = x} {y = y} {d = node_of c} {t = tree_of w} {t' = tree_of w'} (record { live = s.live; right_live = s.right_live; bound = s.bound; linked = s.linked; gain = m.gain; put = put_page w w' s.owes (not_zero know w y Live g s.right_live (λ e. cc)); status = s.status; stays = record { sep = s.sep; map = s.map } }) g.tree) g

@@ -2,3 +2,4 @@ pub mod Living
 pub mod Moves
 pub mod Fitted
 pub mod Compressions
+pub mod Partings

@@ -1,11 +1,10 @@
 -- The puts of a compression, each with what it must know and what then stands in the world. p holds the parent, the left
 -- page x and the right page y.
-use Rattle.std.specs.Prelude.{◌≡◌, ◌≢◌, ◌⊎◌, ℕ, suc, ◌<◌, ◌≤◌, None, Some, Option}
+use Rattle.std.specs.Prelude.{◌≡◌, ◌≢◌, ℕ, suc, ◌<◌, ◌≤◌, None, Some}
 use Rattle.bl_page.specs.declared.page.Page.{Page}
-use Rattle.bl_page.specs.Machine.{Name, Owner, IsAt}
+use Rattle.bl_page.specs.Machine.{Name, IsAt}
 use Rattle.bl_page.specs.Machine.Owner.{Held}
-use Rattle.bl_tree.specs.Nodes.{Node, Look, Covers, unbounded}
-use Rattle.bl_tree.specs.Trees.{Status}
+use Rattle.bl_tree.specs.Nodes.{Covers, unbounded}
 use Rattle.bl_tree.specs.Trees.Status.{Fresh, Live, Left, Right, Gone}
 use Rattle.bl_tree.specs.Moves.{IsAtTwo, IsJoin, IsLeftGain, IsRightLoss, IsRightGain, IsLeftLoss, IsRelisted}
 use Rattle.bl_laws.specs.Pages.{node_of}
