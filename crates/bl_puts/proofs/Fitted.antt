@@ -1,15 +1,13 @@
 -- Pages that were rearranged, as the moves of the tree want them.
-use Rattle.std.proofs.Common.{ℕ, ◌≡◌, ◌≢◌, ◌≤◌, ◌<◌, ◌==◌, if◌then◌else◌, Option, Some, None, arith, ap, sym, ◌∙◌, refl, inl, inr}
-use Rattle.std.proofs.lemmas.Bool.{cases_eq}
-use Rattle.bl_model.specs.Map.{with_pair, without_key, SameMap}
+use Rattle.std.proofs.Common.{ℕ, ◌≡◌, ◌≢◌, ◌<◌, Some, None, arith, ap, sym, ◌∙◌, refl}
+use Rattle.bl_model.specs.Map.{with_pair, without_key}
 use Rattle.bl_model.specs.Rows.{map_of}
 use Rattle.bl_page.specs.declared.page.Page.{Page}
 use Rattle.bl_page.specs.declared.page.Page.TheVariants.{Anchor, Leaf, Inner, Dead}
 use Rattle.bl_page.specs.Pairs.{end_of}
-use Rattle.bl_rearrange.specs.declared.fitted.Fitted.{Fitted}
 use Rattle.bl_rearrange.specs.declared.fitted.Fitted.TheVariants.{Fits, Split}
 use Rattle.bl_rearrange.specs.Rearranged.{pairs_of, IsNow, low_of, high_of, right_of, KeepsFrame, IsWithout, IsFitted}
-use Rattle.bl_tree.specs.Nodes.{Shape, Node, Look, Covers}
+use Rattle.bl_tree.specs.Nodes.{Covers}
 use Rattle.bl_tree.specs.Moves.{IsRow, IsCut}
 use Rattle.bl_laws.specs.Pages.{node_of}
 

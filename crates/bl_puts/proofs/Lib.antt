@@ -1,3 +1,5 @@
 pub mod Living
 pub mod Moves
 pub mod Fitted
+pub mod Compressions
+pub mod Partings

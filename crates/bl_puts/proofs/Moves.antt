@@ -21,12 +21,12 @@ use Rattle.bl_puts.specs.Puts.{Owes, PutsFresh, PutsRow, PutsSplit, PutsTop}
 use Rattle.bl_puts.proofs.Living.{Living-puts, none_middle, middle_kept}
 
 -- the put of a page that is not page 0
-put_page : {P : Type 0} {know : P → Know} (w w' : World P) {p : Name} {x : ℕ} {c : Page} {said : Option Said} {b : P} → Owes know w w' p x c said b → 0 ≢ x → IsPut x (node_of c) (tree_of w) (tree_of w')
+pub put_page : {P : Type 0} {know : P → Know} (w w' : World P) {p : Name} {x : ℕ} {c : Page} {said : Option Said} {b : P} → Owes know w w' p x c said b → 0 ≢ x → IsPut x (node_of c) (tree_of w) (tree_of w')
 put_page w w' o n =
     let change = o.extends.steps.changes in
     record { node = record { at = ap node_of change.0.at; others = λ z i. ap node_of (change.0.others z i) }; roots = ap roots_of (change.0.others 0 n) }
 
-not_zero : {P : Type 0} (know : P → Know) (w : World P) (x : ℕ) (a : Status) → IsGood know w → w.status x ≡ a → Anchored ≢ a → 0 ≢ x
+pub not_zero : {P : Type 0} (know : P → Know) (w : World P) (x : ℕ) (a : Status) → IsGood know w → w.status x ≡ a → Anchored ≢ a → 0 ≢ x
 not_zero know w x a g e n i = n (sym g.tree.anchored ∙ (ap w.status i ∙ e))
 
 pub PutsFresh-keeps : {P : Type 0} (know : P → Know) (w w' : World P) (p : Name) (y key : ℕ) (c : Page) (b : P) → PutsFresh know w w' p y key c b → IsGood know w → IsGood know w'

@@ -1,2 +1,4 @@
 pub mod Pushes
 pub mod Freshness
+pub mod Legal
+mod Examples
