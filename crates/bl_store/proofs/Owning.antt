@@ -1,35 +1,21 @@
 -- Pages are taken, latched, opened and released: their owners change.
-use Rattle.std.proofs.Common.{◌≡◌, ◌≢◌, ◌⊎◌, ℕ, zero, suc, ◌+◌, ◌-◌, ◌*◌, ◌%◌, ◌^◌, ◌<◌, ◌≤◌, Bool, eqb, min, List, [], ◌∷◌, ◌++◌, length, replicate, get_or, set, sym, refl, ap, ◌∙◌, subst, inl, inr, ⊎_elim, arith, le_refl, length-set, get_or-set_other, get_or-set_same, lt_of_not-le}
-use mathlib.Core.Logic.{dite}
-use mathlib.Core.Option.{none, some, some-injective}
-use native.Mathlib.Decide.{dec_le, ℕ_discrete}
+use Rattle.std.proofs.Common.{◌≡◌, ◌≢◌, ℕ, ◌+◌, ◌*◌, ◌<◌, ◌≤◌, eqb, List, get_or, set, sym, refl, ap, ◌∙◌, subst, inl, ⊎_elim, arith, le_refl, get_or-set_other}
+use mathlib.Core.Option.{none, some}
 use lib.ListN.{get_elem?}
-use lib.Seq.{set-get_or}
 use prog.Atomic.{either}
-use Rattle.std.proofs.lemmas.Grind.{get_or-set_at}
-use Rattle.std.proofs.lemmas.List.{get_or_append_left, get_or-append_right, length-append}
 use Rattle.atomic_table.specs.Table.{State, Me, step, keeps, Act, Valid, carried_after, stepped, Allows}
-use Rattle.atomic_table.proofs.Lists.{at_set, set_here, set_else, set_again, exchanged}
+use Rattle.atomic_table.proofs.Lists.{set_else, exchanged}
 use Rattle.bl_layout.specs.declared.layout.Layout.{Layout}
-use Rattle.bl_layout.specs.Words.{frame_count, word_count}
-use Rattle.bl_store.specs.Pages.{Owner, Released, Open, Held, Retired, Stage, Idle, Running, Pages, Stands, IsPage, IsOrderly, AllBeganAfter, told, owned, written, later, Puts, Takes, Latches, Misses, Opens, Retires, Refuses, Releases}
-use Rattle.bl_store.specs.Frames.{process_at, page_at, owner_at, state_at, place_at, Use, drafted, shown, dropped, timed, retired, Frame, free, used, IsTaken, StateIs, Full, FrameIs, PageIs, OwnerIs, ProcessIs, stage_of, IsRead, MayRead, Readable, Reads, Stocks, Drops, Seals, Swept, SweepIs, Knows, total_of, Budgeted, Shows, IsApart, Kept}
+use Rattle.bl_store.specs.Pages.{Owner, Released, Open, Held, Retired, Stage, Running, Pages, AllBeganAfter, told, owned, Takes, Latches, Misses, Opens, Refuses, Releases}
+use Rattle.bl_store.specs.Frames.{process_at, owner_at, IsTaken, OwnerIs, ProcessIs, stage_of, Seals, Swept, SweepIs, Shows, Kept}
 use Rattle.bl_store.specs.Told.{took, tried, opened, freed, refused}
 use Rattle.bl_store.specs.declared.view.View.{View}
-use Rattle.bl_store.specs.declared.view.Stamp.{Stamp}
-use Rattle.bl_store.specs.declared.view.Stamp.TheVariants.{Out, Clocked, In}
-use Rattle.bl_store.specs.declared.view.Reading.{Reading}
-use Rattle.bl_store.specs.declared.view.Reading.TheVariants.{Nowhere, At}
-use Rattle.bl_store.specs.declared.view.Draft.{Draft}
-use Rattle.bl_store.specs.declared.view.Dropping.{Dropping}
-use Rattle.bl_store.specs.declared.view.Dropping.TheVariants.{Empty, Dropped, Timed}
 use Rattle.bl_store.specs.declared.view.Sealing.{Sealing}
 use Rattle.bl_store.specs.declared.view.Sealing.TheVariants.{Unsealed, Sealed}
-use Rattle.bl_store.specs.declared.view.Sweep.{Sweep}
-use Rattle.bl_store.specs.declared.view.Sweep.TheVariants.{Still, Over}
-use Rattle.bl_store.proofs.Lists.{at_below, there, one_there, set_there, total_set, total_small}
-use Rattle.bl_store.proofs.Keeps.{frame_same, frame_kept, page_kept, reads_kept, stocks_kept, drops_kept, shows_told, shows_frame, shows_state, shows_process, shows_owner, shows_later, orderly_told, orderly_owned, orderly_written, orderly_later, swept_told, seal_same, Goes, reads_stay, sweeps_stay, Own, moved, unmoved}
-use Rattle.bl_store.proofs.Time.{low_clock, goes_on, goes_told, began_by, told_load}
+use Rattle.bl_store.specs.declared.view.Sweep.TheVariants.{Over}
+use Rattle.bl_store.proofs.Lists.{at_below, there, one_there, set_there}
+use Rattle.bl_store.proofs.Keeps.{shows_told, shows_owner, orderly_told, orderly_owned, swept_told, Goes, sweeps_stay, moved}
+use Rattle.bl_store.proofs.Time.{began_by, told_load}
 use Rattle.bl_store.proofs.Reserving.{idle_step, noting, note_step}
 
 module _ {D : Type 0} (l : Layout) (first : D) (holds : Pages D → Type 0) where

@@ -1,13 +1,10 @@
 -- What a stock holds, and what was seen taken, after one step.
-use Rattle.std.proofs.Common.{◌≡◌, ◌≢◌, ◌⊎◌, ℕ, zero, suc, ◌+◌, ◌-◌, ◌*◌, ◌<◌, ◌≤◌, List, [], ◌∷◌, length, get_or, set, sym, refl, ap, ◌∙◌, subst, inl, inr, ⊎_elim, arith, add-one, get_or-set_other, get_or-set_same}
+use Rattle.std.proofs.Common.{◌≡◌, ℕ, zero, suc, ◌+◌, ◌-◌, ◌<◌, ◌≤◌, List, [], ◌∷◌, length, get_or, set, sym, refl, ap, ◌∙◌, subst, inl, inr, arith, add-one, get_or-set_other, get_or-set_same}
 use mathlib.Core.Logic.{dite}
 use native.Mathlib.Decide.{ℕ_discrete}
 use Rattle.std.proofs.lemmas.Grind.{get_or-set_at}
-use Rattle.bl_layout.specs.declared.layout.Layout.{Layout}
-use Rattle.bl_store.specs.Frames.{state_at, owner_at}
 use Rattle.bl_store.specs.Told.{draft}
 use Rattle.bl_store.specs.Hands.{Has, IsAmong, drafts}
-use Rattle.bl_store.specs.declared.view.Draft.{Draft}
 
 drafts_set : (fs : List ℕ) (n m x : ℕ) → n ≤ m → drafts (set fs m x) n ≡ drafts fs n
 drafts_set fs zero m x low = refl

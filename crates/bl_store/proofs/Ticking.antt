@@ -1,37 +1,24 @@
 -- The clock ticks: for a frame that a put swapped out, and for a page that is retired.
-use Rattle.std.proofs.Common.{◌≡◌, ◌≢◌, ◌⊎◌, ℕ, zero, suc, ◌+◌, ◌-◌, ◌*◌, ◌%◌, ◌^◌, ◌<◌, ◌≤◌, Bool, eqb, min, List, [], ◌∷◌, ◌++◌, length, replicate, get_or, set, sym, refl, ap, ◌∙◌, subst, inl, inr, ⊎_elim, arith, le_refl, length-set, get_or-set_other, get_or-set_same, lt_of_not-le}
-use mathlib.Core.Logic.{dite}
-use mathlib.Core.Option.{none, some, some-injective}
-use native.Mathlib.Decide.{dec_le, ℕ_discrete}
+use Rattle.std.proofs.Common.{◌≡◌, ◌≢◌, ℕ, ◌+◌, ◌*◌, ◌%◌, ◌<◌, ◌≤◌, List, length, get_or, set, sym, refl, ap, ◌∙◌, subst, inl, inr, ⊎_elim, arith, le_refl, length-set, get_or-set_other}
+use mathlib.Core.Option.{none, some}
 use lib.ListN.{get_elem?}
 use lib.Seq.{set-get_or}
-use prog.Atomic.{either}
-use Rattle.std.proofs.lemmas.Grind.{get_or-set_at}
-use Rattle.std.proofs.lemmas.List.{get_or_append_left, get_or-append_right, length-append}
 use Rattle.atomic_table.specs.Table.{State, Me, step, keeps, Act, Valid, carried_after, stepped, Allows}
-use Rattle.atomic_table.proofs.Lists.{at_set, set_here, set_else, set_again, exchanged}
+use Rattle.atomic_table.proofs.Lists.{at_set, set_else, set_again}
 use Rattle.bl_layout.specs.declared.layout.Layout.{Layout}
-use Rattle.bl_layout.specs.Words.{frame_count, word_count}
-use Rattle.bl_store.specs.Pages.{Owner, Released, Open, Held, Retired, Stage, Idle, Running, Pages, Stands, IsPage, IsOrderly, AllBeganAfter, told, owned, written, later, Puts, Takes, Latches, Misses, Opens, Retires, Refuses, Releases}
-use Rattle.bl_store.specs.Frames.{process_at, page_at, owner_at, state_at, place_at, Use, drafted, shown, dropped, timed, retired, Frame, free, used, IsTaken, StateIs, Full, FrameIs, PageIs, OwnerIs, ProcessIs, stage_of, IsRead, MayRead, Readable, Reads, Stocks, Drops, Seals, Swept, SweepIs, Knows, total_of, Budgeted, Shows, IsApart, Kept}
+use Rattle.bl_store.specs.Pages.{Owner, Held, Retired, Stage, Pages, told, owned, later, Retires}
+use Rattle.bl_store.specs.Frames.{process_at, owner_at, dropped, timed, Frame, used, OwnerIs, ProcessIs, stage_of, IsRead, Drops, Seals, Swept, Budgeted, Shows, Kept}
 use Rattle.bl_store.specs.Told.{drew, sealed, silent}
 use Rattle.bl_store.specs.declared.view.View.{View}
 use Rattle.bl_store.specs.declared.view.Stamp.{Stamp}
 use Rattle.bl_store.specs.declared.view.Stamp.TheVariants.{Out, Clocked, In}
-use Rattle.bl_store.specs.declared.view.Reading.{Reading}
-use Rattle.bl_store.specs.declared.view.Reading.TheVariants.{Nowhere, At}
-use Rattle.bl_store.specs.declared.view.Draft.{Draft}
-use Rattle.bl_store.specs.declared.view.Dropping.{Dropping}
-use Rattle.bl_store.specs.declared.view.Dropping.TheVariants.{Empty, Dropped, Timed}
+use Rattle.bl_store.specs.declared.view.Dropping.TheVariants.{Dropped, Timed}
 use Rattle.bl_store.specs.declared.view.Sealing.{Sealing}
 use Rattle.bl_store.specs.declared.view.Sealing.TheVariants.{Unsealed, Sealed}
-use Rattle.bl_store.specs.declared.view.Sweep.{Sweep}
-use Rattle.bl_store.specs.declared.view.Sweep.TheVariants.{Still, Over}
-use Rattle.bl_store.proofs.Lists.{at_below, there, one_there, set_there, total_set, total_small}
-use Rattle.bl_store.proofs.Keeps.{frame_same, frame_kept, page_kept, reads_kept, stocks_kept, drops_kept, shows_told, shows_frame, shows_state, shows_process, shows_owner, shows_later, orderly_told, orderly_owned, orderly_written, orderly_later, swept_told, seal_same, Goes, reads_stay, sweeps_stay, Own, moved, unmoved}
-use Rattle.bl_store.proofs.Time.{low_clock, goes_on, goes_told, began_by, told_load}
+use Rattle.bl_store.proofs.Lists.{at_below, there, one_there, set_there, total_set}
+use Rattle.bl_store.proofs.Keeps.{reads_kept, stocks_kept, drops_kept, shows_told, shows_state, shows_owner, shows_later, orderly_told, orderly_owned, orderly_later, swept_told, seal_same, Goes, reads_stay, sweeps_stay, moved}
+use Rattle.bl_store.proofs.Time.{low_clock, began_by}
 use Rattle.std.proofs.Math.Nat.{mod-eq_of_lt}
-use Rattle.bl_store.proofs.Reserving.{idle_step, silent_load}
 
 module _ {D : Type 0} (l : Layout) (first : D) (holds : Pages D → Type 0) where
   abbrev St : Type 0

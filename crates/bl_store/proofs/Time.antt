@@ -1,21 +1,21 @@
 -- A process begins and ends, and a page is read.
-use Rattle.std.proofs.Common.{◌≡◌, ◌≢◌, ◌⊎◌, ℕ, zero, suc, ◌+◌, ◌-◌, ◌*◌, ◌<◌, ◌≤◌, List, [], ◌∷◌, ◌++◌, length, replicate, get_or, set, sym, refl, ap, ◌∙◌, subst, inl, inr, ⊎_elim, arith, le_refl, length-set, get_or-set_other}
+use Rattle.std.proofs.Common.{◌≡◌, ◌≢◌, ◌⊎◌, ℕ, ◌+◌, ◌<◌, ◌≤◌, List, [], length, replicate, get_or, set, sym, refl, ap, ◌∙◌, subst, inl, inr, ⊎_elim, arith, le_refl, get_or-set_other}
 use mathlib.Core.Option.{none, some}
 use lib.ListN.{get_elem?}
-use Rattle.atomic_table.specs.Table.{State, Me, step, keeps, Act, Valid, carried_after, stepped, Allows}
-use Rattle.atomic_table.proofs.Lists.{set_here, set_else}
+use Rattle.atomic_table.specs.Table.{State, Me, step, keeps, stepped, Allows}
+use Rattle.atomic_table.proofs.Lists.{set_else}
 use Rattle.bl_layout.specs.declared.layout.Layout.{Layout}
-use Rattle.bl_layout.specs.Words.{frame_count, word_count}
-use Rattle.bl_store.specs.Pages.{Owner, Stage, Idle, Running, Pages, Stands, IsPage, IsOrderly, told, Begins, Ends, Gets}
-use Rattle.bl_store.specs.Frames.{process_at, page_at, owner_at, state_at, place_at, Use, drafted, shown, dropped, timed, retired, Frame, free, used, IsTaken, StateIs, Full, FrameIs, PageIs, OwnerIs, ProcessIs, stage_of, IsRead, MayRead, Readable, Reads, Stocks, Drops, Seals, Swept, SweepIs, Knows, Budgeted, Shows, IsApart, Kept}
-use Rattle.bl_store.specs.Told.{clocked, stamped, ended, looked, copied, Found}
+use Rattle.bl_layout.specs.Words.{frame_count}
+use Rattle.bl_store.specs.Pages.{Owner, Stage, Running, Pages, Stands, IsOrderly, told, Begins, Ends, Gets}
+use Rattle.bl_store.specs.Frames.{process_at, page_at, owner_at, place_at, Use, drafted, shown, dropped, timed, retired, Frame, used, Full, PageIs, ProcessIs, stage_of, IsRead, MayRead, Reads, Budgeted, Shows, Kept}
+use Rattle.bl_store.specs.Told.{clocked, stamped, ended, looked, copied}
 use Rattle.bl_store.specs.declared.view.View.{View}
 use Rattle.bl_store.specs.declared.view.Stamp.{Stamp}
 use Rattle.bl_store.specs.declared.view.Stamp.TheVariants.{Out, Clocked, In}
 use Rattle.bl_store.specs.declared.view.Reading.{Reading}
 use Rattle.bl_store.specs.declared.view.Reading.TheVariants.{Nowhere, At}
-use Rattle.bl_store.proofs.Lists.{at_below, there, one_there, set_there, total_small}
-use Rattle.bl_store.proofs.Keeps.{shows_told, shows_process, orderly_told, swept_told, seal_same, Goes, sweeps_stay, Own, moved, unmoved}
+use Rattle.bl_store.proofs.Lists.{at_below, there, set_there}
+use Rattle.bl_store.proofs.Keeps.{shows_told, shows_process, orderly_told, swept_told, seal_same, Goes, sweeps_stay, moved, unmoved}
 
 abbrev frame_of : Reading → ℕ
 frame_of Nowhere = 0

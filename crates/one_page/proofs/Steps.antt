@@ -1,12 +1,12 @@
 -- Each event keeps the rule.
-use Rattle.std.proofs.Common.{◌≡◌, ◌≢◌, ◌⊎◌, ℕ, zero, suc, ◌+◌, ◌<◌, ◌≤◌, Bool, true, false, List, [], ◌∷◌, ◌++◌, map, length, replicate, get_or, set, sym, refl, ap, ◌∙◌, subst, inl, inr, ⊎_elim, arith, Option, Some, None, if◌then◌else◌}
+use Rattle.std.proofs.Common.{◌≡◌, ◌≢◌, ◌⊎◌, ℕ, zero, suc, ◌+◌, ◌<◌, ◌≤◌, Bool, true, false, List, [], ◌∷◌, ◌++◌, map, length, replicate, set, sym, refl, ap, ◌∙◌, subst, ⊎_elim, arith, Some, None, if◌then◌else◌}
 use mathlib.Core.Logic.{dite}
 use mathlib.Core.Option.{some, some-injective, some-ne-none}
 use native.Mathlib.Decide.{ℕ_discrete}
 use lib.ListN.{get_elem?}
-use Rattle.atomic_table.proofs.Lists.{at_set, set_here, set_else, set_again, at_map, at_last, at_longer}
+use Rattle.atomic_table.proofs.Lists.{at_set, set_here, set_else, at_last, at_longer}
 use Rattle.bl_layout.specs.declared.layout.Layout.{Layout}
-use Rattle.bl_store.specs.Pages.{Owner, Released, Open, Held, Retired, Stage, Idle, Running, Pages, Stands, IsPage, IsOrderly, HoldsNone, AllBeganAfter, told, owned, written, later, Begins, Ends, Gets, Puts, Takes, Latches, Misses, Opens, Retires, Refuses, Releases, Sweeps}
+use Rattle.bl_store.specs.Pages.{Owner, Released, Open, Held, Retired, Stage, Idle, Running, Pages, Stands, told, owned, written, Begins, Ends, Gets, Puts, Takes, Latches, Misses, Opens, Retires, Refuses, Sweeps}
 use Rattle.bl_store.specs.Opening.{is_blank, first_owner, first_pages, IsDealt}
 use Rattle.one_page.specs.declared.Mine.{Mine}
 use Rattle.std.proofs.lemmas.List.{get_or-replicate, length-replicate}

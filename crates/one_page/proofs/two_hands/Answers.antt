@@ -1,5 +1,4 @@
-use Rattle.std.proofs.Common.{rules, arith, ◌≡◌, ℕ, ◌+◌, ◌<◌, List, [], ◌∷◌, ◌++◌, length, ap, sym, subst, refl, ◌∙◌}
-use mathlib.Core.Option.{some}
+use Rattle.std.proofs.Common.{rules, arith, ◌≡◌, ℕ, List, ap, sym, subst, ◌∙◌}
 use lib.ListN.{get_elem?}
 use Rattle.bl_store.specs.Opening.{first_pages}
 use Rattle.one_page.specs.Holding.{first_words, holding, Fits}

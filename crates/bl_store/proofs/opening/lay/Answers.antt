@@ -1,5 +1,4 @@
-use Rattle.std.proofs.Common.{rules, arith, ◌≡◌, ℕ, ◌+◌, ◌*◌, ◌<◌, List, [], length, get_or, sym, subst, ◌∙◌}
-use Rattle.bl_layout.specs.Words.{word_count}
+use Rattle.std.proofs.Common.{arith, ℕ, ◌+◌, ◌<◌, List, [], length, get_or, sym, subst, ◌∙◌}
 use Rattle.bl_store.specs.Opening.{Laid}
 use Rattle.bl_store.proofs.Dealing.{laid_none, laid_blank}
 use Rattle.bl_store.proofs.Lists.{index_there}

@@ -1,13 +1,7 @@
-use Rattle.std.proofs.Common.{rules, arith, ap, sym, ◌∙◌, ◌≡◌, ℕ, ◌+◌, subst, refl}
+use Rattle.std.proofs.Common.{rules, arith, sym, ◌∙◌, ◌≡◌, ℕ, subst, refl}
 use Rattle.bl_layout.specs.declared.layout.Layout.{Layout}
 use Rattle.bl_store.specs.Pages.{Begins}
 use Rattle.bl_store.proofs.Time.{reads_clock, stamps}
-use Rattle.bl_store.proofs.Dealing.{deals}
-use Rattle.bl_store.proofs.Reserving.{reserves}
-use Rattle.bl_store.proofs.Putting.{swaps}
-use Rattle.bl_store.proofs.Owning.{takes}
-use Rattle.bl_store.proofs.Ticking.{draws}
-use Rattle.bl_store.proofs.Sweeping.{passes}
 use Rattle.bl_store.proofs.store.Store.begin.Goals as goal
 
 pub load-clock-requires : goal.load-clock-requires

@@ -1,4 +1,4 @@
-use Rattle.std.proofs.Common.{rules, arith, ap, sym, ◌∙◌, ◌≡◌, ℕ, ◌+◌, subst, refl}
+use Rattle.std.proofs.Common.{rules, arith, sym, ℕ, subst}
 use Rattle.bl_layout.specs.declared.layout.Layout.{Layout}
 use Rattle.bl_store.specs.Pages.{Ends}
 use Rattle.bl_store.proofs.Time.{finishes}

@@ -1,4 +1,4 @@
-use Rattle.std.proofs.Common.{rules, arith, ◌≡◌, ℕ, ◌+◌, ◌*◌, List, length, ◌∙◌, ap, sym, refl, get_or-set_other, ext_get_or, length-set}
+use Rattle.std.proofs.Common.{rules, arith, ◌∙◌, ap, sym, get_or-set_other, ext_get_or, length-set}
 use mathlib.Core.Logic.{dite}
 use native.Mathlib.Decide.{ℕ_discrete}
 use Rattle.std.proofs.lemmas.Grind.{get_or-set_at}

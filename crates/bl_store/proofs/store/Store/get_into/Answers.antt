@@ -1,8 +1,8 @@
-use Rattle.std.proofs.Common.{rules, arith, ◌≡◌, ◌≢◌, ℕ, ◌+◌, ◌*◌, ◌-◌, ◌<◌, List, length, ◌∙◌, ap, sym, refl, subst}
+use Rattle.std.proofs.Common.{rules, arith, ◌≡◌, ℕ, ◌-◌, List, ◌∙◌, ap, sym, subst}
 use Rattle.atomic_table.specs.Table.{Me}
 use Rattle.bl_layout.specs.declared.layout.Layout.{Layout}
 use Rattle.bl_layout.specs.Words.{frame_count}
-use Rattle.bl_store.specs.Pages.{Owner, Gets}
+use Rattle.bl_store.specs.Pages.{Gets}
 use Rattle.bl_store.specs.declared.view.View.{View}
 use Rattle.bl_store.specs.declared.view.Reading.TheVariants.{At}
 use Rattle.bl_store.proofs.Time.{looks}

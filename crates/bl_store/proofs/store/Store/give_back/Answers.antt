@@ -1,8 +1,7 @@
-use Rattle.std.proofs.Common.{rules, arith, ◌≡◌, ℕ, ◌+◌, ◌-◌, ◌*◌, ◌<◌, List, [], sym, ap, subst, ◌∙◌, refl, get_or}
+use Rattle.std.proofs.Common.{rules, arith, ℕ, ◌-◌, List, [], sym, ap, ◌∙◌, get_or}
 use Rattle.bl_layout.specs.declared.layout.Layout.{Layout}
-use Rattle.bl_layout.specs.Words.{frame_count}
 use Rattle.bl_store.proofs.Reserving.{returns}
-use Rattle.bl_store.proofs.StockLemmas.{drafts_pop, drafts_none}
+use Rattle.bl_store.proofs.StockLemmas.{drafts_pop}
 use Rattle.bl_store.proofs.store.Store.give_back.Goals as goal
 
 pub compare_exchange-requires : goal.compare_exchange-requires

@@ -1,5 +1,5 @@
 use Rattle.std.proofs.Common.{◌≡◌, ◌≤◌}
-use Rattle.bl_store.specs.Hands.{IsQuiet, IsStockOf, drafts}
+use Rattle.bl_store.specs.Hands.{IsQuiet, drafts}
 use Rattle.bl_store.proofs.store.Store.give_back.Given as goal
 
 abbrev pub invariant-loop-stock : goal.invariant-loop-stock

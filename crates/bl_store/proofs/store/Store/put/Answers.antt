@@ -1,9 +1,8 @@
-use Rattle.std.proofs.Common.{rules, arith, ◌≡◌, ◌⊎◌, ℕ, zero, suc, ◌+◌, ◌-◌, ◌*◌, ◌/◌, ◌%◌, ◌<◌, ◌≤◌, List, [], ◌∷◌, ◌++◌, length, take, get_or, ap, sym, subst, refl, ◌∙◌, inl, inr, ⊎_elim}
+use Rattle.std.proofs.Common.{rules, arith, ◌≡◌, ℕ, ◌-◌, ◌<◌, List, length, get_or, ap, sym, subst, refl, ◌∙◌}
 use Rattle.bl_layout.specs.declared.layout.Layout.{Layout}
 use Rattle.bl_layout.specs.Words.{frame_count}
 use Rattle.bl_store.specs.Pages.{Held, Puts}
 use Rattle.bl_store.specs.Hands.{drafts}
-use Rattle.bl_store.specs.declared.view.Dropping.TheVariants.{Dropped}
 use Rattle.bl_store.proofs.Putting.{swaps}
 use Rattle.bl_store.proofs.StockLemmas.{drafts_pop}
 use Rattle.bl_store.proofs.store.Store.put.Goals as goal

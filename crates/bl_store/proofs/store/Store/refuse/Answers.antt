@@ -1,4 +1,4 @@
-use Rattle.std.proofs.Common.{rules, arith, ◌≡◌, ℕ, sym, ap, subst}
+use Rattle.std.proofs.Common.{rules, arith, ℕ, sym, subst}
 use Rattle.bl_layout.specs.declared.layout.Layout.{Layout}
 use Rattle.bl_store.specs.Pages.{Refuses}
 use Rattle.bl_store.proofs.Owning.{refuses}

@@ -1,7 +1,7 @@
-use Rattle.std.proofs.Common.{rules, arith, ◌≡◌, ◌⊎◌, ℕ, ◌+◌, ◌*◌, ◌<◌, ap, sym, subst, ◌∙◌, inl, inr, ⊎_elim}
+use Rattle.std.proofs.Common.{rules, arith, ◌≡◌, ℕ, ap, sym, subst, ◌∙◌, inl, inr, ⊎_elim}
 use Rattle.bl_layout.specs.declared.layout.Layout.{Layout}
 use Rattle.bl_layout.specs.Words.{frame_count}
-use Rattle.bl_store.specs.Pages.{Takes, Refuses}
+use Rattle.bl_store.specs.Pages.{Takes}
 use Rattle.bl_store.specs.Frames.{state_at}
 use Rattle.bl_store.proofs.Reserving.{allots}
 use Rattle.bl_store.proofs.StockLemmas.{has_same}

@@ -1,8 +1,6 @@
-use Rattle.std.proofs.Common.{rules, arith, ◌≡◌, ◌⊎◌, ℕ, zero, suc, ◌+◌, ◌-◌, ◌*◌, ◌/◌, ◌%◌, ◌<◌, ◌≤◌, List, [], ◌∷◌, ◌++◌, length, take, get_or, ap, sym, subst, refl, ◌∙◌, inl, inr, ⊎_elim}
+use Rattle.std.proofs.Common.{rules, arith, ℕ, ap, sym, subst}
 use Rattle.bl_layout.specs.declared.layout.Layout.{Layout}
-use Rattle.bl_layout.specs.Words.{frame_count}
 use Rattle.bl_store.specs.Pages.{Retires}
-use Rattle.bl_store.specs.declared.view.Sealing.TheVariants.{Sealed}
 use Rattle.bl_store.proofs.Ticking.{seals}
 use Rattle.bl_store.proofs.store.Store.seal.Goals as goal
 

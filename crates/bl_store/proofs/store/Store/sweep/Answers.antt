@@ -1,6 +1,4 @@
-use Rattle.std.proofs.Common.{rules, arith, ◌≡◌, ◌⊎◌, ℕ, zero, suc, ◌+◌, ◌-◌, ◌*◌, ◌/◌, ◌%◌, ◌<◌, ◌≤◌, List, [], ◌∷◌, ◌++◌, length, take, get_or, ap, sym, subst, refl, ◌∙◌, inl, inr, ⊎_elim}
-use Rattle.bl_layout.specs.declared.layout.Layout.{Layout}
-use Rattle.bl_layout.specs.Words.{frame_count}
+use Rattle.std.proofs.Common.{◌≡◌, ℕ, sym, subst, ◌∙◌}
 use Rattle.bl_store.specs.Pages.{Releases}
 use Rattle.bl_store.proofs.store.Store.sweep.Goals as goal
 

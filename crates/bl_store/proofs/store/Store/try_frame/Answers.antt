@@ -1,9 +1,8 @@
-use Rattle.std.proofs.Common.{rules, arith, ◌≡◌, ◌⊎◌, ℕ, ◌+◌, ◌*◌, ◌<◌, List, [], ◌∷◌, length, slice_index, set, sym, ap, subst, ◌∙◌, inl, inr, ⊎_elim, refl}
+use Rattle.std.proofs.Common.{rules, arith, ◌≡◌, ℕ, ◌+◌, ◌<◌, List, [], ◌∷◌, length, slice_index, set, sym, ap, subst, ◌∙◌, inl, inr, ⊎_elim, refl}
 use Rattle.bl_layout.specs.declared.layout.Layout.{Layout}
 use Rattle.bl_layout.specs.Words.{frame_count}
 use Rattle.bl_store.specs.Frames.{state_at}
 use Rattle.bl_store.specs.Told.{draft}
-use Rattle.bl_store.specs.Hands.{Has, IsAmong, drafts}
 use Rattle.bl_store.specs.declared.view.Draft.{Draft}
 use Rattle.bl_store.proofs.Reserving.{notes, reserves}
 use Rattle.bl_store.proofs.StockLemmas.{drafts_push, among_push, among_new, within_push, has_same, has_more, has_new}

@@ -1,8 +1,7 @@
-use Rattle.std.proofs.Common.{rules, arith, ◌≡◌, ℕ, ◌+◌, ◌*◌, List, sym, ap, subst, ◌∙◌, inl, inr, refl, eq-eqb}
+use Rattle.std.proofs.Common.{rules, arith, ◌≡◌, ℕ, sym, ap, subst, ◌∙◌, refl, eq-eqb}
 use Rattle.std.proofs.lemmas.Bool.{eqb-true}
 use Rattle.bl_layout.specs.declared.layout.Layout.{Layout}
 use Rattle.bl_store.specs.Pages.{Released, Takes}
-use Rattle.bl_store.specs.Frames.{owner_at}
 use Rattle.bl_store.proofs.Reserving.{notes}
 use Rattle.bl_store.proofs.Owning.{takes}
 use Rattle.bl_store.proofs.StockLemmas.{has_same, has_more, has_new}

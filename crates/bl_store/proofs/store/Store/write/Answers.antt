@@ -1,10 +1,8 @@
-use Rattle.std.proofs.Common.{rules, arith, ◌≡◌, ◌⊎◌, ℕ, zero, suc, ◌+◌, ◌-◌, ◌*◌, ◌/◌, ◌%◌, ◌<◌, ◌≤◌, List, [], ◌∷◌, ◌++◌, length, take, get_or, ap, sym, subst, refl, ◌∙◌, inl, inr, ⊎_elim}
+use Rattle.std.proofs.Common.{rules, arith, ◌≡◌, ℕ, List, ◌∷◌, length, ap, sym, ◌∙◌}
 use Rattle.bl_layout.specs.declared.layout.Layout.{Layout}
-use Rattle.bl_layout.specs.Words.{frame_count}
 use Rattle.std.proofs.Common.{length-take-le, take_all}
 use Rattle.std.proofs.lemmas.List.{take_more}
 use Rattle.bl_store.specs.Told.{draft}
-use Rattle.bl_store.specs.declared.view.Draft.{Draft}
 use Rattle.bl_store.proofs.Reserving.{writes}
 use Rattle.bl_store.proofs.store.Store.write.Goals as goal
 
