@@ -1,5 +1,5 @@
 -- A world in which nothing has happened is good.
-use Rattle.std.proofs.Common.{ℕ, ◌≡◌, ◌≢◌, ◌⊎◌, [], sym, ◌∙◌, inl, inr, ◌<◌, ◌==◌, Bool, None, arith, ap, refl}
+use Rattle.std.proofs.Common.{true, false, ℕ, ◌≡◌, ◌≢◌, ◌⊎◌, [], sym, ◌∙◌, inl, inr, ◌<◌, ◌==◌, Bool, None, arith, ap, refl}
 use Rattle.bl_model.specs.declared.operation.Reply.{Reply}
 use Rattle.bl_page.specs.Machine.{Name, Act, Owner, State}
 use Rattle.bl_page.specs.Machine.Owner.{Released}
@@ -12,7 +12,8 @@ use Rattle.bl_page.specs.declared.page.Page.{Page}
 use Rattle.std.proofs.lemmas.Bool.{cases_eq}
 use Rattle.bl_laws.specs.Pages.{node_of, roots_of}
 use Rattle.bl_laws.proofs.Opening.{empty_leaf, opens}
-use Rattle.bl_laws.proofs.SoundStarts.{start_status}
+use Rattle.bl_laws.specs.Starts.{AreSound}
+use Rattle.bl_laws.proofs.SoundStarts.{start_status, start_map, start_live, sound_tree, bool_cases}
 use Rattle.bl_starts.specs.Blank.{IsBlank, IsStart}
 
 nothing_does : (i : ℕ) (p : Name) (act : Act _ Reply) → DoesAt [] i p act → ⊥
@@ -128,6 +129,63 @@ opening_good know now size proc wide o blank =
         | inr i ↦ elim (cases_eq x 1) [
           | inl j ↦ absurd (let e : Live ≡ Anchored = sym (ap (start_status (λ x. x == 1)) j) ∙ h in cc)
           | inr j ↦ absurd (let e : Free ≡ Anchored = sym (free x i j) ∙ h in cc)
+        ]
+      ];
+      blank = blank;
+    })
+
+-- The world of sound pages: page 0 and the live pages are open, all others released.
+pub record Sound (live : ℕ → Bool) (now : State Page) (size : ℕ) : Type 0 where
+  pub pages : AreSound live (λ x. node_of (now.contents x)) (roots_of (now.contents 0))
+  pub anchor_open : now.owner 0 ≡ Owner.Open
+  pub live_open : (x : ℕ) → live x ≡ true → now.owner x ≡ Owner.Open
+  pub others : (x : ℕ) → x ≢ 0 → live x ≡ false → now.owner x ≡ Released
+  pub small : (x : ℕ) → live x ≡ true → x < size
+  pub some : 0 < size
+  pub waiting : (p : Name) → now.phase p ≡ Waiting
+
+abbrev pub sound_world : {P : Type 0} → (ℕ → Bool) → State Page → ℕ → (Name → P) → World P
+sound_world live now size proc = record {
+  start = now;
+  first = start_map (λ x. node_of (now.contents x)) (roots_of (now.contents 0)) 0;
+  size = size;
+  now = now;
+  trail = [];
+  proc = proc;
+  status = start_status live;
+  sep = λ x. (node_of (now.contents x)).shape.low;
+  map = start_map (λ x. node_of (now.contents x)) (roots_of (now.contents 0));
+}
+
+pub sound_good : {P : Type 0} (know : P → Know) (live : ℕ → Bool) (now : State Page) (size : ℕ) (proc : Name → P) → Sound live now size → ((p : Name) → IsBlank (know (proc p))) → IsGood know (sound_world live now size proc)
+sound_good know live now size proc o blank =
+    let kinds : (x : ℕ) → (x ≡ 0) ⊎ (((x ≢ 0) × (live x ≡ true)) ⊎ ((x ≢ 0) × (live x ≡ false))) = λ x. elim (cases_eq x 0) [
+      | inl i ↦ inl i
+      | inr i ↦ elim (bool_cases (live x)) [ inl h ↦ inr (inl (i, h)) | inr h ↦ inr (inr (i, h)) ]
+    ] in
+    let free : (x : ℕ) → x ≢ 0 → live x ≡ false → start_status live x ≡ Free = λ x a b. grind arith in
+    starts_good know (sound_world live now size proc) (record {
+      start = refl;
+      trail = refl;
+      waiting = o.waiting;
+      tree = sound_tree live (λ x. node_of (now.contents x)) (roots_of (now.contents 0)) o.pages;
+      map = λ k. refl;
+      owned = λ x. elim (kinds x) [
+        | inl i ↦ inl (rw i o.anchor_open, inr (rw i refl))
+        | inr r ↦ elim r [
+          | inl j ↦ inl (o.live_open x j.1, inl (start_live live x o.pages.anchor j.1))
+          | inr j ↦ inr (o.others x j.0 j.1, free x j.0 j.1)
+        ]
+      ];
+      small = λ x h. elim (kinds x) [
+        | inl i ↦ rw i o.some
+        | inr r ↦ elim r [ inl j ↦ o.small x j.1 | inr j ↦ absurd (h (free x j.0 j.1)) ]
+      ];
+      one_anchor = λ x h. elim (kinds x) [
+        | inl i ↦ i
+        | inr r ↦ elim r [
+          | inl j ↦ absurd (let e : Live ≡ Anchored = sym (start_live live x o.pages.anchor j.1) ∙ h in cc)
+          | inr j ↦ absurd (let e : Free ≡ Anchored = sym (free x j.0 j.1) ∙ h in cc)
         ]
       ];
       blank = blank;
