@@ -133,6 +133,7 @@ search_get w now p key x b at steps leads g =
     no_middle (At k y) = refl
     no_middle (Ending k r) = refl
     no_middle (Over k r) = refl
+
     maps : (s : Search) → Leads (w.now.contents x) key s → IsSure w p (know_search (At key x)) → MapsTo (w.map 0) (w.map 0) (said_by s)
     maps (New k) h sure = λ j. refl
     maps (AtAnchor k) h sure = λ j. refl

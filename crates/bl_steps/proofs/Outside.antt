@@ -108,9 +108,9 @@ Takes-keeps know w w' p x b s g =
     let old = (g.gone y o).not_yet q v in
     (v, back _ (live_was_not _ old.1) ∙ old.0, rw (u.others _ (live_was_not _ old.1)) old.1)) (g.gone y o))
     (λ a y h.
-        let o = sym (u.others y (status_not y (Right a) h (λ e. cc))) ∙ h in
-        let i = g.middles a y o in
-        middles_step know w w' (silent p (Take x)) b a y s.extends s.middle i (λ z k l. let n = was_not_x z (Held i.by) k (λ e. cc) in (back z n ∙ k, u.others z n, ap node_of (change.0 z))) o)
+    let o = sym (u.others y (status_not y (Right a) h (λ e. cc))) ∙ h in
+    let i = g.middles a y o in
+    middles_step know w w' (silent p (Take x)) b a y s.extends s.middle i (λ z k l. let n = was_not_x z (Held i.by) k (λ e. cc) in (back z n ∙ k, u.others z n, ap node_of (change.0 z))) o)
     (record {
       owner = λ q y n h. back y (was_not_x y (Held q) h (λ e. cc)) ∙ h;
       contents = λ q y n h. change.0 y;
@@ -214,9 +214,9 @@ Retires-keeps know w w' p x b s g =
           rw (node y) (back _ (live_was_not _ k.1) ∙ k.0, rw s.status k.1, ap (λ v. v.shape.level) (node (nodes w.now y).shape.right) ∙ k.2);
     })
     (λ a y h.
-        let o : w.status y ≡ Right a = rw s.status at h in
-        let i = g.middles a y o in
-        middles_step know w w' (silent p (Retire x)) b a y s.extends s.middle i (λ z k l. (back z (λ v. elim l [ inl e ↦ (let f : w.status x ≡ Live = ap w.status (sym v) ∙ e in cc (s.gone)) | inr e ↦ (let f : w.status x ≡ Right a = ap w.status (sym v) ∙ e in cc (s.gone)) ]) ∙ k, ap (λ f. f z) s.status, node z)) o)
+    let o : w.status y ≡ Right a = rw s.status at h in
+    let i = g.middles a y o in
+    middles_step know w w' (silent p (Retire x)) b a y s.extends s.middle i (λ z k l. (back z (λ v. elim l [ inl e ↦ (let f : w.status x ≡ Live = ap w.status (sym v) ∙ e in cc (s.gone)) | inr e ↦ (let f : w.status x ≡ Right a = ap w.status (sym v) ∙ e in cc (s.gone)) ]) ∙ k, ap (λ f. f z) s.status, node z)) o)
     (record {
       owner = λ q y n h. back y (was_not_x y (Held q) h (λ e. n cc)) ∙ h;
       contents = λ q y n h. change.3.0 y;
@@ -311,9 +311,9 @@ Releases-keeps know w w' p x b s g =
           rw (node y) (back _ (live_was_not _ k.1) ∙ k.0, rw (u.others _ (live_was_not _ k.1)) k.1, ap (λ v. v.shape.level) (node (nodes w.now y).shape.right) ∙ k.2);
     })
     (λ a y h.
-        let o = sym (u.others y (status_not y (Right a) h (λ e. cc))) ∙ h in
-        let i = g.middles a y o in
-        middles_step know w w' (silent p (Release x)) b a y s.extends s.middle i (λ z k l. let n = was_held_not z i.by k in (back z n ∙ k, u.others z n, node z)) o)
+    let o = sym (u.others y (status_not y (Right a) h (λ e. cc))) ∙ h in
+    let i = g.middles a y o in
+    middles_step know w w' (silent p (Release x)) b a y s.extends s.middle i (λ z k l. let n = was_held_not z i.by k in (back z n ∙ k, u.others z n, node z)) o)
     (record {
       owner = λ q y n h. back y (was_held_not y q h) ∙ h;
       contents = λ q y n h. change.0 y;

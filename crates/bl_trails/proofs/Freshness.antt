@@ -58,7 +58,6 @@ fresh_new ms m y e = record {
   put_no_other = λ x n p. no_member p.mark p.is;
 }
 
-
 -- what was fresh before m, and why
 pub fresh_back : (ms : Trail) (m : Mark) (y : ℕ) → m.event.act ≢ Act.Take y → IsFreshBy (ms ++ m ∷ []) y → IsFreshBy ms y × (m.event.act ≢ Act.Latch y) × ((x : ℕ) (c : Page) → x ≢ y → m.event.act ≡ Act.Put x c → ⊥)
 fresh_back ms m y no_take h = elim (parted ms h.taken.before h.taken.since m h.taken.last h.taken.split) [
