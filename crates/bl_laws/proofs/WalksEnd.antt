@@ -1,8 +1,8 @@
 -- The lone walk of each key ends at the live leaf that covers it, and meets no page twice.
-use Rattle.std.proofs.Common.{ℕ, ◌≡◌, ◌≢◌, ◌⊎◌, ◌≤◌, ◌<◌, ◌+◌, ◌-◌, Option, Some, None, zero, suc, List, [], ◌∷◌, arith, ap, sym, ◌∙◌, refl, inl, inr}
+use Rattle.std.proofs.Common.{length, ◌==◌, if◌then◌else◌, ℕ, ◌≡◌, ◌≢◌, ◌⊎◌, ◌≤◌, ◌<◌, ◌+◌, ◌-◌, Option, Some, None, zero, suc, List, [], ◌∷◌, arith, ap, sym, ◌∙◌, refl, inl, inr}
 use Rattle.std.proofs.lemmas.Bool.{cases_eq, cases_lt}
-use Rattle.bl_tree.specs.Nodes.{Node, Look, Covers, unbounded}
-use Rattle.bl_laws.specs.Walks.{IsChildOf, IsWalk, IsNoneOf, NoneTwice, HasLoneWalk}
+use Rattle.bl_tree.specs.Nodes.{Roots, Node, Look, Covers, unbounded}
+use Rattle.bl_laws.specs.Walks.{Each, IsChildOf, IsWalk, IsNoneOf, NoneTwice, HasLoneWalk}
 use Rattle.bl_laws.specs.Walks.IsWalk.{Ends, Right, Down}
 use Rattle.bl_tree.specs.Trees.{Tree, IsTree}
 use Rattle.bl_laws.specs.Pages.{AllSound}
@@ -40,10 +40,6 @@ has_child look low c h (suc n) k e = elim (some_or_none (look k)) [
 -- y comes after x in a walk: further down, or further right
 abbrev pub After : (ℕ → Node) → ℕ → ℕ → Type 0
 After node x y = ((node y).shape.level < (node x).shape.level) ⊎ (((node y).shape.level ≡ (node x).shape.level) × ((node x).shape.end < (node y).shape.end))
-
-abbrev pub Each : (ℕ → Type 0) → List ℕ → Type 0
-Each P [] = Unit {0}
-Each P (x ∷ xs) = P x × Each P xs
 
 After-trans : (node : ℕ → Node) (x y z : ℕ) → After node x y → After node y z → After node x z
 After-trans node x y z a b = elim a [
@@ -137,8 +133,52 @@ lone_walk {t} k g s b =
       pages = x ∷ w.rest;
       leaf = w.leaf;
       walk = w.walk;
+      all_live = (w.begins, w.lives);
       alive = w.alive;
       is_leaf = w.is_leaf;
       covers = w.covers;
       once = (none_of t.node x w.rest w.after, w.once);
     }
+
+-- pages without one of them
+without : ℕ → List ℕ → List ℕ
+without n [] = []
+without n (x ∷ xs) = if x == n then xs else x ∷ without n xs
+
+none_without : (n x : ℕ) (xs : List ℕ) → IsNoneOf x xs → IsNoneOf x (without n xs)
+unfolding without
+none_without n x [] h = tt
+none_without n x (y ∷ ys) h = elim (cases_eq y n) [
+  | inl e ↦ (let f : (if y == n then ys else y ∷ without n ys) ≡ ys = grind arith in rw f h.1)
+  | inr e ↦ (let f : (if y == n then ys else y ∷ without n ys) ≡ y ∷ without n ys = grind arith in rw f (h.0, none_without n x ys h.1))
+]
+
+-- and then they are below n, where they were at most n
+below_without : (n : ℕ) (xs : List ℕ) → NoneTwice xs → Each (λ x. x < suc n) xs → NoneTwice (without n xs) × Each (λ x. x < n) (without n xs) × (length xs ≤ suc (length (without n xs)))
+unfolding without
+below_without n [] h b = (tt, tt, omega arith)
+below_without n (y ∷ ys) h b = elim (cases_eq y n) [
+  | inl e ↦ (let f : (if y == n then ys else y ∷ without n ys) ≡ ys = grind arith in rw f (h.1, others ys (rw e at h.0) b.1, omega arith))
+  | inr e ↦
+      let f : (if y == n then ys else y ∷ without n ys) ≡ y ∷ without n ys = grind arith in
+      let r = below_without n ys h.1 b.1 in
+      rw f ((none_without n y ys h.0, r.0), (omega (arith, b.0), r.1), omega (arith, r.2))
+]
+  where
+    others : (zs : List ℕ) → IsNoneOf n zs → Each (λ x. x < suc n) zs → Each (λ x. x < n) zs
+    others [] i c = tt
+    others (z ∷ zs) i c = (omega (arith, c.0, i.0), others zs i.1 c.1)
+
+-- as many different pages as there are numbers, at most
+pub at_most : (n : ℕ) (xs : List ℕ) → NoneTwice xs → Each (λ x. x < n) xs → length xs ≤ n
+at_most zero [] h b = omega arith
+at_most zero (x ∷ xs) h b = absurd (omega (arith, b.0))
+at_most (suc n) xs h b = let r = below_without n xs h b in let i = at_most n (without n xs) r.0 r.1 in omega (arith, r.2)
+
+-- so a lone walk has no more pages than there are
+pub walk_is_short : {live : ℕ → Type 0} {node : ℕ → Node} {roots : Roots} {k : ℕ} (n : ℕ) (w : HasLoneWalk live node roots k) → ((x : ℕ) → live x → x < n) → length w.pages ≤ n
+walk_is_short {live = live} n w small = at_most n w.pages w.once (each w.pages w.all_live)
+  where
+    each : (xs : List ℕ) → Each live xs → Each (λ x. x < n) xs
+    each [] h = tt
+    each (x ∷ xs) h = (small x h.0, each xs h.1)

@@ -16,6 +16,11 @@ pub data IsWalk (node : ℕ → Node) (k : ℕ) : ℕ → List ℕ → ℕ → T
   Right : {x leaf : ℕ} {pages : List ℕ} → (node x).shape.end ≤ k → IsWalk node k (node x).shape.right pages leaf → IsWalk node k x (x ∷ pages) leaf
   Down : {x c leaf : ℕ} {pages : List ℕ} → 0 < (node x).shape.level → Covers (node x).shape k → IsChildOf (node x).look k c → IsWalk node k c pages leaf → IsWalk node k x (x ∷ pages) leaf
 
+-- it holds of each of these pages
+abbrev pub Each : (ℕ → Type 0) → List ℕ → Type 0
+Each P [] = Unit {0}
+Each P (x ∷ xs) = P x × Each P xs
+
 -- the page is none of these
 abbrev pub IsNoneOf : ℕ → List ℕ → Type 0
 IsNoneOf x [] = Unit {0}
@@ -25,14 +30,15 @@ abbrev pub NoneTwice : List ℕ → Type 0
 NoneTwice [] = Unit {0}
 NoneTwice (x ∷ xs) = IsNoneOf x xs × NoneTwice xs
 
--- From page 0 the walk goes to the leftmost page of the top level. It ends at a live leaf that covers the key, and meets
--- no page twice.
+-- From page 0 the walk goes to the leftmost page of the top level. It meets live pages alone and none twice, and ends at
+-- a leaf that covers the key.
 pub record HasLoneWalk (live : ℕ → Type 0) (node : ℕ → Node) (roots : Roots) (k : ℕ) : Type 0 where
   pub top_level : ℕ
   pub is_top : suc top_level ≡ roots.levels
   pub pages : List ℕ
   pub leaf : ℕ
   pub walk : IsWalk node k (roots.leftmost top_level) pages leaf
+  pub all_live : Each live pages
   pub alive : live leaf
   pub is_leaf : (node leaf).shape.level ≡ 0
   pub covers : Covers (node leaf).shape k

@@ -1,12 +1,20 @@
 -- A world in which nothing has happened is good.
-use Rattle.std.proofs.Common.{ℕ, ◌≡◌, ◌≢◌, ◌⊎◌, [], sym, ◌∙◌, inl, inr}
+use Rattle.std.proofs.Common.{true, false, ℕ, ◌≡◌, ◌≢◌, ◌⊎◌, [], sym, ◌∙◌, inl, inr, ◌<◌, ◌==◌, Bool, None, arith, ap, refl}
 use Rattle.bl_model.specs.declared.operation.Reply.{Reply}
-use Rattle.bl_page.specs.Machine.{Name, Act}
+use Rattle.bl_page.specs.Machine.{Name, Act, Owner, State}
+use Rattle.bl_page.specs.Machine.Owner.{Released}
+use Rattle.bl_page.specs.Machine.Phase.{Waiting}
 use Rattle.bl_tree.specs.Trees.{Status}
 use Rattle.bl_tree.specs.Trees.Status.{Free, Fresh, Live, Right, Gone, Anchored}
 use Rattle.bl_trails.specs.Trails.{DoesAt, SaysAt}
 use Rattle.bl_steps.specs.Worlds.{Know, World, IsSure, IsGood}
-use Rattle.bl_starts.specs.Blank.{IsStart}
+use Rattle.bl_page.specs.declared.page.Page.{Page}
+use Rattle.std.proofs.lemmas.Bool.{cases_eq}
+use Rattle.bl_laws.specs.Pages.{node_of, roots_of}
+use Rattle.bl_laws.proofs.Opening.{empty_leaf, opens}
+use Rattle.bl_laws.specs.Starts.{AreSound}
+use Rattle.bl_laws.proofs.SoundStarts.{start_status, start_map, start_live, sound_tree, bool_cases}
+use Rattle.bl_starts.specs.Blank.{IsBlank, IsStart}
 
 nothing_does : (i : ℕ) (p : Name) (act : Act _ Reply) → DoesAt [] i p act → ⊥
 nothing_does i p act h = let e = h.is in cc
@@ -71,3 +79,114 @@ starts_good know w s =
       middles = λ x y h. (let e = not y (Right x) h (λ v. cc) (λ v. cc) in absurd cc);
       sure = λ p. blank_sure know w p s;
     }
+
+-- The opening world: page 0 names one level, whose only page is page 1, an empty leaf; the two are open, all others released.
+pub record Opening (now : State Page) : Type 0 where
+  pub levels : (roots_of (now.contents 0)).levels ≡ 1
+  pub leftmost : (roots_of (now.contents 0)).leftmost 0 ≡ 1
+  pub leaf : node_of (now.contents 1) ≡ empty_leaf
+  pub anchor_open : now.owner 0 ≡ Owner.Open
+  pub leaf_open : now.owner 1 ≡ Owner.Open
+  pub others : (x : ℕ) → x ≢ 0 → x ≢ 1 → now.owner x ≡ Released
+  pub waiting : (p : Name) → now.phase p ≡ Waiting
+
+abbrev pub opening_world : {P : Type 0} → State Page → ℕ → (Name → P) → World P
+opening_world now size proc = record {
+  start = now;
+  first = λ k. None;
+  size = size;
+  now = now;
+  trail = [];
+  proc = proc;
+  status = start_status (λ x. x == 1);
+  sep = λ x. 0;
+  map = λ l k. None;
+}
+
+pub opening_good : {P : Type 0} (know : P → Know) (now : State Page) (size : ℕ) (proc : Name → P) → 1 < size → Opening now → ((p : Name) → IsBlank (know (proc p))) → IsGood know (opening_world now size proc)
+opening_good know now size proc wide o blank =
+    let live : ℕ → Bool = λ x. x == 1 in
+    let free : (x : ℕ) → x ≢ 0 → x ≢ 1 → start_status (λ x. x == 1) x ≡ Free = λ x a b. grind arith in
+    starts_good know (opening_world now size proc) (record {
+      start = refl;
+      trail = refl;
+      waiting = o.waiting;
+      tree = opens (λ x. node_of (now.contents x)) (roots_of (now.contents 0)) o.leaf o.levels o.leftmost;
+      map = λ k. refl;
+      owned = λ x. elim (cases_eq x 0) [
+        | inl i ↦ inl (rw i o.anchor_open, inr (rw i refl))
+        | inr i ↦ elim (cases_eq x 1) [
+          | inl j ↦ inl (rw j o.leaf_open, inl (rw j refl))
+          | inr j ↦ inr (o.others x i j, free x i j)
+        ]
+      ];
+      small = λ x h. elim (cases_eq x 0) [
+        | inl i ↦ omega arith
+        | inr i ↦ elim (cases_eq x 1) [ inl j ↦ omega arith | inr j ↦ absurd (h (free x i j)) ]
+      ];
+      one_anchor = λ x h. elim (cases_eq x 0) [
+        | inl i ↦ i
+        | inr i ↦ elim (cases_eq x 1) [
+          | inl j ↦ absurd (let e : Live ≡ Anchored = sym (ap (start_status (λ x. x == 1)) j) ∙ h in cc)
+          | inr j ↦ absurd (let e : Free ≡ Anchored = sym (free x i j) ∙ h in cc)
+        ]
+      ];
+      blank = blank;
+    })
+
+-- The world of sound pages: page 0 and the live pages are open, all others released.
+pub record Sound (live : ℕ → Bool) (now : State Page) (size : ℕ) : Type 0 where
+  pub pages : AreSound live (λ x. node_of (now.contents x)) (roots_of (now.contents 0))
+  pub anchor_open : now.owner 0 ≡ Owner.Open
+  pub live_open : (x : ℕ) → live x ≡ true → now.owner x ≡ Owner.Open
+  pub others : (x : ℕ) → x ≢ 0 → live x ≡ false → now.owner x ≡ Released
+  pub small : (x : ℕ) → live x ≡ true → x < size
+  pub some : 0 < size
+  pub waiting : (p : Name) → now.phase p ≡ Waiting
+
+abbrev pub sound_world : {P : Type 0} → (ℕ → Bool) → State Page → ℕ → (Name → P) → World P
+sound_world live now size proc = record {
+  start = now;
+  first = start_map (λ x. node_of (now.contents x)) (roots_of (now.contents 0)) 0;
+  size = size;
+  now = now;
+  trail = [];
+  proc = proc;
+  status = start_status live;
+  sep = λ x. (node_of (now.contents x)).shape.low;
+  map = start_map (λ x. node_of (now.contents x)) (roots_of (now.contents 0));
+}
+
+pub sound_good : {P : Type 0} (know : P → Know) (live : ℕ → Bool) (now : State Page) (size : ℕ) (proc : Name → P) → Sound live now size → ((p : Name) → IsBlank (know (proc p))) → IsGood know (sound_world live now size proc)
+sound_good know live now size proc o blank =
+    let kinds : (x : ℕ) → (x ≡ 0) ⊎ (((x ≢ 0) × (live x ≡ true)) ⊎ ((x ≢ 0) × (live x ≡ false))) = λ x. elim (cases_eq x 0) [
+      | inl i ↦ inl i
+      | inr i ↦ elim (bool_cases (live x)) [ inl h ↦ inr (inl (i, h)) | inr h ↦ inr (inr (i, h)) ]
+    ] in
+    let free : (x : ℕ) → x ≢ 0 → live x ≡ false → start_status live x ≡ Free = λ x a b. grind arith in
+    starts_good know (sound_world live now size proc) (record {
+      start = refl;
+      trail = refl;
+      waiting = o.waiting;
+      tree = sound_tree live (λ x. node_of (now.contents x)) (roots_of (now.contents 0)) o.pages;
+      map = λ k. refl;
+      owned = λ x. elim (kinds x) [
+        | inl i ↦ inl (rw i o.anchor_open, inr (rw i refl))
+        | inr r ↦ elim r [
+          | inl j ↦ inl (o.live_open x j.1, inl (start_live live x o.pages.anchor j.1))
+          | inr j ↦ inr (o.others x j.0 j.1, free x j.0 j.1)
+        ]
+      ];
+      small = λ x h. elim (kinds x) [
+        | inl i ↦ rw i o.some
+        | inr r ↦ elim r [ inl j ↦ o.small x j.1 | inr j ↦ absurd (h (free x j.0 j.1)) ]
+      ];
+      one_anchor = λ x h. elim (kinds x) [
+        | inl i ↦ i
+        | inr r ↦ elim r [
+          | inl j ↦ absurd (let e : Live ≡ Anchored = sym (start_live live x o.pages.anchor j.1) ∙ h in cc)
+          | inr j ↦ absurd (let e : Free ≡ Anchored = sym (free x j.0 j.1) ∙ h in cc)
+        ]
+      ];
+      blank = blank;
+    })

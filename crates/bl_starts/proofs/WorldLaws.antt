@@ -10,6 +10,7 @@ use Rattle.bl_tree.specs.Trees.Status.{Free, Fresh, Live, Left, Right, Gone, Anc
 use Rattle.bl_tree.proofs.Statuses.{live_live, left_live, right_live, free_dead, gone_dead}
 use Rattle.bl_laws.specs.Pages.{node_of, roots_of, IsTreePage, AllSound}
 use Rattle.bl_laws.specs.Laws.{IsChain}
+use Rattle.bl_laws.specs.Walks.{Each}
 use Rattle.bl_laws.proofs.LawsHold.{live, KnowsMiddles, agreement, overlap, has_chain, listing}
 use Rattle.bl_laws.proofs.WalksEnd.{lone_walk}
 use Rattle.bl_laws.proofs.SoundPages.{sound_node, wide_page}
@@ -66,6 +67,10 @@ chain_live : {P : Type 0} (know : P → Know) (w : World P) (level x : ℕ) (res
 chain_live know w level x [] g c = (live_page know w x g c.0, c.1, c.2, c.3)
 chain_live know w level x (y ∷ rest) g c = (live_page know w x g c.0, c.1, c.2, chain_live know w level y rest g c.3)
 
+each_live : {P : Type 0} (know : P → Know) (w : World P) (pages : List ℕ) → IsGood know w → Each (live (tree_of w)) pages → Each (IsLivePage w.now w.trail) pages
+each_live know w [] g h = tt
+each_live know w (x ∷ xs) g h = (live_page know w x g h.0, each_live know w xs g h.1)
+
 -- the laws, where whoever is in the middle of a compression has the trail say so
 pub laws : {P : Type 0} (know : P → Know) (w : World P) → TellsMiddles w → IsGood know w → HasLaws w.now w.trail (w.map 0)
 laws know w t g =
@@ -77,5 +82,5 @@ laws know w t g =
       overlap = λ x y k h i. overlap (knows w t) g.tree x y k (to x h) (to y i);
       chains = λ level h. let c = has_chain level (knows w t) g.tree h in record { begins = c.begins; rest = c.rest; chain = chain_live know w level _ c.rest g c.chain };
       listing = λ x k c h above look. let o = listing (knows w t) sound g.tree x k c (to x h) above look in record { alive = from c o.alive; lower = o.lower; low = o.low };
-      walks = λ k h. let o = lone_walk k g.tree sound h in record { top_level = o.top_level; is_top = o.is_top; pages = o.pages; leaf = o.leaf; walk = o.walk; alive = from o.leaf o.alive; is_leaf = o.is_leaf; covers = o.covers; once = o.once };
+      walks = λ k h. let o = lone_walk k g.tree sound h in record { top_level = o.top_level; is_top = o.is_top; pages = o.pages; leaf = o.leaf; walk = o.walk; all_live = each_live know w o.pages g o.all_live; alive = from o.leaf o.alive; is_leaf = o.is_leaf; covers = o.covers; once = o.once };
     }

@@ -25,7 +25,7 @@ only_at : {A : Type 0} (m x : A) (k : ℕ) → k < 1 → slice_index_or (m ∷ [
 only_at m x zero l e = sym e
 only_at m x (suc k) l e = absurd (omega arith)
 
-only : {A : Type 0} (m x : A) → Contains (m ∷ []) x → x ≡ m
+pub only : {A : Type 0} (m x : A) → Contains (m ∷ []) x → x ≡ m
 only m x h = only_at m x h.0 h.1 h.2
 
 pub fresh_on : (ms : Trail) (m : Mark) (y : ℕ) → m.event.act ≢ Act.Take y → m.event.act ≢ Act.Latch y → ((x : ℕ) (c : Page) → x ≢ y → m.event.act ≡ Act.Put x c → ⊥) → IsFreshBy ms y → IsFreshBy (ms ++ m ∷ []) y
@@ -48,15 +48,15 @@ fresh_on ms m y no_take no_latch no_put h = record {
   ];
 }
 
+pub no_member : (n : Mark) → Contains [] n → ⊥
+no_member n c = absurd (omega (arith, c.1))
+
 pub fresh_new : (ms : Trail) (m : Mark) (y : ℕ) → m.event.act ≡ Act.Take y → IsFreshBy (ms ++ m ∷ []) y
 fresh_new ms m y e = record {
   taken = record { before = ms; last = m; since = []; split = refl; is = inl e; never_again = λ n c d. no_member n c };
   by_take = e;
   put_no_other = λ x n p. no_member p.mark p.is;
 }
-  where
-    no_member : (n : Mark) → Contains [] n → ⊥
-    no_member n c = absurd (omega (arith, c.1))
 
 -- what was fresh before m, and why
 pub fresh_back : (ms : Trail) (m : Mark) (y : ℕ) → m.event.act ≢ Act.Take y → IsFreshBy (ms ++ m ∷ []) y → IsFreshBy ms y × (m.event.act ≢ Act.Latch y) × ((x : ℕ) (c : Page) → x ≢ y → m.event.act ≡ Act.Put x c → ⊥)

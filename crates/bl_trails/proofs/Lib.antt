@@ -1,4 +1,5 @@
 pub mod Pushes
 pub mod Freshness
+pub mod Middles
 pub mod Legal
 mod Examples

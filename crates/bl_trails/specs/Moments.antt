@@ -48,14 +48,17 @@ pub record IsLivePage (s : State Page) (trail : Trail) (x : ℕ) : Type 0 where
 abbrev pub IsLatch : Act Page Reply → Type 0
 IsLatch a = (x : ℕ) × (a ≡ Act.Latch x)
 
--- One process holds both pages and is between the first put and the last of one compression: since it last latched a page
--- it has put one of the two and not the other.
+-- these are the marks of a process that has put one of the pages and not the other since it last latched a page
+pub record IsMiddleBy (marks : Trail) (x y : ℕ) : Type 0 where
+  pub latched : After marks IsLatch
+  pub put_one : (Puts latched.since x × (Puts latched.since y → ⊥)) ⊎ (Puts latched.since y × (Puts latched.since x → ⊥))
+
+-- One process holds both pages and is between the first put and the last of one compression.
 pub record InMiddle (s : State Page) (trail : Trail) (x y : ℕ) : Type 0 where
   pub holder : Name
   pub held : s.owner x ≡ Held holder
   pub held_right : s.owner y ≡ Held holder
-  pub latched : After (marks_of holder trail) IsLatch
-  pub put_one : (Puts latched.since x × (Puts latched.since y → ⊥)) ⊎ (Puts latched.since y × (Puts latched.since x → ⊥))
+  pub by : IsMiddleBy (marks_of holder trail) x y
 
 -- The same of an evening, after which both pages stay: the left one still links to the right one.
 pub record InEvening (s : State Page) (trail : Trail) (y : ℕ) : Type 0 where
