@@ -1,5 +1,8 @@
 //! The command line.
 
+ghost use Rattle.std.specs.Prelude.{◌≡◌, ◌≤◌, ℕ, Some, None, IfOk};
+ghost use Rattle.bl_cli.specs.Limits.{IsWithinLimits};
+
 use clap::{Arg, Command, Error, value_parser};
 use std::alloc::Global;
 
@@ -23,9 +26,22 @@ pub enum Invocation {
     Nothing,
 }
 
+/// The value of an option, within its limits. clap has refused a value outside them; this keeps the limits also where its
+/// answer is not known to the proof.
+fn held(value: Option<u32>, default: u32, least: u32, most: u32) -> u32
+    requires { least ≤ most }
+    ensures within { (least ≤ result) × (result ≤ most) }
+    ensures kept { (v : ℕ) → value ≡ Some v → least ≤ v → v ≤ most → result ≡ v }
+    ensures absent { value ≡ None → least ≤ default → default ≤ most → result ≡ default }
+{
+    value.unwrap_or(default).clamp(least, most)
+}
+
 /// Reads the words of the command line, of which the first is the program's name. What clap refuses, or asks to be
 /// printed, is its error.
-pub fn read_words(alloc: Global, words: &[String]) -> Result<Invocation, Error> {
+pub fn read_words(alloc: Global, words: &[String]) -> Result<Invocation, Error>
+    ensures { IfOk result IsWithinLimits }
+{
     let pages = Arg::new(alloc, "pages")
         .long("pages")
         .value_name("N")
@@ -56,9 +72,9 @@ pub fn read_words(alloc: Global, words: &[String]) -> Result<Invocation, Error> 
     let matches = blink.try_get_matches_from(words)?;
     match matches.subcommand() {
         Some(("serve", found)) => Ok(Invocation::Serve(ServeOptions {
-            pages: found.get_one::<u32>("pages").unwrap_or(1024),
-            workers: found.get_one::<u32>("workers").unwrap_or(1),
-            compressors: found.get_one::<u32>("compressors").unwrap_or(0),
+            pages: held(found.get_one::<u32>("pages"), 1024, 4, 65536),
+            workers: held(found.get_one::<u32>("workers"), 1, 1, 1),
+            compressors: held(found.get_one::<u32>("compressors"), 0, 0, 0),
         })),
         _ => Ok(Invocation::Nothing),
     }

@@ -12,6 +12,8 @@ mod serve;
 mod tests;
 
 use bl_model::Watched;
+use clap::Error;
+use clap::error::ErrorKind;
 use command::Invocation;
 use fault::CommandFault;
 use serve::serve_leaf;
@@ -19,25 +21,37 @@ use std::io;
 use std::process::ExitCode;
 
 fn main(rt: HostRuntime) -> anyhow::Result<ExitCode> {
+    match carry_out(&rt) {
+        Ok(code) => Ok(code),
+        Err(fault) => {
+            // Where standard error fails too, the status still tells the fault.
+            let _ = eprintln!(&rt; "{fault}");
+            Ok(ExitCode::from(fault.status()))
+        }
+    }
+}
+
+/// Carries out what the command line asks for.
+fn carry_out(rt: &HostRuntime) -> Result<ExitCode, CommandFault> {
     let alloc = rt.alloc();
-    let words: Vec<String> = std::env::args(&rt)?.collect(alloc)?;
+    let words: Vec<String> = std::env::args(rt)?.collect(alloc)?;
     match command::read_words(alloc, words.as_slice()) {
         Ok(Invocation::Serve(_options)) => {
             let mut reader = Watched::new(rt.stdin());
-            let mut writer = Watched::new(io::writer(&rt));
-            match serve_leaf(alloc, &mut reader, &mut writer) {
-                Ok(_totals) => Ok(ExitCode::SUCCESS),
-                Err(fault) => {
-                    let fault = CommandFault::from(fault);
-                    eprintln!(&rt; "{fault}")?;
-                    Ok(ExitCode::from(fault.status()))
-                }
-            }
+            let mut writer = Watched::new(io::writer(rt));
+            serve_leaf(alloc, &mut reader, &mut writer)?;
+            Ok(ExitCode::SUCCESS)
         }
         Ok(Invocation::Nothing) => Ok(ExitCode::from(2)),
-        Err(error) => {
-            error.print(&rt)?;
-            Ok(ExitCode::from((error.exit_code() & 0xff) as u8))
-        }
+        Err(error) => refuse(rt, error),
     }
+}
+
+/// Ends as clap asks: with its text, or for want of memory.
+fn refuse(rt: &HostRuntime, error: Error) -> Result<ExitCode, CommandFault> {
+    if error.kind() == ErrorKind::OutOfMemory {
+        return Err(CommandFault::Memory);
+    }
+    error.print(rt)?;
+    Ok(ExitCode::from((error.exit_code() & 0xff) as u8))
 }
