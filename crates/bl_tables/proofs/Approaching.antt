@@ -199,7 +199,7 @@ module _ {P : Type 0} (know : P → Know) (w : World P) (g : IsGood know w) (p :
     approach_turn (At x) a' (seen.Words c) s low before then t told does = at_turn x a' c t.0 s before then told t.1 t.2 does
     approach_turn (Latching x) a' seen.Done s low before then t told does = latch_turn x s before (rw t at then) told does
     approach_turn (Latching x) a' seen.Missed s low before then t told does = miss_turn x s before (rw t at then) low does
-    approach_turn (Latched x) (Leaving y to) (seen.Words c) s low before then t told does = leave_turn x to c t.1.0 s before (rw t.0 at then) told t.1.1 t.1.2 does
+    approach_turn (Latched x) (Leaving y to) (seen.Words c) s low before then t told does = leave_turn x to c t.1.0 s before (subst (λ z. know b ≡ know_approach level key (Leaving z to)) t.0 then) told t.1.1 t.1.2 does
     approach_turn (Leaving x to) a' seen.Done s low before then t told does = open_turn x to a' s before then t does
     approach_turn a a' (seen.Words c) s low before then t told does = absurd t
     approach_turn a a' seen.Done s low before then t told does = absurd t
