@@ -193,6 +193,11 @@ module _ {P : Type 0} (know : P → Know) (w : World P) (g : IsGood know w) (p :
         opened know w g p b _ (know_approach level key (Latching y)) before (rw t at then) x s sure.holds.0.owner does (inl sure.holds.0.status) refl refl (λ e. cc, tt) (λ z n h. elim h [ inl e ↦ absurd (n (sym e)) | inr i ↦ absurd i ])
         (walks w _ p (Act.Open x) None (goes_to y level level ∷ []) (key < unbounded) sure.stage sure.said sure.goes sure.sound)
 
+    leaving_turn : (x : ℕ) (to : Option ℕ) (a' : Approach) (what : Seen) (s : State Page) → know (w.proc p) ≡ know_approach level key (Leaving x to) → know b ≡ know_approach level key a' → Approaches level key (Leaving x to) what (came.On a') → Does w.now p (event_of None (approach_next (Leaving x to)) what) s → Turned know w p (event_of None (approach_next (Leaving x to)) what) s b
+    leaving_turn x to a' seen.Done s before then t does = open_turn x to a' s before then t does
+    leaving_turn x None a' what s before then t does = absurd t
+    leaving_turn x (Some y) a' what s before then t does = absurd t
+
     -- every turn of the way that does not end it
     pub approach_turn : (a a' : Approach) (what : Seen) (s : State Page) → level ≤ 12 → know (w.proc p) ≡ know_approach level key a → know b ≡ know_approach level key a' → Approaches level key a what (came.On a') → IsTold w.now w.size (approach_next a) what → Does w.now p (event_of None (approach_next a) what) s → Turned know w p (event_of None (approach_next a) what) s b
     approach_turn Start a' (seen.Words c) s low before then t told does = start_turn a' c s before then told t does
@@ -200,7 +205,7 @@ module _ {P : Type 0} (know : P → Know) (w : World P) (g : IsGood know w) (p :
     approach_turn (Latching x) a' seen.Done s low before then t told does = latch_turn x s before (rw t at then) told does
     approach_turn (Latching x) a' seen.Missed s low before then t told does = miss_turn x s before (rw t at then) low does
     approach_turn (Latched x) (Leaving y to) (seen.Words c) s low before then t told does = leave_turn x to c t.1.0 s before (subst (λ z. know b ≡ know_approach level key (Leaving z to)) t.0 then) told t.1.1 t.1.2 does
-    approach_turn (Leaving x to) a' seen.Done s low before then t told does = open_turn x to a' s before then t does
+    approach_turn (Leaving x to) a' what s low before then t told does = leaving_turn x to a' what s before then t does
     approach_turn a a' (seen.Words c) s low before then t told does = absurd t
     approach_turn a a' seen.Done s low before then t told does = absurd t
     approach_turn a a' (seen.Took y) s low before then t told does = absurd t
