@@ -1,5 +1,5 @@
 -- What a process knows in each of its states.
-use Rattle.std.specs.Prelude.{◌≡◌, ℕ, suc, ◌<◌, ◌≤◌, Option, Some, None, List, [], ◌∷◌}
+use Rattle.std.specs.Prelude.{◌≡◌, ◌≢◌, ℕ, suc, ◌<◌, ◌≤◌, Option, Some, None, List, [], ◌∷◌}
 use Rattle.bl_page.specs.declared.page.Page.{Page}
 use Rattle.bl_page.specs.Machine.{Act}
 use Rattle.bl_tree.specs.Nodes.{Node, Covers, unbounded}
@@ -8,7 +8,10 @@ use Rattle.bl_tree.specs.Trees.Status.{Fresh, Live}
 use Rattle.bl_tree.specs.Moves.{IsRow, IsCut}
 use Rattle.bl_laws.specs.Pages.{node_of}
 use Rattle.bl_trails.specs.Trails.{Said}
-use Rattle.bl_steps.specs.Worlds.{Hold, Goes, Child, Stage, Know}
+use Rattle.bl_model.specs.Map.{Map}
+use Rattle.bl_page.specs.Machine.{Name}
+use Rattle.bl_tree.specs.Moves.{MayList}
+use Rattle.bl_steps.specs.Worlds.{Hold, Goes, Child, Stage, Know, World, Each, IsRelied, MapsTo, tree_of}
 use Rattle.bl_proc.specs.declared.approaching.Approach.{Approach}
 use Rattle.bl_proc.specs.declared.approaching.Approach.TheVariants.{Start, At, Latching, Latched, Leaving}
 use Rattle.bl_proc.specs.declared.changing.Outcome.{Outcome}
@@ -50,6 +53,13 @@ pub record Aim : Type 0 where
   pub said : Outcome → Option Said
   pub children : ℕ → List Child
 
+-- What is said fits what is done, to the map on level 0, and to nothing that the map knows above it.
+pub record IsAim (aim : Aim) : Type 1 where
+  pub changed : (o : Outcome) → o ≢ outcome.Refused → (m m' : Map) → (aim.level ≡ 0 → (m aim.key ≡ aim.was) × (m' aim.key ≡ aim.word)) → (aim.level ≢ 0 → m' aim.key ≡ m aim.key) → ((j : ℕ) → j ≢ aim.key → m' j ≡ m j) → MapsTo m m' (aim.said o)
+  pub refused : (m : Map) → (aim.level ≡ 0 → m aim.key ≡ aim.was) → MapsTo m m (aim.said outcome.Refused)
+  -- what is to be listed on a level above 0 is a child that the process relies on
+  pub lists : {P : Type 0} (w : World P) (p : Name) (x : ℕ) → Each (IsRelied w p) (aim.children x) → MayList (tree_of w) aim.level aim.key aim.word
+
 -- a page that is to be changed
 pub record IsDue (aim : Aim) (c : Page) : Type 0 where
   pub level : (node_of c).shape.level ≡ aim.level
@@ -62,5 +72,5 @@ know_change aim got (Putting x page) = record (idle Stage.Busy) { holds = holds_
 know_change aim got (Taking full) = record (idle Stage.Busy) { holds = holds_known full.at full.page ∷ []; children = aim.children full.at; sound = IsDue aim full.page × (full.key ≡ aim.key) × (Some full.word ≡ aim.word) × (got full.at ≡ full.page) }
 know_change aim got (PuttingNew p) = record (idle Stage.Busy) { holds = holds_known p.at (got p.at) ∷ record { at = p.new; status = Fresh; sep = None; page = None } ∷ []; children = aim.children p.at; sound = IsDue aim (got p.at) × IsCut p.new aim.key aim.word (node_of (got p.at)) (node_of p.left) (node_of p.right) }
 know_change aim got (PuttingOld p) = record (idle Stage.Busy) { holds = holds_known p.at (got p.at) ∷ record { at = p.new; status = Fresh; sep = Some (node_of p.right).shape.low; page = Some p.right } ∷ []; children = aim.children p.at; sound = IsDue aim (got p.at) × IsCut p.new aim.key aim.word (node_of (got p.at)) (node_of p.left) (node_of p.right) }
-know_change aim got (OpeningNew x new separator) = record (idle Stage.Busy) { said = aim.said (outcome.Parted separator); holds = holds_live x ∷ holds_live new ∷ [] }
+know_change aim got (OpeningNew x new separator) = record (idle Stage.Busy) { said = aim.said (outcome.Parted separator); holds = holds_live x ∷ holds_live new ∷ []; sound = x ≢ new }
 know_change aim got (Opening x o) = record (idle Stage.Busy) { said = aim.said o; holds = holds_live x ∷ [] }
