@@ -40,7 +40,7 @@ pub enum Approached {
 }
 
 /// From the anchor.
-fn entered(level: u32, anchor: &Page) -> Approach
+pub fn entered(level: u32, anchor: &Page) -> Approach
     ensures { Enters level (roots_of anchor.now) result }
 {
     match anchor {

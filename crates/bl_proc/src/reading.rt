@@ -47,3 +47,15 @@ pub fn levels_of(anchor: &Page) -> u32
         _ => 0,
     }
 }
+
+/// The least key that the page covers, or covered. That of the anchor is 0.
+pub fn low_of(page: &Page) -> u64
+    ensures { result ≡ (node_of page.now).shape.low }
+{
+    match page {
+        Page::Leaf(leaf) => leaf.low,
+        Page::Inner(inner) => inner.low,
+        Page::Dead(dead) => dead.low,
+        Page::Anchor(_) => 0,
+    }
+}
