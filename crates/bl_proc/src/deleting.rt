@@ -123,6 +123,19 @@ fn answer_of(reply: DeleteReply) -> Answer
     }
 }
 
+impl Delete {
+    /// A deletion that is to begin.
+    pub fn new(key: u64) -> Delete
+        ensures key { result.key ≡ key }
+        ensures stage { result.stage ≡ delete_stage.New }
+    {
+        Delete {
+            key,
+            stage: DeleteStage::New,
+        }
+    }
+}
+
 impl Process for Delete {
     ghost next_of = { delete_next };
 

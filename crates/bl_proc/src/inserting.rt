@@ -141,6 +141,21 @@ fn answer_of(reply: InsertReply) -> Answer
     }
 }
 
+impl Insert {
+    /// An insertion that is to begin.
+    pub fn new(key: u64, value: u64) -> Insert
+        ensures key { result.key ≡ key }
+        ensures value { result.value ≡ value }
+        ensures stage { result.stage ≡ insert_stage.New }
+    {
+        Insert {
+            key,
+            value,
+            stage: InsertStage::New,
+        }
+    }
+}
+
 impl Process for Insert {
     ghost next_of = { insert_next };
 

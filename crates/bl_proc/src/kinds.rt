@@ -5,11 +5,11 @@ ghost use Rattle.bl_proc.specs.Processes.{next_of, needs_of, answer_of, Takes, I
 
 use crate::acts::{Action, Seen};
 use crate::answers::Answer;
-use crate::deleting::{Delete, DeleteStage};
-use crate::inserting::{Insert, InsertStage};
+use crate::deleting::Delete;
+use crate::inserting::Insert;
 use crate::machine::Process;
-use crate::posting::{Post, PostStage};
-use crate::searching::{Find, FindStage};
+use crate::posting::Post;
+use crate::searching::Find;
 
 /// A process of any kind.
 #[derive(Drop)]
@@ -29,31 +29,21 @@ impl Proc {
     pub fn find(key: u64) -> Proc
         ensures { IsFind key result }
     {
-        Proc::Find(Find {
-            key,
-            stage: FindStage::New,
-        })
+        Proc::Find(Find::new(key))
     }
 
     /// A process that is to put the value at the key, where the key has none.
     pub fn insert(key: u64, value: u64) -> Proc
         ensures { IsInsert key value result }
     {
-        Proc::Insert(Insert {
-            key,
-            value,
-            stage: InsertStage::New,
-        })
+        Proc::Insert(Insert::new(key, value))
     }
 
     /// A process that is to take the key and its value away.
     pub fn delete(key: u64) -> Proc
         ensures { IsDelete key result }
     {
-        Proc::Delete(Delete {
-            key,
-            stage: DeleteStage::New,
-        })
+        Proc::Delete(Delete::new(key))
     }
 
     /// A process that is to list the page whose low is the key in its parent, which is of that level.
@@ -62,11 +52,7 @@ impl Proc {
         requires most { level ≤ 12 }
         ensures { IsPost level key result }
     {
-        Proc::Post(Post {
-            level,
-            key,
-            stage: PostStage::New,
-        })
+        Proc::Post(Post::new(level, key))
     }
 }
 

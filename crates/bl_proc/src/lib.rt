@@ -36,3 +36,6 @@ pub use machine::Process;
 pub use onwards::Onward;
 pub use posting::{Post, PostReply, PostStage, Walk};
 pub use searching::{Find, FindStage};
+
+#[cfg(test)]
+mod tests;

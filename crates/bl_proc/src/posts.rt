@@ -223,6 +223,23 @@ fn answer_of(level: u32, reply: PostReply) -> Answer
     }
 }
 
+impl Post {
+    /// A post that is to begin.
+    pub fn new(level: u32, key: u64) -> Post
+        requires least { 0 < level }
+        requires most { level ≤ 12 }
+        ensures level { result.level ≡ level }
+        ensures key { result.key ≡ key }
+        ensures stage { result.stage ≡ post_stage.New }
+    {
+        Post {
+            level,
+            key,
+            stage: PostStage::New,
+        }
+    }
+}
+
 impl Process for Post {
     ghost next_of = { post_next };
 

@@ -61,6 +61,19 @@ fn went(key: u64, stage: FindStage, seen: &Seen) -> FindStage
     }
 }
 
+impl Find {
+    /// A search that is to begin.
+    pub fn new(key: u64) -> Find
+        ensures key { result.key ≡ key }
+        ensures stage { result.stage ≡ find_stage.New }
+    {
+        Find {
+            key,
+            stage: FindStage::New,
+        }
+    }
+}
+
 impl Process for Find {
     ghost next_of = { find_next };
 
