@@ -57,12 +57,16 @@ delete_answer_in (Changing value c) = None
 delete_answer_in (Ending r) = None
 delete_answer_in (Over r) = Some (deleted_answer r)
 
--- Once it is at the leaf that covers the key: the pair leaves, or the key is absent.
+-- At the leaf x that covers the key, which is c: the pair leaves, or the key is absent.
+abbrev pub DeleteArrives : ℕ → ℕ → Page → DeleteStage → Type 0
+DeleteArrives key x c (Absent y) = (y ≡ x) × ((node_of c).look key ≡ None)
+DeleteArrives key x c (Changing value change) = ((node_of c).look key ≡ Some value) × DropsPair x c key change
+DeleteArrives key x c stage = ⊥
+
 abbrev pub DeleteGoes : ℕ → DeleteStage → Seen → DeleteStage → Type 0
 DeleteGoes key New seen.Done (Coming a) = a ≡ Start
 DeleteGoes key (Coming a) what (Coming b) = Approaches 0 key a what (came.On b)
-DeleteGoes key (Coming a) what (Absent x) = (c : Page) × Approaches 0 key a what (came.Here x c) × ((node_of c).look key ≡ None)
-DeleteGoes key (Coming a) what (Changing value change) = (x : ℕ) × (c : Page) × Approaches 0 key a what (came.Here x c) × ((node_of c).look key ≡ Some value) × DropsPair x c key change
+DeleteGoes key (Coming a) what new = (x : ℕ) × (c : Page) × Approaches 0 key a what (came.Here x c) × DeleteArrives key x c new
 DeleteGoes key (Absent x) seen.Done (Ending r) = r ≡ deleted.Absent
 DeleteGoes key (Changing value c) what (Changing same d) = (same ≡ value) × Changes c what (change.On d)
 DeleteGoes key (Changing value c) what (Ending r) = (o : Outcome) × Changes c what (change.Over o) × (r ≡ delete_reply value o)

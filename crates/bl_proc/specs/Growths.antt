@@ -1,5 +1,5 @@
 -- A new top level.
-use Rattle.std.specs.Prelude.{◌≡◌, ◌≢◌, ℕ, ◌-◌, Option, None, Some, List, [], ◌∷◌, ◌++◌, length, get_or}
+use Rattle.std.specs.Prelude.{◌≡◌, ◌≢◌, ℕ, ◌<◌, ◌-◌, Option, None, Some, List, [], ◌∷◌, ◌++◌, length, get_or}
 use Rattle.bl_page.specs.declared.page.Page.{Page}
 use Rattle.bl_page.specs.declared.page.Page.TheVariants.{Anchor, Inner}
 use Rattle.bl_laws.specs.Pages.{roots_of}
@@ -52,7 +52,7 @@ abbrev pub Grows : ℕ → Growth → Seen → Grew → Type 0
 Grows level Latching seen.Done (On new) = new ≡ Latched
 Grows level Latching seen.Missed (On new) = new ≡ Latching
 Grows level Latched (seen.Words c) (On (Taking rise)) = (c ≡ Anchor rise.anchor) × ((roots_of c).levels ≡ level)
-Grows level Latched (seen.Words c) (On OpeningGrown) = (roots_of c).levels ≢ level
+Grows level Latched (seen.Words c) (On OpeningGrown) = level < 12 → (roots_of c).levels ≢ level
 Grows level (Taking rise) (seen.Took y) (On (PuttingTop r)) = (r.new ≡ y) × Raises rise.anchor.leftmost.items y r.top r.anchor
 Grows level (Taking rise) seen.Refused (On new) = new ≡ OpeningRefused
 Grows level (PuttingTop r) seen.Done (On new) = new ≡ PuttingAnchor r

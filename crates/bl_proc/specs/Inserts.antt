@@ -64,12 +64,16 @@ insert_answer_in (Changing c) = None
 insert_answer_in (Ending r) = None
 insert_answer_in (Over r) = Some (inserted_answer r)
 
--- Once it is at the leaf that covers the key: the value that stands there is its answer, or the pair enters.
+-- At the leaf x that covers the key, which is c: the value that stands there is its answer, or the pair enters.
+abbrev pub InsertArrives : ℕ → ℕ → ℕ → Page → InsertStage → Type 0
+InsertArrives key value x c (Present y there) = (y ≡ x) × ((node_of c).look key ≡ Some there)
+InsertArrives key value x c (Changing change) = ((node_of c).look key ≡ None) × EntersPair x c key value change
+InsertArrives key value x c stage = ⊥
+
 abbrev pub InsertGoes : ℕ → ℕ → InsertStage → Seen → InsertStage → Type 0
 InsertGoes key value New seen.Done (Coming a) = a ≡ Start
 InsertGoes key value (Coming a) what (Coming b) = Approaches 0 key a what (came.On b)
-InsertGoes key value (Coming a) what (Present x there) = (c : Page) × Approaches 0 key a what (came.Here x c) × ((node_of c).look key ≡ Some there)
-InsertGoes key value (Coming a) what (Changing change) = (x : ℕ) × (c : Page) × Approaches 0 key a what (came.Here x c) × ((node_of c).look key ≡ None) × EntersPair x c key value change
+InsertGoes key value (Coming a) what new = (x : ℕ) × (c : Page) × Approaches 0 key a what (came.Here x c) × InsertArrives key value x c new
 InsertGoes key value (Present x there) seen.Done (Ending r) = r ≡ inserted.Present there
 InsertGoes key value (Changing c) what (Changing d) = Changes c what (change.On d)
 InsertGoes key value (Changing c) what (Ending r) = (o : Outcome) × Changes c what (change.Over o) × (r ≡ insert_reply o)

@@ -14,17 +14,17 @@ use Rattle.bl_proc.specs.declared.answers.Posted.TheVariants as posted
 use Rattle.bl_proc.specs.declared.onwards.Onward.{Onward}
 use Rattle.bl_proc.specs.declared.onwards.Onward.TheVariants.{Again, Right, Down, Here}
 use Rattle.bl_proc.specs.declared.approaching.Approach.{Approach}
-use Rattle.bl_proc.specs.declared.approaching.Approach.TheVariants.{Start}
+use Rattle.bl_proc.specs.declared.approaching.Approach.TheVariants.{Start, At, Latching, Latched, Leaving}
 use Rattle.bl_proc.specs.declared.approaching.Approached.TheVariants as came
 use Rattle.bl_proc.specs.declared.changing.Outcome.{Outcome}
 use Rattle.bl_proc.specs.declared.changing.Outcome.TheVariants as outcome
 use Rattle.bl_proc.specs.declared.changing.Changed.TheVariants as change
-use Rattle.bl_proc.specs.declared.growing.Growth.TheVariants.{Latching}
+use Rattle.bl_proc.specs.declared.growing.Growth.TheVariants as growth
 use Rattle.bl_proc.specs.declared.growing.Grew.TheVariants as grew
 use Rattle.bl_proc.specs.declared.posting.Walk.{Walk}
 use Rattle.bl_proc.specs.declared.posting.Post.{Post}
 use Rattle.bl_proc.specs.declared.posting.PostStage.{PostStage}
-use Rattle.bl_proc.specs.declared.posting.PostStage.TheVariants.{New, Coming, Growing, Walking, Changing, Leaving, Ending, Over}
+use Rattle.bl_proc.specs.declared.posting.PostStage.TheVariants.{New, Coming, Growing, Walking, Changing, Staying, Ending, Over}
 use Rattle.bl_proc.specs.declared.posting.PostReply.{PostReply}
 use Rattle.bl_proc.specs.declared.posting.PostReply.TheVariants as reply
 use Rattle.bl_proc.specs.Onwards.{Leads}
@@ -53,7 +53,7 @@ post_next_in (Coming a) = approach_next a
 post_next_in (Growing g) = growth_next g
 post_next_in (Walking w) = act.Get w.child
 post_next_in (Changing c) = change_next c
-post_next_in (Leaving x r) = act.Open x
+post_next_in (Staying x r) = act.Open x
 post_next_in (Ending r) = act.End
 post_next_in (Over r) = act.End
 
@@ -63,7 +63,7 @@ post_needs_in (Coming a) = None
 post_needs_in (Growing g) = growth_needs g
 post_needs_in (Walking w) = None
 post_needs_in (Changing c) = change_needs c
-post_needs_in (Leaving x r) = None
+post_needs_in (Staying x r) = None
 post_needs_in (Ending r) = None
 post_needs_in (Over r) = None
 
@@ -73,7 +73,7 @@ post_answer_in level (Coming a) = None
 post_answer_in level (Growing g) = None
 post_answer_in level (Walking w) = None
 post_answer_in level (Changing c) = None
-post_answer_in level (Leaving x r) = None
+post_answer_in level (Staying x r) = None
 post_answer_in level (Ending r) = None
 post_answer_in level (Over r) = Some (posted_answer level r)
 
@@ -82,13 +82,13 @@ post_answer_in level (Over r) = Some (posted_answer level r)
 abbrev pub PostStarts : ℕ → ℕ → Page → PostStage → Type 0
 PostStarts level key c (Ending reply.Stale) = (roots_of c).levels < level
 PostStarts level key c (Ending reply.TooTall) = ((roots_of c).levels ≡ level) × (level ≡ 12)
-PostStarts level key c (Growing Latching) = ((roots_of c).levels ≡ level) × (level ≢ 12)
+PostStarts level key c (Growing growth.Latching) = ((roots_of c).levels ≡ level) × (level ≢ 12)
 PostStarts level key c (Coming a) = (level < (roots_of c).levels) × Approaches level key Start (seen.Words c) (came.On a)
 PostStarts level key c stage = ⊥
 
 -- At the parent x, which is c: it lists the key, or the walk to the child that covers the key begins with the key's child.
 abbrev pub PostArrives : ℕ → ℕ → Page → PostStage → Type 0
-PostArrives key x c (Leaving y reply.Already) = (y ≡ x) × ((child : ℕ) × ((node_of c).look key ≡ Some child))
+PostArrives key x c (Staying y reply.Already) = (y ≡ x) × ((child : ℕ) × ((node_of c).look key ≡ Some child))
 PostArrives key x c (Walking w) = (w.at ≡ x) × (w.key ≡ key) × (c ≡ Inner w.parent) × IsChildOf (node_of c).look key w.child
 PostArrives key x c stage = ⊥
 
@@ -101,18 +101,25 @@ IsLost key c Here = (node_of c).shape.low ≢ key
 
 -- A walk has got c, on its way to the page one level below the parent that covers the key. Where that page's low is the
 -- key, the parent is to list it.
-abbrev pub PostWalks : ℕ → ℕ → Walk → Page → PostStage → Type 0
-PostWalks level key w c (Walking v) = (v.at ≡ w.at) × (v.key ≡ w.key) × (v.parent ≡ w.parent) × Leads c key (level - 1) (Right v.child)
-PostWalks level key w c (Changing change) = Leads c key (level - 1) Here × ((node_of c).shape.low ≡ key) × EntersPair w.at (Inner w.parent) key w.child change
-PostWalks level key w c (Leaving x reply.Stale) = (x ≡ w.at) × ((o : Onward) × Leads c key (level - 1) o × IsLost key c o)
-PostWalks level key w c stage = ⊥
+abbrev pub PostWalks : ℕ → Walk → Page → PostStage → Type 0
+PostWalks level w c (Walking v) = (v.at ≡ w.at) × (v.key ≡ w.key) × (v.parent ≡ w.parent) × Leads c w.key (level - 1) (Right v.child)
+PostWalks level w c (Changing change) = Leads c w.key (level - 1) Here × ((node_of c).shape.low ≡ w.key) × EntersPair w.at (Inner w.parent) w.key w.child change
+PostWalks level w c (Staying x reply.Stale) = (x ≡ w.at) × ((o : Onward) × Leads c w.key (level - 1) o × IsLost w.key c o)
+PostWalks level w c stage = ⊥
 
--- On the way: the post itself looks at the anchor, and the approach does all else, until it is at the parent.
+-- On the way, past the anchor.
+abbrev pub PostNears : ℕ → ℕ → Approach → Seen → PostStage → Type 0
+PostNears level key a what (Coming b) = Approaches level key a what (came.On b)
+PostNears level key a what new = (x : ℕ) × (c : Page) × Approaches level key a what (came.Here x c) × PostArrives key x c new
+
+-- The post itself looks at the anchor, and the approach does all else, until it is at the parent.
 abbrev pub PostComes : ℕ → ℕ → Approach → Seen → PostStage → Type 0
 PostComes level key Start (seen.Words c) new = PostStarts level key c new
 PostComes level key Start what new = ⊥
-PostComes level key a what (Coming b) = Approaches level key a what (came.On b)
-PostComes level key a what new = (x : ℕ) × (c : Page) × Approaches level key a what (came.Here x c) × PostArrives key x c new
+PostComes level key (At x) what new = PostNears level key (At x) what new
+PostComes level key (Latching x) what new = PostNears level key (Latching x) what new
+PostComes level key (Latched x) what new = PostNears level key (Latched x) what new
+PostComes level key (Leaving x to) what new = PostNears level key (Leaving x to) what new
 
 -- When a growth is over, the way begins again; where there was no room, the post ends.
 abbrev pub PostGoes : ℕ → ℕ → PostStage → Seen → PostStage → Type 0
@@ -121,10 +128,10 @@ PostGoes level key (Coming a) what new = PostComes level key a what new
 PostGoes level key (Growing g) what (Growing h) = Grows level g what (grew.On h)
 PostGoes level key (Growing g) what (Coming a) = Grows level g what grew.Grown × (a ≡ Start)
 PostGoes level key (Growing g) what (Ending r) = Grows level g what grew.Refused × (r ≡ reply.NoRoom)
-PostGoes level key (Walking w) (seen.Words c) new = PostWalks level key w c new
+PostGoes level key (Walking w) (seen.Words c) new = PostWalks level w c new
 PostGoes level key (Changing c) what (Changing d) = Changes c what (change.On d)
 PostGoes level key (Changing c) what (Ending r) = (o : Outcome) × Changes c what (change.Over o) × (r ≡ post_reply o)
-PostGoes level key (Leaving x r) seen.Done (Ending last) = last ≡ r
+PostGoes level key (Staying x r) seen.Done (Ending last) = last ≡ r
 PostGoes level key (Ending r) seen.Done (Over last) = last ≡ r
 PostGoes level key old what new = ⊥
 

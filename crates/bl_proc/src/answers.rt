@@ -38,7 +38,7 @@ pub enum Posted {
 }
 
 /// The answer of a process, by its kind.
-#[derive(Drop)]
+#[derive(Debug, PartialEq, Eq, Drop)]
 pub enum Answer {
     /// The reply to an operation on the map.
     Op(Reply, Option<Hint>),

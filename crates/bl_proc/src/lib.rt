@@ -10,14 +10,18 @@
 mod acts;
 mod answers;
 mod approaching;
+mod changes;
 mod changing;
 mod deleting;
 mod growing;
+mod growths;
 mod inserting;
 mod kinds;
 mod machine;
 mod onwards;
 mod posting;
+mod posts;
+mod reading;
 mod searching;
 
 pub use acts::{Action, Seen};
@@ -32,3 +36,6 @@ pub use machine::Process;
 pub use onwards::Onward;
 pub use posting::{Post, PostReply, PostStage, Walk};
 pub use searching::{Find, FindStage};
+
+#[cfg(test)]
+mod tests;

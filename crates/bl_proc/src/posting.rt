@@ -49,7 +49,7 @@ pub enum PostStage {
     /// It changes the parent.
     Changing(Change),
     /// It holds the parent with that number, which stays as it is, and is to open it.
-    Leaving(u32, PostReply),
+    Staying(u32, PostReply),
     /// It is to end.
     Ending(PostReply),
     /// It has ended.
