@@ -108,7 +108,7 @@ module _ {P : Type 0} (know : P → Know) (w : World P) (g : IsGood know w) (p :
 
   module _ (b : P) (level key : ℕ) where
     -- after a get without a latch
-    got_goes : (k : Know) (x : ℕ) (s : State Page) (gs : List Goes) → know (w.proc p) ≡ k → k.holds ≡ [] → k.middle ≡ None → know b ≡ record (idle Stage.Busy) { goes = gs; sound = key < unbounded } → IsStage Stage.Busy (w.now.phase p) → HasSaid w.trail p None → w.now.owner x ≢ Owner.Released → Does w.now p (Get x) s → key < unbounded → Each (IsGoes w p) gs → Turned know w p (Get x) s b
+    pub got_goes : (k : Know) (x : ℕ) (s : State Page) (gs : List Goes) → know (w.proc p) ≡ k → k.holds ≡ [] → k.middle ≡ None → know b ≡ record (idle Stage.Busy) { goes = gs; sound = key < unbounded } → IsStage Stage.Busy (w.now.phase p) → HasSaid w.trail p None → w.now.owner x ≢ Owner.Released → Does w.now p (Get x) s → key < unbounded → Each (IsGoes w p) gs → Turned know w p (Get x) s b
     got_goes k x s gs before none mid then stage said there does below may =
         watched know w g p b k (record (idle Stage.Busy) { goes = gs; sound = key < unbounded }) before then (Get x) (Some (w.now.contents x)) None s tt (stage, there) does refl (sym mid)
         (λ y h. absurd (rw none at h)) (λ it e. cc) (λ j. refl)

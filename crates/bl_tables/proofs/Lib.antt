@@ -1,3 +1,5 @@
 pub mod Acts
 pub mod Approaching
 pub mod Changing
+pub mod Ends
+pub mod Finding
