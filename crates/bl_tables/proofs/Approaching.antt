@@ -36,6 +36,59 @@ dead_end (Leaf l) h = absurd h
 dead_end (Inner i) h = absurd h
 dead_end (Dead d) h = refl
 
+-- the way ends by a get of a page that is held
+abbrev pub IsArrival : Approach → Seen → Type 0
+IsArrival Start what = ⊥
+IsArrival (At x) what = ⊥
+IsArrival (Latching x) what = ⊥
+IsArrival (Leaving x to) what = ⊥
+IsArrival (Latched x) (seen.Words c) = Unit {0}
+IsArrival (Latched x) what = ⊥
+
+pub arrival : (level key : ℕ) (a : Approach) (what : Seen) (y : ℕ) (d : Page) → Approaches level key a what (came.Here y d) → IsArrival a what
+arrival level key (Latched x) (seen.Words c) y d h = tt
+arrival level key Start (seen.Words c) y d h = absurd h
+arrival level key Start seen.Done y d h = absurd h
+arrival level key Start (seen.Took n) y d h = absurd h
+arrival level key Start (seen.Owner retired started own) y d h = absurd h
+arrival level key Start (seen.Blocks it) y d h = absurd h
+arrival level key Start seen.Missed y d h = absurd h
+arrival level key Start seen.Refused y d h = absurd h
+arrival level key (At x) (seen.Words c) y d h = absurd h
+arrival level key (At x) seen.Done y d h = absurd h
+arrival level key (At x) (seen.Took n) y d h = absurd h
+arrival level key (At x) (seen.Owner retired started own) y d h = absurd h
+arrival level key (At x) (seen.Blocks it) y d h = absurd h
+arrival level key (At x) seen.Missed y d h = absurd h
+arrival level key (At x) seen.Refused y d h = absurd h
+arrival level key (Latching x) (seen.Words c) y d h = absurd h
+arrival level key (Latching x) seen.Done y d h = absurd h
+arrival level key (Latching x) (seen.Took n) y d h = absurd h
+arrival level key (Latching x) (seen.Owner retired started own) y d h = absurd h
+arrival level key (Latching x) (seen.Blocks it) y d h = absurd h
+arrival level key (Latching x) seen.Missed y d h = absurd h
+arrival level key (Latching x) seen.Refused y d h = absurd h
+arrival level key (Leaving x None) (seen.Words c) y d h = absurd h
+arrival level key (Leaving x None) seen.Done y d h = absurd h
+arrival level key (Leaving x None) (seen.Took n) y d h = absurd h
+arrival level key (Leaving x None) (seen.Owner retired started own) y d h = absurd h
+arrival level key (Leaving x None) (seen.Blocks it) y d h = absurd h
+arrival level key (Leaving x None) seen.Missed y d h = absurd h
+arrival level key (Leaving x None) seen.Refused y d h = absurd h
+arrival level key (Leaving x (Some z)) (seen.Words c) y d h = absurd h
+arrival level key (Leaving x (Some z)) seen.Done y d h = absurd h
+arrival level key (Leaving x (Some z)) (seen.Took n) y d h = absurd h
+arrival level key (Leaving x (Some z)) (seen.Owner retired started own) y d h = absurd h
+arrival level key (Leaving x (Some z)) (seen.Blocks it) y d h = absurd h
+arrival level key (Leaving x (Some z)) seen.Missed y d h = absurd h
+arrival level key (Leaving x (Some z)) seen.Refused y d h = absurd h
+arrival level key (Latched x) seen.Done y d h = absurd h
+arrival level key (Latched x) (seen.Took n) y d h = absurd h
+arrival level key (Latched x) (seen.Owner retired started own) y d h = absurd h
+arrival level key (Latched x) (seen.Blocks it) y d h = absurd h
+arrival level key (Latched x) seen.Missed y d h = absurd h
+arrival level key (Latched x) seen.Refused y d h = absurd h
+
 -- A process that holds no page, or one, and may go to some.
 pub walks : {P : Type 0} (w w' : World P) (p : Name) (a : Act Page _) (saw : Option Page) (goes : List Goes) (S : Type 0) → IsStage Stage.Busy (w.now.phase p) → HasSaid w.trail p None → Each (IsGoes w p) goes → S → Learns w w' (record { event = record { process = p; act = a }; saw = saw; said = None }) (record (idle Stage.Busy) { goes = goes; sound = S })
 walks w w' p a saw goes S stage said may s = record {

@@ -112,6 +112,60 @@ refused_maps know w aim x g fine live due =
     (let e = g.tree.agree x aim.key (rw live live_live) due.covers in let l = due.level in sym (rw l at e) ∙ due.was) in
     fine.refused (w.map 0) (λ zero. rw zero at before)
 
+-- a change ends when its page is opened
+abbrev pub IsLast : Change → Seen → Type 0
+IsLast (Putting x page) what = ⊥
+IsLast (Taking full) what = ⊥
+IsLast (PuttingNew u) what = ⊥
+IsLast (PuttingOld u) what = ⊥
+IsLast (OpeningNew x y separator) what = ⊥
+IsLast (Opening x o) seen.Done = Unit {0}
+IsLast (Opening x o) what = ⊥
+
+pub last : (c : Change) (what : Seen) (o : Outcome) → Changes c what (Over o) → IsLast c what
+last (Opening x o) seen.Done r h = tt
+last (Putting x page) (seen.Words q) r h = absurd h
+last (Putting x page) seen.Done r h = absurd h
+last (Putting x page) (seen.Took y) r h = absurd h
+last (Putting x page) (seen.Owner retired started own) r h = absurd h
+last (Putting x page) (seen.Blocks it) r h = absurd h
+last (Putting x page) seen.Missed r h = absurd h
+last (Putting x page) seen.Refused r h = absurd h
+last (Taking full) (seen.Words q) r h = absurd h
+last (Taking full) seen.Done r h = absurd h
+last (Taking full) (seen.Took y) r h = absurd h
+last (Taking full) (seen.Owner retired started own) r h = absurd h
+last (Taking full) (seen.Blocks it) r h = absurd h
+last (Taking full) seen.Missed r h = absurd h
+last (Taking full) seen.Refused r h = absurd h
+last (PuttingNew u) (seen.Words q) r h = absurd h
+last (PuttingNew u) seen.Done r h = absurd h
+last (PuttingNew u) (seen.Took y) r h = absurd h
+last (PuttingNew u) (seen.Owner retired started own) r h = absurd h
+last (PuttingNew u) (seen.Blocks it) r h = absurd h
+last (PuttingNew u) seen.Missed r h = absurd h
+last (PuttingNew u) seen.Refused r h = absurd h
+last (PuttingOld u) (seen.Words q) r h = absurd h
+last (PuttingOld u) seen.Done r h = absurd h
+last (PuttingOld u) (seen.Took y) r h = absurd h
+last (PuttingOld u) (seen.Owner retired started own) r h = absurd h
+last (PuttingOld u) (seen.Blocks it) r h = absurd h
+last (PuttingOld u) seen.Missed r h = absurd h
+last (PuttingOld u) seen.Refused r h = absurd h
+last (OpeningNew x z separator) (seen.Words q) r h = absurd h
+last (OpeningNew x z separator) seen.Done r h = absurd h
+last (OpeningNew x z separator) (seen.Took y) r h = absurd h
+last (OpeningNew x z separator) (seen.Owner retired started own) r h = absurd h
+last (OpeningNew x z separator) (seen.Blocks it) r h = absurd h
+last (OpeningNew x z separator) seen.Missed r h = absurd h
+last (OpeningNew x z separator) seen.Refused r h = absurd h
+last (Opening x o) (seen.Words q) r h = absurd h
+last (Opening x o) (seen.Took y) r h = absurd h
+last (Opening x o) (seen.Owner retired started own) r h = absurd h
+last (Opening x o) (seen.Blocks it) r h = absurd h
+last (Opening x o) seen.Missed r h = absurd h
+last (Opening x o) seen.Refused r h = absurd h
+
 module _ {P : Type 0} (know : P → Know) (w : World P) (g : IsGood know w) (p : Name) (b : P) (aim : Aim) (fine : IsAim aim) (got : ℕ → Page) where
   -- the page is put, with the pair
   pub row_turn : (x : ℕ) (page : Page) (s : State Page) → know (w.proc p) ≡ know_change aim got (Putting x page) → know b ≡ know_change aim got (Opening x outcome.Changed) → Does w.now p (Put x page) s → Turned know w p (Put x page) s b
@@ -383,3 +437,19 @@ module _ {P : Type 0} (know : P → Know) (w : World P) (g : IsGood know w) (p :
       ends (seen.Blocks it) h = h
       ends seen.Missed h = h
       ends seen.Refused h = h
+
+  -- every turn that ends a change
+  pub finish_turn : (c : Change) (o : Outcome) (what : Seen) (S : Type 0) (s : State Page) → know (w.proc p) ≡ know_change aim got c → know b ≡ record (idle Stage.Busy) { said = aim.said o; sound = S } → S → Changes c what (Over o) → Does w.now p (event_of None (change_next c) what) s → Turned know w p (event_of None (change_next c) what) s b
+  finish_turn (Opening x u) o seen.Done S s before then sound t does =
+      over_turn x u S s before (subst (λ z. know b ≡ record (idle Stage.Busy) { said = aim.said z; sound = S }) t then) sound does
+  finish_turn (Putting x page) o what S s before then sound t does = absurd (last (Putting x page) what o t)
+  finish_turn (Taking full) o what S s before then sound t does = absurd (last (Taking full) what o t)
+  finish_turn (PuttingNew u) o what S s before then sound t does = absurd (last (PuttingNew u) what o t)
+  finish_turn (PuttingOld u) o what S s before then sound t does = absurd (last (PuttingOld u) what o t)
+  finish_turn (OpeningNew x z separator) o what S s before then sound t does = absurd (last (OpeningNew x z separator) what o t)
+  finish_turn (Opening x u) o (seen.Words page) S s before then sound t does = absurd t
+  finish_turn (Opening x u) o (seen.Took y) S s before then sound t does = absurd t
+  finish_turn (Opening x u) o (seen.Owner retired started own) S s before then sound t does = absurd t
+  finish_turn (Opening x u) o (seen.Blocks it) S s before then sound t does = absurd t
+  finish_turn (Opening x u) o seen.Missed S s before then sound t does = absurd t
+  finish_turn (Opening x u) o seen.Refused S s before then sound t does = absurd t

@@ -3,3 +3,5 @@ pub mod Approaching
 pub mod Changing
 pub mod Ends
 pub mod Finding
+pub mod Entering
+pub mod Inserting

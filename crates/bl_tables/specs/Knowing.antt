@@ -10,6 +10,8 @@ use Rattle.bl_tree.specs.Trees.Status.{Fresh, Live, Anchored}
 use Rattle.bl_laws.specs.Pages.{node_of, roots_of}
 use Rattle.bl_trails.specs.Trails.{Said}
 use Rattle.bl_steps.specs.Worlds.{Hold, Stage, Know}
+use Rattle.bl_proc.specs.declared.acts.Seen.{Seen}
+use Rattle.bl_proc.specs.declared.acts.Seen.TheVariants as seen
 use Rattle.bl_proc.specs.declared.searching.Find.{Find}
 use Rattle.bl_proc.specs.declared.searching.FindStage.TheVariants as find
 use Rattle.bl_proc.specs.declared.searching.FindStage.{FindStage}
@@ -183,3 +185,37 @@ end_of_proc (proc.Find p) = find_end p.stage
 end_of_proc (proc.Insert p) = insert_end p.stage
 end_of_proc (proc.Delete p) = delete_end p.stage
 end_of_proc (proc.Post p) = None
+
+-- what a process has got of the pages that it holds, after it was told this
+abbrev pub insert_got : (ℕ → Page) → InsertStage → Seen → ℕ → Page
+insert_got got (insert.Coming a) (seen.Words c) = λ x. c
+insert_got got stage what = got
+
+abbrev pub delete_got : (ℕ → Page) → DeleteStage → Seen → ℕ → Page
+delete_got got (delete.Coming a) (seen.Words c) = λ x. c
+delete_got got stage what = got
+
+abbrev pub post_got : (ℕ → Page) → PostStage → Seen → ℕ → Page
+post_got got (post.Growing g) (seen.Words c) = λ x. c
+post_got got (post.Walking w) what = λ x. Inner w.parent
+post_got got stage what = got
+
+abbrev pub post_child : ℕ → PostStage → ℕ
+post_child child (post.Walking w) = w.child
+post_child child stage = child
+
+abbrev pub got_next : (ℕ → Page) → Proc → Seen → ℕ → Page
+got_next got (proc.Find p) what = got
+got_next got (proc.Insert p) what = insert_got got p.stage what
+got_next got (proc.Delete p) what = delete_got got p.stage what
+got_next got (proc.Post p) what = post_got got p.stage what
+
+abbrev pub child_next : ℕ → Proc → ℕ
+child_next child (proc.Find p) = child
+child_next child (proc.Insert p) = child
+child_next child (proc.Delete p) = child
+child_next child (proc.Post p) = post_child child p.stage
+
+-- the process after it was told this, in that state
+abbrev pub run_next : Run → Seen → Proc → Run
+run_next r what state = record { state = state; got = got_next r.got r.state what; child = child_next r.child r.state }
