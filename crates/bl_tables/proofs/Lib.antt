@@ -5,3 +5,4 @@ pub mod Ends
 pub mod Finding
 pub mod Entering
 pub mod Inserting
+pub mod Deleting
