@@ -6,3 +6,4 @@ pub mod Finding
 pub mod Entering
 pub mod Inserting
 pub mod Deleting
+pub mod Growing
