@@ -204,7 +204,7 @@ module _ {P : Type 0} (know : P → Know) (w : World P) (g : IsGood know w) (p :
           };
           live = held.status;
           row = row;
-          child = rw due.level (fine.lists w p x is.children);
+          child = rw due.level (fine.lists w p x due.level is.children);
           none_fresh = λ z o. of_held know w g p b _ _ before then (λ y a. a ≢ Fresh) (λ e. cc, tt) z o;
           middle = rw (before, then) refl;
           status = refl;
@@ -367,7 +367,7 @@ module _ {P : Type 0} (know : P → Know) (w : World P) (g : IsGood know w) (p :
           only = λ z o h. of_held know w g p b _ _ before then (λ y a. a ≡ Fresh → y ≡ t.new) (λ e. absurd (let c : Live ≡ Fresh = e in cc), (λ e. refl, tt)) z o h;
           cut = cut;
           y_sep = fresh.sep ∙ ap (λ c. (node_of c).shape.low) (sym right);
-          child = rw due.level (fine.lists w p t.at is.children);
+          child = rw due.level (fine.lists w p t.at due.level is.children);
           no_middle = rw before refl;
           status = status;
           sep = refl;

@@ -41,7 +41,7 @@ pub delete_fine : (key value : ℕ) → IsAim (delete_aim key value)
 delete_fine key value = record {
   changed = changed;
   refused = λ m h. (rw (h refl) refl, λ k. refl);
-  lists = λ w p x h l c e f. absurd (omega (arith, e));
+  lists = λ w p x d h l c e f. absurd (omega (arith, e));
 }
   where
     changed : (o : Outcome) → o ≢ outcome.Refused → (m m' : Map) → ((◌≡◌ {A = ℕ} 0 0) → (m key ≡ Some value) × (m' key ≡ None)) → ((◌≢◌ {A = ℕ} 0 0) → m' key ≡ m key) → ((j : ℕ) → j ≢ key → m' j ≡ m j) → MapsTo m m' (deletes key (delete_reply value o))

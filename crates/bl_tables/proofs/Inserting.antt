@@ -42,7 +42,7 @@ pub insert_fine : (key value : ℕ) → IsAim (insert_aim key value)
 insert_fine key value = record {
   changed = changed;
   refused = λ m h. (h refl, λ k. refl);
-  lists = λ w p x h l c e f. absurd (omega (arith, e));
+  lists = λ w p x d h l c e f. absurd (omega (arith, e));
 }
   where
     changed : (o : Outcome) → o ≢ outcome.Refused → (m m' : Map) → ((◌≡◌ {A = ℕ} 0 0) → (m key ≡ None) × (m' key ≡ Some value)) → ((◌≢◌ {A = ℕ} 0 0) → m' key ≡ m key) → ((j : ℕ) → j ≢ key → m' j ≡ m j) → MapsTo m m' (inserts key value (insert_reply o))

@@ -7,3 +7,4 @@ pub mod Entering
 pub mod Inserting
 pub mod Deleting
 pub mod Growing
+pub mod Posting

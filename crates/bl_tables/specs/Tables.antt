@@ -11,7 +11,7 @@ use Rattle.bl_trails.specs.Trails.{Said}
 use Rattle.bl_model.specs.Map.{Map}
 use Rattle.bl_page.specs.Machine.{Name}
 use Rattle.bl_tree.specs.Moves.{MayList}
-use Rattle.bl_steps.specs.Worlds.{Hold, Goes, Child, Stage, Know, World, Each, IsRelied, MapsTo, tree_of}
+use Rattle.bl_steps.specs.Worlds.{Hold, Goes, Child, Stage, Know, World, Each, IsRelied, MapsTo, nodes, tree_of}
 use Rattle.bl_proc.specs.declared.approaching.Approach.{Approach}
 use Rattle.bl_proc.specs.declared.approaching.Approach.TheVariants.{Start, At, Latching, Latched, Leaving}
 use Rattle.bl_proc.specs.declared.changing.Outcome.{Outcome}
@@ -58,7 +58,7 @@ pub record IsAim (aim : Aim) : Type 1 where
   pub changed : (o : Outcome) → o ≢ outcome.Refused → (m m' : Map) → (aim.level ≡ 0 → (m aim.key ≡ aim.was) × (m' aim.key ≡ aim.word)) → (aim.level ≢ 0 → m' aim.key ≡ m aim.key) → ((j : ℕ) → j ≢ aim.key → m' j ≡ m j) → MapsTo m m' (aim.said o)
   pub refused : (m : Map) → (aim.level ≡ 0 → m aim.key ≡ aim.was) → MapsTo m m (aim.said outcome.Refused)
   -- what is to be listed on a level above 0 is a child that the process relies on
-  pub lists : {P : Type 0} (w : World P) (p : Name) (x : ℕ) → Each (IsRelied w p) (aim.children x) → MayList (tree_of w) aim.level aim.key aim.word
+  pub lists : {P : Type 0} (w : World P) (p : Name) (x : ℕ) → (nodes w.now x).shape.level ≡ aim.level → Each (IsRelied w p) (aim.children x) → MayList (tree_of w) aim.level aim.key aim.word
 
 -- a page that is to be changed
 pub record IsDue (aim : Aim) (c : Page) : Type 0 where
