@@ -8,3 +8,4 @@ pub mod Inserting
 pub mod Deleting
 pub mod Growing
 pub mod Posting
+pub mod Turning

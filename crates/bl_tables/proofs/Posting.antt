@@ -249,3 +249,101 @@ module _ {P : Type 0} (know : P → Know) (w : World P) (g : IsGood know w) (p :
     walks_turn (post.Staying y reply.Already) got' child' same own then t = absurd t
     walks_turn (post.Staying y reply.NoRoom) got' child' same own then t = absurd t
     walks_turn (post.Staying y reply.TooTall) got' child' same own then t = absurd t
+
+  -- the parent stays as it is, and is opened
+  stay_turn : (x : ℕ) (s : State Page) → know (w.proc p) ≡ record (idle Stage.Busy) { holds = holds_live x ∷ [] } → know b ≡ ending None → Does w.now p (Act.Open x) s → Turned know w p (Act.Open x) s b
+  stay_turn x s before then does =
+      let is : IsSure w p (record (idle Stage.Busy) { holds = holds_live x ∷ [] }) = rw before at (g.sure p) in
+      opened know w g p b _ _ before then x s is.holds.0.owner does (inl is.holds.0.status) refl refl (λ e. cc, tt)
+      (λ z n h. elim h [ inl e ↦ absurd (n (sym e)) | inr u ↦ absurd u ])
+      (walks w _ p (Act.Open x) None [] (Unit {0}) is.stage is.said tt tt)
+
+  grow_turn : (h : Growth) (a' : PostStage) (got : ℕ → Page) (child : ℕ) (what : Seen) (s : State Page) → know (w.proc p) ≡ know_growth level key got h → know b ≡ know_post level key (post_got got (post.Growing h) what) child a' → PostGoes level key (post.Growing h) what a' → IsTold w.now w.size (growth_next h) what → Does w.now p (event_of None (growth_next h) what) s → Turned know w p (event_of None (growth_next h) what) s b
+  grow_turn h (post.Growing d) got child what s before then t told does = growing.growth_turn know w g p b level key h d got what s before then t told does
+  grow_turn h (post.Coming a) got child what s before then t told does = growing.over_turn know w g p b level key h got what s before (rw t.1 at then) t.0 does
+  grow_turn h (post.Ending r) got child what s before then t told does = growing.no_room_turn know w g p b level key h got what s before then t.0 does
+  grow_turn h post.New got child what s before then t told does = absurd t
+  grow_turn h (post.Walking u) got child what s before then t told does = absurd t
+  grow_turn h (post.Changing d) got child what s before then t told does = absurd t
+  grow_turn h (post.Staying y last) got child what s before then t told does = absurd t
+  grow_turn h (post.Over last) got child what s before then t told does = absurd t
+
+  change_ends : (c : Change) (a' : PostStage) (got : ℕ → Page) (child : ℕ) (what : Seen) (s : State Page) → know (w.proc p) ≡ know_change (post_aim level key child) got c → know b ≡ know_post level key got child a' → PostGoes level key (post.Changing c) what a' → IsTold w.now w.size (change_next c) what → Does w.now p (event_of None (change_next c) what) s → Turned know w p (event_of None (change_next c) what) s b
+  change_ends c (post.Changing d) got child what s before then t told does = change_turn know w g p b (post_aim level key child) (post_fine level key child least) got c d what s before then t told does
+  change_ends c (post.Ending r) got child what s before then (o, t, same) told does = finish_turn know w g p b (post_aim level key child) (post_fine level key child least) got c o what _ s before then tt t does
+  change_ends c post.New got child what s before then t told does = absurd t
+  change_ends c (post.Coming a) got child what s before then t told does = absurd t
+  change_ends c (post.Growing d) got child what s before then t told does = absurd t
+  change_ends c (post.Walking u) got child what s before then t told does = absurd t
+  change_ends c (post.Staying y last) got child what s before then t told does = absurd t
+  change_ends c (post.Over last) got child what s before then t told does = absurd t
+
+  -- every turn of a post
+  pub post_turn : (a a' : PostStage) (got : ℕ → Page) (child : ℕ) (what : Seen) (s : State Page) → know (w.proc p) ≡ know_post level key got child a → know b ≡ know_post level key (post_got got a what) (post_child child a) a' → PostGoes level key a what a' → IsTold w.now w.size (post_next_in a) what → Does w.now p (event_of None (post_next_in a) what) s → Turned know w p (event_of None (post_next_in a) what) s b
+  post_turn (post.Coming a) a' got child what s before then t told does = comes_turn a a' got child what s before then t told does
+  post_turn (post.Growing h) a' got child what s before then t told does = grow_turn h a' got child what s before then t told does
+  post_turn (post.Walking v) a' got child (seen.Words c) s before then t told does =
+      walks_turn v got child s before does a' (λ z. Inner v.parent) v.child refl refl then (subst (λ z. PostWalks level v z a') told t)
+  post_turn (post.Changing c) a' got child what s before then t told does = change_ends c a' got child what s before then t told does
+  post_turn (post.Walking v) a' got child seen.Done s before then t told does = absurd t
+  post_turn (post.Walking v) a' got child (seen.Took n) s before then t told does = absurd t
+  post_turn (post.Walking v) a' got child (seen.Owner retired started own) s before then t told does = absurd t
+  post_turn (post.Walking v) a' got child (seen.Blocks it) s before then t told does = absurd t
+  post_turn (post.Walking v) a' got child seen.Missed s before then t told does = absurd t
+  post_turn (post.Walking v) a' got child seen.Refused s before then t told does = absurd t
+  post_turn post.New post.New got child seen.Done s before then t told does = absurd t
+  post_turn post.New (post.Coming a') got child seen.Done s before then t told does = begin_turn know w g p b key s before (rw t at then) does
+  post_turn post.New (post.Growing d) got child seen.Done s before then t told does = absurd t
+  post_turn post.New (post.Walking u) got child seen.Done s before then t told does = absurd t
+  post_turn post.New (post.Changing d) got child seen.Done s before then t told does = absurd t
+  post_turn post.New (post.Staying y last) got child seen.Done s before then t told does = absurd t
+  post_turn post.New (post.Ending last) got child seen.Done s before then t told does = absurd t
+  post_turn post.New (post.Over last) got child seen.Done s before then t told does = absurd t
+  post_turn post.New a' got child (seen.Words page) s before then t told does = absurd t
+  post_turn post.New a' got child (seen.Took n) s before then t told does = absurd t
+  post_turn post.New a' got child (seen.Owner retired started own) s before then t told does = absurd t
+  post_turn post.New a' got child (seen.Blocks it) s before then t told does = absurd t
+  post_turn post.New a' got child seen.Missed s before then t told does = absurd t
+  post_turn post.New a' got child seen.Refused s before then t told does = absurd t
+  post_turn (post.Staying x r) post.New got child seen.Done s before then t told does = absurd t
+  post_turn (post.Staying x r) (post.Coming a') got child seen.Done s before then t told does = absurd t
+  post_turn (post.Staying x r) (post.Growing d) got child seen.Done s before then t told does = absurd t
+  post_turn (post.Staying x r) (post.Walking u) got child seen.Done s before then t told does = absurd t
+  post_turn (post.Staying x r) (post.Changing d) got child seen.Done s before then t told does = absurd t
+  post_turn (post.Staying x r) (post.Staying y last) got child seen.Done s before then t told does = absurd t
+  post_turn (post.Staying x r) (post.Ending last) got child seen.Done s before then t told does = stay_turn x s before then does
+  post_turn (post.Staying x r) (post.Over last) got child seen.Done s before then t told does = absurd t
+  post_turn (post.Staying x r) a' got child (seen.Words page) s before then t told does = absurd t
+  post_turn (post.Staying x r) a' got child (seen.Took n) s before then t told does = absurd t
+  post_turn (post.Staying x r) a' got child (seen.Owner retired started own) s before then t told does = absurd t
+  post_turn (post.Staying x r) a' got child (seen.Blocks it) s before then t told does = absurd t
+  post_turn (post.Staying x r) a' got child seen.Missed s before then t told does = absurd t
+  post_turn (post.Staying x r) a' got child seen.Refused s before then t told does = absurd t
+  post_turn (post.Ending r) post.New got child seen.Done s before then t told does = absurd t
+  post_turn (post.Ending r) (post.Coming a') got child seen.Done s before then t told does = absurd t
+  post_turn (post.Ending r) (post.Growing d) got child seen.Done s before then t told does = absurd t
+  post_turn (post.Ending r) (post.Walking u) got child seen.Done s before then t told does = absurd t
+  post_turn (post.Ending r) (post.Changing d) got child seen.Done s before then t told does = absurd t
+  post_turn (post.Ending r) (post.Staying y last) got child seen.Done s before then t told does = absurd t
+  post_turn (post.Ending r) (post.Ending last) got child seen.Done s before then t told does = absurd t
+  post_turn (post.Ending r) (post.Over last) got child seen.Done s before then t told does = end_turn know w g p b None s before then does
+  post_turn (post.Ending r) a' got child (seen.Words page) s before then t told does = absurd t
+  post_turn (post.Ending r) a' got child (seen.Took n) s before then t told does = absurd t
+  post_turn (post.Ending r) a' got child (seen.Owner retired started own) s before then t told does = absurd t
+  post_turn (post.Ending r) a' got child (seen.Blocks it) s before then t told does = absurd t
+  post_turn (post.Ending r) a' got child seen.Missed s before then t told does = absurd t
+  post_turn (post.Ending r) a' got child seen.Refused s before then t told does = absurd t
+  post_turn (post.Over r) post.New got child seen.Done s before then t told does = absurd t
+  post_turn (post.Over r) (post.Coming a') got child seen.Done s before then t told does = absurd t
+  post_turn (post.Over r) (post.Growing d) got child seen.Done s before then t told does = absurd t
+  post_turn (post.Over r) (post.Walking u) got child seen.Done s before then t told does = absurd t
+  post_turn (post.Over r) (post.Changing d) got child seen.Done s before then t told does = absurd t
+  post_turn (post.Over r) (post.Staying y last) got child seen.Done s before then t told does = absurd t
+  post_turn (post.Over r) (post.Ending last) got child seen.Done s before then t told does = absurd t
+  post_turn (post.Over r) (post.Over last) got child seen.Done s before then t told does = absurd t
+  post_turn (post.Over r) a' got child (seen.Words page) s before then t told does = absurd t
+  post_turn (post.Over r) a' got child (seen.Took n) s before then t told does = absurd t
+  post_turn (post.Over r) a' got child (seen.Owner retired started own) s before then t told does = absurd t
+  post_turn (post.Over r) a' got child (seen.Blocks it) s before then t told does = absurd t
+  post_turn (post.Over r) a' got child seen.Missed s before then t told does = absurd t
+  post_turn (post.Over r) a' got child seen.Refused s before then t told does = absurd t
