@@ -8,4 +8,5 @@ pub mod Inserting
 pub mod Deleting
 pub mod Growing
 pub mod Posting
+pub mod Plain
 pub mod Turning

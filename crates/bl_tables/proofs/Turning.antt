@@ -1,14 +1,20 @@
 -- Every turn of every process keeps a world good, and the world after it is given.
-use Rattle.std.proofs.Common.{ℕ, ◌≡◌, ap, refl, subst}
+use Rattle.std.proofs.Common.{ℕ, ◌≡◌, ◌++◌, Option, None, Some, List, [], ◌∷◌, ap, sym, ◌∙◌, refl, subst}
 use Rattle.bl_page.specs.Machine.{Name, State}
+use Rattle.bl_page.specs.Machine.Act.{Miss}
 use Rattle.bl_page.specs.declared.page.Page.{Page}
-use Rattle.bl_steps.specs.Worlds.{World, IsGood}
+use Rattle.bl_trails.specs.Trails.{Mark, Trail, marks_of}
+use Rattle.bl_trails.proofs.Pushes.{HasSaid-silent}
+use Rattle.bl_steps.specs.Worlds.{Know, World, IsHeld, IsRelied, IsGood, silent}
+use Rattle.bl_steps.proofs.Frames.{Each-map}
 use Rattle.bl_proc.specs.declared.acts.Seen.{Seen}
 use Rattle.bl_proc.specs.declared.kinds.Proc.{Proc}
 use Rattle.bl_proc.specs.declared.kinds.Proc.TheVariants.{Find, Insert, Delete, Post}
 use Rattle.bl_proc.specs.Processes.{next_of, Takes}
 use Rattle.bl_tables.specs.Turns.{event_of, IsTold, Does, Turned}
 use Rattle.bl_tables.specs.Knowing.{Run, know_of, know, know_find, know_insert, know_delete, know_post, insert_got, delete_got, post_got, post_child, end_of_proc, got_next, child_next, run_next}
+use Rattle.bl_tables.proofs.Acts.{watched}
+use Rattle.bl_tables.proofs.Plain.{plain}
 use Rattle.bl_tables.proofs.Finding.{find_turn}
 use Rattle.bl_tables.proofs.Inserting.{insert_turn}
 use Rattle.bl_tables.proofs.Deleting.{delete_turn}
@@ -40,3 +46,20 @@ state_turn w p got child (Post a) (Delete c) b what s g before then t told does 
 -- good world, in which p is in that state, and whose trail has one mark more.
 pub turn : (w : World Run) (p : Name) (a : Run) (new : Proc) (what : Seen) (s : State Page) → w.proc p ≡ a → IsGood know w → Takes a.state what new → IsTold w.now w.size (next_of a.state) what → Does w.now p (event_of (end_of_proc a.state) (next_of a.state) what) s → Turned know w p (event_of (end_of_proc a.state) (next_of a.state) what) s (run_next a what new)
 turn w p a new what s is g t told does = state_turn w p a.got a.child a.state new (run_next a what new) what s g (ap know is) refl t told does
+
+-- A turn that is not fit is a miss, and changes nothing.
+pub idle_turn : (w : World Run) (p : Name) (s : State Page) → IsGood know w → Does w.now p Miss s → Turned know w p Miss s (w.proc p)
+idle_turn w p s g does =
+    let is = g.sure p in
+    let m : Mark = silent p Miss in
+    watched know w g p (w.proc p) _ _ refl refl Miss None None s tt tt does tt refl (λ x h. h) (λ it e. cc) (λ k. refl)
+    (record {
+      stage = is.stage;
+      said = HasSaid-silent w.trail m p (know (w.proc p)).said refl is.said;
+      holds = Each-map (IsHeld w p) _ (know (w.proc p)).holds (λ h i. (does.changes.1 h.at ∙ i.owner, i.status, i.sep, i.page)) is.holds;
+      goes = is.goes;
+      children = Each-map (IsRelied w p) _ (know (w.proc p)).children (λ c i. (does.changes.1 c.parent ∙ i.owner, i)) is.children;
+      passed = is.passed;
+      sound = is.sound;
+      log = (plain (w.proc p)).log (marks_of p w.trail ++ m ∷ []);
+    })
