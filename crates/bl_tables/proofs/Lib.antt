@@ -10,3 +10,4 @@ pub mod Growing
 pub mod Posting
 pub mod Plain
 pub mod Turning
+pub mod Starting
