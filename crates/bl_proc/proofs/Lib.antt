@@ -1,2 +1,3 @@
 pub mod Arrivals
 pub mod Named
+mod Examples

@@ -407,7 +407,10 @@ fn posts_with_nothing_to_list(rt: HostRuntime) -> Result<(), Fail> {
     assert!(rt; post.answer() == Some(Answer::Post(Posted::Stale, None)));
 
     let mut tall = opening(rt.alloc())?;
-    tall.pages[0] = page(&[(1 << 32) + 12, 0, 0, 0, 1, 2, 3, 4, 5, 6, 7, 7, 7, 7, 7, 7])?;
+    let anchor = page(&[(1 << 32) + 12, 0, 0, 0, 1, 2, 3, 4, 5, 6, 7, 7, 7, 7, 7, 7])?;
+    if let Some(place) = tall.pages.get_mut(0) {
+        *place = anchor;
+    }
     let mut post = Proc::post(12, 9);
     tall.run(rt.alloc(), &mut post, 99)?;
     assert!(rt; post.answer() == Some(Answer::Post(Posted::TooTall, None)));
