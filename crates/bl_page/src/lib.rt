@@ -1,6 +1,7 @@
 //! Pages of a B-link tree, and their 32 words.
 #![tactic(auto)]
 
+mod copies;
 mod keys;
 mod page;
 mod pairs;

@@ -138,3 +138,17 @@ fn places_and_rows(rt: HostRuntime) {
     assert_eq!(rt; listed_with(&pairs, 4), None);
     assert!(rt; is_within(3, 9, 3) && !is_within(3, 9, 9) && is_within(3, 0, 9));
 }
+
+#[test]
+fn copies_of_pages(rt: HostRuntime) -> Result<(), Fail> {
+    for front in [
+        [(1 << 32) + 1, 0, 0, 0, 1, 0],
+        [LEAF + 1, 5, 9, 2, 7, 70],
+        [INNER + (1 << 16) + 1, 5, 9, 2, 5, 3],
+        [DEAD, 9, 0, 1, 0, 0],
+    ] {
+        let page = from_words(&words(&front)).ok().ok_or("no page")?;
+        assert!(rt; page.copied().to_words() == words(&front));
+    }
+    Ok(())
+}

@@ -76,8 +76,9 @@ own_bounds (Dead a) low high right new e = absurd e
 end_is : (high : ℕ) → 0 < high → end_of high ≡ high
 end_is high h = grind arith
 
-pub split_cut : (page left right : Page) (key word new_page separator : ℕ) → IsFitted page key word new_page (Split left right separator) → low_of page < separator → Covers (node_of page).shape key → IsCut new_page key (Some word) (node_of page) (node_of left) (node_of right)
-split_cut page left right key word new_page separator f above c =
+pub split_cut : (page left right : Page) (key word new_page separator : ℕ) → IsFitted page key word new_page (Split left right separator) → Covers (node_of page).shape key → IsCut new_page key (Some word) (node_of page) (node_of left) (node_of right)
+split_cut page left right key word new_page separator f c =
+    let above = f.8 in
     let l = now_bounds (low_of page) separator new_page page left f.3 in
     let r = now_bounds separator (high_of page) (right_of page) page right f.4 in
     let o = own_bounds page (low_of page) separator new_page left f.3 in

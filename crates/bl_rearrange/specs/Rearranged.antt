@@ -60,7 +60,7 @@ pub record IsWithout (page : Page) (key : ℕ) (new : Page) : Type 0 where
   pub pairs : SameMap (without_key (map_of (pairs_of page)) key) (map_of (pairs_of new))
 
 -- What fits is in the page, beside all that was there. Of 15 pairs the lower 8 stay and the upper 7 go to the new
--- page; the key that parts them is the first of the upper ones.
+-- page; the key that parts them is the first of the upper ones, and above the low of the page.
 abbrev pub IsFitted : Page → ℕ → ℕ → ℕ → Fitted → Type 0
 IsFitted page key word new_page (Fits new) = (length (pairs_of page) < 14) × KeepsFrame page new × SameMap (with_pair (map_of (pairs_of page)) key word) (map_of (pairs_of new))
 IsFitted page key word new_page (Split left right separator) =
@@ -69,3 +69,4 @@ IsFitted page key word new_page (Split left right separator) =
     × BeginsWith separator (pairs_of right)
     × ((j : ℕ) → j < separator → map_of (pairs_of left) j ≡ with_pair (map_of (pairs_of page)) key word j)
     × ((j : ℕ) → separator ≤ j → map_of (pairs_of right) j ≡ with_pair (map_of (pairs_of page)) key word j)
+    × (low_of page < separator)

@@ -1,0 +1,140 @@
+-- Where processes go in a small tree: a leaf, page 1, with the key 1 below the bound 9; a leaf, page 2, with the key 12 from
+-- there on; and their parent, page 3, which lists page 1 alone.
+use Rattle.std.proofs.Common.{◌≡◌, Some, None, [], ◌∷◌, arith, refl, inl, inr}
+use Rattle.bl_page.specs.declared.page.Page.{Page}
+use Rattle.bl_page.specs.declared.page.Page.TheVariants as page
+use Rattle.bl_proc.specs.declared.acts.Action.TheVariants as act
+use Rattle.bl_proc.specs.declared.acts.Seen.TheVariants as seen
+use Rattle.bl_proc.specs.declared.answers.Answer.TheVariants as answer
+use Rattle.bl_proc.specs.declared.answers.Posted.TheVariants as posted
+use Rattle.bl_proc.specs.declared.answers.Hint.TheVariants as hint
+use Rattle.bl_model.specs.declared.operation.Reply.TheVariants as reply
+use Rattle.bl_proc.specs.declared.onwards.Onward.TheVariants as onward
+use Rattle.bl_proc.specs.declared.searching.FindStage.TheVariants as find
+use Rattle.bl_proc.specs.declared.approaching.Approach.TheVariants as approach
+use Rattle.bl_proc.specs.declared.approaching.Approached.TheVariants as came
+use Rattle.bl_proc.specs.declared.changing.Outcome.TheVariants as outcome
+use Rattle.bl_proc.specs.declared.changing.Change.TheVariants as change
+use Rattle.bl_proc.specs.declared.changing.Changed.TheVariants as changed
+use Rattle.bl_proc.specs.declared.inserting.InsertStage.TheVariants as insert
+use Rattle.bl_proc.specs.declared.inserting.InsertReply.TheVariants as inserted
+use Rattle.bl_proc.specs.declared.deleting.DeleteStage.TheVariants as delete
+use Rattle.bl_proc.specs.declared.growing.Growth.TheVariants as growth
+use Rattle.bl_proc.specs.declared.growing.Grew.TheVariants as grew
+use Rattle.bl_proc.specs.declared.posting.PostStage.TheVariants as post
+use Rattle.bl_proc.specs.declared.posting.PostReply.TheVariants as listed
+use Rattle.bl_proc.specs.Given.{Gives}
+use Rattle.bl_proc.specs.Onwards.{Leads}
+use Rattle.bl_proc.specs.Searches.{FindGoes, found_answer}
+use Rattle.bl_proc.specs.Approaches.{Approaches}
+use Rattle.bl_proc.specs.Changes.{Changes, change_needs}
+use Rattle.bl_proc.specs.Inserts.{InsertGoes, inserted_answer}
+use Rattle.bl_proc.specs.Deletes.{DeleteGoes}
+use Rattle.bl_proc.specs.Growths.{Grows, Raises}
+use Rattle.bl_proc.specs.Posts.{PostGoes, posted_answer}
+
+abbrev left_leaf : Page
+left_leaf = page.Leaf (record { low = 0; high = 9; right = 2; rows = record { items = (1, 10) ∷ [] }; bounds = omega arith; link = omega arith; few = omega arith; order = (omega arith, tt); cover = ((omega arith, omega arith), tt) })
+
+abbrev right_leaf : Page
+right_leaf = page.Leaf (record { low = 9; high = 0; right = 0; rows = record { items = (12, 120) ∷ [] }; bounds = omega arith; link = omega arith; few = omega arith; order = (omega arith, tt); cover = ((omega arith, omega arith), tt) })
+
+abbrev parent : Page
+parent = page.Inner (record { level = 1; low = 0; high = 0; right = 0; children = record { items = (0, 1) ∷ [] }; above_leaves = omega arith; below_limit = omega arith; bounds = omega arith; link = omega arith; few = omega arith; order = (omega arith, tt); cover = ((omega arith, omega arith), tt); first = refl; pages = ((omega arith, omega arith), tt) })
+
+abbrev low_anchor : Page
+low_anchor = page.Anchor (record { leftmost = record { items = 1 ∷ [] }; some = omega arith; few = omega arith; pages = ((omega arith, omega arith), tt) })
+
+abbrev high_anchor : Page
+high_anchor = page.Anchor (record { leftmost = record { items = 1 ∷ 3 ∷ [] }; some = omega arith; few = omega arith; pages = ((omega arith, omega arith), ((omega arith, omega arith), tt)) })
+
+abbrev merged_away : Page
+merged_away = page.Dead (record { level = 0; low = 9; right = 1; below_limit = omega arith; some = omega arith; link = omega arith })
+
+-- what may be refused, and what may not
+take_refused : Gives act.Take (Some (1, 2)) seen.Refused
+take_refused = refl
+
+put_of_a_split_is_done : ¬ Gives (act.Put 2 right_leaf) None seen.Refused
+put_of_a_split_is_done h = absurd cc
+
+-- 12 on the way to its leaf
+leaf_leads_right : Leads left_leaf 12 0 (onward.Right 2)
+leaf_leads_right = (refl, inr (tt, omega arith))
+
+leaf_is_here : Leads right_leaf 12 0 onward.Here
+leaf_is_here = (tt, (omega arith, omega arith), refl)
+
+parent_leads_down : Leads parent 12 0 (onward.Down 1)
+parent_leads_down = (tt, (omega arith, omega arith), omega arith, record { key = 0; listed = refl; reached = omega arith; greatest = λ j c h le. grind arith })
+
+dead_leads_right : Leads merged_away 12 0 (onward.Right 1)
+dead_leads_right = (refl, inl tt)
+
+low_above_key : Leads right_leaf 5 0 onward.Again
+low_above_key = ((λ h. h), λ h. inl (omega arith))
+
+-- a search for 12, and what it answers
+find_goes_right : FindGoes 12 (find.At 1) (seen.Words left_leaf) (find.At 2)
+find_goes_right = inl leaf_leads_right
+
+find_ends : FindGoes 12 (find.At 2) (seen.Words right_leaf) (find.Ending (Some 120))
+find_ends = (leaf_is_here, refl)
+
+found_it : found_answer (Some 120) ≡ answer.Op (reply.Found 120) None
+found_it = refl
+
+-- a writer latches the leftmost leaf at once where there is one level, and else goes down
+way_to_the_only_leaf : Approaches 0 5 approach.Start (seen.Words low_anchor) (came.On (approach.Latching 1))
+way_to_the_only_leaf = (refl, refl)
+
+way_from_the_top : Approaches 0 5 approach.Start (seen.Words high_anchor) (came.On (approach.At 3))
+way_from_the_top = (omega arith, refl)
+
+way_down : Approaches 0 12 (approach.At 3) (seen.Words parent) (came.On (approach.Latching 1))
+way_down = (onward.Down 1, parent_leads_down, (refl, refl))
+
+way_across : Approaches 0 12 (approach.Latched 1) (seen.Words left_leaf) (came.On (approach.Leaving 1 (Some 2)))
+way_across = (refl, (onward.Right 2, leaf_leads_right, refl))
+
+way_ends : Approaches 0 12 (approach.Latched 2) (seen.Words right_leaf) (came.Here 2 right_leaf)
+way_ends = (refl, refl, leaf_is_here)
+
+-- a page that has room is put by one frame; where that is refused, it is opened
+put_needs_a_frame : change_needs (change.Putting 1 left_leaf) ≡ Some (0, 1)
+put_needs_a_frame = refl
+
+put_refused : Changes (change.Putting 1 left_leaf) seen.Refused (changed.On (change.Opening 1 outcome.Refused))
+put_refused = refl
+
+-- an insertion of 12, which is there
+insert_is_there : InsertGoes 12 5 (insert.Coming (approach.Latched 2)) (seen.Words right_leaf) (insert.Present 2 120)
+insert_is_there = (2, right_leaf, way_ends, (refl, refl))
+
+-- a split is answered with its hint
+split_hint : inserted_answer (inserted.Inserted (Some 9)) ≡ answer.Op reply.Inserted (Some (hint.Post 1 9))
+split_hint = refl
+
+-- a deletion of 13, which is not there
+delete_is_absent : DeleteGoes 13 (delete.Coming (approach.Latched 2)) (seen.Words right_leaf) (delete.Absent 2)
+delete_is_absent = (2, right_leaf, (refl, refl, (tt, (omega arith, omega arith), refl)), (refl, refl))
+
+-- a tree of one level gets page 3 as its top
+raises : Raises (1 ∷ []) 3 parent high_anchor
+raises = ((refl, refl, refl, refl, refl), refl)
+
+other_was_faster : Grows 1 growth.Latched (seen.Words high_anchor) (grew.On growth.OpeningGrown)
+other_was_faster few same = absurd (omega arith)
+
+-- posts to level 1 and to level 2
+post_grows : PostGoes 1 9 (post.Coming approach.Start) (seen.Words low_anchor) (post.Growing growth.Latching)
+post_grows = (refl, λ same. absurd (omega arith))
+
+post_is_stale : PostGoes 2 9 (post.Coming approach.Start) (seen.Words low_anchor) (post.Ending listed.Stale)
+post_is_stale = omega arith
+
+post_goes_to_the_parent : PostGoes 1 9 (post.Coming approach.Start) (seen.Words high_anchor) (post.Coming (approach.Latching 3))
+post_goes_to_the_parent = (omega arith, (refl, refl))
+
+post_of_a_parent : posted_answer 1 (listed.Done (Some 40)) ≡ answer.Post posted.Done (Some (hint.Post 2 40))
+post_of_a_parent = refl

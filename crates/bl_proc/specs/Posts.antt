@@ -1,0 +1,148 @@
+-- A post, by its state.
+use Rattle.std.specs.Prelude.{◌≡◌, ◌≢◌, ℕ, ◌+◌, ◌-◌, ◌<◌, Option, None, Some}
+use Rattle.bl_page.specs.declared.page.Page.{Page}
+use Rattle.bl_page.specs.declared.page.Page.TheVariants.{Inner}
+use Rattle.bl_laws.specs.Pages.{node_of, roots_of}
+use Rattle.bl_laws.specs.Walks.{IsChildOf}
+use Rattle.bl_proc.specs.declared.acts.Action.{Action}
+use Rattle.bl_proc.specs.declared.acts.Action.TheVariants as act
+use Rattle.bl_proc.specs.declared.acts.Seen.{Seen}
+use Rattle.bl_proc.specs.declared.acts.Seen.TheVariants as seen
+use Rattle.bl_proc.specs.declared.answers.Answer.{Answer}
+use Rattle.bl_proc.specs.declared.answers.Answer.TheVariants as answer
+use Rattle.bl_proc.specs.declared.answers.Posted.TheVariants as posted
+use Rattle.bl_proc.specs.declared.onwards.Onward.{Onward}
+use Rattle.bl_proc.specs.declared.onwards.Onward.TheVariants.{Again, Right, Down, Here}
+use Rattle.bl_proc.specs.declared.approaching.Approach.{Approach}
+use Rattle.bl_proc.specs.declared.approaching.Approach.TheVariants.{Start, At, Latching, Latched, Leaving}
+use Rattle.bl_proc.specs.declared.approaching.Approached.TheVariants as came
+use Rattle.bl_proc.specs.declared.changing.Outcome.{Outcome}
+use Rattle.bl_proc.specs.declared.changing.Outcome.TheVariants as outcome
+use Rattle.bl_proc.specs.declared.changing.Changed.TheVariants as change
+use Rattle.bl_proc.specs.declared.growing.Growth.TheVariants as growth
+use Rattle.bl_proc.specs.declared.growing.Grew.TheVariants as grew
+use Rattle.bl_proc.specs.declared.posting.Walk.{Walk}
+use Rattle.bl_proc.specs.declared.posting.Post.{Post}
+use Rattle.bl_proc.specs.declared.posting.PostStage.{PostStage}
+use Rattle.bl_proc.specs.declared.posting.PostStage.TheVariants.{New, Coming, Growing, Walking, Changing, Staying, Ending, Over}
+use Rattle.bl_proc.specs.declared.posting.PostReply.{PostReply}
+use Rattle.bl_proc.specs.declared.posting.PostReply.TheVariants as reply
+use Rattle.bl_proc.specs.Onwards.{Leads}
+use Rattle.bl_proc.specs.Approaches.{approach_next, Approaches}
+use Rattle.bl_proc.specs.Changes.{change_next, change_needs, EntersPair, Changes}
+use Rattle.bl_proc.specs.Growths.{growth_next, growth_needs, Grows}
+use Rattle.bl_proc.specs.Inserts.{post_hint}
+
+-- what a post answers when its parent is open again
+abbrev pub post_reply : Outcome → PostReply
+post_reply outcome.Changed = reply.Done None
+post_reply (outcome.Parted separator) = reply.Done (Some separator)
+post_reply outcome.Refused = reply.NoRoom
+
+-- A parent of that level that was parted is itself to be posted, one level higher.
+abbrev pub posted_answer : ℕ → PostReply → Answer
+posted_answer level (reply.Done separator) = answer.Post posted.Done (post_hint (level + 1) separator)
+posted_answer level reply.Already = answer.Post posted.Already None
+posted_answer level reply.Stale = answer.Post posted.Stale None
+posted_answer level reply.NoRoom = answer.Post posted.NoRoom None
+posted_answer level reply.TooTall = answer.Post posted.TooTall None
+
+abbrev pub post_next_in : PostStage → Action
+post_next_in New = act.Begin
+post_next_in (Coming a) = approach_next a
+post_next_in (Growing g) = growth_next g
+post_next_in (Walking w) = act.Get w.child
+post_next_in (Changing c) = change_next c
+post_next_in (Staying x r) = act.Open x
+post_next_in (Ending r) = act.End
+post_next_in (Over r) = act.End
+
+abbrev pub post_needs_in : PostStage → Option (ℕ × ℕ)
+post_needs_in New = None
+post_needs_in (Coming a) = None
+post_needs_in (Growing g) = growth_needs g
+post_needs_in (Walking w) = None
+post_needs_in (Changing c) = change_needs c
+post_needs_in (Staying x r) = None
+post_needs_in (Ending r) = None
+post_needs_in (Over r) = None
+
+abbrev pub post_answer_in : ℕ → PostStage → Option Answer
+post_answer_in level New = None
+post_answer_in level (Coming a) = None
+post_answer_in level (Growing g) = None
+post_answer_in level (Walking w) = None
+post_answer_in level (Changing c) = None
+post_answer_in level (Staying x r) = None
+post_answer_in level (Ending r) = None
+post_answer_in level (Over r) = Some (posted_answer level r)
+
+-- At the anchor of a tree with that many levels: too few levels have no such parent; where one level is missing, it is
+-- made, if the tree may have it; else the way leads to the parent.
+abbrev pub PostStarts : ℕ → ℕ → Page → PostStage → Type 0
+PostStarts level key c (Ending reply.Stale) = (roots_of c).levels < level
+PostStarts level key c (Ending reply.TooTall) = ((roots_of c).levels ≡ level) × (level ≡ 12)
+PostStarts level key c (Growing growth.Latching) = ((roots_of c).levels ≡ level) × (level ≢ 12)
+PostStarts level key c (Coming a) = (level < (roots_of c).levels) × Approaches level key Start (seen.Words c) (came.On a)
+PostStarts level key c stage = ⊥
+
+-- At the parent x, which is c: it lists the key, or the walk to the child that covers the key begins with the key's child.
+abbrev pub PostArrives : ℕ → ℕ → Page → PostStage → Type 0
+PostArrives key x c (Staying y reply.Already) = (y ≡ x) × ((child : ℕ) × ((node_of c).look key ≡ Some child))
+PostArrives key x c (Walking w) = (w.at ≡ x) × (w.key ≡ key) × (c ≡ Inner w.parent) × IsChildOf (node_of c).look key w.child
+PostArrives key x c stage = ⊥
+
+-- The walk ends without the page whose low is the key.
+abbrev pub IsLost : ℕ → Page → Onward → Type 0
+IsLost key c Again = Unit {0}
+IsLost key c (Right y) = y ≡ 0
+IsLost key c (Down y) = Unit {0}
+IsLost key c Here = (node_of c).shape.low ≢ key
+
+-- A walk has got c, on its way to the page one level below the parent that covers the key. Where that page's low is the
+-- key, the parent is to list it.
+abbrev pub PostWalks : ℕ → Walk → Page → PostStage → Type 0
+PostWalks level w c (Walking v) = (v.at ≡ w.at) × (v.key ≡ w.key) × (v.parent ≡ w.parent) × Leads c w.key (level - 1) (Right v.child)
+PostWalks level w c (Changing change) = Leads c w.key (level - 1) Here × ((node_of c).shape.low ≡ w.key) × EntersPair w.at (Inner w.parent) w.key w.child change
+PostWalks level w c (Staying x reply.Stale) = (x ≡ w.at) × ((o : Onward) × Leads c w.key (level - 1) o × IsLost w.key c o)
+PostWalks level w c stage = ⊥
+
+-- On the way, past the anchor.
+abbrev pub PostNears : ℕ → ℕ → Approach → Seen → PostStage → Type 0
+PostNears level key a what (Coming b) = Approaches level key a what (came.On b)
+PostNears level key a what new = (x : ℕ) × (c : Page) × Approaches level key a what (came.Here x c) × PostArrives key x c new
+
+-- The post itself looks at the anchor, and the approach does all else, until it is at the parent.
+abbrev pub PostComes : ℕ → ℕ → Approach → Seen → PostStage → Type 0
+PostComes level key Start (seen.Words c) new = PostStarts level key c new
+PostComes level key Start what new = ⊥
+PostComes level key (At x) what new = PostNears level key (At x) what new
+PostComes level key (Latching x) what new = PostNears level key (Latching x) what new
+PostComes level key (Latched x) what new = PostNears level key (Latched x) what new
+PostComes level key (Leaving x to) what new = PostNears level key (Leaving x to) what new
+
+-- When a growth is over, the way begins again; where there was no room, the post ends.
+abbrev pub PostGoes : ℕ → ℕ → PostStage → Seen → PostStage → Type 0
+PostGoes level key New seen.Done (Coming a) = a ≡ Start
+PostGoes level key (Coming a) what new = PostComes level key a what new
+PostGoes level key (Growing g) what (Growing h) = Grows level g what (grew.On h)
+PostGoes level key (Growing g) what (Coming a) = Grows level g what grew.Grown × (a ≡ Start)
+PostGoes level key (Growing g) what (Ending r) = Grows level g what grew.Refused × (r ≡ reply.NoRoom)
+PostGoes level key (Walking w) (seen.Words c) new = PostWalks level w c new
+PostGoes level key (Changing c) what (Changing d) = Changes c what (change.On d)
+PostGoes level key (Changing c) what (Ending r) = (o : Outcome) × Changes c what (change.Over o) × (r ≡ post_reply o)
+PostGoes level key (Staying x r) seen.Done (Ending last) = last ≡ r
+PostGoes level key (Ending r) seen.Done (Over last) = last ≡ r
+PostGoes level key old what new = ⊥
+
+abbrev pub post_next : Post → Action
+post_next p = post_next_in p.stage
+
+abbrev pub post_needs : Post → Option (ℕ × ℕ)
+post_needs p = post_needs_in p.stage
+
+abbrev pub post_answer : Post → Option Answer
+post_answer p = post_answer_in p.level p.stage
+
+abbrev pub PostTakes : Post → Seen → Post → Type 0
+PostTakes old what new = (new.level ≡ old.level) × (new.key ≡ old.key) × PostGoes old.level old.key old.stage what new.stage

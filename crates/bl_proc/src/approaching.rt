@@ -1,0 +1,129 @@
+//! The way of a writer to the page of its level that covers its key.
+
+ghost use Rattle.std.specs.Prelude.{◌≡◌, None};
+ghost use Rattle.bl_laws.specs.Pages.{roots_of};
+ghost use Rattle.bl_proc.specs.declared.acts.Seen.TheVariants as seen;
+ghost use Rattle.bl_proc.specs.declared.approaching.Approach.TheVariants as approach;
+ghost use Rattle.bl_proc.specs.declared.approaching.Approached.TheVariants as approached;
+ghost use Rattle.bl_proc.specs.Given.{Gives};
+ghost use Rattle.bl_proc.specs.Onwards.{Leads};
+ghost use Rattle.bl_proc.specs.Approaches.{approach_next, Enters, Turns, Quits, Approaches};
+
+use crate::acts::{Action, Seen};
+use crate::onwards::{Onward, way_from};
+use crate::reading::level_of;
+use bl_page::Page;
+
+/// How far a writer has come on its way. It holds a page only where it says so.
+#[derive(Clone, Copy)]
+pub enum Approach {
+    /// It is to get the anchor.
+    Start,
+    /// It is to get that page, without a latch: the page is above its level, or was latched by another.
+    At(u32),
+    /// It is to latch that page of its level.
+    Latching(u32),
+    /// It holds that page, and is to get it.
+    Latched(u32),
+    /// It holds that page, which does not cover its key, and is to open it. Then it latches the other page, or starts
+    /// again where there is none.
+    Leaving(u32, Option<u32>),
+}
+
+/// What became of an approach.
+#[derive(Drop)]
+pub enum Approached {
+    /// It goes on.
+    On(Approach),
+    /// It is there: it holds the page with that number, which is as it got it and covers the key.
+    Here(u32, Page),
+}
+
+/// From the anchor.
+pub fn entered(level: u32, anchor: &Page) -> Approach
+    ensures { Enters level (roots_of anchor.now) result }
+{
+    match anchor {
+        Page::Anchor(anchor) => {
+            let level = level as usize;
+            let leftmost = anchor.leftmost.as_slice();
+            let top = leftmost.len() - 1;
+            if top < level {
+                Approach::Start
+            } else if top == level {
+                Approach::Latching(leftmost[level])
+            } else {
+                Approach::At(leftmost[top])
+            }
+        }
+        _ => Approach::Start,
+    }
+}
+
+/// From a page that was got without a latch.
+fn turned(level: u32, at: u32, page: &Page, key: u64, way: Onward) -> Approach
+    requires { Leads page.now key level way }
+    ensures { Turns level at page.now way result }
+{
+    match way {
+        Onward::Again => Approach::Start,
+        Onward::Right(next) if level_of(page) == level => Approach::Latching(next),
+        Onward::Right(next) => Approach::At(next),
+        Onward::Down(next) if level_of(page) - 1 == level => Approach::Latching(next),
+        Onward::Down(next) => Approach::At(next),
+        Onward::Here => Approach::Latching(at),
+    }
+}
+
+fn turned_by(level: u32, key: u64, at: u32, page: &Page) -> Approach
+    ensures { Approaches level key (approach.At at) (seen.Words page.now) (approached.On result) }
+{
+    let way = way_from(page, key, level);
+    turned(level, at, page, key, way)
+}
+
+/// From a page that is held.
+fn looked(level: u32, key: u64, at: u32, page: Page) -> Approached
+    ensures { Approaches level key (approach.Latched at) (seen.Words page) result }
+{
+    match way_from(&page, key, level) {
+        Onward::Here => Approached::Here(at, page),
+        Onward::Right(next) => Approached::On(Approach::Leaving(at, Some(next))),
+        Onward::Again | Onward::Down(_) => Approached::On(Approach::Leaving(at, None)),
+    }
+}
+
+impl Approach {
+    /// The next action.
+    pub fn next(self) -> Action
+        ensures { result ≡ approach_next self }
+    {
+        match self {
+            Approach::Start => Action::Get(0),
+            Approach::At(page) | Approach::Latched(page) => Action::Get(page),
+            Approach::Latching(page) => Action::Latch(page),
+            Approach::Leaving(page, _) => Action::Open(page),
+        }
+    }
+
+    /// What becomes of the approach to the page of that level that covers the key, by what its action gave.
+    pub fn took(self, level: u32, key: u64, seen: Seen) -> Approached
+        requires { Gives (approach_next self) None seen }
+        ensures { Approaches level key self seen result }
+    {
+        match (self, seen) {
+            (Approach::Latched(at), Seen::Words(page)) => looked(level, key, at, page),
+            (Approach::Start, Seen::Words(anchor)) => Approached::On(entered(level, &anchor)),
+            (Approach::At(at), Seen::Words(page)) => {
+                Approached::On(turned_by(level, key, at, &page))
+            }
+            (Approach::Latching(at), Seen::Done) => Approached::On(Approach::Latched(at)),
+            (Approach::Latching(at), Seen::Missed) => Approached::On(Approach::At(at)),
+            (Approach::Leaving(_, Some(next)), Seen::Done) => {
+                Approached::On(Approach::Latching(next))
+            }
+            (Approach::Leaving(_, None), Seen::Done) => Approached::On(Approach::Start),
+            _ => unreachable!(),
+        }
+    }
+}

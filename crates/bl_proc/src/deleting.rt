@@ -1,0 +1,176 @@
+//! The deletion of a key.
+
+ghost use Rattle.std.specs.Prelude.{◌≡◌, None, Some};
+ghost use Rattle.bl_laws.specs.Pages.{node_of};
+ghost use Rattle.bl_proc.specs.declared.deleting.DeleteStage.TheVariants as delete_stage;
+ghost use Rattle.bl_proc.specs.declared.onwards.Onward.TheVariants as onward;
+ghost use Rattle.bl_proc.specs.Given.{Gives};
+ghost use Rattle.bl_proc.specs.Onwards.{Leads};
+ghost use Rattle.bl_proc.specs.Deletes.{delete_reply, deleted_answer, delete_next_in, delete_needs_in, delete_answer_in, DeleteArrives, DeleteGoes, delete_next, delete_needs, delete_answer, DeleteTakes};
+
+use crate::acts::{Action, Seen};
+use crate::answers::Answer;
+use crate::approaching::{Approach, Approached};
+use crate::changes::dropping;
+use crate::changing::{Change, Changed, Outcome};
+use crate::machine::Process;
+use crate::reading::listed;
+use bl_model::Reply;
+use bl_page::Page;
+use std::mem;
+
+/// The deletion of a key with its value.
+#[derive(Drop)]
+pub struct Delete {
+    pub key: u64,
+    pub stage: DeleteStage,
+}
+
+/// How far a deletion has come.
+#[derive(Drop)]
+pub enum DeleteStage {
+    /// It is to begin.
+    New,
+    /// It is on its way to the leaf that covers its key.
+    Coming(Approach),
+    /// It holds that leaf, which does not have the key, and is to open it.
+    Absent(u32),
+    /// It changes the leaf, which had the key with that value.
+    Changing(u64, Change),
+    /// It is to end.
+    Ending(DeleteReply),
+    /// It has ended.
+    Over(DeleteReply),
+}
+
+/// What became of a deletion.
+#[derive(Clone, Copy)]
+pub enum DeleteReply {
+    /// The key was there with this value, and isn't any more.
+    Deleted(u64),
+    /// The key isn't there.
+    Absent,
+    /// There was no room for the leaf's new words, and nothing has changed.
+    NoRoom,
+}
+
+/// What the deletion of a value answers by what became of its leaf.
+fn reply_of(value: u64, outcome: Outcome) -> DeleteReply
+    ensures { result ≡ delete_reply value outcome }
+{
+    match outcome {
+        Outcome::Changed | Outcome::Parted(_) => DeleteReply::Deleted(value),
+        Outcome::Refused => DeleteReply::NoRoom,
+    }
+}
+
+/// At the leaf that covers the key.
+fn arrived(key: u64, at: u32, page: Page) -> DeleteStage
+    requires { Leads page key 0 onward.Here }
+    ensures { DeleteArrives key at page result }
+{
+    match listed(&page, key) {
+        Some(value) => DeleteStage::Changing(value, dropping(at, page, key)),
+        None => DeleteStage::Absent(at),
+    }
+}
+
+/// On the way to the leaf.
+fn came(key: u64, approach: Approach, seen: Seen) -> DeleteStage
+    requires { Gives (delete_next_in (delete_stage.Coming approach)) None seen }
+    ensures { DeleteGoes key (delete_stage.Coming approach) seen result }
+{
+    match approach.took(0, key, seen) {
+        Approached::On(approach) => DeleteStage::Coming(approach),
+        Approached::Here(at, page) => arrived(key, at, page),
+    }
+}
+
+/// On with the change of the leaf.
+fn changed(key: u64, value: u64, change: Change, seen: Seen) -> DeleteStage
+    requires { Gives (delete_next_in (delete_stage.Changing value change)) (delete_needs_in (delete_stage.Changing value change)) seen }
+    ensures { DeleteGoes key (delete_stage.Changing value change) seen result }
+{
+    match change.took(seen) {
+        Changed::On(change) => DeleteStage::Changing(value, change),
+        Changed::Over(outcome) => DeleteStage::Ending(reply_of(value, outcome)),
+    }
+}
+
+fn went(key: u64, stage: DeleteStage, seen: Seen) -> DeleteStage
+    requires running { delete_answer_in stage ≡ None }
+    requires given { Gives (delete_next_in stage) (delete_needs_in stage) seen }
+    ensures { DeleteGoes key stage seen result }
+{
+    match stage {
+        DeleteStage::New => DeleteStage::Coming(Approach::Start),
+        DeleteStage::Coming(approach) => came(key, approach, seen),
+        DeleteStage::Absent(_) => DeleteStage::Ending(DeleteReply::Absent),
+        DeleteStage::Changing(value, change) => changed(key, value, change, seen),
+        DeleteStage::Ending(reply) => DeleteStage::Over(reply),
+        DeleteStage::Over(_) => unreachable!(),
+    }
+}
+
+/// The answer of a deletion.
+fn answer_of(reply: DeleteReply) -> Answer
+    ensures { result ≡ deleted_answer reply }
+{
+    match reply {
+        DeleteReply::Deleted(value) => Answer::Op(Reply::Deleted(value), None),
+        DeleteReply::Absent => Answer::Op(Reply::Absent, None),
+        DeleteReply::NoRoom => Answer::Op(Reply::NoRoom, None),
+    }
+}
+
+impl Delete {
+    /// A deletion that is to begin.
+    pub fn new(key: u64) -> Delete
+        ensures key { result.key ≡ key }
+        ensures stage { result.stage ≡ delete_stage.New }
+    {
+        Delete {
+            key,
+            stage: DeleteStage::New,
+        }
+    }
+}
+
+impl Process for Delete {
+    ghost next_of = { delete_next };
+
+    ghost needs_of = { delete_needs };
+
+    ghost answer_of = { delete_answer };
+
+    ghost Takes = { DeleteTakes };
+
+    fn next(&self) -> Action {
+        match &self.stage {
+            DeleteStage::New => Action::Begin,
+            DeleteStage::Coming(approach) => approach.next(),
+            DeleteStage::Absent(at) => Action::Open(*at),
+            DeleteStage::Changing(_, change) => change.next(),
+            DeleteStage::Ending(_) | DeleteStage::Over(_) => Action::End,
+        }
+    }
+
+    fn needs(&self) -> Option<(u32, u32)> {
+        match &self.stage {
+            DeleteStage::Changing(_, change) => change.needs(),
+            _ => None,
+        }
+    }
+
+    fn answer(&self) -> Option<Answer> {
+        match &self.stage {
+            DeleteStage::Over(reply) => Some(answer_of(*reply)),
+            _ => None,
+        }
+    }
+
+    fn took(&mut self, seen: Seen) {
+        let stage = mem::replace(&mut self.stage, DeleteStage::New);
+        self.stage = went(self.key, stage, seen);
+    }
+}

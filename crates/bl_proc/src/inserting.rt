@@ -1,0 +1,196 @@
+//! The insertion of a pair.
+
+ghost use Rattle.std.specs.Prelude.{◌≡◌, None};
+ghost use Rattle.bl_laws.specs.Pages.{node_of};
+ghost use Rattle.bl_proc.specs.declared.approaching.Approach.{Approach};
+ghost use Rattle.bl_proc.specs.declared.approaching.Approached.TheVariants as approached;
+ghost use Rattle.bl_proc.specs.declared.inserting.InsertStage.TheVariants as insert_stage;
+ghost use Rattle.bl_proc.specs.Given.{Gives};
+ghost use Rattle.bl_proc.specs.Approaches.{Approaches};
+ghost use Rattle.bl_proc.specs.Changes.{Changes};
+ghost use Rattle.bl_proc.specs.Inserts.{post_hint, insert_reply, inserted_answer, insert_next_in, insert_needs_in, insert_answer_in, InsertArrives, InsertGoes, insert_next, insert_needs, insert_answer, InsertTakes};
+ghost use Rattle.bl_proc.specs.Onwards.{Leads};
+ghost use Rattle.bl_proc.specs.declared.onwards.Onward.TheVariants as onward;
+
+use crate::acts::{Action, Seen};
+use crate::answers::{Answer, Hint};
+use crate::approaching::{Approach, Approached};
+use crate::changes::entering;
+use crate::changing::{Change, Changed, Outcome};
+use crate::machine::Process;
+use crate::reading::listed;
+use bl_model::Reply;
+use bl_page::Page;
+use std::mem;
+
+/// The insertion of a key with a value.
+#[derive(Drop)]
+pub struct Insert {
+    pub key: u64,
+    pub value: u64,
+    pub stage: InsertStage,
+}
+
+/// How far an insertion has come.
+#[derive(Drop)]
+pub enum InsertStage {
+    /// It is to begin.
+    New,
+    /// It is on its way to the leaf that covers its key.
+    Coming(Approach),
+    /// It holds that leaf, which has the key with that value, and is to open it.
+    Present(u32, u64),
+    /// It changes the leaf.
+    Changing(Change),
+    /// It is to end.
+    Ending(InsertReply),
+    /// It has ended.
+    Over(InsertReply),
+}
+
+/// What became of an insertion.
+#[derive(Clone, Copy)]
+pub enum InsertReply {
+    /// The pair is there now. Where the leaf was parted, the separator is to be posted.
+    Inserted(Option<u64>),
+    /// The key was there with this value, and still is.
+    Present(u64),
+    /// There was no room, and nothing has changed.
+    NoRoom,
+}
+
+/// The hint to list a page that begins at the separator, in a parent of that level.
+pub fn hint_to_post(level: u32, separator: Option<u64>) -> Option<Hint>
+    ensures { result ≡ post_hint level separator }
+{
+    match separator {
+        Some(key) => Some(Hint::Post { level, key }),
+        None => None,
+    }
+}
+
+/// What an insertion answers by what became of its leaf.
+fn reply_of(outcome: Outcome) -> InsertReply
+    ensures { result ≡ insert_reply outcome }
+{
+    match outcome {
+        Outcome::Changed => InsertReply::Inserted(None),
+        Outcome::Parted(separator) => InsertReply::Inserted(Some(separator)),
+        Outcome::Refused => InsertReply::NoRoom,
+    }
+}
+
+/// At the leaf that covers the key.
+fn arrived(key: u64, value: u64, at: u32, page: Page) -> InsertStage
+    requires { Leads page key 0 onward.Here }
+    ensures { InsertArrives key value at page result }
+{
+    match listed(&page, key) {
+        Some(there) => InsertStage::Present(at, there),
+        None => InsertStage::Changing(entering(at, page, key, value)),
+    }
+}
+
+/// On the way to the leaf.
+fn came(key: u64, value: u64, approach: Approach, seen: Seen) -> InsertStage
+    requires { Gives (insert_next_in (insert_stage.Coming approach)) None seen }
+    ensures { InsertGoes key value (insert_stage.Coming approach) seen result }
+{
+    match approach.took(0, key, seen) {
+        Approached::On(approach) => InsertStage::Coming(approach),
+        Approached::Here(at, page) => arrived(key, value, at, page),
+    }
+}
+
+/// On with the change of the leaf.
+fn changed(key: u64, value: u64, change: Change, seen: Seen) -> InsertStage
+    requires { Gives (insert_next_in (insert_stage.Changing change)) (insert_needs_in (insert_stage.Changing change)) seen }
+    ensures { InsertGoes key value (insert_stage.Changing change) seen result }
+{
+    match change.took(seen) {
+        Changed::On(change) => InsertStage::Changing(change),
+        Changed::Over(outcome) => InsertStage::Ending(reply_of(outcome)),
+    }
+}
+
+fn went(key: u64, value: u64, stage: InsertStage, seen: Seen) -> InsertStage
+    requires running { insert_answer_in stage ≡ None }
+    requires given { Gives (insert_next_in stage) (insert_needs_in stage) seen }
+    ensures { InsertGoes key value stage seen result }
+{
+    match stage {
+        InsertStage::New => InsertStage::Coming(Approach::Start),
+        InsertStage::Coming(approach) => came(key, value, approach, seen),
+        InsertStage::Present(_, there) => InsertStage::Ending(InsertReply::Present(there)),
+        InsertStage::Changing(change) => changed(key, value, change, seen),
+        InsertStage::Ending(reply) => InsertStage::Over(reply),
+        InsertStage::Over(_) => unreachable!(),
+    }
+}
+
+/// The answer of an insertion.
+fn answer_of(reply: InsertReply) -> Answer
+    ensures { result ≡ inserted_answer reply }
+{
+    match reply {
+        InsertReply::Inserted(separator) => {
+            Answer::Op(Reply::Inserted, hint_to_post(1, separator))
+        }
+        InsertReply::Present(value) => Answer::Op(Reply::Present(value), None),
+        InsertReply::NoRoom => Answer::Op(Reply::NoRoom, None),
+    }
+}
+
+impl Insert {
+    /// An insertion that is to begin.
+    pub fn new(key: u64, value: u64) -> Insert
+        ensures key { result.key ≡ key }
+        ensures value { result.value ≡ value }
+        ensures stage { result.stage ≡ insert_stage.New }
+    {
+        Insert {
+            key,
+            value,
+            stage: InsertStage::New,
+        }
+    }
+}
+
+impl Process for Insert {
+    ghost next_of = { insert_next };
+
+    ghost needs_of = { insert_needs };
+
+    ghost answer_of = { insert_answer };
+
+    ghost Takes = { InsertTakes };
+
+    fn next(&self) -> Action {
+        match &self.stage {
+            InsertStage::New => Action::Begin,
+            InsertStage::Coming(approach) => approach.next(),
+            InsertStage::Present(at, _) => Action::Open(*at),
+            InsertStage::Changing(change) => change.next(),
+            InsertStage::Ending(_) | InsertStage::Over(_) => Action::End,
+        }
+    }
+
+    fn needs(&self) -> Option<(u32, u32)> {
+        match &self.stage {
+            InsertStage::Changing(change) => change.needs(),
+            _ => None,
+        }
+    }
+
+    fn answer(&self) -> Option<Answer> {
+        match &self.stage {
+            InsertStage::Over(reply) => Some(answer_of(*reply)),
+            _ => None,
+        }
+    }
+
+    fn took(&mut self, seen: Seen) {
+        let stage = mem::replace(&mut self.stage, InsertStage::New);
+        self.stage = went(self.key, self.value, stage, seen);
+    }
+}

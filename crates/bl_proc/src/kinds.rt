@@ -1,0 +1,103 @@
+//! The sum of all kinds of processes.
+
+ghost use Rattle.std.specs.Prelude.{◌≡◌, ◌<◌, ◌≤◌};
+ghost use Rattle.bl_proc.specs.Processes.{next_of, needs_of, answer_of, Takes, IsFind, IsInsert, IsDelete, IsPost};
+
+use crate::acts::{Action, Seen};
+use crate::answers::Answer;
+use crate::deleting::Delete;
+use crate::inserting::Insert;
+use crate::machine::Process;
+use crate::posting::Post;
+use crate::searching::Find;
+
+/// A process of any kind.
+#[derive(Drop)]
+pub enum Proc {
+    /// Looks a key up.
+    Find(Find),
+    /// Puts a value at a key that has none.
+    Insert(Insert),
+    /// Takes a key and its value away.
+    Delete(Delete),
+    /// Lists a child in its parent.
+    Post(Post),
+}
+
+impl Proc {
+    /// A process that is to look the key up.
+    pub fn find(key: u64) -> Proc
+        ensures { IsFind key result }
+    {
+        Proc::Find(Find::new(key))
+    }
+
+    /// A process that is to put the value at the key, where the key has none.
+    pub fn insert(key: u64, value: u64) -> Proc
+        ensures { IsInsert key value result }
+    {
+        Proc::Insert(Insert::new(key, value))
+    }
+
+    /// A process that is to take the key and its value away.
+    pub fn delete(key: u64) -> Proc
+        ensures { IsDelete key result }
+    {
+        Proc::Delete(Delete::new(key))
+    }
+
+    /// A process that is to list the page whose low is the key in its parent, which is of that level.
+    pub fn post(level: u32, key: u64) -> Proc
+        requires least { 0 < level }
+        requires most { level ≤ 12 }
+        ensures { IsPost level key result }
+    {
+        Proc::Post(Post::new(level, key))
+    }
+}
+
+impl Process for Proc {
+    ghost next_of = { next_of };
+
+    ghost needs_of = { needs_of };
+
+    ghost answer_of = { answer_of };
+
+    ghost Takes = { Takes };
+
+    fn next(&self) -> Action {
+        match self {
+            Proc::Find(process) => process.next(),
+            Proc::Insert(process) => process.next(),
+            Proc::Delete(process) => process.next(),
+            Proc::Post(process) => process.next(),
+        }
+    }
+
+    fn needs(&self) -> Option<(u32, u32)> {
+        match self {
+            Proc::Find(process) => process.needs(),
+            Proc::Insert(process) => process.needs(),
+            Proc::Delete(process) => process.needs(),
+            Proc::Post(process) => process.needs(),
+        }
+    }
+
+    fn answer(&self) -> Option<Answer> {
+        match self {
+            Proc::Find(process) => process.answer(),
+            Proc::Insert(process) => process.answer(),
+            Proc::Delete(process) => process.answer(),
+            Proc::Post(process) => process.answer(),
+        }
+    }
+
+    fn took(&mut self, seen: Seen) {
+        match self {
+            Proc::Find(process) => process.took(seen),
+            Proc::Insert(process) => process.took(seen),
+            Proc::Delete(process) => process.took(seen),
+            Proc::Post(process) => process.took(seen),
+        }
+    }
+}

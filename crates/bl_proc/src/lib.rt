@@ -1,0 +1,41 @@
+//! Processes over the pages of a B-link tree, as state machines: each says which action it does next, is told what that
+//! action gave, and answers in the end. An action is one event on one page; between two of them any other process may act.
+//!
+//! Promised to whoever carries processes out: what a process does next, and where it goes by what it sees, is exactly
+//! what `specs/` says of its state. The ways are those of Lehman and Yao, "Efficient locking for concurrent operations on
+//! B-trees" (ACM TODS 6(4), 1981), with writers that wait for a latch only while they hold none, as in Sagiv, "Concurrent
+//! operations on B*-trees with overtaking" (JCSS 33, 1986). Nothing is allocated, and a search carries no pages.
+#![tactic(auto)]
+
+mod acts;
+mod answers;
+mod approaching;
+mod changes;
+mod changing;
+mod deleting;
+mod growing;
+mod growths;
+mod inserting;
+mod kinds;
+mod machine;
+mod onwards;
+mod posting;
+mod posts;
+mod reading;
+mod searching;
+
+pub use acts::{Action, Seen};
+pub use answers::{Answer, Hint, Posted};
+pub use approaching::{Approach, Approached};
+pub use changing::{Change, Changed, Full, Outcome, Parting};
+pub use deleting::{Delete, DeleteReply, DeleteStage};
+pub use growing::{Grew, Growth, Raising, Rise};
+pub use inserting::{Insert, InsertReply, InsertStage};
+pub use kinds::Proc;
+pub use machine::Process;
+pub use onwards::Onward;
+pub use posting::{Post, PostReply, PostStage, Walk};
+pub use searching::{Find, FindStage};
+
+#[cfg(test)]
+mod tests;

@@ -1,0 +1,45 @@
+//! What all kinds of processes have in common.
+
+ghost use Rattle.std.specs.Prelude.{◌≡◌, ℕ, Option, None};
+ghost use Rattle.bl_proc.specs.declared.acts.Action.{Action};
+ghost use Rattle.bl_proc.specs.declared.acts.Seen.{Seen};
+ghost use Rattle.bl_proc.specs.declared.answers.Answer.{Answer};
+ghost use Rattle.bl_proc.specs.Given.{Gives};
+
+use crate::acts::{Action, Seen};
+use crate::answers::Answer;
+
+/// A process of one kind: whoever runs it asks for its next action, carries it out, and tells it what the action gave,
+/// until it answers.
+pub trait Process {
+    /// What the process does next, by its state.
+    ghost next_of: { Self → Action };
+
+    /// How many pages and frames are reserved before that.
+    ghost needs_of: { Self → Option (ℕ × ℕ) };
+
+    /// Its answer, once it has ended.
+    ghost answer_of: { Self → Option Answer };
+
+    /// A state, what the action gave in it, and the state that follows.
+    ghost Takes: { Self → Seen → Self → Type 0 };
+
+    /// What it does next.
+    fn next(&self) -> Action
+        requires { answer_of self.now ≡ None }
+        ensures { result ≡ next_of self.now };
+
+    /// How many pages and how many frames are reserved before its next action, where any are.
+    fn needs(&self) -> Option<(u32, u32)>
+        ensures { result ≡ needs_of self.now };
+
+    /// Its answer, once it has ended.
+    fn answer(&self) -> Option<Answer>
+        ensures { result ≡ answer_of self.now };
+
+    /// Goes on by what its next action gave.
+    fn took(&mut self, seen: Seen)
+        requires running { answer_of self.old ≡ None }
+        requires given { Gives (next_of self.old) (needs_of self.old) seen }
+        ensures { Takes self.old seen self.new };
+}

@@ -1,0 +1,283 @@
+//! The steps of a post.
+
+ghost use Rattle.std.specs.Prelude.{◌≡◌, ◌<◌, ◌≤◌, ◌-◌, None};
+ghost use Rattle.bl_page.specs.Pairs.{IsWithin};
+ghost use Rattle.bl_page.specs.declared.page.Page.TheVariants as page;
+ghost use Rattle.bl_proc.specs.declared.approaching.Approach.TheVariants as approach;
+ghost use Rattle.bl_proc.specs.declared.onwards.Onward.TheVariants as onward;
+ghost use Rattle.bl_proc.specs.declared.posting.PostStage.TheVariants as post_stage;
+ghost use Rattle.bl_proc.specs.Given.{Gives};
+ghost use Rattle.bl_proc.specs.Onwards.{Leads};
+ghost use Rattle.bl_proc.specs.Posts.{post_reply, posted_answer, post_next_in, post_needs_in, post_answer_in, PostStarts, PostArrives, PostWalks, PostNears, PostComes, PostGoes, post_next, post_needs, post_answer, PostTakes};
+
+use crate::acts::{Action, Seen};
+use crate::answers::{Answer, Posted};
+use crate::approaching::{Approach, Approached, entered};
+use crate::changes::entering;
+use crate::changing::{Change, Changed, Outcome};
+use crate::growing::{Grew, Growth};
+use crate::inserting::hint_to_post;
+use crate::machine::Process;
+use crate::onwards::{Onward, way_from};
+use crate::posting::{Post, PostReply, PostStage, Walk};
+use crate::reading::{levels_of, low_of};
+use bl_page::{Inner, Page, listed_with};
+use std::mem;
+
+/// What a post answers by what became of its parent.
+fn reply_of(outcome: Outcome) -> PostReply
+    ensures { result ≡ post_reply outcome }
+{
+    match outcome {
+        Outcome::Changed => PostReply::Done(None),
+        Outcome::Parted(separator) => PostReply::Done(Some(separator)),
+        Outcome::Refused => PostReply::NoRoom,
+    }
+}
+
+/// At the anchor.
+fn started(level: u32, key: u64, anchor: Page) -> PostStage
+    ensures { PostStarts level key anchor result }
+{
+    let levels = levels_of(&anchor);
+    if levels < level {
+        PostStage::Ending(PostReply::Stale)
+    } else if level < levels {
+        PostStage::Coming(entered(level, &anchor))
+    } else if level == 12 {
+        PostStage::Ending(PostReply::TooTall)
+    } else {
+        PostStage::Growing(Growth::Latching)
+    }
+}
+
+/// At a parent that is an inner page.
+fn arrived_at_inner(key: u64, at: u32, parent: Inner) -> PostStage
+    requires { IsWithin parent.low parent.high key }
+    ensures { PostArrives key at (page.Inner parent) result }
+{
+    match listed_with(parent.children.as_slice(), key) {
+        Some(_) => PostStage::Staying(at, PostReply::Already),
+        None => {
+            let child = parent.child_of(key);
+            PostStage::Walking(Walk {
+                at,
+                key,
+                parent,
+                child,
+            })
+        }
+    }
+}
+
+/// At the parent.
+fn arrived(level: u32, key: u64, at: u32, page: Page) -> PostStage
+    requires above_leaves { 0 < level }
+    requires here { Leads page key level onward.Here }
+    ensures { PostArrives key at page result }
+{
+    match page {
+        Page::Inner(parent) => arrived_at_inner(key, at, parent),
+        _ => unreachable!(),
+    }
+}
+
+/// On the way to the parent, past the anchor.
+fn neared(level: u32, key: u64, approach: Approach, seen: Seen) -> PostStage
+    requires above_leaves { 0 < level }
+    requires given { Gives (post_next_in (post_stage.Coming approach)) None seen }
+    ensures { PostNears level key approach seen result }
+{
+    match approach.took(level, key, seen) {
+        Approached::On(approach) => PostStage::Coming(approach),
+        Approached::Here(at, page) => arrived(level, key, at, page),
+    }
+}
+
+/// On the way to the parent.
+fn came(level: u32, key: u64, approach: Approach, seen: Seen) -> PostStage
+    requires above_leaves { 0 < level }
+    requires given { Gives (post_next_in (post_stage.Coming approach)) None seen }
+    ensures { PostComes level key approach seen result }
+{
+    match approach {
+        Approach::Start => match seen {
+            Seen::Words(anchor) => started(level, key, anchor),
+            _ => unreachable!(),
+        },
+        Approach::At(_) | Approach::Latching(_) | Approach::Latched(_) | Approach::Leaving(_, _) =>
+            neared(level, key, approach, seen),
+    }
+}
+
+/// On with the growth.
+fn grew(level: u32, key: u64, growth: Growth, seen: Seen) -> PostStage
+    requires least { 0 < level }
+    requires given { Gives (post_next_in (post_stage.Growing growth)) (post_needs_in (post_stage.Growing growth)) seen }
+    ensures { PostGoes level key (post_stage.Growing growth) seen result }
+{
+    match growth.took(level, seen) {
+        Grew::On(growth) => PostStage::Growing(growth),
+        Grew::Grown => PostStage::Coming(Approach::Start),
+        Grew::Refused => PostStage::Ending(PostReply::NoRoom),
+    }
+}
+
+/// The walk has got the page that covers the key.
+fn found(level: u32, walk: Walk, page: &Page) -> PostStage
+    requires { Leads page.now walk.key (level - 1) onward.Here }
+    ensures { PostWalks level walk page.now result }
+{
+    let Walk {
+        at,
+        key,
+        parent,
+        child,
+    } = walk;
+    if low_of(page) == key {
+        PostStage::Changing(entering(at, Page::Inner(parent), key, child as u64))
+    } else {
+        PostStage::Staying(at, PostReply::Stale)
+    }
+}
+
+/// The walk goes to the right.
+fn walk_on(level: u32, walk: Walk, page: &Page, next: u32) -> PostStage
+    requires { Leads page.now walk.key (level - 1) (onward.Right next) }
+    ensures { PostWalks level walk page.now result }
+{
+    let Walk {
+        at,
+        key,
+        parent,
+        ..
+    } = walk;
+    if next == 0 {
+        return PostStage::Staying(at, PostReply::Stale);
+    }
+    PostStage::Walking(Walk {
+        at,
+        key,
+        parent,
+        child: next,
+    })
+}
+
+/// The walk has got a page.
+fn walked(level: u32, walk: Walk, page: &Page) -> PostStage
+    requires { 0 < level }
+    ensures { PostWalks level walk page.now result }
+{
+    match way_from(page, walk.key, level - 1) {
+        Onward::Here => found(level, walk, page),
+        Onward::Right(next) => walk_on(level, walk, page, next),
+        Onward::Again | Onward::Down(_) => PostStage::Staying(walk.at, PostReply::Stale),
+    }
+}
+
+/// On with the change of the parent.
+fn changed(level: u32, key: u64, change: Change, seen: Seen) -> PostStage
+    requires { Gives (post_next_in (post_stage.Changing change)) (post_needs_in (post_stage.Changing change)) seen }
+    ensures { PostGoes level key (post_stage.Changing change) seen result }
+{
+    match change.took(seen) {
+        Changed::On(change) => PostStage::Changing(change),
+        Changed::Over(outcome) => PostStage::Ending(reply_of(outcome)),
+    }
+}
+
+fn went(level: u32, key: u64, stage: PostStage, seen: Seen) -> PostStage
+    requires above_leaves { 0 < level }
+    requires running { post_answer_in level stage ≡ None }
+    requires given { Gives (post_next_in stage) (post_needs_in stage) seen }
+    ensures { PostGoes level key stage seen result }
+{
+    match stage {
+        PostStage::New => PostStage::Coming(Approach::Start),
+        PostStage::Coming(approach) => came(level, key, approach, seen),
+        PostStage::Growing(growth) => grew(level, key, growth, seen),
+        PostStage::Walking(walk) => match seen {
+            Seen::Words(page) => walked(level, walk, &page),
+            _ => unreachable!(),
+        },
+        PostStage::Changing(change) => changed(level, key, change, seen),
+        PostStage::Staying(_, reply) => PostStage::Ending(reply),
+        PostStage::Ending(reply) => PostStage::Over(reply),
+        PostStage::Over(_) => unreachable!(),
+    }
+}
+
+/// The answer of a post to that level.
+fn answer_of(level: u32, reply: PostReply) -> Answer
+    requires { level ≤ 12 }
+    ensures { result ≡ posted_answer level reply }
+{
+    match reply {
+        PostReply::Done(separator) => {
+            Answer::Post(Posted::Done, hint_to_post(level + 1, separator))
+        }
+        PostReply::Already => Answer::Post(Posted::Already, None),
+        PostReply::Stale => Answer::Post(Posted::Stale, None),
+        PostReply::NoRoom => Answer::Post(Posted::NoRoom, None),
+        PostReply::TooTall => Answer::Post(Posted::TooTall, None),
+    }
+}
+
+impl Post {
+    /// A post that is to begin.
+    pub fn new(level: u32, key: u64) -> Post
+        requires least { 0 < level }
+        requires most { level ≤ 12 }
+        ensures level { result.level ≡ level }
+        ensures key { result.key ≡ key }
+        ensures stage { result.stage ≡ post_stage.New }
+    {
+        Post {
+            level,
+            key,
+            stage: PostStage::New,
+        }
+    }
+}
+
+impl Process for Post {
+    ghost next_of = { post_next };
+
+    ghost needs_of = { post_needs };
+
+    ghost answer_of = { post_answer };
+
+    ghost Takes = { PostTakes };
+
+    fn next(&self) -> Action {
+        match &self.stage {
+            PostStage::New => Action::Begin,
+            PostStage::Coming(approach) => approach.next(),
+            PostStage::Growing(growth) => growth.next(),
+            PostStage::Walking(walk) => Action::Get(walk.child),
+            PostStage::Changing(change) => change.next(),
+            PostStage::Staying(at, _) => Action::Open(*at),
+            PostStage::Ending(_) | PostStage::Over(_) => Action::End,
+        }
+    }
+
+    fn needs(&self) -> Option<(u32, u32)> {
+        match &self.stage {
+            PostStage::Growing(growth) => growth.needs(),
+            PostStage::Changing(change) => change.needs(),
+            _ => None,
+        }
+    }
+
+    fn answer(&self) -> Option<Answer> {
+        match &self.stage {
+            PostStage::Over(reply) => Some(answer_of(self.level, *reply)),
+            _ => None,
+        }
+    }
+
+    fn took(&mut self, seen: Seen) {
+        let stage = mem::replace(&mut self.stage, PostStage::New);
+        self.stage = went(self.level, self.key, stage, seen);
+    }
+}

@@ -1,0 +1,418 @@
+//! Processes that run alone, one event after the other, over plain pages.
+
+use crate::{Action, Answer, Hint, Post, Posted, Proc, Process, Seen};
+use bl_model::Reply;
+use bl_page::{Page, from_words};
+use std::alloc::Global;
+use std::test::Fail;
+
+/// An event of a lone process.
+#[derive(Clone, Copy, Debug, PartialEq, Eq)]
+enum Did {
+    Begin,
+    End,
+    Get(u32),
+    Put(u32),
+    Latch(u32),
+    Take(u32),
+    Open(u32),
+    Miss,
+}
+
+/// Words that begin so, and zeros.
+fn words(front: &[u64]) -> [u64; 32] {
+    let mut words = [0; 32];
+    for (word, value) in words.iter_mut().zip(front.iter()) {
+        *word = *value;
+    }
+    words
+}
+
+/// A tree in the making: its pages, and the least page that nobody uses.
+#[derive(Drop)]
+struct Tree {
+    pages: Vec<Page>,
+    unused: u32,
+}
+
+/// The opening tree. The pages that nobody uses have any contents.
+fn opening(alloc: Global) -> Result<Tree, Fail> {
+    let mut pages = Vec::new(alloc);
+    pages.push(page(&[(1 << 32) + 1, 0, 0, 0, 1])?)?;
+    for _ in 1..8 {
+        pages.push(page(&[2 << 32])?)?;
+    }
+    Ok(Tree { pages, unused: 2 })
+}
+
+fn page(front: &[u64]) -> Result<Page, Fail> {
+    Ok(from_words(&words(front)).ok().ok_or("no page")?)
+}
+
+impl Tree {
+    /// The page has words that begin so, and zeros.
+    fn is_page(&self, at: usize, front: &[u64]) -> bool {
+        match self.pages.get(at) {
+            Some(page) => page.to_words() == words(front),
+            None => false,
+        }
+    }
+
+    /// One turn of a process.
+    fn turn<P: Process>(&mut self, process: &mut P) -> Result<Did, Fail> {
+        if process.answer().is_some() {
+            return Ok(Did::Miss);
+        }
+        let (did, seen) = match process.next() {
+            Action::Begin => (Did::Begin, Seen::Done),
+            Action::End => (Did::End, Seen::Done),
+            Action::Get(at) => {
+                let page = self.pages.get(at as usize).ok_or("no such page")?;
+                (Did::Get(at), Seen::Words(page.copied()))
+            }
+            Action::Put(at, page) => {
+                let place = self.pages.get_mut(at as usize).ok_or("no such page")?;
+                *place = page;
+                (Did::Put(at), Seen::Done)
+            }
+            Action::Latch(at) => (Did::Latch(at), Seen::Done),
+            Action::Take if 0 < self.unused && self.unused < 8 => {
+                let new = self.unused;
+                self.unused += 1;
+                (Did::Take(new), Seen::Took(new))
+            }
+            Action::Open(at) => (Did::Open(at), Seen::Done),
+            _ => return Err("no such action")?,
+        };
+        process.took(seen);
+        Ok(did)
+    }
+
+    /// A process's events up to its answer, or that many of them.
+    fn run<P: Process>(
+        &mut self,
+        alloc: Global,
+        process: &mut P,
+        most: usize,
+    ) -> Result<Vec<Did>, Fail> {
+        let mut events = Vec::new(alloc);
+        for _ in 0..most {
+            if process.answer().is_some() {
+                break;
+            }
+            events.push(self.turn(process)?)?;
+        }
+        Ok(events)
+    }
+}
+
+/// A process is refused what it needs for its next action.
+fn refuse<P: Process>(process: &mut P) {
+    if process.answer().is_none() && process.needs().is_some() {
+        match process.next() {
+            Action::Put(_, _) | Action::Take => process.took(Seen::Refused),
+            _ => {}
+        }
+    }
+}
+
+/// A latch is missed.
+fn miss<P: Process>(process: &mut P) {
+    if process.answer().is_none() {
+        match process.next() {
+            Action::Latch(_) => process.took(Seen::Missed),
+            _ => {}
+        }
+    }
+}
+
+fn are(events: &Vec<Did>, wanted: &[Did]) -> bool {
+    events.as_slice() == wanted
+}
+
+/// What an operation answers without a hint.
+fn plain(reply: Reply) -> Option<Answer> {
+    Some(Answer::Op(reply, None))
+}
+
+#[test]
+fn operations_on_an_opening_tree(rt: HostRuntime) -> Result<(), Fail> {
+    let mut tree = opening(rt.alloc())?;
+    let mut find = Proc::find(5);
+    let events = tree.run(rt.alloc(), &mut find, 99)?;
+    assert!(rt; are(&events, &[Did::Begin, Did::Get(0), Did::Get(1), Did::End]));
+    assert!(rt; find.answer() == plain(Reply::Absent));
+
+    let mut insert = Proc::insert(5, 50);
+    let events = tree.run(rt.alloc(), &mut insert, 99)?;
+    assert!(rt;
+        are(
+            &events,
+            &[
+                Did::Begin,
+                Did::Get(0),
+                Did::Latch(1),
+                Did::Get(1),
+                Did::Put(1),
+                Did::Open(1),
+                Did::End
+            ]
+        )
+    );
+    assert!(rt; insert.answer() == plain(Reply::Inserted));
+
+    let mut again = Proc::insert(5, 51);
+    let events = tree.run(rt.alloc(), &mut again, 99)?;
+    assert!(rt;
+        are(
+            &events,
+            &[
+                Did::Begin,
+                Did::Get(0),
+                Did::Latch(1),
+                Did::Get(1),
+                Did::Open(1),
+                Did::End
+            ]
+        )
+    );
+    assert!(rt; again.answer() == plain(Reply::Present(50)));
+
+    let mut delete = Proc::delete(5);
+    tree.run(rt.alloc(), &mut delete, 99)?;
+    assert!(rt; delete.answer() == plain(Reply::Deleted(50)));
+    let mut gone = Proc::delete(5);
+    tree.run(rt.alloc(), &mut gone, 99)?;
+    assert!(rt; gone.answer() == plain(Reply::Absent));
+    assert!(rt; tree.is_page(1, &[2 << 32]));
+    Ok(())
+}
+
+/// The tree with the keys 1 to 15, with values ten times the key, after a split and before its post.
+fn split(alloc: Global) -> Result<(Tree, Vec<Did>, Option<Answer>), Fail> {
+    let mut tree = opening(alloc)?;
+    for key in 1..15 {
+        tree.run(alloc, &mut Proc::insert(key, 10 * key), 99)?;
+    }
+    let mut insert = Proc::insert(15, 150);
+    let events = tree.run(alloc, &mut insert, 99)?;
+    Ok((tree, events, insert.answer()))
+}
+
+/// The same tree after the post.
+fn posted(alloc: Global) -> Result<(Tree, Vec<Did>, Option<Answer>), Fail> {
+    let (mut tree, _, _) = split(alloc)?;
+    let mut post = Proc::post(1, 9);
+    let events = tree.run(alloc, &mut post, 99)?;
+    Ok((tree, events, post.answer()))
+}
+
+#[test]
+fn a_full_leaf_is_split(rt: HostRuntime) -> Result<(), Fail> {
+    let (tree, events, answer) = split(rt.alloc())?;
+    assert!(rt;
+        are(
+            &events,
+            &[
+                Did::Begin,
+                Did::Get(0),
+                Did::Latch(1),
+                Did::Get(1),
+                Did::Take(2),
+                Did::Put(2),
+                Did::Put(1),
+                Did::Open(2),
+                Did::Open(1),
+                Did::End,
+            ]
+        )
+    );
+    assert!(rt; answer == Some(Answer::Op(Reply::Inserted, Some(Hint::Post { level: 1, key: 9 }))));
+    assert!(rt;
+        tree.is_page(
+            1,
+            &[
+                8589934600, 0, 9, 2, 1, 10, 2, 20, 3, 30, 4, 40, 5, 50, 6, 60, 7, 70, 8, 80
+            ]
+        )
+    );
+    assert!(rt;
+        tree.is_page(
+            2,
+            &[
+                8589934599, 9, 0, 0, 9, 90, 10, 100, 11, 110, 12, 120, 13, 130, 14, 140, 15, 150
+            ]
+        )
+    );
+    Ok(())
+}
+
+#[test]
+fn a_post_grows_the_tree_and_lists_the_page(rt: HostRuntime) -> Result<(), Fail> {
+    let (mut tree, events, answer) = posted(rt.alloc())?;
+    assert!(rt;
+        are(
+            &events,
+            &[
+                Did::Begin,
+                Did::Get(0),
+                Did::Latch(0),
+                Did::Get(0),
+                Did::Take(3),
+                Did::Put(3),
+                Did::Put(0),
+                Did::Open(3),
+                Did::Open(0),
+                Did::Get(0),
+                Did::Latch(3),
+                Did::Get(3),
+                Did::Get(1),
+                Did::Get(2),
+                Did::Put(3),
+                Did::Open(3),
+                Did::End,
+            ]
+        )
+    );
+    assert!(rt; answer == Some(Answer::Post(Posted::Done, None)));
+    assert!(rt; tree.is_page(0, &[4294967298, 0, 0, 0, 1, 3]));
+    assert!(rt; tree.is_page(3, &[12884967426, 0, 0, 0, 0, 1, 9, 2]));
+
+    let mut again = Proc::post(1, 9);
+    let events = tree.run(rt.alloc(), &mut again, 99)?;
+    assert!(rt;
+        are(
+            &events,
+            &[
+                Did::Begin,
+                Did::Get(0),
+                Did::Latch(3),
+                Did::Get(3),
+                Did::Open(3),
+                Did::End,
+            ]
+        )
+    );
+    assert!(rt; again.answer() == Some(Answer::Post(Posted::Already, None)));
+
+    let mut find = Proc::find(12);
+    let events = tree.run(rt.alloc(), &mut find, 99)?;
+    assert!(rt;
+        are(
+            &events,
+            &[Did::Begin, Did::Get(0), Did::Get(3), Did::Get(2), Did::End]
+        )
+    );
+    assert!(rt; find.answer() == plain(Reply::Found(120)));
+    Ok(())
+}
+
+// The last put of the post is refused; its growth stands, and the page is still reached by its left neighbour's link.
+#[test]
+fn a_post_without_room_leaves_the_parent(rt: HostRuntime) -> Result<(), Fail> {
+    let (mut tree, _, _) = split(rt.alloc())?;
+    let mut post = Proc::post(1, 9);
+    tree.run(rt.alloc(), &mut post, 14)?;
+    refuse(&mut post);
+    let events = tree.run(rt.alloc(), &mut post, 99)?;
+    assert!(rt; are(&events, &[Did::Open(3), Did::End]));
+    assert!(rt; post.answer() == Some(Answer::Post(Posted::NoRoom, None)));
+    assert!(rt; tree.is_page(3, &[12884967425, 0, 0, 0, 0, 1]));
+
+    let mut find = Proc::find(12);
+    let events = tree.run(rt.alloc(), &mut find, 99)?;
+    assert!(rt;
+        are(
+            &events,
+            &[
+                Did::Begin,
+                Did::Get(0),
+                Did::Get(3),
+                Did::Get(1),
+                Did::Get(2),
+                Did::End
+            ]
+        )
+    );
+    assert!(rt; find.answer() == plain(Reply::Found(120)));
+    Ok(())
+}
+
+#[test]
+fn searches_beside_a_split_that_is_half_done(rt: HostRuntime) -> Result<(), Fail> {
+    let mut tree = opening(rt.alloc())?;
+    for key in 1..15 {
+        tree.run(rt.alloc(), &mut Proc::insert(key, 10 * key), 99)?;
+    }
+    let mut insert = Proc::insert(15, 150);
+    tree.run(rt.alloc(), &mut insert, 6)?;
+    let mut find = Proc::find(15);
+    let events = tree.run(rt.alloc(), &mut find, 99)?;
+    assert!(rt; are(&events, &[Did::Begin, Did::Get(0), Did::Get(1), Did::End]));
+    assert!(rt; find.answer() == plain(Reply::Absent));
+    tree.run(rt.alloc(), &mut insert, 1)?;
+    let mut find = Proc::find(12);
+    let events = tree.run(rt.alloc(), &mut find, 99)?;
+    assert!(rt;
+        are(
+            &events,
+            &[Did::Begin, Did::Get(0), Did::Get(1), Did::Get(2), Did::End]
+        )
+    );
+    assert!(rt; find.answer() == plain(Reply::Found(120)));
+    Ok(())
+}
+
+#[test]
+fn writers_that_meet_no_room_or_a_latch(rt: HostRuntime) -> Result<(), Fail> {
+    let mut tree = opening(rt.alloc())?;
+    let mut insert = Proc::insert(5, 50);
+    tree.run(rt.alloc(), &mut insert, 2)?;
+    miss(&mut insert);
+    let events = tree.run(rt.alloc(), &mut insert, 3)?;
+    assert!(rt; are(&events, &[Did::Get(1), Did::Latch(1), Did::Get(1)]));
+    refuse(&mut insert);
+    let events = tree.run(rt.alloc(), &mut insert, 99)?;
+    assert!(rt; are(&events, &[Did::Open(1), Did::End]));
+    assert!(rt; insert.answer() == plain(Reply::NoRoom));
+    assert!(rt; tree.is_page(1, &[2 << 32]));
+    Ok(())
+}
+
+#[test]
+fn posts_with_nothing_to_list(rt: HostRuntime) -> Result<(), Fail> {
+    let mut tree = opening(rt.alloc())?;
+    let mut post = Post::new(2, 9);
+    let events = tree.run(rt.alloc(), &mut post, 99)?;
+    assert!(rt; are(&events, &[Did::Begin, Did::Get(0), Did::End]));
+    assert!(rt; post.answer() == Some(Answer::Post(Posted::Stale, None)));
+
+    let (mut tree, _, _) = posted(rt.alloc())?;
+    let mut post = Proc::post(1, 12);
+    let events = tree.run(rt.alloc(), &mut post, 99)?;
+    assert!(rt;
+        are(
+            &events,
+            &[
+                Did::Begin,
+                Did::Get(0),
+                Did::Latch(3),
+                Did::Get(3),
+                Did::Get(2),
+                Did::Open(3),
+                Did::End
+            ]
+        )
+    );
+    assert!(rt; post.answer() == Some(Answer::Post(Posted::Stale, None)));
+
+    let mut tall = opening(rt.alloc())?;
+    let anchor = page(&[(1 << 32) + 12, 0, 0, 0, 1, 2, 3, 4, 5, 6, 7, 7, 7, 7, 7, 7])?;
+    if let Some(place) = tall.pages.get_mut(0) {
+        *place = anchor;
+    }
+    let mut post = Proc::post(12, 9);
+    tall.run(rt.alloc(), &mut post, 99)?;
+    assert!(rt; post.answer() == Some(Answer::Post(Posted::TooTall, None)));
+    Ok(())
+}

@@ -1,0 +1,183 @@
+-- Every turn of an insertion keeps a world good.
+use Rattle.std.proofs.Common.{ℕ, ◌≡◌, ◌≢◌, ◌⊎◌, ◌≤◌, ◌<◌, Option, Some, None, suc, List, [], ◌∷◌, arith, ap, sym, ◌∙◌, refl, subst, inl, inr}
+use Rattle.bl_model.specs.Map.{Map}
+use Rattle.bl_page.specs.declared.page.Page.{Page}
+use Rattle.bl_page.specs.Machine.{Name, State, Act}
+use Rattle.bl_page.specs.Machine.Act.{Get}
+use Rattle.bl_laws.specs.Pages.{node_of}
+use Rattle.bl_trails.specs.Trails.{Mark, Said}
+use Rattle.bl_trails.proofs.Pushes.{HasSaid-silent}
+use Rattle.bl_steps.specs.Worlds.{Holds, Know, World, nodes, MapsTo, IsSure, IsGood, silent}
+use Rattle.bl_descents.proofs.Descents.{held_leaf_says, not_released}
+use Rattle.bl_tree.proofs.Statuses.{live_live}
+use Rattle.bl_proc.specs.declared.acts.Seen.{Seen}
+use Rattle.bl_proc.specs.declared.acts.Seen.TheVariants as seen
+use Rattle.bl_proc.specs.declared.onwards.Onward.TheVariants.{Here}
+use Rattle.bl_proc.specs.declared.approaching.Approach.{Approach}
+use Rattle.bl_proc.specs.declared.approaching.Approach.TheVariants as way
+use Rattle.bl_proc.specs.declared.approaching.Approached.TheVariants as came
+use Rattle.bl_proc.specs.declared.changing.Outcome.{Outcome}
+use Rattle.bl_proc.specs.declared.changing.Outcome.TheVariants as outcome
+use Rattle.bl_proc.specs.declared.changing.Change.{Change}
+use Rattle.bl_proc.specs.declared.changing.Change.TheVariants as change
+use Rattle.bl_proc.specs.declared.changing.Changed.TheVariants.{On, Over}
+use Rattle.bl_proc.specs.declared.inserting.InsertStage.{InsertStage}
+use Rattle.bl_proc.specs.declared.inserting.InsertStage.TheVariants as insert
+use Rattle.bl_proc.specs.declared.inserting.InsertReply.{InsertReply}
+use Rattle.bl_proc.specs.declared.inserting.InsertReply.TheVariants as inserted
+use Rattle.bl_proc.specs.Onwards.{Leads}
+use Rattle.bl_proc.specs.Approaches.{approach_next, Approaches}
+use Rattle.bl_proc.specs.Changes.{change_next, Changes, EntersPair}
+use Rattle.bl_proc.specs.Inserts.{insert_reply, insert_next_in, InsertArrives, InsertGoes}
+use Rattle.bl_tables.specs.Turns.{event_of, IsTold, Does, Turned}
+use Rattle.bl_tables.specs.Tables.{idle, Aim, IsAim, IsDue, know_approach, know_change}
+use Rattle.bl_tables.specs.Knowing.{inserts, insert_aim, know_insert, insert_got, insert_end}
+use Rattle.bl_tables.proofs.Acts.{watched, opened}
+use Rattle.bl_tables.proofs.Approaching.{arrival, approach_turn}
+use Rattle.bl_tables.proofs.Changing.{says, change_turn, finish_turn}
+use Rattle.bl_tables.proofs.Entering.{Begun, enters_learns, enters_places, change_middle}
+use Rattle.bl_tables.proofs.Ends.{begin_turn, end_turn}
+
+pub insert_fine : (key value : ℕ) → IsAim (insert_aim key value)
+insert_fine key value = record {
+  changed = changed;
+  refused = λ m h. (h refl, λ k. refl);
+  lists = λ w p x d h l c e f. absurd (omega (arith, e));
+}
+  where
+    changed : (o : Outcome) → o ≢ outcome.Refused → (m m' : Map) → ((◌≡◌ {A = ℕ} 0 0) → (m key ≡ None) × (m' key ≡ Some value)) → ((◌≢◌ {A = ℕ} 0 0) → m' key ≡ m key) → ((j : ℕ) → j ≢ key → m' j ≡ m j) → MapsTo m m' (inserts key value (insert_reply o))
+    changed outcome.Changed n m m' at up rest = ((at refl).0, λ k. let new = (at refl).1 in let old = rest k in grind (arith, new, old))
+    changed (outcome.Parted s) n m m' at up rest = ((at refl).0, λ k. let new = (at refl).1 in let old = rest k in grind (arith, new, old))
+    changed outcome.Refused n m m' at up rest = absurd (n refl)
+
+module _ {P : Type 0} (know : P → Know) (w : World P) (g : IsGood know w) (p : Name) (b : P) (key value : ℕ) where
+  -- at the leaf, which has the key
+  present_turn : (x there : ℕ) (got : ℕ → Page) (s : State Page) → know (w.proc p) ≡ know_approach 0 key (way.Latched x) → know b ≡ know_insert key value got (insert.Present x there) → Leads (w.now.contents x) key 0 Here → (nodes w.now x).look key ≡ Some there → Does w.now p (Get x) s → Turned know w p (Get x) s b
+  present_turn x there got s before then l look does =
+      let is : IsSure w p (know_approach 0 key (way.Latched x)) = rw before at (g.sure p) in
+      let said = inserts key value (inserted.Present there) in
+      let m : Mark = record { event = record { process = p; act = Get x }; saw = Some (w.now.contents x); said = said } in
+      let held = is.holds.0 in
+      let says_map : (nodes w.now x).look key ≡ w.map 0 key = held_leaf_says know w g x key (rw held.status live_live) l.2 l.1 in
+      watched know w g p b _ _ before then (Get x) (Some (w.now.contents x)) said s tt (is.stage, not_released know w g p x is.goes.0.may) does refl refl (λ y h. h) (λ it e. (is.stage, is.said))
+      (sym says_map ∙ look, λ k. refl)
+      (record { stage = is.stage; said = says w m is.said; holds = ((does.changes.1 x ∙ held.owner, held.status, tt, tt), tt); goes = tt; children = tt; passed = tt; sound = tt; log = tt })
+
+  -- at the leaf, which lacks it
+  enter_turn : (x : ℕ) (c : Change) (s : State Page) → know (w.proc p) ≡ know_approach 0 key (way.Latched x) → know b ≡ know_change (insert_aim key value) (λ z. w.now.contents x) c → Leads (w.now.contents x) key 0 Here → (nodes w.now x).look key ≡ None → EntersPair x (w.now.contents x) key value c → Does w.now p (Get x) s → Turned know w p (Get x) s b
+  enter_turn x c s before then l look enters does =
+      let is : IsSure w p (know_approach 0 key (way.Latched x)) = rw before at (g.sure p) in
+      let held = is.holds.0 in
+      let aim = insert_aim key value in
+      let page = w.now.contents x in
+      watched know w g p b _ _ before then (Get x) (Some page) None s tt (is.stage, not_released know w g p x is.goes.0.may) does refl (change_middle aim (λ z. page) c)
+      (λ y h. elim h [ inl e ↦ subst (λ z. Holds (know_change aim (λ u. page) c).holds z) e (enters_places aim x value key page c enters) | inr n ↦ absurd n ]) (λ it e. cc) (λ k. refl)
+      (enters_learns w _ p (Get x) (Some page) aim x value page c (record {
+        stage = is.stage;
+        said = is.said;
+        held = does.changes.1 x ∙ held.owner;
+        live = held.status;
+        is = refl;
+        due = record { level = l.2; covers = l.1; was = look };
+        children = tt;
+      }) refl enters)
+
+  arrive_turn : (x : ℕ) (a : InsertStage) (got : ℕ → Page) (s : State Page) → know (w.proc p) ≡ know_approach 0 key (way.Latched x) → know b ≡ know_insert key value got a → got ≡ (λ z. w.now.contents x) → Leads (w.now.contents x) key 0 Here → InsertArrives key value x (w.now.contents x) a → Does w.now p (Get x) s → Turned know w p (Get x) s b
+  arrive_turn x (insert.Present y there) got s before then same l t does = present_turn x there got s before (rw t.0 at then) l t.1 does
+  arrive_turn x (insert.Changing c) got s before then same l t does = enter_turn x c s before (subst (λ f. know b ≡ know_change (insert_aim key value) f c) same then) l t.0 t.1 does
+  arrive_turn x insert.New got s before then same l t does = absurd t
+  arrive_turn x (insert.Coming a) got s before then same l t does = absurd t
+  arrive_turn x (insert.Ending r) got s before then same l t does = absurd t
+  arrive_turn x (insert.Over r) got s before then same l t does = absurd t
+
+  stay_turn : (x there : ℕ) (got : ℕ → Page) (s : State Page) → know (w.proc p) ≡ know_insert key value got (insert.Present x there) → know b ≡ know_insert key value got (insert.Ending (inserted.Present there)) → Does w.now p (Act.Open x) s → Turned know w p (Act.Open x) s b
+  stay_turn x there got s before then does =
+      let is : IsSure w p (know_insert key value got (insert.Present x there)) = rw before at (g.sure p) in
+      opened know w g p b _ _ before then x s is.holds.0.owner does (inl is.holds.0.status) refl refl (λ e. cc, tt)
+      (λ z n h. elim h [ inl e ↦ absurd (n (sym e)) | inr u ↦ absurd u ])
+      (record { stage = is.stage; said = HasSaid-silent w.trail (silent p (Act.Open x)) p (inserts key value (inserted.Present there)) refl is.said; holds = tt; goes = tt; children = tt; passed = tt; sound = tt; log = tt })
+
+  -- on the way to the leaf
+  come_turn : (a : Approach) (a' : InsertStage) (got : ℕ → Page) (what : Seen) (s : State Page) → know (w.proc p) ≡ know_approach 0 key a → know b ≡ know_insert key value (insert_got got (insert.Coming a) what) a' → ((x : ℕ) × (c : Page) × Approaches 0 key a what (came.Here x c) × InsertArrives key value x c a') → IsTold w.now w.size (approach_next a) what → Does w.now p (event_of None (approach_next a) what) s → Turned know w p (event_of None (approach_next a) what) s b
+  come_turn (way.Latched x) a' got (seen.Words c) s before then (y, d, h, t) told does =
+      let page : d ≡ w.now.contents x = h.1 ∙ told in
+      let here : Leads (w.now.contents x) key 0 Here = rw told at h.2 in
+      let at_x : InsertArrives key value x (w.now.contents x) a' = subst (λ z. InsertArrives key value x z a') page (subst (λ z. InsertArrives key value z d a') h.0 t) in
+      arrive_turn x a' (λ z. c) s before then (ap (λ u z. u) told) here at_x does
+  come_turn way.Start a' got what s before then (y, d, h, t) told does = absurd (arrival 0 key way.Start what y d h)
+  come_turn (way.At x) a' got what s before then (y, d, h, t) told does = absurd (arrival 0 key (way.At x) what y d h)
+  come_turn (way.Latching x) a' got what s before then (y, d, h, t) told does = absurd (arrival 0 key (way.Latching x) what y d h)
+  come_turn (way.Leaving x to) a' got what s before then (y, d, h, t) told does = absurd (arrival 0 key (way.Leaving x to) what y d h)
+  come_turn (way.Latched x) a' got seen.Done s before then (y, d, h, t) told does = absurd h
+  come_turn (way.Latched x) a' got (seen.Took n) s before then (y, d, h, t) told does = absurd h
+  come_turn (way.Latched x) a' got (seen.Owner retired started own) s before then (y, d, h, t) told does = absurd h
+  come_turn (way.Latched x) a' got (seen.Blocks it) s before then (y, d, h, t) told does = absurd h
+  come_turn (way.Latched x) a' got seen.Missed s before then (y, d, h, t) told does = absurd h
+  come_turn (way.Latched x) a' got seen.Refused s before then (y, d, h, t) told does = absurd h
+
+  change_ends : (c : Change) (a' : InsertStage) (got : ℕ → Page) (what : Seen) (s : State Page) → know (w.proc p) ≡ know_insert key value got (insert.Changing c) → know b ≡ know_insert key value got a' → InsertGoes key value (insert.Changing c) what a' → IsTold w.now w.size (change_next c) what → Does w.now p (event_of None (change_next c) what) s → Turned know w p (event_of None (change_next c) what) s b
+  change_ends c (insert.Changing d) got what s before then t told does = change_turn know w g p b (insert_aim key value) (insert_fine key value) got c d what s before then t told does
+  change_ends c (insert.Ending r) got what s before then (o, t, same) told does =
+      finish_turn know w g p b (insert_aim key value) (insert_fine key value) got c o what _ s before (subst (λ z. know b ≡ know_insert key value got (insert.Ending z)) same then) tt t does
+  change_ends c insert.New got what s before then t told does = absurd t
+  change_ends c (insert.Coming a) got what s before then t told does = absurd t
+  change_ends c (insert.Present x there) got what s before then t told does = absurd t
+  change_ends c (insert.Over r) got what s before then t told does = absurd t
+
+  -- every turn of an insertion
+  pub insert_turn : (a a' : InsertStage) (got : ℕ → Page) (what : Seen) (s : State Page) → know (w.proc p) ≡ know_insert key value got a → know b ≡ know_insert key value (insert_got got a what) a' → InsertGoes key value a what a' → IsTold w.now w.size (insert_next_in a) what → Does w.now p (event_of (insert_end a) (insert_next_in a) what) s → Turned know w p (event_of (insert_end a) (insert_next_in a) what) s b
+  insert_turn (insert.Coming a) (insert.Coming a') got what s before then t told does = approach_turn know w g p b 0 key a a' what s (omega arith) before then t told does
+  insert_turn (insert.Coming a) insert.New got what s before then t told does = come_turn a insert.New got what s before then t told does
+  insert_turn (insert.Coming a) (insert.Present y v) got what s before then t told does = come_turn a (insert.Present y v) got what s before then t told does
+  insert_turn (insert.Coming a) (insert.Changing d) got what s before then t told does = come_turn a (insert.Changing d) got what s before then t told does
+  insert_turn (insert.Coming a) (insert.Ending last) got what s before then t told does = come_turn a (insert.Ending last) got what s before then t told does
+  insert_turn (insert.Coming a) (insert.Over last) got what s before then t told does = come_turn a (insert.Over last) got what s before then t told does
+  insert_turn (insert.Changing c) a' got what s before then t told does = change_ends c a' got what s before then t told does
+  insert_turn insert.New insert.New got seen.Done s before then t told does = absurd t
+  insert_turn insert.New (insert.Coming a') got seen.Done s before then t told does = begin_turn know w g p b key s before (rw t at then) does
+  insert_turn insert.New (insert.Present y v) got seen.Done s before then t told does = absurd t
+  insert_turn insert.New (insert.Changing d) got seen.Done s before then t told does = absurd t
+  insert_turn insert.New (insert.Ending last) got seen.Done s before then t told does = absurd t
+  insert_turn insert.New (insert.Over last) got seen.Done s before then t told does = absurd t
+  insert_turn insert.New a' got (seen.Words page) s before then t told does = absurd t
+  insert_turn insert.New a' got (seen.Took y) s before then t told does = absurd t
+  insert_turn insert.New a' got (seen.Owner retired started own) s before then t told does = absurd t
+  insert_turn insert.New a' got (seen.Blocks it) s before then t told does = absurd t
+  insert_turn insert.New a' got seen.Missed s before then t told does = absurd t
+  insert_turn insert.New a' got seen.Refused s before then t told does = absurd t
+  insert_turn (insert.Present x there) insert.New got seen.Done s before then t told does = absurd t
+  insert_turn (insert.Present x there) (insert.Coming a') got seen.Done s before then t told does = absurd t
+  insert_turn (insert.Present x there) (insert.Present y v) got seen.Done s before then t told does = absurd t
+  insert_turn (insert.Present x there) (insert.Changing d) got seen.Done s before then t told does = absurd t
+  insert_turn (insert.Present x there) (insert.Ending last) got seen.Done s before then t told does = stay_turn x there got s before (rw t at then) does
+  insert_turn (insert.Present x there) (insert.Over last) got seen.Done s before then t told does = absurd t
+  insert_turn (insert.Present x there) a' got (seen.Words page) s before then t told does = absurd t
+  insert_turn (insert.Present x there) a' got (seen.Took y) s before then t told does = absurd t
+  insert_turn (insert.Present x there) a' got (seen.Owner retired started own) s before then t told does = absurd t
+  insert_turn (insert.Present x there) a' got (seen.Blocks it) s before then t told does = absurd t
+  insert_turn (insert.Present x there) a' got seen.Missed s before then t told does = absurd t
+  insert_turn (insert.Present x there) a' got seen.Refused s before then t told does = absurd t
+  insert_turn (insert.Ending r) insert.New got seen.Done s before then t told does = absurd t
+  insert_turn (insert.Ending r) (insert.Coming a') got seen.Done s before then t told does = absurd t
+  insert_turn (insert.Ending r) (insert.Present y v) got seen.Done s before then t told does = absurd t
+  insert_turn (insert.Ending r) (insert.Changing d) got seen.Done s before then t told does = absurd t
+  insert_turn (insert.Ending r) (insert.Ending last) got seen.Done s before then t told does = absurd t
+  insert_turn (insert.Ending r) (insert.Over last) got seen.Done s before then t told does = end_turn know w g p b (inserts key value r) s before (rw t at then) does
+  insert_turn (insert.Ending r) a' got (seen.Words page) s before then t told does = absurd t
+  insert_turn (insert.Ending r) a' got (seen.Took y) s before then t told does = absurd t
+  insert_turn (insert.Ending r) a' got (seen.Owner retired started own) s before then t told does = absurd t
+  insert_turn (insert.Ending r) a' got (seen.Blocks it) s before then t told does = absurd t
+  insert_turn (insert.Ending r) a' got seen.Missed s before then t told does = absurd t
+  insert_turn (insert.Ending r) a' got seen.Refused s before then t told does = absurd t
+  insert_turn (insert.Over r) insert.New got seen.Done s before then t told does = absurd t
+  insert_turn (insert.Over r) (insert.Coming a') got seen.Done s before then t told does = absurd t
+  insert_turn (insert.Over r) (insert.Present y v) got seen.Done s before then t told does = absurd t
+  insert_turn (insert.Over r) (insert.Changing d) got seen.Done s before then t told does = absurd t
+  insert_turn (insert.Over r) (insert.Ending last) got seen.Done s before then t told does = absurd t
+  insert_turn (insert.Over r) (insert.Over last) got seen.Done s before then t told does = absurd t
+  insert_turn (insert.Over r) a' got (seen.Words page) s before then t told does = absurd t
+  insert_turn (insert.Over r) a' got (seen.Took y) s before then t told does = absurd t
+  insert_turn (insert.Over r) a' got (seen.Owner retired started own) s before then t told does = absurd t
+  insert_turn (insert.Over r) a' got (seen.Blocks it) s before then t told does = absurd t
+  insert_turn (insert.Over r) a' got seen.Missed s before then t told does = absurd t
+  insert_turn (insert.Over r) a' got seen.Refused s before then t told does = absurd t

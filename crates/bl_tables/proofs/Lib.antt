@@ -1,0 +1,13 @@
+pub mod Acts
+pub mod Approaching
+pub mod Changing
+pub mod Ends
+pub mod Finding
+pub mod Entering
+pub mod Inserting
+pub mod Deleting
+pub mod Growing
+pub mod Posting
+pub mod Plain
+pub mod Turning
+pub mod Starting

@@ -1,0 +1,105 @@
+-- Where worlds of processes begin, how a process enters one, and the laws of each.
+use Rattle.std.proofs.Common.{ℕ, ◌≡◌, ◌≢◌, ◌⊎◌, ◌<◌, None, Some, [], ap, sym, ◌∙◌, refl, inl, inr}
+use Rattle.bl_page.specs.Machine.{Name, State}
+use Rattle.bl_page.specs.declared.page.Page.{Page}
+use Rattle.bl_page.specs.Machine.Phase.{Waiting}
+use Rattle.bl_tree.specs.Trees.Status.{Gone, Right}
+use Rattle.bl_trails.specs.Moments.{HasLaws}
+use Rattle.bl_trails.specs.Trails.{marks_of, HasSaid}
+use Rattle.bl_trails.proofs.Pushes.{name_cases}
+use Rattle.bl_steps.specs.Worlds.{Know, World, Each, IsHeld, IsGoes, IsRelied, IsSure, IsGood, IsPassed, MayGet, IsGone}
+use Rattle.bl_steps.proofs.Frames.{Each-map}
+use Rattle.bl_steps.proofs.After.{put_name, is_put_name}
+use Rattle.bl_starts.specs.Blank.{IsBlank}
+use Rattle.bl_starts.specs.Told.{TellsMiddles}
+use Rattle.bl_starts.proofs.WorldLaws.{laws}
+use Rattle.bl_tables.specs.Knowing.{Run, know}
+use Rattle.bl_tables.proofs.Plain.{plain}
+
+-- The laws of the tree hold in every good world of these processes.
+pub run_laws : (w : World Run) → IsGood know w → HasLaws w.now w.trail (w.map 0)
+run_laws w g = laws know w (record {
+  middle = λ x y e. absurd (none x y e);
+  evening = λ x y e. absurd (none x y e);
+}) g
+  where
+    none : (x y : ℕ) → w.status y ≡ Right x → ⊥
+    none x y e = (let m = g.middles x y e in let n = (plain (w.proc m.by)).middle in let i = m.is in cc)
+
+-- the same world with another process at one name
+abbrev pub with_proc : World Run → Name → Run → World Run
+with_proc w p b = record w { proc = put_name p b w.proc }
+
+same_sure : (w : World Run) (p q : Name) (b : Run) (k : Know) → IsSure w q k → IsSure (with_proc w p b) q k
+same_sure w p q b k is = record {
+  stage = is.stage;
+  said = is.said;
+  holds = Each-map (IsHeld w q) (IsHeld (with_proc w p b) q) k.holds (λ h i. record { owner = i.owner; status = i.status; sep = i.sep; page = i.page }) is.holds;
+  goes = Each-map (IsGoes w q) (IsGoes (with_proc w p b) q) k.goes (λ h i. record { may = same_may w p q b h.page i.may; least = i.least; most = i.most }) is.goes;
+  children = Each-map (IsRelied w q) (IsRelied (with_proc w p b) q) k.children (λ c i. record { owner = i.owner; status = i.status; covers = i.covers; level = i.level; alive = i.alive; sep = i.sep }) is.children;
+  passed = passed k.passed is.passed;
+  sound = is.sound;
+  log = is.log;
+}
+  where
+    same_may : (w : World Run) (p q : Name) (b : Run) (x : ℕ) → MayGet w q x → MayGet (with_proc w p b) q x
+    same_may w p q b x m = record { since = m.since; runs = m.runs; was = m.was; kept = m.kept }
+
+    passed : (s : _) → IsPassed w s → IsPassed (with_proc w p b) s
+    passed None h = h
+    passed (Some s) h = h
+
+-- A process that has done nothing enters where none has begun.
+pub enters_good : (w : World Run) (p : Name) (b : Run) → IsGood know w → w.now.phase p ≡ Waiting → IsBlank (know (w.proc p)) → IsBlank (know b) → IsGood know (with_proc w p b)
+enters_good w p b g waiting old new =
+    let put = is_put_name p b w.proc in
+    record {
+      tree = g.tree;
+      owned = record {
+        released = g.owned.released;
+        free = g.owned.free;
+        opened = g.owned.opened;
+        retired = g.owned.retired;
+        held = λ x q o. elim (name_cases q p) [
+          | inl e ↦ absurd (let h = g.owned.held x q o in let f : know (w.proc q) ≡ know (w.proc p) = ap (λ n. know (w.proc n)) e in rw (f, old.holds) at h)
+          | inr n ↦ rw (put.others q n) (g.owned.held x q o)
+        ];
+        small = g.owned.small;
+        one_anchor = g.owned.one_anchor;
+      };
+      recorded = record {
+        leads = g.recorded.leads;
+        marked = g.recorded.marked;
+        phases = g.recorded.phases;
+        legal = g.recorded.legal;
+        map = g.recorded.map;
+        since = g.recorded.since;
+      };
+      names = record { fresh = g.names.fresh; named = g.names.named };
+      gone = λ x h. let o = g.gone x h in record {
+        end = o.end;
+        leads = λ q m. (
+          let l = o.leads q (record { since = m.since; runs = m.runs; was = m.was; kept = m.kept }) in
+          (record { since = l.0.since; runs = l.0.runs; was = l.0.was; kept = l.0.kept }, l.1));
+        not_yet = o.not_yet;
+      };
+      middles = λ x y e. absurd (let m = g.middles x y e in let n = (plain (w.proc m.by)).middle in let i = m.is in cc);
+      sure = λ q. elim (name_cases q p) [
+        | inl e ↦
+            let is : IsSure w q (know (w.proc q)) = g.sure q in
+            let same : know (w.proc q) ≡ know (w.proc p) = ap (λ n. know (w.proc n)) e in
+            let said : HasSaid w.trail q None = rw (same, old.said) at is.said in
+            let at : put_name p b w.proc q ≡ b = ap (put_name p b w.proc) e ∙ put.at in
+            rw at (record {
+              stage = rw (new.stage, e) waiting;
+              said = rw new.said said;
+              holds = rw new.holds tt;
+              goes = rw new.goes tt;
+              children = rw new.children tt;
+              passed = rw new.passed tt;
+              sound = new.sound;
+              log = (plain b).log (marks_of q w.trail);
+            })
+        | inr n ↦ rw (put.others q n) (same_sure w p q b (know (w.proc q)) (g.sure q))
+      ];
+    }

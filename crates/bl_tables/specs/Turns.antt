@@ -1,0 +1,48 @@
+-- A turn of one process: what it was told, what that event did to the pages, and the world after it.
+use Rattle.std.specs.Prelude.{◌≡◌, ℕ, ◌<◌, ◌≤◌, Option}
+use Rattle.bl_model.specs.declared.operation.Reply.{Reply}
+use Rattle.bl_page.specs.declared.page.Page.{Page}
+use Rattle.bl_page.specs.Machine.{Name, Owner, State, Act, Looked, Changes}
+use Rattle.bl_page.specs.Machine.Owner.{Released}
+use Rattle.bl_page.specs.Machine.Act.{Begin, End, Get, Put, Take, Latch, Retire, Release, Miss}
+use Rattle.bl_trails.specs.Trails.{Said}
+use Rattle.bl_steps.specs.Worlds.{Know, World, IsGood, Extends}
+use Rattle.bl_proc.specs.declared.acts.Action.{Action}
+use Rattle.bl_proc.specs.declared.acts.Action.TheVariants as act
+use Rattle.bl_proc.specs.declared.acts.Seen.{Seen}
+use Rattle.bl_proc.specs.declared.acts.Seen.TheVariants as seen
+
+-- The event of an action that gave this. An end carries the reply of the operation, if the process has one.
+abbrev pub event_of : Option Reply → Action → Seen → Act Page Reply
+event_of reply act.Begin seen.Done = Begin
+event_of reply act.End seen.Done = End reply
+event_of reply (act.Get x) (seen.Words c) = Get x
+event_of reply (act.Put x c) seen.Done = Put x c
+event_of reply (act.Latch x) seen.Done = Latch x
+event_of reply act.Take (seen.Took y) = Take y
+event_of reply (act.Open x) seen.Done = Act.Open x
+event_of reply (act.Retire x) seen.Done = Retire x
+event_of reply (act.Release x) seen.Done = Release x
+event_of reply action what = Miss
+
+-- What it was told is true of the pages. Whether a page may be got, put or opened is not asked: the process knows it.
+abbrev pub IsTold : State Page → ℕ → Action → Seen → Type 0
+IsTold s size (act.Get x) (seen.Words c) = c ≡ s.contents x
+IsTold s size (act.Latch x) seen.Done = s.owner x ≡ Owner.Open
+IsTold s size act.Take (seen.Took y) = (s.owner y ≡ Released) × (y < size)
+IsTold s size action what = Unit {0}
+
+-- what an event of p does to the pages
+pub record Does (s : State Page) (p : Name) (a : Act Page Reply) (s' : State Page) : Type 0 where
+  pub changes : Changes s p a s'
+  pub on : s.clock ≤ s'.clock
+
+-- The world after an event of p, which is then b: it is good, and its trail has one mark more, with what the event saw and
+-- what operation has its point there.
+pub record Turned {P : Type 0} (know : P → Know) (w : World P) (p : Name) (a : Act Page Reply) (s : State Page) (b : P) : Type 0 where
+  pub next : World P
+  pub saw : Option Page
+  pub said : Option Said
+  pub extends : Extends w next (record { event = record { process = p; act = a }; saw = saw; said = said }) b
+  pub now : next.now ≡ s
+  pub good : IsGood know next
