@@ -1,3 +1,2 @@
 pub mod Descents
 pub mod Children
-pub mod Searches

@@ -1,17 +1,15 @@
 -- One event of a process, by what it knows before and after: the world after it is good.
-use Rattle.std.proofs.Common.{ℕ, ◌≡◌, ◌≢◌, ◌⊎◌, ◌≤◌, ◌<◌, ◌++◌, Bool, true, false, Option, Some, None, List, [], ◌∷◌, arith, ap, sym, ◌∙◌, refl, subst, inl, inr}
+use Rattle.std.proofs.Common.{ℕ, ◌≡◌, ◌≢◌, ◌⊎◌, ◌<◌, Option, Some, None, List, [], ◌∷◌, sym, ◌∙◌, refl, subst, inl, inr}
 use Rattle.bl_model.specs.declared.operation.Reply.{Reply}
 use Rattle.bl_page.specs.declared.page.Page.{Page}
-use Rattle.bl_page.specs.Machine.{Name, Owner, State, Act, Phase, Steps, Enabled, IsAt}
-use Rattle.bl_page.specs.Machine.Act.{Begin, End, Get, Put, Take, Latch, Miss}
+use Rattle.bl_page.specs.Machine.{Name, Owner, State, Act, Phase, Enabled}
+use Rattle.bl_page.specs.Machine.Act.{Begin, End, Take, Latch}
 use Rattle.bl_page.specs.Machine.Phase.{Running}
-use Rattle.bl_tree.specs.Nodes.{unbounded}
 use Rattle.bl_tree.specs.Trees.{Status}
 use Rattle.bl_page.specs.Machine.Owner.{Released, Held}
-use Rattle.bl_tree.specs.Nodes.{Look}
-use Rattle.bl_tree.specs.Trees.Status.{Free, Fresh, Live, Gone, Anchored}
+use Rattle.bl_tree.specs.Trees.Status.{Fresh, Live, Gone, Anchored}
 use Rattle.bl_trails.specs.Trails.{Said, Mark, Saw, Answered, HasSaid}
-use Rattle.bl_steps.specs.Worlds.{Hold, Know, World, MapsTo, Each, Holds, IsHeld, IsSure, IsGood, silent, get_mark, put_mark}
+use Rattle.bl_steps.specs.Worlds.{Hold, Know, World, MapsTo, Each, Holds, IsHeld, IsSure, IsGood, silent}
 use Rattle.bl_steps.proofs.Watches.{Learns, IsWatch, Watches-keeps}
 use Rattle.bl_steps.proofs.Latches.{Latches-keeps, Opens-keeps}
 use Rattle.bl_steps.proofs.Ends.{Begins-keeps, Finishes-keeps}

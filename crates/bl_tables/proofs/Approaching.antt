@@ -1,20 +1,17 @@
 -- A writer on its way to the page of its level that covers its key: each of its turns keeps a world good.
-use Rattle.std.proofs.Common.{ℕ, ◌≡◌, ◌≢◌, ◌⊎◌, ◌≤◌, ◌<◌, ◌-◌, ◌++◌, Bool, true, false, Option, Some, None, suc, List, [], ◌∷◌, arith, ap, sym, ◌∙◌, refl, subst, inl, inr}
+use Rattle.std.proofs.Common.{ℕ, ◌≡◌, ◌≢◌, ◌⊎◌, ◌≤◌, ◌<◌, ◌-◌, Option, Some, None, List, [], ◌∷◌, arith, sym, ◌∙◌, refl, subst, inl, inr}
 use Rattle.bl_page.specs.declared.page.Page.{Page}
 use Rattle.bl_page.specs.declared.page.Page.TheVariants.{Anchor, Leaf, Inner, Dead}
 use Rattle.bl_page.specs.Machine.{Name, Owner, State, Act}
 use Rattle.bl_page.specs.Machine.Owner.{Held}
 use Rattle.bl_page.specs.Machine.Act.{Get, Latch, Miss}
-use Rattle.bl_page.specs.Machine.Phase.{Running}
-use Rattle.bl_tree.specs.Nodes.{Covers, unbounded}
-use Rattle.bl_tree.specs.Trees.Status.{Live, Gone}
+use Rattle.bl_tree.specs.Nodes.{unbounded}
+use Rattle.bl_tree.specs.Trees.Status.{Live}
 use Rattle.bl_laws.specs.Pages.{node_of, roots_of, IsTreePage}
-use Rattle.bl_laws.specs.Walks.{IsChildOf}
-use Rattle.bl_trails.specs.Trails.{Mark, HasSaid}
+use Rattle.bl_trails.specs.Trails.{HasSaid}
 use Rattle.bl_trails.proofs.Pushes.{HasSaid-silent}
-use Rattle.bl_steps.specs.Worlds.{Goes, Stage, Know, World, nodes, Each, IsStage, MayGet, IsGoes, IsSure, IsGood, silent, get_mark}
+use Rattle.bl_steps.specs.Worlds.{Goes, Stage, Know, World, nodes, Each, IsStage, MayGet, IsGoes, IsSure, IsGood}
 use Rattle.bl_steps.proofs.Watches.{Learns}
-use Rattle.bl_steps.proofs.After.{after}
 use Rattle.bl_descents.proofs.Descents.{goes_leftmost, goes_on, goes_right, goes_down, not_released, anchor_not_released, open_live}
 use Rattle.bl_proc.specs.declared.acts.Seen.{Seen}
 use Rattle.bl_proc.specs.declared.acts.Seen.TheVariants as seen
@@ -24,7 +21,6 @@ use Rattle.bl_proc.specs.declared.approaching.Approach.{Approach}
 use Rattle.bl_proc.specs.declared.approaching.Approach.TheVariants.{Start, At, Latching, Latched, Leaving}
 use Rattle.bl_proc.specs.declared.approaching.Approached.TheVariants as came
 use Rattle.bl_proc.specs.Onwards.{IsDead, Leads}
-use Rattle.bl_proc.specs.Searches.{top_of}
 use Rattle.bl_proc.specs.Approaches.{approach_next, Enters, Turns, Quits, Approaches}
 use Rattle.bl_tables.specs.Turns.{event_of, IsTold, Does, Turned}
 use Rattle.bl_tables.specs.Tables.{idle, holds_live, goes_to, know_approach}
@@ -131,16 +127,14 @@ module _ {P : Type 0} (know : P → Know) (w : World P) (g : IsGood know w) (p :
   pub turns_goes : (level key x z : ℕ) (o : Onward) → IsGoes w p (goes_to x level 12) → key < unbounded → Leads (w.now.contents x) key level o → (Turns level x (w.now.contents x) o (At z) → IsGoes w p (goes_to z level 12)) × (Turns level x (w.now.contents x) o (Latching z) → IsGoes w p (goes_to z level level))
   turns_goes level key x z Again h below l = (λ t. absurd t, λ t. absurd t)
   turns_goes level key x z (Right y) h below l =
-      let to = to_right x key h.may l.1 below in
-      (
+      let to = to_right x key h.may l.1 below in (
         λ t. let same : z ≡ (nodes w.now x).shape.right = t.0 ∙ l.0 in rw same (wider _ _ _ level 12 h.least h.most to),
         λ t. let same : z ≡ (nodes w.now x).shape.right = t.0 ∙ l.0 in rw same (wider _ _ _ level level h.least (omega (arith, t.1)) to),
       )
   turns_goes level key x z (Down y) h below l =
       let to = goes_down know w g p x ((nodes w.now x).shape.level - 1) key y h.may l.0 (let u = l.2 in omega arith) l.3 in
       let u = l.2 in
-      let m = h.most in
-      (
+      let m = h.most in (
         λ t. rw t.0 (wider _ _ _ level 12 (omega arith) (omega arith) to),
         λ t. rw t.0 (wider _ _ _ level level (omega arith) (omega (arith, t.1)) to),
       )
@@ -153,8 +147,7 @@ module _ {P : Type 0} (know : P → Know) (w : World P) (g : IsGood know w) (p :
   pub enters_goes : (level x : ℕ) → IsStage Stage.Busy (w.now.phase p) → (Enters level (roots_of (w.now.contents 0)) (At x) → IsGoes w p (goes_to x level 12)) × (Enters level (roots_of (w.now.contents 0)) (Latching x) → IsGoes w p (goes_to x level level))
   enters_goes level x stage =
       let few = g.tree.few_levels in
-      let top = (roots_of (w.now.contents 0)).levels - 1 in
-      (
+      let top = (roots_of (w.now.contents 0)).levels - 1 in (
         λ e. rw e.1 (wider _ top top level 12 (let u = e.0 in omega arith) (omega arith) (goes_leftmost know w g p stage.0 top stage.1 (let u = e.0 in omega arith))),
         λ e. rw e.1 (goes_leftmost know w g p stage.0 level stage.1 (let u = e.0 in omega arith)),
       )

@@ -1,27 +1,23 @@
 -- A process changes one pair of a page that it holds: each of its turns keeps a world good.
-use Rattle.std.proofs.Common.{ℕ, ◌≡◌, ◌≢◌, ◌⊎◌, ◌≤◌, ◌<◌, ◌++◌, Bool, true, false, Option, Some, None, suc, List, [], ◌∷◌, length, arith, ap, sym, ◌∙◌, refl, subst, inl, inr}
+use Rattle.std.proofs.Common.{ℕ, ◌≡◌, ◌≢◌, ◌<◌, ◌++◌, false, Option, Some, None, List, [], ◌∷◌, length, ap, sym, ◌∙◌, refl, subst, inl, inr}
 use Rattle.std.proofs.lemmas.Bool.{cases_eq, false≢true}
-use Rattle.bl_model.specs.Map.{Map}
 use Rattle.bl_page.specs.declared.page.Page.{Page}
-use Rattle.bl_page.specs.Machine.{Name, Owner, State, Act, Steps, IsAt}
-use Rattle.bl_page.specs.Machine.Owner.{Released, Held}
-use Rattle.bl_page.specs.Machine.Act.{Get, Put, Take, Latch, Miss}
-use Rattle.bl_page.specs.Machine.Phase.{Running}
-use Rattle.bl_rearrange.specs.declared.fitted.Fitted.TheVariants.{Fits, Split}
+use Rattle.bl_page.specs.Machine.{Name, State, Act}
+use Rattle.bl_page.specs.Machine.Owner.{Released}
+use Rattle.bl_page.specs.Machine.Act.{Put, Take, Miss}
+use Rattle.bl_rearrange.specs.declared.fitted.Fitted.TheVariants.{Split}
 use Rattle.bl_rearrange.specs.Rearranged.{IsFitted}
-use Rattle.bl_tree.specs.Nodes.{Look, Covers, unbounded}
+use Rattle.bl_tree.specs.Nodes.{Look}
 use Rattle.bl_tree.specs.Trees.{Status, is_live, IsLive}
-use Rattle.bl_tree.specs.Trees.Status.{Free, Fresh, Live, Gone}
+use Rattle.bl_tree.specs.Trees.Status.{Free, Fresh, Live}
 use Rattle.bl_tree.specs.Moves.{IsMapRow, IsRow, IsCut}
 use Rattle.bl_tree.proofs.Statuses.{live_live, free_dead, fresh_dead}
 use Rattle.bl_laws.specs.Pages.{node_of}
 use Rattle.bl_trails.specs.Trails.{Said, Mark, HasSaid}
 use Rattle.bl_trails.proofs.Pushes.{HasSaid-silent, SaysAt-last}
-use Rattle.bl_steps.specs.Worlds.{Hold, Child, Stage, Know, World, nodes, tree_of, MapsTo, Each, IsStage, IsHeld, IsRelied, IsSure, IsGood, silent, put_mark}
+use Rattle.bl_steps.specs.Worlds.{Hold, Child, Stage, Know, World, nodes, MapsTo, IsHeld, IsRelied, IsSure, IsGood, silent, put_mark}
 use Rattle.bl_steps.proofs.Frames.{Each-map}
-use Rattle.bl_steps.proofs.Watches.{Learns}
 use Rattle.bl_steps.proofs.After.{after, Extends-after, put_at, is_put_at}
-use Rattle.bl_puts.specs.Puts.{PutsFresh, PutsRow, PutsSplit}
 use Rattle.bl_puts.proofs.Moves.{PutsFresh-keeps, PutsRow-keeps, PutsSplit-keeps}
 use Rattle.bl_puts.proofs.Fitted.{split_cut}
 use Rattle.bl_proc.specs.declared.acts.Seen.{Seen}
@@ -35,8 +31,8 @@ use Rattle.bl_proc.specs.declared.changing.Full.{Full}
 use Rattle.bl_proc.specs.declared.changing.Parting.{Parting}
 use Rattle.bl_proc.specs.declared.changing.Change.{Change}
 use Rattle.bl_proc.specs.declared.changing.Change.TheVariants.{Putting, Taking, PuttingNew, PuttingOld, OpeningNew, Opening}
-use Rattle.bl_tables.specs.Tables.{idle, holds_live, holds_known, Aim, IsAim, IsDue, know_change}
-use Rattle.bl_tables.proofs.Acts.{sure, of_held, not_gone, watched, opened, taken}
+use Rattle.bl_tables.specs.Tables.{idle, holds_known, Aim, IsAim, IsDue, know_change}
+use Rattle.bl_tables.proofs.Acts.{of_held, not_gone, watched, opened, taken}
 
 -- one row of one level
 abbrev pub row_at : ℕ → ℕ → Option ℕ → (ℕ → Look) → ℕ → Look

@@ -1,10 +1,10 @@
 -- A process begins, and ends, by what it knows.
-use Rattle.std.proofs.Common.{ℕ, ◌≡◌, ◌<◌, Option, Some, None, List, [], ◌∷◌, ap, sym, ◌∙◌, refl}
+use Rattle.std.proofs.Common.{ℕ, ◌≡◌, ◌<◌, Option, Some, None, refl}
 use Rattle.bl_model.specs.declared.operation.Reply.{Reply}
-use Rattle.bl_page.specs.Machine.{Name, State, Phase, Act}
+use Rattle.bl_page.specs.Machine.{Name, State}
 use Rattle.bl_page.specs.Machine.Act.{Begin, End}
 use Rattle.bl_tree.specs.Nodes.{unbounded}
-use Rattle.bl_trails.specs.Trails.{Said, Mark, Answered, HasSaid}
+use Rattle.bl_trails.specs.Trails.{Said, Answered, HasSaid}
 use Rattle.bl_trails.proofs.Pushes.{HasSaid-silent}
 use Rattle.bl_steps.specs.Worlds.{Stage, Know, World, IsSure, IsGood, silent}
 use Rattle.bl_tables.specs.Turns.{Does, Turned}

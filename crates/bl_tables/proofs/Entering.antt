@@ -1,22 +1,18 @@
 -- At the page of its level that covers its key, under its latch: what a process knows when it begins to change the page.
-use Rattle.std.proofs.Common.{ℕ, ◌≡◌, ◌≢◌, ◌⊎◌, Option, Some, None, List, [], ◌∷◌, ap, sym, ◌∙◌, refl, subst, inl, inr}
+use Rattle.std.proofs.Common.{ℕ, ◌≡◌, Option, Some, None, ap, sym, ◌∙◌, refl, subst, inl}
 use Rattle.bl_page.specs.declared.page.Page.{Page}
-use Rattle.bl_page.specs.Machine.{Name, State, Act}
+use Rattle.bl_page.specs.Machine.{Name, Act}
 use Rattle.bl_page.specs.Machine.Owner.{Held}
-use Rattle.bl_page.specs.Machine.Act.{Get}
-use Rattle.bl_rearrange.specs.declared.fitted.Fitted.TheVariants.{Fits}
-use Rattle.bl_rearrange.specs.Rearranged.{IsFitted, IsWithout}
 use Rattle.bl_tree.specs.Trees.Status.{Live}
-use Rattle.bl_laws.specs.Pages.{node_of}
-use Rattle.bl_trails.specs.Trails.{Mark, HasSaid}
+use Rattle.bl_trails.specs.Trails.{HasSaid}
 use Rattle.bl_trails.proofs.Pushes.{HasSaid-silent}
-use Rattle.bl_steps.specs.Worlds.{Stage, Know, World, Each, IsStage, IsRelied, Holds}
+use Rattle.bl_steps.specs.Worlds.{Stage, World, Each, IsStage, IsRelied, Holds}
 use Rattle.bl_steps.proofs.Watches.{Learns}
 use Rattle.bl_puts.proofs.Fitted.{fits_row, without_row}
 use Rattle.bl_proc.specs.declared.changing.Change.{Change}
 use Rattle.bl_proc.specs.declared.changing.Change.TheVariants.{Putting, Taking, PuttingNew, PuttingOld, OpeningNew, Opening}
 use Rattle.bl_proc.specs.Changes.{EntersPair, DropsPair}
-use Rattle.bl_tables.specs.Tables.{idle, Aim, IsDue, know_change}
+use Rattle.bl_tables.specs.Tables.{Aim, IsDue, know_change}
 
 -- What it has of page x, which is c, when a change of it begins.
 pub record Begun {P : Type 0} (w w' : World P) (p : Name) (aim : Aim) (x : ℕ) (c : Page) : Type 0 where

@@ -1,23 +1,22 @@
 -- Every turn of a search keeps a world good.
-use Rattle.std.proofs.Common.{ℕ, ◌≡◌, ◌≢◌, ◌⊎◌, ◌≤◌, ◌<◌, ◌-◌, Option, Some, None, suc, List, [], ◌∷◌, length, arith, ap, sym, ◌∙◌, refl, subst, inl, inr}
+use Rattle.std.proofs.Common.{ℕ, ◌≡◌, ◌-◌, Option, Some, None, [], ◌∷◌, arith, sym, ◌∙◌, refl, inl, inr}
 use Rattle.bl_page.specs.declared.page.Page.{Page}
-use Rattle.bl_page.specs.Machine.{Name, State, Act}
+use Rattle.bl_page.specs.Machine.{Name, State}
 use Rattle.bl_page.specs.Machine.Act.{Get}
-use Rattle.bl_tree.specs.Nodes.{unbounded}
-use Rattle.bl_laws.specs.Pages.{node_of, roots_of}
-use Rattle.bl_trails.specs.Trails.{Mark, Said}
+use Rattle.bl_laws.specs.Pages.{roots_of}
+use Rattle.bl_trails.specs.Trails.{Mark}
 use Rattle.bl_steps.specs.Worlds.{Know, World, nodes, MapsTo, IsGoes, IsSure, IsGood}
 use Rattle.bl_descents.proofs.Descents.{goes_leftmost, goes_down, leaf_says, not_released, anchor_not_released}
 use Rattle.bl_proc.specs.declared.acts.Seen.{Seen}
 use Rattle.bl_proc.specs.declared.acts.Seen.TheVariants as seen
-use Rattle.bl_proc.specs.declared.onwards.Onward.TheVariants.{Again, Right, Down, Here}
+use Rattle.bl_proc.specs.declared.onwards.Onward.TheVariants.{Right, Down, Here}
 use Rattle.bl_proc.specs.declared.searching.FindStage.{FindStage}
 use Rattle.bl_proc.specs.declared.searching.FindStage.TheVariants.{New, AtAnchor, At, Ending, Over}
 use Rattle.bl_proc.specs.Onwards.{Leads}
 use Rattle.bl_proc.specs.Searches.{find_next_in, FindGoes}
 use Rattle.bl_tables.specs.Turns.{event_of, IsTold, Does, Turned}
-use Rattle.bl_tables.specs.Tables.{idle, goes_to}
-use Rattle.bl_tables.specs.Knowing.{found, found_reply, know_find, find_end}
+use Rattle.bl_tables.specs.Tables.{goes_to}
+use Rattle.bl_tables.specs.Knowing.{found, know_find, find_end}
 use Rattle.bl_tables.proofs.Acts.{watched}
 use Rattle.bl_tables.proofs.Approaching.{got_goes, to_right, wider}
 use Rattle.bl_tables.proofs.Changing.{says}

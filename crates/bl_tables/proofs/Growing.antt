@@ -1,5 +1,5 @@
 -- Every turn of a growth keeps a world good.
-use Rattle.std.proofs.Common.{ℕ, ◌≡◌, ◌≢◌, ◌⊎◌, ◌≤◌, ◌<◌, ◌-◌, ◌++◌, Option, Some, None, zero, suc, List, [], ◌∷◌, length, get_or, arith, ap, sym, ◌∙◌, refl, subst, inl, inr}
+use Rattle.std.proofs.Common.{ℕ, ◌≡◌, ◌≢◌, ◌<◌, ◌-◌, ◌++◌, Option, Some, None, zero, suc, List, [], ◌∷◌, length, get_or, arith, ap, sym, ◌∙◌, refl, subst, inl, inr}
 use Rattle.bl_model.specs.Rows.{map_of}
 use Rattle.bl_page.specs.declared.page.Page.{Page}
 use Rattle.bl_page.specs.declared.page.Page.TheVariants.{Anchor, Leaf, Inner, Dead}
@@ -8,17 +8,15 @@ use Rattle.bl_page.specs.Machine.Owner.{Released, Held}
 use Rattle.bl_page.specs.Machine.Act.{Get, Put, Take, Latch, Miss}
 use Rattle.bl_page.specs.Pairs.{end_of}
 use Rattle.bl_tree.specs.Nodes.{unbounded}
-use Rattle.bl_tree.specs.Trees.{Status, IsLive}
-use Rattle.bl_tree.specs.Trees.Status.{Free, Fresh, Live, Gone, Anchored}
+use Rattle.bl_tree.specs.Trees.Status.{Free, Fresh, Live, Anchored}
 use Rattle.bl_tree.proofs.Statuses.{free_dead, fresh_dead}
 use Rattle.bl_laws.specs.Pages.{node_of, roots_of}
 use Rattle.bl_trails.proofs.Pushes.{HasSaid-silent}
 use Rattle.bl_trails.specs.Trails.{Mark, HasSaid}
-use Rattle.bl_steps.specs.Worlds.{Goes, Hold, IfKnown, Stage, Know, World, nodes, Each, IsStage, IsHeld, IsSure, IsGood, silent, put_mark}
+use Rattle.bl_steps.specs.Worlds.{IfKnown, Stage, Know, World, nodes, IsStage, IsHeld, IsSure, IsGood, silent, put_mark}
 use Rattle.bl_steps.proofs.Watches.{Learns}
 use Rattle.bl_steps.proofs.After.{after, Extends-after, put_at, is_put_at}
 use Rattle.bl_descents.proofs.Descents.{anchor_not_released}
-use Rattle.bl_puts.specs.Puts.{PutsFresh, PutsTop}
 use Rattle.bl_puts.proofs.Moves.{PutsFresh-keeps, PutsTop-keeps}
 use Rattle.bl_proc.specs.declared.growing.Rise.{Rise}
 use Rattle.bl_proc.specs.declared.growing.Raising.{Raising}
@@ -31,8 +29,8 @@ use Rattle.bl_proc.specs.declared.approaching.Approach.TheVariants.{Start}
 use Rattle.bl_proc.specs.declared.posting.PostStage.TheVariants.{Growing}
 use Rattle.bl_proc.specs.Growths.{growth_next, IsTop, IsAnchor, Raises, Grows}
 use Rattle.bl_tables.specs.Turns.{event_of, IsTold, Does, Turned}
-use Rattle.bl_tables.specs.Tables.{idle, holds_live, know_approach}
-use Rattle.bl_tables.specs.Knowing.{ending, anchor_known, MayRise, know_growth, post_got}
+use Rattle.bl_tables.specs.Tables.{idle, know_approach}
+use Rattle.bl_tables.specs.Knowing.{ending, anchor_known, know_growth, post_got}
 use Rattle.bl_tables.proofs.Acts.{of_held, not_gone, watched, latched, opened, taken}
 use Rattle.bl_tables.proofs.Approaching.{walks}
 use Rattle.bl_tables.proofs.Changing.{Aside, aside_held}

@@ -1,11 +1,10 @@
 -- Every turn of an insertion keeps a world good.
-use Rattle.std.proofs.Common.{ℕ, ◌≡◌, ◌≢◌, ◌⊎◌, ◌≤◌, ◌<◌, Option, Some, None, suc, List, [], ◌∷◌, arith, ap, sym, ◌∙◌, refl, subst, inl, inr}
+use Rattle.std.proofs.Common.{ℕ, ◌≡◌, ◌≢◌, Some, None, arith, ap, sym, ◌∙◌, refl, subst, inl, inr}
 use Rattle.bl_model.specs.Map.{Map}
 use Rattle.bl_page.specs.declared.page.Page.{Page}
 use Rattle.bl_page.specs.Machine.{Name, State, Act}
 use Rattle.bl_page.specs.Machine.Act.{Get}
-use Rattle.bl_laws.specs.Pages.{node_of}
-use Rattle.bl_trails.specs.Trails.{Mark, Said}
+use Rattle.bl_trails.specs.Trails.{Mark}
 use Rattle.bl_trails.proofs.Pushes.{HasSaid-silent}
 use Rattle.bl_steps.specs.Worlds.{Holds, Know, World, nodes, MapsTo, IsSure, IsGood, silent}
 use Rattle.bl_descents.proofs.Descents.{held_leaf_says, not_released}
@@ -19,23 +18,20 @@ use Rattle.bl_proc.specs.declared.approaching.Approached.TheVariants as came
 use Rattle.bl_proc.specs.declared.changing.Outcome.{Outcome}
 use Rattle.bl_proc.specs.declared.changing.Outcome.TheVariants as outcome
 use Rattle.bl_proc.specs.declared.changing.Change.{Change}
-use Rattle.bl_proc.specs.declared.changing.Change.TheVariants as change
-use Rattle.bl_proc.specs.declared.changing.Changed.TheVariants.{On, Over}
 use Rattle.bl_proc.specs.declared.inserting.InsertStage.{InsertStage}
 use Rattle.bl_proc.specs.declared.inserting.InsertStage.TheVariants as insert
-use Rattle.bl_proc.specs.declared.inserting.InsertReply.{InsertReply}
 use Rattle.bl_proc.specs.declared.inserting.InsertReply.TheVariants as inserted
 use Rattle.bl_proc.specs.Onwards.{Leads}
 use Rattle.bl_proc.specs.Approaches.{approach_next, Approaches}
-use Rattle.bl_proc.specs.Changes.{change_next, Changes, EntersPair}
+use Rattle.bl_proc.specs.Changes.{change_next, EntersPair}
 use Rattle.bl_proc.specs.Inserts.{insert_reply, insert_next_in, InsertArrives, InsertGoes}
 use Rattle.bl_tables.specs.Turns.{event_of, IsTold, Does, Turned}
-use Rattle.bl_tables.specs.Tables.{idle, Aim, IsAim, IsDue, know_approach, know_change}
+use Rattle.bl_tables.specs.Tables.{IsAim, know_approach, know_change}
 use Rattle.bl_tables.specs.Knowing.{inserts, insert_aim, know_insert, insert_got, insert_end}
 use Rattle.bl_tables.proofs.Acts.{watched, opened}
 use Rattle.bl_tables.proofs.Approaching.{arrival, approach_turn}
 use Rattle.bl_tables.proofs.Changing.{says, change_turn, finish_turn}
-use Rattle.bl_tables.proofs.Entering.{Begun, enters_learns, enters_places, change_middle}
+use Rattle.bl_tables.proofs.Entering.{enters_learns, enters_places, change_middle}
 use Rattle.bl_tables.proofs.Ends.{begin_turn, end_turn}
 
 pub insert_fine : (key value : ℕ) → IsAim (insert_aim key value)

@@ -1,50 +1,43 @@
 -- Every turn of a post keeps a world good.
-use Rattle.std.proofs.Common.{ℕ, ◌≡◌, ◌≢◌, ◌⊎◌, ◌≤◌, ◌<◌, ◌-◌, Option, Some, None, suc, List, [], ◌∷◌, arith, ap, sym, ◌∙◌, refl, subst, inl, inr}
+use Rattle.std.proofs.Common.{ℕ, ◌≡◌, ◌≤◌, ◌<◌, ◌-◌, Some, None, suc, [], ◌∷◌, arith, ap, sym, ◌∙◌, refl, subst, inl, inr}
 use Rattle.std.proofs.lemmas.Bool.{cases_eq}
-use Rattle.bl_model.specs.Map.{Map}
 use Rattle.bl_page.specs.declared.page.Page.{Page}
 use Rattle.bl_page.specs.declared.page.Page.TheVariants.{Inner}
 use Rattle.bl_page.specs.Machine.{Name, State, Act}
 use Rattle.bl_page.specs.Machine.Act.{Get}
 use Rattle.bl_tree.specs.Nodes.{Covers, unbounded}
 use Rattle.bl_tree.specs.Trees.{IsChild}
-use Rattle.bl_tree.specs.Trees.Status.{Live}
-use Rattle.bl_laws.specs.Pages.{node_of, roots_of}
-use Rattle.bl_trails.specs.Trails.{Mark, Said}
+use Rattle.bl_laws.specs.Pages.{node_of}
+use Rattle.bl_trails.specs.Trails.{Mark}
 use Rattle.bl_trails.proofs.Pushes.{HasSaid-silent}
-use Rattle.bl_steps.specs.Worlds.{Holds, Stage, Know, World, nodes, tree_of, MapsTo, IsGoes, IsSure, IsGood, silent}
-use Rattle.bl_steps.proofs.Watches.{Learns}
+use Rattle.bl_steps.specs.Worlds.{Holds, Stage, Know, World, nodes, tree_of, IsGoes, IsSure, IsGood}
 use Rattle.bl_descents.proofs.Descents.{goes_down, not_released, anchor_not_released}
 use Rattle.bl_descents.proofs.Children.{child_found}
 use Rattle.bl_proc.specs.declared.acts.Seen.{Seen}
 use Rattle.bl_proc.specs.declared.acts.Seen.TheVariants as seen
-use Rattle.bl_proc.specs.declared.onwards.Onward.TheVariants.{Right, Here}
+use Rattle.bl_proc.specs.declared.onwards.Onward.TheVariants.{Here}
 use Rattle.bl_proc.specs.declared.approaching.Approach.{Approach}
 use Rattle.bl_proc.specs.declared.approaching.Approach.TheVariants as way
 use Rattle.bl_proc.specs.declared.approaching.Approached.TheVariants as came
-use Rattle.bl_proc.specs.declared.changing.Outcome.{Outcome}
-use Rattle.bl_proc.specs.declared.changing.Outcome.TheVariants as outcome
 use Rattle.bl_proc.specs.declared.changing.Change.{Change}
-use Rattle.bl_proc.specs.declared.changing.Changed.TheVariants as change
 use Rattle.bl_proc.specs.declared.growing.Growth.{Growth}
 use Rattle.bl_proc.specs.declared.growing.Growth.TheVariants as growth
 use Rattle.bl_proc.specs.declared.posting.Walk.{Walk}
 use Rattle.bl_proc.specs.declared.posting.PostStage.{PostStage}
 use Rattle.bl_proc.specs.declared.posting.PostStage.TheVariants as post
-use Rattle.bl_proc.specs.declared.posting.PostReply.{PostReply}
 use Rattle.bl_proc.specs.declared.posting.PostReply.TheVariants as reply
 use Rattle.bl_proc.specs.Onwards.{Leads}
-use Rattle.bl_proc.specs.Approaches.{approach_next, Enters, Approaches}
-use Rattle.bl_proc.specs.Changes.{change_next, Changes, EntersPair}
-use Rattle.bl_proc.specs.Growths.{growth_next, Grows}
+use Rattle.bl_proc.specs.Approaches.{approach_next, Approaches}
+use Rattle.bl_proc.specs.Changes.{change_next, EntersPair}
+use Rattle.bl_proc.specs.Growths.{growth_next}
 use Rattle.bl_proc.specs.Posts.{post_next_in, PostStarts, PostArrives, PostWalks, PostNears, PostComes, PostGoes}
 use Rattle.bl_tables.specs.Turns.{event_of, IsTold, Does, Turned}
-use Rattle.bl_tables.specs.Tables.{idle, holds_live, holds_known, goes_to, Aim, IsAim, IsDue, know_approach, know_change}
+use Rattle.bl_tables.specs.Tables.{idle, holds_live, goes_to, IsAim, IsDue, know_approach, know_change}
 use Rattle.bl_tables.specs.Knowing.{ending, know_growth, post_aim, know_post, post_got, post_child}
 use Rattle.bl_tables.proofs.Acts.{watched, opened}
 use Rattle.bl_tables.proofs.Approaching.{walks, walks_held, wider, to_right, got_goes, start_turn, arrival, approach_turn}
 use Rattle.bl_tables.proofs.Changing.{change_turn, finish_turn}
-use Rattle.bl_tables.proofs.Entering.{Begun, enters_learns, enters_places, change_middle}
+use Rattle.bl_tables.proofs.Entering.{enters_learns, enters_places, change_middle}
 use Rattle.bl_tables.proofs.Ends.{begin_turn, end_turn}
 use Rattle.bl_tables.proofs.Growing as growing
 

@@ -1,17 +1,15 @@
 -- Where worlds of processes begin, how a process enters one, and the laws of each.
-use Rattle.std.proofs.Common.{ℕ, ◌≡◌, ◌≢◌, ◌⊎◌, ◌<◌, None, Some, [], ap, sym, ◌∙◌, refl, inl, inr}
-use Rattle.bl_page.specs.Machine.{Name, State}
-use Rattle.bl_page.specs.declared.page.Page.{Page}
+use Rattle.std.proofs.Common.{ℕ, ◌≡◌, None, Some, ap, ◌∙◌, inl, inr}
+use Rattle.bl_page.specs.Machine.{Name}
 use Rattle.bl_page.specs.Machine.Phase.{Waiting}
-use Rattle.bl_tree.specs.Trees.Status.{Gone, Right}
+use Rattle.bl_tree.specs.Trees.Status.{Right}
 use Rattle.bl_trails.specs.Moments.{HasLaws}
 use Rattle.bl_trails.specs.Trails.{marks_of, HasSaid}
 use Rattle.bl_trails.proofs.Pushes.{name_cases}
-use Rattle.bl_steps.specs.Worlds.{Know, World, Each, IsHeld, IsGoes, IsRelied, IsSure, IsGood, IsPassed, MayGet, IsGone}
+use Rattle.bl_steps.specs.Worlds.{Know, World, IsHeld, IsGoes, IsRelied, IsSure, IsGood, IsPassed, MayGet}
 use Rattle.bl_steps.proofs.Frames.{Each-map}
 use Rattle.bl_steps.proofs.After.{put_name, is_put_name}
 use Rattle.bl_starts.specs.Blank.{IsBlank}
-use Rattle.bl_starts.specs.Told.{TellsMiddles}
 use Rattle.bl_starts.proofs.WorldLaws.{laws}
 use Rattle.bl_tables.specs.Knowing.{Run, know}
 use Rattle.bl_tables.proofs.Plain.{plain}
@@ -79,8 +77,8 @@ enters_good w p b g waiting old new =
       gone = λ x h. let o = g.gone x h in record {
         end = o.end;
         leads = λ q m. (
-          let l = o.leads q (record { since = m.since; runs = m.runs; was = m.was; kept = m.kept }) in
-          (record { since = l.0.since; runs = l.0.runs; was = l.0.was; kept = l.0.kept }, l.1));
+            let l = o.leads q (record { since = m.since; runs = m.runs; was = m.was; kept = m.kept }) in
+            (record { since = l.0.since; runs = l.0.runs; was = l.0.was; kept = l.0.kept }, l.1));
         not_yet = o.not_yet;
       };
       middles = λ x y e. absurd (let m = g.middles x y e in let n = (plain (w.proc m.by)).middle in let i = m.is in cc);

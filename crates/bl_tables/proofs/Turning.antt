@@ -1,11 +1,11 @@
 -- Every turn of every process keeps a world good, and the world after it is given.
-use Rattle.std.proofs.Common.{ℕ, ◌≡◌, ◌++◌, Option, None, Some, List, [], ◌∷◌, ap, sym, ◌∙◌, refl, subst}
+use Rattle.std.proofs.Common.{ℕ, ◌≡◌, ◌++◌, None, [], ◌∷◌, ap, ◌∙◌, refl, subst}
 use Rattle.bl_page.specs.Machine.{Name, State}
 use Rattle.bl_page.specs.Machine.Act.{Miss}
 use Rattle.bl_page.specs.declared.page.Page.{Page}
-use Rattle.bl_trails.specs.Trails.{Mark, Trail, marks_of}
+use Rattle.bl_trails.specs.Trails.{Mark, marks_of}
 use Rattle.bl_trails.proofs.Pushes.{HasSaid-silent}
-use Rattle.bl_steps.specs.Worlds.{Know, World, IsHeld, IsRelied, IsGood, silent}
+use Rattle.bl_steps.specs.Worlds.{World, IsHeld, IsRelied, IsGood, silent}
 use Rattle.bl_steps.proofs.Frames.{Each-map}
 use Rattle.bl_proc.specs.declared.acts.Seen.{Seen}
 use Rattle.bl_proc.specs.declared.kinds.Proc.{Proc}

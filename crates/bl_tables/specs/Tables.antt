@@ -1,9 +1,7 @@
 -- What a process knows in each of its states.
-use Rattle.std.specs.Prelude.{◌≡◌, ◌≢◌, ℕ, suc, ◌<◌, ◌≤◌, Option, Some, None, List, [], ◌∷◌}
+use Rattle.std.specs.Prelude.{◌≡◌, ◌≢◌, ℕ, ◌<◌, Option, Some, None, List, [], ◌∷◌}
 use Rattle.bl_page.specs.declared.page.Page.{Page}
-use Rattle.bl_page.specs.Machine.{Act}
-use Rattle.bl_tree.specs.Nodes.{Node, Covers, unbounded}
-use Rattle.bl_tree.specs.Trees.{Status}
+use Rattle.bl_tree.specs.Nodes.{Covers, unbounded}
 use Rattle.bl_tree.specs.Trees.Status.{Fresh, Live}
 use Rattle.bl_tree.specs.Moves.{IsRow, IsCut}
 use Rattle.bl_laws.specs.Pages.{node_of}
