@@ -9,5 +9,6 @@ pub mod Deleting
 pub mod Growing
 pub mod Posting
 pub mod Plain
+pub mod Near
 pub mod Turning
 pub mod Starting
