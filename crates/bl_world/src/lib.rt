@@ -1,0 +1,15 @@
+//! Worlds of processes over plain pages: any list of turns of any processes, event by event.
+//!
+//! Promised to whoever wants to see an interleaving: each turn is one event of the page machine, by what its process does
+//! next, and at every moment there is one legal history of the map in which each answered operation stands at its point.
+#![tactic(auto)]
+
+mod owners;
+mod turns;
+mod world;
+
+#[cfg(test)]
+mod tests;
+
+pub use turns::{Act, Event, Turn, WorldFault};
+pub use world::World;
