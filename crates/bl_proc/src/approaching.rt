@@ -1,6 +1,6 @@
 //! The way of a writer to the page of its level that covers its key.
 
-ghost use Rattle.std.specs.Prelude.{◌≡◌, None};
+ghost use Rattle.std.specs.Prelude.{◌≡◌, ℕ, None};
 ghost use Rattle.bl_laws.specs.Pages.{roots_of};
 ghost use Rattle.bl_proc.specs.declared.acts.Seen.TheVariants as seen;
 ghost use Rattle.bl_proc.specs.declared.approaching.Approach.TheVariants as approach;
@@ -93,6 +93,43 @@ fn looked(level: u32, key: u64, at: u32, page: Page) -> Approached
     }
 }
 
+/// By the page that was got.
+fn got(approach: Approach, level: u32, key: u64, page: Page) -> Approached
+    requires { Gives (approach_next approach) None (seen.Words page) }
+    ensures { Approaches level key approach (seen.Words page) result }
+{
+    match approach {
+        Approach::Start => Approached::On(entered(level, &page)),
+        Approach::At(at) => Approached::On(turned_by(level, key, at, &page)),
+        Approach::Latched(at) => looked(level, key, at, page),
+        Approach::Latching(_) | Approach::Leaving(_, _) => unreachable!(),
+    }
+}
+
+/// After a latch, or an opening.
+fn done(approach: Approach) -> Approach
+    requires { Gives (approach_next approach) None seen.Done }
+    ensures { (level : ℕ) → (key : ℕ) → Approaches level key approach seen.Done (approached.On result) }
+{
+    match approach {
+        Approach::Latching(at) => Approach::Latched(at),
+        Approach::Leaving(_, Some(next)) => Approach::Latching(next),
+        Approach::Leaving(_, None) => Approach::Start,
+        _ => unreachable!(),
+    }
+}
+
+/// After a latch that was missed.
+fn missed(approach: Approach) -> Approach
+    requires { Gives (approach_next approach) None seen.Missed }
+    ensures { (level : ℕ) → (key : ℕ) → Approaches level key approach seen.Missed (approached.On result) }
+{
+    match approach {
+        Approach::Latching(at) => Approach::At(at),
+        _ => unreachable!(),
+    }
+}
+
 impl Approach {
     /// The next action.
     pub fn next(self) -> Action
@@ -111,18 +148,10 @@ impl Approach {
         requires { Gives (approach_next self) None seen }
         ensures { Approaches level key self seen result }
     {
-        match (self, seen) {
-            (Approach::Latched(at), Seen::Words(page)) => looked(level, key, at, page),
-            (Approach::Start, Seen::Words(anchor)) => Approached::On(entered(level, &anchor)),
-            (Approach::At(at), Seen::Words(page)) => {
-                Approached::On(turned_by(level, key, at, &page))
-            }
-            (Approach::Latching(at), Seen::Done) => Approached::On(Approach::Latched(at)),
-            (Approach::Latching(at), Seen::Missed) => Approached::On(Approach::At(at)),
-            (Approach::Leaving(_, Some(next)), Seen::Done) => {
-                Approached::On(Approach::Latching(next))
-            }
-            (Approach::Leaving(_, None), Seen::Done) => Approached::On(Approach::Start),
+        match seen {
+            Seen::Words(page) => got(self, level, key, page),
+            Seen::Done => Approached::On(done(self)),
+            Seen::Missed => Approached::On(missed(self)),
             _ => unreachable!(),
         }
     }

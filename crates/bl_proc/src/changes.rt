@@ -112,30 +112,27 @@ impl Change {
         requires { Gives (change_next self) (change_needs self) seen }
         ensures { Changes self seen result }
     {
-        match (self, seen) {
-            (Change::Putting(at, _), Seen::Done) => {
-                Changed::On(Change::Opening(at, Outcome::Changed))
-            }
-            (Change::Putting(at, _), Seen::Refused) => {
-                Changed::On(Change::Opening(at, Outcome::Refused))
-            }
-            (Change::Taking(full), Seen::Took(new)) => Changed::On(parted(full, new)),
-            (Change::Taking(full), Seen::Refused) => {
-                Changed::On(Change::Opening(full.at, Outcome::Refused))
-            }
-            (Change::PuttingNew(parting), Seen::Done) => {
-                Changed::On(Change::PuttingOld(parting))
-            }
-            (Change::PuttingOld(parting), Seen::Done) => Changed::On(Change::OpeningNew {
+        match self {
+            Change::Putting(at, _) => match seen {
+                Seen::Done => Changed::On(Change::Opening(at, Outcome::Changed)),
+                Seen::Refused => Changed::On(Change::Opening(at, Outcome::Refused)),
+                _ => unreachable!(),
+            },
+            Change::Opening(_, outcome) => Changed::Over(outcome),
+            Change::Taking(full) => match seen {
+                Seen::Took(new) => Changed::On(parted(full, new)),
+                Seen::Refused => Changed::On(Change::Opening(full.at, Outcome::Refused)),
+                _ => unreachable!(),
+            },
+            Change::PuttingNew(parting) => Changed::On(Change::PuttingOld(parting)),
+            Change::PuttingOld(parting) => Changed::On(Change::OpeningNew {
                 at: parting.at,
                 new: parting.new,
                 separator: parting.separator,
             }),
-            (Change::OpeningNew { at, separator, .. }, Seen::Done) => {
+            Change::OpeningNew { at, separator, .. } => {
                 Changed::On(Change::Opening(at, Outcome::Parted(separator)))
             }
-            (Change::Opening(_, outcome), Seen::Done) => Changed::Over(outcome),
-            _ => unreachable!(),
         }
     }
 }

@@ -1,7 +1,8 @@
 //! The deletion of a key.
 
-ghost use Rattle.std.specs.Prelude.{◌≡◌, None, Some};
+ghost use Rattle.std.specs.Prelude.{◌≡◌, ℕ, None, Some};
 ghost use Rattle.bl_laws.specs.Pages.{node_of};
+ghost use Rattle.bl_proc.specs.declared.changing.Change.{Change};
 ghost use Rattle.bl_proc.specs.declared.deleting.DeleteStage.TheVariants as delete_stage;
 ghost use Rattle.bl_proc.specs.declared.onwards.Onward.TheVariants as onward;
 ghost use Rattle.bl_proc.specs.Given.{Gives};
@@ -75,40 +76,34 @@ fn arrived(key: u64, at: u32, page: Page) -> DeleteStage
     }
 }
 
-/// On the way to the leaf.
-fn came(key: u64, approach: Approach, seen: Seen) -> DeleteStage
-    requires { Gives (delete_next_in (delete_stage.Coming approach)) None seen }
-    ensures { DeleteGoes key (delete_stage.Coming approach) seen result }
-{
-    match approach.took(0, key, seen) {
-        Approached::On(approach) => DeleteStage::Coming(approach),
-        Approached::Here(at, page) => arrived(key, at, page),
+impl Delete {
+    /// On the way to the leaf.
+    fn came(&mut self, approach: Approach, seen: Seen)
+        requires stage { self.old.stage ≡ delete_stage.Coming approach }
+        requires given { Gives (delete_next_in (delete_stage.Coming approach)) None seen }
+        ensures { DeleteTakes self.old seen self.new }
+    {
+        match approach.took(0, self.key, seen) {
+            Approached::On(approach) => self.stage = DeleteStage::Coming(approach),
+            Approached::Here(at, page) => self.stage = arrived(self.key, at, page),
+        }
     }
-}
 
-/// On with the change of the leaf.
-fn changed(key: u64, value: u64, change: Change, seen: Seen) -> DeleteStage
-    requires { Gives (delete_next_in (delete_stage.Changing value change)) (delete_needs_in (delete_stage.Changing value change)) seen }
-    ensures { DeleteGoes key (delete_stage.Changing value change) seen result }
-{
-    match change.took(seen) {
-        Changed::On(change) => DeleteStage::Changing(value, change),
-        Changed::Over(outcome) => DeleteStage::Ending(reply_of(value, outcome)),
-    }
-}
-
-fn went(key: u64, stage: DeleteStage, seen: Seen) -> DeleteStage
-    requires running { delete_answer_in stage ≡ None }
-    requires given { Gives (delete_next_in stage) (delete_needs_in stage) seen }
-    ensures { DeleteGoes key stage seen result }
-{
-    match stage {
-        DeleteStage::New => DeleteStage::Coming(Approach::Start),
-        DeleteStage::Coming(approach) => came(key, approach, seen),
-        DeleteStage::Absent(_) => DeleteStage::Ending(DeleteReply::Absent),
-        DeleteStage::Changing(value, change) => changed(key, value, change, seen),
-        DeleteStage::Ending(reply) => DeleteStage::Over(reply),
-        DeleteStage::Over(_) => unreachable!(),
+    /// On with the change of the leaf.
+    fn changed(&mut self, seen: Seen)
+        requires stage { (value : ℕ) × (c : Change) × (self.old.stage ≡ delete_stage.Changing value c) }
+        requires given { Gives (delete_next_in self.old.stage) (delete_needs_in self.old.stage) seen }
+        ensures { DeleteTakes self.old seen self.new }
+    {
+        match mem::replace(&mut self.stage, DeleteStage::New) {
+            DeleteStage::Changing(value, change) => match change.took(seen) {
+                Changed::On(change) => self.stage = DeleteStage::Changing(value, change),
+                Changed::Over(outcome) => {
+                    self.stage = DeleteStage::Ending(reply_of(value, outcome));
+                }
+            },
+            _ => unreachable!(),
+        }
     }
 }
 
@@ -170,7 +165,16 @@ impl Process for Delete {
     }
 
     fn took(&mut self, seen: Seen) {
-        let stage = mem::replace(&mut self.stage, DeleteStage::New);
-        self.stage = went(self.key, stage, seen);
+        match &self.stage {
+            DeleteStage::Coming(approach) => {
+                let approach = *approach;
+                self.came(approach, seen);
+            }
+            DeleteStage::Changing(_, _) => self.changed(seen),
+            DeleteStage::New => self.stage = DeleteStage::Coming(Approach::Start),
+            DeleteStage::Absent(_) => self.stage = DeleteStage::Ending(DeleteReply::Absent),
+            DeleteStage::Ending(reply) => self.stage = DeleteStage::Over(*reply),
+            DeleteStage::Over(_) => unreachable!(),
+        }
     }
 }

@@ -4,6 +4,7 @@ ghost use Rattle.std.specs.Prelude.{◌≡◌, None};
 ghost use Rattle.bl_laws.specs.Pages.{node_of};
 ghost use Rattle.bl_proc.specs.declared.approaching.Approach.{Approach};
 ghost use Rattle.bl_proc.specs.declared.approaching.Approached.TheVariants as approached;
+ghost use Rattle.bl_proc.specs.declared.changing.Change.{Change};
 ghost use Rattle.bl_proc.specs.declared.inserting.InsertStage.TheVariants as insert_stage;
 ghost use Rattle.bl_proc.specs.Given.{Gives};
 ghost use Rattle.bl_proc.specs.Approaches.{Approaches};
@@ -91,40 +92,32 @@ fn arrived(key: u64, value: u64, at: u32, page: Page) -> InsertStage
     }
 }
 
-/// On the way to the leaf.
-fn came(key: u64, value: u64, approach: Approach, seen: Seen) -> InsertStage
-    requires { Gives (insert_next_in (insert_stage.Coming approach)) None seen }
-    ensures { InsertGoes key value (insert_stage.Coming approach) seen result }
-{
-    match approach.took(0, key, seen) {
-        Approached::On(approach) => InsertStage::Coming(approach),
-        Approached::Here(at, page) => arrived(key, value, at, page),
+impl Insert {
+    /// On the way to the leaf.
+    fn came(&mut self, approach: Approach, seen: Seen)
+        requires stage { self.old.stage ≡ insert_stage.Coming approach }
+        requires given { Gives (insert_next_in (insert_stage.Coming approach)) None seen }
+        ensures { InsertTakes self.old seen self.new }
+    {
+        match approach.took(0, self.key, seen) {
+            Approached::On(approach) => self.stage = InsertStage::Coming(approach),
+            Approached::Here(at, page) => self.stage = arrived(self.key, self.value, at, page),
+        }
     }
-}
 
-/// On with the change of the leaf.
-fn changed(key: u64, value: u64, change: Change, seen: Seen) -> InsertStage
-    requires { Gives (insert_next_in (insert_stage.Changing change)) (insert_needs_in (insert_stage.Changing change)) seen }
-    ensures { InsertGoes key value (insert_stage.Changing change) seen result }
-{
-    match change.took(seen) {
-        Changed::On(change) => InsertStage::Changing(change),
-        Changed::Over(outcome) => InsertStage::Ending(reply_of(outcome)),
-    }
-}
-
-fn went(key: u64, value: u64, stage: InsertStage, seen: Seen) -> InsertStage
-    requires running { insert_answer_in stage ≡ None }
-    requires given { Gives (insert_next_in stage) (insert_needs_in stage) seen }
-    ensures { InsertGoes key value stage seen result }
-{
-    match stage {
-        InsertStage::New => InsertStage::Coming(Approach::Start),
-        InsertStage::Coming(approach) => came(key, value, approach, seen),
-        InsertStage::Present(_, there) => InsertStage::Ending(InsertReply::Present(there)),
-        InsertStage::Changing(change) => changed(key, value, change, seen),
-        InsertStage::Ending(reply) => InsertStage::Over(reply),
-        InsertStage::Over(_) => unreachable!(),
+    /// On with the change of the leaf.
+    fn changed(&mut self, seen: Seen)
+        requires stage { (c : Change) × (self.old.stage ≡ insert_stage.Changing c) }
+        requires given { Gives (insert_next_in self.old.stage) (insert_needs_in self.old.stage) seen }
+        ensures { InsertTakes self.old seen self.new }
+    {
+        match mem::replace(&mut self.stage, InsertStage::New) {
+            InsertStage::Changing(change) => match change.took(seen) {
+                Changed::On(change) => self.stage = InsertStage::Changing(change),
+                Changed::Over(outcome) => self.stage = InsertStage::Ending(reply_of(outcome)),
+            },
+            _ => unreachable!(),
+        }
     }
 }
 
@@ -190,7 +183,18 @@ impl Process for Insert {
     }
 
     fn took(&mut self, seen: Seen) {
-        let stage = mem::replace(&mut self.stage, InsertStage::New);
-        self.stage = went(self.key, self.value, stage, seen);
+        match &self.stage {
+            InsertStage::Coming(approach) => {
+                let approach = *approach;
+                self.came(approach, seen);
+            }
+            InsertStage::Changing(_) => self.changed(seen),
+            InsertStage::New => self.stage = InsertStage::Coming(Approach::Start),
+            InsertStage::Present(_, there) => {
+                self.stage = InsertStage::Ending(InsertReply::Present(*there));
+            }
+            InsertStage::Ending(reply) => self.stage = InsertStage::Over(*reply),
+            InsertStage::Over(_) => unreachable!(),
+        }
     }
 }
