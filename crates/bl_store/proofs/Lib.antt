@@ -6,5 +6,6 @@ mod Putting
 mod Owning
 mod Ticking
 mod Sweeping
+mod Living
 mod StockLemmas
 mod Dealing

@@ -9,7 +9,7 @@ use Rattle.bl_store.specs.declared.view.Stamp.TheVariants.{Out, Clocked, In}
 use Rattle.bl_store.specs.declared.view.Reading.TheVariants.{At}
 use Rattle.bl_store.specs.declared.view.Draft.{Draft}
 use Rattle.bl_store.specs.declared.view.Dropping.TheVariants.{Dropped, Timed}
-use Rattle.bl_store.specs.declared.view.Sealing.TheVariants.{Sealed}
+use Rattle.bl_store.specs.declared.view.Sealing.TheVariants.{Unsealed, Sealed}
 use Rattle.bl_store.specs.declared.view.Sweep.TheVariants.{Over}
 
 abbrev Sat : Type 0 → Type 0
@@ -27,8 +27,12 @@ lower m zero = m
 lower m (suc c) = min m c
 
 module _ {D : Type 0} where
+  -- what each step leaves but those two that retire a page
   abbrev pub IsThere : View D → View D → Type 0
-  IsThere v w = (w.layout ≡ v.layout) × (w.number ≡ v.number)
+  IsThere v w = (w.layout ≡ v.layout) × (w.number ≡ v.number) × (w.sealing ≡ v.sealing)
+
+  abbrev pub IsHere : View D → View D → Type 0
+  IsHere v w = (w.layout ≡ v.layout) × (w.number ≡ v.number)
 
   abbrev pub HasTicks : View D → View D → Type 0
   HasTicks v w = (w.puts ≡ v.puts) × (w.retires ≡ v.retires)
@@ -115,8 +119,12 @@ module _ {D : Type 0} where
 
   -- the tick of the clock by which a page is retired
   abbrev pub sealed : ℕ → (D → ℕ → D → Type 0) → Play → Sat D → ℕ → Sat D → Type 0
-  sealed x then st m r m' = IsThere m.0 m'.0 × (m'.0.stamp ≡ m.0.stamp) × (m'.0.stock ≡ m.0.stock) × (m'.0.puts ≡ m.0.puts) × (m'.0.retires + 1 ≡ m.0.retires)
+  sealed x then st m r m' = IsHere m.0 m'.0 × (m'.0.stamp ≡ m.0.stamp) × (m'.0.stock ≡ m.0.stock) × (m'.0.puts ≡ m.0.puts) × (m'.0.retires + 1 ≡ m.0.retires)
       × (r < 2305843009213693952) × (m'.0.sealing ≡ Sealed x r) × then m.0.known r m'.0.known
+
+  -- the owner word shows that the page is retired
+  abbrev pub published : Play → Sat D → ℕ → Sat D → Type 0
+  published st m r m' = IsHere m.0 m'.0 × (m'.0.sealing ≡ Unsealed) × (m'.0.stamp ≡ m.0.stamp) × IsStocked m.0 m'.0 × (m'.0.known ≡ m.0.known)
 
   -- a load of the clock by which a round of looks begins
   abbrev pub horizoned : Play → Sat D → ℕ → Sat D → Type 0

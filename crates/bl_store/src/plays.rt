@@ -1,5 +1,5 @@
 //! What each step on the table tells its seat.
-ghost use Rattle.bl_store.specs.Told.{allotted, clocked, copied, drew, ended, freed, horizoned, looked, noted, opened, passed, refused, released, reserved, returned, sealed, silent, stamped, swapped, took, tried, wrote};
+ghost use Rattle.bl_store.specs.Told.{allotted, clocked, copied, drew, ended, freed, horizoned, looked, noted, opened, passed, published, refused, released, reserved, returned, sealed, silent, stamped, swapped, took, tried, wrote};
 ghost use Rattle.std.specs.Prelude.{ℕ};
 
 use crate::rule::{PagePlay, SweepPlay, TimePlay};
@@ -76,6 +76,12 @@ pub(crate) struct Silent;
 
 impl<D> Play<(), View<D>> for Silent {
     ghost then = { silent };
+}
+
+pub(crate) struct Publish;
+
+impl<D> Play<(), View<D>> for Publish {
+    ghost then = { published };
 }
 
 pub(crate) struct Horizon;
