@@ -246,6 +246,8 @@ module _ (l : Layout) (cs : List (List ℕ)) where
           hands = λ i j v w at_i at_j _ _ other. let a = at_below (starting l d ∷ []) i v at_i in let b = at_below (starting l d ∷ []) j w at_j in absurd (other (omega arith));
           joined = λ i j v w at_i _ _ _ k g e. ⊎_elim (λ (nothing : get_elem? [] i ≡ some v). absurd (some-ne-none v (sym nothing)))
               (λ (t : starting l d ≡ v). absurd (some-ne-none g (sym e ∙ ap (λ (z : View D). get_elem? z.joined k) (sym t)))) (at_snoc [] (starting l d) v i at_i);
+          taken = λ i j v w at_i _ _ _ k m g h e _ _. ⊎_elim (λ (nothing : get_elem? [] i ≡ some v). absurd (some-ne-none v (sym nothing)))
+              (λ (t : starting l d ≡ v). absurd (some-ne-none g (sym e ∙ ap (λ (z : View D). get_elem? z.joined k) (sym t)))) (at_snoc [] (starting l d) v i at_i);
         };
         sealing = λ x t e. let owner = unmap first_owner cs x (Retired t) e in absurd (first_unretired owner.0 t owner.2);
         kept = kept;
@@ -304,6 +306,11 @@ module _ {D : Type 0} (l : Layout) (first : D) (holds : Pages D → Type 0) wher
         apart = record {
           hands = λ i j v w at_i at_j live_v live_w other. apart_dealt st r id n m more live at i j v w at_i at_j live_v live_w other;
           joined = λ i j v w at_i at_j live_v live_w k g at_k. joined_dealt st r id n m more live at i j v w at_i at_j live_v live_w k g at_k;
+          taken = λ i j v w at_i at_j live_v live_w k m' g h at_k at_m other. let a = where_was st.views id n m at i v at_i in let b = where_was st.views id n m at j w at_j in ⊎_elim
+              (λ (c : (i ≢ id) × (i < length st.views) × (get_elem? st.views i ≡ some v)). ⊎_elim
+              (λ (d : (j ≢ id) × (j < length st.views) × (get_elem? st.views j ≡ some w)). r.apart.taken i j v w c.2 d.2 live_v live_w k m' g h at_k at_m other)
+              (⊎_elim (λ (d : (j ≡ id) × (w ≡ share l first n (n + 1))). absurd (none_joined n (n + 1) m' w h d.1 at_m)) (λ (d : (j ≡ length st.views) × (w ≡ share l first (n + 1) m)). absurd (none_joined (n + 1) m m' w h d.1 at_m))) b)
+              (⊎_elim (λ (c : (i ≡ id) × (v ≡ share l first n (n + 1))). absurd (none_joined n (n + 1) k v g c.1 at_k)) (λ (c : (i ≡ length st.views) × (v ≡ share l first (n + 1) m)). absurd (none_joined (n + 1) m k v g c.1 at_k))) a;
         };
         sealing = λ x t e. ⊎_elim inl (λ (h : (j : ℕ) × (u : View D) × (get_elem? st.views j ≡ some u) × (u.sealing ≡ Sealed x t)). let k = sealed_on st.views id old left at refl x t h in inr (k.0, k.1, at_longer (set st.views id left) (right ∷ []) k.0 k.1 k.2, k.3)) (r.sealing x t e);
         kept = r.kept;

@@ -261,6 +261,8 @@ module _ {D : Type 0} where
         ⊎_elim (λ (h : a.0.upto ≤ b.0.number). inl (omega arith)) (λ (h : b.0.upto ≤ a.0.number). inr (omega arith)) (r.hands i j a.0 b.0 a.1 b.1 (omega arith) (omega arith) other);
     joined = λ i j x y at_i at_j live_x live_y k g at_k. let a = was i x at_i in let b = was j y at_j in let a2 = a.2 in let a3 = a.3 in let a4 = a.4 in let b2 = b.2 in let b3 = b.3 in let b4 = b.4 in
         ⊎_elim (λ (h : g.number < b.0.number). inl (omega arith)) (λ (h : b.0.upto ≤ g.number). inr (omega arith)) (r.joined i j a.0 b.0 a.1 b.1 (omega arith) (omega arith) k g (ap (λ (z : List (Joined D)). get_elem? z k) a.5 ∙ at_k));
+    taken = λ i j x y at_i at_j live_x live_y k m g h at_k at_m other. let a = was i x at_i in let b = was j y at_j in let a2 = a.2 in let a4 = a.4 in let b2 = b.2 in let b4 = b.4 in
+        r.taken i j a.0 b.0 a.1 b.1 (omega arith) (omega arith) k m g h (ap (λ (z : List (Joined D)). get_elem? z k) a.5 ∙ at_k) (ap (λ (z : List (Joined D)). get_elem? z m) b.5 ∙ at_m) other;
   }
     where
       was : (k : ℕ) (z : View D) → get_elem? (set vs id w) k ≡ some z → (u : View D) × (get_elem? vs k ≡ some u) × (u.number ≡ z.number) × (u.upto ≡ z.upto) × (u.layout.passes ≡ z.layout.passes) × (u.joined ≡ z.joined)

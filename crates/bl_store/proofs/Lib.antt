@@ -9,3 +9,4 @@ mod Sweeping
 mod Living
 mod StockLemmas
 mod Dealing
+mod Joining

@@ -3,6 +3,7 @@
 use Rattle.std.specs.Prelude.{◌≡◌, ◌≢◌, ◌⊎◌, ℕ, ◌+◌, ◌*◌, ◌<◌, ◌≤◌, List, [], ◌∷◌, length, replicate, slice_index}
 use mathlib.Core.Option.{some}
 use lib.ListN.{get_elem?}
+use native.Mathlib.Nat.{le_refl, le-add_right}
 use Rattle.atomic_table.specs.Table.{State}
 use Rattle.bl_layout.specs.declared.layout.Layout.{Layout}
 use Rattle.bl_layout.specs.Words.{frame_count, word_count}
@@ -125,6 +126,9 @@ abbrev pub Seals : Layout → List ℕ → List Owner → ℕ → Sealing → Ty
 Seals l ws os q Unsealed = Unit {0}
 Seals l ws os q (Sealed x t) = (slice_index ws (owner_at l x) ≡ 4 * q + 2) × (get_elem? os x ≡ some (Retired t))
 
+abbrev smallest : Layout
+smallest = record { pages = 4; passes = 1; pages_within = (le_refl 4, le-add_right 4 65532); passes_within = (le_refl 1, le-add_right 1 63) }
+
 module _ {D : Type 0} where
   -- each hand with a number below k is idle, or began its process at m or later
   pub record Swept (s : Pages D) (m k : ℕ) : Type 0 where
@@ -163,12 +167,42 @@ module _ {D : Type 0} where
   abbrev pub share : Layout → D → ℕ → ℕ → View D
   share l d n m = record { layout = l; number = n; upto = m; stamp = Out; reading = Nowhere; stock = []; dropping = Empty; sealing = Unsealed; sweep = Still; puts = 0; retires = 0; releases = 0; seen = []; known = d; joined = [] }
 
+  abbrev pub joined : ℕ → D → Joined D
+  joined n d = record { number = n; known = d }
+
+  abbrev others : List (Joined D) → List (Joined D)
+  others [] = []
+  others (g ∷ gs) = gs
+
+  abbrev last_of : View D → List (Joined D) → View D
+  last_of v [] = v
+  last_of v (g ∷ gs) = share v.layout g.known g.number (g.number + 1)
+
   -- how such a hand is cut in two
   abbrev pub own_share : View D → View D
   own_share v = record v { upto = v.number + 1 }
 
   abbrev pub next_share : View D → View D
   next_share v = record v { number = v.number + 1 }
+
+  -- what a seat knows that has given its hand to another: its number is no hand's
+  abbrev pub spent_view : D → View D
+  spent_view d = record { layout = smallest; number = 1; upto = 0; stamp = Out; reading = Nowhere; stock = []; dropping = Empty; sealing = Unsealed; sweep = Still; puts = 0; retires = 0; releases = 0; seen = []; known = d; joined = [] }
+
+  -- and one that has no hand yet
+  abbrev pub without_hand : View D → View D
+  without_hand v = record v { number = v.layout.passes; sealing = Unsealed; joined = [] }
+
+  -- a hand is taken in by another
+  abbrev pub taking_in : View D → View D → View D
+  taking_in v w = record v { joined = joined w.number w.known ∷ v.joined }
+
+  -- and the one that was taken in last is given back, with nothing reserved
+  abbrev pub giving_back : View D → View D
+  giving_back v = record v { joined = others v.joined }
+
+  abbrev pub given_back : View D → View D
+  given_back v = last_of v v.joined
 
   abbrev pub starting : Layout → D → View D
   starting l d = share l d 0 l.passes
@@ -193,10 +227,11 @@ pub record Shows {D : Type 0} (l : Layout) (ws : List ℕ) (s : Pages D) (fs : L
   pub owner : (x : ℕ) (o : Owner) → get_elem? s.owners x ≡ some o → OwnerIs (slice_index ws (owner_at l x)) o
   pub frame : (f : ℕ) (st : Frame) → get_elem? fs f ≡ some st → FrameIs l ws f st
 
--- Two seats with hands have and deal out other numbers, and no hand that is taken in has any of them.
+-- Two seats with hands have and deal out other numbers, and no hand that is taken in has any of them, or the number of another that is taken in.
 pub record IsApart {D : Type 0} (vs : List (View D)) : Type 0 where
   pub hands : (i j : ℕ) (v w : View D) → get_elem? vs i ≡ some v → get_elem? vs j ≡ some w → IsLive v → IsLive w → i ≢ j → (v.upto ≤ w.number) ⊎ (w.upto ≤ v.number)
   pub joined : (i j : ℕ) (v w : View D) → get_elem? vs i ≡ some v → get_elem? vs j ≡ some w → IsLive v → IsLive w → (k : ℕ) (h : Joined D) → get_elem? v.joined k ≡ some h → (h.number < w.number) ⊎ (w.upto ≤ h.number)
+  pub taken : (i j : ℕ) (v w : View D) → get_elem? vs i ≡ some v → get_elem? vs j ≡ some w → IsLive v → IsLive w → (k m : ℕ) (g h : Joined D) → get_elem? v.joined k ≡ some g → get_elem? w.joined m ≡ some h → (i ≢ j) ⊎ (k ≢ m) → g.number ≢ h.number
 
 -- The owner word of a retired page shows it, or a hand has retired it just now.
 abbrev pub IsSealing : {D : Type 0} → Layout → List ℕ → List Owner → List (View D) → Type 0

@@ -5,6 +5,7 @@ use Rattle.bl_layout.specs.Words.{frame_count}
 use Rattle.bl_store.specs.Pages.{Owner, Released, Open, Held}
 use Rattle.bl_store.specs.Frames.{process_at, page_at, owner_at, state_at, place_at}
 use Rattle.bl_store.specs.declared.view.View.{View}
+use Rattle.bl_store.specs.declared.view.Joined.{Joined}
 use Rattle.bl_store.specs.declared.view.Stamp.TheVariants.{Out, Clocked, In}
 use Rattle.bl_store.specs.declared.view.Reading.TheVariants.{At}
 use Rattle.bl_store.specs.declared.view.Draft.{Draft}
@@ -142,6 +143,11 @@ module _ {D : Type 0} where
   abbrev pub freed : (D → D → Type 0) → Play → Sat D → ℕ → Sat D → Type 0
   freed then st m r m' = IsThere m.0 m'.0 × (m'.0.stamp ≡ m.0.stamp) × IsStocked m.0 m'.0 × (m'.0.sweep ≡ m.0.sweep)
       × (r ≡ st.first → then m.0.known m'.0.known × (m'.0.releases ≡ m.0.releases + 1)) × (r ≢ st.first → (m'.0.known ≡ m.0.known) × (m'.0.releases ≡ m.0.releases))
+
+  -- a load at which the hand learns of the one that it took in last
+  abbrev pub met : (D → D → D → Type 0) → Play → Sat D → ℕ → Sat D → Type 0
+  met then st m r m' = IsThere m.0 m'.0 × (m'.0.stamp ≡ m.0.stamp) × IsStocked m.0 m'.0 × (m'.0.joined ≡ m.0.joined)
+      × ((j : Joined D) (js : List (Joined D)) → m.0.joined ≡ j ∷ js → then m.0.known j.known m'.0.known)
 
   -- the event of a reservation that is refused
   abbrev pub refused : (D → ℕ → D → Type 0) → Play → Sat D → ℕ → Sat D → Type 0

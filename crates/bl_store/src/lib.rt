@@ -14,6 +14,8 @@
 //! concurrent operations on B-trees" (1981). Stamps, frames and their release are this project's own.
 #![tactic(auto)]
 
+mod closing;
+mod meeting;
 mod opening;
 mod owner;
 mod plays;
@@ -25,7 +27,7 @@ mod store;
 mod sweep;
 mod view;
 
-pub use rule::{PagePlay, PageRule, SweepPlay, TimePlay};
+pub use rule::{MeetPlay, PagePlay, PageRule, SweepPlay, TimePlay};
 pub use stock::{NoRoom, Stock};
 pub use store::{Hand, Store};
 pub use view::{Draft, Dropping, Framed, Reading, Sealing, Stamp, Sweep, View};
