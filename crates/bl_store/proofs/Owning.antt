@@ -111,9 +111,9 @@ module _ {D : Type 0} (l : Layout) (first : D) (holds : Pages D → Type 0) wher
         keeps,
         tt,
         owner_step st r i n id me.1 me.0 x me.0.releases own.0 (Held me.0.number) t.0 at live i_is own.1 n_is (λ u e. cc) (λ j u e _. absurd (omega arith)) t.1,
-        ((refl, refl, refl), refl, (refl, refl, refl), λ y equal. let back : x ≡ y = omega arith in ((λ _. (page.0, subst (λ (z : ℕ). then' me.0.known z Released page.0 t.0) back t.2)), λ miss. absurd (miss hit))),
+        ((refl, refl, refl, refl), refl, (refl, refl, refl), λ y equal. let back : x ≡ y = omega arith in ((λ _. (page.0, subst (λ (z : ℕ). then' me.0.known z Released page.0 t.0) back t.2)), λ miss. absurd (miss hit))),
       ))
-      (λ miss. (noting l first holds i me.0, keeps, tt, note_step l first holds st r i id me.1 me.0 at live, ((refl, refl, refl), refl, (refl, refl, refl), λ y equal. ((λ hit. absurd (miss hit)), λ _. (refl, refl)))))
+      (λ miss. (noting l first holds i me.0, keeps, tt, note_step l first holds st r i id me.1 me.0 at live, ((refl, refl, refl, refl), refl, (refl, refl, refl), λ y equal. ((λ hit. absurd (miss hit)), λ _. (refl, refl)))))
 
   pub tries : (then' : D → ℕ → Owner → List ℕ → D → Type 0) (slots id i n x : ℕ) (me : M) → i ≡ owner_at l x → n ≡ 4 * me.0.number + 2 → x < l.pages → me.0.layout ≡ l → Latches holds l me.0.number me.0.known x then' → Misses holds l me.0.number me.0.known x then'
       → IsLive me.0 → Allows Rule slots id me i (λ z. either (eqb z 1) n z) (tried then' (step slots i 1 n none) me)
@@ -126,7 +126,7 @@ module _ {D : Type 0} (l : Layout) (first : D) (holds : Pages D → Type 0) wher
         keeps,
         tt,
         owner_step st r i n id me.1 me.0 x me.0.releases own.0 (Held me.0.number) t.0 at live i_is own.1 n_is (λ u e. cc) (λ j u e _. absurd (omega arith)) t.1,
-        ((refl, refl, refl), refl, (refl, refl, refl), λ y equal. let back : x ≡ y = omega arith in (Open, page.0, (λ _. refl), (λ miss. absurd (miss hit)), subst (λ (z : ℕ). then' me.0.known z Open page.0 t.0) back t.2)),
+        ((refl, refl, refl, refl), refl, (refl, refl, refl), λ y equal. let back : x ≡ y = omega arith in (Open, page.0, (λ _. refl), (λ miss. absurd (miss hit)), subst (λ (z : ℕ). then' me.0.known z Open page.0 t.0) back t.2)),
       ))
       (λ miss. let not : own.0 ≢ Open = (λ e. miss (subst (OwnerIs (get_or st.words i 0)) e own.2)) in
       let t = else s (stage_of me.0.stamp) page.0 own.0 r.kept r.orderly mine.stands (page.1, own.1) not in (
@@ -134,7 +134,7 @@ module _ {D : Type 0} (l : Layout) (first : D) (holds : Pages D → Type 0) wher
         keeps,
         tt,
         told_load l first holds st r i id me.1 me.0 me.0.reading t.0 at live mine.reads t.1,
-        ((refl, refl, refl), refl, (refl, refl, refl), λ y equal. let back : x ≡ y = omega arith in (own.0, page.0, (λ hit. absurd (miss hit)), (λ _. not), subst (λ (z : ℕ). then' me.0.known z own.0 page.0 t.0) back t.2)),
+        ((refl, refl, refl, refl), refl, (refl, refl, refl), λ y equal. let back : x ≡ y = omega arith in (own.0, page.0, (λ hit. absurd (miss hit)), (λ _. not), subst (λ (z : ℕ). then' me.0.known z own.0 page.0 t.0) back t.2)),
       ))
 
   pub opens : (then' : D → ℕ → Owner → List ℕ → D → Type 0) (slots id i x : ℕ) (me : M) → i ≡ owner_at l x → x < l.pages → me.0.layout ≡ l → Opens holds l me.0.number me.0.known x then' → IsLive me.0 → Allows Rule slots id me i (λ _. 1) (λ _. opened then' (step slots i 1 0 none) me 1)
@@ -145,7 +145,7 @@ module _ {D : Type 0} (l : Layout) (first : D) (holds : Pages D → Type 0) wher
         keeps,
         tt,
         owner_step st r i 1 id me.1 me.0 x me.0.releases own.0 Open t.1 at live i_is own.1 refl (λ u e. cc) (λ j u e is. let no : Held me.0.number ≡ Retired u = sym t.0 ∙ is in cc) t.2,
-        ((refl, refl, refl), refl, (refl, refl, refl), λ y equal. let back : x ≡ y = omega arith in (page.0, subst (λ (z : ℕ × Owner). then' me.0.known z.0 z.1 page.0 t.1) (λ k. (back k, t.0 k)) t.3)),
+        ((refl, refl, refl, refl), refl, (refl, refl, refl), λ y equal. let back : x ≡ y = omega arith in (page.0, subst (λ (z : ℕ × Owner). then' me.0.known z.0 z.1 page.0 t.1) (λ k. (back k, t.0 k)) t.3)),
       )
 
   -- a page that was retired before each process began is released
@@ -161,9 +161,9 @@ module _ {D : Type 0} (l : Layout) (first : D) (holds : Pages D → Type 0) wher
         keeps,
         tt,
         owner_step st r i 0 id me.1 me.0 x (me.0.releases + 1) own.0 Released a.0 at live i_is own.1 refl (λ u e. cc) (λ j u e _. absurd (omega arith)) a.1,
-        ((refl, refl, refl), refl, (refl, refl, refl), refl, (λ _. (a.2, refl)), λ miss. absurd (miss hit)),
+        ((refl, refl, refl, refl), refl, (refl, refl, refl), refl, (λ _. (a.2, refl)), λ miss. absurd (miss hit)),
       ))
-      (λ miss. (me.0, keeps, tt, idle_step l first holds st r i id me.1 me.0 at live, ((refl, refl, refl), refl, (refl, refl, refl), refl, (λ hit. absurd (miss hit)), λ _. (refl, refl))))
+      (λ miss. (me.0, keeps, tt, idle_step l first holds st r i id me.1 me.0 at live, ((refl, refl, refl, refl), refl, (refl, refl, refl), refl, (λ hit. absurd (miss hit)), λ _. (refl, refl))))
 
   -- a reservation is refused, at a load
   pub refuses : (then' : D → ℕ → D → Type 0) (slots id i : ℕ) (me : M) → Refuses holds l me.0.number me.0.known then' → IsLive me.0 → Allows Rule slots id me i (λ n. n) (refused then' (step slots i 0 0 none) me)
@@ -172,5 +172,5 @@ module _ {D : Type 0} (l : Layout) (first : D) (holds : Pages D → Type 0) wher
     keeps,
     tt,
     told_load l first holds st r i id me.1 me.0 me.0.reading t.0 at live mine.reads t.1,
-    ((refl, refl, refl), refl, (refl, refl, refl), refl, (s.clock, t.2)),
+    ((refl, refl, refl, refl), refl, (refl, refl, refl), refl, (s.clock, t.2)),
   )

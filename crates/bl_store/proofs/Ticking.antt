@@ -86,7 +86,7 @@ module _ {D : Type 0} (l : Layout) (first : D) (holds : Pages D → Type 0) wher
               budget = set_there r.budgets q (me.0.puts + me.0.retires) (k + me.0.retires) mine.budget;
               joined = refl;
             } (sealing_stays l st.words ws s.owners st.views id me.0 w at refl owners r.sealing) (ticks s r.kept)),
-        ((refl, refl, refl), refl, refl, refl, sym has, refl, omega arith, λ g e. let same : f ≡ g = cc in ap (λ (z : ℕ). Timed z n) same),
+        ((refl, refl, refl, refl), refl, refl, refl, sym has, refl, omega arith, λ g e. let same : f ≡ g = cc in ap (λ (z : ℕ). Timed z n) same),
       )
     where
       read_by : (clock : ℕ) (sp : Stamp) → IsRead clock sp → IsRead (clock + 1) sp
@@ -148,7 +148,7 @@ module _ {D : Type 0} (l : Layout) (first : D) (holds : Pages D → Type 0) wher
               budget = set_there r.budgets q (me.0.puts + me.0.retires) (me.0.puts + k) mine.budget;
               joined = refl;
             } sealing t.2),
-        ((refl, refl), refl, refl, refl, sym has, omega arith, refl, subst (λ (z : ℕ). then' me.0.known z t.1) (sym now) t.3),
+        ((refl, refl, refl), refl, refl, refl, sym has, omega arith, refl, subst (λ (z : ℕ). then' me.0.known z t.1) (sym now) t.3),
       )
     where
       read_by : (clock : ℕ) (sp : Stamp) → IsRead clock sp → IsRead (clock + 1) sp
@@ -190,7 +190,7 @@ module _ {D : Type 0} (l : Layout) (first : D) (holds : Pages D → Type 0) wher
         tt,
         moved l first holds st r i n id me.1 me.0 (record me.0 { sealing = Unsealed }) s r.frames r.budgets at live r.orderly shows r.budgeted go
             record { layout = refl; number = refl; upto = refl; stands = mine.stands; clocked = mine.clocked; reads = mine.reads; stocks = mine.stocks; drops = mine.drops; seals = tt; sweeps = mine.sweeps; budget = mine.budget; joined = refl } sealing r.kept,
-        ((refl, refl), refl, refl, (refl, refl, refl), refl),
+        ((refl, refl, refl), refl, refl, (refl, refl, refl), refl),
       )
     where
       sealed_else : (os : List Owner) (ws : List ℕ) (i n x q j : ℕ) → i ≡ owner_at l x → j ≢ q → get_or ws (owner_at l x) 0 ≡ 4 * q + 2 → (y : Sealing) → Seals l ws os j y → Seals l (set ws i n) os j y

@@ -152,7 +152,7 @@ module _ {D : Type 0} (l : Layout) (first : D) (holds : Pages D → Type 0) wher
               budget = mine.budget;
               joined = refl;
             } refl refl r.kept,
-        ((refl, refl, refl), (refl, refl, refl), refl, refl, omega arith),
+        ((refl, refl, refl, refl), (refl, refl, refl), refl, refl, omega arith),
       )
 
   pub stamps : (then' : D → ℕ → D → Type 0) (slots id i n c : ℕ) (me : M) → i ≡ process_at me.0.number → n ≡ c + 1 → me.0.stamp ≡ Clocked c → Begins holds l me.0.number me.0.known then'
@@ -163,7 +163,7 @@ module _ {D : Type 0} (l : Layout) (first : D) (holds : Pages D → Type 0) wher
         keeps,
         tt,
         process_step st r i id n me.1 me.0 (In s.clock) t.0 at live i_is (omega arith, omega arith) tt (λ b e. cc) t.1,
-        ((refl, refl, refl), (refl, refl, refl), (s.clock, refl, t.2)),
+        ((refl, refl, refl, refl), (refl, refl, refl), (s.clock, refl, t.2)),
       )
 
   pub finishes : (then' : D → ℕ → D → Type 0) (slots id i b : ℕ) (me : M) → i ≡ process_at me.0.number → me.0.stamp ≡ In b → Ends holds l me.0.number me.0.known then'
@@ -174,7 +174,7 @@ module _ {D : Type 0} (l : Layout) (first : D) (holds : Pages D → Type 0) wher
         keeps,
         tt,
         process_step st r i id 0 me.1 me.0 Out t.1 at live i_is refl tt (λ b e. cc) t.2,
-        ((refl, refl, refl), (refl, refl, refl), refl, (s.clock, t.3)),
+        ((refl, refl, refl, refl), (refl, refl, refl), refl, (s.clock, t.3)),
       )
 
   pub looks : (then' : D → ℕ → Owner → List ℕ → D → Type 0) (slots id i b x : ℕ) (me : M) → i ≡ page_at l x → x < l.pages → me.0.layout ≡ l → me.0.stamp ≡ In b → Gets holds l me.0.number me.0.known x then'
@@ -191,7 +191,7 @@ module _ {D : Type 0} (l : Layout) (first : D) (holds : Pages D → Type 0) wher
         keeps,
         tt,
         told_load st r i id me.1 me.0 me.0.reading t.1 at live mine.reads kept,
-        ((refl, refl, refl), refl, (refl, refl, refl), λ y equal. let back : x ≡ y = omega arith in (own.0, page.0, ((λ _. e.1), λ some_frame. absurd (some_frame e.0)), subst (λ (z : ℕ). then' me.0.known z own.0 page.0 t.1) back t.3)),
+        ((refl, refl, refl, refl), refl, (refl, refl, refl), λ y equal. let back : x ≡ y = omega arith in (own.0, page.0, ((λ _. e.1), λ some_frame. absurd (some_frame e.0)), subst (λ (z : ℕ). then' me.0.known z own.0 page.0 t.1) back t.3)),
       ))
       (λ (e : (f : ℕ) × (n ≡ f + 1) × (get_elem? r.frames f ≡ some (used (shown x) page.0))). let up = e.1 in let within = at_below r.frames e.0 (used (shown x) page.0) e.2 in (
         record me.0 { reading = At e.0 page.0; known = t.1 },
@@ -199,7 +199,7 @@ module _ {D : Type 0} (l : Layout) (first : D) (holds : Pages D → Type 0) wher
         tt,
         told_load st r i id me.1 me.0 (At e.0 page.0) t.1 at live (b, is, (shown x, e.2, tt)) kept,
         (
-          (refl, refl, refl),
+          (refl, refl, refl, refl),
           refl,
           (refl, refl, refl),
           λ y equal. let back : x ≡ y = omega arith in (

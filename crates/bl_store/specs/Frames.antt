@@ -170,11 +170,11 @@ module _ {D : Type 0} where
   abbrev pub joined : ℕ → D → Joined D
   joined n d = record { number = n; known = d }
 
-  abbrev others : List (Joined D) → List (Joined D)
+  abbrev pub others : List (Joined D) → List (Joined D)
   others [] = []
   others (g ∷ gs) = gs
 
-  abbrev last_of : View D → List (Joined D) → View D
+  abbrev pub last_of : View D → List (Joined D) → View D
   last_of v [] = v
   last_of v (g ∷ gs) = share v.layout g.known g.number (g.number + 1)
 

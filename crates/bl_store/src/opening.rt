@@ -91,7 +91,7 @@ impl<D, R: PageRule<D>> Store<D, R, Global> {
 
 impl<D> Hand<D> {
     fn of(seat: Seat<(), View<D>>, number: u32) -> Hand<D>
-        requires { (number ≡ seat.me.0.number) × (number < seat.me.0.layout.passes) × (seat.me.0.sealing ≡ Unsealed) }
+        requires { (number ≡ seat.me.0.number) × (number < seat.me.0.layout.passes) × (seat.me.0.sealing ≡ Unsealed) × (seat.me.1 ≡ []) }
         ensures { (result.number ≡ number) × (result.seat ≡ seat) }
     {
         Hand {

@@ -1,5 +1,5 @@
 //! Latches, and the retirement of a page.
-ghost use Rattle.std.specs.Prelude.{◌≡◌, ℕ, ◌+◌, ◌<◌, ◌≤◌, ◌↔◌, List, IsTrue};
+ghost use Rattle.std.specs.Prelude.{◌≡◌, ℕ, ◌+◌, ◌<◌, ◌≤◌, ◌↔◌, List, [], IsTrue};
 ghost use Rattle.bl_store.specs.Pages.{Owner, Open, Held, Latches, Misses, Opens, Retires};
 ghost use Rattle.bl_store.specs.Hands.{known, IsOf, IsSameHand, IsSameStage, IsSameStock, MayRetire};
 ghost use Rattle.bl_store.specs.declared.view.Sealing.TheVariants.{Unsealed, Sealed};
@@ -65,11 +65,11 @@ impl<D, R: PageRule<D>, A: Allocator> Store<D, R, A> {
         requires own { IsOf self.now.table.shared.table_id self.now.layout seat.old }
         requires page { (page < self.now.layout.pages) × (page ≡ J.page) }
         requires leave { MayRetire seat.old }
-        requires hand { IsLive seat.old.me.0 × (seat.old.me.0.sealing ≡ Unsealed) }
+        requires hand { IsLive seat.old.me.0 × (seat.old.me.0.sealing ≡ Unsealed) × (seat.old.me.1 ≡ []) }
         requires rule { Retires R.holds self.now.layout seat.old.me.0.number (known seat.old) page M.then }
         ensures same { IsSameHand seat.old seat.new × IsSameStage seat.old seat.new }
         ensures stock { (seat.new.me.0.stock ≡ seat.old.me.0.stock) × (seat.new.me.0.puts ≡ seat.old.me.0.puts) }
-        ensures sealed { (seat.new.me.0.sealing ≡ Sealed page result) × (result < 2305843009213693952) }
+        ensures sealed { (seat.new.me.0.sealing ≡ Sealed page result) × (result < 2305843009213693952) × (seat.new.me.1 ≡ []) }
         ensures told { M.then (known seat.old) result (known seat.new) }
     {
         self.table

@@ -23,7 +23,7 @@ pub struct Hand<D> {
     pub(crate) frame: u32,
     // The owner word at which its next sweep begins, counted from page 0.
     pub(crate) owner: u32,
-    pub ghost own: { (number ≡ seat.me.0.number) × (number < seat.me.0.layout.passes) × (seat.me.0.sealing ≡ Unsealed) },
+    pub ghost own: { (number ≡ seat.me.0.number) × (number < seat.me.0.layout.passes) × (seat.me.0.sealing ≡ Unsealed) × (seat.me.1 ≡ []) },
 }
 
 /// Pages that threads share. D is what a hand knows, and R the user's rule.
