@@ -11,7 +11,7 @@ use Rattle.atomic_table.proofs.Lists.{at_set, set_else}
 use Rattle.bl_layout.specs.declared.layout.Layout.{Layout}
 use Rattle.bl_layout.specs.Words.{frame_count, word_count}
 use Rattle.bl_store.specs.Pages.{Owner, Released, Open, Retired, Stage, Idle, Running, Pages, IsOrderly, owned, written}
-use Rattle.bl_store.specs.Frames.{process_at, page_at, owner_at, state_at, place_at, drafted, shown, Frame, free, used, FrameIs, OwnerIs, ProcessIs, Knows, total_of, Shows, IsLive, IsApart, Kept, share, starting}
+use Rattle.bl_store.specs.Frames.{process_at, page_at, owner_at, state_at, place_at, drafted, shown, Frame, free, used, FrameIs, OwnerIs, ProcessIs, Knows, total_of, Shows, IsLive, Kept, share, starting}
 use Rattle.bl_store.specs.declared.view.View.{View}
 use Rattle.bl_store.specs.declared.view.Joined.{Joined}
 use Rattle.bl_store.proofs.Lists.{at_below, there, one_there, set_there}
@@ -312,7 +312,7 @@ module _ {D : Type 0} (l : Layout) (first : D) (holds : Pages D → Type 0) wher
               (⊎_elim (λ (d : (j ≡ id) × (w ≡ share l first n (n + 1))). absurd (none_joined n (n + 1) m' w h d.1 at_m)) (λ (d : (j ≡ length st.views) × (w ≡ share l first (n + 1) m)). absurd (none_joined (n + 1) m m' w h d.1 at_m))) b)
               (⊎_elim (λ (c : (i ≡ id) × (v ≡ share l first n (n + 1))). absurd (none_joined n (n + 1) k v g c.1 at_k)) (λ (c : (i ≡ length st.views) × (v ≡ share l first (n + 1) m)). absurd (none_joined (n + 1) m k v g c.1 at_k))) a;
         };
-        sealing = λ x t e. ⊎_elim inl (λ (h : (j : ℕ) × (u : View D) × (get_elem? st.views j ≡ some u) × (u.sealing ≡ Sealed x t)). let k = sealed_on st.views id old left at refl x t h in inr (k.0, k.1, at_longer (set st.views id left) (right ∷ []) k.0 k.1 k.2, k.3)) (r.sealing x t e);
+        sealing = λ x t e. ⊎_elim inl (λ (h : (j : ℕ) × (u : View D) × (get_elem? st.views j ≡ some u) × IsLive u × (u.sealing ≡ Sealed x t)). let k = sealed_on st.views id old left at refl (λ k. k) x t h in inr (k.0, k.1, at_longer (set st.views id left) (right ∷ []) k.0 k.1 k.2, k.3, k.4)) (r.sealing x t e);
         kept = r.kept;
       }
     where

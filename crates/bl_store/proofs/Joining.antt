@@ -1,5 +1,5 @@
 -- A hand is taken in by another seat and given back.
-use Rattle.std.proofs.Common.{◌≡◌, ◌≢◌, ◌⊎◌, ℕ, zero, suc, ◌+◌, ◌<◌, ◌≤◌, List, [], ◌∷◌, ◌++◌, length, set, get_or, sym, refl, ap, ◌∙◌, subst, inl, inr, ⊎_elim, arith, length-set, add-one, lt_of_not-le}
+use Rattle.std.proofs.Common.{◌≡◌, ◌≢◌, ◌⊎◌, ℕ, zero, suc, ◌+◌, ◌<◌, ◌≤◌, List, [], ◌∷◌, ◌++◌, length, set, sym, refl, ap, ◌∙◌, subst, inl, inr, ⊎_elim, arith, length-set, add-one, lt_of_not-le}
 use mathlib.Core.Logic.{dite}
 use mathlib.Core.Option.{some, some-injective, some-ne-none, none}
 use native.Mathlib.Decide.{dec_le, ℕ_discrete}
@@ -8,8 +8,8 @@ use Rattle.atomic_table.specs.Table.{State, Me, step, keeps, Allows, Splits, Joi
 use Rattle.atomic_table.proofs.Lists.{at_set, set_else, at_snoc, at_longer, at_last}
 use Rattle.std.proofs.lemmas.List.{length-append}
 use Rattle.bl_layout.specs.declared.layout.Layout.{Layout}
-use Rattle.bl_store.specs.Pages.{Retired, Idle, Pages, Stands, Meets}
-use Rattle.bl_store.specs.Frames.{IsTakenIn, IsLive, Knows, Budgeted, IsApart, IsSealing, Kept, total_of, stage_of, joined, share, spent_view, without_hand, taking_in, giving_back, given_back, others, last_of}
+use Rattle.bl_store.specs.Pages.{Idle, Pages, Meets}
+use Rattle.bl_store.specs.Frames.{IsTakenIn, IsLive, Knows, IsApart, Kept, stage_of, joined, share, spent_view, without_hand, taking_in, giving_back, given_back, others, last_of}
 use Rattle.bl_store.specs.Told.{met}
 use Rattle.bl_store.specs.declared.view.View.{View}
 use Rattle.bl_store.specs.declared.view.Joined.{Joined}
@@ -51,7 +51,7 @@ module _ {D : Type 0} (l : Layout) (first : D) (holds : Pages D → Type 0) wher
           joined = λ i j u w at_i at_j a b. r.apart.joined i j u w (back i u at_i a) (back j w at_j b) a b;
           taken = λ i j u w at_i at_j a b. r.apart.taken i j u w (back i u at_i a) (back j w at_j b) a b;
         };
-        sealing = λ x t e. ⊎_elim inl (λ (h : (j : ℕ) × (u : View D) × (get_elem? st.views j ≡ some u) × (u.sealing ≡ Sealed x t)). let k = sealed_on st.views id v v at refl x t h in inr (k.0, k.1, at_longer (set st.views id v) (blank ∷ []) k.0 k.1 k.2, k.3)) (r.sealing x t e);
+        sealing = λ x t e. ⊎_elim inl (λ (h : (j : ℕ) × (u : View D) × (get_elem? st.views j ≡ some u) × IsLive u × (u.sealing ≡ Sealed x t)). let k = sealed_on st.views id v v at refl (λ k. k) x t h in inr (k.0, k.1, at_longer (set st.views id v) (blank ∷ []) k.0 k.1 k.2, k.3, k.4)) (r.sealing x t e);
         kept = r.kept;
       }
 
@@ -117,9 +117,9 @@ module _ {D : Type 0} (l : Layout) (first : D) (holds : Pages D → Type 0) wher
             (λ (t : (i ≢ id) × (i ≢ other) × (get_elem? st.views i ≡ some u)). stays i u t.2 live t.1) (back i u e live);
         apart = apart_taken st r id other v w at at_w live_v live_w ne vs back;
         sealing = λ x t e. ⊎_elim inl
-            (λ (h : (j : ℕ) × (u : View D) × (get_elem? st.views j ≡ some u) × (u.sealing ≡ Sealed x t)). let k = sealed_on st.views id v both at refl x t h in dite (ℕ_discrete k.0 other)
-            (λ same. let one : w ≡ k.1 = one_there (set st.views id both) other w k.1 at_other (ap (get_elem? (set st.views id both)) (sym same) ∙ k.2) in let no : Unsealed ≡ Sealed x t = sym unsealed ∙ (ap (λ (z : View D). z.sealing) one ∙ k.3) in cc)
-            (λ apart. inr (k.0, k.1, set_else (set st.views id both) other k.0 gone apart ∙ k.2, k.3))) (r.sealing x t e);
+            (λ (h : (j : ℕ) × (u : View D) × (get_elem? st.views j ≡ some u) × IsLive u × (u.sealing ≡ Sealed x t)). let k = sealed_on st.views id v both at refl (λ k. k) x t h in dite (ℕ_discrete k.0 other)
+            (λ same. let one : w ≡ k.1 = one_there (set st.views id both) other w k.1 at_other (ap (get_elem? (set st.views id both)) (sym same) ∙ k.2) in let no : Unsealed ≡ Sealed x t = sym unsealed ∙ (ap (λ (z : View D). z.sealing) one ∙ k.4) in cc)
+            (λ apart. inr (k.0, k.1, set_else (set st.views id both) other k.0 gone apart ∙ k.2, k.3, k.4))) (r.sealing x t e);
         kept = r.kept;
       }
     where
@@ -234,7 +234,7 @@ module _ {D : Type 0} (l : Layout) (first : D) (holds : Pages D → Type 0) wher
             (λ (was : get_elem? (set st.views id left) i ≡ some u). ⊎_elim (λ (t : (i ≡ id) × (left ≡ u)). subst (Knows l first st.words r.pages r.frames r.budgets) t.1 knows_left) (λ (t : (i ≢ id) × (get_elem? st.views i ≡ some u)). r.seats i u t.1 live_u) (at_set st.views id i left u was))
             (λ (t : right ≡ u). subst (Knows l first st.words r.pages r.frames r.budgets) t knows_right) (at_snoc (set st.views id left) right u i e);
         apart = apart_given st r id v j js live has at next;
-        sealing = λ x t e. ⊎_elim inl (λ (h : (k : ℕ) × (u : View D) × (get_elem? st.views k ≡ some u) × (u.sealing ≡ Sealed x t)). let k = sealed_on st.views id v left at refl x t h in inr (k.0, k.1, at_longer (set st.views id left) (right ∷ []) k.0 k.1 k.2, k.3)) (r.sealing x t e);
+        sealing = λ x t e. ⊎_elim inl (λ (h : (k : ℕ) × (u : View D) × (get_elem? st.views k ≡ some u) × IsLive u × (u.sealing ≡ Sealed x t)). let k = sealed_on st.views id v left at refl (λ k. k) x t h in inr (k.0, k.1, at_longer (set st.views id left) (right ∷ []) k.0 k.1 k.2, k.3, k.4)) (r.sealing x t e);
         kept = r.kept;
       }
     where

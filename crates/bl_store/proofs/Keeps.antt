@@ -271,18 +271,18 @@ module _ {D : Type 0} where
           (λ (t : (k ≢ id) × (get_elem? vs k ≡ some z)). (z, t.1, refl, refl, refl, refl)) (at_set vs id k w z at_k)
 
   -- what some seat has retired, it has after the step of another, or of its own
-  pub sealed_on : (vs : List (View D)) (id : ℕ) (v w : View D) → get_elem? vs id ≡ some v → w.sealing ≡ v.sealing → (x t : ℕ) → ((j : ℕ) × (u : View D) × (get_elem? vs j ≡ some u) × (u.sealing ≡ Sealed x t))
-      → (j : ℕ) × (u : View D) × (get_elem? (set vs id w) j ≡ some u) × (u.sealing ≡ Sealed x t)
-  sealed_on vs id v w at same x t h = dite (ℕ_discrete h.0 id)
-      (λ is. let one : v ≡ h.1 = one_there vs id v h.1 at (ap (get_elem? vs) (sym is) ∙ h.2) in (id, w, set_there vs id v w at, same ∙ (ap (λ (z : View D). z.sealing) one ∙ h.3)))
-      (λ ne. (h.0, h.1, set_else vs id h.0 w ne ∙ h.2, h.3))
+  pub sealed_on : (vs : List (View D)) (id : ℕ) (v w : View D) → get_elem? vs id ≡ some v → w.sealing ≡ v.sealing → (IsLive v → IsLive w) → (x t : ℕ) → ((j : ℕ) × (u : View D) × (get_elem? vs j ≡ some u) × IsLive u × (u.sealing ≡ Sealed x t))
+      → (j : ℕ) × (u : View D) × (get_elem? (set vs id w) j ≡ some u) × IsLive u × (u.sealing ≡ Sealed x t)
+  sealed_on vs id v w at same live x t h = dite (ℕ_discrete h.0 id)
+      (λ is. let one : v ≡ h.1 = one_there vs id v h.1 at (ap (get_elem? vs) (sym is) ∙ h.2) in (id, w, set_there vs id v w at, live (subst (λ (z : View D). IsLive z) (sym one) h.3), same ∙ (ap (λ (z : View D). z.sealing) one ∙ h.4)))
+      (λ ne. (h.0, h.1, set_else vs id h.0 w ne ∙ h.2, h.3, h.4))
 
   -- the owner words stay, and what the seat of the step has retired
-  pub sealing_stays : (l : Layout) (ws ws' : List ℕ) (os : List Owner) (vs : List (View D)) (id : ℕ) (v w : View D) → get_elem? vs id ≡ some v → w.sealing ≡ v.sealing → ((x : ℕ) → x < length os → get_or ws' (owner_at l x) 0 ≡ get_or ws (owner_at l x) 0)
+  pub sealing_stays : (l : Layout) (ws ws' : List ℕ) (os : List Owner) (vs : List (View D)) (id : ℕ) (v w : View D) → get_elem? vs id ≡ some v → w.sealing ≡ v.sealing → (IsLive v → IsLive w) → ((x : ℕ) → x < length os → get_or ws' (owner_at l x) 0 ≡ get_or ws (owner_at l x) 0)
       → IsSealing l ws os vs → IsSealing l ws' os (set vs id w)
-  sealing_stays l ws ws' os vs id v w at same owners r x t e = ⊎_elim
+  sealing_stays l ws ws' os vs id v w at same live owners r x t e = ⊎_elim
       (λ (h : get_or ws (owner_at l x) 0 ≡ 4 * t + 3). inl (owners x (at_below os x (Retired t) e) ∙ h))
-      (λ (h : (j : ℕ) × (u : View D) × (get_elem? vs j ≡ some u) × (u.sealing ≡ Sealed x t)). inr (sealed_on vs id v w at same x t h))
+      (λ (h : (j : ℕ) × (u : View D) × (get_elem? vs j ≡ some u) × IsLive u × (u.sealing ≡ Sealed x t)). inr (sealed_on vs id v w at same live x t h))
       (r x t e)
 
   module _ (l : Layout) (first : D) (holds : Pages D → Type 0) where
@@ -322,4 +322,4 @@ module _ {D : Type 0} where
     unmoved st r i id cs v w s' bs' at live orderly shows budgeted go own owners sealing kept = let same : st.words ≡ set st.words i (get_or st.words i 0) = sym (set-get_or st.words i 0) in
         moved st r i (get_or st.words i 0) id cs v w s' r.frames bs' at live orderly (subst (λ (z : List ℕ). Shows l z s' r.frames) same shows) budgeted
         (subst (λ (z : List ℕ). Goes l st.words z r.pages s' r.frames r.frames r.budgets bs' v.number) same go) (subst (λ (z : List ℕ). Own l z s' r.frames bs' v w) same own)
-        (subst (λ (z : List ℕ × List Owner). IsSealing l z.0 z.1 (set st.views id w)) (λ k. (same k, sym owners k)) (sealing_stays l st.words st.words r.pages.owners st.views id v w at sealing (λ x _. refl) r.sealing)) kept
+        (subst (λ (z : List ℕ × List Owner). IsSealing l z.0 z.1 (set st.views id w)) (λ k. (same k, sym owners k)) (sealing_stays l st.words st.words r.pages.owners st.views id v w at sealing (λ _. let layout = ap (λ (z : Layout). z.passes) own.layout in let number = own.number in omega arith) (λ x _. refl) r.sealing)) kept

@@ -10,3 +10,4 @@ mod Living
 mod StockLemmas
 mod Dealing
 mod Joining
+mod Ending

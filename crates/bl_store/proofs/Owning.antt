@@ -1,5 +1,5 @@
 -- Pages are taken, latched, opened and released: their owners change.
-use Rattle.std.proofs.Common.{◌≡◌, ◌≢◌, ◌⊎◌, ℕ, ◌+◌, ◌*◌, ◌<◌, ◌≤◌, eqb, List, get_or, set, sym, refl, ap, ◌∙◌, subst, inl, inr, ⊎_elim, arith, le_refl, get_or-set_other}
+use Rattle.std.proofs.Common.{◌≡◌, ◌≢◌, ℕ, ◌+◌, ◌*◌, ◌<◌, ◌≤◌, eqb, List, get_or, set, sym, refl, ap, ◌∙◌, subst, inl, inr, ⊎_elim, arith, le_refl, get_or-set_other}
 use mathlib.Core.Option.{none, some}
 use lib.ListN.{get_elem?}
 use prog.Atomic.{either}
@@ -53,7 +53,7 @@ module _ {D : Type 0} (l : Layout) (first : D) (holds : Pages D → Type 0) wher
       let w : View D = record v { known = d; releases = rl } in
       let sealing : IsSealing l ws s1.owners (set st.views id w) = (λ y t e. ⊎_elim (λ (a : (y ≡ x) × (o' ≡ Retired t)). absurd (open_now t a.1))
       (λ (a : (y ≢ x) × (get_elem? s.owners y ≡ some (Retired t))). let other = a.0 in ⊎_elim (λ (h : get_or st.words (owner_at l y) 0 ≡ 4 * t + 3). inl (get_or-set_other st.words i (owner_at l y) n 0 (λ z. other (omega arith)) ∙ h))
-      (λ (h : (j : ℕ) × (u : View D) × (get_elem? st.views j ≡ some u) × (u.sealing ≡ Sealed y t)). inr (sealed_on st.views id v w at refl y t h)) (r.sealing y t a.1)) (at_set s.owners x y o' (Retired t) e)) in
+      (λ (h : (j : ℕ) × (u : View D) × (get_elem? st.views j ≡ some u) × IsLive u × (u.sealing ≡ Sealed y t)). inr (sealed_on st.views id v w at refl (λ k. k) y t h)) (r.sealing y t a.1)) (at_set s.owners x y o' (Retired t) e)) in
       moved l first holds st r i n id cs v w s' r.frames r.budgets at live
       (orderly_told l s1 q sg d (began_by l s q v.stamp v.known r.orderly mine.stands) (orderly_owned l s x o' r.orderly))
       (shows_told l ws s1 r.frames q sg d (subst (λ (z : ℕ). ProcessIs z sg) (sym process) (r.shows.process q sg v.known (omega arith) mine.stands)) shows)

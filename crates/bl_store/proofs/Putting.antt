@@ -104,7 +104,7 @@ module _ {D : Type 0} (l : Layout) (first : D) (holds : Pages D → Type 0) wher
         sweeps = sweeps_stay moves v.sweep mine.sweeps;
         budget = mine.budget;
         joined = refl;
-      } (sealing_stays l st.words ws s.owners st.views id v (record v { stock = ds; known = d; dropping = dr }) at refl owners r.sealing) kept
+      } (sealing_stays l st.words ws s.owners st.views id v (record v { stock = ds; known = d; dropping = dr }) at refl (λ k. k) owners r.sealing) kept
     where
       reads_own : (ws : List ℕ) (fs gs : List Frame) (sp : Stamp) (rd : Reading) → ((b h : ℕ) (ys : List ℕ) → Readable fs b h ys → Readable gs b h ys) → Reads fs sp rd → Reads gs sp rd
       reads_own ws fs gs sp Nowhere stay is = tt

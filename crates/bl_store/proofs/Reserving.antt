@@ -105,7 +105,7 @@ module _ {D : Type 0} (l : Layout) (first : D) (holds : Pages D → Type 0) wher
         sweeps = mine.sweeps;
         budget = mine.budget;
         joined = refl;
-      } (sealing_stays l st.words ws s.owners st.views id v (record v { stock = ds; dropping = dr; releases = rl }) at refl owners r.sealing) r.kept
+      } (sealing_stays l st.words ws s.owners st.views id v (record v { stock = ds; dropping = dr; releases = rl }) at refl (λ k. k) owners r.sealing) r.kept
 
   -- a load of the clock by which a reservation begins
   pub allots : (slots id i : ℕ) (me : M) → i ≡ 0 → IsLive me.0 → Allows Rule slots id me i (λ n. n) (allotted (step slots i 0 0 none) me)

@@ -1,5 +1,5 @@
 -- The clock ticks: for a frame that a put swapped out, and for a page that is retired.
-use Rattle.std.proofs.Common.{◌≡◌, ◌≢◌, ◌⊎◌, ℕ, ◌+◌, ◌*◌, ◌%◌, ◌<◌, ◌≤◌, List, length, get_or, set, sym, refl, ap, ◌∙◌, subst, inl, inr, ⊎_elim, arith, le_refl, length-set, get_or-set_other}
+use Rattle.std.proofs.Common.{◌≡◌, ◌≢◌, ℕ, ◌+◌, ◌*◌, ◌%◌, ◌<◌, ◌≤◌, List, length, get_or, set, sym, refl, ap, ◌∙◌, subst, inl, inr, ⊎_elim, arith, le_refl, length-set, get_or-set_other}
 use mathlib.Core.Option.{none, some}
 use mathlib.Core.Logic.{dite}
 use native.Mathlib.Decide.{ℕ_discrete}
@@ -85,7 +85,7 @@ module _ {D : Type 0} (l : Layout) (first : D) (holds : Pages D → Type 0) wher
               sweeps = sweeps_stay go me.0.sweep mine.sweeps;
               budget = set_there r.budgets q (me.0.puts + me.0.retires) (k + me.0.retires) mine.budget;
               joined = refl;
-            } (sealing_stays l st.words ws s.owners st.views id me.0 w at refl owners r.sealing) (ticks s r.kept)),
+            } (sealing_stays l st.words ws s.owners st.views id me.0 w at refl (λ k. k) owners r.sealing) (ticks s r.kept)),
         ((refl, refl, refl, refl), refl, refl, refl, sym has, refl, omega arith, λ g e. let same : f ≡ g = cc in ap (λ (z : ℕ). Timed z n) same),
       )
     where
@@ -111,11 +111,11 @@ module _ {D : Type 0} (l : Layout) (first : D) (holds : Pages D → Type 0) wher
       let owners : (y : ℕ) → y < length s1.owners → get_or ws (owner_at l y) 0 ≡ get_or st.words (owner_at l y) 0 = (λ y below. get_or-set_other st.words i (owner_at l y) (n + 1) 0 (λ z. omega arith)) in
       let others : (j : ℕ) (y : Sealing) → Seals l st.words s.owners j y → Seals l ws s1.owners j y = (λ j y a. seal_same l st.words ws s1.owners j y owners (sealed_else s.owners st.words x j own.0 (Retired s.clock) own.1 (λ u e. let no : Held q ≡ Retired u = sym t.0 ∙ e in cc) y a)) in
       let sealing : IsSealing l ws s1.owners (set st.views id w) = (λ y u e. ⊎_elim
-      (λ (a : (y ≡ x) × (Retired s.clock ≡ Retired u)). let is_u : s.clock ≡ u = cc in let is_y : x ≡ y = sym a.0 in let is_n : n ≡ u = now ∙ is_u in inr (id, w, set_there st.views id me.0 w at, λ j. Sealed (is_y j) (is_n j)))
+      (λ (a : (y ≡ x) × (Retired s.clock ≡ Retired u)). let is_u : s.clock ≡ u = cc in let is_y : x ≡ y = sym a.0 in let is_n : n ≡ u = now ∙ is_u in inr (id, w, set_there st.views id me.0 w at, live, λ j. Sealed (is_y j) (is_n j)))
       (λ (a : (y ≢ x) × (get_elem? s.owners y ≡ some (Retired u))). ⊎_elim (λ (h : get_or st.words (owner_at l y) 0 ≡ 4 * u + 3). inl (get_or-set_other st.words i (owner_at l y) (n + 1) 0 (λ z. omega arith) ∙ h))
-      (λ (h : (j : ℕ) × (v : View D) × (get_elem? st.views j ≡ some v) × (v.sealing ≡ Sealed y u)). dite (ℕ_discrete h.0 id)
-      (λ is. let one : me.0 ≡ h.1 = one_there st.views id me.0 h.1 at (ap (get_elem? st.views) (sym is) ∙ h.2) in let no : Unsealed ≡ Sealed y u = sym unsealed ∙ (ap (λ (z : View D). z.sealing) one ∙ h.3) in cc)
-      (λ ne. inr (h.0, h.1, set_else st.views id h.0 w ne ∙ h.2, h.3))) (r.sealing y u a.1)) (at_set s.owners x y (Retired s.clock) (Retired u) e)) in
+      (λ (h : (j : ℕ) × (v : View D) × (get_elem? st.views j ≡ some v) × IsLive v × (v.sealing ≡ Sealed y u)). dite (ℕ_discrete h.0 id)
+      (λ is. let one : me.0 ≡ h.1 = one_there st.views id me.0 h.1 at (ap (get_elem? st.views) (sym is) ∙ h.2) in let no : Unsealed ≡ Sealed y u = sym unsealed ∙ (ap (λ (z : View D). z.sealing) one ∙ h.4) in cc)
+      (λ ne. inr (h.0, h.1, set_else st.views id h.0 w ne ∙ h.2, h.3, h.4))) (r.sealing y u a.1)) (at_set s.owners x y (Retired s.clock) (Retired u) e)) in
       let go : Goes l st.words ws s s' r.frames r.frames r.budgets bs' q = record {
         clock = omega arith;
         hands = λ j other. set_else s.hands q j (sg, t.1) other;
@@ -172,9 +172,9 @@ module _ {D : Type 0} (l : Layout) (first : D) (holds : Pages D → Type 0) wher
       (λ is_x. let both : Retired t ≡ Retired u = one_there s.owners x (Retired t) (Retired u) here (ap (get_elem? s.owners) (sym is_x) ∙ e) in let is_u : t ≡ u = cc in let wide = r.shows.wide in
       inl (get_or-set_at st.words i (owner_at l y) n 0 (omega arith) (omega arith) ∙ omega arith))
       (λ other. ⊎_elim (λ (h : get_or st.words (owner_at l y) 0 ≡ 4 * u + 3). inl (get_or-set_other st.words i (owner_at l y) n 0 (λ z. other (omega arith)) ∙ h))
-      (λ (h : (j : ℕ) × (v : View D) × (get_elem? st.views j ≡ some v) × (v.sealing ≡ Sealed y u)). dite (ℕ_discrete h.0 id)
-      (λ same_seat. let one : me.0 ≡ h.1 = one_there st.views id me.0 h.1 at (ap (get_elem? st.views) (sym same_seat) ∙ h.2) in let no : Sealed x t ≡ Sealed y u = sym is ∙ (ap (λ (z : View D). z.sealing) one ∙ h.3) in let is_y : x ≡ y = cc in absurd (other (sym is_y)))
-      (λ ne. inr (h.0, h.1, set_else st.views id h.0 w ne ∙ h.2, h.3))) (r.sealing y u e))) in
+      (λ (h : (j : ℕ) × (v : View D) × (get_elem? st.views j ≡ some v) × IsLive v × (v.sealing ≡ Sealed y u)). dite (ℕ_discrete h.0 id)
+      (λ same_seat. let one : me.0 ≡ h.1 = one_there st.views id me.0 h.1 at (ap (get_elem? st.views) (sym same_seat) ∙ h.2) in let no : Sealed x t ≡ Sealed y u = sym is ∙ (ap (λ (z : View D). z.sealing) one ∙ h.4) in let is_y : x ≡ y = cc in absurd (other (sym is_y)))
+      (λ ne. inr (h.0, h.1, set_else st.views id h.0 w ne ∙ h.2, h.3, h.4))) (r.sealing y u e))) in
       let go : Goes l st.words ws s s r.frames r.frames r.budgets r.budgets q = record {
         clock = le_refl s.clock;
         hands = λ k other. refl;

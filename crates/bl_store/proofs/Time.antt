@@ -127,7 +127,7 @@ module _ {D : Type 0} (l : Layout) (first : D) (holds : Pages D → Type 0) wher
         sweeps = sweeps_stay go v.sweep mine.sweeps;
         budget = mine.budget;
         joined = refl;
-      } (sealing_stays l st.words ws s.owners st.views id v (record v { stamp = sp; reading = Nowhere; known = d }) at refl owners r.sealing) kept
+      } (sealing_stays l st.words ws s.owners st.views id v (record v { stamp = sp; reading = Nowhere; known = d }) at refl (λ k. k) owners r.sealing) kept
 
   -- a load of the clock, outside a process
   pub reads_clock : (slots id i : ℕ) (me : M) → i ≡ 0 → me.0.stamp ≡ Out → IsLive me.0 → Allows Rule slots id me i (λ n. n) (clocked (step slots i 0 0 none) me)

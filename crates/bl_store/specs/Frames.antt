@@ -235,7 +235,7 @@ pub record IsApart {D : Type 0} (vs : List (View D)) : Type 0 where
 
 -- The owner word of a retired page shows it, or a hand has retired it just now.
 abbrev pub IsSealing : {D : Type 0} → Layout → List ℕ → List Owner → List (View D) → Type 0
-IsSealing l ws os vs = (x t : ℕ) → get_elem? os x ≡ some (Retired t) → (slice_index ws (owner_at l x) ≡ 4 * t + 3) ⊎ ((j : ℕ) × (v : View _) × (get_elem? vs j ≡ some v) × (v.sealing ≡ Sealed x t))
+IsSealing l ws os vs = (x t : ℕ) → get_elem? os x ≡ some (Retired t) → (slice_index ws (owner_at l x) ≡ 4 * t + 3) ⊎ ((j : ℕ) × (v : View _) × (get_elem? vs j ≡ some v) × IsLive v × (v.sealing ≡ Sealed x t))
 
 pub record Kept {S D : Type 0} (l : Layout) (first : D) (holds : Pages D → Type 0) (st : State S (View D)) : Type 0 where
   pub pages : Pages D

@@ -35,6 +35,7 @@ pub struct Store<D, R: PageRule<D>, A: Allocator = Global> {
     pub(crate) least_free: AtomicU64,
     pub ghost key: { table.shared.key ≡ layout },
     pub ghost wide: { table.shared.table_id.words ≡ word_count layout },
+    pub ghost bare: { table.shared.table_id.slots ≡ 0 },
 }
 
 impl<D> Hand<D> {

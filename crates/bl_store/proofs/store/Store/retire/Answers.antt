@@ -3,7 +3,7 @@ use Rattle.bl_layout.specs.declared.layout.Layout.{Layout}
 use Rattle.bl_store.specs.Pages.{Retires}
 use Rattle.bl_store.specs.Hands.{known}
 use Rattle.bl_store.proofs.Ticking.{publishes}
-use Rattle.bl_store.proofs.Living.{live_hand, live_on}
+use Rattle.bl_store.proofs.Living.{live_on}
 use Rattle.bl_store.proofs.store.Store.retire.Goals as goal
 
 pub store-requires : goal.store-requires
