@@ -4,7 +4,7 @@
 //! The rule is that of `one_page`, by which no page can be torn: the run shows that the compiled code keeps it.
 #![tactic(auto)]
 
-ghost use Rattle.std.specs.Prelude.{◌≡◌, ◌<◌, ◌≤◌, ℕ, None, All, length};
+ghost use Rattle.std.specs.Prelude.{◌≡◌, ◌<◌, ◌≤◌, ℕ, All, length, slice_index_or};
 ghost use Rattle.bl_store.specs.Hands.{IsSameHand};
 ghost use Rattle.one_page.specs.Holding.{IsFresh};
 
@@ -12,6 +12,7 @@ use bl_store::Hand;
 use one_page::{Held, Mine, change, hands, read_once, shut, sweep};
 use std::sync::atomic::{AtomicU64, Ordering};
 use std::thread;
+use std::thread::Threads;
 
 /// How many pages each reader gets, and how many puts each writer tries.
 const ROUNDS: u64 = 20_000;
@@ -70,6 +71,23 @@ fn work(store: &Held, hand: &mut Hand<Mine>, place: usize, seen: &Seen)
     }
 }
 
+// Each hand works in a thread of its own.
+fn race<T: Threads + Sync>(rt: &T, store: &Held, hands: &mut [Hand<Mine>], seen: &Seen)
+    requires { All (IsFresh store.now.table.shared.table_id store.now.layout) hands.old }
+    ensures count { length hands.new ≡ length hands.old }
+    ensures fresh { (i : ℕ) (h : Hand Mine) → i < length hands.old → IsFresh store.now.table.shared.table_id store.now.layout (slice_index_or hands.new i h) }
+    ensures same { (i : ℕ) (h : Hand Mine) → i < length hands.old → (slice_index_or hands.new i h).number ≡ (slice_index_or hands.old i h).number }
+{
+    thread::for_each_mut(
+        rt,
+        hands,
+        4,
+        &|place, hand| {
+            work(store, hand, place, seen);
+        },
+    );
+}
+
 fn main(rt: HostRuntime) -> anyhow::Result<()> {
     let (store, mut hands) = hands(rt.alloc(), 4, 4)?;
     let seen = Seen {
@@ -77,9 +95,7 @@ fn main(rt: HostRuntime) -> anyhow::Result<()> {
         torn: AtomicU64::new(0),
         changes: AtomicU64::new(0),
     };
-    thread::for_each_mut(&rt, hands.as_mut_slice(), 4, &|place, hand| {
-        work(&store, hand, place, &seen);
-    });
+    race(&rt, &store, hands.as_mut_slice(), &seen);
     let room = Vec::with_capacity(rt.alloc(), 4)?;
     let pages = shut(store, hands, room);
     let reads = seen.reads.load(Ordering::SeqCst);
