@@ -11,3 +11,4 @@ mod StockLemmas
 mod Dealing
 mod Joining
 mod Ending
+mod Examples

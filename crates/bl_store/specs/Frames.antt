@@ -126,7 +126,7 @@ abbrev pub Seals : Layout → List ℕ → List Owner → ℕ → Sealing → Ty
 Seals l ws os q Unsealed = Unit {0}
 Seals l ws os q (Sealed x t) = (slice_index ws (owner_at l x) ≡ 4 * q + 2) × (get_elem? os x ≡ some (Retired t))
 
-abbrev smallest : Layout
+abbrev pub smallest : Layout
 smallest = record { pages = 4; passes = 1; pages_within = (le_refl 4, le-add_right 4 65532); passes_within = (le_refl 1, le-add_right 1 63) }
 
 module _ {D : Type 0} where
