@@ -1,5 +1,5 @@
 -- Each event of a store is that of the machine.
-use Rattle.std.proofs.Common.{◌≡◌, ◌≢◌, ◌⊎◌, ℕ, zero, suc, ◌+◌, ◌<◌, ◌≤◌, Bool, true, false, eqb, if◌then◌else◌, None, List, [], ◌∷◌, length, get_or, set, sym, refl, ap, ◌∙◌, subst, inl, inr, ⊎_elim, arith, le_refl, lt_of_not-le, get_or-set_other, get_or-set_same}
+use Rattle.std.proofs.Common.{◌≡◌, ◌≢◌, ◌⊎◌, ℕ, zero, suc, ◌+◌, ◌<◌, Bool, eqb, if◌then◌else◌, List, [], ◌∷◌, length, set, sym, refl, ap, ◌∙◌, inl, inr, ⊎_elim, arith, le_refl, lt_of_not-le, get_or-set_other, get_or-set_same}
 use Rattle.std.specs.Prelude.{nat_lt}
 use Rattle.std.proofs.lemmas.Bool.{eq-eqb, ne_eqb, lt-ltb, le-ltb}
 use mathlib.Core.Logic.{dite}
@@ -9,8 +9,8 @@ use lib.ListN.{get_elem?}
 use Rattle.atomic_table.proofs.Lists.{set_here, set_else}
 use Rattle.bl_page.specs.Machine.{Name, Event, Steps, IsAt}
 use Rattle.bl_page.specs.Machine as machine
-use Rattle.bl_store.specs.Pages.{Owner, Released, Open, Held, Retired, Stage, Idle, Running, Pages, Stands, IsPage, HoldsNone, AllBeganAfter, told, owned, written, later}
-use Rattle.page_events.specs.Shown.{name, owner_in, phase_of, phase_in, seen, Leads, one_more, IsTied}
+use Rattle.bl_store.specs.Pages.{Owner, Released, Open, Held, Retired, Stage, Idle, Running, Pages, Stands, AllBeganAfter, told, owned, written, later}
+use Rattle.page_events.specs.Shown.{name, owner_in, phase_of, phase_in, seen, one_more, IsTied}
 
 at_below : {A : Type 0} (l : List A) (i : ℕ) (a : A) → get_elem? l i ≡ some a → i < length l
 at_below [] i a e = absurd (some-ne-none a (sym e))
@@ -23,6 +23,35 @@ set_there l i a b e = set_here l i b (at_below l i a e)
 -- one number is below, at or above another
 side : (a b : ℕ) → (a < b) ⊎ (a ≡ b) ⊎ (b < a)
 side a b = dite (ℕ_discrete a b) (λ e. inr (inl e)) (λ ne. dite (dec_le a b) (λ h. inl (omega arith)) (λ h. inr (inr (lt_of_not-le h))))
+
+owner_at : (ended : ℕ → ℕ) (os : List Owner) (x : ℕ) (o o' : Owner) → get_elem? os x ≡ some o → IsAt x (owner_in ended (some o')) (λ y. owner_in ended (get_elem? os y)) (λ y. owner_in ended (get_elem? (set os x o') y))
+owner_at ended os x o o' here = record { at = ap (owner_in ended) (set_there os x o o' here); others = λ y other. ap (owner_in ended) (set_else os x y o' other) }
+
+holds_none : (ended : ℕ → ℕ) (n : ℕ) (o : Option Owner) → o ≢ some (Held n) → owner_in ended o ≢ machine.Held (name ended n)
+holds_none ended n none not e = cc
+holds_none ended n (some Released) not e = cc
+holds_none ended n (some Open) not e = cc
+holds_none ended n (some (Held k)) not e = let same : name ended k ≡ name ended n = cc in not (ap (λ (z : Name). some (Held z.pass)) same)
+holds_none ended n (some (Retired t)) not e = cc
+
+not_released : (ended : ℕ → ℕ) (o : Owner) → o ≢ Released → owner_in ended (some o) ≢ machine.Released
+not_released ended Released not e = not refl
+not_released ended Open not e = cc
+not_released ended (Held k) not e = cc
+not_released ended (Retired t) not e = cc
+
+more_here : (ended : ℕ → ℕ) (n k : ℕ) → k ≡ n → one_more ended n k ≡ ended k + 1
+more_here ended n k e = ap (λ (b : Bool). if b then ended k + 1 else ended k) (eq-eqb k n e)
+
+more_else : (ended : ℕ → ℕ) (n k : ℕ) → k ≢ n → one_more ended n k ≡ ended k
+more_else ended n k ne = ap (λ (b : Bool). if b then ended k + 1 else ended k) (ne_eqb k n ne)
+
+owner_ended : (ended : ℕ → ℕ) (n : ℕ) (o : Option Owner) → o ≢ some (Held n) → owner_in (one_more ended n) o ≡ owner_in ended o
+owner_ended ended n none not = refl
+owner_ended ended n (some Released) not = refl
+owner_ended ended n (some Open) not = refl
+owner_ended ended n (some (Held k)) not = ap (λ (z : ℕ). machine.Held record { pass = k; number = z }) (more_else ended n k (λ e. not (ap (λ (z : ℕ). some (Held z)) e)))
+owner_ended ended n (some (Retired t)) not = refl
 
 module _ {D : Type 0} where
   -- the process that a hand has now, those that it has ended, and those to come
@@ -48,21 +77,11 @@ module _ {D : Type 0} where
       (λ e. ap (λ (z : ℕ). phase_of (get_elem? (set s.hands n (st, d')) z)) e ∙ (ap phase_of (set_there s.hands n (st, d) (st, d') at) ∙ (phase_told st d d' ∙ (ap phase_of (sym at) ∙ ap (λ (z : ℕ). phase_of (get_elem? s.hands z)) (sym e)))))
       (λ ne. ap phase_of (set_else s.hands n p.pass (st, d') ne)))
 
-  owner_at : (ended : ℕ → ℕ) (os : List Owner) (x : ℕ) (o o' : Owner) → get_elem? os x ≡ some o → IsAt x (owner_in ended (some o')) (λ y. owner_in ended (get_elem? os y)) (λ y. owner_in ended (get_elem? (set os x o') y))
-  owner_at ended os x o o' here = record { at = ap (owner_in ended) (set_there os x o o' here); others = λ y other. ap (owner_in ended) (set_else os x y o' other) }
-
   -- the process of the hand n is the only one that may change with it
   others : (ended : ℕ → ℕ) (s : Pages D) (n : ℕ) (v : Stage × D) (p : Name) → p ≢ name ended n → phase_in ended (record s { hands = set s.hands n v }) p ≡ phase_in ended s p
   others ended s n v p other = let s' : Pages D = record s { hands = set s.hands n v } in ⊎_elim (λ low. past ended s' p low ∙ sym (past ended s p low))
       (⊎_elim (λ e. now ended s' p e ∙ (ap phase_of (set_else s.hands n p.pass v (λ pass. other (λ i. record { pass = pass i; number = (e ∙ ap ended pass) i }))) ∙ sym (now ended s p e)))
       (λ high. next ended s' p high ∙ sym (next ended s p high))) (side p.number (ended p.pass))
-
-  holds_none : (ended : ℕ → ℕ) (n : ℕ) (o : Option Owner) → o ≢ some (Held n) → owner_in ended o ≢ machine.Held (name ended n)
-  holds_none ended n none not e = cc
-  holds_none ended n (some Released) not e = cc
-  holds_none ended n (some Open) not e = cc
-  holds_none ended n (some (Held k)) not e = let same : name ended k ≡ name ended n = cc in not (ap (λ (z : Name). some (Held z.pass)) same)
-  holds_none ended n (some (Retired t)) not e = cc
 
   running : (at : Option (Stage × D)) (since : ℕ) → phase_of at ≡ machine.Running since → (d : D) × (at ≡ some (Running since, d))
   running none since e = absurd (cc)
@@ -73,25 +92,6 @@ module _ {D : Type 0} where
   after ended s time all q since e = ⊎_elim (λ low. let no : machine.Ended ≡ machine.Running since = sym (past ended s q low) ∙ e in absurd cc)
       (⊎_elim (λ is. let r = running (get_elem? s.hands q.pass) since (sym (now ended s q is) ∙ e) in all q.pass since r.0 r.1)
       (λ high. let no : machine.Waiting ≡ machine.Running since = sym (next ended s q high) ∙ e in absurd cc)) (side q.number (ended q.pass))
-
-  not_released : (ended : ℕ → ℕ) (o : Owner) → o ≢ Released → owner_in ended (some o) ≢ machine.Released
-  not_released ended Released not e = not refl
-  not_released ended Open not e = cc
-  not_released ended (Held k) not e = cc
-  not_released ended (Retired t) not e = cc
-
-  more_here : (ended : ℕ → ℕ) (n k : ℕ) → k ≡ n → one_more ended n k ≡ ended k + 1
-  more_here ended n k e = ap (λ (b : Bool). if b then ended k + 1 else ended k) (eq-eqb k n e)
-
-  more_else : (ended : ℕ → ℕ) (n k : ℕ) → k ≢ n → one_more ended n k ≡ ended k
-  more_else ended n k ne = ap (λ (b : Bool). if b then ended k + 1 else ended k) (ne_eqb k n ne)
-
-  owner_ended : (ended : ℕ → ℕ) (n : ℕ) (o : Option Owner) → o ≢ some (Held n) → owner_in (one_more ended n) o ≡ owner_in ended o
-  owner_ended ended n none not = refl
-  owner_ended ended n (some Released) not = refl
-  owner_ended ended n (some Open) not = refl
-  owner_ended ended n (some (Held k)) not = ap (λ (z : ℕ). machine.Held record { pass = k; number = z }) (more_else ended n k (λ e. not (ap (λ (z : ℕ). some (Held z)) e)))
-  owner_ended ended n (some (Retired t)) not = refl
 
   ended_else : (ended : ℕ → ℕ) (s : Pages D) (n : ℕ) (d' : D) (st : Stage) (d : D) → Stands s n st d → (p : Name) → p ≢ name ended n → phase_in (one_more ended n) (told s n Idle d') p ≡ phase_in ended s p
   ended_else ended s n d' st d at p other = let s' : Pages D = told s n Idle d' in let more = one_more ended n in dite (ℕ_discrete p.pass n)
@@ -104,8 +104,8 @@ module _ {D : Type 0} where
       (⊎_elim (λ e. now more s' p (e ∙ sym same) ∙ (ap phase_of (set_else s.hands n p.pass (Idle, d') ne) ∙ sym (now ended s p e)))
       (λ high. next more s' p (omega arith) ∙ sym (next ended s p high))) (side p.number (ended p.pass)))
 
-pub tied : IsTied
-tied = record {
+pub tied : (D : Type 0) → IsTied D
+tied D = record {
   begins = λ ended s n d d' at. record {
     enabled = now ended s (name ended n) refl ∙ ap phase_of at;
     changes = (

@@ -1,8 +1,8 @@
 -- The pages of a store as a state of the page machine. A hand is a pass, and its process has the number of those that the hand has ended.
-use Rattle.std.specs.Prelude.{◌≡◌, ◌≢◌, ℕ, ◌+◌, ◌<◌, ◌==◌, nat_lt, if◌then◌else◌, None, List, [], slice_index_or}
+use Rattle.std.specs.Prelude.{◌≢◌, ℕ, ◌+◌, ◌==◌, nat_lt, if◌then◌else◌, None, List, [], slice_index_or}
 use mathlib.Core.Option.{Option, none, some}
 use lib.ListN.{get_elem?}
-use Rattle.bl_page.specs.Machine.{Name, Event, Steps} 
+use Rattle.bl_page.specs.Machine.{Name, Event, Steps}
 use Rattle.bl_page.specs.Machine as machine
 use Rattle.bl_store.specs.Pages.{Owner, Released, Open, Held, Retired, Stage, Idle, Running, Pages, Stands, IsPage, HoldsNone, AllBeganAfter, told, owned, written, later}
 
@@ -39,14 +39,14 @@ abbrev pub one_more : (ℕ → ℕ) → ℕ → ℕ → ℕ
 one_more ended n k = if k == n then ended k + 1 else ended k
 
 -- Each event of a store is that of the machine. The conditions on the left are those under which the store's user is asked, or what it answers.
-pub record IsTied : Type 1 where
-  pub begins : {D : Type 0} (ended : ℕ → ℕ) (s : Pages D) (n : ℕ) (d d' : D) → Stands s n Idle d → Leads ended n machine.Begin s ended (told s n (Running s.clock) d')
-  pub ends : {D : Type 0} (ended : ℕ → ℕ) (s : Pages D) (n since : ℕ) (d d' : D) → Stands s n (Running since) d → HoldsNone s n → Leads ended n (machine.End None) s (one_more ended n) (told s n Idle d')
-  pub gets : {D : Type 0} (ended : ℕ → ℕ) (s : Pages D) (n x since : ℕ) (d d' : D) (words : List ℕ) (owner : Owner) → Stands s n (Running since) d → IsPage s x words owner → owner ≢ Released → Leads ended n (machine.Get x) s ended (told s n (Running since) d')
-  pub puts : {D : Type 0} (ended : ℕ → ℕ) (s : Pages D) (n x : ℕ) (st : Stage) (d d' : D) (words new : List ℕ) → Stands s n st d → IsPage s x words (Held n) → Leads ended n (machine.Put x new) s ended (told (written s x new) n st d')
-  pub takes : {D : Type 0} (ended : ℕ → ℕ) (s : Pages D) (n x : ℕ) (st : Stage) (d d' : D) (words : List ℕ) → Stands s n st d → IsPage s x words Released → Leads ended n (machine.Take x) s ended (told (owned s x (Held n)) n st d')
-  pub latches : {D : Type 0} (ended : ℕ → ℕ) (s : Pages D) (n x : ℕ) (st : Stage) (d d' : D) (words : List ℕ) → Stands s n st d → IsPage s x words Open → Leads ended n (machine.Latch x) s ended (told (owned s x (Held n)) n st d')
-  pub opens : {D : Type 0} (ended : ℕ → ℕ) (s : Pages D) (n x : ℕ) (st : Stage) (d d' : D) (words : List ℕ) → Stands s n st d → IsPage s x words (Held n) → Leads ended n (machine.Act.Open x) s ended (told (owned s x Open) n st d')
-  pub retires : {D : Type 0} (ended : ℕ → ℕ) (s : Pages D) (n x : ℕ) (st : Stage) (d d' : D) (words : List ℕ) → Stands s n st d → IsPage s x words (Held n) → Leads ended n (machine.Retire x) s ended (told (later (owned s x (Retired s.clock))) n st d')
-  pub releases : {D : Type 0} (ended : ℕ → ℕ) (s : Pages D) (n x time : ℕ) (st : Stage) (d d' : D) (words : List ℕ) → Stands s n st d → IsPage s x words (Retired time) → AllBeganAfter s time → Leads ended n (machine.Release x) s ended (told (owned s x Released) n st d')
-  pub misses : {D : Type 0} (ended : ℕ → ℕ) (s : Pages D) (n : ℕ) (st : Stage) (d d' : D) → Stands s n st d → Leads ended n machine.Miss s ended (told s n st d')
+pub record IsTied (D : Type 0) : Type 0 where
+  pub begins : (ended : ℕ → ℕ) (s : Pages D) (n : ℕ) (d d' : D) → Stands s n Idle d → Leads ended n machine.Begin s ended (told s n (Running s.clock) d')
+  pub ends : (ended : ℕ → ℕ) (s : Pages D) (n since : ℕ) (d d' : D) → Stands s n (Running since) d → HoldsNone s n → Leads ended n (machine.End None) s (one_more ended n) (told s n Idle d')
+  pub gets : (ended : ℕ → ℕ) (s : Pages D) (n x since : ℕ) (d d' : D) (words : List ℕ) (owner : Owner) → Stands s n (Running since) d → IsPage s x words owner → owner ≢ Released → Leads ended n (machine.Get x) s ended (told s n (Running since) d')
+  pub puts : (ended : ℕ → ℕ) (s : Pages D) (n x : ℕ) (st : Stage) (d d' : D) (words new : List ℕ) → Stands s n st d → IsPage s x words (Held n) → Leads ended n (machine.Put x new) s ended (told (written s x new) n st d')
+  pub takes : (ended : ℕ → ℕ) (s : Pages D) (n x : ℕ) (st : Stage) (d d' : D) (words : List ℕ) → Stands s n st d → IsPage s x words Released → Leads ended n (machine.Take x) s ended (told (owned s x (Held n)) n st d')
+  pub latches : (ended : ℕ → ℕ) (s : Pages D) (n x : ℕ) (st : Stage) (d d' : D) (words : List ℕ) → Stands s n st d → IsPage s x words Open → Leads ended n (machine.Latch x) s ended (told (owned s x (Held n)) n st d')
+  pub opens : (ended : ℕ → ℕ) (s : Pages D) (n x : ℕ) (st : Stage) (d d' : D) (words : List ℕ) → Stands s n st d → IsPage s x words (Held n) → Leads ended n (machine.Act.Open x) s ended (told (owned s x Open) n st d')
+  pub retires : (ended : ℕ → ℕ) (s : Pages D) (n x : ℕ) (st : Stage) (d d' : D) (words : List ℕ) → Stands s n st d → IsPage s x words (Held n) → Leads ended n (machine.Retire x) s ended (told (later (owned s x (Retired s.clock))) n st d')
+  pub releases : (ended : ℕ → ℕ) (s : Pages D) (n x time : ℕ) (st : Stage) (d d' : D) (words : List ℕ) → Stands s n st d → IsPage s x words (Retired time) → AllBeganAfter s time → Leads ended n (machine.Release x) s ended (told (owned s x Released) n st d')
+  pub misses : (ended : ℕ → ℕ) (s : Pages D) (n : ℕ) (st : Stage) (d d' : D) → Stands s n st d → Leads ended n machine.Miss s ended (told s n st d')

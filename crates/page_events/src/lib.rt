@@ -7,6 +7,6 @@
 ghost use Rattle.page_events.specs.Shown.{IsTied};
 
 /// Each event of a store is the event of that name of the page machine.
-pub fn tied()
-    ensures { IsTied }
+pub fn tied<D>()
+    ensures { IsTied D }
 {}

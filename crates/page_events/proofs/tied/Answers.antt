@@ -2,4 +2,4 @@ use Rattle.page_events.proofs.Events.{tied}
 use Rattle.page_events.proofs.tied.Goals as goal
 
 pub returns : goal.returns
-returns c = tied
+returns g c = tied _
