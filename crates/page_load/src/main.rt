@@ -107,14 +107,19 @@ fn run<T: Threads + Sync>(rt: &T, store: &Held, hands: &mut [Hand<Mine>], load: 
     requires { All (IsFresh store.now.table.shared.table_id store.now.layout) hands.old }
 {
     let done = AtomicU64::new(0);
-    thread::for_each_mut(rt, hands, 4, &|_, hand| {
-        let mine = match load.kind {
-            Kind::Get => gets(store, hand, load.rounds),
-            Kind::Put => puts(store, hand, load.rounds),
-            Kind::Sweep => sweeps(store, hand, load.rounds),
-        };
-        done.fetch_add(mine, Ordering::SeqCst);
-    });
+    thread::for_each_mut(
+        rt,
+        hands,
+        4,
+        &|_, hand| {
+            let mine = match load.kind {
+                Kind::Get => gets(store, hand, load.rounds),
+                Kind::Put => puts(store, hand, load.rounds),
+                Kind::Sweep => sweeps(store, hand, load.rounds),
+            };
+            done.fetch_add(mine, Ordering::SeqCst);
+        },
+    );
     done.load(Ordering::SeqCst)
 }
 
