@@ -126,6 +126,7 @@ abbrev pub Seals : Layout → List ℕ → List Owner → ℕ → Sealing → Ty
 Seals l ws os q Unsealed = Unit {0}
 Seals l ws os q (Sealed x t) = (slice_index ws (owner_at l x) ≡ 4 * q + 2) × (get_elem? os x ≡ some (Retired t))
 
+-- the smallest store
 abbrev pub smallest : Layout
 smallest = record { pages = 4; passes = 1; pages_within = (le_refl 4, le-add_right 4 65532); passes_within = (le_refl 1, le-add_right 1 63) }
 
@@ -143,7 +144,7 @@ module _ {D : Type 0} where
   abbrev pub IsTakenIn : Pages D → List ℕ → Joined D → Type 0
   IsTakenIn s bs j = Stands s j.number Idle j.known × (get_elem? bs j.number ≡ some 0)
 
-  -- the seat has a hand, and that is not taken in by another
+  -- the seat has a hand of its own
   abbrev pub IsLive : View D → Type 0
   IsLive v = v.number < v.layout.passes
 
