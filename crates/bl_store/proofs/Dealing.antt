@@ -10,11 +10,13 @@ use Rattle.atomic_table.specs.Table.{State}
 use Rattle.atomic_table.proofs.Lists.{at_set, set_else}
 use Rattle.bl_layout.specs.declared.layout.Layout.{Layout}
 use Rattle.bl_layout.specs.Words.{frame_count, word_count}
-use Rattle.bl_store.specs.Pages.{Owner, Released, Open, Stage, Idle, Running, Pages, IsOrderly, owned, written}
-use Rattle.bl_store.specs.Frames.{process_at, page_at, owner_at, state_at, place_at, drafted, shown, Frame, free, used, FrameIs, OwnerIs, ProcessIs, Knows, total_of, Shows, Kept, share, starting}
+use Rattle.bl_store.specs.Pages.{Owner, Released, Open, Retired, Stage, Idle, Running, Pages, IsOrderly, owned, written}
+use Rattle.bl_store.specs.Frames.{process_at, page_at, owner_at, state_at, place_at, drafted, shown, Frame, free, used, FrameIs, OwnerIs, ProcessIs, Knows, total_of, Shows, IsLive, Kept, share, starting}
 use Rattle.bl_store.specs.declared.view.View.{View}
+use Rattle.bl_store.specs.declared.view.Joined.{Joined}
 use Rattle.bl_store.proofs.Lists.{at_below, there, one_there, set_there}
-use Rattle.bl_store.proofs.Keeps.{shows_frame, shows_owner, orderly_owned, orderly_written}
+use Rattle.bl_store.specs.declared.view.Sealing.TheVariants.{Sealed}
+use Rattle.bl_store.proofs.Keeps.{shows_frame, shows_owner, orderly_owned, orderly_written, sealed_on}
 use Rattle.std.proofs.Common.{map, take, take_all, length-take-le, true, false, ◌&&◌, if◌then◌else◌}
 use Rattle.std.proofs.lemmas.Bool.{eqb-true}
 use Rattle.std.proofs.lemmas.List.{take_more, length-map, length-replicate}
@@ -43,6 +45,18 @@ module _ {A : Type 0} where
   same_list [] (y ∷ ys) e each = absurd (omega arith)
   same_list (x ∷ xs) [] e each = absurd (omega arith)
   same_list (x ∷ xs) (y ∷ ys) e each = let here : x ≡ y = some-injective x y (each 0 y refl) in let rest = same_list xs ys (omega arith) (λ i a at. each (suc i) a at) in λ k. here k ∷ rest k
+
+unmap : {A B : Type 0} (f : A → B) (l : List A) (i : ℕ) (y : B) → get_elem? (map f l) i ≡ some y → (x : A) × (get_elem? l i ≡ some x) × (f x ≡ y)
+unmap f [] i y e = absurd (some-ne-none y (sym e))
+unmap f (x ∷ xs) zero y e = (x, refl, some-injective (f x) y e)
+unmap f (x ∷ xs) (suc i) y e = unmap f xs i y e
+
+not_retired : (b : Bool) (t : ℕ) → (if b then Released else Open) ≢ Retired t
+not_retired true t e = cc
+not_retired false t e = cc
+
+first_unretired : (words : List ℕ) (t : ℕ) → first_owner words ≢ Retired t
+first_unretired words t e = not_retired (is_blank words) t e
 
 total_zeros : (n : ℕ) → total_of (replicate n 0) ≡ 0
 total_zeros zero = refl
@@ -214,6 +228,7 @@ module _ (l : Layout) (cs : List (List ℕ)) where
         seals = tt;
         sweeps = tt;
         budget = at_all l.passes 0 0 (omega arith);
+        joined = λ k g e. absurd (some-ne-none g (sym e));
       } in record {
         pages = s;
         frames = r.frames;
@@ -226,8 +241,15 @@ module _ (l : Layout) (cs : List (List ℕ)) where
         };
         shows = shows;
         budgeted = record { count = length-replicate l.passes 0; small = λ q b e. let zero' : 0 ≡ b = of_all l.passes 0 q b e in omega arith; total = let zeros = total_zeros l.passes in omega arith };
-        seats = λ j v e. ⊎_elim (λ (nothing : get_elem? [] j ≡ some v). absurd (some-ne-none v (sym nothing))) (λ (t : starting l d ≡ v). subst (Knows l d ws s r.frames (replicate l.passes 0)) t knows) (at_snoc [] (starting l d) v j e);
-        apart = λ i j v w at_i at_j other. let a = at_below (starting l d ∷ []) i v at_i in let b = at_below (starting l d ∷ []) j w at_j in absurd (other (omega arith));
+        seats = λ j v e _. ⊎_elim (λ (nothing : get_elem? [] j ≡ some v). absurd (some-ne-none v (sym nothing))) (λ (t : starting l d ≡ v). subst (Knows l d ws s r.frames (replicate l.passes 0)) t knows) (at_snoc [] (starting l d) v j e);
+        apart = record {
+          hands = λ i j v w at_i at_j _ _ other. let a = at_below (starting l d ∷ []) i v at_i in let b = at_below (starting l d ∷ []) j w at_j in absurd (other (omega arith));
+          joined = λ i j v w at_i _ _ _ k g e. ⊎_elim (λ (nothing : get_elem? [] i ≡ some v). absurd (some-ne-none v (sym nothing)))
+              (λ (t : starting l d ≡ v). absurd (some-ne-none g (sym e ∙ ap (λ (z : View D). get_elem? z.joined k) (sym t)))) (at_snoc [] (starting l d) v i at_i);
+          taken = λ i j v w at_i _ _ _ k m g h e _ _. ⊎_elim (λ (nothing : get_elem? [] i ≡ some v). absurd (some-ne-none v (sym nothing)))
+              (λ (t : starting l d ≡ v). absurd (some-ne-none g (sym e ∙ ap (λ (z : View D). get_elem? z.joined k) (sym t)))) (at_snoc [] (starting l d) v i at_i);
+        };
+        sealing = λ x t e. let owner = unmap first_owner cs x (Retired t) e in absurd (first_unretired owner.0 t owner.2);
         kept = kept;
       }
 
@@ -239,8 +261,8 @@ module _ {D : Type 0} (l : Layout) (first : D) (holds : Pages D → Type 0) wher
   Rule = Kept l first holds
 
   -- a hand deals out all numbers but its own
-  pub deals : (id n m : ℕ) → n + 1 < m → Splits Rule id (share l first n m) (share l first n (n + 1)) (share l first (n + 1) m)
-  deals id n m more st r at = let old : View D = share l first n m in let left : View D = share l first n (n + 1) in let right : View D = share l first (n + 1) m in let mine = r.seats id old at in let dealt = mine.dealt in
+  pub deals : (id n m : ℕ) → n + 1 < m → n < l.passes → Splits Rule id (share l first n m) (share l first n (n + 1)) (share l first (n + 1) m)
+  deals id n m more live st r at = let old : View D = share l first n m in let left : View D = share l first n (n + 1) in let right : View D = share l first (n + 1) m in let mine = r.seats id old at live in let dealt = mine.dealt in
       let next = mine.undealt (n + 1) (omega arith) more in
       let knows_left : Knows l first st.words r.pages r.frames r.budgets left = record {
         layout = refl;
@@ -255,6 +277,7 @@ module _ {D : Type 0} (l : Layout) (first : D) (holds : Pages D → Type 0) wher
         seals = tt;
         sweeps = tt;
         budget = mine.budget;
+        joined = λ k g e. absurd (some-ne-none g (sym e));
       } in
       let knows_right : Knows l first st.words r.pages r.frames r.budgets right = record {
         layout = refl;
@@ -269,6 +292,7 @@ module _ {D : Type 0} (l : Layout) (first : D) (holds : Pages D → Type 0) wher
         seals = tt;
         sweeps = tt;
         budget = next.1;
+        joined = λ k g e. absurd (some-ne-none g (sym e));
       } in record {
         pages = r.pages;
         frames = r.frames;
@@ -276,10 +300,19 @@ module _ {D : Type 0} (l : Layout) (first : D) (holds : Pages D → Type 0) wher
         orderly = r.orderly;
         shows = r.shows;
         budgeted = r.budgeted;
-        seats = λ j v e. ⊎_elim
-            (λ (was : get_elem? (set st.views id left) j ≡ some v). ⊎_elim (λ (t : (j ≡ id) × (left ≡ v)). subst (Knows l first st.words r.pages r.frames r.budgets) t.1 knows_left) (λ (t : (j ≢ id) × (get_elem? st.views j ≡ some v)). r.seats j v t.1) (at_set st.views id j left v was))
+        seats = λ j v e live_v. ⊎_elim
+            (λ (was : get_elem? (set st.views id left) j ≡ some v). ⊎_elim (λ (t : (j ≡ id) × (left ≡ v)). subst (Knows l first st.words r.pages r.frames r.budgets) t.1 knows_left) (λ (t : (j ≢ id) × (get_elem? st.views j ≡ some v)). r.seats j v t.1 live_v) (at_set st.views id j left v was))
             (λ (t : right ≡ v). subst (Knows l first st.words r.pages r.frames r.budgets) t knows_right) (at_snoc (set st.views id left) right v j e);
-        apart = λ i j v w at_i at_j other. apart_dealt st r id n m more at i j v w at_i at_j other;
+        apart = record {
+          hands = λ i j v w at_i at_j live_v live_w other. apart_dealt st r id n m more live at i j v w at_i at_j live_v live_w other;
+          joined = λ i j v w at_i at_j live_v live_w k g at_k. joined_dealt st r id n m more live at i j v w at_i at_j live_v live_w k g at_k;
+          taken = λ i j v w at_i at_j live_v live_w k m' g h at_k at_m other. let a = where_was st.views id n m at i v at_i in let b = where_was st.views id n m at j w at_j in ⊎_elim
+              (λ (c : (i ≢ id) × (i < length st.views) × (get_elem? st.views i ≡ some v)). ⊎_elim
+              (λ (d : (j ≢ id) × (j < length st.views) × (get_elem? st.views j ≡ some w)). r.apart.taken i j v w c.2 d.2 live_v live_w k m' g h at_k at_m other)
+              (⊎_elim (λ (d : (j ≡ id) × (w ≡ share l first n (n + 1))). absurd (none_joined n (n + 1) m' w h d.1 at_m)) (λ (d : (j ≡ length st.views) × (w ≡ share l first (n + 1) m)). absurd (none_joined (n + 1) m m' w h d.1 at_m))) b)
+              (⊎_elim (λ (c : (i ≡ id) × (v ≡ share l first n (n + 1))). absurd (none_joined n (n + 1) k v g c.1 at_k)) (λ (c : (i ≡ length st.views) × (v ≡ share l first (n + 1) m)). absurd (none_joined (n + 1) m k v g c.1 at_k))) a;
+        };
+        sealing = λ x t e. ⊎_elim inl (λ (h : (j : ℕ) × (u : View D) × (get_elem? st.views j ≡ some u) × IsLive u × (u.sealing ≡ Sealed x t)). let k = sealed_on st.views id old left at refl (λ k. k) x t h in inr (k.0, k.1, at_longer (set st.views id left) (right ∷ []) k.0 k.1 k.2, k.3, k.4)) (r.sealing x t e);
         kept = r.kept;
       }
     where
@@ -292,11 +325,11 @@ module _ {D : Type 0} (l : Layout) (first : D) (holds : Pages D → Type 0) wher
           (λ ne. let low : i < length (set vs id left) = omega arith in let c = there (set vs id left) i low in let same : c.0 ≡ v = some-injective c.0 v (sym (at_longer (set vs id left) (right ∷ []) i c.0 c.1) ∙ at_i) in
           ⊎_elim (λ (t : (i ≡ id) × (left ≡ c.0)). inr (inl (t.0, sym same ∙ sym t.1))) (λ (t : (i ≢ id) × (get_elem? vs i ≡ some c.0)). inl (t.0, omega arith, t.1 ∙ ap (λ (z : View D). some z) same)) (at_set vs id i left c.0 c.1))
 
-      apart_dealt : (st : St) (r : Rule st) (id n m : ℕ) → n + 1 < m → get_elem? st.views id ≡ some (share l first n m) → (i j : ℕ) (v w : View D) → get_elem? (set st.views id (share l first n (n + 1)) ++ share l first (n + 1) m ∷ []) i ≡ some v
-          → get_elem? (set st.views id (share l first n (n + 1)) ++ share l first (n + 1) m ∷ []) j ≡ some w → i ≢ j → (v.upto ≤ w.number) ⊎ (w.upto ≤ v.number)
-      apart_dealt st r id n m more at i j v w at_i at_j other = let num : View D → ℕ = λ z. z.number in let up : View D → ℕ = λ z. z.upto in let here = where_was st.views id n m at i v at_i in let there' = where_was st.views id n m at j w at_j in ⊎_elim
-          (λ (a : (i ≢ id) × (i < length st.views) × (get_elem? st.views i ≡ some v)). let between = r.apart i id v (share l first n m) a.2 at a.0 in ⊎_elim
-          (λ (b : (j ≢ id) × (j < length st.views) × (get_elem? st.views j ≡ some w)). r.apart i j v w a.2 b.2 other)
+      apart_dealt : (st : St) (r : Rule st) (id n m : ℕ) → n + 1 < m → n < l.passes → get_elem? st.views id ≡ some (share l first n m) → (i j : ℕ) (v w : View D) → get_elem? (set st.views id (share l first n (n + 1)) ++ share l first (n + 1) m ∷ []) i ≡ some v
+          → get_elem? (set st.views id (share l first n (n + 1)) ++ share l first (n + 1) m ∷ []) j ≡ some w → IsLive v → IsLive w → i ≢ j → (v.upto ≤ w.number) ⊎ (w.upto ≤ v.number)
+      apart_dealt st r id n m more live at i j v w at_i at_j live_v live_w other = let num : View D → ℕ = λ z. z.number in let up : View D → ℕ = λ z. z.upto in let here = where_was st.views id n m at i v at_i in let there' = where_was st.views id n m at j w at_j in ⊎_elim
+          (λ (a : (i ≢ id) × (i < length st.views) × (get_elem? st.views i ≡ some v)). let between = r.apart.hands i id v (share l first n m) a.2 at live_v live a.0 in ⊎_elim
+          (λ (b : (j ≢ id) × (j < length st.views) × (get_elem? st.views j ≡ some w)). r.apart.hands i j v w a.2 b.2 live_v live_w other)
           (⊎_elim
           (λ (b : (j ≡ id) × (w ≡ share l first n (n + 1))). let e = ap num b.1 in let f = ap up b.1 in ⊎_elim (λ (h : v.upto ≤ n). inl (omega arith)) (λ (h : m ≤ v.number). inr (omega arith)) between)
           (λ (b : (j ≡ length st.views) × (w ≡ share l first (n + 1) m)). let e = ap num b.1 in let f = ap up b.1 in ⊎_elim (λ (h : v.upto ≤ n). inl (omega arith)) (λ (h : m ≤ v.number). inr (omega arith)) between))
@@ -304,17 +337,32 @@ module _ {D : Type 0} (l : Layout) (first : D) (holds : Pages D → Type 0) wher
           (⊎_elim
           (λ (a : (i ≡ id) × (v ≡ share l first n (n + 1))). let e = ap num a.1 in let f = ap up a.1 in ⊎_elim
           (λ (b : (j ≢ id) × (j < length st.views) × (get_elem? st.views j ≡ some w)). ⊎_elim (λ (h : n + 0 < w.number + 0). inl (omega arith)) (λ (h : w.upto ≤ n). inr (omega arith))
-          (⊎_elim (λ (h : m ≤ w.number). inl (omega arith)) (λ (h : w.upto ≤ n). inr h) (r.apart id j (share l first n m) w at b.2 (λ z. b.0 (sym z)))))
+          (⊎_elim (λ (h : m ≤ w.number). inl (omega arith)) (λ (h : w.upto ≤ n). inr h) (r.apart.hands id j (share l first n m) w at b.2 live live_w (λ z. b.0 (sym z)))))
           (⊎_elim
           (λ (b : (j ≡ id) × (w ≡ share l first n (n + 1))). absurd (other (a.0 ∙ sym b.0)))
           (λ (b : (j ≡ length st.views) × (w ≡ share l first (n + 1) m)). let e' = ap num b.1 in inl (omega arith)))
           there')
           (λ (a : (i ≡ length st.views) × (v ≡ share l first (n + 1) m)). let e = ap num a.1 in let f = ap up a.1 in ⊎_elim
-          (λ (b : (j ≢ id) × (j < length st.views) × (get_elem? st.views j ≡ some w)). ⊎_elim (λ (h : m ≤ w.number). inl (omega arith)) (λ (h : w.upto ≤ n). inr (omega arith)) (r.apart id j (share l first n m) w at b.2 (λ z. b.0 (sym z))))
+          (λ (b : (j ≢ id) × (j < length st.views) × (get_elem? st.views j ≡ some w)). ⊎_elim (λ (h : m ≤ w.number). inl (omega arith)) (λ (h : w.upto ≤ n). inr (omega arith)) (r.apart.hands id j (share l first n m) w at b.2 live live_w (λ z. b.0 (sym z))))
           (⊎_elim
           (λ (b : (j ≡ id) × (w ≡ share l first n (n + 1))). let f' = ap up b.1 in inr (omega arith))
           (λ (b : (j ≡ length st.views) × (w ≡ share l first (n + 1) m)). absurd (other (a.0 ∙ sym b.0))))
           there'))
+          here
+
+      none_joined : (n m k : ℕ) (v : View D) (g : Joined D) → v ≡ share l first n m → get_elem? v.joined k ≡ some g → ⊥
+      none_joined n m k v g is at_k = some-ne-none g (sym at_k ∙ ap (λ (z : View D). get_elem? z.joined k) is)
+
+      joined_dealt : (st : St) (r : Rule st) (id n m : ℕ) → n + 1 < m → n < l.passes → get_elem? st.views id ≡ some (share l first n m) → (i j : ℕ) (v w : View D) → get_elem? (set st.views id (share l first n (n + 1)) ++ share l first (n + 1) m ∷ []) i ≡ some v
+          → get_elem? (set st.views id (share l first n (n + 1)) ++ share l first (n + 1) m ∷ []) j ≡ some w → IsLive v → IsLive w → (k : ℕ) (g : Joined D) → get_elem? v.joined k ≡ some g → (g.number < w.number) ⊎ (w.upto ≤ g.number)
+      joined_dealt st r id n m more live at i j v w at_i at_j live_v live_w k g at_k = let num : View D → ℕ = λ z. z.number in let up : View D → ℕ = λ z. z.upto in let here = where_was st.views id n m at i v at_i in let there' = where_was st.views id n m at j w at_j in ⊎_elim
+          (λ (a : (i ≢ id) × (i < length st.views) × (get_elem? st.views i ≡ some v)). let apart = r.apart.joined i id v (share l first n m) a.2 at live_v live k g at_k in ⊎_elim
+          (λ (b : (j ≢ id) × (j < length st.views) × (get_elem? st.views j ≡ some w)). r.apart.joined i j v w a.2 b.2 live_v live_w k g at_k)
+          (⊎_elim
+          (λ (b : (j ≡ id) × (w ≡ share l first n (n + 1))). let e = ap num b.1 in let f = ap up b.1 in ⊎_elim (λ (h : g.number < n). inl (omega arith)) (λ (h : m ≤ g.number). inr (omega arith)) apart)
+          (λ (b : (j ≡ length st.views) × (w ≡ share l first (n + 1) m)). let e = ap num b.1 in let f = ap up b.1 in ⊎_elim (λ (h : g.number < n). inl (omega arith)) (λ (h : m ≤ g.number). inr (omega arith)) apart))
+          there')
+          (⊎_elim (λ (a : (i ≡ id) × (v ≡ share l first n (n + 1))). absurd (none_joined n (n + 1) k v g a.1 at_k)) (λ (a : (i ≡ length st.views) × (v ≡ share l first (n + 1) m)). absurd (none_joined (n + 1) m k v g a.1 at_k)))
           here
 
 -- one more hand is dealt

@@ -10,8 +10,9 @@ use Rattle.atomic_table.specs.Table.{State, keeps, stepped}
 use Rattle.atomic_table.proofs.Lists.{at_set, set_else}
 use Rattle.bl_layout.specs.declared.layout.Layout.{Layout}
 use Rattle.bl_store.specs.Pages.{Owner, Retired, Stage, Running, Pages, Stands, IsOrderly, told, owned, written, later}
-use Rattle.bl_store.specs.Frames.{process_at, page_at, owner_at, state_at, place_at, Use, drafted, shown, dropped, timed, Frame, free, used, StateIs, FrameIs, PageIs, OwnerIs, ProcessIs, stage_of, IsRead, MayRead, Readable, Reads, Stocks, Drops, Seals, Swept, SweepIs, Knows, Budgeted, Shows, IsApart, Kept}
+use Rattle.bl_store.specs.Frames.{process_at, page_at, owner_at, state_at, place_at, Use, drafted, shown, dropped, timed, Frame, free, used, StateIs, FrameIs, PageIs, OwnerIs, ProcessIs, stage_of, IsRead, MayRead, Readable, Reads, Stocks, Drops, Seals, Swept, SweepIs, Knows, Budgeted, Shows, IsLive, IsApart, IsSealing, Kept}
 use Rattle.bl_store.specs.declared.view.View.{View}
+use Rattle.bl_store.specs.declared.view.Joined.{Joined}
 use Rattle.bl_store.specs.declared.view.Stamp.{Stamp}
 use Rattle.bl_store.specs.declared.view.Stamp.TheVariants.{Out, Clocked, In}
 use Rattle.bl_store.specs.declared.view.Reading.{Reading}
@@ -204,8 +205,8 @@ module _ {D : Type 0} where
   sweeps_stay go (Over m k) is = go.swept m k is
 
   pub knows_stays : {l : Layout} {ws ws' : List ℕ} {s s' : Pages D} {fs fs' : List Frame} {bs bs' : List ℕ} {q : ℕ} (first : D) → Goes l ws ws' s s' fs fs' bs bs' q → (v : View D) → v.number ≢ q → ((k : ℕ) → v.number < k → k < v.upto → k ≢ q)
-      → Knows l first ws s fs bs v → Knows l first ws' s' fs' bs' v
-  knows_stays {s = s} {s' = s'} first go v other apart k = let dealt = k.dealt in let counted = k.counted in record {
+      → ((k : ℕ) (h : Joined D) → get_elem? v.joined k ≡ some h → h.number ≢ q) → Knows l first ws s fs bs v → Knows l first ws' s' fs' bs' v
+  knows_stays {s = s} {s' = s'} first go v other apart taken k = let dealt = k.dealt in let counted = k.counted in record {
     layout = k.layout;
     counted = k.counted;
     dealt = k.dealt;
@@ -218,6 +219,7 @@ module _ {D : Type 0} where
     seals = go.seals v.number v.sealing other k.seals;
     sweeps = sweeps_stay go v.sweep k.sweeps;
     budget = go.budgets v.number other ∙ k.budget;
+    joined = λ j h at. let was = k.joined j h at in let ne = taken j h at in (go.hands h.number ne ∙ was.0, go.budgets h.number ne ∙ was.1);
   }
 
   -- what the seat of a step knows after it
@@ -233,9 +235,11 @@ module _ {D : Type 0} where
     pub seals : Seals l ws s.owners v.number w.sealing
     pub sweeps : SweepIs s w.sweep
     pub budget : get_elem? bs v.number ≡ some (w.puts + w.retires)
+    pub joined : w.joined ≡ v.joined
 
-  knows_own : {l : Layout} {ws ws' : List ℕ} {s s' : Pages D} {fs fs' : List Frame} {bs bs' : List ℕ} (first : D) (v w : View D) → Goes l ws ws' s s' fs fs' bs bs' v.number → Own l ws' s' fs' bs' v w → Knows l first ws s fs bs v → Knows l first ws' s' fs' bs' w
-  knows_own {l} {ws' = ws'} {s' = s'} {fs' = fs'} {bs' = bs'} first v w go own k = let counted = k.counted in let dealt = k.dealt in let same = own.number in let upto = own.upto in record {
+  knows_own : {l : Layout} {ws ws' : List ℕ} {s s' : Pages D} {fs fs' : List Frame} {bs bs' : List ℕ} (first : D) (v w : View D) → Goes l ws ws' s s' fs fs' bs bs' v.number → Own l ws' s' fs' bs' v w → ((k : ℕ) (h : Joined D) → get_elem? v.joined k ≡ some h → h.number ≢ v.number)
+      → Knows l first ws s fs bs v → Knows l first ws' s' fs' bs' w
+  knows_own {l} {ws' = ws'} {s' = s'} {fs' = fs'} {bs' = bs'} first v w go own taken k = let counted = k.counted in let dealt = k.dealt in let same = own.number in let upto = own.upto in record {
     layout = own.layout ∙ k.layout;
     counted = omega arith;
     dealt = omega arith;
@@ -248,16 +252,38 @@ module _ {D : Type 0} where
     seals = subst (λ (z : ℕ). Seals l ws' s'.owners z w.sealing) (sym own.number) own.seals;
     sweeps = own.sweeps;
     budget = ap (get_elem? bs') own.number ∙ own.budget;
+    joined = λ j h at. let at' : get_elem? v.joined j ≡ some h = ap (λ (z : List (Joined D)). get_elem? z j) (sym own.joined) ∙ at in let was = k.joined j h at' in let ne = taken j h at' in (go.hands h.number ne ∙ was.0, go.budgets h.number ne ∙ was.1);
   }
 
-  apart_stays : (vs : List (View D)) (id : ℕ) (v w : View D) → get_elem? vs id ≡ some v → w.number ≡ v.number → w.upto ≡ v.upto → IsApart vs → IsApart (set vs id w)
-  apart_stays vs id v w at number upto each i j x y at_i at_j other = let a = was i x at_i in let b = was j y at_j in
-      ⊎_elim (λ (h : a.0.upto ≤ b.0.number). inl (let e = a.3 in let f = b.2 in omega arith)) (λ (h : b.0.upto ≤ a.0.number). inr (let e = b.3 in let f = a.2 in omega arith)) (each i j a.0 b.0 a.1 b.1 other)
+  apart_stays : (vs : List (View D)) (id : ℕ) (v w : View D) → get_elem? vs id ≡ some v → w.layout ≡ v.layout → w.number ≡ v.number → w.upto ≡ v.upto → w.joined ≡ v.joined → IsApart vs → IsApart (set vs id w)
+  apart_stays vs id v w at layout number upto taken r = record {
+    hands = λ i j x y at_i at_j live_x live_y other. let a = was i x at_i in let b = was j y at_j in let a2 = a.2 in let a3 = a.3 in let a4 = a.4 in let b2 = b.2 in let b3 = b.3 in let b4 = b.4 in
+        ⊎_elim (λ (h : a.0.upto ≤ b.0.number). inl (omega arith)) (λ (h : b.0.upto ≤ a.0.number). inr (omega arith)) (r.hands i j a.0 b.0 a.1 b.1 (omega arith) (omega arith) other);
+    joined = λ i j x y at_i at_j live_x live_y k g at_k. let a = was i x at_i in let b = was j y at_j in let a2 = a.2 in let a3 = a.3 in let a4 = a.4 in let b2 = b.2 in let b3 = b.3 in let b4 = b.4 in
+        ⊎_elim (λ (h : g.number < b.0.number). inl (omega arith)) (λ (h : b.0.upto ≤ g.number). inr (omega arith)) (r.joined i j a.0 b.0 a.1 b.1 (omega arith) (omega arith) k g (ap (λ (z : List (Joined D)). get_elem? z k) a.5 ∙ at_k));
+    taken = λ i j x y at_i at_j live_x live_y k m g h at_k at_m other. let a = was i x at_i in let b = was j y at_j in let a2 = a.2 in let a4 = a.4 in let b2 = b.2 in let b4 = b.4 in
+        r.taken i j a.0 b.0 a.1 b.1 (omega arith) (omega arith) k m g h (ap (λ (z : List (Joined D)). get_elem? z k) a.5 ∙ at_k) (ap (λ (z : List (Joined D)). get_elem? z m) b.5 ∙ at_m) other;
+  }
     where
-      was : (k : ℕ) (z : View D) → get_elem? (set vs id w) k ≡ some z → (u : View D) × (get_elem? vs k ≡ some u) × (u.number ≡ z.number) × (u.upto ≡ z.upto)
+      was : (k : ℕ) (z : View D) → get_elem? (set vs id w) k ≡ some z → (u : View D) × (get_elem? vs k ≡ some u) × (u.number ≡ z.number) × (u.upto ≡ z.upto) × (u.layout.passes ≡ z.layout.passes) × (u.joined ≡ z.joined)
       was k z at_k = ⊎_elim
-          (λ (t : (k ≡ id) × (w ≡ z)). (v, ap (get_elem? vs) t.0 ∙ at, sym number ∙ ap (λ (m : View D). m.number) t.1, sym upto ∙ ap (λ (m : View D). m.upto) t.1))
-          (λ (t : (k ≢ id) × (get_elem? vs k ≡ some z)). (z, t.1, refl, refl)) (at_set vs id k w z at_k)
+          (λ (t : (k ≡ id) × (w ≡ z)). (v, ap (get_elem? vs) t.0 ∙ at, sym number ∙ ap (λ (m : View D). m.number) t.1, sym upto ∙ ap (λ (m : View D). m.upto) t.1, ap (λ (m : Layout). m.passes) (sym layout) ∙ ap (λ (m : View D). m.layout.passes) t.1, sym taken ∙ ap (λ (m : View D). m.joined) t.1))
+          (λ (t : (k ≢ id) × (get_elem? vs k ≡ some z)). (z, t.1, refl, refl, refl, refl)) (at_set vs id k w z at_k)
+
+  -- what some seat has retired, it has after the step of another, or of its own
+  pub sealed_on : (vs : List (View D)) (id : ℕ) (v w : View D) → get_elem? vs id ≡ some v → w.sealing ≡ v.sealing → (IsLive v → IsLive w) → (x t : ℕ) → ((j : ℕ) × (u : View D) × (get_elem? vs j ≡ some u) × IsLive u × (u.sealing ≡ Sealed x t))
+      → (j : ℕ) × (u : View D) × (get_elem? (set vs id w) j ≡ some u) × IsLive u × (u.sealing ≡ Sealed x t)
+  sealed_on vs id v w at same live x t h = dite (ℕ_discrete h.0 id)
+      (λ is. let one : v ≡ h.1 = one_there vs id v h.1 at (ap (get_elem? vs) (sym is) ∙ h.2) in (id, w, set_there vs id v w at, live (subst (λ (z : View D). IsLive z) (sym one) h.3), same ∙ (ap (λ (z : View D). z.sealing) one ∙ h.4)))
+      (λ ne. (h.0, h.1, set_else vs id h.0 w ne ∙ h.2, h.3, h.4))
+
+  -- the owner words stay, and what the seat of the step has retired
+  pub sealing_stays : (l : Layout) (ws ws' : List ℕ) (os : List Owner) (vs : List (View D)) (id : ℕ) (v w : View D) → get_elem? vs id ≡ some v → w.sealing ≡ v.sealing → (IsLive v → IsLive w) → ((x : ℕ) → x < length os → get_or ws' (owner_at l x) 0 ≡ get_or ws (owner_at l x) 0)
+      → IsSealing l ws os vs → IsSealing l ws' os (set vs id w)
+  sealing_stays l ws ws' os vs id v w at same live owners r x t e = ⊎_elim
+      (λ (h : get_or ws (owner_at l x) 0 ≡ 4 * t + 3). inl (owners x (at_below os x (Retired t) e) ∙ h))
+      (λ (h : (j : ℕ) × (u : View D) × (get_elem? vs j ≡ some u) × IsLive u × (u.sealing ≡ Sealed x t)). inr (sealed_on vs id v w at same live x t h))
+      (r x t e)
 
   module _ (l : Layout) (first : D) (holds : Pages D → Type 0) where
     abbrev pub St : Type 0
@@ -267,29 +293,33 @@ module _ {D : Type 0} where
     Rule = Kept l first holds
 
     -- the whole of the rule, after a step of the seat id on the word i
-    pub moved : (st : St) (r : Rule st) (i n id : ℕ) (cs : List (ℕ × Unit {0})) (v w : View D) (s' : Pages D) (fs' : List Frame) (bs' : List ℕ) → get_elem? st.views id ≡ some v
+    pub moved : (st : St) (r : Rule st) (i n id : ℕ) (cs : List (ℕ × Unit {0})) (v w : View D) (s' : Pages D) (fs' : List Frame) (bs' : List ℕ) → get_elem? st.views id ≡ some v → IsLive v
         → IsOrderly l s' → Shows l (set st.words i n) s' fs' → Budgeted l.passes s'.clock bs' → Goes l st.words (set st.words i n) r.pages s' r.frames fs' r.budgets bs' v.number
-        → Own l (set st.words i n) s' fs' bs' v w → holds s' → Rule (stepped st i n id cs w keeps)
-    moved st r i n id cs v w s' fs' bs' at orderly shows budgeted go own kept = record {
+        → Own l (set st.words i n) s' fs' bs' v w → IsSealing l (set st.words i n) s'.owners (set st.views id w) → holds s' → Rule (stepped st i n id cs w keeps)
+    moved st r i n id cs v w s' fs' bs' at live orderly shows budgeted go own sealing kept = let here = r.seats id v at live in let a = here.counted in record {
       pages = s';
       frames = fs';
       budgets = bs';
       orderly = orderly;
       shows = shows;
       budgeted = budgeted;
-      seats = λ j x at_j. ⊎_elim
-          (λ (t : (j ≡ id) × (w ≡ x)). subst (λ (z : View D). Knows l first (set st.words i n) s' fs' bs' z) t.1 (knows_own first v w go own (r.seats id v at)))
-          (λ (t : (j ≢ id) × (get_elem? st.views j ≡ some x)). let here = r.seats id v at in let there = r.seats j x t.1 in let a = here.counted in let b = there.counted in let between = r.apart j id x v t.1 at t.0 in
-          knows_stays first go x (λ e. ⊎_elim (λ (h : x.upto ≤ v.number). omega arith) (λ (h : v.upto ≤ x.number). omega arith) between) (λ k low high e. ⊎_elim (λ (h : x.upto ≤ v.number). omega arith) (λ (h : v.upto ≤ x.number). omega arith) between) there)
+      seats = λ j x at_j live_x. ⊎_elim
+          (λ (t : (j ≡ id) × (w ≡ x)). subst (λ (z : View D). Knows l first (set st.words i n) s' fs' bs' z) t.1
+          (knows_own first v w go own (λ k h at_k e. ⊎_elim (λ (b : h.number < v.number). omega arith) (λ (b : v.upto ≤ h.number). omega arith) (r.apart.joined id id v v at at live live k h at_k)) here))
+          (λ (t : (j ≢ id) × (get_elem? st.views j ≡ some x)). let there = r.seats j x t.1 live_x in let b = there.counted in let between = r.apart.hands j id x v t.1 at live_x live t.0 in
+          knows_stays first go x (λ e. ⊎_elim (λ (h : x.upto ≤ v.number). omega arith) (λ (h : v.upto ≤ x.number). omega arith) between) (λ k low high e. ⊎_elim (λ (h : x.upto ≤ v.number). omega arith) (λ (h : v.upto ≤ x.number). omega arith) between)
+          (λ k h at_k e. ⊎_elim (λ (c : h.number < v.number). omega arith) (λ (c : v.upto ≤ h.number). omega arith) (r.apart.joined j id x v t.1 at live_x live k h at_k)) there)
           (at_set st.views id j w x at_j);
-      apart = apart_stays st.views id v w at own.number own.upto r.apart;
+      apart = apart_stays st.views id v w at own.layout own.number own.upto own.joined r.apart;
+      sealing = sealing;
       kept = kept;
     }
 
-    -- the same where no word changes
-    pub unmoved : (st : St) (r : Rule st) (i id : ℕ) (cs : List (ℕ × Unit {0})) (v w : View D) (s' : Pages D) (bs' : List ℕ) → get_elem? st.views id ≡ some v
+    -- the same where no word changes, and no owner
+    pub unmoved : (st : St) (r : Rule st) (i id : ℕ) (cs : List (ℕ × Unit {0})) (v w : View D) (s' : Pages D) (bs' : List ℕ) → get_elem? st.views id ≡ some v → IsLive v
         → IsOrderly l s' → Shows l st.words s' r.frames → Budgeted l.passes s'.clock bs' → Goes l st.words st.words r.pages s' r.frames r.frames r.budgets bs' v.number
-        → Own l st.words s' r.frames bs' v w → holds s' → Rule (stepped st i (get_or st.words i 0) id cs w keeps)
-    unmoved st r i id cs v w s' bs' at orderly shows budgeted go own kept = let same : st.words ≡ set st.words i (get_or st.words i 0) = sym (set-get_or st.words i 0) in
-        moved st r i (get_or st.words i 0) id cs v w s' r.frames bs' at orderly (subst (λ (z : List ℕ). Shows l z s' r.frames) same shows) budgeted
-        (subst (λ (z : List ℕ). Goes l st.words z r.pages s' r.frames r.frames r.budgets bs' v.number) same go) (subst (λ (z : List ℕ). Own l z s' r.frames bs' v w) same own) kept
+        → Own l st.words s' r.frames bs' v w → s'.owners ≡ r.pages.owners → w.sealing ≡ v.sealing → holds s' → Rule (stepped st i (get_or st.words i 0) id cs w keeps)
+    unmoved st r i id cs v w s' bs' at live orderly shows budgeted go own owners sealing kept = let same : st.words ≡ set st.words i (get_or st.words i 0) = sym (set-get_or st.words i 0) in
+        moved st r i (get_or st.words i 0) id cs v w s' r.frames bs' at live orderly (subst (λ (z : List ℕ). Shows l z s' r.frames) same shows) budgeted
+        (subst (λ (z : List ℕ). Goes l st.words z r.pages s' r.frames r.frames r.budgets bs' v.number) same go) (subst (λ (z : List ℕ). Own l z s' r.frames bs' v w) same own)
+        (subst (λ (z : List ℕ × List Owner). IsSealing l z.0 z.1 (set st.views id w)) (λ k. (same k, sym owners k)) (sealing_stays l st.words st.words r.pages.owners st.views id v w at sealing (λ _. let layout = ap (λ (z : Layout). z.passes) own.layout in let number = own.number in omega arith) (λ x _. refl) r.sealing)) kept

@@ -6,5 +6,9 @@ mod Putting
 mod Owning
 mod Ticking
 mod Sweeping
+mod Living
 mod StockLemmas
 mod Dealing
+mod Joining
+mod Ending
+mod Examples

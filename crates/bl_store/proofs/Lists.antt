@@ -26,6 +26,9 @@ module _ {A : Type 0} where
   index_there (x ∷ xs) zero d h = refl
   index_there (x ∷ xs) (suc i) d h = index_there xs i d (omega arith)
 
+  pub index_of : (l : List A) (i : ℕ) (d a : A) → get_elem? l i ≡ some a → get_or l i d ≡ a
+  index_of l i d a e = one_there l i (get_or l i d) a (index_there l i d (at_below l i a e)) e
+
   pub set_there : (l : List A) (i : ℕ) (a b : A) → get_elem? l i ≡ some a → get_elem? (set l i b) i ≡ some b
   set_there l i a b e = set_here l i b (at_below l i a e)
 

@@ -8,7 +8,7 @@ use Rattle.atomic_table.proofs.Lists.{at_set, set_here, set_else}
 use Rattle.bl_layout.specs.declared.layout.Layout.{Layout}
 use Rattle.bl_layout.specs.Words.{frame_count}
 use Rattle.bl_store.specs.Pages.{Owner, Held, Stage, Pages, IsOrderly, told, written, Puts}
-use Rattle.bl_store.specs.Frames.{process_at, page_at, owner_at, state_at, place_at, drafted, shown, dropped, Frame, used, FrameIs, PageIs, OwnerIs, ProcessIs, stage_of, MayRead, Readable, Reads, Stocks, Drops, Shows, Kept}
+use Rattle.bl_store.specs.Frames.{process_at, page_at, owner_at, state_at, place_at, drafted, shown, dropped, Frame, used, FrameIs, PageIs, OwnerIs, ProcessIs, stage_of, MayRead, Readable, Reads, Stocks, Drops, Shows, IsLive, Kept}
 use Rattle.bl_store.specs.Told.{draft, swapped}
 use Rattle.bl_store.specs.declared.view.View.{View}
 use Rattle.bl_store.specs.declared.view.Stamp.{Stamp}
@@ -18,7 +18,7 @@ use Rattle.bl_store.specs.declared.view.Draft.{Draft}
 use Rattle.bl_store.specs.declared.view.Dropping.{Dropping}
 use Rattle.bl_store.specs.declared.view.Dropping.TheVariants.{Empty, Dropped}
 use Rattle.bl_store.proofs.Lists.{at_below, there, set_there}
-use Rattle.bl_store.proofs.Keeps.{frame_same, page_kept, reads_kept, stocks_kept, drops_kept, shows_told, orderly_told, orderly_written, swept_told, seal_same, Goes, sweeps_stay, moved}
+use Rattle.bl_store.proofs.Keeps.{frame_same, page_kept, reads_kept, stocks_kept, drops_kept, shows_told, orderly_told, orderly_written, swept_told, seal_same, Goes, sweeps_stay, sealing_stays, moved}
 use Rattle.bl_store.proofs.Time.{began_by}
 
 abbrev tail_of : List Draft → List Draft
@@ -69,9 +69,9 @@ module _ {D : Type 0} (l : Layout) (first : D) (holds : Pages D → Type 0) wher
         frame = λ h fr e. let low = at_below gs h fr e in let same = go.count in frame_same l ws0 ws h (get_or-set_other ws0 i (state_at l h) n 0 (λ z. omega arith)) (λ k small. get_or-set_other ws0 i (place_at l h k) n 0 (λ z. omega arith)) fr (go.framed h fr e);
       }
 
-  put_step : (st : St) (r : Rule st) (i n id : ℕ) (cs : List (ℕ × Unit {0})) (v : View D) (gs : List Frame) (x f : ℕ) (xs : List ℕ) (ds : List Draft) (dr : Dropping) (d : D) → i ≡ page_at l x → n ≡ f + 1 → x < l.pages → get_elem? st.views id ≡ some v
+  put_step : (st : St) (r : Rule st) (i n id : ℕ) (cs : List (ℕ × Unit {0})) (v : View D) (gs : List Frame) (x f : ℕ) (xs : List ℕ) (ds : List Draft) (dr : Dropping) (d : D) → i ≡ page_at l x → n ≡ f + 1 → x < l.pages → get_elem? st.views id ≡ some v → IsLive v
       → Passing l st.words r.frames gs v.number x f xs ds → Drops gs v.number dr → holds (told (written r.pages x xs) v.number (stage_of v.stamp) d) → Rule (stepped st i n id cs (record v { stock = ds; known = d; dropping = dr }) keeps)
-  put_step st r i n id cs v gs x f xs ds dr d i_is n_is inside at go drops kept = let mine = r.seats id v at in let s : Pages D = r.pages in let q : ℕ = v.number in let sg : Stage = stage_of v.stamp in
+  put_step st r i n id cs v gs x f xs ds dr d i_is n_is inside at live go drops kept = let mine = r.seats id v at live in let s : Pages D = r.pages in let q : ℕ = v.number in let sg : Stage = stage_of v.stamp in
       let orderly = r.orderly in let counts = orderly.contents in let owned' = orderly.owners in let total = r.shows.frame_total in let wide = r.shows.wide in let counted = mine.counted in let dealt = mine.dealt in
       let ws : List ℕ = set st.words i n in let s1 : Pages D = written s x xs in let s' : Pages D = told s1 q sg d in
       let owners : (y : ℕ) → y < length s.owners → get_or ws (owner_at l y) 0 ≡ get_or st.words (owner_at l y) 0 = (λ y below. get_or-set_other st.words i (owner_at l y) n 0 (λ z. omega arith)) in
@@ -87,7 +87,7 @@ module _ {D : Type 0} (l : Layout) (first : D) (holds : Pages D → Type 0) wher
         seals = λ j y other is. seal_same l st.words ws s.owners j y owners is;
         swept = λ m k is. swept_told s s' q sg sg v.known d m k (le_refl s.clock) mine.stands refl (λ b e. inl e) is;
       } in
-      moved l first holds st r i n id cs v (record v { stock = ds; known = d; dropping = dr }) s' gs r.budgets at
+      moved l first holds st r i n id cs v (record v { stock = ds; known = d; dropping = dr }) s' gs r.budgets at live
       (orderly_told l s1 q sg d (began_by l s q v.stamp v.known r.orderly mine.stands) (orderly_written l s x xs r.orderly))
       (shows_told l ws s1 gs q sg d (subst (λ (z : ℕ). ProcessIs z sg) (sym (process q (omega arith))) (r.shows.process q sg v.known (omega arith) mine.stands)) shows)
       r.budgeted moves
@@ -103,7 +103,8 @@ module _ {D : Type 0} (l : Layout) (first : D) (holds : Pages D → Type 0) wher
         seals = seal_same l st.words ws s.owners q v.sealing owners mine.seals;
         sweeps = sweeps_stay moves v.sweep mine.sweeps;
         budget = mine.budget;
-      } kept
+        joined = refl;
+      } (sealing_stays l st.words ws s.owners st.views id v (record v { stock = ds; known = d; dropping = dr }) at refl (λ k. k) owners r.sealing) kept
     where
       reads_own : (ws : List ℕ) (fs gs : List Frame) (sp : Stamp) (rd : Reading) → ((b h : ℕ) (ys : List ℕ) → Readable fs b h ys → Readable gs b h ys) → Reads fs sp rd → Reads gs sp rd
       reads_own ws fs gs sp Nowhere stay is = tt
@@ -142,8 +143,8 @@ module _ {D : Type 0} (l : Layout) (first : D) (holds : Pages D → Type 0) wher
       }
 
   pub swaps : (then' : D → ℕ → Owner → List ℕ → D → Type 0) (slots id i n x f : ℕ) (me : M) (xs : List ℕ) (ds : List Draft) → i ≡ page_at l x → n ≡ f + 1 → x < l.pages → me.0.layout ≡ l → me.0.stock ≡ draft f xs ∷ ds → length xs ≡ 32
-      → Puts holds l me.0.number me.0.known x xs then' → Allows Rule slots id me i (λ _. n) (swapped then' (step slots i n 0 none) me)
-  swaps then' slots id i n x f me xs ds i_is n_is inside same has whole asked st r _ at _ = let mine = r.seats id me.0 at in let s : Pages D = r.pages in let orderly = r.orderly in let counts = orderly.contents in let owners = orderly.owners in let total = r.shows.frame_total in let q : ℕ = me.0.number in
+      → Puts holds l me.0.number me.0.known x xs then' → IsLive me.0 → Allows Rule slots id me i (λ _. n) (swapped then' (step slots i n 0 none) me)
+  swaps then' slots id i n x f me xs ds i_is n_is inside same has whole asked live st r _ at _ = let mine = r.seats id me.0 at live in let s : Pages D = r.pages in let orderly = r.orderly in let counts = orderly.contents in let owners = orderly.owners in let total = r.shows.frame_total in let q : ℕ = me.0.number in
       let known : Stocks r.frames q (draft f xs ∷ ds) = subst (Stocks r.frames q) has mine.stocks in let here : get_elem? r.frames f ≡ some (used (drafted q (length ds)) xs) = known.0 in
       let page = there s.contents x (omega arith) in let own = there s.owners x (omega arith) in let before : ℕ = get_or st.words i 0 in
       let t = asked s (stage_of me.0.stamp) page.0 own.0 r.kept r.orderly mine.stands (page.1, own.1) in
@@ -156,15 +157,15 @@ module _ {D : Type 0} (l : Layout) (first : D) (holds : Pages D → Type 0) wher
         record me.0 { stock = ds; known = t.1; dropping = Empty },
         keeps,
         tt,
-        put_step st r i n id me.1 me.0 (set r.frames f (used (shown x) xs)) x f xs ds Empty t.1 i_is n_is inside at (first_put st.words r.frames r.shows.frame q x f xs ds here whole known.1) tt t.2,
-        ((refl, refl), refl, (refl, refl), tells, λ g is. absurd (omega arith)),
+        put_step st r i n id me.1 me.0 (set r.frames f (used (shown x) xs)) x f xs ds Empty t.1 i_is n_is inside at live (first_put st.words r.frames r.shows.frame q x f xs ds here whole known.1) tt t.2,
+        ((refl, refl, refl, refl), refl, (refl, refl), tells, λ g is. absurd (omega arith)),
       ))
       (λ (e : (g : ℕ) × (before ≡ g + 1) × (get_elem? r.frames g ≡ some (used (shown x) page.0))). let gs : List Frame = set r.frames f (used (shown x) xs) in let up = e.1 in let within = at_below r.frames e.0 (used (shown x) page.0) e.2 in (
         record me.0 { stock = ds; known = t.1; dropping = Dropped e.0 },
         keeps,
         tt,
-        put_step st r i n id me.1 me.0 (set gs e.0 (used (dropped q) page.0)) x f xs ds (Dropped e.0) t.1 i_is n_is inside at (next_put st r q x f e.0 xs page.0 ds here whole known.1 e.2)
+        put_step st r i n id me.1 me.0 (set gs e.0 (used (dropped q) page.0)) x f xs ds (Dropped e.0) t.1 i_is n_is inside at live (next_put st r q x f e.0 xs page.0 ds here whole known.1 e.2)
             (page.0, set_here gs e.0 (used (dropped q) page.0) (subst (λ (z : ℕ). e.0 < z) (sym (length-set r.frames f (used (shown x) xs))) within)) t.2,
-        ((refl, refl), refl, (refl, refl), tells, λ g is. let is_g : e.0 ≡ g = omega arith in (omega arith, ap (λ (z : ℕ). Dropped z) is_g)),
+        ((refl, refl, refl, refl), refl, (refl, refl), tells, λ g is. let is_g : e.0 ≡ g = omega arith in (omega arith, ap (λ (z : ℕ). Dropped z) is_g)),
       ))
       from

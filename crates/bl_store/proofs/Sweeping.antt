@@ -6,7 +6,7 @@ use native.Mathlib.Decide.{ℕ_discrete}
 use Rattle.atomic_table.specs.Table.{State, Me, step, keeps, Act, Valid, carried_after, stepped, Allows}
 use Rattle.bl_layout.specs.declared.layout.Layout.{Layout}
 use Rattle.bl_store.specs.Pages.{Running, Pages}
-use Rattle.bl_store.specs.Frames.{process_at, ProcessIs, Swept, SweepIs, Kept}
+use Rattle.bl_store.specs.Frames.{process_at, ProcessIs, Swept, SweepIs, IsLive, Kept}
 use Rattle.bl_store.specs.Told.{lower, horizoned, passed}
 use Rattle.bl_store.specs.declared.view.View.{View}
 use Rattle.bl_store.specs.declared.view.Sweep.{Sweep}
@@ -51,18 +51,18 @@ module _ {D : Type 0} (l : Layout) (first : D) (holds : Pages D → Type 0) wher
   Leads s i n id me then' = (w : View D) × (a : Act (Unit {0})) × Valid s.homes me.1 a × Rule (stepped s i n id me.1 w a) × then' (w, carried_after me.1 a)
 
   -- a load of the clock by which a round of looks begins
-  pub horizons : (slots id i : ℕ) (me : M) → i ≡ 0 → Allows Rule slots id me i (λ n. n) (horizoned (step slots i 0 0 none) me)
-  horizons slots id i me i_is st r _ at _ = let mine = r.seats id me.0 at in let s : Pages D = r.pages in let n : ℕ = get_or st.words i 0 in
+  pub horizons : (slots id i : ℕ) (me : M) → i ≡ 0 → IsLive me.0 → Allows Rule slots id me i (λ n. n) (horizoned (step slots i 0 0 none) me)
+  horizons slots id i me i_is live st r _ at _ = let mine = r.seats id me.0 at live in let s : Pages D = r.pages in let n : ℕ = get_or st.words i 0 in
       let is : n ≡ s.clock = ap (λ (z : ℕ). get_or st.words z 0) i_is ∙ r.shows.clock in (
         record me.0 { puts = me.0.puts; retires = me.0.retires; sweep = Over n 0 },
         keeps,
         tt,
-        silent_load l first holds st r i id me.1 me.0 me.0.puts me.0.retires (Over n 0) me.0.seen r.budgets at r.budgeted (λ k _. refl) mine.budget record { past = omega arith; later = λ k b d stands low. absurd (omega arith) },
-        (((refl, refl), refl, (refl, refl, refl), refl), refl, refl),
+        silent_load l first holds st r i id me.1 me.0 me.0.puts me.0.retires (Over n 0) me.0.seen r.budgets at live r.budgeted (λ k _. refl) mine.budget record { past = omega arith; later = λ k b d stands low. absurd (omega arith) },
+        (((refl, refl, refl, refl), refl, (refl, refl, refl), refl), refl, refl),
       )
 
-  pub passes : (slots id i m k : ℕ) (me : M) → i ≡ process_at k → me.0.sweep ≡ Over m k → Allows Rule slots id me i (λ n. n) (passed (step slots i 0 0 none) me)
-  passes slots id i m k me i_is is st r _ at _ = let mine = r.seats id me.0 at in let s : Pages D = r.pages in let n : ℕ = get_or st.words i 0 in let orderly = r.orderly in let hands = orderly.hands in
+  pub passes : (slots id i m k : ℕ) (me : M) → i ≡ process_at k → me.0.sweep ≡ Over m k → IsLive me.0 → Allows Rule slots id me i (λ n. n) (passed (step slots i 0 0 none) me)
+  passes slots id i m k me i_is is live st r _ at _ = let mine = r.seats id me.0 at live in let s : Pages D = r.pages in let n : ℕ = get_or st.words i 0 in let orderly = r.orderly in let hands = orderly.hands in
       let so_far : Swept s m k = subst (SweepIs s) is mine.sweeps in let past = so_far.past in let both = lower_both m n in
       let further : Swept s (lower m n) (k + 1) = record {
         past = omega arith;
@@ -74,6 +74,6 @@ module _ {D : Type 0} (l : Layout) (first : D) (holds : Pages D → Type 0) wher
         record me.0 { puts = me.0.puts; retires = me.0.retires; sweep = Over (lower m n) (k + 1) },
         keeps,
         tt,
-        silent_load l first holds st r i id me.1 me.0 me.0.puts me.0.retires (Over (lower m n) (k + 1)) me.0.seen r.budgets at r.budgeted (λ j _. refl) mine.budget further,
-        (((refl, refl), refl, (refl, refl, refl), refl), refl, λ m' k' e equal. let is_k : k ≡ k' = omega arith in let is_m : m ≡ m' = ap time_of (sym is ∙ e) in λ z. Over (lower (is_m z) n) (is_k z + 1)),
+        silent_load l first holds st r i id me.1 me.0 me.0.puts me.0.retires (Over (lower m n) (k + 1)) me.0.seen r.budgets at live r.budgeted (λ j _. refl) mine.budget further,
+        (((refl, refl, refl, refl), refl, (refl, refl, refl), refl), refl, λ m' k' e equal. let is_k : k ≡ k' = omega arith in let is_m : m ≡ m' = ap time_of (sym is ∙ e) in λ z. Over (lower (is_m z) n) (is_k z + 1)),
       )

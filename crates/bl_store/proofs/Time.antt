@@ -7,7 +7,7 @@ use Rattle.atomic_table.proofs.Lists.{set_else}
 use Rattle.bl_layout.specs.declared.layout.Layout.{Layout}
 use Rattle.bl_layout.specs.Words.{frame_count}
 use Rattle.bl_store.specs.Pages.{Owner, Stage, Running, Pages, Stands, IsOrderly, told, Begins, Ends, Gets}
-use Rattle.bl_store.specs.Frames.{process_at, page_at, owner_at, place_at, Use, drafted, shown, dropped, timed, retired, Frame, used, Full, PageIs, ProcessIs, stage_of, IsRead, MayRead, Reads, Budgeted, Shows, Kept}
+use Rattle.bl_store.specs.Frames.{process_at, page_at, owner_at, place_at, Use, drafted, shown, dropped, timed, retired, Frame, used, Full, PageIs, ProcessIs, stage_of, IsRead, MayRead, Reads, Budgeted, Shows, IsLive, Kept}
 use Rattle.bl_store.specs.Told.{clocked, stamped, ended, looked, copied}
 use Rattle.bl_store.specs.declared.view.View.{View}
 use Rattle.bl_store.specs.declared.view.Stamp.{Stamp}
@@ -15,7 +15,7 @@ use Rattle.bl_store.specs.declared.view.Stamp.TheVariants.{Out, Clocked, In}
 use Rattle.bl_store.specs.declared.view.Reading.{Reading}
 use Rattle.bl_store.specs.declared.view.Reading.TheVariants.{Nowhere, At}
 use Rattle.bl_store.proofs.Lists.{at_below, there, set_there}
-use Rattle.bl_store.proofs.Keeps.{shows_told, shows_process, orderly_told, swept_told, seal_same, Goes, sweeps_stay, moved, unmoved}
+use Rattle.bl_store.proofs.Keeps.{shows_told, shows_process, orderly_told, swept_told, seal_same, Goes, sweeps_stay, sealing_stays, moved, unmoved}
 
 abbrev frame_of : Reading → ℕ
 frame_of Nowhere = 0
@@ -79,11 +79,11 @@ module _ {D : Type 0} (l : Layout) (first : D) (holds : Pages D → Type 0) wher
   Rule = Kept l first holds
 
   -- a load at which the hand is told something and reads as it says
-  pub told_load : (st : St) (r : Rule st) (i id : ℕ) (cs : List (ℕ × Unit {0})) (v : View D) (rd : Reading) (d : D) → get_elem? st.views id ≡ some v → Reads r.frames v.stamp rd
+  pub told_load : (st : St) (r : Rule st) (i id : ℕ) (cs : List (ℕ × Unit {0})) (v : View D) (rd : Reading) (d : D) → get_elem? st.views id ≡ some v → IsLive v → Reads r.frames v.stamp rd
       → holds (told r.pages v.number (stage_of v.stamp) d) → Rule (stepped st i (get_or st.words i 0) id cs (record v { reading = rd; known = d }) keeps)
-  told_load st r i id cs v rd d at reads kept = let mine = r.seats id v at in let s : Pages D = r.pages in let low = mine.counted in let dealt = mine.dealt in
+  told_load st r i id cs v rd d at live reads kept = let mine = r.seats id v at live in let s : Pages D = r.pages in let low = mine.counted in let dealt = mine.dealt in
       let go : Goes l st.words st.words s (told s v.number (stage_of v.stamp) d) r.frames r.frames r.budgets r.budgets v.number = goes_told l st.words st.words s r.frames r.budgets v.number (stage_of v.stamp) (stage_of v.stamp) v.known d mine.stands (λ b e. inl e) (λ x _. refl) in
-      unmoved l first holds st r i id cs v (record v { reading = rd; known = d }) (told s v.number (stage_of v.stamp) d) r.budgets at
+      unmoved l first holds st r i id cs v (record v { reading = rd; known = d }) (told s v.number (stage_of v.stamp) d) r.budgets at live
       (orderly_told l s v.number (stage_of v.stamp) d (began_by l s v.number v.stamp v.known r.orderly mine.stands) r.orderly)
       (shows_told l st.words s r.frames v.number (stage_of v.stamp) d (r.shows.process v.number (stage_of v.stamp) v.known (omega arith) mine.stands) r.shows)
       r.budgeted go
@@ -99,17 +99,18 @@ module _ {D : Type 0} (l : Layout) (first : D) (holds : Pages D → Type 0) wher
         seals = mine.seals;
         sweeps = sweeps_stay go v.sweep mine.sweeps;
         budget = mine.budget;
-      } kept
+        joined = refl;
+      } refl refl kept
 
   -- a process word changes, and the hand reads nothing
-  process_step : (st : St) (r : Rule st) (i id n : ℕ) (cs : List (ℕ × Unit {0})) (v : View D) (sp : Stamp) (d : D) → get_elem? st.views id ≡ some v → i ≡ process_at v.number → ProcessIs n (stage_of sp) → IsRead r.pages.clock sp
+  process_step : (st : St) (r : Rule st) (i id n : ℕ) (cs : List (ℕ × Unit {0})) (v : View D) (sp : Stamp) (d : D) → get_elem? st.views id ≡ some v → IsLive v → i ≡ process_at v.number → ProcessIs n (stage_of sp) → IsRead r.pages.clock sp
       → ((b : ℕ) → stage_of sp ≡ Running b → b ≡ r.pages.clock) → holds (told r.pages v.number (stage_of sp) d) → Rule (stepped st i n id cs (record v { stamp = sp; reading = Nowhere; known = d }) keeps)
-  process_step st r i id n cs v sp d at i_is is clocked' begun kept = let mine = r.seats id v at in let s : Pages D = r.pages in let low = mine.counted in let dealt = mine.dealt in let orderly = r.orderly in let counts = orderly.owners in
+  process_step st r i id n cs v sp d at live i_is is clocked' begun kept = let mine = r.seats id v at live in let s : Pages D = r.pages in let low = mine.counted in let dealt = mine.dealt in let orderly = r.orderly in let counts = orderly.owners in
       let ws : List ℕ = set st.words i n in
       let owners : (x : ℕ) → x < length s.owners → get_or ws (owner_at l x) 0 ≡ get_or st.words (owner_at l x) 0 = (λ x below. get_or-set_other st.words i (owner_at l x) n 0 (λ z. omega arith)) in
       let go : Goes l st.words ws s (told s v.number (stage_of sp) d) r.frames r.frames r.budgets r.budgets v.number = goes_told l st.words ws s r.frames r.budgets v.number (stage_of v.stamp) (stage_of sp) v.known d mine.stands
       (λ b e. let now = begun b e in inr (omega arith)) owners in
-      moved l first holds st r i n id cs v (record v { stamp = sp; reading = Nowhere; known = d }) (told s v.number (stage_of sp) d) r.frames r.budgets at
+      moved l first holds st r i n id cs v (record v { stamp = sp; reading = Nowhere; known = d }) (told s v.number (stage_of sp) d) r.frames r.budgets at live
       (orderly_told l s v.number (stage_of sp) d (λ b e. let now = begun b e in omega arith) r.orderly)
       (subst (λ (z : ℕ). Shows l (set st.words z n) (told s v.number (stage_of sp) d) r.frames) (sym i_is) (shows_process l st.words s r.frames v.number n (stage_of sp) d (omega arith) is r.shows))
       r.budgeted go
@@ -125,17 +126,18 @@ module _ {D : Type 0} (l : Layout) (first : D) (holds : Pages D → Type 0) wher
         seals = seal_same l st.words ws s.owners v.number v.sealing owners mine.seals;
         sweeps = sweeps_stay go v.sweep mine.sweeps;
         budget = mine.budget;
-      } kept
+        joined = refl;
+      } (sealing_stays l st.words ws s.owners st.views id v (record v { stamp = sp; reading = Nowhere; known = d }) at refl (λ k. k) owners r.sealing) kept
 
   -- a load of the clock, outside a process
-  pub reads_clock : (slots id i : ℕ) (me : M) → i ≡ 0 → me.0.stamp ≡ Out → Allows Rule slots id me i (λ n. n) (clocked (step slots i 0 0 none) me)
-  reads_clock slots id i me i_is out st r _ at _ = let mine = r.seats id me.0 at in let s : Pages D = r.pages in let n : ℕ = get_or st.words i 0 in
+  pub reads_clock : (slots id i : ℕ) (me : M) → i ≡ 0 → me.0.stamp ≡ Out → IsLive me.0 → Allows Rule slots id me i (λ n. n) (clocked (step slots i 0 0 none) me)
+  reads_clock slots id i me i_is out live st r _ at _ = let mine = r.seats id me.0 at live in let s : Pages D = r.pages in let n : ℕ = get_or st.words i 0 in
       let is : n ≡ s.clock = ap (λ (z : ℕ). get_or st.words z 0) i_is ∙ r.shows.clock in let bound = low_clock l s.clock r.budgets r.budgeted in
       let w : View D = record me.0 { stamp = Clocked n; reading = Nowhere } in (
         w,
         keeps,
         tt,
-        unmoved l first holds st r i id me.1 me.0 w s r.budgets at r.orderly r.shows r.budgeted (goes_on l st.words s r.frames r.budgets r.budgets me.0.number (λ k _. refl))
+        unmoved l first holds st r i id me.1 me.0 w s r.budgets at live r.orderly r.shows r.budgeted (goes_on l st.words s r.frames r.budgets r.budgets me.0.number (λ k _. refl))
             record {
               layout = refl;
               number = refl;
@@ -148,35 +150,36 @@ module _ {D : Type 0} (l : Layout) (first : D) (holds : Pages D → Type 0) wher
               seals = mine.seals;
               sweeps = mine.sweeps;
               budget = mine.budget;
-            } r.kept,
-        ((refl, refl), (refl, refl, refl), refl, refl, omega arith),
+              joined = refl;
+            } refl refl r.kept,
+        ((refl, refl, refl, refl), (refl, refl, refl), refl, refl, omega arith),
       )
 
   pub stamps : (then' : D → ℕ → D → Type 0) (slots id i n c : ℕ) (me : M) → i ≡ process_at me.0.number → n ≡ c + 1 → me.0.stamp ≡ Clocked c → Begins holds l me.0.number me.0.known then'
-      → Allows Rule slots id me i (λ _. n) (λ _. stamped then' (step slots i n 0 none) me n)
-  stamps then' slots id i n c me i_is n_is is asked st r _ at _ = let mine = r.seats id me.0 at in let s : Pages D = r.pages in let seen : c ≤ s.clock = subst (IsRead s.clock) is mine.clocked in
+      → IsLive me.0 → Allows Rule slots id me i (λ _. n) (λ _. stamped then' (step slots i n 0 none) me n)
+  stamps then' slots id i n c me i_is n_is is asked live st r _ at _ = let mine = r.seats id me.0 at live in let s : Pages D = r.pages in let seen : c ≤ s.clock = subst (IsRead s.clock) is mine.clocked in
       let t = asked s r.kept r.orderly (mine.stands ∙ ap (λ (z : Stamp). some (stage_of z, me.0.known)) is) in (
         record me.0 { stamp = In s.clock; reading = Nowhere; known = t.0 },
         keeps,
         tt,
-        process_step st r i id n me.1 me.0 (In s.clock) t.0 at i_is (omega arith, omega arith) tt (λ b e. cc) t.1,
-        ((refl, refl), (refl, refl, refl), (s.clock, refl, t.2)),
+        process_step st r i id n me.1 me.0 (In s.clock) t.0 at live i_is (omega arith, omega arith) tt (λ b e. cc) t.1,
+        ((refl, refl, refl, refl), (refl, refl, refl), (s.clock, refl, t.2)),
       )
 
   pub finishes : (then' : D → ℕ → D → Type 0) (slots id i b : ℕ) (me : M) → i ≡ process_at me.0.number → me.0.stamp ≡ In b → Ends holds l me.0.number me.0.known then'
-      → Allows Rule slots id me i (λ _. 0) (λ _. ended then' (step slots i 0 0 none) me 0)
-  finishes then' slots id i b me i_is is asked st r _ at _ = let mine = r.seats id me.0 at in let s : Pages D = r.pages in
+      → IsLive me.0 → Allows Rule slots id me i (λ _. 0) (λ _. ended then' (step slots i 0 0 none) me 0)
+  finishes then' slots id i b me i_is is asked live st r _ at _ = let mine = r.seats id me.0 at live in let s : Pages D = r.pages in
       let t = asked s b r.kept r.orderly (mine.stands ∙ ap (λ (z : Stamp). some (stage_of z, me.0.known)) is) in (
         record me.0 { stamp = Out; reading = Nowhere; known = t.1 },
         keeps,
         tt,
-        process_step st r i id 0 me.1 me.0 Out t.1 at i_is refl tt (λ b e. cc) t.2,
-        ((refl, refl), (refl, refl, refl), refl, (s.clock, t.3)),
+        process_step st r i id 0 me.1 me.0 Out t.1 at live i_is refl tt (λ b e. cc) t.2,
+        ((refl, refl, refl, refl), (refl, refl, refl), refl, (s.clock, t.3)),
       )
 
   pub looks : (then' : D → ℕ → Owner → List ℕ → D → Type 0) (slots id i b x : ℕ) (me : M) → i ≡ page_at l x → x < l.pages → me.0.layout ≡ l → me.0.stamp ≡ In b → Gets holds l me.0.number me.0.known x then'
-      → Allows Rule slots id me i (λ n. n) (looked then' (step slots i 0 0 none) me)
-  looks then' slots id i b x me i_is inside same is asked st r _ at _ = let mine = r.seats id me.0 at in let s : Pages D = r.pages in let orderly = r.orderly in let counts = orderly.contents in let owners = orderly.owners in
+      → IsLive me.0 → Allows Rule slots id me i (λ n. n) (looked then' (step slots i 0 0 none) me)
+  looks then' slots id i b x me i_is inside same is asked live st r _ at _ = let mine = r.seats id me.0 at live in let s : Pages D = r.pages in let orderly = r.orderly in let counts = orderly.contents in let owners = orderly.owners in
       let page = there s.contents x (omega arith) in let own = there s.owners x (omega arith) in let n : ℕ = get_or st.words i 0 in
       let t = asked s b page.0 own.0 r.kept r.orderly (mine.stands ∙ ap (λ (z : Stamp). some (stage_of z, me.0.known)) is) (page.1, own.1) in
       let kept : holds (told s me.0.number (stage_of me.0.stamp) t.1) = subst (λ (z : Stamp). holds (told s me.0.number (stage_of z) t.1)) (sym is) t.2 in
@@ -187,16 +190,16 @@ module _ {D : Type 0} (l : Layout) (first : D) (holds : Pages D → Type 0) wher
         record me.0 { reading = me.0.reading; known = t.1 },
         keeps,
         tt,
-        told_load st r i id me.1 me.0 me.0.reading t.1 at mine.reads kept,
-        ((refl, refl), refl, (refl, refl, refl), λ y equal. let back : x ≡ y = omega arith in (own.0, page.0, ((λ _. e.1), λ some_frame. absurd (some_frame e.0)), subst (λ (z : ℕ). then' me.0.known z own.0 page.0 t.1) back t.3)),
+        told_load st r i id me.1 me.0 me.0.reading t.1 at live mine.reads kept,
+        ((refl, refl, refl, refl), refl, (refl, refl, refl), λ y equal. let back : x ≡ y = omega arith in (own.0, page.0, ((λ _. e.1), λ some_frame. absurd (some_frame e.0)), subst (λ (z : ℕ). then' me.0.known z own.0 page.0 t.1) back t.3)),
       ))
       (λ (e : (f : ℕ) × (n ≡ f + 1) × (get_elem? r.frames f ≡ some (used (shown x) page.0))). let up = e.1 in let within = at_below r.frames e.0 (used (shown x) page.0) e.2 in (
         record me.0 { reading = At e.0 page.0; known = t.1 },
         keeps,
         tt,
-        told_load st r i id me.1 me.0 (At e.0 page.0) t.1 at (b, is, (shown x, e.2, tt)) kept,
+        told_load st r i id me.1 me.0 (At e.0 page.0) t.1 at live (b, is, (shown x, e.2, tt)) kept,
         (
-          (refl, refl),
+          (refl, refl, refl, refl),
           refl,
           (refl, refl, refl),
           λ y equal. let back : x ≡ y = omega arith in (
@@ -209,15 +212,15 @@ module _ {D : Type 0} (l : Layout) (first : D) (holds : Pages D → Type 0) wher
       ))
       from
 
-  pub copies : (slots id i f k : ℕ) (me : M) (xs : List ℕ) → i ≡ place_at l f k → me.0.reading ≡ At f xs → me.0.layout ≡ l → k < 32 → Allows Rule slots id me i (λ n. n) (copied (step slots i 0 0 none) me)
-  copies slots id i f k me xs i_is reads same more st r _ at _ = let mine = r.seats id me.0 at in let s : Pages D = r.pages in
+  pub copies : (slots id i f k : ℕ) (me : M) (xs : List ℕ) → i ≡ place_at l f k → me.0.reading ≡ At f xs → me.0.layout ≡ l → k < 32 → IsLive me.0 → Allows Rule slots id me i (λ n. n) (copied (step slots i 0 0 none) me)
+  copies slots id i f k me xs i_is reads same more live st r _ at _ = let mine = r.seats id me.0 at live in let s : Pages D = r.pages in
       let rd : Reads r.frames me.0.stamp (At f xs) = subst (Reads r.frames me.0.stamp) reads mine.reads in
       let was = r.shows.frame f (used rd.2.0 xs) rd.2.1 in let long : length xs ≡ 32 = full rd.0 rd.2.0 xs rd.2.2 was.1 in (
         me.0,
         keeps,
         tt,
-        unmoved l first holds st r i id me.1 me.0 me.0 s r.budgets at r.orderly r.shows r.budgeted (goes_on l st.words s r.frames r.budgets r.budgets me.0.number (λ k _. refl))
-            record { layout = refl; number = refl; upto = refl; stands = mine.stands; clocked = mine.clocked; reads = mine.reads; stocks = mine.stocks; drops = mine.drops; seals = mine.seals; sweeps = mine.sweeps; budget = mine.budget } r.kept,
+        unmoved l first holds st r i id me.1 me.0 me.0 s r.budgets at live r.orderly r.shows r.budgeted (goes_on l st.words s r.frames r.budgets r.budgets me.0.number (λ k _. refl))
+            record { layout = refl; number = refl; upto = refl; stands = mine.stands; clocked = mine.clocked; reads = mine.reads; stocks = mine.stocks; drops = mine.drops; seals = mine.seals; sweeps = mine.sweeps; budget = mine.budget; joined = refl } refl refl r.kept,
         (
           refl,
           λ g ys j e equal small. let both = sym reads ∙ e in let is_f : f ≡ g = ap frame_of both in let passes = ap (λ (z : Layout). z.passes) same in let pages = ap (λ (z : Layout). z.pages) same in let is_k : k ≡ j = omega arith in

@@ -3,11 +3,13 @@
 use Rattle.std.specs.Prelude.{◌≡◌, ◌≢◌, ◌⊎◌, ℕ, ◌+◌, ◌*◌, ◌<◌, ◌≤◌, List, [], ◌∷◌, length, replicate, slice_index}
 use mathlib.Core.Option.{some}
 use lib.ListN.{get_elem?}
+use native.Mathlib.Nat.{le_refl, le-add_right}
 use Rattle.atomic_table.specs.Table.{State}
 use Rattle.bl_layout.specs.declared.layout.Layout.{Layout}
 use Rattle.bl_layout.specs.Words.{frame_count, word_count}
 use Rattle.bl_store.specs.Pages.{Owner, Released, Open, Held, Retired, Stage, Idle, Running, Pages, Stands, IsOrderly}
 use Rattle.bl_store.specs.declared.view.View.{View}
+use Rattle.bl_store.specs.declared.view.Joined.{Joined}
 use Rattle.bl_store.specs.declared.view.Stamp.{Stamp}
 use Rattle.bl_store.specs.declared.view.Stamp.TheVariants.{Out, Clocked, In}
 use Rattle.bl_store.specs.declared.view.Reading.{Reading}
@@ -124,6 +126,10 @@ abbrev pub Seals : Layout → List ℕ → List Owner → ℕ → Sealing → Ty
 Seals l ws os q Unsealed = Unit {0}
 Seals l ws os q (Sealed x t) = (slice_index ws (owner_at l x) ≡ 4 * q + 2) × (get_elem? os x ≡ some (Retired t))
 
+-- the smallest store
+abbrev pub smallest : Layout
+smallest = record { pages = 4; passes = 1; pages_within = (le_refl 4, le-add_right 4 65532); passes_within = (le_refl 1, le-add_right 1 63) }
+
 module _ {D : Type 0} where
   -- each hand with a number below k is idle, or began its process at m or later
   pub record Swept (s : Pages D) (m k : ℕ) : Type 0 where
@@ -134,7 +140,15 @@ module _ {D : Type 0} where
   SweepIs s Still = Unit {0}
   SweepIs s (Over m k) = Swept s m k
 
-  -- what a seat knows of the pages, frames and ticks left
+  -- a hand that another has taken in is outside a process, knows what it knew, and has no tick left
+  abbrev pub IsTakenIn : Pages D → List ℕ → Joined D → Type 0
+  IsTakenIn s bs j = Stands s j.number Idle j.known × (get_elem? bs j.number ≡ some 0)
+
+  -- the seat has a hand of its own
+  abbrev pub IsLive : View D → Type 0
+  IsLive v = v.number < v.layout.passes
+
+  -- what a seat with a hand knows of the pages, frames and ticks left
   pub record Knows (l : Layout) (first : D) (ws : List ℕ) (s : Pages D) (fs : List Frame) (bs : List ℕ) (v : View D) : Type 0 where
     pub layout : v.layout ≡ l
     pub counted : v.number < v.upto
@@ -148,10 +162,22 @@ module _ {D : Type 0} where
     pub seals : Seals l ws s.owners v.number v.sealing
     pub sweeps : SweepIs s v.sweep
     pub budget : get_elem? bs v.number ≡ some (v.puts + v.retires)
+    pub joined : (k : ℕ) (j : Joined D) → get_elem? v.joined k ≡ some j → IsTakenIn s bs j
 
   -- what a hand knows that has done nothing, has the number n, and deals out the numbers from the next one up to m
   abbrev pub share : Layout → D → ℕ → ℕ → View D
-  share l d n m = record { layout = l; number = n; upto = m; stamp = Out; reading = Nowhere; stock = []; dropping = Empty; sealing = Unsealed; sweep = Still; puts = 0; retires = 0; releases = 0; seen = []; known = d }
+  share l d n m = record { layout = l; number = n; upto = m; stamp = Out; reading = Nowhere; stock = []; dropping = Empty; sealing = Unsealed; sweep = Still; puts = 0; retires = 0; releases = 0; seen = []; known = d; joined = [] }
+
+  abbrev pub joined : ℕ → D → Joined D
+  joined n d = record { number = n; known = d }
+
+  abbrev pub others : List (Joined D) → List (Joined D)
+  others [] = []
+  others (g ∷ gs) = gs
+
+  abbrev pub last_of : View D → List (Joined D) → View D
+  last_of v [] = v
+  last_of v (g ∷ gs) = share v.layout g.known g.number (g.number + 1)
 
   -- how such a hand is cut in two
   abbrev pub own_share : View D → View D
@@ -159,6 +185,25 @@ module _ {D : Type 0} where
 
   abbrev pub next_share : View D → View D
   next_share v = record v { number = v.number + 1 }
+
+  -- what a seat knows that has given its hand to another: its number is no hand's
+  abbrev pub spent_view : D → View D
+  spent_view d = record { layout = smallest; number = 1; upto = 0; stamp = Out; reading = Nowhere; stock = []; dropping = Empty; sealing = Unsealed; sweep = Still; puts = 0; retires = 0; releases = 0; seen = []; known = d; joined = [] }
+
+  -- and one that has no hand yet
+  abbrev pub without_hand : View D → View D
+  without_hand v = record v { number = v.layout.passes; sealing = Unsealed; joined = [] }
+
+  -- a hand is taken in by another
+  abbrev pub taking_in : View D → View D → View D
+  taking_in v w = record v { joined = joined w.number w.known ∷ v.joined }
+
+  -- and the one that was taken in last is given back, with nothing reserved
+  abbrev pub giving_back : View D → View D
+  giving_back v = record v { joined = others v.joined }
+
+  abbrev pub given_back : View D → View D
+  given_back v = last_of v v.joined
 
   abbrev pub starting : Layout → D → View D
   starting l d = share l d 0 l.passes
@@ -183,9 +228,15 @@ pub record Shows {D : Type 0} (l : Layout) (ws : List ℕ) (s : Pages D) (fs : L
   pub owner : (x : ℕ) (o : Owner) → get_elem? s.owners x ≡ some o → OwnerIs (slice_index ws (owner_at l x)) o
   pub frame : (f : ℕ) (st : Frame) → get_elem? fs f ≡ some st → FrameIs l ws f st
 
--- the numbers that two seats have or deal out are apart
-abbrev pub IsApart : {D : Type 0} → List (View D) → Type 0
-IsApart vs = (i j : ℕ) (v w : View _) → get_elem? vs i ≡ some v → get_elem? vs j ≡ some w → i ≢ j → (v.upto ≤ w.number) ⊎ (w.upto ≤ v.number)
+-- Two seats with hands have and deal out other numbers, and no hand that is taken in has any of them, or the number of another that is taken in.
+pub record IsApart {D : Type 0} (vs : List (View D)) : Type 0 where
+  pub hands : (i j : ℕ) (v w : View D) → get_elem? vs i ≡ some v → get_elem? vs j ≡ some w → IsLive v → IsLive w → i ≢ j → (v.upto ≤ w.number) ⊎ (w.upto ≤ v.number)
+  pub joined : (i j : ℕ) (v w : View D) → get_elem? vs i ≡ some v → get_elem? vs j ≡ some w → IsLive v → IsLive w → (k : ℕ) (h : Joined D) → get_elem? v.joined k ≡ some h → (h.number < w.number) ⊎ (w.upto ≤ h.number)
+  pub taken : (i j : ℕ) (v w : View D) → get_elem? vs i ≡ some v → get_elem? vs j ≡ some w → IsLive v → IsLive w → (k m : ℕ) (g h : Joined D) → get_elem? v.joined k ≡ some g → get_elem? w.joined m ≡ some h → (i ≢ j) ⊎ (k ≢ m) → g.number ≢ h.number
+
+-- The owner word of a retired page shows it, or a hand has retired it just now.
+abbrev pub IsSealing : {D : Type 0} → Layout → List ℕ → List Owner → List (View D) → Type 0
+IsSealing l ws os vs = (x t : ℕ) → get_elem? os x ≡ some (Retired t) → (slice_index ws (owner_at l x) ≡ 4 * t + 3) ⊎ ((j : ℕ) × (v : View _) × (get_elem? vs j ≡ some v) × IsLive v × (v.sealing ≡ Sealed x t))
 
 pub record Kept {S D : Type 0} (l : Layout) (first : D) (holds : Pages D → Type 0) (st : State S (View D)) : Type 0 where
   pub pages : Pages D
@@ -194,6 +245,7 @@ pub record Kept {S D : Type 0} (l : Layout) (first : D) (holds : Pages D → Typ
   pub orderly : IsOrderly l pages
   pub shows : Shows l st.words pages frames
   pub budgeted : Budgeted l.passes pages.clock budgets
-  pub seats : (j : ℕ) (v : View D) → get_elem? st.views j ≡ some v → Knows l first st.words pages frames budgets v
+  pub seats : (j : ℕ) (v : View D) → get_elem? st.views j ≡ some v → IsLive v → Knows l first st.words pages frames budgets v
   pub apart : IsApart st.views
+  pub sealing : IsSealing l st.words pages.owners st.views
   pub kept : holds pages

@@ -3,3 +3,4 @@ pub mod Frames
 pub mod Opening
 pub mod Told
 pub mod Hands
+pub mod Closing

@@ -113,6 +113,11 @@ module _ {D : Type 0} (holds : Pages D → Type 0) (l : Layout) (n : ℕ) (d : D
   Refuses then = (s : Pages D) (st : Stage) → holds s → IsOrderly l s → Stands s n st d
       → (d' : D) × holds (told s n st d') × then d s.clock d'
 
+  -- the hand learns of another, m, that is outside a process and knows e; nothing else changes
+  abbrev pub Meets : ℕ → D → (D → D → D → Type 0) → Type 0
+  Meets m e then = (s : Pages D) (st : Stage) → holds s → IsOrderly l s → Stands s n st d → Stands s m Idle e → m ≢ n
+      → (d' : D) × holds (told s n st d') × then d e d'
+
   -- the page x is released, which was retired at that time; every process that runs began after it
   abbrev pub Releases : ℕ → ℕ → (D → Type 0) → Type 0
   Releases x time then = (s : Pages D) (st : Stage) (words : List ℕ) → holds s → IsOrderly l s → Stands s n st d → IsPage s x words (Retired time) → AllBeganAfter s time

@@ -8,12 +8,15 @@
 //! A user states a rule over the words and owners of all pages, the time, and what each hand knows
 //! ([`PageRule`]). The rule holds between any two events. Each call is one event, and asks only that the
 //! user's rule survives it; what the event tells the hand is the caller's choice ([`PagePlay`] and its
-//! kin). No call waits, and none takes memory once the store is made.
+//! kin). No call waits, and none takes memory once the store is made. A hand may learn of another that it meets
+//! ([`MeetPlay`]), and at the end all hands come back for the words of all pages.
 //!
 //! The latches and right links that such pages serve are those of Lehman and Yao, "Efficient locking for
 //! concurrent operations on B-trees" (1981). Stamps, frames and their release are this project's own.
 #![tactic(auto)]
 
+mod closing;
+mod meeting;
 mod opening;
 mod owner;
 mod plays;
@@ -25,7 +28,7 @@ mod store;
 mod sweep;
 mod view;
 
-pub use rule::{PagePlay, PageRule, SweepPlay, TimePlay};
+pub use rule::{MeetPlay, PagePlay, PageRule, SweepPlay, TimePlay};
 pub use stock::{NoRoom, Stock};
 pub use store::{Hand, Store};
 pub use view::{Draft, Dropping, Framed, Reading, Sealing, Stamp, Sweep, View};

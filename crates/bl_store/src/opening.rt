@@ -3,6 +3,7 @@ ghost use Rattle.std.specs.Prelude.{◌≡◌, ℕ, ◌+◌, ◌<◌, ◌≤◌,
 ghost use Rattle.bl_layout.specs.Words.{word_count};
 ghost use Rattle.bl_store.specs.Frames.{share};
 ghost use Rattle.bl_store.specs.Opening.{first_pages, is_blank, Laid, IsDealt};
+ghost use Rattle.bl_store.specs.declared.view.Sealing.TheVariants.{Unsealed};
 
 use crate::rule::PageRule;
 use crate::store::{Hand, Store};
@@ -90,7 +91,7 @@ impl<D, R: PageRule<D>> Store<D, R, Global> {
 
 impl<D> Hand<D> {
     fn of(seat: Seat<(), View<D>>, number: u32) -> Hand<D>
-        requires { (number ≡ seat.me.0.number) × (number < seat.me.0.layout.passes) }
+        requires { (number ≡ seat.me.0.number) × (number < seat.me.0.layout.passes) × (seat.me.0.sealing ≡ Unsealed) × (seat.me.1 ≡ []) }
         ensures { (result.number ≡ number) × (result.seat ≡ seat) }
     {
         Hand {

@@ -1,12 +1,15 @@
 //! Latches, and the retirement of a page.
-ghost use Rattle.std.specs.Prelude.{◌≡◌, ℕ, ◌+◌, ◌<◌, ◌≤◌, ◌↔◌, List, IsTrue};
+ghost use Rattle.std.specs.Prelude.{◌≡◌, ℕ, ◌+◌, ◌<◌, ◌≤◌, ◌↔◌, List, [], IsTrue};
 ghost use Rattle.bl_store.specs.Pages.{Owner, Open, Held, Latches, Misses, Opens, Retires};
 ghost use Rattle.bl_store.specs.Hands.{known, IsOf, IsSameHand, IsSameStage, IsSameStock, MayRetire};
-ghost use Rattle.bl_store.specs.declared.view.Sealing.TheVariants.{Sealed};
+ghost use Rattle.bl_store.specs.declared.view.Sealing.TheVariants.{Unsealed, Sealed};
+ghost use Rattle.bl_store.specs.Frames.{IsLive};
 
-use crate::plays::{Aim, Open, Seal, Silent, Try};
+use crate::plays::{Aim, Open, Publish, Seal, Try};
 use crate::rule::{PagePlay, PageRule, TimePlay};
 use crate::store::{Hand, Store};
+use crate::view::View;
+use atomic_table::Seat;
 use std::alloc::Allocator;
 use std::marker::Brand;
 
@@ -50,26 +53,27 @@ impl<D, R: PageRule<D>, A: Allocator> Store<D, R, A> {
         ensures stock { (hand.new.seat.me.0.stock ≡ hand.old.seat.me.0.stock) × (hand.new.seat.me.0.puts ≡ hand.old.seat.me.0.puts) }
         ensures told { (time : ℕ) × M.then (known hand.old.seat) time (known hand.new.seat) }
     {
-        let time = self.seal::<M, Brand>(hand, page);
+        let time = self.seal::<M, Brand>(&mut hand.seat, page);
         let at = self.layout.page_owner(page);
         self.table
             .shared
-            .store::<Silent>(&mut hand.seat, at, 4 * time + 3);
+            .store::<Publish>(&mut hand.seat, at, 4 * time + 3);
     }
 
     // The tick by which the page is retired.
-    fn seal<M: TimePlay<D>, J: Aim>(&self, hand: &mut Hand<D>, page: u32) -> u64
-        requires own { IsOf self.now.table.shared.table_id self.now.layout hand.old.seat }
+    fn seal<M: TimePlay<D>, J: Aim>(&self, seat: &mut Seat<(), View<D>>, page: u32) -> u64
+        requires own { IsOf self.now.table.shared.table_id self.now.layout seat.old }
         requires page { (page < self.now.layout.pages) × (page ≡ J.page) }
-        requires leave { MayRetire hand.old.seat }
-        requires rule { Retires R.holds self.now.layout hand.old.number (known hand.old.seat) page M.then }
-        ensures same { IsSameHand hand.old.seat hand.new.seat × IsSameStage hand.old.seat hand.new.seat }
-        ensures stock { (hand.new.seat.me.0.stock ≡ hand.old.seat.me.0.stock) × (hand.new.seat.me.0.puts ≡ hand.old.seat.me.0.puts) }
-        ensures sealed { (hand.new.seat.me.0.sealing ≡ Sealed page result) × (result < 2305843009213693952) }
-        ensures told { M.then (known hand.old.seat) result (known hand.new.seat) }
+        requires leave { MayRetire seat.old }
+        requires hand { IsLive seat.old.me.0 × (seat.old.me.0.sealing ≡ Unsealed) × (seat.old.me.1 ≡ []) }
+        requires rule { Retires R.holds self.now.layout seat.old.me.0.number (known seat.old) page M.then }
+        ensures same { IsSameHand seat.old seat.new × IsSameStage seat.old seat.new }
+        ensures stock { (seat.new.me.0.stock ≡ seat.old.me.0.stock) × (seat.new.me.0.puts ≡ seat.old.me.0.puts) }
+        ensures sealed { (seat.new.me.0.sealing ≡ Sealed page result) × (result < 2305843009213693952) × (seat.new.me.1 ≡ []) }
+        ensures told { M.then (known seat.old) result (known seat.new) }
     {
         self.table
             .shared
-            .fetch_add::<Seal<M, J>>(&mut hand.seat, self.layout.clock(), 1)
+            .fetch_add::<Seal<M, J>>(seat, self.layout.clock(), 1)
     }
 }

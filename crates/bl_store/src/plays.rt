@@ -1,8 +1,8 @@
 //! What each step on the table tells its seat.
-ghost use Rattle.bl_store.specs.Told.{allotted, clocked, copied, drew, ended, freed, horizoned, looked, noted, opened, passed, refused, released, reserved, returned, sealed, silent, stamped, swapped, took, tried, wrote};
+ghost use Rattle.bl_store.specs.Told.{allotted, clocked, copied, drew, ended, freed, horizoned, looked, met, noted, opened, passed, published, refused, released, reserved, returned, sealed, silent, stamped, swapped, took, tried, wrote};
 ghost use Rattle.std.specs.Prelude.{ℕ};
 
-use crate::rule::{PagePlay, SweepPlay, TimePlay};
+use crate::rule::{MeetPlay, PagePlay, SweepPlay, TimePlay};
 use crate::view::View;
 use atomic_table::Play;
 use std::marker::{Brand, PhantomData};
@@ -76,6 +76,12 @@ pub(crate) struct Silent;
 
 impl<D> Play<(), View<D>> for Silent {
     ghost then = { silent };
+}
+
+pub(crate) struct Publish;
+
+impl<D> Play<(), View<D>> for Publish {
+    ghost then = { published };
 }
 
 pub(crate) struct Horizon;
@@ -166,4 +172,12 @@ pub(crate) struct Free<M> {
 
 impl<D, M: SweepPlay<D>> Play<(), View<D>> for Free<M> {
     ghost then = { freed M.then };
+}
+
+pub(crate) struct Met<M> {
+    play: PhantomData<M>,
+}
+
+impl<D, M: MeetPlay<D>> Play<(), View<D>> for Met<M> {
+    ghost then = { met M.then };
 }

@@ -26,6 +26,12 @@ pub trait PagePlay<D> {
     ghost then: { D → ℕ → Owner → List ℕ → D → Type 0 };
 }
 
+/// What a hand learns of another that it meets.
+pub trait MeetPlay<D> {
+    // Of what the hand knew, what the other knows, and what the hand knows after.
+    ghost then: { D → D → D → Type 0 };
+}
+
 /// What the releases of a sweep tell its hand.
 pub trait SweepPlay<D> {
     // Of what the hand knew at the call, and what it knows after some of the releases.

@@ -4,6 +4,7 @@ ghost use Rattle.bl_layout.specs.Words.{frame_count, word_count};
 ghost use Rattle.bl_store.specs.Pages.{Owner, Begins, Ends, Gets};
 ghost use Rattle.bl_store.specs.Hands.{known, IsOf, IsIdle, IsRunning, IsSameHand, IsSameStage, IsSameStock};
 ghost use Rattle.bl_store.specs.declared.view.Reading.TheVariants.{At};
+ghost use Rattle.bl_store.specs.declared.view.Sealing.TheVariants.{Unsealed};
 
 use crate::plays::{Clock, Copy, Enter, Leave, Look};
 use crate::rule::{PagePlay, PageRule, TimePlay};
@@ -22,7 +23,7 @@ pub struct Hand<D> {
     pub(crate) frame: u32,
     // The owner word at which its next sweep begins, counted from page 0.
     pub(crate) owner: u32,
-    pub ghost own: { (number ≡ seat.me.0.number) × (number < seat.me.0.layout.passes) },
+    pub ghost own: { (number ≡ seat.me.0.number) × (number < seat.me.0.layout.passes) × (seat.me.0.sealing ≡ Unsealed) × (seat.me.1 ≡ []) },
 }
 
 /// Pages that threads share. D is what a hand knows, and R the user's rule.
@@ -34,6 +35,7 @@ pub struct Store<D, R: PageRule<D>, A: Allocator = Global> {
     pub(crate) least_free: AtomicU64,
     pub ghost key: { table.shared.key ≡ layout },
     pub ghost wide: { table.shared.table_id.words ≡ word_count layout },
+    pub ghost bare: { table.shared.table_id.slots ≡ 0 },
 }
 
 impl<D> Hand<D> {

@@ -39,6 +39,12 @@ pub enum Sealing {
     Sealed(u32, u64),
 }
 
+/// A hand outside a process that another seat has taken in, and what it knows.
+pub struct Joined<D> {
+    pub number: u32,
+    pub known: D,
+}
+
 /// A time, and how many process words show that their hands are idle or began no earlier.
 pub enum Sweep {
     Still,
@@ -46,6 +52,7 @@ pub enum Sweep {
 }
 
 /// What a seat at the table knows. The hand with this number deals out the numbers from the next one up to `upto`.
+/// A seat whose hand another seat has taken in has a number that no hand has.
 pub struct View<D> {
     pub layout: Layout,
     pub number: u32,
@@ -66,6 +73,8 @@ pub struct View<D> {
     /// The owner words that its last reservation found taken, and the clock's word where that was found at its end.
     pub seen: LinkedList<u64>,
     pub known: D,
+    /// The hands that it has taken in, the last one first.
+    pub joined: LinkedList<Joined<D>>,
 }
 
 /// The store's rule of the table, over the user's rule of the pages.

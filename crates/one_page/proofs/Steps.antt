@@ -6,14 +6,18 @@ use native.Mathlib.Decide.{ℕ_discrete}
 use lib.ListN.{get_elem?}
 use Rattle.atomic_table.proofs.Lists.{at_set, set_here, set_else, at_last, at_longer}
 use Rattle.bl_layout.specs.declared.layout.Layout.{Layout}
-use Rattle.bl_store.specs.Pages.{Owner, Released, Open, Held, Retired, Stage, Idle, Running, Pages, Stands, told, owned, written, Begins, Ends, Gets, Puts, Takes, Latches, Misses, Opens, Retires, Refuses, Sweeps}
+use Rattle.bl_store.specs.Pages.{Owner, Released, Open, Held, Retired, Stage, Idle, Running, Pages, Stands, told, owned, written, Begins, Ends, Gets, Puts, Takes, Latches, Misses, Opens, Retires, Refuses, Meets, Sweeps}
 use Rattle.bl_store.specs.Opening.{is_blank, first_owner, first_pages, IsDealt}
 use Rattle.one_page.specs.declared.Mine.{Mine}
-use Rattle.std.proofs.lemmas.List.{get_or-replicate, length-replicate}
+use Rattle.std.proofs.lemmas.List.{get_or-replicate, length-replicate, length-append}
+use Rattle.std.proofs.lemmas.List.Elements.{All-nil, All-cons}
+use Rattle.std.specs.List.{All}
+use Rattle.bl_store.specs.Closing.{left_of, HasEach, IsClosed}
+use Rattle.bl_store.specs.Hands.{IsSameHand}
 use Rattle.atomic_table.specs.Seated.{TableId}
 use Rattle.bl_store.specs.declared.store.Hand.{Hand}
 use Rattle.bl_store.specs.declared.view.View.{View}
-use Rattle.one_page.specs.Holding.{first_words, IsFresh, AllSame, holding, IsUsed, Fits, same_at_time, saw, took, tried, lost, lost_at_time, same_after}
+use Rattle.one_page.specs.Holding.{first_words, IsFresh, AllSame, holding, IsUsed, Fits, same_at_time, saw, took, tried, lost, lost_at_time, same_after, same_apart}
 
 module _ {A : Type 0} where
   at_below : (l : List A) (i : ℕ) (a : A) → get_elem? l i ≡ some a → i < length l
@@ -185,11 +189,11 @@ of_all (suc n) a zero b e = some-injective a b e
 of_all (suc n) a (suc k) b e = of_all n a k b e
 
 -- the rule at the start
-pub starts : (cs : List (List ℕ)) → ((k : ℕ) → k < length cs → get_elem? cs k ≡ some (first_words k)) → Fits (first_pages cs 2 (holding None))
-starts cs each = record {
+pub starts : (cs : List (List ℕ)) (passes : ℕ) → ((k : ℕ) → k < length cs → get_elem? cs k ≡ some (first_words k)) → Fits (first_pages cs passes (holding None))
+starts cs passes each = record {
   whole = λ x words e. subst AllSame (one_there cs x (first_words x) words (each x (at_below cs x words e)) e) (first_same x);
   fixed = λ x o low e. let t = unmap first_owner cs x o e in let is : first_words x ≡ t.0 = one_there cs x (first_words x) t.0 (each x (at_below cs x t.0 t.1)) t.1 in subst IsUsed (ap first_owner is ∙ t.2) (first_open x low);
-  held = λ n x st d at is. let same : holding None ≡ d = ap (λ (z : Stage × Mine). z.1) (of_all 2 (Idle, holding None) n (st, d) at) in let empty : None ≡ Some x = ap (λ (z : Mine). z.held) same ∙ is in cc;
+  held = λ n x st d at is. let same : holding None ≡ d = ap (λ (z : Stage × Mine). z.1) (of_all passes (Idle, holding None) n (st, d) at) in let empty : None ≡ Some x = ap (λ (z : Mine). z.held) same ∙ is in cc;
   known = λ n x st d at is. let t = unmap first_owner cs x (Held n) is in absurd (not_held (is_blank t.0) n t.2);
 }
 
@@ -200,17 +204,62 @@ listed cs n words size is each k low = dite (ℕ_discrete k n)
     (λ ne. at_longer cs (words ∷ []) k (first_words k) (each k (omega arith)))
 
 -- the hands that `new` gives have done nothing
-fresh : (t : TableId) (l : Layout) (hands : List (Hand Mine)) (hand : Hand Mine) → IsDealt t l (holding None) 2 hands → (n : ℕ) → get_elem? hands n ≡ some hand → IsFresh t l hand
-fresh t l hands hand dealt n at = let e = dealt.each n hand at in let view = e.2 in (
-  (e.1, ap (λ (v : View Mine). v.layout) view),
-  ap (λ (v : View Mine). v.stamp) view,
-  ap (λ (v : View Mine). v.stock) view,
-  ap (λ (v : View Mine). v.known) view,
+fresh : (t : TableId) (l : Layout) (passes : ℕ) (hands : List (Hand Mine)) (hand : Hand Mine) → IsDealt t l (holding None) passes hands → (n : ℕ) → get_elem? hands n ≡ some hand → IsFresh t l hand × (hand.number ≡ n)
+fresh t l passes hands hand dealt n at = let e = dealt.each n hand at in let view = e.2 in (
+  (
+    (e.1, ap (λ (v : View Mine). v.layout) view),
+    ap (λ (v : View Mine). v.stamp) view,
+    ap (λ (v : View Mine). v.stock) view,
+    ap (λ (v : View Mine). v.known) view,
+  ),
+  e.0,
 )
 
-pub last_fresh : (t : TableId) (l : Layout) (hands rest : List (Hand Mine)) (two : Hand Mine) → hands ≡ rest ++ two ∷ [] → IsDealt t l (holding None) 2 hands → IsFresh t l two
-last_fresh t l hands rest two is dealt = fresh t l hands two dealt (length rest) (ap (λ (z : List (Hand Mine)). get_elem? z (length rest)) is ∙ at_last rest two (length rest) refl)
+all_at : (P : Hand Mine → Type 0) (hands : List (Hand Mine)) → ((n : ℕ) (hand : Hand Mine) → get_elem? hands n ≡ some hand → P hand) → All P hands
+all_at P [] each = All-nil P
+all_at P (h ∷ hs) each = All-cons P h hs (each 0 h refl) (all_at P hs (λ n hand at. each (suc n) hand at))
 
-pub next_fresh : (t : TableId) (l : Layout) (hands more rest : List (Hand Mine)) (one two : Hand Mine) → hands ≡ more ++ two ∷ [] → more ≡ rest ++ one ∷ [] → IsDealt t l (holding None) 2 hands → IsFresh t l one
-next_fresh t l hands more rest one two is next dealt = fresh t l hands one dealt (length rest)
-    (ap (λ (z : List (Hand Mine)). get_elem? z (length rest)) is ∙ at_longer more (two ∷ []) (length rest) one (ap (λ (z : List (Hand Mine)). get_elem? z (length rest)) next ∙ at_last rest one (length rest) refl))
+pub all_fresh : (t : TableId) (l : Layout) (passes : ℕ) (hands : List (Hand Mine)) → IsDealt t l (holding None) passes hands → All (IsFresh t l) hands
+all_fresh t l passes hands dealt = all_at (IsFresh t l) hands (λ n hand at. (fresh t l passes hands hand dealt n at).0)
+
+pub last_fresh : (t : TableId) (l : Layout) (hands rest more : List (Hand Mine)) (one two : Hand Mine) → hands ≡ rest ++ two ∷ [] → rest ≡ more ++ one ∷ [] → IsDealt t l (holding None) 2 hands → IsFresh t l two × (two.number ≡ 1)
+last_fresh t l hands rest more one two is next dealt = let count = dealt.count in let a = ap length is in let b = length-append rest (two ∷ []) in let size : length rest ≡ 1 = omega arith in
+    fresh t l 2 hands two dealt 1 (ap (λ (z : List (Hand Mine)). get_elem? z 1) is ∙ at_last rest two 1 size)
+
+pub next_fresh : (t : TableId) (l : Layout) (hands rest more : List (Hand Mine)) (one two : Hand Mine) → hands ≡ rest ++ two ∷ [] → rest ≡ more ++ one ∷ [] → IsDealt t l (holding None) 2 hands → IsFresh t l one × (one.number ≡ 0)
+next_fresh t l hands rest more one two is next dealt = let count = dealt.count in let a = ap length is in let b = length-append rest (two ∷ []) in let c = ap length next in let d = length-append more (one ∷ []) in let size : length more ≡ 0 = omega arith in
+    fresh t l 2 hands one dealt 0 (ap (λ (z : List (Hand Mine)). get_elem? z 0) is ∙ at_longer rest (two ∷ []) 0 one (ap (λ (z : List (Hand Mine)). get_elem? z 0) next ∙ at_last more one 0 size))
+
+-- hands that meet
+pub meets : (l : Layout) (n : ℕ) (d : Mine) (m : ℕ) (e : Mine) → Meets Fits l n d m e same_apart
+meets l n d m e s st r o at other apart = (
+  d,
+  told_same s n st st d at r,
+  (refl, λ x has also. let mine = r.held n x st d at has in let theirs = r.held m x Idle e other also in let both : Held n ≡ Held m = one_there s.owners x (Held n) (Held m) mine theirs in let same : n ≡ m = cc in apart (sym same)),
+)
+
+-- the pages at the end
+pub whole_at_end : (l : Layout) (hands : List (Hand Mine)) (result : List (List ℕ)) → IsClosed Fits l hands result → (x : ℕ) (words : List ℕ) → get_elem? result x ≡ some words → AllSame words
+whole_at_end l hands result c x words at = let orderly = c.orderly in let a = orderly.contents in let b = orderly.owners in let size = c.count in let low = at_below result x words at in let page = there c.pages.contents x (omega arith) in let owner = there c.pages.owners x (omega arith) in
+    subst AllSame (one_there result x (left_of owner.0 page.0) words (c.words x page.0 owner.0 (page.1, owner.1)) at) (left_same owner.0 page.0 (c.kept.whole x page.0 page.1))
+  where
+    there : {A : Type 0} (xs : List A) (i : ℕ) → i < length xs → (a : A) × (get_elem? xs i ≡ some a)
+    there [] i h = absurd (omega arith)
+    there (y ∷ ys) zero h = (y, refl)
+    there (y ∷ ys) (suc i) h = there ys i (omega arith)
+
+    left_same : (owner : Owner) (words : List ℕ) → AllSame words → AllSame (left_of owner words)
+    left_same Released words same = same_words 32 0 (omega arith)
+    left_same Open words same = same
+    left_same (Held n) words same = same
+    left_same (Retired t) words same = same_words 32 0 (omega arith)
+
+-- two hands are all hands of a store of two passes
+pub both_there : (passes : ℕ) (hands : List (Hand Mine)) (one two : Hand Mine) → passes ≡ 2 → hands ≡ one ∷ two ∷ [] → one.number ≡ 0 → two.number ≡ 1 → HasEach passes hands
+both_there passes hands one two count is first second zero low = (0, one, ap (λ (z : List (Hand Mine)). get_elem? z 0) is, first)
+both_there passes hands one two count is first second (suc zero) low = (1, two, ap (λ (z : List (Hand Mine)). get_elem? z 1) is, second)
+both_there passes hands one two count is first second (suc (suc n)) low = absurd (omega arith)
+
+-- a hand keeps its number
+pub same_number : (h h' : Hand Mine) → IsSameHand h.seat h'.seat → h'.number ≡ h.number
+same_number h h' same = h'.own.0 ∙ (same.2 ∙ sym h.own.0)

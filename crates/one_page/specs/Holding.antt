@@ -31,6 +31,13 @@ pub record Fits (s : Pages Mine) : Type 0 where
 abbrev pub same_at_time : Mine → ℕ → Mine → Type 0
 same_at_time d time e = e ≡ d
 
+-- the two hold no page together
+abbrev pub IsApart : Mine → Mine → Type 0
+IsApart d e = (x : ℕ) → d.held ≡ Some x → e.held ≢ Some x
+
+abbrev pub same_apart : Mine → Mine → Mine → Type 0
+same_apart d e d' = (d' ≡ d) × IsApart d' e
+
 abbrev pub saw : Mine → ℕ → Owner → List ℕ → Mine → Type 0
 saw d x owner words e = (e ≡ d) × AllSame words
 

@@ -4,12 +4,16 @@
 //! It promises to its tests that a reader never sees a page of which one word is of another put.
 #![tactic(auto)]
 
-ghost use Rattle.std.specs.Prelude.{◌≡◌, ◌⊎◌, ◌+◌, ◌<◌, ◌≤◌, ℕ, true, false, Some, None, length, slice_index, IfOk, IfErr, IsTrue, ◌↔◌, replicate};
+ghost use Rattle.std.specs.Prelude.{◌≡◌, ◌+◌, ◌<◌, ◌≤◌, ℕ, true, false, List, [], All, Some, None, length, vec_capacity, IfOk, IfErr};
+ghost use mathlib.Core.Option.{some};
+ghost use lib.ListN.{get_elem?};
+ghost use Rattle.bl_store.specs.Opening.{IsDealt};
+ghost use Rattle.bl_store.specs.Closing.{HasEach};
 ghost use Rattle.bl_store.specs.Hands.{known, IsOf, IsIdle, IsRunning, IsSameHand, IsSameStage, IsSameStock, HasNoStock, IsStockOf, MayRetire};
 ghost use Rattle.bl_store.specs.Pages.{Pages};
-ghost use Rattle.one_page.specs.Holding.{AllSame, Fits, IsFresh, holding, same_at_time, saw, took, tried, lost, lost_at_time, same_after};
+ghost use Rattle.one_page.specs.Holding.{AllSame, Fits, IsApart, IsFresh, holding, same_apart, same_at_time, saw, took, tried, lost, lost_at_time, same_after};
 
-use bl_store::{Hand, NoRoom, PagePlay, PageRule, Stock, Store, SweepPlay, TimePlay};
+use bl_store::{Hand, MeetPlay, NoRoom, PagePlay, PageRule, Stock, Store, SweepPlay, TimePlay};
 use std::alloc::{AllocError, Global};
 
 #[cfg(test)]
@@ -44,6 +48,12 @@ impl SweepPlay<Mine> for Still {
     ghost then = { same_after };
 }
 
+struct Apart;
+
+impl MeetPlay<Mine> for Apart {
+    ghost then = { same_apart };
+}
+
 struct Gone;
 
 impl TimePlay<Mine> for Gone {
@@ -72,18 +82,34 @@ impl PagePlay<Mine> for Tried {
     ghost then = { tried };
 }
 
-/// A store of so many pages for two passes, and its two hands. All words of pages 0 and 1 are 1, the others are released.
-pub fn two_hands(alloc: Global, pages: u32) -> Result<(Held, Hand<Mine>, Hand<Mine>), AllocError>
-    requires { (4 ≤ pages) × (pages ≤ 65536) }
-    ensures pages { IfOk result (λ t. t.0.layout.pages ≡ pages) }
-    ensures first { IfOk result (λ t. IsFresh t.0.table.shared.table_id t.0.layout t.1) }
-    ensures second { IfOk result (λ t. IsFresh t.0.table.shared.table_id t.0.layout t.2) }
+/// A store of so many pages for so many passes, and its hands. All words of pages 0 and 1 are 1, the others are released.
+pub fn hands(
+    alloc: Global,
+    pages: u32,
+    passes: u32,
+) -> Result<(Held, Vec<Hand<Mine>>), AllocError>
+    requires pages { (4 ≤ pages) × (pages ≤ 65536) }
+    requires passes { (1 ≤ passes) × (passes ≤ 64) }
+    ensures sizes { IfOk result (λ t. (t.0.layout.pages ≡ pages) × (t.0.layout.passes ≡ passes)) }
+    ensures dealt { IfOk result (λ t. IsDealt t.0.table.shared.table_id t.0.layout (holding None) passes t.1.items) }
+    ensures fresh { IfOk result (λ t. All (IsFresh t.0.table.shared.table_id t.0.layout) t.1.items) }
 {
     let mut first = Vec::with_capacity(alloc, pages as usize)?;
     for page in 0..pages {
         first.push(if page < 2 { [1u64; 32] } else { [0u64; 32] })?;
     }
-    let (store, mut hands) = Store::new(alloc, first.as_slice(), 2)?;
+    let (store, hands) = Store::new(alloc, first.as_slice(), passes)?;
+    Ok((store, hands))
+}
+
+/// The same for two passes.
+pub fn two_hands(alloc: Global, pages: u32) -> Result<(Held, Hand<Mine>, Hand<Mine>), AllocError>
+    requires { (4 ≤ pages) × (pages ≤ 65536) }
+    ensures sizes { IfOk result (λ t. (t.0.layout.pages ≡ pages) × (t.0.layout.passes ≡ 2)) }
+    ensures first { IfOk result (λ t. IsFresh t.0.table.shared.table_id t.0.layout t.1 × (t.1.number ≡ 0)) }
+    ensures second { IfOk result (λ t. IsFresh t.0.table.shared.table_id t.0.layout t.2 × (t.2.number ≡ 1)) }
+{
+    let (store, mut hands) = hands(alloc, pages, 2)?;
     let Some(two) = hands.pop() else {
         unreachable!()
     };
@@ -91,6 +117,28 @@ pub fn two_hands(alloc: Global, pages: u32) -> Result<(Held, Hand<Mine>, Hand<Mi
         unreachable!()
     };
     Ok((store, one, two))
+}
+
+/// The words of all pages at the end, of each page all of one put.
+pub fn shut(store: Held, hands: Vec<Hand<Mine>>, room: Vec<[u64; 32]>) -> Vec<[u64; 32]>
+    requires own { (k : ℕ) (hand : Hand Mine) → get_elem? hands.items k ≡ some hand → IsOf store.table.shared.table_id store.layout hand.seat × IsIdle hand.seat }
+    requires all { HasEach store.layout.passes hands.items }
+    requires room { (room.items ≡ []) × (store.layout.pages ≤ vec_capacity room) }
+    ensures count { length result.items ≡ store.layout.pages }
+    ensures whole { (x : ℕ) (words : List ℕ) → get_elem? result.items x ≡ some words → AllSame words }
+{
+    store.close(hands, room)
+}
+
+/// A hand meets another: they hold no page together.
+pub fn meet(store: &Held, hand: &mut Hand<Mine>, other: &mut Hand<Mine>)
+    requires own { IsOf store.now.table.shared.table_id store.now.layout hand.old.seat × IsOf store.now.table.shared.table_id store.now.layout other.old.seat }
+    requires idle { IsIdle other.old.seat × HasNoStock other.old.seat }
+    ensures same { IsSameHand hand.old.seat hand.new.seat × IsSameStage hand.old.seat hand.new.seat × IsSameStock hand.old.seat hand.new.seat × (known hand.new.seat ≡ known hand.old.seat) }
+    ensures other { IsSameHand other.old.seat other.new.seat × IsIdle other.new.seat × HasNoStock other.new.seat × (known other.new.seat ≡ known other.old.seat) }
+    ensures apart { IsApart (known hand.new.seat) (known other.new.seat) }
+{
+    store.meet::<Apart>(hand, other);
 }
 
 /// Begins a process.

@@ -1,7 +1,8 @@
 ghost use Rattle.one_page.specs.Holding.{IsFresh};
 
 use crate::{
-    begin, change, end, fill, latch, look, open, read_once, reserve, retire, sweep, two_hands,
+    begin, change, end, fill, latch, look, meet, open, read_once, reserve, retire, shut, sweep,
+    two_hands,
 };
 use bl_store::NoRoom;
 use std::test::Fail;
@@ -79,6 +80,41 @@ fn begun_hands_hold_back_what_is_retired_later(rt: HostRuntime) -> Result<(), Fa
     end(&store, &mut one);
     let after = sweep(&store, &mut two);
     assert!(rt; after == 30);
+    Ok(())
+}
+
+// What is retired before a hand begins it does not hold back.
+#[test]
+fn begun_hands_hold_back_nothing_older(rt: HostRuntime) -> Result<(), Fail> {
+    let (store, mut one, mut two) = two_hands(rt.alloc(), 8)?;
+    change(&store, &mut two, 1, 2);
+    change(&store, &mut two, 1, 3);
+    begin(&store, &mut one);
+    change(&store, &mut two, 1, 4);
+    change(&store, &mut two, 1, 5);
+    change(&store, &mut two, 1, 6);
+    let older = sweep(&store, &mut two);
+    let held_back = sweep(&store, &mut two);
+    end(&store, &mut one);
+    let later = sweep(&store, &mut two);
+    assert!(rt; older == 2 && held_back == 0 && later == 3);
+    Ok(())
+}
+
+// Hands meet, and the store gives back what was put last, and zeros for a page that nobody has.
+#[test]
+fn stores_give_back_their_pages(rt: HostRuntime) -> Result<(), Fail> {
+    let (store, mut one, mut two) = two_hands(rt.alloc(), 4)?;
+    let changed = change(&store, &mut one, 1, 7);
+    assert!(rt; changed);
+    meet(&store, &mut one, &mut two);
+    let mut hands = Vec::new(rt.alloc());
+    hands.push(one)?;
+    hands.push(two)?;
+    let room = Vec::with_capacity(rt.alloc(), 4)?;
+    let pages = shut(store, hands, room);
+    assert!(rt; pages[0] == [1; 32] && pages[1] == [7; 32]);
+    assert!(rt; pages[2] == [0; 32] && pages[3] == [0; 32]);
     Ok(())
 }
 

@@ -12,7 +12,7 @@ split_seat-rest-requires g c = let st = c.args.self.now in let wide = st.wide in
   search rules,
   omega arith,
   subst (λ (z : Layout × View g.row.D.Denot). Splits (Kept {S = Unit {0}} z.0 g.R.PageRule.first g.R.PageRule.holds) c.loop-number.seat.id z.1 (own_share z.1) (next_share z.1)) (λ i. (sym st.key i, sym view i))
-      (deals st.layout g.R.PageRule.first g.R.PageRule.holds c.loop-number.seat.id (c.loop-number.number - 1) st.layout.passes (omega arith)),
+      (deals st.layout g.R.PageRule.first g.R.PageRule.holds c.loop-number.seat.id (c.loop-number.number - 1) st.layout.passes (omega arith) (omega arith)),
 )
 
 pub loop-number-preserved : goal.loop-number-preserved

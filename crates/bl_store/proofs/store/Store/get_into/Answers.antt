@@ -6,6 +6,7 @@ use Rattle.bl_store.specs.Pages.{Gets}
 use Rattle.bl_store.specs.declared.view.View.{View}
 use Rattle.bl_store.specs.declared.view.Reading.TheVariants.{At}
 use Rattle.bl_store.proofs.Time.{looks}
+use Rattle.bl_store.proofs.Living.{live_hand}
 use Rattle.bl_store.proofs.store.Store.get_into.Goals as goal
 
 pub load-found-requires : goal.load-found-requires
@@ -13,7 +14,7 @@ load-found-requires g c = let st = c.args.self.now in let wide = st.wide in let 
   search rules,
   omega arith,
   looks _ _ _ g.M.PagePlay.then _ _ _ _ c.args.page _ (omega arith) (omega arith) (c.requires.own.1 ∙ sym st.key) c.requires.running.1
-      (subst (λ (z : Layout × ℕ). Gets g.R.PageRule.holds z.0 z.1 c.args.hand.now.seat.me.0.known c.args.page g.M.PagePlay.then) (λ i. (sym st.key i, own.0 i)) c.requires.rule),
+      (subst (λ (z : Layout × ℕ). Gets g.R.PageRule.holds z.0 z.1 c.args.hand.now.seat.me.0.known c.args.page g.M.PagePlay.then) (λ i. (sym st.key i, own.0 i)) c.requires.rule) (live_hand c.args.hand.now),
 )
 
 pub overflow_cast-found : goal.overflow_cast-found

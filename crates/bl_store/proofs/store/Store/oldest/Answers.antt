@@ -2,14 +2,15 @@ use Rattle.std.proofs.Common.{rules, arith, ◌≡◌, ℕ, ◌+◌, ap, sym, �
 use Rattle.bl_store.specs.Told.{lower}
 use Rattle.bl_store.specs.declared.view.Sweep.TheVariants.{Over}
 use Rattle.bl_store.proofs.Sweeping.{horizons, passes, lower_none, lower_some}
+use Rattle.bl_store.proofs.Living.{live_hand}
 use Rattle.bl_store.proofs.store.Store.oldest.Goals as goal
 use Rattle.bl_store.proofs.store.Store.oldest.Goals.{then-stamp-ne0, else-stamp-ne0}
 
 pub load-oldest-requires : goal.load-oldest-requires
-load-oldest-requires g c = let wide = c.args.self.now.wide in (search rules, omega arith, horizons _ _ _ _ _ _ _ (search rules))
+load-oldest-requires g c = let wide = c.args.self.now.wide in (search rules, omega arith, horizons _ _ _ _ _ _ _ (search rules) (live_hand c.args.hand.now))
 
 pub load-stamp-requires : goal.load-stamp-requires
-load-stamp-requires g c = let st = c.args.self.now in let wide = st.wide in (search rules, omega arith, passes _ _ _ _ _ _ _ c.loop-pass.pass _ (search rules) c.loop-pass.invariant.swept)
+load-stamp-requires g c = let st = c.args.self.now in let wide = st.wide in (search rules, omega arith, passes _ _ _ _ _ _ _ c.loop-pass.pass _ (search rules) c.loop-pass.invariant.swept (live_hand c.loop-pass.hand))
 
 pub loop-pass-preserved : goal.loop-pass-preserved
 loop-pass-preserved g c = let e = c.load-stamp.ensures.2.2 c.loop-pass.oldest c.loop-pass.pass c.loop-pass.invariant.swept (search rules) in

@@ -2,6 +2,7 @@ use Rattle.std.proofs.Common.{rules, arith, ℕ, ap, sym, subst, ◌∙◌}
 use Rattle.bl_layout.specs.declared.layout.Layout.{Layout}
 use Rattle.bl_store.specs.Pages.{Held, Opens}
 use Rattle.bl_store.proofs.Owning.{opens}
+use Rattle.bl_store.proofs.Living.{live_hand}
 use Rattle.bl_store.proofs.store.Store.open.Goals as goal
 
 pub store-requires : goal.store-requires
@@ -9,7 +10,7 @@ store-requires g c = let st = c.args.self.now in let wide = st.wide in let own =
   search rules,
   omega arith,
   opens _ _ _ g.M.PagePlay.then _ _ _ c.args.page _ (omega arith) (omega arith) (c.requires.own.1 ∙ sym st.key)
-      (subst (λ (z : Layout × ℕ). Opens g.R.PageRule.holds z.0 z.1 c.args.hand.now.seat.me.0.known c.args.page g.M.PagePlay.then) (λ i. (sym st.key i, own.0 i)) c.requires.rule),
+      (subst (λ (z : Layout × ℕ). Opens g.R.PageRule.holds z.0 z.1 c.args.hand.now.seat.me.0.known c.args.page g.M.PagePlay.then) (λ i. (sym st.key i, own.0 i)) c.requires.rule) (live_hand c.args.hand.now),
 )
 
 pub returns-clause-told : goal.returns-clause-told

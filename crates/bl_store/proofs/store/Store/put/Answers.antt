@@ -5,6 +5,7 @@ use Rattle.bl_store.specs.Pages.{Held, Puts}
 use Rattle.bl_store.specs.Hands.{drafts}
 use Rattle.bl_store.proofs.Putting.{swaps}
 use Rattle.bl_store.proofs.StockLemmas.{drafts_pop}
+use Rattle.bl_store.proofs.Living.{live_hand}
 use Rattle.bl_store.proofs.store.Store.put.Goals as goal
 
 pub swap-before-requires : goal.swap-before-requires
@@ -15,7 +16,7 @@ swap-before-requires g c = let st = c.args.self.now in let wide = st.wide in let
       omega arith,
       swaps _ _ _ g.M.PagePlay.then _ _ _ _ c.args.page (get_or fs (n - 1) 0) _ c.args.words.now (drafts fs (n - 1)) (omega arith) (omega arith) (omega arith) (quiet.1 ∙ (c.requires.own.1 ∙ sym st.key))
           (c.write.ensures.stock (drafts fs (n - 1)) (c.requires.stock.0.frames ∙ drafts_pop fs n (omega arith))) size
-          (subst (λ (z : Layout × ℕ × g.row.D.Denot). Puts g.R.PageRule.holds z.0 z.1 z.2 c.args.page c.args.words.now g.M.PagePlay.then) (λ i. (sym st.key i, number i, sym quiet.4 i)) c.requires.rule),
+          (subst (λ (z : Layout × ℕ × g.row.D.Denot). Puts g.R.PageRule.holds z.0 z.1 z.2 c.args.page c.args.words.now g.M.PagePlay.then) (λ i. (sym st.key i, number i, sym quiet.4 i)) c.requires.rule) (live_hand c.write.new.hand),
     )
 
 pub overflow_cast-before : goal.overflow_cast-before

@@ -5,10 +5,11 @@ use Rattle.bl_store.specs.Pages.{Takes}
 use Rattle.bl_store.specs.Frames.{state_at}
 use Rattle.bl_store.proofs.Reserving.{allots}
 use Rattle.bl_store.proofs.StockLemmas.{has_same}
+use Rattle.bl_store.proofs.Living.{live_hand}
 use Rattle.bl_store.proofs.store.Store.reserve.Goals as goal
 
 pub load-clock-requires : goal.load-clock-requires
-load-clock-requires g c = let wide = c.args.self.now.wide in (search rules, omega arith, allots _ _ _ _ _ _ _ (search rules))
+load-clock-requires g c = let wide = c.args.self.now.wide in (search rules, omega arith, allots _ _ _ _ _ _ _ (search rules) (live_hand c.args.hand.now))
 
 pub returns-then-stock-frames-clause-why : goal.returns-then-stock-frames-clause-why
 returns-then-stock-frames-clause-why g c = let less = c.if-stock-frames.true in let seen = c.refuse-then-stock-frames.ensures.stock.1 ∙ c.give_back.ensures.same.1 in

@@ -6,15 +6,16 @@ use Rattle.bl_store.specs.Told.{draft}
 use Rattle.bl_store.specs.declared.view.Draft.{Draft}
 use Rattle.bl_store.proofs.Reserving.{notes, reserves}
 use Rattle.bl_store.proofs.StockLemmas.{drafts_push, among_push, among_new, within_push, has_same, has_more, has_new}
+use Rattle.bl_store.proofs.Living.{live_hand, live_on}
 use Rattle.bl_store.proofs.store.Store.try_frame.Goals as goal
 
 pub load-requires : goal.load-requires
-load-requires g c = let st = c.args.self.now in let wide = st.wide in (search rules, omega arith, notes _ _ _ _ _ _ _)
+load-requires g c = let st = c.args.self.now in let wide = st.wide in (search rules, omega arith, notes _ _ _ _ _ _ _ (live_hand c.args.hand.now))
 
 pub compare_exchange-found-requires : goal.compare_exchange-found-requires
 compare_exchange-found-requires g c = let st = c.args.self.now in let wide = st.wide in let own = c.args.hand.now.own in let e = c.load.ensures.2.0 in let number : c.args.hand.now.number ≡ c.load.new.seat.me.0.number = own.0 ∙ sym e.0.1 in
     let passes = ap (λ (z : Layout). z.passes) st.key in let pages = ap (λ (z : Layout). z.pages) st.key in
-    (search rules, omega arith, reserves _ _ _ _ _ _ _ c.args.frame _ (omega arith) (omega arith) (omega arith) (e.0.0 ∙ (c.requires.own.1 ∙ sym st.key)))
+    (search rules, omega arith, reserves _ _ _ _ _ _ _ c.args.frame _ (omega arith) (omega arith) (omega arith) (e.0.0 ∙ (c.requires.own.1 ∙ sym st.key)) (live_on c.args.hand.now c.load.new.seat.me e.0.0 e.0.1))
 
 pub returns-then-found-eq0-clause-stock : goal.returns-then-found-eq0-clause-stock
 returns-then-found-eq0-clause-stock g c = let e = c.load.ensures.2.0 in let f = c.compare_exchange-found.ensures.2 in let layout = e.0.0 ∙ c.requires.own.1 in let passes = ap (λ (z : Layout). z.passes) layout in let pages = ap (λ (z : Layout). z.pages) layout in

@@ -6,6 +6,7 @@ use Rattle.std.proofs.Common.{eq-eqb}
 use Rattle.std.proofs.lemmas.Bool.{eqb-true}
 use Rattle.bl_store.specs.Pages.{Latches, Misses}
 use Rattle.bl_store.proofs.Owning.{tries}
+use Rattle.bl_store.proofs.Living.{live_hand}
 use Rattle.bl_store.proofs.store.Store.try_latch.Goals as goal
 
 pub compare_exchange-requires : goal.compare_exchange-requires
@@ -14,7 +15,7 @@ compare_exchange-requires g c = let st = c.args.self.now in let wide = st.wide i
   omega arith,
   tries _ _ _ g.M.PagePlay.then _ _ _ _ c.args.page _ (omega arith) (omega arith) (omega arith) (c.requires.own.1 ∙ sym st.key)
       (subst (λ (z : Layout × ℕ). Latches g.R.PageRule.holds z.0 z.1 c.args.hand.now.seat.me.0.known c.args.page g.M.PagePlay.then) (λ i. (sym st.key i, own.0 i)) c.requires.latches)
-      (subst (λ (z : Layout × ℕ). Misses g.R.PageRule.holds z.0 z.1 c.args.hand.now.seat.me.0.known c.args.page g.M.PagePlay.then) (λ i. (sym st.key i, own.0 i)) c.requires.misses),
+      (subst (λ (z : Layout × ℕ). Misses g.R.PageRule.holds z.0 z.1 c.args.hand.now.seat.me.0.known c.args.page g.M.PagePlay.then) (λ i. (sym st.key i, own.0 i)) c.requires.misses) (live_hand c.args.hand.now),
 )
 
 pub returns-clause-told : goal.returns-clause-told

@@ -5,10 +5,11 @@ use Rattle.bl_store.specs.Pages.{Released, Takes}
 use Rattle.bl_store.proofs.Reserving.{notes}
 use Rattle.bl_store.proofs.Owning.{takes}
 use Rattle.bl_store.proofs.StockLemmas.{has_same, has_more, has_new}
+use Rattle.bl_store.proofs.Living.{live_hand, live_on}
 use Rattle.bl_store.proofs.store.Store.try_page.Goals as goal
 
 pub load-requires : goal.load-requires
-load-requires g c = let st = c.args.self.now in let wide = st.wide in (search rules, omega arith, notes _ _ _ _ _ _ _)
+load-requires g c = let st = c.args.self.now in let wide = st.wide in (search rules, omega arith, notes _ _ _ _ _ _ _ (live_hand c.args.hand.now))
 
 pub compare_exchange-requires : goal.compare_exchange-requires
 compare_exchange-requires g c = let st = c.args.self.now in let wide = st.wide in let own = c.args.hand.now.own in let e = c.load.ensures.2.0 in let number : c.args.hand.now.number ≡ c.load.new.seat.me.0.number = own.0 ∙ sym e.0.1 in
@@ -16,7 +17,7 @@ compare_exchange-requires g c = let st = c.args.self.now in let wide = st.wide i
       search rules,
       omega arith,
       takes _ _ _ g.T.PagePlay.then _ _ _ _ c.args.page _ (omega arith) (omega arith) (omega arith) (e.0.0 ∙ (c.requires.own.1 ∙ sym st.key))
-          (subst (λ (z : Layout × ℕ × g.row.D.Denot). Takes g.R.PageRule.holds z.0 z.1 z.2 c.args.page g.T.PagePlay.then) (λ i. (sym st.key i, number i, sym e.3 i)) c.requires.takes),
+          (subst (λ (z : Layout × ℕ × g.row.D.Denot). Takes g.R.PageRule.holds z.0 z.1 z.2 c.args.page g.T.PagePlay.then) (λ i. (sym st.key i, number i, sym e.3 i)) c.requires.takes) (live_on c.args.hand.now c.load.new.seat.me e.0.0 e.0.1),
     )
 
 pub returns-clause-taken : goal.returns-clause-taken

@@ -1,0 +1,6 @@
+use crate::tied;
+
+#[test]
+fn ties(_rt: HostRuntime) {
+    tied::<u64>();
+}
