@@ -5,3 +5,4 @@ mod Lookups
 mod Places
 pub mod Parts
 pub mod Steps
+mod Written
