@@ -19,6 +19,26 @@ pub fn words_in(bytes: &[u8]) -> [u64; 32]
     words
 }
 
+/// The words of a page, zeros where it is not in use.
+pub fn words_of(page: &Option<Page>) -> [u64; 32]
+    ensures { result ≡ page_words page.now }
+{
+    match page {
+        Some(page) => page.to_words(),
+        None => [0; 32],
+    }
+}
+
+/// The bytes that spell words.
+pub fn bytes_of(words: &[u64; 32]) -> [u8; 256]
+    ensures bytes { result ≡ word_bytes words.now }
+    ensures fits { Fits64 words.now }
+{
+    let mut bytes = [0; 256];
+    LittleEndian::write_u64_into(words, &mut bytes);
+    bytes
+}
+
 fn is_zero(words: &[u64; 32]) -> bool
     ensures { IsTrue result ↔ (words.now ≡ replicate 32 0) }
 {

@@ -6,3 +6,4 @@ mod Places
 pub mod Parts
 pub mod Steps
 mod Written
+pub mod Beginnings
