@@ -10,7 +10,7 @@ use Rattle.bl_check.specs.Rules.{HasNext, LinkFits, Reaches, OnChain, Rule, Keep
 use Rattle.bl_check.specs.Rules.Reaches.{Here, Next}
 use Rattle.bl_check.specs.Walks.{FitsAt, IsMarked, MetBelow, Stops, LeastWrong, MarksChains, IsLesser}
 
-abbrev low_of : Option Span → ℕ
+abbrev pub low_of : Option Span → ℕ
 low_of None = 0
 low_of (Some s) = s.low
 

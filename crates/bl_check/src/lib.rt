@@ -13,12 +13,14 @@ mod children;
 mod counts;
 mod dead;
 mod fault;
+mod laws;
 mod quiet;
 mod report;
 mod span;
 
 pub use checker::{check, sound};
 pub use fault::Fault;
+pub use laws::chains_end;
 pub use quiet::Quiet;
 pub use report::Report;
 

@@ -6,6 +6,8 @@ ghost use Rattle.bl_check.specs.Rules.{AreSound};
 use bl_image::Image;
 
 /// A sound image: no page breaks a rule.
+///
+/// Only the checker makes one.
 #[derive(Drop)]
 pub struct Quiet {
     image: Image,
@@ -23,7 +25,8 @@ impl Quiet {
 
     /// The image.
     pub fn image(&self) -> &Image
-        ensures { result.now ≡ self.now.image }
+        ensures same { result.now ≡ self.now.image }
+        ensures sound { AreSound result.now.pages.items }
     {
         &self.image
     }
