@@ -1,11 +1,11 @@
 -- Pages on chains, and their marks.
-use Rattle.std.proofs.Common.{◌≡◌, ◌≢◌, ℕ, ◌+◌, ◌<◌, ◌≤◌, ◌^◌, ◌⊎◌, List, length, get_or, set, Bool, true, false, Option, Some, None, refl, ap, sym, subst, ◌∙◌, inl, inr, arith, get_or-set_same, get_or-set_other}
-use Rattle.std.specs.Prelude.{IsSome, IsTrue, IfSome, IsSomeAnd, is_some, min}
+use Rattle.std.proofs.Common.{◌≡◌, ℕ, ◌+◌, ◌<◌, ◌⊎◌, List, length, get_or, set, Bool, true, false, Option, Some, None, refl, ap, sym, subst, ◌∙◌, inl, inr, arith, get_or-set_same, get_or-set_other}
+use Rattle.std.specs.Prelude.{IsSome, IfSome, IsSomeAnd, is_some, min}
 use Rattle.std.proofs.lemmas.List.{get_or_past, get_or_default}
 use Rattle.std.proofs.lemmas.Bool.{cases_lt, cases_eq}
 use Rattle.bl_page.specs.declared.page.Page.{Page}
 use Rattle.bl_check.specs.declared.span.Span.{Span}
-use Rattle.bl_check.specs.Spans.{page_at, span_of, span_at, StandsAt, levels, leftmost}
+use Rattle.bl_check.specs.Spans.{span_of, span_at, StandsAt, levels, leftmost}
 use Rattle.bl_check.specs.Rules.{HasNext, LinkFits, Reaches, OnChain, Rule, Keeps, AllKeep, IsFirst}
 use Rattle.bl_check.specs.Rules.Reaches.{Here, Next}
 use Rattle.bl_check.specs.Walks.{FitsAt, IsMarked, MetBelow, Stops, LeastWrong, MarksChains, IsLesser}
@@ -118,11 +118,14 @@ stops_right pages marks first x s at end rest y r = elim (fits_end pages marks f
 
 pub stops_wrong : (pages : List (Option Page)) (marks : List Bool) (first x : ℕ) (s : Span) → span_at pages x ≡ Some s → ¬ LinkFits pages s → Reaches pages first x
     → Rest pages marks first x → Stops (Some x) pages first
-stops_wrong pages marks first x s at wrong reached rest = (reached, wrong_here pages x s at wrong,
+stops_wrong pages marks first x s at wrong reached rest = (
+  reached,
+  wrong_here pages x s at wrong,
   λ y r other. elim (fits_end pages marks first x s at (λ next. wrong (next_fits pages s next)) rest y r) [
     | inl same ↦ absurd (other same)
     | inr fits ↦ fits
-  ])
+  ],
+)
 
 pub only_met : (pages : List (Option Page)) (before marks : List Bool) (first x : ℕ) → Reaches pages first x → ((y : ℕ) → IsMarked marks y → IsMarked before y ⊎ Reaches pages first y)
     → (y : ℕ) → IsMarked (set marks x true) y → IsMarked before y ⊎ Reaches pages first y
@@ -170,9 +173,9 @@ least_step pages levels first (Some a) None least is h k lesser = subst (λ o. L
     (met_more pages levels a h.0, h.1, λ y lt met. elim (met_cases pages levels first y is met) [ inl on ↦ h.2 y lt on | inr r ↦ k y r ])
 least_step pages levels first (Some a) (Some b) least is h k lesser = subst (λ o. LeastWrong o pages (levels + 1)) (sym lesser) (elim (cases_lt b a) [
   | inl lt ↦ subst (λ o. LeastWrong (Some o) pages (levels + 1)) (let e : b ≡ min a b = omega arith in e)
-    (met_here pages levels first b is k.0, k.1, λ y below met. elim (met_cases pages levels first y is met) [ inl on ↦ h.2 y (omega arith) on | inr r ↦ k.2 y r (omega arith) ])
+      (met_here pages levels first b is k.0, k.1, λ y below met. elim (met_cases pages levels first y is met) [ inl on ↦ h.2 y (omega arith) on | inr r ↦ k.2 y r (omega arith) ])
   | inr le ↦ subst (λ o. LeastWrong (Some o) pages (levels + 1)) (let e : a ≡ min a b = omega arith in e)
-    (met_more pages levels a h.0, h.1, λ y below met. elim (met_cases pages levels first y is met) [ inl on ↦ h.2 y below on | inr r ↦ k.2 y r (omega arith) ])
+      (met_more pages levels a h.0, h.1, λ y below met. elim (met_cases pages levels first y is met) [ inl on ↦ h.2 y below on | inr r ↦ k.2 y r (omega arith) ])
 ])
 
 -- all pages of a chain are of its level

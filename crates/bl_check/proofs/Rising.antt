@@ -1,5 +1,5 @@
 -- Each low of a chain is greater than the one before, so a chain does not come round, and what it reaches can be decided.
-use Rattle.std.proofs.Common.{◌≡◌, ◌≢◌, ℕ, zero, suc, ◌+◌, ◌-◌, ◌<◌, ◌≤◌, ◌⊎◌, List, [], ◌∷◌, length, Option, Some, None, refl, sym, subst, ap, ◌∙◌, inl, inr, arith}
+use Rattle.std.proofs.Common.{◌≡◌, ◌≢◌, ℕ, zero, suc, ◌+◌, ◌-◌, ◌<◌, ◌≤◌, ◌⊎◌, List, [], ◌∷◌, Option, Some, None, refl, sym, subst, ap, ◌∙◌, inl, inr, arith}
 use Rattle.std.proofs.Math.Logic.{∥∥₁_elim, ∥∥₁_map}
 use Rattle.std.specs.List.{AllByRecursion}
 use Rattle.std.proofs.Props.{props}
@@ -10,8 +10,8 @@ use Rattle.bl_page.specs.declared.page.Page.{Page}
 use Rattle.bl_page.specs.declared.page.Page.TheVariants.{Anchor, Leaf, Inner, Dead}
 use Rattle.bl_page.specs.Pairs.{end_of}
 use Rattle.bl_check.specs.declared.span.Span.{Span}
-use Rattle.bl_check.specs.Spans.{page_at, span_of, span_at, StandsAt, levels, leftmost}
-use Rattle.bl_check.specs.Rules.{HasNext, LinkFits, Reaches, OnChain, ChildrenFit, Rule, Keeps, AreSound, NeverRound}
+use Rattle.bl_check.specs.Spans.{page_at, span_of, span_at, StandsAt, leftmost}
+use Rattle.bl_check.specs.Rules.{HasNext, LinkFits, Reaches, OnChain, ChildrenFit, AreSound, NeverRound}
 use Rattle.bl_check.specs.Rules.Rule.{OneAnchor, Leftmost, Links, Chains, Children, NoneDead}
 use Rattle.bl_check.specs.Rules.Reaches.{Here, Next}
 use Rattle.bl_check.proofs.Reaching.{low_of, low_at, reach_cases}

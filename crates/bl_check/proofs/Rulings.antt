@@ -2,14 +2,14 @@
 use Rattle.std.proofs.Common.{◌≡◌, ℕ, ◌<◌, List, length, Option, Some, None, Result, Ok, Err, refl, sym, ap, subst, ◌∙◌, arith}
 use Rattle.std.specs.Prelude.{IfErr, MatchResult}
 use Rattle.bl_page.specs.declared.page.Page.{Page}
-use Rattle.bl_image.specs.Images.{IsImage, IsFault as IsImageFault}
+use Rattle.bl_image.specs.Images.{IsImage}
 use Rattle.bl_image.specs.declared.fault.ImageFault.TheVariants as image
 use Rattle.bl_image.proofs.Chunks.{image_same, read_fault}
 use Rattle.bl_check.specs.declared.fault.Fault.{Fault}
 use Rattle.bl_check.specs.declared.fault.Fault.TheVariants as fault
 use Rattle.bl_check.specs.Rules.{Rule, number_of, Keeps, AllKeep, AreSound, IsFirst}
 use Rattle.bl_check.specs.Rules.Rule.{OneAnchor, Leftmost, Links, Chains, Children, NoneDead}
-use Rattle.bl_check.specs.Faults.{KeptBefore, IsBroken, IsPageFault, Breaks, IsFault, AreSoundImage}
+use Rattle.bl_check.specs.Faults.{KeptBefore, IsPageFault, Breaks, IsFault, AreSoundImage}
 use Rattle.bl_check.specs.Faults.Breaks.{Head, Words, Pages}
 
 pub kept : (rule : Rule) (pages : List (Option Page)) (found : Option ℕ) → IsFirst rule pages found → found ≡ None → AllKeep rule pages

@@ -8,5 +8,4 @@ ghost use Rattle.bl_check.specs.Rules.{NeverRound};
 /// nothing when it runs.
 pub fn chains_end()
     ensures { (pages : List (Option Page)) → NeverRound pages }
-{
-}
+{}

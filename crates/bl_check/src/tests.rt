@@ -171,7 +171,11 @@ fn each_damage_has_its_rule_and_page(rt: HostRuntime) {
         (&[(0, 0, 4294967297)], 2, 0),
         (&[(0, 0, 4294967297), (0, 5, 0)], 6, 3),
         // a dead page with a bound
-        (&[(5, 0, 17179869184), (5, 1, 9), (5, 2, 20), (5, 3, 1)], 2, 5),
+        (
+            &[(5, 0, 17179869184), (5, 1, 9), (5, 2, 20), (5, 3, 1)],
+            2,
+            5,
+        ),
         // no anchor, and a second anchor
         (&[(0, 0, 0), (0, 4, 0), (0, 5, 0)], 3, 0),
         (&[(4, 0, 4294967297), (4, 4, 1)], 3, 4),
@@ -212,10 +216,16 @@ fn the_least_rule_and_the_least_page_come_first(rt: HostRuntime) {
         (5, 0, 8589934592),
         (5, 1, 200),
     ];
-    assert_eq!(rt; checked(alloc, &stray), Err(Fault::Rule { rule: 6, page: 5 }));
+    assert_eq!(rt;
+        checked(alloc, &stray),
+        Err(Fault::Rule { rule: 6, page: 5 })
+    );
     // the links of both levels are wrong: that of page 2, and that of page 3
     let links = [(3, 3, 4), (2, 3, 4)];
-    assert_eq!(rt; checked(alloc, &links), Err(Fault::Rule { rule: 5, page: 2 }));
+    assert_eq!(rt;
+        checked(alloc, &links),
+        Err(Fault::Rule { rule: 5, page: 2 })
+    );
     // the version is another too
     let mut bytes = split();
     change(&mut bytes, &links);

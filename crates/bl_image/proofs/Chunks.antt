@@ -1,8 +1,7 @@
 -- The bytes of one page among those of an image.
-use Rattle.std.proofs.Common.{◌≡◌, ℕ, zero, suc, ◌+◌, ◌*◌, ◌-◌, ◌<◌, ◌≤◌, ◌^◌, List, [], ◌∷◌, ◌++◌, length, get_or, take, drop, Option, Some, None, refl, ap, sym, subst, ◌∙◌, length-append, append_assoc, arith}
+use Rattle.std.proofs.Common.{◌≡◌, ℕ, zero, suc, ◌+◌, ◌*◌, ◌-◌, ◌<◌, ◌≤◌, ◌^◌, List, [], ◌∷◌, ◌++◌, length, get_or, take, drop, Option, Some, None, refl, ap, sym, subst, ◌∙◌, length-append, arith}
 use Rattle.std.specs.Prelude.{flat_map, replicate}
 use Rattle.std.specs.List.{AllByRecursion}
-use Rattle.std.specs.Int.{w64, from_le_bytes, to_le_bytes}
 use Rattle.std.proofs.lemmas.Nat.{from_le_bytes-to_le_bytes_8}
 use Rattle.std.proofs.lemmas.List.{append-nil, take_at, drop_at, drop-drop, take_all, length-replicate, length-drop, take-append-drop}
 use Rattle.std.proofs.lemmas.List.Concat.{flat_map-append}
@@ -17,7 +16,6 @@ use Rattle.bl_page.proofs.Once.{once}
 use Rattle.bl_image.specs.Images.{word_bytes, page_words, page_bytes, image_bytes, head_bytes, Fits64, IsCount, IsHead, IsImage, IsFault, ArePage, chunk}
 use Rattle.bl_image.specs.declared.fault.ImageFault.{ImageFault}
 use Rattle.bl_image.specs.declared.fault.ImageFault.TheVariants as fault
-use Rattle.bl_image.proofs.Bytes.{again}
 
 no_kind : (p : Page) → words_of p ≡ replicate 32 0 → ⊥
 no_kind p e = let kind : kind_in (words_of p) ≡ 0 = ap kind_in e in no_number (kind_of p) (sym (fits p).is_of ∙ kind)

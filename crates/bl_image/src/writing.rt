@@ -15,10 +15,7 @@ use bl_page::Page;
 use std::io::Write;
 
 /// Writes the bytes of each page.
-fn write_pages<W: Write>(
-    writer: &mut Watched<W>,
-    pages: &[Option<Page>],
-) -> Result<(), Failed>
+fn write_pages<W: Write>(writer: &mut Watched<W>, pages: &[Option<Page>]) -> Result<(), Failed>
     ensures ok { OnOk result (Appends (W.contents writer.old.inner) (W.contents writer.new.inner) (flat_map page_bytes pages.now)) }
     ensures fit { OnOk result (AllByRecursion (λ page. Fits64 (page_words page)) pages.now) }
     ensures err { OnErr result (StartsOut (W.contents writer.old.inner) (W.contents writer.new.inner) (flat_map page_bytes pages.now)) }
@@ -31,10 +28,7 @@ fn write_pages<W: Write>(
 }
 
 /// Writes the head and the pages, and flushes the writer.
-fn write_image<W: Write>(
-    writer: &mut Watched<W>,
-    pages: &[Option<Page>],
-) -> Result<(), Failed>
+fn write_image<W: Write>(writer: &mut Watched<W>, pages: &[Option<Page>]) -> Result<(), Failed>
     requires { length pages.now ≤ 65536 }
     ensures ok { OnOk result (Appends (W.contents writer.old.inner) (W.contents writer.new.inner) (image_bytes pages.now)) }
     ensures fit { OnOk result (AllByRecursion (λ page. Fits64 (page_words page)) pages.now) }

@@ -1,4 +1,4 @@
-use Rattle.std.proofs.Common.{ℕ, ◌<◌, get_or}
+use Rattle.std.proofs.Common.{ℕ, ◌<◌}
 use Rattle.bl_check.specs.Spans.{StandsAt, leftmost}
 use Rattle.bl_check.proofs.anchor.wrong_leftmost.Given as goal
 

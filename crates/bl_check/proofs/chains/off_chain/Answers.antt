@@ -1,5 +1,4 @@
-use Rattle.std.proofs.Common.{◌≡◌, ℕ, sym, ◌∙◌, ap, get_or, ◌<◌, length, below_more, subst, Option, None, Some, arith}
-use Rattle.bl_check.specs.Spans.{span_at, span_of}
+use Rattle.std.proofs.Common.{sym, ◌∙◌, ◌<◌, length, below_more, arith}
 use Rattle.bl_check.proofs.Reaching.{on_its_chain, none_kept, span_here}
 use Rattle.bl_check.proofs.chains.off_chain.Goals as goal
 use Rattle.bl_check.proofs.chains.off_chain.Goals.{else-is_some-via-then-is_some+else-not-marks-x, else-is_some-via-else-is_some}

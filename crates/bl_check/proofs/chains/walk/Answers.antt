@@ -1,4 +1,4 @@
-use Rattle.std.proofs.Common.{ℕ, length, subst, sym, ◌<◌, inl, inr, arith}
+use Rattle.std.proofs.Common.{length, subst, sym, ◌<◌, inl, inr, arith}
 use Rattle.bl_check.specs.Spans.{StandsAt}
 use Rattle.bl_check.specs.Rules.Reaches.{Here}
 use Rattle.bl_check.proofs.Reaching.{live_below, reach_next, rest_next, met_end, next_fits, stops_right, stops_wrong, only_met, mark_more, stands_live}

@@ -1,4 +1,4 @@
-use Rattle.std.proofs.Common.{◌≡◌, ◌+◌, sym, subst, ap, get_or, ◌<◌, length, refl, arith}
+use Rattle.std.proofs.Common.{◌≡◌, sym, subst, ap, get_or, ◌<◌, length, refl}
 use Rattle.std.specs.Prelude.{IsSome}
 use Rattle.bl_check.specs.Spans.{span_at, levels, leftmost}
 use Rattle.bl_check.proofs.Reaching.{stands_live, marks_step, least_step}

@@ -1,6 +1,6 @@
 use Rattle.std.proofs.Common.{refl}
 use Rattle.std.proofs.lemmas.Result.{err_from_is_err_and}
-use Rattle.bl_check.specs.Rules.Rule.{OneAnchor, Leftmost, Links, Chains, Children, NoneDead}
+use Rattle.bl_check.specs.Rules.Rule.{OneAnchor, Leftmost, Links, Chains, Children}
 use Rattle.bl_check.proofs.Rulings.{kept, refused, at_fault, at_last, before_4, before_5, before_6, before_7, before_8}
 use Rattle.bl_check.proofs.checker.keep_rules.Goals as goal
 

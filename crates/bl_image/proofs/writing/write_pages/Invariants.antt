@@ -1,4 +1,4 @@
-use Rattle.std.specs.Prelude.{◌≡◌, flat_map, take}
+use Rattle.std.specs.Prelude.{flat_map, take}
 use Rattle.std.specs.List.{AllByRecursion}
 use Rattle.std.specs.Io.KnownBytes.{Appends}
 use Rattle.bl_image.specs.Images.{page_words, page_bytes, Fits64}
