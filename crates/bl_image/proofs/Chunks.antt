@@ -86,7 +86,7 @@ pub chunk_is : (x : ℕ) (pages : List (Option Page)) (bytes : List ℕ) → byt
 chunk_is x pages bytes is lt =
     ap (λ b. chunk b x) is ∙ ap (take 256) (sym (drop-drop (256 * x) 32 (image_bytes pages)) ∙ drop-pages x pages) ∙ first_page x pages lt
 
-fits_at : (x : ℕ) (pages : List (Option Page)) → AllByRecursion (λ page. Fits64 (page_words page)) pages → x < length pages → Fits64 (page_words (get_or pages x None))
+pub fits_at : (x : ℕ) (pages : List (Option Page)) → AllByRecursion (λ page. Fits64 (page_words page)) pages → x < length pages → Fits64 (page_words (get_or pages x None))
 fits_at x [] h lt = absurd (omega arith)
 fits_at zero (page ∷ pages) h lt = h.0
 fits_at (suc x) (page ∷ pages) h lt = fits_at x pages h.1 (omega arith)
