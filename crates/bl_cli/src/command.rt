@@ -1,5 +1,6 @@
 //! The command line.
 
+use crate::check::check_command;
 use clap::{Arg, Command, Error, value_parser};
 use std::alloc::Global;
 
@@ -15,10 +16,12 @@ pub struct ServeOptions {
 }
 
 /// What the command line asks for.
-#[derive(Clone, Copy, Debug, PartialEq, Eq)]
+#[derive(Debug, PartialEq, Eq, Drop)]
 pub enum Invocation {
     /// `blink serve`.
     Serve(ServeOptions),
+    /// `blink check` of this file.
+    Check(String),
     /// No command.
     Nothing,
 }
@@ -52,7 +55,8 @@ pub fn read_words(alloc: Global, words: &[String]) -> Result<Invocation, Error> 
     let blink = Command::new(alloc, "blink")
         .about("A concurrent ordered index from u64 keys to u64 values, proved")
         .subcommand_required(true)
-        .subcommand(serve)?;
+        .subcommand(serve)?
+        .subcommand(check_command(alloc)?)?;
     let matches = blink.try_get_matches_from(words)?;
     match matches.subcommand() {
         Some(("serve", found)) => Ok(Invocation::Serve(ServeOptions {
@@ -60,6 +64,10 @@ pub fn read_words(alloc: Global, words: &[String]) -> Result<Invocation, Error> 
             workers: found.get_one::<u32>("workers").unwrap_or(1),
             compressors: found.get_one::<u32>("compressors").unwrap_or(0),
         })),
+        Some(("check", found)) => match found.get_str("FILE") {
+            Some(file) => Ok(Invocation::Check(String::from_str(alloc, file)?)),
+            None => Ok(Invocation::Nothing),
+        },
         _ => Ok(Invocation::Nothing),
     }
 }

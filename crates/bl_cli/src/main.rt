@@ -4,6 +4,7 @@
 //! to this crate.
 #![tactic(auto)]
 
+mod check;
 mod command;
 mod fault;
 mod leaf;
@@ -12,11 +13,18 @@ mod serve;
 mod tests;
 
 use bl_model::Watched;
+use check::check_file;
 use command::Invocation;
 use fault::CommandFault;
 use serve::serve_leaf;
 use std::io;
 use std::process::ExitCode;
+
+/// Says why a command ended early. The exit status of that.
+fn end_early(rt: &HostRuntime, fault: CommandFault) -> anyhow::Result<ExitCode> {
+    eprintln!(rt; "{fault}")?;
+    Ok(ExitCode::from(fault.status()))
+}
 
 fn main(rt: HostRuntime) -> anyhow::Result<ExitCode> {
     let alloc = rt.alloc();
@@ -27,11 +35,15 @@ fn main(rt: HostRuntime) -> anyhow::Result<ExitCode> {
             let mut writer = Watched::new(io::writer(&rt));
             match serve_leaf(alloc, &mut reader, &mut writer) {
                 Ok(_totals) => Ok(ExitCode::SUCCESS),
-                Err(fault) => {
-                    let fault = CommandFault::from(fault);
-                    eprintln!(&rt; "{fault}")?;
-                    Ok(ExitCode::from(fault.status()))
-                }
+                Err(fault) => end_early(&rt, CommandFault::from(fault)),
+            }
+        }
+        Ok(Invocation::Check(file)) => {
+            let mut writer = Watched::new(io::writer(&rt));
+            match check_file(&rt, file.as_str(), &mut writer) {
+                Ok(true) => Ok(ExitCode::SUCCESS),
+                Ok(false) => Ok(ExitCode::from(1)),
+                Err(fault) => end_early(&rt, fault),
             }
         }
         Ok(Invocation::Nothing) => Ok(ExitCode::from(2)),
