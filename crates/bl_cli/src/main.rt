@@ -5,6 +5,8 @@
 #![tactic(auto)]
 
 mod check;
+#[cfg(test)]
+mod check_tests;
 mod command;
 mod fault;
 mod leaf;
