@@ -13,19 +13,49 @@ anchor = Some (Anchor (record { leftmost = record { items = 1 ∷ 3 ∷ [] }; so
 
 -- the keys below 9, and page 2 to its right
 abbrev left_leaf : Option Page
-left_leaf = Some (Leaf (record { low = 0; high = 9; right = 2; rows = record { items = (1, 10) ∷ [] };
-  bounds = omega arith; link = omega arith; few = omega arith; order = (omega arith, tt); cover = ((omega arith, omega arith), tt) }))
+left_leaf = Some (Leaf (record {
+  low = 0;
+  high = 9;
+  right = 2;
+  rows = record { items = (1, 10) ∷ [] };
+  bounds = omega arith;
+  link = omega arith;
+  few = omega arith;
+  order = (omega arith, tt);
+  cover = ((omega arith, omega arith), tt);
+}))
 
 -- the keys from 9 on
 abbrev right_leaf : Option Page
-right_leaf = Some (Leaf (record { low = 9; high = 0; right = 0; rows = record { items = (9, 90) ∷ [] };
-  bounds = omega arith; link = omega arith; few = omega arith; order = (omega arith, tt); cover = ((omega arith, omega arith), tt) }))
+right_leaf = Some (Leaf (record {
+  low = 9;
+  high = 0;
+  right = 0;
+  rows = record { items = (9, 90) ∷ [] };
+  bounds = omega arith;
+  link = omega arith;
+  few = omega arith;
+  order = (omega arith, tt);
+  cover = ((omega arith, omega arith), tt);
+}))
 
 abbrev parent : Option Page
-parent = Some (Inner (record { level = 1; low = 0; high = 0; right = 0; children = record { items = (0, 1) ∷ (9, 2) ∷ [] };
-  above_leaves = omega arith; below_limit = omega arith; bounds = omega arith; link = omega arith; few = omega arith;
-  order = (omega arith, (omega arith, tt)); cover = ((omega arith, omega arith), ((omega arith, omega arith), tt)); first = refl;
-  pages = ((omega arith, omega arith), ((omega arith, omega arith), tt)) }))
+parent = Some (Inner (record {
+  level = 1;
+  low = 0;
+  high = 0;
+  right = 0;
+  children = record { items = (0, 1) ∷ (9, 2) ∷ [] };
+  above_leaves = omega arith;
+  below_limit = omega arith;
+  bounds = omega arith;
+  link = omega arith;
+  few = omega arith;
+  order = (omega arith, (omega arith, tt));
+  cover = ((omega arith, omega arith), ((omega arith, omega arith), tt));
+  first = refl;
+  pages = ((omega arith, omega arith), ((omega arith, omega arith), tt));
+}))
 
 abbrev pages : List (Option Page)
 pages = anchor ∷ left_leaf ∷ right_leaf ∷ parent ∷ None ∷ []

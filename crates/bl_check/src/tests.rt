@@ -3,7 +3,7 @@
 ghost use Rattle.std.specs.Prelude.{◌<◌, ◌≤◌, length};
 
 use super::*;
-use bl_image::{Image, read};
+use bl_image::{Image, ImageFault, read};
 use byteorder::{ByteOrder, LittleEndian};
 use std::alloc::Global;
 use std::test::Fail;
@@ -283,6 +283,38 @@ fn an_image_that_is_not_sound_comes_back(rt: HostRuntime) -> Result<(), Fail> {
     assert_eq!(rt; fault, Fault::Rule { rule: 5, page: 1 });
     assert_eq!(rt; back.pages.len(), 8);
     Ok(())
+}
+
+/// Holds whichever allocation is refused: the answer is Memory, or that of ample memory.
+#[test]
+fn memory_or_the_answer(rt: HostRuntime) {
+    let alloc = rt.alloc();
+    let ample = Report {
+        rows: 15,
+        leaves: 2,
+        inners: 1,
+        levels: 2,
+        unposted: 0,
+        thin: 0,
+    };
+    let found = checked(alloc, &[]);
+    assert!(rt;
+        found == Ok(ample) || found == Err(Fault::Memory),
+        "{found:?}"
+    );
+    let found = checked(alloc, &[(4, 0, 8589934592), (4, 1, 100)]);
+    let stray = Err(Fault::Rule { rule: 6, page: 4 });
+    assert!(rt; found == stray || found == Err(Fault::Memory), "{found:?}");
+    match read(alloc, &split()) {
+        Ok(image) => match sound(alloc, image) {
+            Ok(quiet) => assert_eq!(rt; quiet.image().pages.len(), 8),
+            Err((back, fault)) => {
+                assert_eq!(rt; fault, Fault::Memory);
+                assert_eq!(rt; back.pages.len(), 8);
+            }
+        },
+        Err(fault) => assert_eq!(rt; fault, ImageFault::Memory),
+    }
 }
 
 #[test]

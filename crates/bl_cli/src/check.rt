@@ -23,16 +23,15 @@ pub fn check_command<'a>(alloc: Global) -> Result<Command<'a>, Error> {
         .required(true)
         .action(ArgAction::Set)
         .help("The image to check");
-    Ok(Command::new(alloc, "check")
-        .about("Checks whether an image is a sound tree")
-        .arg(file)?)
+    Ok(
+        Command::new(alloc, "check")
+            .about("Checks whether an image is a sound tree")
+            .arg(file)?,
+    )
 }
 
 /// All bytes of a reader.
-fn read_whole<R: Read>(
-    alloc: Global,
-    reader: &mut Watched<R>,
-) -> Result<Vec<u8>, CommandFault>
+fn read_whole<R: Read>(alloc: Global, reader: &mut Watched<R>) -> Result<Vec<u8>, CommandFault>
     ensures { IfOk result (λ bytes. Consumes (R.remaining reader.old.inner) (R.remaining reader.new.inner) bytes.items × IsAtEnd (R.remaining reader.new.inner)) }
 {
     let mut bytes = Vec::new(alloc);
@@ -57,12 +56,7 @@ fn read_whole<R: Read>(
 fn report_line(alloc: Global, report: &Report) -> Result<String, AllocError> {
     format!(in alloc;
         "ok rows {} leaves {} inners {} levels {} unposted {} thin {}\n",
-        report.rows,
-        report.leaves,
-        report.inners,
-        report.levels,
-        report.unposted,
-        report.thin
+        report.rows, report.leaves, report.inners, report.levels, report.unposted, report.thin
     )
 }
 

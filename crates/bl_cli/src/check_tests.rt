@@ -154,7 +154,11 @@ fn a_file_that_is_cut_while_it_is_read(rt: HostRuntime) {
 fn paths_that_are_no_file(rt: HostRuntime) {
     for path in ["/", "no such file", ""] {
         let mut writer = Watched::new(Vec::new(rt.alloc()));
-        assert_eq!(rt; check_file(&rt, path, &mut writer), Err(CommandFault::Read), "{path}");
+        assert_eq!(rt;
+            check_file(&rt, path, &mut writer),
+            Err(CommandFault::Read),
+            "{path}"
+        );
         assert!(rt; writer.into_inner().is_empty());
     }
 }
@@ -168,7 +172,10 @@ fn words_of_check(rt: HostRuntime) -> Result<(), Fail> {
         Some(Invocation::Check(file))
     );
     for refused in ["blink check", "blink check a b", "blink check --deep a"] {
-        assert!(rt; read_words(alloc, words(alloc, refused)?.as_slice()).is_err(), "{refused}");
+        assert!(rt;
+            read_words(alloc, words(alloc, refused)?.as_slice()).is_err(),
+            "{refused}"
+        );
     }
     Ok(())
 }

@@ -1,5 +1,5 @@
 -- The rules of the checker give those of sound pages.
-use Rattle.std.proofs.Common.{◌≡◌, ◌≢◌, ℕ, zero, suc, ◌+◌, ◌-◌, ◌<◌, ◌≤◌, ◌^◌, List, [], ◌∷◌, length, get_or, Bool, true, false, Option, Some, None, refl, sym, subst, ap, ◌∙◌, inl, inr, arith}
+use Rattle.std.proofs.Common.{◌≡◌, ◌≢◌, ℕ, ◌-◌, ◌<◌, ◌≤◌, ◌^◌, List, [], ◌∷◌, length, get_or, true, false, Option, Some, None, refl, sym, subst, ap, ◌∙◌, inl, inr, arith}
 use Rattle.std.specs.Prelude.{IsTrue, IfSome, IsSomeAnd, is_some, ◌==◌, if◌then◌else◌}
 use Rattle.std.specs.List.{AllByRecursion}
 use Rattle.std.proofs.lemmas.Bool.{cases_eq}
@@ -9,11 +9,11 @@ use Rattle.bl_page.specs.declared.page.Page.TheVariants.{Anchor, Leaf, Inner, De
 use Rattle.bl_page.specs.Pairs.{end_of}
 use Rattle.bl_image.specs.Images.{IsImage, Fits64, page_words}
 use Rattle.bl_image.proofs.Chunks.{fits_at}
-use Rattle.bl_tree.specs.Nodes.{Node, Roots, unbounded}
+use Rattle.bl_tree.specs.Nodes.{Node, unbounded}
 use Rattle.bl_laws.specs.Starts.{IsReached}
 use Rattle.bl_check.specs.declared.span.Span.{Span}
-use Rattle.bl_check.specs.Spans.{page_at, span_of, span_at, StandsAt, levels, leftmost, roots_of}
-use Rattle.bl_check.specs.Rules.{is_anchor, HasNext, LinkFits, Reaches, OnChain, ChildrenFit, Rule, Keeps, AreSound}
+use Rattle.bl_check.specs.Spans.{page_at, span_of, span_at, StandsAt, leftmost, roots_of}
+use Rattle.bl_check.specs.Rules.{is_anchor, LinkFits, Reaches, OnChain, ChildrenFit, Rule, AreSound}
 use Rattle.bl_check.specs.Rules.Reaches.{Here, Next}
 use Rattle.bl_check.proofs.Reaching.{live_below}
 use Rattle.bl_check.proofs.Rising.{span_wide}
@@ -156,10 +156,11 @@ begins pages bytes image sound =
           (h.alive, h.level_is ∙ sym said.level, h.low_is ∙ sym (said.end ∙ bound_is s.high some));
       last = λ x alive end. let (s, at) = live_span (span_at pages x) alive in let said = says (page_at pages x) s at in
           said.right ∙ (link x s at).0 (no_bound s.high (fits_span pages x s image.words at) (sym said.end ∙ end));
-      on_chain = λ x alive. let (s, at) = live_span (span_at pages x) alive in let said = says (page_at pages x) s at in let on = chain x s at in
-          (subst (λ l. l < (roots_in (page_at pages 0)).levels) (sym said.level) (subst (λ n. s.level < n) root.count on.0),
-          subst (λ l. IsReached (nodes pages) ((roots_in (page_at pages 0)).leftmost l) x) (sym said.level)
-          (subst (λ z. IsReached (nodes pages) z x) (root.leftmost_is s.level) (reaches pages (leftmost pages s.level) x image.words on.1)));
+      on_chain = λ x alive. let (s, at) = live_span (span_at pages x) alive in let said = says (page_at pages x) s at in let on = chain x s at in (
+        subst (λ l. l < (roots_in (page_at pages 0)).levels) (sym said.level) (subst (λ n. s.level < n) root.count on.0),
+        subst (λ l. IsReached (nodes pages) ((roots_in (page_at pages 0)).leftmost l) x) (sym said.level)
+            (subst (λ z. IsReached (nodes pages) z x) (root.leftmost_is s.level) (reaches pages (leftmost pages s.level) x image.words on.1)),
+      );
       children = λ x k c alive above is. let (s, at) = live_span (span_at pages x) alive in
           let fit = sound Rule.Children x (live_below pages x s at) in
           let h = stands pages c ((nodes pages x).shape.level - 1) k (parent pages (page_at pages x) k c fit above alive is).stands_at in

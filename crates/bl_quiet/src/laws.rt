@@ -9,5 +9,4 @@ ghost use Rattle.bl_quiet.specs.Begins.{MayBegin};
 /// Says that an index may begin with the pages of a sound image. It does nothing when it runs.
 pub fn may_begin()
     ensures { (pages : List (Option Page)) (bytes : List ℕ) → IsImage pages bytes → AreSound pages → MayBegin pages }
-{
-}
+{}
