@@ -1,6 +1,6 @@
 -- The bytes of one page among those of an image.
 use Rattle.std.proofs.Common.{◌≡◌, ℕ, zero, suc, ◌+◌, ◌*◌, ◌-◌, ◌<◌, ◌≤◌, ◌^◌, List, [], ◌∷◌, ◌++◌, length, get_or, take, drop, Option, Some, None, refl, ap, sym, subst, ◌∙◌, length-append, arith}
-use Rattle.std.specs.Prelude.{flat_map, replicate}
+use Rattle.std.specs.Prelude.{flat_map, replicate, IfSome, MatchOption}
 use Rattle.std.specs.List.{AllByRecursion}
 use Rattle.std.proofs.lemmas.Nat.{from_le_bytes-to_le_bytes_8}
 use Rattle.std.proofs.lemmas.List.{append-nil, take_at, drop_at, drop-drop, take_all, length-replicate, length-drop, take-append-drop}
@@ -183,3 +183,9 @@ pub read_fault : (f : ImageFault) (pages : List (Option Page)) (bytes : List ℕ
 read_fault fault.Head pages bytes h image = absurd (h (length pages) (head_of_image pages bytes image))
 read_fault (fault.Page x) pages bytes h image = absurd (no_page_fault pages bytes x image h)
 read_fault fault.Memory pages bytes h image = refl
+
+-- what the words of page x were found to be
+pub page_found : (o : Option (Option Page)) (words bytes : List ℕ) → length words ≡ 32 → Fits64 words → word_bytes words ≡ bytes → IfSome o (λ page. words ≡ page_words page)
+    → ((page : Option Page) → words ≡ page_words page → o ≡ Some page) → MatchOption o (¬ ArePage bytes) (λ page. Fits64 (page_words page) × (bytes ≡ page_bytes page))
+page_found None words bytes long fits is h only = no_page words bytes long fits is (λ page e. let k = only page e in absurd cc)
+page_found (Some page) words bytes long fits is h only = (subst Fits64 h fits, sym is ∙ ap word_bytes h)
