@@ -3,6 +3,7 @@
 ghost use Rattle.std.specs.Prelude.{◌≡◌, ◌≤◌, ℕ, Some, None, IfOk};
 ghost use Rattle.bl_cli.specs.Limits.{IsWithinLimits};
 
+use crate::check::check_command;
 use clap::{Arg, Command, Error, value_parser};
 use std::alloc::Global;
 
@@ -18,10 +19,12 @@ pub struct ServeOptions {
 }
 
 /// What the command line asks for.
-#[derive(Clone, Copy, Debug, PartialEq, Eq)]
+#[derive(Debug, PartialEq, Eq, Drop)]
 pub enum Invocation {
     /// `blink serve`.
     Serve(ServeOptions),
+    /// `blink check` of this file.
+    Check(String),
     /// No command.
     Nothing,
 }
@@ -68,7 +71,8 @@ pub fn read_words(alloc: Global, words: &[String]) -> Result<Invocation, Error>
     let blink = Command::new(alloc, "blink")
         .about("A concurrent ordered index from u64 keys to u64 values, proved")
         .subcommand_required(true)
-        .subcommand(serve)?;
+        .subcommand(serve)?
+        .subcommand(check_command(alloc)?)?;
     let matches = blink.try_get_matches_from(words)?;
     match matches.subcommand() {
         Some(("serve", found)) => Ok(Invocation::Serve(ServeOptions {
@@ -76,6 +80,10 @@ pub fn read_words(alloc: Global, words: &[String]) -> Result<Invocation, Error>
             workers: held(found.get_one::<u32>("workers"), 1, 1, 1),
             compressors: held(found.get_one::<u32>("compressors"), 0, 0, 0),
         })),
+        Some(("check", found)) => match found.get_str("FILE") {
+            Some(file) => Ok(Invocation::Check(String::from_str(alloc, file)?)),
+            None => Ok(Invocation::Nothing),
+        },
         _ => Ok(Invocation::Nothing),
     }
 }

@@ -4,6 +4,9 @@
 //! to this crate.
 #![tactic(auto)]
 
+mod check;
+#[cfg(test)]
+mod check_tests;
 mod command;
 mod fault;
 mod leaf;
@@ -12,6 +15,7 @@ mod serve;
 mod tests;
 
 use bl_model::Watched;
+use check::check_file;
 use clap::Error;
 use clap::error::ErrorKind;
 use command::Invocation;
@@ -41,6 +45,11 @@ fn carry_out(rt: &HostRuntime) -> Result<ExitCode, CommandFault> {
             let mut writer = Watched::new(io::writer(rt));
             serve_leaf(alloc, &mut reader, &mut writer)?;
             Ok(ExitCode::SUCCESS)
+        }
+        Ok(Invocation::Check(file)) => {
+            let mut writer = Watched::new(io::writer(rt));
+            let sound = check_file(rt, file.as_str(), &mut writer)?;
+            Ok(ExitCode::from(if sound { 0 } else { 1 }))
         }
         Ok(Invocation::Nothing) => Ok(ExitCode::from(2)),
         Err(error) => refuse(rt, error),

@@ -1,8 +1,7 @@
 -- The bytes of one page among those of an image.
-use Rattle.std.proofs.Common.{◌≡◌, ℕ, zero, suc, ◌+◌, ◌*◌, ◌-◌, ◌<◌, ◌≤◌, ◌^◌, List, [], ◌∷◌, ◌++◌, length, get_or, take, drop, Option, Some, None, refl, ap, sym, subst, ◌∙◌, length-append, append_assoc, arith}
-use Rattle.std.specs.Prelude.{flat_map, replicate}
+use Rattle.std.proofs.Common.{◌≡◌, ℕ, zero, suc, ◌+◌, ◌*◌, ◌-◌, ◌<◌, ◌≤◌, ◌^◌, List, [], ◌∷◌, ◌++◌, length, get_or, take, drop, Option, Some, None, refl, ap, sym, subst, ◌∙◌, length-append, arith}
+use Rattle.std.specs.Prelude.{flat_map, replicate, IfSome, MatchOption}
 use Rattle.std.specs.List.{AllByRecursion}
-use Rattle.std.specs.Int.{w64, from_le_bytes, to_le_bytes}
 use Rattle.std.proofs.lemmas.Nat.{from_le_bytes-to_le_bytes_8}
 use Rattle.std.proofs.lemmas.List.{append-nil, take_at, drop_at, drop-drop, take_all, length-replicate, length-drop, take-append-drop}
 use Rattle.std.proofs.lemmas.List.Concat.{flat_map-append}
@@ -17,7 +16,6 @@ use Rattle.bl_page.proofs.Once.{once}
 use Rattle.bl_image.specs.Images.{word_bytes, page_words, page_bytes, image_bytes, head_bytes, Fits64, IsCount, IsHead, IsImage, IsFault, ArePage, chunk}
 use Rattle.bl_image.specs.declared.fault.ImageFault.{ImageFault}
 use Rattle.bl_image.specs.declared.fault.ImageFault.TheVariants as fault
-use Rattle.bl_image.proofs.Bytes.{again}
 
 no_kind : (p : Page) → words_of p ≡ replicate 32 0 → ⊥
 no_kind p e = let kind : kind_in (words_of p) ≡ 0 = ap kind_in e in no_number (kind_of p) (sym (fits p).is_of ∙ kind)
@@ -88,7 +86,7 @@ pub chunk_is : (x : ℕ) (pages : List (Option Page)) (bytes : List ℕ) → byt
 chunk_is x pages bytes is lt =
     ap (λ b. chunk b x) is ∙ ap (take 256) (sym (drop-drop (256 * x) 32 (image_bytes pages)) ∙ drop-pages x pages) ∙ first_page x pages lt
 
-fits_at : (x : ℕ) (pages : List (Option Page)) → AllByRecursion (λ page. Fits64 (page_words page)) pages → x < length pages → Fits64 (page_words (get_or pages x None))
+pub fits_at : (x : ℕ) (pages : List (Option Page)) → AllByRecursion (λ page. Fits64 (page_words page)) pages → x < length pages → Fits64 (page_words (get_or pages x None))
 fits_at x [] h lt = absurd (omega arith)
 fits_at zero (page ∷ pages) h lt = h.0
 fits_at (suc x) (page ∷ pages) h lt = fits_at x pages h.1 (omega arith)
@@ -185,3 +183,9 @@ pub read_fault : (f : ImageFault) (pages : List (Option Page)) (bytes : List ℕ
 read_fault fault.Head pages bytes h image = absurd (h (length pages) (head_of_image pages bytes image))
 read_fault (fault.Page x) pages bytes h image = absurd (no_page_fault pages bytes x image h)
 read_fault fault.Memory pages bytes h image = refl
+
+-- what the words of page x were found to be
+pub page_found : (o : Option (Option Page)) (words bytes : List ℕ) → length words ≡ 32 → Fits64 words → word_bytes words ≡ bytes → IfSome o (λ page. words ≡ page_words page)
+    → ((page : Option Page) → words ≡ page_words page → o ≡ Some page) → MatchOption o (¬ ArePage bytes) (λ page. Fits64 (page_words page) × (bytes ≡ page_bytes page))
+page_found None words bytes long fits is h only = no_page words bytes long fits is (λ page e. let k = only page e in absurd cc)
+page_found (Some page) words bytes long fits is h only = (subst Fits64 h fits, sym is ∙ ap word_bytes h)

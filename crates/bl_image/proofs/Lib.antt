@@ -1,2 +1,3 @@
 pub mod Bytes
 pub mod Chunks
+pub mod Writes

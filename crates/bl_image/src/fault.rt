@@ -10,3 +10,7 @@ pub enum ImageFault {
     /// Memory was refused.
     Memory,
 }
+
+/// A call on the writer of an image has failed. A beginning of the image may be out.
+#[derive(Clone, Copy, Debug, PartialEq, Eq)]
+pub struct WriteFault;

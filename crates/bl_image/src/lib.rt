@@ -1,7 +1,7 @@
 //! Images of an index at rest: the bytes of its pages.
 //!
-//! Promised to the checker and to whoever opens an index from an image: each image has one spelling, `read` takes exactly
-//! those bytes, and other bytes are refused with the head or the least page that is wrong. Writing is yet to come.
+//! Promised to the checker and to whoever opens an index from an image: each image has one spelling, which
+//! `Image::write` writes and `read` reads; other bytes are refused with the head or the least page that is wrong.
 #![tactic(auto)]
 
 mod fault;
@@ -9,8 +9,9 @@ mod head;
 mod image;
 mod reading;
 mod words;
+mod writing;
 
-pub use fault::ImageFault;
+pub use fault::{ImageFault, WriteFault};
 pub use image::Image;
 pub use reading::read;
 

@@ -1,10 +1,10 @@
 //! The bytes of one page.
 
-ghost use Rattle.std.specs.Prelude.{◌≡◌, ◌+◌, ◌*◌, ◌≤◌, ◌↔◌, Option, Ok, length, replicate, IfOk, IsTrue, MatchOption};
+ghost use Rattle.std.specs.Prelude.{◌≡◌, ◌+◌, ◌*◌, ◌≤◌, ◌↔◌, Option, Some, length, replicate, IfSome, IsTrue, MatchOption};
 ghost use Rattle.bl_page.specs.declared.page.Page.{Page};
 ghost use Rattle.bl_image.specs.Images.{word_bytes, page_words, page_bytes, ArePage, Fits64, chunk};
 
-use bl_page::{Page, WordFault, from_words};
+use bl_page::{Page, from_words};
 use byteorder::{ByteOrder, LittleEndian};
 
 /// The words that 256 bytes spell.
@@ -19,23 +19,43 @@ pub fn words_in(bytes: &[u8]) -> [u64; 32]
     words
 }
 
+/// The words of a page, zeros where it is not in use.
+pub fn words_of(page: &Option<Page>) -> [u64; 32]
+    ensures { result ≡ page_words page.now }
+{
+    match page {
+        Some(page) => page.to_words(),
+        None => [0; 32],
+    }
+}
+
+/// The bytes that spell words.
+pub fn bytes_of(words: &[u64; 32]) -> [u8; 256]
+    ensures bytes { result ≡ word_bytes words.now }
+    ensures fits { Fits64 words.now }
+{
+    let mut bytes = [0; 256];
+    LittleEndian::write_u64_into(words, &mut bytes);
+    bytes
+}
+
 fn is_zero(words: &[u64; 32]) -> bool
     ensures { IsTrue result ↔ (words.now ≡ replicate 32 0) }
 {
     *words == [0; 32]
 }
 
-/// The page that words spell, or None where all of them are zeros.
-pub fn page_in(words: &[u64; 32]) -> Result<Option<Page>, WordFault>
-    ensures ok { IfOk result (λ page. words.now ≡ page_words page) }
-    ensures only { (page : Option Page) → words.now ≡ page_words page → result ≡ Ok page }
+/// The page that words spell, or None in its place where all of them are zeros; no page where they are no page's.
+pub fn page_in(words: &[u64; 32]) -> Option<Option<Page>>
+    ensures some { IfSome result (λ page. words.now ≡ page_words page) }
+    ensures only { (page : Option Page) → words.now ≡ page_words page → result ≡ Some page }
 {
     if is_zero(words) {
-        return Ok(None);
+        return Some(None);
     }
     match from_words(words) {
-        Ok(page) => Ok(Some(page)),
-        Err(fault) => Err(fault),
+        Ok(page) => Some(Some(page)),
+        Err(_) => None,
     }
 }
 
@@ -46,8 +66,5 @@ pub fn page_at(bytes: &[u8], x: u32) -> Option<Option<Page>>
         (λ page. Fits64 (page_words page) × (chunk bytes.now x ≡ page_bytes page)) }
 {
     let at = 32 + 256 * x as usize;
-    match page_in(&words_in(&bytes[at..at + 256])) {
-        Ok(page) => Some(page),
-        Err(_) => None,
-    }
+    page_in(&words_in(&bytes[at..at + 256]))
 }

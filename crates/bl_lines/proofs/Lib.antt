@@ -2,7 +2,6 @@ pub mod Numbers
 pub mod Long
 pub mod Examples
 mod Known
-mod Written
 mod Cuts
 mod Sections
 mod Progress

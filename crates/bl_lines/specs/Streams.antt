@@ -1,13 +1,9 @@
 -- What calls on streams did.
 use Rattle.std.specs.Prelude.{◌≡◌, ℕ, ◌≤◌, ◌<◌, ◌+◌, ◌^◌, ◌⊎◌, Bool, true, false, List, [], ◌∷◌, ◌++◌, length, take, Option, Result, Ok, Err}
-use Rattle.std.specs.Io.KnownBytes.{Appends, Consumes, Keeps, IsAtEnd}
+use Rattle.std.specs.Io.KnownBytes.{Consumes, Keeps, IsAtEnd}
 use Rattle.bl_lines.specs.declared.source.Cut.{Cut}
 use Rattle.bl_lines.specs.declared.source.Cut.TheVariants.{Whole, Long, Rest, End}
 use Rattle.bl_lines.specs.Lines.{HasNoLf}
-
--- new is old with a beginning of the text
-abbrev pub StartsOut : Option (List ℕ) → Option (List ℕ) → List ℕ → Type 0
-StartsOut old new text = (out : List ℕ) × (rest : List ℕ) × (text ≡ out ++ rest) × Appends old new out
 
 -- the first count bytes of the buffer were read, none only at the end; or the reader failed, and nothing was
 abbrev pub ReadsSome : {E : Type 0} → Result ℕ E → Option (List ℕ) → Option (List ℕ) → List ℕ → Type 0 → Type 0

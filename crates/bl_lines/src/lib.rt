@@ -14,7 +14,6 @@ pub mod serving;
 pub mod source;
 #[cfg(test)]
 mod tests;
-pub mod write;
 
 pub use answers::Answers;
 pub use serving::{ServeFault, Totals, serve};

@@ -12,10 +12,9 @@ ghost use Rattle.bl_lines.specs.Turns.{AnswersLine, GivesAnswer, CountsLine, End
 use crate::answers::Answers;
 use crate::print::{Response, push_line};
 use crate::request::{Request, parse};
-use crate::source::{Cut, Failed, KEPT, Source};
-use crate::write::write_out;
+use crate::source::{Cut, KEPT, Source};
 use arrayvec::ArrayVec;
-use bl_model::Watched;
+use bl_model::{Failed, Watched, write_out};
 use std::alloc::{AllocError, Global};
 use std::io::{Read, Write};
 use thiserror::Error;

@@ -9,7 +9,7 @@ ghost use Rattle.bl_lines.specs.Streams.{CutsLine, GivesMore, ReadsSome};
 
 use crate::request::LINE_LIMIT;
 use arrayvec::ArrayVec;
-use bl_model::Watched;
+use bl_model::{Failed, Watched};
 use memchr::memchr;
 use std::alloc::{AllocError, Global};
 use std::io::{ErrorKind, Read};
@@ -20,10 +20,6 @@ const BUFFER: usize = 65_536;
 
 /// How many bytes of a line are kept: one more than a request may have, so that a longer line shows.
 pub const KEPT: usize = 65;
-
-/// A call on a watched stream failed.
-#[derive(Clone, Copy, Debug, PartialEq, Eq)]
-pub struct Failed;
 
 /// How a line was cut.
 #[derive(Clone, Copy, Debug, PartialEq, Eq)]

@@ -5,3 +5,5 @@ mod Lookups
 mod Places
 pub mod Parts
 pub mod Steps
+mod Written
+pub mod Beginnings

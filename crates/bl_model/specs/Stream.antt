@@ -1,5 +1,6 @@
 -- What a contract sees of a watched stream.
-use Rattle.std.specs.Prelude.{ℕ, ◌==◌, Bool, true, ◌&&◌, nat_lt, List, length, Result, Ok, Err, refl}
+use Rattle.std.specs.Prelude.{◌≡◌, ℕ, ◌==◌, Bool, true, ◌&&◌, nat_lt, List, ◌++◌, length, Option, Result, Ok, Err, refl}
+use Rattle.std.specs.Io.KnownBytes.{Appends}
 use Rattle.std.specs.Coded.{Coded, code_by, coded×, coded_bool}
 
 -- the stream, and whether a call on it has failed
@@ -16,3 +17,7 @@ stream_code {T} code =
 abbrev pub write_failed : {E : Type 0} → Result ℕ E → List ℕ → Bool
 write_failed (Ok count) piece = (count == 0) && nat_lt 0 (length piece)
 write_failed (Err e) piece = true
+
+-- new is old with a beginning of the text
+abbrev pub StartsOut : Option (List ℕ) → Option (List ℕ) → List ℕ → Type 0
+StartsOut old new text = (out : List ℕ) × (rest : List ℕ) × (text ≡ out ++ rest) × Appends old new out

@@ -3,7 +3,7 @@
 //! Every other crate of the index stands on the definitions of this one: what an operation may answer, the map after
 //! it, a part of a map, and a legal history (`specs/Map.antt`, `specs/History.antt`). `PlainMap` is the map at its
 //! simplest, for tests and replay, and its contract is those definitions and nothing more. `Watched` tells a caller
-//! whether a reader or a writer that it lends has failed.
+//! whether a reader or a writer that it lends has failed; `write_text` and `write_out` write whole texts to one.
 #![tactic(auto)]
 
 pub mod operation;
@@ -11,7 +11,9 @@ pub mod plain;
 pub mod stream;
 #[cfg(test)]
 mod tests;
+pub mod writing;
 
 pub use operation::{Entry, Next, Op, Reply};
 pub use plain::PlainMap;
-pub use stream::Watched;
+pub use stream::{Failed, Watched};
+pub use writing::{write_out, write_text};

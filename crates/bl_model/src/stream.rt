@@ -9,6 +9,10 @@ use std::io;
 use std::io::{Read, Write};
 use std::marker::Model;
 
+/// A call on a watched stream has failed, for good: it was not only interrupted.
+#[derive(Clone, Copy, Debug, PartialEq, Eq)]
+pub struct Failed;
+
 /// A reader or a writer that hands on each call, and keeps whether one has failed since it was made.
 ///
 /// A call has failed where it gave an error, also `Interrupted`, after which a caller may try again. A write has failed

@@ -1,4 +1,4 @@
-use Rattle.std.proofs.Common.{length, sym, ap, ◌∙◌}
+use Rattle.std.proofs.Common.{length}
 use Rattle.bl_image.proofs.Chunks.{image_same, read_fault, head_of_image}
 use Rattle.bl_image.proofs.reading.read.Goals as goal
 

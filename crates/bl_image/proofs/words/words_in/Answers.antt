@@ -1,4 +1,4 @@
-use Rattle.std.proofs.Common.{arith, sym, ◌∙◌}
+use Rattle.std.proofs.Common.{arith}
 use Rattle.bl_image.proofs.Bytes.{words_again}
 use Rattle.bl_image.proofs.words.words_in.Goals as goal
 

@@ -1,6 +1,6 @@
 use Rattle.std.proofs.Common.{◌≡◌, ℕ, ◌⊎◌, ◌+◌, ◌≤◌, List, ◌++◌, length, true}
 use Rattle.std.specs.Io.KnownBytes.{Appends}
-use Rattle.bl_lines.proofs.write.write_text.Given as goal
+use Rattle.bl_model.proofs.writing.write_text.Given as goal
 
 abbrev pub invariant-loop : goal.invariant-loop
 invariant-loop g l = record {

@@ -1,15 +1,14 @@
-//! Whole texts to a writer.
+//! Whole texts to a watched writer.
 
 ghost use Rattle.std.specs.Prelude.{◌≡◌, true, OnOk, OnErr};
 ghost use Rattle.std.specs.Io.KnownBytes.{Appends};
-ghost use Rattle.bl_lines.specs.Streams.{StartsOut};
+ghost use Rattle.bl_model.specs.Stream.{StartsOut};
 
-use crate::source::Failed;
-use bl_model::Watched;
+use crate::stream::{Failed, Watched};
 use std::io::{ErrorKind, Write};
 
-/// Writes the whole text, and a beginning of it where the writer fails.
-fn write_text<W: Write>(writer: &mut Watched<W>, text: &[u8]) -> Result<(), Failed>
+/// Writes the whole text. Where the writer fails, a beginning of it is out. An interrupted call is tried again.
+pub fn write_text<W: Write>(writer: &mut Watched<W>, text: &[u8]) -> Result<(), Failed>
     ensures ok { OnOk result (Appends (W.contents writer.old.inner) (W.contents writer.new.inner) text.now) }
     ensures err { OnErr result (StartsOut (W.contents writer.old.inner) (W.contents writer.new.inner) text.now) }
     ensures failed { OnErr result (writer.new.failed ≡ true) }

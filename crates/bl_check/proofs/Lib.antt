@@ -1,0 +1,4 @@
+pub mod Reaching
+pub mod Rulings
+pub mod Rising
+mod Examples

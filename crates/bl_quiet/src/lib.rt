@@ -1,0 +1,10 @@
+//! Sound images and the core: an index may begin with the pages of a sound image.
+//!
+//! Promised to whoever opens an index from a `Quiet`: its live pages are sound pages in the words of the tree, so that
+//! every theorem of `bl_laws` and `bl_starts` on sound pages holds of them. The checker does not stand on the tree, so
+//! this stands in a crate of its own.
+#![tactic(auto)]
+
+mod laws;
+
+pub use laws::may_begin;
