@@ -1,10 +1,9 @@
 -- Small pages, by the definitions: an anchor with two levels, two leaves, and the inner page that lists them.
-use Rattle.std.proofs.Common.{◌≡◌, ℕ, ◌<◌, ◌==◌, ◌||◌, List, [], ◌∷◌, Bool, true, false, Option, Some, None, refl, arith}
-use Rattle.arrayvec.specs.ArrayVec.{ArrayVec}
+use Rattle.std.proofs.Common.{◌≡◌, ◌==◌, ◌||◌, List, [], ◌∷◌, true, false, Option, Some, None, refl, arith}
 use Rattle.bl_page.specs.declared.page.Page.{Page}
-use Rattle.bl_page.specs.declared.page.Page.TheVariants.{Anchor, Leaf, Inner, Dead}
+use Rattle.bl_page.specs.declared.page.Page.TheVariants.{Anchor, Leaf, Inner}
 use Rattle.bl_check.specs.Spans.{span_at, StandsAt, levels, leftmost}
-use Rattle.bl_check.specs.Rules.{HasNext, Reaches, OnChain, ChildrenFit, Rule, Keeps}
+use Rattle.bl_check.specs.Rules.{OnChain, ChildrenFit}
 use Rattle.bl_check.specs.Rules.Reaches.{Here, Next}
 use Rattle.bl_check.specs.Reports.{is_thin, lists, is_unposted, count_below}
 

@@ -30,7 +30,8 @@ impl From<AllocError> for Fault {
 
 /// The fault of the rule, if a page was found that breaks it.
 fn refuse(rule: u32, found: Option<u32>) -> Result<(), Fault>
-    ensures { MatchResult result (λ _. found ≡ None) (λ given. (x : ℕ) × (found ≡ Some x) × (given ≡ fault.Rule rule x)) }
+    ensures { MatchResult result (λ _. found ≡ None)
+        (λ given. (x : ℕ) × (found ≡ Some x) × (given ≡ fault.Rule rule x)) }
 {
     match found {
         Some(page) => Err(Fault::Rule { rule, page }),
@@ -71,7 +72,8 @@ fn image_in(alloc: Global, bytes: &[u8]) -> Result<Image, Fault>
 /// the least page that breaks it. `Memory` comes only where a growth was refused.
 pub fn check(alloc: Global, bytes: &[u8]) -> Result<Report, Fault>
     // The bytes are a sound image with these numbers.
-    ensures ok { IfOk result (λ report. (pages : List (Option Page)) × IsImage pages bytes.now × AreSound pages × IsReport report pages) }
+    ensures ok { IfOk result (λ report. (pages : List (Option Page))
+        × IsImage pages bytes.now × AreSound pages × IsReport report pages) }
     // Which rule is broken, at which page.
     ensures fault { IfErr result (λ fault. IsFault fault bytes.now) }
     // A sound image has no fault.
@@ -87,7 +89,8 @@ pub fn check(alloc: Global, bytes: &[u8]) -> Result<Report, Fault>
 /// that breaks it. `Memory` comes only where a growth was refused.
 pub fn sound(alloc: Global, image: Image) -> Result<Quiet, (Image, Fault)>
     ensures ok { IfOk result (λ quiet. quiet.image ≡ image) }
-    ensures fault { IfErr result (λ refused. (refused.0 ≡ image) × IsPageFault refused.1 image.pages.items) }
+    ensures fault { IfErr result (λ refused.
+        (refused.0 ≡ image) × IsPageFault refused.1 image.pages.items) }
     // A sound image has no fault.
     ensures only { AreSound image.pages.items → IfErr result (λ refused. refused.1 ≡ fault.Memory) }
 {

@@ -47,7 +47,8 @@ fn is_thin(page: &Option<Page>) -> bool
 
 /// Marks the pages that the pairs name.
 fn mark_children(marks: &mut [bool], pairs: &[(u64, u64)])
-    ensures { (x : ℕ) → x < length marks.old → slice_index_or marks.new x false ≡ (slice_index_or marks.old x false || list_any (λ pair. pair.1 == x) pairs.now) }
+    ensures { (x : ℕ) → x < length marks.old → slice_index_or marks.new x false
+        ≡ (slice_index_or marks.old x false || list_any (λ pair. pair.1 == x) pairs.now) }
 {
     for (_, child) in pairs {
         let child = *child as usize;
@@ -59,7 +60,8 @@ fn mark_children(marks: &mut [bool], pairs: &[(u64, u64)])
 
 /// Marks the pages that some inner page lists.
 fn mark_listed(marks: &mut [bool], pages: &[Option<Page>])
-    ensures { (x : ℕ) → x < length marks.old → slice_index_or marks.new x false ≡ (slice_index_or marks.old x false || list_any (lists x) pages.now) }
+    ensures { (x : ℕ) → x < length marks.old → slice_index_or marks.new x false
+        ≡ (slice_index_or marks.old x false || list_any (lists x) pages.now) }
 {
     for page in pages {
         if let Some(Page::Inner(inner)) = page {
@@ -82,7 +84,8 @@ fn top_root(pages: &[Option<Page>]) -> u32
 fn unposted(pages: &[Option<Page>], listed: &[bool]) -> u32
     requires limit { length pages.now ≤ 65536 }
     requires count { length listed.now ≡ length pages.now }
-    requires listed { (x : ℕ) → x < length pages.now → slice_index_or listed.now x false ≡ list_any (lists x) pages.now }
+    requires listed { (x : ℕ) → x < length pages.now →
+        slice_index_or listed.now x false ≡ list_any (lists x) pages.now }
     ensures { result ≡ count_below (is_unposted pages.now) (length pages.now) }
 {
     let top = top_root(pages) as usize;
@@ -131,7 +134,8 @@ fn thin(pages: &[Option<Page>]) -> u32
 /// Of each page, whether some inner page lists it.
 fn listed_pages(alloc: Global, pages: &[Option<Page>]) -> Result<Vec<bool>, AllocError>
     ensures count { IfOk result (λ listed. length listed.items ≡ length pages.now) }
-    ensures listed { IfOk result (λ listed. (x : ℕ) → x < length pages.now → slice_index_or listed.items x false ≡ list_any (lists x) pages.now) }
+    ensures listed { IfOk result (λ listed. (x : ℕ) → x < length pages.now →
+        slice_index_or listed.items x false ≡ list_any (lists x) pages.now) }
 {
     let mut listed = vec![in alloc; false; pages.len()]?;
     mark_listed(&mut listed, pages);

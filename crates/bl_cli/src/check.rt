@@ -32,7 +32,9 @@ pub fn check_command<'a>(alloc: Global) -> Result<Command<'a>, Error> {
 
 /// All bytes of a reader.
 fn read_whole<R: Read>(alloc: Global, reader: &mut Watched<R>) -> Result<Vec<u8>, CommandFault>
-    ensures { IfOk result (λ bytes. Consumes (R.remaining reader.old.inner) (R.remaining reader.new.inner) bytes.items × IsAtEnd (R.remaining reader.new.inner)) }
+    ensures { IfOk result (λ bytes.
+        Consumes (R.remaining reader.old.inner) (R.remaining reader.new.inner) bytes.items
+        × IsAtEnd (R.remaining reader.new.inner)) }
 {
     let mut bytes = Vec::new(alloc);
     let mut piece = [0; PIECE];

@@ -16,9 +16,11 @@ use std::io::Write;
 
 /// Writes the bytes of each page.
 fn write_pages<W: Write>(writer: &mut Watched<W>, pages: &[Option<Page>]) -> Result<(), Failed>
-    ensures ok { OnOk result (Appends (W.contents writer.old.inner) (W.contents writer.new.inner) (flat_map page_bytes pages.now)) }
+    ensures ok { OnOk result (Appends (W.contents writer.old.inner) (W.contents writer.new.inner)
+        (flat_map page_bytes pages.now)) }
     ensures fit { OnOk result (AllByRecursion (λ page. Fits64 (page_words page)) pages.now) }
-    ensures err { OnErr result (StartsOut (W.contents writer.old.inner) (W.contents writer.new.inner) (flat_map page_bytes pages.now)) }
+    ensures err { OnErr result (StartsOut (W.contents writer.old.inner) (W.contents writer.new.inner)
+        (flat_map page_bytes pages.now)) }
     ensures failed { OnErr result (writer.new.failed ≡ true) }
 {
     for page in pages {
@@ -30,9 +32,11 @@ fn write_pages<W: Write>(writer: &mut Watched<W>, pages: &[Option<Page>]) -> Res
 /// Writes the head and the pages, and flushes the writer.
 fn write_image<W: Write>(writer: &mut Watched<W>, pages: &[Option<Page>]) -> Result<(), Failed>
     requires { length pages.now ≤ 65536 }
-    ensures ok { OnOk result (Appends (W.contents writer.old.inner) (W.contents writer.new.inner) (image_bytes pages.now)) }
+    ensures ok { OnOk result (Appends (W.contents writer.old.inner) (W.contents writer.new.inner)
+        (image_bytes pages.now)) }
     ensures fit { OnOk result (AllByRecursion (λ page. Fits64 (page_words page)) pages.now) }
-    ensures err { OnErr result (StartsOut (W.contents writer.old.inner) (W.contents writer.new.inner) (image_bytes pages.now)) }
+    ensures err { OnErr result (StartsOut (W.contents writer.old.inner) (W.contents writer.new.inner)
+        (image_bytes pages.now)) }
     ensures failed { OnErr result (writer.new.failed ≡ true) }
 {
     write_text(writer, &head_of(pages.len() as u32))?;
