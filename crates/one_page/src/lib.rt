@@ -83,11 +83,7 @@ impl PagePlay<Mine> for Tried {
 }
 
 /// A store of so many pages for so many passes, and its hands. All words of pages 0 and 1 are 1, the others are released.
-pub fn hands(
-    alloc: Global,
-    pages: u32,
-    passes: u32,
-) -> Result<(Held, Vec<Hand<Mine>>), AllocError>
+pub fn hands(alloc: Global, pages: u32, passes: u32) -> Result<(Held, Vec<Hand<Mine>>), AllocError>
     requires pages { (4 ≤ pages) × (pages ≤ 65536) }
     requires passes { (1 ≤ passes) × (passes ≤ 64) }
     ensures sizes { IfOk result (λ t. (t.0.layout.pages ≡ pages) × (t.0.layout.passes ≡ passes)) }
