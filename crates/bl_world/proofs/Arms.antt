@@ -1,7 +1,7 @@
 -- Each kind of turn on the lists of a world.
-use Rattle.std.proofs.Common.{ℕ, ◌≡◌, ◌≢◌, ◌⊎◌, ◌<◌, ◌≤◌, ◌++◌, zero, suc, Option, Some, None, List, [], ◌∷◌, length, slice_get, slice_set, arith, ap, sym, ◌∙◌, refl, subst, inl, inr}
+use Rattle.std.proofs.Common.{ℕ, ◌≡◌, ◌≢◌, ◌⊎◌, ◌<◌, ◌≤◌, ◌++◌, ◌+◌, zero, suc, Option, Some, None, List, [], ◌∷◌, length, get_or, slice_get, slice_set, Result, Ok, Err, OnOk, OnErr, arith, ap, sym, ◌∙◌, refl, subst, inl, inr}
 use Rattle.std.proofs.lemmas.Bool.{cases_eq}
-use Rattle.std.proofs.lemmas.Option.{slice_get_within}
+use Rattle.std.proofs.lemmas.Option.{slice_get_within, get_or_from_slice_get}
 use Rattle.std.proofs.lemmas.List.{length-set}
 use mathlib.Core.Logic.{∥∥₁_map}
 use Rattle.bl_page.specs.declared.page.Page.{Page}
@@ -157,3 +157,67 @@ idles pages owners processes events n within h =
     turned_lists pages pages owners owners processes processes events n _ now _ h within refl refl
     (λ x c is. h.contents x c is) (λ x o is. h.owner x o is) (λ p is. h.runs n p is) (λ i ne. refl)
     (idle_turn h.world (name_of (suc n)) now h.good (record { changes = (λ x. refl, λ x. refl, λ q. refl); on = omega arith }))
+
+-- what stands at a place within a list
+pub stands : {A : Type 0} (xs : List A) (n : ℕ) → n < length xs → (a : A) × (slice_get xs n ≡ Some a)
+stands [] n l = absurd (omega (arith, l))
+stands (x ∷ xs) zero l = (x, refl)
+stands (x ∷ xs) (suc n) l = stands xs n (omega (arith, l))
+
+pub idles_on : (pages : List Page) (owners : List Owner) (processes : List Proc) (events events' : List Event) (n : ℕ) → n < length processes → events' ≡ events ++ record { process = n + 1; act = shown.Miss } ∷ [] → ∥ HasWorld pages owners processes events ∥₁ → ∥ HasWorld pages owners processes events' ∥₁
+idles_on pages owners processes events events' n within e h = rw (e, one n) (∥∥₁_map h (idles pages owners processes events n within))
+  where
+    one : (n : ℕ) → n + 1 ≡ suc n
+    one n = omega arith
+
+-- The same of a world that is only known to be there.
+one_more : (n : ℕ) → n + 1 ≡ suc n
+one_more n = omega arith
+
+module _ (pages : List Page) (owners : List Owner) (processes : List Proc) (events : List Event) (n : ℕ) (p0 p1 : Proc) (stood : slice_get processes n ≡ Some p0) where
+  pub begins_on : next_of p0 ≡ act.Begin → Takes p0 seen.Done p1 → ∥ HasWorld pages owners processes events ∥₁ → ∥ HasWorld pages owners (slice_set processes n p1) (events ++ record { process = n + 1; act = shown.Begin } ∷ []) ∥₁
+  begins_on next takes h = rw (one_more n) (∥∥₁_map h (begins pages owners processes events n p0 p1 stood next takes))
+
+  pub ends_on : next_of p0 ≡ act.End → Takes p0 seen.Done p1 → ∥ HasWorld pages owners processes events ∥₁ → ∥ HasWorld pages owners (slice_set processes n p1) (events ++ record { process = n + 1; act = shown.End } ∷ []) ∥₁
+  ends_on next takes h = rw (one_more n) (∥∥₁_map h (ends pages owners processes events n p0 p1 stood next takes))
+
+  pub gets_on : (x : ℕ) (c : Page) → slice_get pages x ≡ Some c → next_of p0 ≡ act.Get x → Takes p0 (seen.Words c) p1 → ∥ HasWorld pages owners processes events ∥₁ → ∥ HasWorld pages owners (slice_set processes n p1) (events ++ record { process = n + 1; act = shown.Get x } ∷ []) ∥₁
+  gets_on x c page next takes h = rw (one_more n) (∥∥₁_map h (gets pages owners processes events n p0 p1 stood x c page next takes))
+
+  pub misses_on : (x : ℕ) → next_of p0 ≡ act.Latch x → Takes p0 seen.Missed p1 → ∥ HasWorld pages owners processes events ∥₁ → ∥ HasWorld pages owners (slice_set processes n p1) (events ++ record { process = n + 1; act = shown.Miss } ∷ []) ∥₁
+  misses_on x next takes h = rw (one_more n) (∥∥₁_map h (misses pages owners processes events n p0 p1 stood x next takes))
+
+  pub refuses_take_on : next_of p0 ≡ act.Take → Takes p0 seen.Refused p1 → ∥ HasWorld pages owners processes events ∥₁ → ∥ HasWorld pages owners (slice_set processes n p1) (events ++ record { process = n + 1; act = shown.Miss } ∷ []) ∥₁
+  refuses_take_on next takes h = rw (one_more n) (∥∥₁_map h (refuses_take pages owners processes events n p0 p1 stood next takes))
+
+  pub refuses_put_on : (x : ℕ) (c : Page) → next_of p0 ≡ act.Put x c → Takes p0 seen.Refused p1 → ∥ HasWorld pages owners processes events ∥₁ → ∥ HasWorld pages owners (slice_set processes n p1) (events ++ record { process = n + 1; act = shown.Miss } ∷ []) ∥₁
+  refuses_put_on x c next takes h = rw (one_more n) (∥∥₁_map h (refuses_put pages owners processes events n p0 p1 stood x c next takes))
+
+  pub puts_on : (x : ℕ) (c : Page) → x < length pages → next_of p0 ≡ act.Put x c → Takes p0 seen.Done p1 → ∥ HasWorld pages owners processes events ∥₁ → ∥ HasWorld (slice_set pages x c) owners (slice_set processes n p1) (events ++ record { process = n + 1; act = shown.Put x } ∷ []) ∥₁
+  puts_on x c within next takes h = rw (one_more n) (∥∥₁_map h (puts pages owners processes events n p0 p1 stood x c within next takes))
+
+  pub latches_on : (x : ℕ) → slice_get owners x ≡ Some own.Open → next_of p0 ≡ act.Latch x → Takes p0 seen.Done p1 → ∥ HasWorld pages owners processes events ∥₁ → ∥ HasWorld pages (slice_set owners x (own.Held (n + 1))) (slice_set processes n p1) (events ++ record { process = n + 1; act = shown.Latch x } ∷ []) ∥₁
+  latches_on x free next takes h = rw (one_more n) (∥∥₁_map h (latches pages owners processes events n p0 p1 stood x free next takes))
+
+  pub opens_on : (x : ℕ) → x < length owners → next_of p0 ≡ act.Open x → Takes p0 seen.Done p1 → ∥ HasWorld pages owners processes events ∥₁ → ∥ HasWorld pages (slice_set owners x own.Open) (slice_set processes n p1) (events ++ record { process = n + 1; act = shown.Open x } ∷ []) ∥₁
+  opens_on x within next takes h = rw (one_more n) (∥∥₁_map h (opens pages owners processes events n p0 p1 stood x within next takes))
+
+  pub takes_page_on : (x : ℕ) → slice_get owners x ≡ Some own.Released → x < length pages → next_of p0 ≡ act.Take → Takes p0 (seen.Took x) p1 → ∥ HasWorld pages owners processes events ∥₁ → ∥ HasWorld pages (slice_set owners x (own.Held (n + 1))) (slice_set processes n p1) (events ++ record { process = n + 1; act = shown.Take x } ∷ []) ∥₁
+  takes_page_on x free within next takes h = rw (one_more n) (∥∥₁_map h (takes_page pages owners processes events n p0 p1 stood x free within next takes))
+
+-- what was read at a place stands there
+pub read_at : {A : Type 0} (xs : List A) (i : ℕ) (v : A) → i < length xs → v ≡ get_or xs i v → slice_get xs i ≡ Some v
+read_at xs i v l e = let s = stands xs i l in s.1 ∙ ap Some (sym (e ∙ get_or_from_slice_get xs i s.0 v s.1))
+
+-- a list has one more, or is as it was
+pub one_or_none : {A E : Type 0} (r : Result A E) (P Q : Type 0) → OnOk r P → OnErr r Q → P ⊎ Q
+one_or_none (Ok a) P Q ok err = inl ok
+one_or_none (Err e) P Q ok err = inr err
+
+-- who stands at a place is who was read there
+pub stood_is : {A : Type 0} (xs : List A) (i : ℕ) (p v : A) → slice_get xs i ≡ Some p → v ≡ get_or xs i v → p ≡ v
+stood_is xs i p v stood e = sym (e ∙ get_or_from_slice_get xs i p v stood)
+
+pub none_left : {A : Type 0} (o : Option A) → ((x : A) → o ≡ Some x → ⊥) → o ≡ None
+none_left None n = refl
+none_left (Some x) n = absurd (n x refl)

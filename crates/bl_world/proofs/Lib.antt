@@ -1,2 +1,3 @@
 pub mod Stands
 pub mod Arms
+pub mod Near

@@ -16,6 +16,8 @@ use Rattle.bl_tables.specs.Knowing.{Run, know}
 use Rattle.bl_world.specs.declared.turns.Act.{Act}
 use Rattle.bl_world.specs.declared.turns.Act.TheVariants as shown
 use Rattle.bl_world.specs.declared.turns.Event.{Event}
+use Rattle.bl_world.specs.declared.turns.Turn.{Turn}
+use Rattle.bl_world.specs.declared.turns.Turn.TheVariants as turn
 use Rattle.bl_world.specs.declared.owners.Owner.{Owner}
 use Rattle.bl_world.specs.declared.owners.Owner.TheVariants as own
 
@@ -64,3 +66,9 @@ pub record HasWorld (pages : List Page) (owners : List Owner) (processes : List 
   pub runs : (n : ℕ) (p : Proc) → slice_get processes n ≡ Some p → (world.proc (name_of (suc n))).state ≡ p
   pub others : (q : Name) → IsUnknown (length processes) q → (world.now.phase q ≡ Waiting) × IsBlank (know (world.proc q))
   pub shown : events ≡ events_shown (events_of world.trail)
+
+-- whose turn it is
+abbrev pub number_in : Turn → ℕ
+number_in (turn.Step number) = number
+number_in (turn.Take number at) = number
+number_in (turn.Refuse number) = number

@@ -1,7 +1,7 @@
 //! Worlds of processes over plain pages: any list of turns of any processes, event by event.
 //!
-//! So far it has the words of turns and events, what stands behind the lists of a world, and for each kind of turn the proof
-//! that from a good world it leads to a good one, with one event more (`proofs/Arms`). The calls that run turns are to come.
+//! Promised to whoever wants to see an interleaving: each turn is one event of the page machine, by what its process does
+//! next, and at every moment there is one legal history of the map in which each answered operation stands at its point.
 #![tactic(auto)]
 
 mod owners;
