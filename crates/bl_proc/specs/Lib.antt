@@ -1,11 +1,5 @@
-pub mod Given
-pub mod Props
-pub mod Onwards
 pub mod Searches
-pub mod Approaches
-pub mod Changes
 pub mod Inserts
 pub mod Deletes
-pub mod Growths
 pub mod Posts
 pub mod Processes

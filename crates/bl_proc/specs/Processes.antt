@@ -1,8 +1,8 @@
 -- A process of any kind does what its kind does.
 use Rattle.std.specs.Prelude.{◌≡◌, ℕ, Option}
-use Rattle.bl_proc.specs.declared.acts.Action.{Action}
-use Rattle.bl_proc.specs.declared.acts.Seen.{Seen}
-use Rattle.bl_proc.specs.declared.answers.Answer.{Answer}
+use Rattle.bl_ways.specs.declared.acts.Action.{Action}
+use Rattle.bl_ways.specs.declared.acts.Seen.{Seen}
+use Rattle.bl_ways.specs.declared.answers.Answer.{Answer}
 use Rattle.bl_proc.specs.declared.kinds.Proc.{Proc}
 use Rattle.bl_proc.specs.declared.kinds.Proc.TheVariants.{Find, Insert, Delete, Post}
 use Rattle.bl_proc.specs.declared.searching.FindStage.TheVariants as find

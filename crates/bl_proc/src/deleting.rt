@@ -2,23 +2,20 @@
 
 ghost use Rattle.std.specs.Prelude.{◌≡◌, ℕ, None, Some};
 ghost use Rattle.bl_laws.specs.Pages.{node_of};
-ghost use Rattle.bl_proc.specs.declared.changing.Change.{Change};
+ghost use Rattle.bl_ways.specs.declared.changing.Change.{Change};
 ghost use Rattle.bl_proc.specs.declared.deleting.DeleteStage.TheVariants as delete_stage;
-ghost use Rattle.bl_proc.specs.declared.onwards.Onward.TheVariants as onward;
-ghost use Rattle.bl_proc.specs.Given.{Gives};
-ghost use Rattle.bl_proc.specs.Onwards.{Leads};
+ghost use Rattle.bl_ways.specs.declared.onwards.Onward.TheVariants as onward;
+ghost use Rattle.bl_ways.specs.Given.{Gives};
+ghost use Rattle.bl_ways.specs.Onwards.{Leads};
 ghost use Rattle.bl_proc.specs.Deletes.{delete_reply, deleted_answer, delete_next_in, delete_needs_in, delete_answer_in, DeleteArrives, DeleteGoes, delete_next, delete_needs, delete_answer, DeleteTakes};
 
-use crate::acts::{Action, Seen};
-use crate::answers::Answer;
-use crate::approaching::{Approach, Approached};
-use crate::changes::dropping;
-use crate::changing::{Change, Changed, Outcome};
-use crate::machine::Process;
-use crate::reading::listed;
 use bl_model::Reply;
 use bl_page::Page;
 use std::mem;
+use bl_ways::{
+    Action, Answer, Approach, Approached, Change, Changed, Outcome, Process, Seen, dropping,
+    listed,
+};
 
 /// The deletion of a key with its value.
 #[derive(Drop)]

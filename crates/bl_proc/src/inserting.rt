@@ -2,27 +2,24 @@
 
 ghost use Rattle.std.specs.Prelude.{◌≡◌, None};
 ghost use Rattle.bl_laws.specs.Pages.{node_of};
-ghost use Rattle.bl_proc.specs.declared.approaching.Approach.{Approach};
-ghost use Rattle.bl_proc.specs.declared.approaching.Approached.TheVariants as approached;
-ghost use Rattle.bl_proc.specs.declared.changing.Change.{Change};
+ghost use Rattle.bl_ways.specs.declared.approaching.Approach.{Approach};
+ghost use Rattle.bl_ways.specs.declared.approaching.Approached.TheVariants as approached;
+ghost use Rattle.bl_ways.specs.declared.changing.Change.{Change};
 ghost use Rattle.bl_proc.specs.declared.inserting.InsertStage.TheVariants as insert_stage;
-ghost use Rattle.bl_proc.specs.Given.{Gives};
-ghost use Rattle.bl_proc.specs.Approaches.{Approaches};
-ghost use Rattle.bl_proc.specs.Changes.{Changes};
+ghost use Rattle.bl_ways.specs.Given.{Gives};
+ghost use Rattle.bl_ways.specs.Approaches.{Approaches};
+ghost use Rattle.bl_ways.specs.Changes.{Changes};
 ghost use Rattle.bl_proc.specs.Inserts.{post_hint, insert_reply, inserted_answer, insert_next_in, insert_needs_in, insert_answer_in, InsertArrives, InsertGoes, insert_next, insert_needs, insert_answer, InsertTakes};
-ghost use Rattle.bl_proc.specs.Onwards.{Leads};
-ghost use Rattle.bl_proc.specs.declared.onwards.Onward.TheVariants as onward;
+ghost use Rattle.bl_ways.specs.Onwards.{Leads};
+ghost use Rattle.bl_ways.specs.declared.onwards.Onward.TheVariants as onward;
 
-use crate::acts::{Action, Seen};
-use crate::answers::{Answer, Hint};
-use crate::approaching::{Approach, Approached};
-use crate::changes::entering;
-use crate::changing::{Change, Changed, Outcome};
-use crate::machine::Process;
-use crate::reading::listed;
 use bl_model::Reply;
 use bl_page::Page;
 use std::mem;
+use bl_ways::{
+    Action, Answer, Approach, Approached, Change, Changed, Hint, Outcome, Process, Seen, entering,
+    listed,
+};
 
 /// The insertion of a key with a value.
 #[derive(Drop)]

@@ -3,13 +3,11 @@
 ghost use Rattle.std.specs.Prelude.{◌≡◌, ◌<◌, ◌≤◌};
 ghost use Rattle.bl_proc.specs.Processes.{next_of, needs_of, answer_of, Takes, IsFind, IsInsert, IsDelete, IsPost};
 
-use crate::acts::{Action, Seen};
-use crate::answers::Answer;
 use crate::deleting::Delete;
 use crate::inserting::Insert;
-use crate::machine::Process;
 use crate::posting::Post;
 use crate::searching::Find;
+use bl_ways::{Action, Answer, Process, Seen};
 
 /// A process of any kind.
 #[derive(Drop)]

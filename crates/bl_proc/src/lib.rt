@@ -7,33 +7,17 @@
 //! operations on B*-trees with overtaking" (JCSS 33, 1986). Nothing is allocated, and a search carries no pages.
 #![tactic(auto)]
 
-mod acts;
-mod answers;
-mod approaching;
-mod changes;
-mod changing;
 mod deleting;
-mod growing;
-mod growths;
 mod inserting;
 mod kinds;
-mod machine;
-mod onwards;
 mod posting;
 mod posts;
-mod reading;
 mod searching;
 
-pub use acts::{Action, Seen};
-pub use answers::{Answer, Hint, Posted};
-pub use approaching::{Approach, Approached};
-pub use changing::{Change, Changed, Full, Outcome, Parting};
+pub use bl_ways::{Action, Answer, Hint, Posted, Process, Seen};
 pub use deleting::{Delete, DeleteReply, DeleteStage};
-pub use growing::{Grew, Growth, Raising, Rise};
 pub use inserting::{Insert, InsertReply, InsertStage};
 pub use kinds::Proc;
-pub use machine::Process;
-pub use onwards::Onward;
 pub use posting::{Post, PostReply, PostStage, Walk};
 pub use searching::{Find, FindStage};
 

@@ -4,10 +4,8 @@ ghost use Rattle.std.specs.Prelude.{◌≡◌, ◌≤◌, ◌<◌, None};
 ghost use Rattle.bl_model.specs.Rows.{map_of};
 ghost use Rattle.bl_page.specs.Pairs.{IsWithin, IsWithin-prop, IsChild, IsChild-prop};
 
-use crate::approaching::Approach;
-use crate::changing::Change;
-use crate::growing::Growth;
 use bl_page::Inner;
+use bl_ways::{Approach, Change, Growth};
 
 /// The walk to the child that covers a key, from a parent that is held and does not list it.
 #[derive(Drop)]

@@ -3,26 +3,21 @@
 ghost use Rattle.std.specs.Prelude.{◌≡◌, ◌<◌, ◌≤◌, ◌-◌, None};
 ghost use Rattle.bl_page.specs.Pairs.{IsWithin};
 ghost use Rattle.bl_page.specs.declared.page.Page.TheVariants as page;
-ghost use Rattle.bl_proc.specs.declared.approaching.Approach.TheVariants as approach;
-ghost use Rattle.bl_proc.specs.declared.onwards.Onward.TheVariants as onward;
+ghost use Rattle.bl_ways.specs.declared.approaching.Approach.TheVariants as approach;
+ghost use Rattle.bl_ways.specs.declared.onwards.Onward.TheVariants as onward;
 ghost use Rattle.bl_proc.specs.declared.posting.PostStage.TheVariants as post_stage;
-ghost use Rattle.bl_proc.specs.Given.{Gives};
-ghost use Rattle.bl_proc.specs.Onwards.{Leads};
+ghost use Rattle.bl_ways.specs.Given.{Gives};
+ghost use Rattle.bl_ways.specs.Onwards.{Leads};
 ghost use Rattle.bl_proc.specs.Posts.{post_reply, posted_answer, post_next_in, post_needs_in, post_answer_in, PostStarts, PostArrives, PostWalks, PostNears, PostComes, PostGoes, post_next, post_needs, post_answer, PostTakes};
 
-use crate::acts::{Action, Seen};
-use crate::answers::{Answer, Posted};
-use crate::approaching::{Approach, Approached, entered};
-use crate::changes::entering;
-use crate::changing::{Change, Changed, Outcome};
-use crate::growing::{Grew, Growth};
 use crate::inserting::hint_to_post;
-use crate::machine::Process;
-use crate::onwards::{Onward, way_from};
 use crate::posting::{Post, PostReply, PostStage, Walk};
-use crate::reading::{levels_of, low_of};
 use bl_page::{Inner, Page, listed_with};
 use std::mem;
+use bl_ways::{
+    Action, Answer, Approach, Approached, Change, Changed, Grew, Growth, Onward, Outcome, Posted,
+    Process, Seen, entered, entering, levels_of, low_of, way_from,
+};
 
 /// What a post answers by what became of its parent.
 fn reply_of(outcome: Outcome) -> PostReply

@@ -1,18 +1,14 @@
 //! The search for a key's value.
 
 ghost use Rattle.std.specs.Prelude.{◌≡◌, None};
-ghost use Rattle.bl_proc.specs.declared.acts.Seen.TheVariants as seen;
+ghost use Rattle.bl_ways.specs.declared.acts.Seen.TheVariants as seen;
 ghost use Rattle.bl_proc.specs.declared.searching.FindStage.TheVariants as find_stage;
-ghost use Rattle.bl_proc.specs.Given.{Gives};
+ghost use Rattle.bl_ways.specs.Given.{Gives};
 ghost use Rattle.bl_proc.specs.Searches.{find_next_in, find_answer_in, find_next, find_needs, find_answer, FindGoes, FindTakes};
 
-use crate::acts::{Action, Seen};
-use crate::answers::Answer;
-use crate::machine::Process;
-use crate::onwards::{Onward, way_from};
-use crate::reading::{listed, top_page};
 use bl_model::Reply;
 use bl_page::Page;
+use bl_ways::{Action, Answer, Onward, Process, Seen, listed, top_page, way_from};
 
 /// A search for the value of a key.
 #[derive(Clone, Copy)]

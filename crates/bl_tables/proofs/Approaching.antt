@@ -13,15 +13,15 @@ use Rattle.bl_trails.proofs.Pushes.{HasSaid-silent}
 use Rattle.bl_steps.specs.Worlds.{Goes, Stage, Know, World, nodes, Each, IsStage, MayGet, IsGoes, IsSure, IsGood}
 use Rattle.bl_steps.proofs.Watches.{Learns}
 use Rattle.bl_descents.proofs.Descents.{goes_leftmost, goes_on, goes_right, goes_down, not_released, anchor_not_released, open_live}
-use Rattle.bl_proc.specs.declared.acts.Seen.{Seen}
-use Rattle.bl_proc.specs.declared.acts.Seen.TheVariants as seen
-use Rattle.bl_proc.specs.declared.onwards.Onward.{Onward}
-use Rattle.bl_proc.specs.declared.onwards.Onward.TheVariants.{Again, Right, Down, Here}
-use Rattle.bl_proc.specs.declared.approaching.Approach.{Approach}
-use Rattle.bl_proc.specs.declared.approaching.Approach.TheVariants.{Start, At, Latching, Latched, Leaving}
-use Rattle.bl_proc.specs.declared.approaching.Approached.TheVariants as came
-use Rattle.bl_proc.specs.Onwards.{IsDead, Leads}
-use Rattle.bl_proc.specs.Approaches.{approach_next, Enters, Turns, Quits, Approaches}
+use Rattle.bl_ways.specs.declared.acts.Seen.{Seen}
+use Rattle.bl_ways.specs.declared.acts.Seen.TheVariants as seen
+use Rattle.bl_ways.specs.declared.onwards.Onward.{Onward}
+use Rattle.bl_ways.specs.declared.onwards.Onward.TheVariants.{Again, Right, Down, Here}
+use Rattle.bl_ways.specs.declared.approaching.Approach.{Approach}
+use Rattle.bl_ways.specs.declared.approaching.Approach.TheVariants.{Start, At, Latching, Latched, Leaving}
+use Rattle.bl_ways.specs.declared.approaching.Approached.TheVariants as came
+use Rattle.bl_ways.specs.Onwards.{IsDead, Leads}
+use Rattle.bl_ways.specs.Approaches.{approach_next, Enters, Turns, Quits, Approaches}
 use Rattle.bl_tables.specs.Turns.{event_of, IsTold, Does, Turned}
 use Rattle.bl_tables.specs.Tables.{idle, holds_live, goes_to, know_approach}
 use Rattle.bl_tables.proofs.Acts.{watched, latched, opened}

@@ -20,17 +20,17 @@ use Rattle.bl_steps.proofs.Frames.{Each-map}
 use Rattle.bl_steps.proofs.After.{after, Extends-after, put_at, is_put_at}
 use Rattle.bl_puts.proofs.Moves.{PutsFresh-keeps, PutsRow-keeps, PutsSplit-keeps}
 use Rattle.bl_puts.proofs.Fitted.{split_cut}
-use Rattle.bl_proc.specs.declared.acts.Seen.{Seen}
-use Rattle.bl_proc.specs.declared.acts.Seen.TheVariants as seen
-use Rattle.bl_proc.specs.declared.changing.Changed.TheVariants.{On, Over}
-use Rattle.bl_proc.specs.Changes.{change_next, Changes}
+use Rattle.bl_ways.specs.declared.acts.Seen.{Seen}
+use Rattle.bl_ways.specs.declared.acts.Seen.TheVariants as seen
+use Rattle.bl_ways.specs.declared.changing.Changed.TheVariants.{On, Over}
+use Rattle.bl_ways.specs.Changes.{change_next, Changes}
 use Rattle.bl_tables.specs.Turns.{event_of, IsTold, Does, Turned}
-use Rattle.bl_proc.specs.declared.changing.Outcome.{Outcome}
-use Rattle.bl_proc.specs.declared.changing.Outcome.TheVariants as outcome
-use Rattle.bl_proc.specs.declared.changing.Full.{Full}
-use Rattle.bl_proc.specs.declared.changing.Parting.{Parting}
-use Rattle.bl_proc.specs.declared.changing.Change.{Change}
-use Rattle.bl_proc.specs.declared.changing.Change.TheVariants.{Putting, Taking, PuttingNew, PuttingOld, OpeningNew, Opening}
+use Rattle.bl_ways.specs.declared.changing.Outcome.{Outcome}
+use Rattle.bl_ways.specs.declared.changing.Outcome.TheVariants as outcome
+use Rattle.bl_ways.specs.declared.changing.Full.{Full}
+use Rattle.bl_ways.specs.declared.changing.Parting.{Parting}
+use Rattle.bl_ways.specs.declared.changing.Change.{Change}
+use Rattle.bl_ways.specs.declared.changing.Change.TheVariants.{Putting, Taking, PuttingNew, PuttingOld, OpeningNew, Opening}
 use Rattle.bl_tables.specs.Tables.{idle, holds_known, Aim, IsAim, IsDue, know_change}
 use Rattle.bl_tables.proofs.Acts.{of_held, not_gone, watched, opened, taken}
 

@@ -9,9 +9,9 @@ use Rattle.bl_trails.proofs.Pushes.{HasSaid-silent}
 use Rattle.bl_steps.specs.Worlds.{Stage, World, Each, IsStage, IsRelied, Holds}
 use Rattle.bl_steps.proofs.Watches.{Learns}
 use Rattle.bl_puts.proofs.Fitted.{fits_row, without_row}
-use Rattle.bl_proc.specs.declared.changing.Change.{Change}
-use Rattle.bl_proc.specs.declared.changing.Change.TheVariants.{Putting, Taking, PuttingNew, PuttingOld, OpeningNew, Opening}
-use Rattle.bl_proc.specs.Changes.{EntersPair, DropsPair}
+use Rattle.bl_ways.specs.declared.changing.Change.{Change}
+use Rattle.bl_ways.specs.declared.changing.Change.TheVariants.{Putting, Taking, PuttingNew, PuttingOld, OpeningNew, Opening}
+use Rattle.bl_ways.specs.Changes.{EntersPair, DropsPair}
 use Rattle.bl_tables.specs.Tables.{Aim, IsDue, know_change}
 
 -- What it has of page x, which is c, when a change of it begins.

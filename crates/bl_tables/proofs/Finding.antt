@@ -7,12 +7,12 @@ use Rattle.bl_laws.specs.Pages.{roots_of}
 use Rattle.bl_trails.specs.Trails.{Mark}
 use Rattle.bl_steps.specs.Worlds.{Know, World, nodes, MapsTo, IsGoes, IsSure, IsGood}
 use Rattle.bl_descents.proofs.Descents.{goes_leftmost, goes_down, leaf_says, not_released, anchor_not_released}
-use Rattle.bl_proc.specs.declared.acts.Seen.{Seen}
-use Rattle.bl_proc.specs.declared.acts.Seen.TheVariants as seen
-use Rattle.bl_proc.specs.declared.onwards.Onward.TheVariants.{Right, Down, Here}
+use Rattle.bl_ways.specs.declared.acts.Seen.{Seen}
+use Rattle.bl_ways.specs.declared.acts.Seen.TheVariants as seen
+use Rattle.bl_ways.specs.declared.onwards.Onward.TheVariants.{Right, Down, Here}
 use Rattle.bl_proc.specs.declared.searching.FindStage.{FindStage}
 use Rattle.bl_proc.specs.declared.searching.FindStage.TheVariants.{New, AtAnchor, At, Ending, Over}
-use Rattle.bl_proc.specs.Onwards.{Leads}
+use Rattle.bl_ways.specs.Onwards.{Leads}
 use Rattle.bl_proc.specs.Searches.{find_next_in, FindGoes}
 use Rattle.bl_tables.specs.Turns.{event_of, IsTold, Does, Turned}
 use Rattle.bl_tables.specs.Tables.{goes_to}

@@ -18,16 +18,16 @@ use Rattle.bl_steps.proofs.Watches.{Learns}
 use Rattle.bl_steps.proofs.After.{after, Extends-after, put_at, is_put_at}
 use Rattle.bl_descents.proofs.Descents.{anchor_not_released}
 use Rattle.bl_puts.proofs.Moves.{PutsFresh-keeps, PutsTop-keeps}
-use Rattle.bl_proc.specs.declared.growing.Rise.{Rise}
-use Rattle.bl_proc.specs.declared.growing.Raising.{Raising}
-use Rattle.bl_proc.specs.declared.growing.Growth.{Growth}
-use Rattle.bl_proc.specs.declared.growing.Growth.TheVariants as growth
-use Rattle.bl_proc.specs.declared.acts.Seen.{Seen}
-use Rattle.bl_proc.specs.declared.acts.Seen.TheVariants as seen
-use Rattle.bl_proc.specs.declared.growing.Grew.TheVariants.{On, Grown, Refused}
-use Rattle.bl_proc.specs.declared.approaching.Approach.TheVariants.{Start}
+use Rattle.bl_ways.specs.declared.growing.Rise.{Rise}
+use Rattle.bl_ways.specs.declared.growing.Raising.{Raising}
+use Rattle.bl_ways.specs.declared.growing.Growth.{Growth}
+use Rattle.bl_ways.specs.declared.growing.Growth.TheVariants as growth
+use Rattle.bl_ways.specs.declared.acts.Seen.{Seen}
+use Rattle.bl_ways.specs.declared.acts.Seen.TheVariants as seen
+use Rattle.bl_ways.specs.declared.growing.Grew.TheVariants.{On, Grown, Refused}
+use Rattle.bl_ways.specs.declared.approaching.Approach.TheVariants.{Start}
 use Rattle.bl_proc.specs.declared.posting.PostStage.TheVariants.{Growing}
-use Rattle.bl_proc.specs.Growths.{growth_next, IsTop, IsAnchor, Raises, Grows}
+use Rattle.bl_ways.specs.Growths.{growth_next, IsTop, IsAnchor, Raises, Grows}
 use Rattle.bl_tables.specs.Turns.{event_of, IsTold, Does, Turned}
 use Rattle.bl_tables.specs.Tables.{idle, know_approach}
 use Rattle.bl_tables.specs.Knowing.{ending, anchor_known, know_growth, post_got}

@@ -9,21 +9,21 @@ use Rattle.bl_trails.proofs.Pushes.{HasSaid-silent}
 use Rattle.bl_steps.specs.Worlds.{Holds, Know, World, nodes, MapsTo, IsSure, IsGood, silent}
 use Rattle.bl_descents.proofs.Descents.{held_leaf_says, not_released}
 use Rattle.bl_tree.proofs.Statuses.{live_live}
-use Rattle.bl_proc.specs.declared.acts.Seen.{Seen}
-use Rattle.bl_proc.specs.declared.acts.Seen.TheVariants as seen
-use Rattle.bl_proc.specs.declared.onwards.Onward.TheVariants.{Here}
-use Rattle.bl_proc.specs.declared.approaching.Approach.{Approach}
-use Rattle.bl_proc.specs.declared.approaching.Approach.TheVariants as way
-use Rattle.bl_proc.specs.declared.approaching.Approached.TheVariants as came
-use Rattle.bl_proc.specs.declared.changing.Outcome.{Outcome}
-use Rattle.bl_proc.specs.declared.changing.Outcome.TheVariants as outcome
-use Rattle.bl_proc.specs.declared.changing.Change.{Change}
+use Rattle.bl_ways.specs.declared.acts.Seen.{Seen}
+use Rattle.bl_ways.specs.declared.acts.Seen.TheVariants as seen
+use Rattle.bl_ways.specs.declared.onwards.Onward.TheVariants.{Here}
+use Rattle.bl_ways.specs.declared.approaching.Approach.{Approach}
+use Rattle.bl_ways.specs.declared.approaching.Approach.TheVariants as way
+use Rattle.bl_ways.specs.declared.approaching.Approached.TheVariants as came
+use Rattle.bl_ways.specs.declared.changing.Outcome.{Outcome}
+use Rattle.bl_ways.specs.declared.changing.Outcome.TheVariants as outcome
+use Rattle.bl_ways.specs.declared.changing.Change.{Change}
 use Rattle.bl_proc.specs.declared.inserting.InsertStage.{InsertStage}
 use Rattle.bl_proc.specs.declared.inserting.InsertStage.TheVariants as insert
 use Rattle.bl_proc.specs.declared.inserting.InsertReply.TheVariants as inserted
-use Rattle.bl_proc.specs.Onwards.{Leads}
-use Rattle.bl_proc.specs.Approaches.{approach_next, Approaches}
-use Rattle.bl_proc.specs.Changes.{change_next, EntersPair}
+use Rattle.bl_ways.specs.Onwards.{Leads}
+use Rattle.bl_ways.specs.Approaches.{approach_next, Approaches}
+use Rattle.bl_ways.specs.Changes.{change_next, EntersPair}
 use Rattle.bl_proc.specs.Inserts.{insert_reply, insert_next_in, InsertArrives, InsertGoes}
 use Rattle.bl_tables.specs.Turns.{event_of, IsTold, Does, Turned}
 use Rattle.bl_tables.specs.Tables.{IsAim, know_approach, know_change}

@@ -8,14 +8,14 @@ use Rattle.bl_tree.specs.Trees.Status.{Free}
 use Rattle.bl_steps.specs.Worlds.{Know, World, was_in, MayGet, IsSure, IsGood}
 use Rattle.bl_steps.proofs.Steady.{free_not}
 use Rattle.bl_descents.proofs.Descents.{not_released, anchor_not_released}
-use Rattle.bl_proc.specs.declared.acts.Action.{Action}
-use Rattle.bl_proc.specs.declared.acts.Action.TheVariants as act
-use Rattle.bl_proc.specs.declared.approaching.Approach.{Approach}
-use Rattle.bl_proc.specs.declared.approaching.Approach.TheVariants as way
-use Rattle.bl_proc.specs.declared.changing.Change.{Change}
-use Rattle.bl_proc.specs.declared.changing.Change.TheVariants as change
-use Rattle.bl_proc.specs.declared.growing.Growth.{Growth}
-use Rattle.bl_proc.specs.declared.growing.Growth.TheVariants as growth
+use Rattle.bl_ways.specs.declared.acts.Action.{Action}
+use Rattle.bl_ways.specs.declared.acts.Action.TheVariants as act
+use Rattle.bl_ways.specs.declared.approaching.Approach.{Approach}
+use Rattle.bl_ways.specs.declared.approaching.Approach.TheVariants as way
+use Rattle.bl_ways.specs.declared.changing.Change.{Change}
+use Rattle.bl_ways.specs.declared.changing.Change.TheVariants as change
+use Rattle.bl_ways.specs.declared.growing.Growth.{Growth}
+use Rattle.bl_ways.specs.declared.growing.Growth.TheVariants as growth
 use Rattle.bl_proc.specs.declared.searching.FindStage.{FindStage}
 use Rattle.bl_proc.specs.declared.searching.FindStage.TheVariants as find
 use Rattle.bl_proc.specs.declared.inserting.InsertStage.{InsertStage}
@@ -26,9 +26,9 @@ use Rattle.bl_proc.specs.declared.posting.PostStage.{PostStage}
 use Rattle.bl_proc.specs.declared.posting.PostStage.TheVariants as post
 use Rattle.bl_proc.specs.declared.kinds.Proc.{Proc}
 use Rattle.bl_proc.specs.declared.kinds.Proc.TheVariants.{Find, Insert, Delete, Post}
-use Rattle.bl_proc.specs.Approaches.{approach_next}
-use Rattle.bl_proc.specs.Changes.{change_next}
-use Rattle.bl_proc.specs.Growths.{growth_next}
+use Rattle.bl_ways.specs.Approaches.{approach_next}
+use Rattle.bl_ways.specs.Changes.{change_next}
+use Rattle.bl_ways.specs.Growths.{growth_next}
 use Rattle.bl_proc.specs.Searches.{find_next_in}
 use Rattle.bl_proc.specs.Inserts.{insert_next_in}
 use Rattle.bl_proc.specs.Deletes.{delete_next_in}

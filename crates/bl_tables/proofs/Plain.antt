@@ -3,12 +3,12 @@ use Rattle.std.proofs.Common.{ℕ, ◌≡◌, None, Some, refl}
 use Rattle.bl_page.specs.declared.page.Page.{Page}
 use Rattle.bl_trails.specs.Trails.{Trail}
 use Rattle.bl_steps.specs.Worlds.{Know}
-use Rattle.bl_proc.specs.declared.approaching.Approach.{Approach}
-use Rattle.bl_proc.specs.declared.approaching.Approach.TheVariants as way
-use Rattle.bl_proc.specs.declared.changing.Change.{Change}
-use Rattle.bl_proc.specs.declared.changing.Change.TheVariants as change
-use Rattle.bl_proc.specs.declared.growing.Growth.{Growth}
-use Rattle.bl_proc.specs.declared.growing.Growth.TheVariants as growth
+use Rattle.bl_ways.specs.declared.approaching.Approach.{Approach}
+use Rattle.bl_ways.specs.declared.approaching.Approach.TheVariants as way
+use Rattle.bl_ways.specs.declared.changing.Change.{Change}
+use Rattle.bl_ways.specs.declared.changing.Change.TheVariants as change
+use Rattle.bl_ways.specs.declared.growing.Growth.{Growth}
+use Rattle.bl_ways.specs.declared.growing.Growth.TheVariants as growth
 use Rattle.bl_proc.specs.declared.searching.FindStage.{FindStage}
 use Rattle.bl_proc.specs.declared.searching.FindStage.TheVariants as find
 use Rattle.bl_proc.specs.declared.inserting.InsertStage.{InsertStage}

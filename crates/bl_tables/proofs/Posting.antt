@@ -13,23 +13,23 @@ use Rattle.bl_trails.proofs.Pushes.{HasSaid-silent}
 use Rattle.bl_steps.specs.Worlds.{Holds, Stage, Know, World, nodes, tree_of, IsGoes, IsSure, IsGood}
 use Rattle.bl_descents.proofs.Descents.{goes_down, not_released, anchor_not_released}
 use Rattle.bl_descents.proofs.Children.{child_found}
-use Rattle.bl_proc.specs.declared.acts.Seen.{Seen}
-use Rattle.bl_proc.specs.declared.acts.Seen.TheVariants as seen
-use Rattle.bl_proc.specs.declared.onwards.Onward.TheVariants.{Here}
-use Rattle.bl_proc.specs.declared.approaching.Approach.{Approach}
-use Rattle.bl_proc.specs.declared.approaching.Approach.TheVariants as way
-use Rattle.bl_proc.specs.declared.approaching.Approached.TheVariants as came
-use Rattle.bl_proc.specs.declared.changing.Change.{Change}
-use Rattle.bl_proc.specs.declared.growing.Growth.{Growth}
-use Rattle.bl_proc.specs.declared.growing.Growth.TheVariants as growth
+use Rattle.bl_ways.specs.declared.acts.Seen.{Seen}
+use Rattle.bl_ways.specs.declared.acts.Seen.TheVariants as seen
+use Rattle.bl_ways.specs.declared.onwards.Onward.TheVariants.{Here}
+use Rattle.bl_ways.specs.declared.approaching.Approach.{Approach}
+use Rattle.bl_ways.specs.declared.approaching.Approach.TheVariants as way
+use Rattle.bl_ways.specs.declared.approaching.Approached.TheVariants as came
+use Rattle.bl_ways.specs.declared.changing.Change.{Change}
+use Rattle.bl_ways.specs.declared.growing.Growth.{Growth}
+use Rattle.bl_ways.specs.declared.growing.Growth.TheVariants as growth
 use Rattle.bl_proc.specs.declared.posting.Walk.{Walk}
 use Rattle.bl_proc.specs.declared.posting.PostStage.{PostStage}
 use Rattle.bl_proc.specs.declared.posting.PostStage.TheVariants as post
 use Rattle.bl_proc.specs.declared.posting.PostReply.TheVariants as reply
-use Rattle.bl_proc.specs.Onwards.{Leads}
-use Rattle.bl_proc.specs.Approaches.{approach_next, Approaches}
-use Rattle.bl_proc.specs.Changes.{change_next, EntersPair}
-use Rattle.bl_proc.specs.Growths.{growth_next}
+use Rattle.bl_ways.specs.Onwards.{Leads}
+use Rattle.bl_ways.specs.Approaches.{approach_next, Approaches}
+use Rattle.bl_ways.specs.Changes.{change_next, EntersPair}
+use Rattle.bl_ways.specs.Growths.{growth_next}
 use Rattle.bl_proc.specs.Posts.{post_next_in, PostStarts, PostArrives, PostWalks, PostNears, PostComes, PostGoes}
 use Rattle.bl_tables.specs.Turns.{event_of, IsTold, Does, Turned}
 use Rattle.bl_tables.specs.Tables.{idle, holds_live, goes_to, IsAim, IsDue, know_approach, know_change}

@@ -7,7 +7,7 @@ use Rattle.bl_trails.specs.Trails.{Mark, marks_of}
 use Rattle.bl_trails.proofs.Pushes.{HasSaid-silent}
 use Rattle.bl_steps.specs.Worlds.{World, IsHeld, IsRelied, IsGood, silent}
 use Rattle.bl_steps.proofs.Frames.{Each-map}
-use Rattle.bl_proc.specs.declared.acts.Seen.{Seen}
+use Rattle.bl_ways.specs.declared.acts.Seen.{Seen}
 use Rattle.bl_proc.specs.declared.kinds.Proc.{Proc}
 use Rattle.bl_proc.specs.declared.kinds.Proc.TheVariants.{Find, Insert, Delete, Post}
 use Rattle.bl_proc.specs.Processes.{next_of, Takes}

@@ -10,12 +10,12 @@ use Rattle.bl_model.specs.Map.{Map}
 use Rattle.bl_page.specs.Machine.{Name}
 use Rattle.bl_tree.specs.Moves.{MayList}
 use Rattle.bl_steps.specs.Worlds.{Hold, Goes, Child, Stage, Know, World, Each, IsRelied, MapsTo, nodes, tree_of}
-use Rattle.bl_proc.specs.declared.approaching.Approach.{Approach}
-use Rattle.bl_proc.specs.declared.approaching.Approach.TheVariants.{Start, At, Latching, Latched, Leaving}
-use Rattle.bl_proc.specs.declared.changing.Outcome.{Outcome}
-use Rattle.bl_proc.specs.declared.changing.Outcome.TheVariants as outcome
-use Rattle.bl_proc.specs.declared.changing.Change.{Change}
-use Rattle.bl_proc.specs.declared.changing.Change.TheVariants.{Putting, Taking, PuttingNew, PuttingOld, OpeningNew, Opening}
+use Rattle.bl_ways.specs.declared.approaching.Approach.{Approach}
+use Rattle.bl_ways.specs.declared.approaching.Approach.TheVariants.{Start, At, Latching, Latched, Leaving}
+use Rattle.bl_ways.specs.declared.changing.Outcome.{Outcome}
+use Rattle.bl_ways.specs.declared.changing.Outcome.TheVariants as outcome
+use Rattle.bl_ways.specs.declared.changing.Change.{Change}
+use Rattle.bl_ways.specs.declared.changing.Change.TheVariants.{Putting, Taking, PuttingNew, PuttingOld, OpeningNew, Opening}
 
 -- nothing but where it stands
 abbrev pub idle : Stage → Know

@@ -7,10 +7,10 @@ use Rattle.bl_page.specs.Machine.Owner.{Released}
 use Rattle.bl_page.specs.Machine.Act.{Begin, End, Get, Put, Take, Latch, Retire, Release, Miss}
 use Rattle.bl_trails.specs.Trails.{Said}
 use Rattle.bl_steps.specs.Worlds.{Know, World, IsGood, Extends}
-use Rattle.bl_proc.specs.declared.acts.Action.{Action}
-use Rattle.bl_proc.specs.declared.acts.Action.TheVariants as act
-use Rattle.bl_proc.specs.declared.acts.Seen.{Seen}
-use Rattle.bl_proc.specs.declared.acts.Seen.TheVariants as seen
+use Rattle.bl_ways.specs.declared.acts.Action.{Action}
+use Rattle.bl_ways.specs.declared.acts.Action.TheVariants as act
+use Rattle.bl_ways.specs.declared.acts.Seen.{Seen}
+use Rattle.bl_ways.specs.declared.acts.Seen.TheVariants as seen
 
 -- The event of an action that gave this. An end carries the reply of the operation, if the process has one.
 abbrev pub event_of : Option Reply → Action → Seen → Act Page Reply

@@ -10,10 +10,10 @@ use Rattle.bl_page.specs.Machine.Owner.{Held as MachineHeld}
 use Rattle.bl_page.specs.Machine.{Owner as MachineOwner}
 use Rattle.bl_page.specs.Machine.Phase.{Running, Ended}
 use Rattle.bl_steps.proofs.After.{put_at, is_put_at, put_name, is_put_name}
-use Rattle.bl_proc.specs.declared.acts.Action.{Action}
-use Rattle.bl_proc.specs.declared.acts.Action.TheVariants as act
-use Rattle.bl_proc.specs.declared.acts.Seen.{Seen}
-use Rattle.bl_proc.specs.declared.acts.Seen.TheVariants as seen
+use Rattle.bl_ways.specs.declared.acts.Action.{Action}
+use Rattle.bl_ways.specs.declared.acts.Action.TheVariants as act
+use Rattle.bl_ways.specs.declared.acts.Seen.{Seen}
+use Rattle.bl_ways.specs.declared.acts.Seen.TheVariants as seen
 use Rattle.bl_proc.specs.declared.kinds.Proc.{Proc}
 use Rattle.bl_proc.specs.Processes.{next_of, Takes}
 use Rattle.bl_tables.specs.Turns.{event_of, IsTold, Does, Turned}

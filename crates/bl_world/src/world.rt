@@ -3,8 +3,8 @@
 ghost use Rattle.std.specs.Prelude.{◌≡◌, ◌<◌, ◌≤◌, ◌++◌, ◌∷◌, ◌+◌, ◌^◌, [], length, Some, None, slice_get, slice_set, OnOk, OnErr, IsTrue, ◌↔◌};
 ghost use Rattle.bl_world.specs.declared.owners.Owner.TheVariants as own;
 ghost use Rattle.bl_proc.specs.declared.kinds.Proc.{Proc};
-ghost use Rattle.bl_proc.specs.declared.acts.Action.TheVariants as act;
-ghost use Rattle.bl_proc.specs.Given.{Gives};
+ghost use Rattle.bl_ways.specs.declared.acts.Action.TheVariants as act;
+ghost use Rattle.bl_ways.specs.Given.{Gives};
 ghost use Rattle.bl_proc.specs.Processes.{next_of, needs_of, answer_of, Takes};
 ghost use Rattle.bl_world.specs.Worlds.{HasWorld, number_in};
 

@@ -1,5 +1,5 @@
 use Rattle.std.proofs.Common.{refl}
-use Rattle.bl_proc.specs.declared.onwards.Onward.TheVariants.{Right}
+use Rattle.bl_ways.specs.declared.onwards.Onward.TheVariants.{Right}
 use Rattle.bl_proc.proofs.posts.walk_on.Goals as goal
 
 pub returns-then-next-eq0 : goal.returns-then-next-eq0

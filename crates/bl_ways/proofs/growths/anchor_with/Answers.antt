@@ -1,7 +1,7 @@
 use Rattle.std.proofs.Common.{arith, subst, sym}
 use Rattle.bl_page.specs.Pairs.{AreChildren}
 use Rattle.bl_page.proofs.PagesIn.{AreChildren-push}
-use Rattle.bl_proc.proofs.growths.anchor_with.Goals as goal
+use Rattle.bl_ways.proofs.growths.anchor_with.Goals as goal
 
 pub invariant_of-result : goal.invariant_of-result
 invariant_of-result c = record {

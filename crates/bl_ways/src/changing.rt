@@ -4,7 +4,7 @@ ghost use Rattle.std.specs.Prelude.{◌≡◌, ◌≤◌, None, length};
 ghost use Rattle.bl_model.specs.Rows.{map_of};
 ghost use Rattle.bl_page.specs.Pages.{Covers};
 ghost use Rattle.bl_rearrange.specs.Rearranged.{MayHold, pairs_of};
-ghost use Rattle.bl_proc.specs.Props.{Covers-prop, MayHold-prop};
+ghost use Rattle.bl_ways.specs.Props.{Covers-prop, MayHold-prop};
 
 use bl_page::Page;
 

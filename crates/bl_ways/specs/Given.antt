@@ -1,10 +1,10 @@
 -- What each action may give.
 use Rattle.std.specs.Prelude.{ℕ, Option, IsSome}
 use Rattle.bl_page.specs.Pairs.{IsChild}
-use Rattle.bl_proc.specs.declared.acts.Action.{Action}
-use Rattle.bl_proc.specs.declared.acts.Action.TheVariants as act
-use Rattle.bl_proc.specs.declared.acts.Seen.{Seen}
-use Rattle.bl_proc.specs.declared.acts.Seen.TheVariants as seen
+use Rattle.bl_ways.specs.declared.acts.Action.{Action}
+use Rattle.bl_ways.specs.declared.acts.Action.TheVariants as act
+use Rattle.bl_ways.specs.declared.acts.Seen.{Seen}
+use Rattle.bl_ways.specs.declared.acts.Seen.TheVariants as seen
 
 -- Only a latch or a release can be missed, and only what needs a reservation can be refused.
 abbrev pub Gives : Action → Option (ℕ × ℕ) → Seen → Type 0

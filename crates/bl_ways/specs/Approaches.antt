@@ -3,18 +3,17 @@ use Rattle.std.specs.Prelude.{◌≡◌, ◌≢◌, ℕ, suc, ◌<◌, ◌≤◌
 use Rattle.bl_page.specs.declared.page.Page.{Page}
 use Rattle.bl_tree.specs.Nodes.{Roots}
 use Rattle.bl_laws.specs.Pages.{node_of, roots_of}
-use Rattle.bl_proc.specs.declared.acts.Action.{Action}
-use Rattle.bl_proc.specs.declared.acts.Action.TheVariants as act
-use Rattle.bl_proc.specs.declared.acts.Seen.{Seen}
-use Rattle.bl_proc.specs.declared.acts.Seen.TheVariants as seen
-use Rattle.bl_proc.specs.declared.onwards.Onward.{Onward}
-use Rattle.bl_proc.specs.declared.onwards.Onward.TheVariants.{Again, Right, Down, Here}
-use Rattle.bl_proc.specs.declared.approaching.Approach.{Approach}
-use Rattle.bl_proc.specs.declared.approaching.Approach.TheVariants.{Start, At, Latching, Latched, Leaving}
-use Rattle.bl_proc.specs.declared.approaching.Approached.{Approached}
-use Rattle.bl_proc.specs.declared.approaching.Approached.TheVariants as came
-use Rattle.bl_proc.specs.Onwards.{Leads}
-use Rattle.bl_proc.specs.Searches.{top_of}
+use Rattle.bl_ways.specs.declared.acts.Action.{Action}
+use Rattle.bl_ways.specs.declared.acts.Action.TheVariants as act
+use Rattle.bl_ways.specs.declared.acts.Seen.{Seen}
+use Rattle.bl_ways.specs.declared.acts.Seen.TheVariants as seen
+use Rattle.bl_ways.specs.declared.onwards.Onward.{Onward}
+use Rattle.bl_ways.specs.declared.onwards.Onward.TheVariants.{Again, Right, Down, Here}
+use Rattle.bl_ways.specs.declared.approaching.Approach.{Approach}
+use Rattle.bl_ways.specs.declared.approaching.Approach.TheVariants.{Start, At, Latching, Latched, Leaving}
+use Rattle.bl_ways.specs.declared.approaching.Approached.{Approached}
+use Rattle.bl_ways.specs.declared.approaching.Approached.TheVariants as came
+use Rattle.bl_ways.specs.Onwards.{top_of, Leads}
 
 abbrev pub approach_next : Approach → Action
 approach_next Start = act.Get 0

@@ -5,11 +5,11 @@ ghost use Rattle.bl_model.specs.Rows.{map_of};
 ghost use Rattle.bl_page.specs.Pages.{Covers};
 ghost use Rattle.bl_page.specs.Pairs.{IsChild};
 ghost use Rattle.bl_rearrange.specs.Rearranged.{MayHold, MayLose, pairs_of};
-ghost use Rattle.bl_proc.specs.declared.acts.Seen.TheVariants as seen;
-ghost use Rattle.bl_proc.specs.declared.changing.Change.TheVariants as change;
-ghost use Rattle.bl_proc.specs.declared.changing.Changed.TheVariants as changed;
-ghost use Rattle.bl_proc.specs.Given.{Gives};
-ghost use Rattle.bl_proc.specs.Changes.{change_next, change_needs, EntersPair, DropsPair, Changes};
+ghost use Rattle.bl_ways.specs.declared.acts.Seen.TheVariants as seen;
+ghost use Rattle.bl_ways.specs.declared.changing.Change.TheVariants as change;
+ghost use Rattle.bl_ways.specs.declared.changing.Changed.TheVariants as changed;
+ghost use Rattle.bl_ways.specs.Given.{Gives};
+ghost use Rattle.bl_ways.specs.Changes.{change_next, change_needs, EntersPair, DropsPair, Changes};
 
 use crate::acts::{Action, Seen};
 use crate::changing::{Change, Changed, Full, Outcome, Parting};

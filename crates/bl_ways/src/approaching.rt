@@ -2,12 +2,12 @@
 
 ghost use Rattle.std.specs.Prelude.{◌≡◌, ℕ, None};
 ghost use Rattle.bl_laws.specs.Pages.{roots_of};
-ghost use Rattle.bl_proc.specs.declared.acts.Seen.TheVariants as seen;
-ghost use Rattle.bl_proc.specs.declared.approaching.Approach.TheVariants as approach;
-ghost use Rattle.bl_proc.specs.declared.approaching.Approached.TheVariants as approached;
-ghost use Rattle.bl_proc.specs.Given.{Gives};
-ghost use Rattle.bl_proc.specs.Onwards.{Leads};
-ghost use Rattle.bl_proc.specs.Approaches.{approach_next, Enters, Turns, Quits, Approaches};
+ghost use Rattle.bl_ways.specs.declared.acts.Seen.TheVariants as seen;
+ghost use Rattle.bl_ways.specs.declared.approaching.Approach.TheVariants as approach;
+ghost use Rattle.bl_ways.specs.declared.approaching.Approached.TheVariants as approached;
+ghost use Rattle.bl_ways.specs.Given.{Gives};
+ghost use Rattle.bl_ways.specs.Onwards.{Leads};
+ghost use Rattle.bl_ways.specs.Approaches.{approach_next, Enters, Turns, Quits, Approaches};
 
 use crate::acts::{Action, Seen};
 use crate::onwards::{Onward, way_from};

@@ -3,11 +3,11 @@
 ghost use Rattle.std.specs.Prelude.{◌≡◌, ◌<◌, ◌-◌, [], ◌∷◌, ◌++◌, length, get_or};
 ghost use Rattle.bl_page.specs.Pairs.{IsChild};
 ghost use Rattle.bl_laws.specs.Pages.{roots_of};
-ghost use Rattle.bl_proc.specs.declared.acts.Seen.TheVariants as seen;
-ghost use Rattle.bl_proc.specs.declared.growing.Growth.TheVariants as growth;
-ghost use Rattle.bl_proc.specs.declared.growing.Grew.TheVariants as grew;
-ghost use Rattle.bl_proc.specs.Given.{Gives};
-ghost use Rattle.bl_proc.specs.Growths.{growth_next, growth_needs, IsTop, IsAnchor, Raises, Grows};
+ghost use Rattle.bl_ways.specs.declared.acts.Seen.TheVariants as seen;
+ghost use Rattle.bl_ways.specs.declared.growing.Growth.TheVariants as growth;
+ghost use Rattle.bl_ways.specs.declared.growing.Grew.TheVariants as grew;
+ghost use Rattle.bl_ways.specs.Given.{Gives};
+ghost use Rattle.bl_ways.specs.Growths.{growth_next, growth_needs, IsTop, IsAnchor, Raises, Grows};
 
 use crate::acts::{Action, Seen};
 use crate::growing::{Grew, Growth, Raising, Rise};

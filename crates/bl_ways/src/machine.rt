@@ -1,10 +1,10 @@
 //! What all kinds of processes have in common.
 
 ghost use Rattle.std.specs.Prelude.{◌≡◌, ℕ, Option, None};
-ghost use Rattle.bl_proc.specs.declared.acts.Action.{Action};
-ghost use Rattle.bl_proc.specs.declared.acts.Seen.{Seen};
-ghost use Rattle.bl_proc.specs.declared.answers.Answer.{Answer};
-ghost use Rattle.bl_proc.specs.Given.{Gives};
+ghost use Rattle.bl_ways.specs.declared.acts.Action.{Action};
+ghost use Rattle.bl_ways.specs.declared.acts.Seen.{Seen};
+ghost use Rattle.bl_ways.specs.declared.answers.Answer.{Answer};
+ghost use Rattle.bl_ways.specs.Given.{Gives};
 
 use crate::acts::{Action, Seen};
 use crate::answers::Answer;

@@ -1,6 +1,6 @@
 //! Where a page leads whoever looks for a key.
 
-ghost use Rattle.bl_proc.specs.Onwards.{Leads};
+ghost use Rattle.bl_ways.specs.Onwards.{Leads};
 ghost use Rattle.bl_page.specs.declared.page.Page.TheVariants as page;
 
 use bl_page::{Inner, Leaf, Page, is_within};

@@ -3,14 +3,14 @@ use Rattle.std.specs.Prelude.{◌≡◌, ◌≢◌, ℕ, ◌<◌, ◌-◌, Optio
 use Rattle.bl_page.specs.declared.page.Page.{Page}
 use Rattle.bl_page.specs.declared.page.Page.TheVariants.{Anchor, Inner}
 use Rattle.bl_laws.specs.Pages.{roots_of}
-use Rattle.bl_proc.specs.declared.acts.Action.{Action}
-use Rattle.bl_proc.specs.declared.acts.Action.TheVariants as act
-use Rattle.bl_proc.specs.declared.acts.Seen.{Seen}
-use Rattle.bl_proc.specs.declared.acts.Seen.TheVariants as seen
-use Rattle.bl_proc.specs.declared.growing.Growth.{Growth}
-use Rattle.bl_proc.specs.declared.growing.Growth.TheVariants.{Latching, Latched, Taking, PuttingTop, PuttingAnchor, OpeningTop, OpeningGrown, OpeningRefused}
-use Rattle.bl_proc.specs.declared.growing.Grew.{Grew}
-use Rattle.bl_proc.specs.declared.growing.Grew.TheVariants.{On, Grown, Refused}
+use Rattle.bl_ways.specs.declared.acts.Action.{Action}
+use Rattle.bl_ways.specs.declared.acts.Action.TheVariants as act
+use Rattle.bl_ways.specs.declared.acts.Seen.{Seen}
+use Rattle.bl_ways.specs.declared.acts.Seen.TheVariants as seen
+use Rattle.bl_ways.specs.declared.growing.Growth.{Growth}
+use Rattle.bl_ways.specs.declared.growing.Growth.TheVariants.{Latching, Latched, Taking, PuttingTop, PuttingAnchor, OpeningTop, OpeningGrown, OpeningRefused}
+use Rattle.bl_ways.specs.declared.growing.Grew.{Grew}
+use Rattle.bl_ways.specs.declared.growing.Grew.TheVariants.{On, Grown, Refused}
 
 abbrev pub growth_next : Growth → Action
 growth_next Latching = act.Latch 0

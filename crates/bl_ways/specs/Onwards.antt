@@ -1,12 +1,16 @@
 -- Where a page leads on the way to the page of a level that covers a key.
-use Rattle.std.specs.Prelude.{◌≡◌, ℕ, ◌<◌, ◌≤◌, ◌⊎◌}
+use Rattle.std.specs.Prelude.{◌≡◌, ℕ, ◌-◌, ◌<◌, ◌≤◌, ◌⊎◌}
 use Rattle.bl_page.specs.declared.page.Page.{Page}
 use Rattle.bl_page.specs.declared.page.Page.TheVariants.{Anchor, Leaf, Inner, Dead}
-use Rattle.bl_tree.specs.Nodes.{Covers}
+use Rattle.bl_tree.specs.Nodes.{Roots, Covers}
 use Rattle.bl_laws.specs.Pages.{node_of, IsTreePage}
 use Rattle.bl_laws.specs.Walks.{IsChildOf}
-use Rattle.bl_proc.specs.declared.onwards.Onward.{Onward}
-use Rattle.bl_proc.specs.declared.onwards.Onward.TheVariants.{Again, Right, Down, Here}
+use Rattle.bl_ways.specs.declared.onwards.Onward.{Onward}
+use Rattle.bl_ways.specs.declared.onwards.Onward.TheVariants.{Again, Right, Down, Here}
+
+-- the leftmost page of the top level
+abbrev pub top_of : Roots → ℕ
+top_of roots = roots.leftmost (roots.levels - 1)
 
 -- a page that was merged away
 abbrev pub IsDead : Page → Type 0

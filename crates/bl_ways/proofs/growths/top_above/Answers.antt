@@ -1,7 +1,7 @@
 use Rattle.std.proofs.Common.{◌≡◌, ◌-◌, ◌≤◌, length, get_or, arith, ap, subst, sym, refl}
 use Rattle.bl_page.specs.Pairs.{RisesFrom, AllWithin, BeginsWith, NameChildren, AreChildren, IsChild}
 use Rattle.bl_page.proofs.PagesIn.{AreChildren-at}
-use Rattle.bl_proc.proofs.growths.top_above.Goals as goal
+use Rattle.bl_ways.proofs.growths.top_above.Goals as goal
 
 pub invariant_of-result : goal.invariant_of-result
 invariant_of-result c =

@@ -2,7 +2,7 @@
 
 ghost use Rattle.std.specs.Prelude.{◌≡◌};
 ghost use Rattle.bl_laws.specs.Pages.{node_of, roots_of};
-ghost use Rattle.bl_proc.specs.Searches.{top_of};
+ghost use Rattle.bl_ways.specs.Onwards.{top_of};
 
 use bl_page::{Page, listed_with};
 

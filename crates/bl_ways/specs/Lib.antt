@@ -1,0 +1,6 @@
+pub mod Given
+pub mod Props
+pub mod Onwards
+pub mod Approaches
+pub mod Changes
+pub mod Growths

@@ -1,0 +1,29 @@
+//! What all processes over the pages of a B-link tree share: their actions, the way to the page that covers a key, the
+//! change of a page with its split, and the growth of the tree by a level, each a small state machine.
+//!
+//! Promised to `bl_proc`, which builds each kind of process from them: what is done next, and what follows from what it
+//! gave, is exactly what `specs/` says of the state. The ways are those of Lehman and Yao, "Efficient locking for
+//! concurrent operations on B-trees" (ACM TODS 6(4), 1981), with writers that wait for a latch only while they hold none,
+//! as in Sagiv, "Concurrent operations on B*-trees with overtaking" (JCSS 33, 1986). Nothing is allocated.
+#![tactic(auto)]
+
+mod acts;
+mod answers;
+mod approaching;
+mod changes;
+mod changing;
+mod growing;
+mod growths;
+mod machine;
+mod onwards;
+mod reading;
+
+pub use acts::{Action, Seen};
+pub use answers::{Answer, Hint, Posted};
+pub use approaching::{Approach, Approached, entered};
+pub use changes::{dropping, entering};
+pub use changing::{Change, Changed, Full, Outcome, Parting};
+pub use growing::{Grew, Growth, Raising, Rise};
+pub use machine::Process;
+pub use onwards::{Onward, way_from};
+pub use reading::{level_of, levels_of, listed, low_of, top_page};
