@@ -1,8 +1,8 @@
 //! Why a command ends early.
 
-ghost use Rattle.std.specs.Prelude.{◌≡◌, ◌⊎◌};
-ghost use Rattle.bl_cli.specs.Statuses.{status_of, fault_of};
-ghost use Rattle.bl_cli.specs.declared.fault.CommandFault.TheVariants.{Read, Memory};
+ghost use Rattle.std.specs.Prelude.{◌≡◌};
+ghost use Rattle.bl_cli.specs.Statuses.{status_of, fault_of, IsFaultOf};
+ghost use Rattle.bl_cli.specs.declared.fault.CommandFault.TheVariants.{Memory};
 
 use bl_lines::ServeFault;
 use std::alloc::AllocError;
@@ -45,7 +45,7 @@ impl From<ServeFault> for CommandFault {
 
 /// The command line's words could not be read, or clap's text could not be written.
 impl From<io::Error> for CommandFault {
-    ghost from_gives = { λ error command. (command ≡ Memory) ⊎ (command ≡ Read) };
+    ghost from_gives = { IsFaultOf };
 
     fn from(error: io::Error) -> CommandFault {
         match error.kind() {
