@@ -92,19 +92,21 @@ PostArrives key x c (Staying y reply.Already) = (y ≡ x) × ((child : ℕ) × (
 PostArrives key x c (Walking w) = (w.at ≡ x) × (w.key ≡ key) × (c ≡ Inner w.parent) × IsChildOf (node_of c).look key w.child
 PostArrives key x c stage = ⊥
 
--- The walk ends without the page whose low is the key.
-abbrev pub IsLost : ℕ → Page → Onward → Type 0
-IsLost key c Again = Unit {0}
-IsLost key c (Right y) = y ≡ 0
-IsLost key c (Down y) = Unit {0}
-IsLost key c Here = (node_of c).shape.low ≢ key
+-- the walk cannot go on to the page that covers the key
+abbrev pub IsLost : Onward → Type 0
+IsLost Again = Unit {0}
+IsLost (Right y) = y ≡ 0
+IsLost (Down y) = Unit {0}
+IsLost Here = ⊥
 
 -- A walk has got c, on its way to the page one level below the parent that covers the key. Where that page's low is the
--- key, the parent is to list it.
+-- key, the parent is to list it; where its low is another key, there is nothing to list. A walk that is lost opens the
+-- parent and begins again.
 abbrev pub PostWalks : ℕ → Walk → Page → PostStage → Type 0
 PostWalks level w c (Walking v) = (v.at ≡ w.at) × (v.key ≡ w.key) × (v.parent ≡ w.parent) × Leads c w.key (level - 1) (Right v.child)
 PostWalks level w c (Changing change) = Leads c w.key (level - 1) Here × ((node_of c).shape.low ≡ w.key) × EntersPair w.at (Inner w.parent) w.key w.child change
-PostWalks level w c (Staying x reply.Stale) = (x ≡ w.at) × ((o : Onward) × Leads c w.key (level - 1) o × IsLost w.key c o)
+PostWalks level w c (Staying x reply.Stale) = (x ≡ w.at) × Leads c w.key (level - 1) Here × ((node_of c).shape.low ≢ w.key)
+PostWalks level w c (Coming a) = (a ≡ Leaving w.at None) × ((o : Onward) × Leads c w.key (level - 1) o × IsLost o)
 PostWalks level w c stage = ⊥
 
 -- On the way, past the anchor.

@@ -118,6 +118,13 @@ fn grew(level: u32, key: u64, growth: Growth, seen: Seen) -> PostStage
     }
 }
 
+/// The parent is opened, and the way begins again.
+fn again(parent: u32) -> PostStage
+    ensures { result ≡ post_stage.Coming (approach.Leaving parent None) }
+{
+    PostStage::Coming(Approach::Leaving(parent, None))
+}
+
 /// The walk has got the page that covers the key.
 fn found(level: u32, walk: Walk, page: &Page) -> PostStage
     requires { Leads page.now walk.key (level - 1) onward.Here }
@@ -148,7 +155,7 @@ fn walk_on(level: u32, walk: Walk, page: &Page, next: u32) -> PostStage
         ..
     } = walk;
     if next == 0 {
-        return PostStage::Staying(at, PostReply::Stale);
+        return again(at);
     }
     PostStage::Walking(Walk {
         at,
@@ -166,7 +173,7 @@ fn walked(level: u32, walk: Walk, page: &Page) -> PostStage
     match way_from(page, walk.key, level - 1) {
         Onward::Here => found(level, walk, page),
         Onward::Right(next) => walk_on(level, walk, page, next),
-        Onward::Again | Onward::Down(_) => PostStage::Staying(walk.at, PostReply::Stale),
+        Onward::Again | Onward::Down(_) => again(walk.at),
     }
 }
 

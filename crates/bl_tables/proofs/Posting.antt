@@ -203,6 +203,12 @@ module _ {P : Type 0} (know : P → Know) (w : World P) (g : IsGood know w) (p :
         watched know w g p b _ _ before then (Get v.child) (Some (w.now.contents v.child)) None s tt (is.stage, not_released know w g p v.child is.goes.0.may) does refl refl (λ y h. h) (λ it e. cc) (λ j. refl)
         (walks_held w _ p (Get v.child) (Some (w.now.contents v.child)) v.at [] (Unit {0}) is.stage is.said (does.changes.1 v.at ∙ is.holds.0.owner) is.holds.0.status tt tt)
 
+    again_turn : know b ≡ know_approach level key (way.Leaving v.at None) → Turned know w p (Get v.child) s b
+    again_turn then =
+        let is = walking in
+        watched know w g p b _ _ before then (Get v.child) (Some (w.now.contents v.child)) None s tt (is.stage, not_released know w g p v.child is.goes.0.may) does refl refl (λ y h. h) (λ it e. cc) (λ j. refl)
+        (walks_held w _ p (Get v.child) (Some (w.now.contents v.child)) v.at [] (key < unbounded) is.stage is.said (does.changes.1 v.at ∙ is.holds.0.owner) is.holds.0.status tt is.sound.0)
+
     list_turn : (c : Change) → know b ≡ know_change (post_aim level key v.child) (λ z. Inner v.parent) c → PostWalks level v (w.now.contents v.child) (post.Changing c) → Turned know w p (Get v.child) s b
     list_turn c then t =
         let is = walking in
@@ -233,8 +239,8 @@ module _ {P : Type 0} (know : P → Know) (w : World P) (g : IsGood know w) (p :
     walks_turn (post.Walking u) got' child' same own then t = step_turn u got' child' then t
     walks_turn (post.Changing c) got' child' same own then t = list_turn c (subst (λ f. know b ≡ know_change (post_aim level key v.child) f c) same (subst (λ n. know b ≡ know_change (post_aim level key n) got' c) own then)) t
     walks_turn (post.Staying x reply.Stale) got' child' same own then t = lost_turn (rw t.0 at then)
+    walks_turn (post.Coming a) got' child' same own then t = again_turn (rw t.0 at then)
     walks_turn post.New got' child' same own then t = absurd t
-    walks_turn (post.Coming a) got' child' same own then t = absurd t
     walks_turn (post.Growing d) got' child' same own then t = absurd t
     walks_turn (post.Ending u) got' child' same own then t = absurd t
     walks_turn (post.Over u) got' child' same own then t = absurd t

@@ -1,2 +1,3 @@
 pub mod Trails
 pub mod Moments
+pub mod Meanings

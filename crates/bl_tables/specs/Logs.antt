@@ -1,0 +1,112 @@
+-- What a post has done so far, in each of its states: enough to tell in the end what its answer means.
+use Rattle.std.specs.Prelude.{◌≡◌, ◌≢◌, ℕ, suc, None, Some, ◌++◌, List, [], ◌∷◌, Contains}
+use Rattle.bl_page.specs.declared.page.Page.{Page}
+use Rattle.bl_page.specs.declared.page.Page.TheVariants.{Inner}
+use Rattle.bl_page.specs.Machine.{Act}
+use Rattle.bl_page.specs.Machine.Act.{Latch}
+use Rattle.bl_tree.specs.Nodes.{Covers}
+use Rattle.bl_laws.specs.Pages.{node_of}
+use Rattle.bl_trails.specs.Trails.{Mark, Trail}
+use Rattle.bl_trails.specs.Meanings.{HasGot, puts_of, ListTogether, MeansDone, MeansAlready, MeansStale, MeansTooTall, MeansNoRoom}
+use Rattle.bl_ways.specs.declared.approaching.Approach.{Approach}
+use Rattle.bl_ways.specs.declared.approaching.Approach.TheVariants as way
+use Rattle.bl_ways.specs.declared.changing.Outcome.{Outcome}
+use Rattle.bl_ways.specs.declared.changing.Outcome.TheVariants as outcome
+use Rattle.bl_ways.specs.declared.changing.Change.{Change}
+use Rattle.bl_ways.specs.declared.changing.Change.TheVariants as change
+use Rattle.bl_ways.specs.declared.growing.Growth.{Growth}
+use Rattle.bl_ways.specs.declared.growing.Growth.TheVariants as growth
+use Rattle.bl_proc.specs.declared.posting.PostReply.{PostReply}
+use Rattle.bl_proc.specs.declared.posting.PostReply.TheVariants as reply
+use Rattle.bl_proc.specs.declared.posting.PostStage.{PostStage}
+use Rattle.bl_proc.specs.declared.posting.PostStage.TheVariants as post
+use Rattle.bl_proc.specs.declared.kinds.Proc.{Proc}
+use Rattle.bl_proc.specs.declared.kinds.Proc.TheVariants as proc
+
+-- page x is held since it was latched, and these pages were put since
+pub record Holding (marks : Trail) (x : ℕ) (puts : List Page) : Type 0 where
+  pub before : Trail
+  pub latch : Mark
+  pub during : Trail
+  pub split : marks ≡ before ++ latch ∷ during
+  pub latched : latch.event.act ≡ Latch x
+  pub kept : (mark : Mark) → Contains during mark → mark.event.act ≢ Act.Open x
+  pub puts_are : puts_of during ≡ puts
+
+-- the page is a parent of the key, as the process got it since
+pub record HoldsParent (level key : ℕ) (marks : Trail) (x : ℕ) (parent : Page) (puts : List Page) : Type 0 where
+  pub holding : Holding marks x puts
+  pub got : HasGot holding.during x parent
+  pub level_is : (node_of parent).shape.level ≡ level
+  pub covers : Covers (node_of parent).shape key
+  pub unlisted : (node_of parent).look key ≡ None
+
+-- and so is its child, whose low is the key
+pub record HoldsBoth (level key : ℕ) (marks : Trail) (x : ℕ) (parent : Page) (y : ℕ) (puts : List Page) : Type 0 where
+  pub above : HoldsParent level key marks x parent puts
+  pub child : Page
+  pub got : HasGot above.holding.during y child
+  pub below : suc (node_of child).shape.level ≡ level
+  pub child_covers : Covers (node_of child).shape key
+  pub low : (node_of child).shape.low ≡ key
+
+abbrev pub approach_log : Approach → Trail → Type 0
+approach_log way.Start marks = Unit {0}
+approach_log (way.At x) marks = Unit {0}
+approach_log (way.Latching x) marks = Unit {0}
+approach_log (way.Latched x) marks = Holding marks x []
+approach_log (way.Leaving x to) marks = Unit {0}
+
+-- What a change is to put, when it has put these pages: all that lists together what it is to list.
+pub record IsToPut (level key : ℕ) (marks : Trail) (x : ℕ) (puts pages : List Page) : Type 0 where
+  pub parent : Page
+  pub child : ℕ
+  pub both : HoldsBoth level key marks x parent child puts
+  pub together : ListTogether pages parent key child
+
+abbrev pub outcome_log : ℕ → ℕ → Outcome → Trail → Type 0
+outcome_log level key outcome.Changed marks = MeansDone level key marks
+outcome_log level key (outcome.Parted separator) marks = MeansDone level key marks
+outcome_log level key outcome.Refused marks = MeansNoRoom marks
+
+abbrev pub change_log : ℕ → ℕ → Change → Trail → Type 0
+change_log level key (change.Putting x page) marks = IsToPut level key marks x [] (page ∷ [])
+change_log level key (change.Taking full) marks = HoldsBoth level key marks full.at full.page full.word [] × (full.key ≡ key)
+change_log level key (change.PuttingNew p) marks = IsToPut level key marks p.at [] (p.right ∷ p.left ∷ [])
+change_log level key (change.PuttingOld p) marks = IsToPut level key marks p.at (p.right ∷ []) (p.right ∷ p.left ∷ [])
+change_log level key (change.OpeningNew x new separator) marks = MeansDone level key marks
+change_log level key (change.Opening x o) marks = outcome_log level key o marks
+
+abbrev pub growth_log : Growth → Trail → Type 0
+growth_log growth.Latching marks = Unit {0}
+growth_log growth.Latched marks = Holding marks 0 []
+growth_log (growth.Taking rise) marks = Holding marks 0 []
+growth_log (growth.PuttingTop r) marks = Unit {0}
+growth_log (growth.PuttingAnchor r) marks = Unit {0}
+growth_log (growth.OpeningTop x) marks = Unit {0}
+growth_log growth.OpeningGrown marks = Unit {0}
+growth_log growth.OpeningRefused marks = MeansNoRoom marks
+
+-- What the answer of a post means.
+abbrev pub reply_log : ℕ → ℕ → PostReply → Trail → Type 0
+reply_log level key (reply.Done separator) marks = MeansDone level key marks
+reply_log level key reply.Already marks = MeansAlready level key marks
+reply_log level key reply.Stale marks = MeansStale level key marks
+reply_log level key reply.NoRoom marks = MeansNoRoom marks
+reply_log level key reply.TooTall marks = MeansTooTall level marks
+
+abbrev pub post_log : ℕ → ℕ → PostStage → Trail → Type 0
+post_log level key post.New marks = Unit {0}
+post_log level key (post.Coming a) marks = approach_log a marks
+post_log level key (post.Growing g) marks = growth_log g marks
+post_log level key (post.Walking w) marks = HoldsParent level key marks w.at (Inner w.parent) [] × (w.key ≡ key)
+post_log level key (post.Changing c) marks = change_log level key c marks
+post_log level key (post.Staying x r) marks = reply_log level key r marks
+post_log level key (post.Ending r) marks = reply_log level key r marks
+post_log level key (post.Over r) marks = reply_log level key r marks
+
+abbrev pub proc_log : Proc → Trail → Type 0
+proc_log (proc.Find p) marks = Unit {0}
+proc_log (proc.Insert p) marks = Unit {0}
+proc_log (proc.Delete p) marks = Unit {0}
+proc_log (proc.Post p) marks = post_log p.level p.key p.stage marks
