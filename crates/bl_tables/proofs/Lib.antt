@@ -1,3 +1,5 @@
+pub mod Holdings
+pub mod Logging
 pub mod Acts
 pub mod Approaching
 pub mod Changing

@@ -1,3 +1,4 @@
 pub mod Turns
+pub mod Logs
 pub mod Tables
 pub mod Knowing

@@ -3,3 +3,4 @@ pub mod Freshness
 pub mod Middles
 pub mod Legal
 mod Examples
+pub mod Meant

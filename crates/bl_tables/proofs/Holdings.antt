@@ -1,0 +1,184 @@
+-- What a post knows of the page that it holds, and one mark more.
+use Rattle.std.proofs.Common.{ℕ, ◌≡◌, ◌≢◌, ◌⊎◌, ◌<◌, ◌≤◌, ◌+◌, ◌++◌, List, [], ◌∷◌, None, Some, arith, ap, sym, ◌∙◌, refl, subst, inl, inr, append_assoc, append-nil}
+use Rattle.std.specs.Prelude.{Contains}
+use Rattle.std.proofs.lemmas.Bool.{cases_eq, cases_lt}
+use Rattle.std.proofs.lemmas.List.Elements.{Contains-push, Contains-push_cases}
+use Rattle.bl_page.specs.declared.page.Page.{Page}
+use Rattle.bl_page.specs.declared.page.Page.TheVariants.{Anchor, Leaf, Inner, Dead}
+use Rattle.bl_page.specs.Machine.{Act}
+use Rattle.bl_page.specs.Machine.Act.{Get, Latch, Miss}
+use Rattle.bl_tree.specs.Nodes.{Covers}
+use Rattle.bl_tree.specs.Moves.{IsRow, IsCut}
+use Rattle.bl_laws.specs.Pages.{node_of}
+use Rattle.bl_laws.proofs.SoundPages.{sound_node}
+use Rattle.bl_trails.specs.Trails.{Mark, Trail}
+use Rattle.bl_trails.specs.Meanings.{HasGot, put_in, puts_of, UnderLatch, ListTogether, MeansDone, MeansNoRoom}
+use Rattle.bl_trails.proofs.Meant.{puts_of-push, got_on, got_last}
+use Rattle.bl_tables.specs.Logs.{Holding, HoldsParent, HoldsBoth, IsToPut}
+
+none_of : (mark : Mark) → Contains [] mark → ⊥
+none_of mark c = absurd (omega (arith, c.1))
+
+module _ (ms : Trail) (m : Mark) where
+  -- the page was latched just now
+  pub held_now : (x : ℕ) → m.event.act ≡ Latch x → Holding (ms ++ m ∷ []) x []
+  held_now x e = record { before = ms; latch = m; during = []; split = refl; latched = e; kept = λ n c. absurd (none_of n c); puts_are = refl }
+
+  -- the page is not opened by this mark, which may put another one
+  abbrev pub held_on : {x : ℕ} {puts : List Page} (more : List Page) → m.event.act ≢ Act.Open x → put_in m.event.act ≡ more → Holding ms x puts → Holding (ms ++ m ∷ []) x (puts ++ more)
+  held_on {x} {puts} more shut put h = record {
+    before = h.before;
+    latch = h.latch;
+    during = h.during ++ m ∷ [];
+    split = ap (λ z. z ++ m ∷ []) h.split ∙ append_assoc h.before (h.latch ∷ h.during) (m ∷ []);
+    latched = h.latched;
+    kept = λ n c. elim (Contains-push_cases h.during m n c) [ inl i ↦ h.kept n i | inr e ↦ λ o. shut (ap (λ z. z.event.act) e ∙ o) ];
+    puts_are = puts_of-push h.during m ∙ (ap (λ z. z ++ put_in m.event.act) h.puts_are ∙ ap (λ z. puts ++ z) put);
+  }
+
+  pub parent_held_on : {level key x : ℕ} {parent : Page} {puts : List Page} (more : List Page) → m.event.act ≢ Act.Open x → put_in m.event.act ≡ more → HoldsParent level key ms x parent puts → HoldsParent level key (ms ++ m ∷ []) x parent (puts ++ more)
+  parent_held_on more shut put h = record { holding = held_on more shut put h.holding; got = got_on h.holding.during m h.got; level_is = h.level_is; covers = h.covers; unlisted = h.unlisted }
+
+  pub both_held_on : {level key x y : ℕ} {parent : Page} {puts : List Page} (more : List Page) → m.event.act ≢ Act.Open x → put_in m.event.act ≡ more → HoldsBoth level key ms x parent y puts → HoldsBoth level key (ms ++ m ∷ []) x parent y (puts ++ more)
+  both_held_on more shut put h =
+      let a = h.above in
+      record {
+        above = record { holding = held_on more shut put a.holding; got = got_on a.holding.during m a.got; level_is = a.level_is; covers = a.covers; unlisted = a.unlisted };
+        child = h.child;
+        got = got_on a.holding.during m h.got;
+        below = h.below;
+        child_covers = h.child_covers;
+        low = h.low;
+      }
+
+  -- the child was got just now
+  pub child_got : {level key x : ℕ} {parent : Page} {puts : List Page} (y : ℕ) (c : Page) → m.event.act ≡ Get y → m.saw ≡ Some c → HoldsParent level key ms x parent puts → ((node_of c).shape.level + 1 ≡ level) → Covers (node_of c).shape key → (node_of c).shape.low ≡ key → HoldsBoth level key (ms ++ m ∷ []) x parent y (puts ++ [])
+  child_got y c act saw h level_is covers low = record {
+    above = record { holding = held_on [] (λ o. (let e = sym act ∙ o in cc)) (ap put_in act) h.holding; got = got_on h.holding.during m h.got; level_is = h.level_is; covers = h.covers; unlisted = h.unlisted };
+    child = c;
+    got = got_last h.holding.during m act saw;
+    below = omega (arith, level_is);
+    child_covers = covers;
+    low = low;
+  }
+
+  -- the parent was got just now
+  pub parent_got : {level key x : ℕ} {puts : List Page} (c : Page) → m.event.act ≡ Get x → m.saw ≡ Some c → Holding ms x puts → (node_of c).shape.level ≡ level → Covers (node_of c).shape key → (node_of c).look key ≡ None → HoldsParent level key (ms ++ m ∷ []) x c (puts ++ [])
+  parent_got c act saw h level_is covers unlisted = record {
+    holding = held_on [] (λ o. (let e = sym act ∙ o in cc)) (ap put_in act) h;
+    got = got_last h.during m act saw;
+    level_is = level_is;
+    covers = covers;
+    unlisted = unlisted;
+  }
+
+  -- a reservation was refused while the page was held
+  pub refused_while : {x : ℕ} {puts : List Page} → m.event.act ≡ Miss → Holding ms x puts → MeansNoRoom (ms ++ m ∷ [])
+  refused_while {x} act h = record {
+    at = x;
+    under = record {
+      before = h.before;
+      latch = h.latch;
+      during = h.during ++ m ∷ [];
+      after = [];
+      split = ap (λ z. z ++ m ∷ []) h.split ∙ (append_assoc h.before (h.latch ∷ h.during) (m ∷ []) ∙ ap (λ z. h.before ++ h.latch ∷ z) (sym (append-nil (h.during ++ m ∷ []))));
+      latched = h.latched;
+      kept = λ n c. elim (Contains-push_cases h.during m n c) [ inl i ↦ h.kept n i | inr e ↦ λ o. (let f = ap (λ z. z.event.act) e ∙ o in let g = sym act ∙ f in cc) ];
+    };
+    mark = m;
+    is = Contains-push h.during m;
+    miss = act;
+  }
+
+-- while the page is held
+abbrev pub under : {ms : Trail} {x : ℕ} {puts : List Page} → Holding ms x puts → UnderLatch ms x
+under h = record {
+  before = h.before;
+  latch = h.latch;
+  during = h.during;
+  after = [];
+  split = h.split ∙ ap (λ z. h.before ++ h.latch ∷ z) (sym (append-nil h.during));
+  latched = h.latched;
+  kept = h.kept;
+}
+
+-- all that was to be put has been put
+pub is_done : {level key x : ℕ} {ms : Trail} (puts : List Page) (p : IsToPut level key ms x puts puts) → MeansDone level key ms
+is_done {level} {key} {x} {ms} puts p =
+    let a = p.both.above in
+    record {
+      parent = record { at = x; under = under a.holding; parent = p.parent; got = a.got; level_is = a.level_is; covers = a.covers };
+      child = record { at = p.child; child = p.both.child; got = p.both.got; level_is = p.both.below; covers = p.both.child_covers };
+      low = p.both.low;
+      puts = subst (λ z. ListTogether z p.parent key p.child) (sym a.holding.puts_are) p.together;
+    }
+
+-- what a page lists it covers
+covered_in : (c : Page) (j v : ℕ) → (node_of c).look j ≡ Some v → Covers (node_of c).shape j
+covered_in (Anchor a) j v e = absurd cc
+covered_in (Leaf l) j v e = (sound_node (Leaf l) tt).covered j v e
+covered_in (Inner i) j v e = (sound_node (Inner i) tt).covered j v e
+covered_in (Dead d) j v e = absurd cc
+
+same_word : (a b : ℕ) → Some a ≡ Some b → b ≡ a
+same_word a b e = cc
+
+-- a row more lists what it is to list
+pub row_together : (old new : Page) (key child : ℕ) → IsRow key (Some child) (node_of old) (node_of new) → (node_of old).look key ≡ None → ListTogether (new ∷ []) old key child
+row_together old new key child r none = record {
+  no_other = λ j c page is e. let one : new ≡ page = elim (Contains-push_cases [] new page is) [ inl i ↦ absurd (none_of_pages page i) | inr i ↦ i ] in
+      elim (cases_eq j key) [
+        | inl i ↦ inr (i, same_word child c (sym (subst (λ z. (node_of new).look z ≡ Some child) (sym i) r.here) ∙ subst (λ z. (node_of z).look j ≡ Some c) (sym one) e))
+        | inr n ↦ inl (sym (r.rest j n) ∙ subst (λ z. (node_of z).look j ≡ Some c) (sym one) e)
+      ];
+  kept = λ j c e. (new, Contains-push [] new, elim (cases_eq j key) [
+      | inl i ↦ absurd (let f : (node_of old).look j ≡ None = ap (node_of old).look i ∙ none in let g : Some c ≡ None = sym e ∙ f in cc)
+      | inr n ↦ r.rest j n ∙ e
+    ]);
+  listed = (new, Contains-push [] new, r.here);
+}
+  where
+    none_of_pages : (page : Page) → Contains [] page → ⊥
+    none_of_pages page c = absurd (omega (arith, c.1))
+
+-- the two parts of a page that was parted list what they are to list
+pub cut_together : (old left right : Page) (y key child : ℕ) → IsCut y key (Some child) (node_of old) (node_of left) (node_of right) → (node_of old).look key ≡ None → ListTogether (right ∷ left ∷ []) old key child
+cut_together old left right y key child r none = record {
+  no_other = λ j c page is e. elim (Contains-push_cases (right ∷ []) left page is) [
+    | inl i ↦ elim (Contains-push_cases [] right page i) [
+      | inl n ↦ absurd (omega (arith, n.1))
+      | inr one ↦ in_right j c (subst (λ z. (node_of z).look j ≡ Some c) (sym one) e)
+    ]
+    | inr one ↦ in_left j c (subst (λ z. (node_of z).look j ≡ Some c) (sym one) e)
+  ];
+  kept = λ j c e. elim (cases_eq j key) [
+    | inl i ↦ absurd (let f : (node_of old).look j ≡ None = ap (node_of old).look i ∙ none in let g : Some c ≡ None = sym e ∙ f in cc)
+    | inr n ↦ elim (cases_lt j (node_of right).shape.low) [
+      | inl l ↦ (left, Contains-push (right ∷ []) left, r.look j l n ∙ e)
+      | inr l ↦ (right, first_in, r.right_look j l n ∙ e)
+    ]
+  ];
+  listed = elim (cases_lt key (node_of right).shape.low) [
+    | inl l ↦ (left, Contains-push (right ∷ []) left, r.here l)
+    | inr l ↦ (right, first_in, r.right_here l)
+  ];
+}
+  where
+    first_in : Contains (right ∷ left ∷ []) right
+    first_in = (0, omega arith, refl)
+
+    in_left : (j c : ℕ) → (node_of left).look j ≡ Some c → ((node_of old).look j ≡ Some c) ⊎ ((j ≡ key) × (c ≡ child))
+    in_left j c e =
+        let low : j < (node_of right).shape.low = (let h = covered_in left j c e in omega (arith, h.1, r.end)) in
+        elim (cases_eq j key) [
+          | inl i ↦ inr (i, same_word child c (sym (ap (node_of left).look i ∙ r.here (subst (λ z. z < (node_of right).shape.low) i low)) ∙ e))
+          | inr n ↦ inl (sym (r.look j low n) ∙ e)
+        ]
+
+    in_right : (j c : ℕ) → (node_of right).look j ≡ Some c → ((node_of old).look j ≡ Some c) ⊎ ((j ≡ key) × (c ≡ child))
+    in_right j c e =
+        let high : (node_of right).shape.low ≤ j = (covered_in right j c e).0 in
+        elim (cases_eq j key) [
+          | inl i ↦ inr (i, same_word child c (sym (ap (node_of right).look i ∙ r.right_here (subst (λ z. (node_of right).shape.low ≤ z) i high)) ∙ e))
+          | inr n ↦ inl (sym (r.right_look j high n) ∙ e)
+        ]

@@ -1,0 +1,759 @@
+-- What a post has done, and one event more: what is told of it in the next state.
+use Rattle.std.proofs.Common.{ℕ, ◌≡◌, ◌≢◌, ◌<◌, ◌-◌, ◌++◌, [], ◌∷◌, None, Some, arith, ap, sym, ◌∙◌, refl, subst, inl, inr, append-nil}
+use Rattle.bl_page.specs.declared.page.Page.{Page}
+use Rattle.bl_page.specs.declared.page.Page.TheVariants.{Inner}
+use Rattle.bl_page.specs.Machine.{Act}
+use Rattle.bl_page.specs.Machine.Act.{Get, Put, Latch, Miss}
+use Rattle.bl_laws.specs.Pages.{node_of, roots_of}
+use Rattle.bl_trails.specs.Trails.{Mark, Trail}
+use Rattle.bl_trails.specs.Meanings.{put_in, MeansDone}
+use Rattle.bl_trails.proofs.Meant.{got_on, got_last, done_on, already_on, stale_on, tall_on, no_room_on}
+use Rattle.bl_puts.proofs.Fitted.{fits_row, split_cut}
+use Rattle.bl_rearrange.specs.declared.fitted.Fitted.TheVariants.{Split}
+use Rattle.bl_rearrange.specs.Rearranged.{IsFitted}
+use Rattle.bl_ways.specs.declared.acts.Action.TheVariants as act
+use Rattle.bl_ways.specs.declared.acts.Seen.{Seen}
+use Rattle.bl_ways.specs.declared.acts.Seen.TheVariants as seen
+use Rattle.bl_ways.specs.declared.onwards.Onward.{Onward}
+use Rattle.bl_ways.specs.declared.onwards.Onward.TheVariants.{Again, Right, Down, Here}
+use Rattle.bl_ways.specs.declared.approaching.Approach.{Approach}
+use Rattle.bl_ways.specs.declared.approaching.Approach.TheVariants as way
+use Rattle.bl_ways.specs.declared.approaching.Approached.TheVariants as came
+use Rattle.bl_ways.specs.declared.changing.Outcome.{Outcome}
+use Rattle.bl_ways.specs.declared.changing.Outcome.TheVariants as outcome
+use Rattle.bl_ways.specs.declared.changing.Change.{Change}
+use Rattle.bl_ways.specs.declared.changing.Change.TheVariants as change
+use Rattle.bl_ways.specs.declared.changing.Changed.TheVariants as changed
+use Rattle.bl_ways.specs.declared.growing.Growth.{Growth}
+use Rattle.bl_ways.specs.declared.growing.Growth.TheVariants as growth
+use Rattle.bl_ways.specs.declared.growing.Grew.TheVariants as grew
+use Rattle.bl_proc.specs.declared.posting.Walk.{Walk}
+use Rattle.bl_proc.specs.declared.posting.PostReply.{PostReply}
+use Rattle.bl_proc.specs.declared.posting.PostReply.TheVariants as reply
+use Rattle.bl_proc.specs.declared.posting.PostStage.{PostStage}
+use Rattle.bl_proc.specs.declared.posting.PostStage.TheVariants as post
+use Rattle.bl_ways.specs.Onwards.{Leads}
+use Rattle.bl_ways.specs.Approaches.{approach_next, Turns, Approaches}
+use Rattle.bl_ways.specs.Changes.{change_next, EntersPair, Changes}
+use Rattle.bl_ways.specs.Growths.{growth_next, Grows}
+use Rattle.bl_proc.specs.Posts.{post_reply, post_next_in, PostStarts, PostArrives, PostWalks, PostNears, PostComes, PostGoes}
+use Rattle.bl_tables.specs.Turns.{event_of}
+use Rattle.bl_tables.specs.Logs.{Holding, HoldsParent, HoldsBoth, IsToPut, approach_log, outcome_log, change_log, growth_log, reply_log, post_log}
+use Rattle.bl_tables.proofs.Holdings.{held_now, held_on, parent_held_on, both_held_on, child_got, parent_got, refused_while, under, is_done, row_together, cut_together}
+
+no_latched : (level x : ℕ) (c : Page) (o : Onward) (y : ℕ) → Turns level x c o (way.Latched y) → ⊥
+no_latched level x c Again y h = h
+no_latched level x c (Right z) y h = h
+no_latched level x c (Down z) y h = h
+no_latched level x c Here y h = h
+
+same_latched : (x y : ℕ) → way.Latched y ≡ way.Latched x → x ≡ y
+same_latched x y e = cc
+
+module _ (marks : Trail) (m : Mark) (level key : ℕ) (least : 0 < level) where
+  abbrev more : Trail
+  more = marks ++ m ∷ []
+
+  -- an answer goes on meaning what it meant
+  pub reply_on : (r : PostReply) → reply_log level key r marks → reply_log level key r more
+  reply_on (reply.Done s) h = done_on marks m h
+  reply_on reply.Already h = already_on marks m h
+  reply_on reply.Stale h = stale_on marks m h
+  reply_on reply.NoRoom h = no_room_on marks m h
+  reply_on reply.TooTall h = tall_on marks m h
+
+  outcome_on : (o : Outcome) → outcome_log level key o marks → outcome_log level key o more
+  outcome_on outcome.Changed h = done_on marks m h
+  outcome_on (outcome.Parted s) h = done_on marks m h
+  outcome_on outcome.Refused h = no_room_on marks m h
+
+  outcome_reply : (o : Outcome) → outcome_log level key o more → reply_log level key (post_reply o) more
+  outcome_reply outcome.Changed h = h
+  outcome_reply (outcome.Parted s) h = h
+  outcome_reply outcome.Refused h = h
+
+  -- on the way
+  latched_on : (a : Approach) (y : ℕ) (what : Seen) → Approaches level key a what (came.On (way.Latched y)) → m.event.act ≡ event_of None (approach_next a) what → Holding more y []
+  latched_on way.Start y seen.Done t did = absurd t
+  latched_on way.Start y (seen.Words c) t did = absurd t
+  latched_on way.Start y (seen.Took n) t did = absurd t
+  latched_on way.Start y (seen.Owner retired started own) t did = absurd t
+  latched_on way.Start y (seen.Blocks it) t did = absurd t
+  latched_on way.Start y seen.Missed t did = absurd t
+  latched_on way.Start y seen.Refused t did = absurd t
+  latched_on (way.At x) y seen.Done t did = absurd t
+  latched_on (way.At x) y (seen.Words c) (o, l, u) did = absurd (no_latched level x c o y u)
+  latched_on (way.At x) y (seen.Took n) t did = absurd t
+  latched_on (way.At x) y (seen.Owner retired started own) t did = absurd t
+  latched_on (way.At x) y (seen.Blocks it) t did = absurd t
+  latched_on (way.At x) y seen.Missed t did = absurd t
+  latched_on (way.At x) y seen.Refused t did = absurd t
+  latched_on (way.Latching x) y seen.Done t did = held_now marks m y (did ∙ ap Latch (same_latched x y t))
+  latched_on (way.Latching x) y (seen.Words c) t did = absurd t
+  latched_on (way.Latching x) y (seen.Took n) t did = absurd t
+  latched_on (way.Latching x) y (seen.Owner retired started own) t did = absurd t
+  latched_on (way.Latching x) y (seen.Blocks it) t did = absurd t
+  latched_on (way.Latching x) y seen.Missed t did = absurd (let e = t in cc)
+  latched_on (way.Latching x) y seen.Refused t did = absurd t
+  latched_on (way.Latched x) y seen.Done t did = absurd t
+  latched_on (way.Latched x) y (seen.Words c) t did = absurd t
+  latched_on (way.Latched x) y (seen.Took n) t did = absurd t
+  latched_on (way.Latched x) y (seen.Owner retired started own) t did = absurd t
+  latched_on (way.Latched x) y (seen.Blocks it) t did = absurd t
+  latched_on (way.Latched x) y seen.Missed t did = absurd t
+  latched_on (way.Latched x) y seen.Refused t did = absurd t
+  latched_on (way.Leaving x None) y seen.Done t did = absurd (let e = t in cc)
+  latched_on (way.Leaving x None) y (seen.Words c) t did = absurd t
+  latched_on (way.Leaving x None) y (seen.Took n) t did = absurd t
+  latched_on (way.Leaving x None) y (seen.Owner retired started own) t did = absurd t
+  latched_on (way.Leaving x None) y (seen.Blocks it) t did = absurd t
+  latched_on (way.Leaving x None) y seen.Missed t did = absurd t
+  latched_on (way.Leaving x None) y seen.Refused t did = absurd t
+  latched_on (way.Leaving x (Some z)) y seen.Done t did = absurd (let e = t in cc)
+  latched_on (way.Leaving x (Some z)) y (seen.Words c) t did = absurd t
+  latched_on (way.Leaving x (Some z)) y (seen.Took n) t did = absurd t
+  latched_on (way.Leaving x (Some z)) y (seen.Owner retired started own) t did = absurd t
+  latched_on (way.Leaving x (Some z)) y (seen.Blocks it) t did = absurd t
+  latched_on (way.Leaving x (Some z)) y seen.Missed t did = absurd t
+  latched_on (way.Leaving x (Some z)) y seen.Refused t did = absurd t
+
+  approach_on : (a b : Approach) (what : Seen) → Approaches level key a what (came.On b) → m.event.act ≡ event_of None (approach_next a) what → approach_log b more
+  approach_on a way.Start what t did = tt
+  approach_on a (way.At x) what t did = tt
+  approach_on a (way.Latching x) what t did = tt
+  approach_on a (way.Latched x) what t did = latched_on a x what t did
+  approach_on a (way.Leaving x to) what t did = tt
+
+  -- at the parent
+  arrive_on : (x : ℕ) (c : Page) (new : PostStage) → Leads c key level Here → PostArrives key x c new → m.event.act ≡ Get x → m.saw ≡ Some c → Holding marks x [] → post_log level key new more
+  arrive_on x c (post.Walking v) l t did saw h =
+      let unlisted : (node_of c).look key ≡ None = subst (λ z. (node_of z).look key ≡ None) (sym t.2) (subst (λ z. (node_of (Inner v.parent)).look z ≡ None) t.1 v.unlisted) in
+      let here : HoldsParent level key more x c [] = parent_got marks m c did saw h l.2 l.1 unlisted in
+      (subst (λ z. HoldsParent level key more z (Inner v.parent) []) (sym t.0) (subst (λ z. HoldsParent level key more x z []) t.2 here), t.1)
+  arrive_on x c (post.Staying y reply.Already) l t did saw h = record {
+    parent = record {
+      at = x;
+      under = under (held_on marks m [] (λ o. (let e = sym did ∙ o in cc)) (ap put_in did) h);
+      parent = c;
+      got = got_last h.during m did saw;
+      level_is = l.2;
+      covers = l.1;
+    };
+    child = t.1.0;
+    listed = t.1.1;
+  }
+  arrive_on x c post.New l t did saw h = absurd t
+  arrive_on x c (post.Coming a) l t did saw h = absurd t
+  arrive_on x c (post.Growing g) l t did saw h = absurd t
+  arrive_on x c (post.Changing d) l t did saw h = absurd t
+  arrive_on x c (post.Ending r) l t did saw h = absurd t
+  arrive_on x c (post.Over r) l t did saw h = absurd t
+  arrive_on x c (post.Staying y (reply.Done s)) l t did saw h = absurd t
+  arrive_on x c (post.Staying y reply.Stale) l t did saw h = absurd t
+  arrive_on x c (post.Staying y reply.NoRoom) l t did saw h = absurd t
+  arrive_on x c (post.Staying y reply.TooTall) l t did saw h = absurd t
+
+  here_on : (a : Approach) (new : PostStage) (what : Seen) (y : ℕ) (d : Page) → Approaches level key a what (came.Here y d) → PostArrives key y d new → m.event.act ≡ event_of None (approach_next a) what → ((c : Page) → what ≡ seen.Words c → m.saw ≡ Some c) → approach_log a marks → post_log level key new more
+  here_on way.Start new seen.Done y d t at did saw h = absurd t
+  here_on way.Start new (seen.Words c) y d t at did saw h = absurd t
+  here_on way.Start new (seen.Took n) y d t at did saw h = absurd t
+  here_on way.Start new (seen.Owner retired started own) y d t at did saw h = absurd t
+  here_on way.Start new (seen.Blocks it) y d t at did saw h = absurd t
+  here_on way.Start new seen.Missed y d t at did saw h = absurd t
+  here_on way.Start new seen.Refused y d t at did saw h = absurd t
+  here_on (way.At x) new seen.Done y d t at did saw h = absurd t
+  here_on (way.At x) new (seen.Words c) y d t at did saw h = absurd t
+  here_on (way.At x) new (seen.Took n) y d t at did saw h = absurd t
+  here_on (way.At x) new (seen.Owner retired started own) y d t at did saw h = absurd t
+  here_on (way.At x) new (seen.Blocks it) y d t at did saw h = absurd t
+  here_on (way.At x) new seen.Missed y d t at did saw h = absurd t
+  here_on (way.At x) new seen.Refused y d t at did saw h = absurd t
+  here_on (way.Latching x) new seen.Done y d t at did saw h = absurd t
+  here_on (way.Latching x) new (seen.Words c) y d t at did saw h = absurd t
+  here_on (way.Latching x) new (seen.Took n) y d t at did saw h = absurd t
+  here_on (way.Latching x) new (seen.Owner retired started own) y d t at did saw h = absurd t
+  here_on (way.Latching x) new (seen.Blocks it) y d t at did saw h = absurd t
+  here_on (way.Latching x) new seen.Missed y d t at did saw h = absurd t
+  here_on (way.Latching x) new seen.Refused y d t at did saw h = absurd t
+  here_on (way.Latched x) new seen.Done y d t at did saw h = absurd t
+  here_on (way.Latched x) new (seen.Words c) y d t at did saw h =
+      arrive_on y d new (subst (λ z. Leads z key level Here) (sym t.1) t.2) at (did ∙ ap Get (sym t.0)) (saw c refl ∙ ap Some (sym t.1)) (subst (λ z. Holding marks z []) (sym t.0) h)
+  here_on (way.Latched x) new (seen.Took n) y d t at did saw h = absurd t
+  here_on (way.Latched x) new (seen.Owner retired started own) y d t at did saw h = absurd t
+  here_on (way.Latched x) new (seen.Blocks it) y d t at did saw h = absurd t
+  here_on (way.Latched x) new seen.Missed y d t at did saw h = absurd t
+  here_on (way.Latched x) new seen.Refused y d t at did saw h = absurd t
+  here_on (way.Leaving x None) new seen.Done y d t at did saw h = absurd t
+  here_on (way.Leaving x None) new (seen.Words c) y d t at did saw h = absurd t
+  here_on (way.Leaving x None) new (seen.Took n) y d t at did saw h = absurd t
+  here_on (way.Leaving x None) new (seen.Owner retired started own) y d t at did saw h = absurd t
+  here_on (way.Leaving x None) new (seen.Blocks it) y d t at did saw h = absurd t
+  here_on (way.Leaving x None) new seen.Missed y d t at did saw h = absurd t
+  here_on (way.Leaving x None) new seen.Refused y d t at did saw h = absurd t
+  here_on (way.Leaving x (Some z)) new seen.Done y d t at did saw h = absurd t
+  here_on (way.Leaving x (Some z)) new (seen.Words c) y d t at did saw h = absurd t
+  here_on (way.Leaving x (Some z)) new (seen.Took n) y d t at did saw h = absurd t
+  here_on (way.Leaving x (Some z)) new (seen.Owner retired started own) y d t at did saw h = absurd t
+  here_on (way.Leaving x (Some z)) new (seen.Blocks it) y d t at did saw h = absurd t
+  here_on (way.Leaving x (Some z)) new seen.Missed y d t at did saw h = absurd t
+  here_on (way.Leaving x (Some z)) new seen.Refused y d t at did saw h = absurd t
+
+  near_on : (a : Approach) (new : PostStage) (what : Seen) → PostNears level key a what new → m.event.act ≡ event_of None (approach_next a) what → ((c : Page) → what ≡ seen.Words c → m.saw ≡ Some c) → approach_log a marks → post_log level key new more
+  near_on a (post.Coming b) what t did saw h = approach_on a b what t did
+  near_on a post.New what (y, d, t, at) did saw h = here_on a post.New what y d t at did saw h
+  near_on a (post.Growing g) what (y, d, t, at) did saw h = here_on a (post.Growing g) what y d t at did saw h
+  near_on a (post.Walking v) what (y, d, t, at) did saw h = here_on a (post.Walking v) what y d t at did saw h
+  near_on a (post.Changing e) what (y, d, t, at) did saw h = here_on a (post.Changing e) what y d t at did saw h
+  near_on a (post.Staying z r) what (y, d, t, at) did saw h = here_on a (post.Staying z r) what y d t at did saw h
+  near_on a (post.Ending r) what (y, d, t, at) did saw h = here_on a (post.Ending r) what y d t at did saw h
+  near_on a (post.Over r) what (y, d, t, at) did saw h = here_on a (post.Over r) what y d t at did saw h
+
+  -- at the anchor
+  start_on : (c : Page) (new : PostStage) → PostStarts level key c new → m.event.act ≡ Get 0 → m.saw ≡ Some c → post_log level key new more
+  start_on c (post.Ending reply.Stale) t did saw = inl (record { anchor = c; got = got_last marks m did saw; few = t })
+  start_on c (post.Ending reply.TooTall) t did saw = record { last = t.1; anchor = c; got = got_last marks m did saw; full = t.0 ∙ t.1 }
+  start_on c (post.Growing growth.Latching) t did saw = tt
+  start_on c (post.Coming a) t did saw = approach_on way.Start a (seen.Words c) t.1 did
+  start_on c post.New t did saw = absurd t
+  start_on c (post.Walking v) t did saw = absurd t
+  start_on c (post.Changing d) t did saw = absurd t
+  start_on c (post.Staying z r) t did saw = absurd t
+  start_on c (post.Over r) t did saw = absurd t
+  start_on c (post.Ending (reply.Done s)) t did saw = absurd t
+  start_on c (post.Ending reply.Already) t did saw = absurd t
+  start_on c (post.Ending reply.NoRoom) t did saw = absurd t
+  start_on c (post.Growing growth.Latched) t did saw = absurd t
+  start_on c (post.Growing (growth.Taking r)) t did saw = absurd t
+  start_on c (post.Growing (growth.PuttingTop r)) t did saw = absurd t
+  start_on c (post.Growing (growth.PuttingAnchor r)) t did saw = absurd t
+  start_on c (post.Growing (growth.OpeningTop x)) t did saw = absurd t
+  start_on c (post.Growing growth.OpeningGrown) t did saw = absurd t
+  start_on c (post.Growing growth.OpeningRefused) t did saw = absurd t
+
+  come_on : (a : Approach) (new : PostStage) (what : Seen) → PostComes level key a what new → m.event.act ≡ event_of None (approach_next a) what → ((c : Page) → what ≡ seen.Words c → m.saw ≡ Some c) → approach_log a marks → post_log level key new more
+  come_on way.Start new seen.Done t did saw h = absurd t
+  come_on way.Start new (seen.Words c) t did saw h = start_on c new t did (saw c refl)
+  come_on way.Start new (seen.Took n) t did saw h = absurd t
+  come_on way.Start new (seen.Owner retired started own) t did saw h = absurd t
+  come_on way.Start new (seen.Blocks it) t did saw h = absurd t
+  come_on way.Start new seen.Missed t did saw h = absurd t
+  come_on way.Start new seen.Refused t did saw h = absurd t
+  come_on (way.At x) new what t did saw h = near_on (way.At x) new what t did saw h
+  come_on (way.Latching x) new what t did saw h = near_on (way.Latching x) new what t did saw h
+  come_on (way.Latched x) new what t did saw h = near_on (way.Latched x) new what t did saw h
+  come_on (way.Leaving x to) new what t did saw h = near_on (way.Leaving x to) new what t did saw h
+
+  latched_growth : (g : Growth) (what : Seen) → Grows level g what (grew.On growth.Latched) → m.event.act ≡ event_of None (growth_next g) what → growth_log g marks → Holding more 0 []
+  latched_growth growth.Latching seen.Done t did h = held_now marks m 0 did
+  latched_growth growth.Latching (seen.Words c) t did h = absurd t
+  latched_growth growth.Latching (seen.Took n) t did h = absurd t
+  latched_growth growth.Latching (seen.Owner retired started own) t did h = absurd t
+  latched_growth growth.Latching (seen.Blocks it) t did h = absurd t
+  latched_growth growth.Latching seen.Missed t did h = absurd (let e = t in cc)
+  latched_growth growth.Latching seen.Refused t did h = absurd t
+  latched_growth growth.Latched seen.Done t did h = absurd t
+  latched_growth growth.Latched (seen.Words c) t did h = absurd t
+  latched_growth growth.Latched (seen.Took n) t did h = absurd t
+  latched_growth growth.Latched (seen.Owner retired started own) t did h = absurd t
+  latched_growth growth.Latched (seen.Blocks it) t did h = absurd t
+  latched_growth growth.Latched seen.Missed t did h = absurd t
+  latched_growth growth.Latched seen.Refused t did h = absurd t
+  latched_growth (growth.Taking r) seen.Done t did h = absurd t
+  latched_growth (growth.Taking r) (seen.Words c) t did h = absurd t
+  latched_growth (growth.Taking r) (seen.Took n) t did h = absurd t
+  latched_growth (growth.Taking r) (seen.Owner retired started own) t did h = absurd t
+  latched_growth (growth.Taking r) (seen.Blocks it) t did h = absurd t
+  latched_growth (growth.Taking r) seen.Missed t did h = absurd t
+  latched_growth (growth.Taking r) seen.Refused t did h = absurd (let e = t in cc)
+  latched_growth (growth.PuttingTop r) seen.Done t did h = absurd (let e = t in cc)
+  latched_growth (growth.PuttingTop r) (seen.Words c) t did h = absurd t
+  latched_growth (growth.PuttingTop r) (seen.Took n) t did h = absurd t
+  latched_growth (growth.PuttingTop r) (seen.Owner retired started own) t did h = absurd t
+  latched_growth (growth.PuttingTop r) (seen.Blocks it) t did h = absurd t
+  latched_growth (growth.PuttingTop r) seen.Missed t did h = absurd t
+  latched_growth (growth.PuttingTop r) seen.Refused t did h = absurd t
+  latched_growth (growth.PuttingAnchor r) seen.Done t did h = absurd (let e = t in cc)
+  latched_growth (growth.PuttingAnchor r) (seen.Words c) t did h = absurd t
+  latched_growth (growth.PuttingAnchor r) (seen.Took n) t did h = absurd t
+  latched_growth (growth.PuttingAnchor r) (seen.Owner retired started own) t did h = absurd t
+  latched_growth (growth.PuttingAnchor r) (seen.Blocks it) t did h = absurd t
+  latched_growth (growth.PuttingAnchor r) seen.Missed t did h = absurd t
+  latched_growth (growth.PuttingAnchor r) seen.Refused t did h = absurd t
+  latched_growth (growth.OpeningTop x) seen.Done t did h = absurd (let e = t in cc)
+  latched_growth (growth.OpeningTop x) (seen.Words c) t did h = absurd t
+  latched_growth (growth.OpeningTop x) (seen.Took n) t did h = absurd t
+  latched_growth (growth.OpeningTop x) (seen.Owner retired started own) t did h = absurd t
+  latched_growth (growth.OpeningTop x) (seen.Blocks it) t did h = absurd t
+  latched_growth (growth.OpeningTop x) seen.Missed t did h = absurd t
+  latched_growth (growth.OpeningTop x) seen.Refused t did h = absurd t
+  latched_growth growth.OpeningGrown seen.Done t did h = absurd t
+  latched_growth growth.OpeningGrown (seen.Words c) t did h = absurd t
+  latched_growth growth.OpeningGrown (seen.Took n) t did h = absurd t
+  latched_growth growth.OpeningGrown (seen.Owner retired started own) t did h = absurd t
+  latched_growth growth.OpeningGrown (seen.Blocks it) t did h = absurd t
+  latched_growth growth.OpeningGrown seen.Missed t did h = absurd t
+  latched_growth growth.OpeningGrown seen.Refused t did h = absurd t
+  latched_growth growth.OpeningRefused seen.Done t did h = absurd t
+  latched_growth growth.OpeningRefused (seen.Words c) t did h = absurd t
+  latched_growth growth.OpeningRefused (seen.Took n) t did h = absurd t
+  latched_growth growth.OpeningRefused (seen.Owner retired started own) t did h = absurd t
+  latched_growth growth.OpeningRefused (seen.Blocks it) t did h = absurd t
+  latched_growth growth.OpeningRefused seen.Missed t did h = absurd t
+  latched_growth growth.OpeningRefused seen.Refused t did h = absurd t
+
+  taking_growth : (g : Growth) (q : _) (what : Seen) → Grows level g what (grew.On (growth.Taking q)) → m.event.act ≡ event_of None (growth_next g) what → growth_log g marks → Holding more 0 []
+  taking_growth growth.Latching q seen.Done t did h = absurd (let e = t in cc)
+  taking_growth growth.Latching q (seen.Words c) t did h = absurd t
+  taking_growth growth.Latching q (seen.Took n) t did h = absurd t
+  taking_growth growth.Latching q (seen.Owner retired started own) t did h = absurd t
+  taking_growth growth.Latching q (seen.Blocks it) t did h = absurd t
+  taking_growth growth.Latching q seen.Missed t did h = absurd (let e = t in cc)
+  taking_growth growth.Latching q seen.Refused t did h = absurd t
+  taking_growth growth.Latched q seen.Done t did h = absurd t
+  taking_growth growth.Latched q (seen.Words c) t did h = held_on marks m [] (λ o. (let e = sym did ∙ o in cc)) (ap put_in did) h
+  taking_growth growth.Latched q (seen.Took n) t did h = absurd t
+  taking_growth growth.Latched q (seen.Owner retired started own) t did h = absurd t
+  taking_growth growth.Latched q (seen.Blocks it) t did h = absurd t
+  taking_growth growth.Latched q seen.Missed t did h = absurd t
+  taking_growth growth.Latched q seen.Refused t did h = absurd t
+  taking_growth (growth.Taking r) q seen.Done t did h = absurd t
+  taking_growth (growth.Taking r) q (seen.Words c) t did h = absurd t
+  taking_growth (growth.Taking r) q (seen.Took n) t did h = absurd t
+  taking_growth (growth.Taking r) q (seen.Owner retired started own) t did h = absurd t
+  taking_growth (growth.Taking r) q (seen.Blocks it) t did h = absurd t
+  taking_growth (growth.Taking r) q seen.Missed t did h = absurd t
+  taking_growth (growth.Taking r) q seen.Refused t did h = absurd (let e = t in cc)
+  taking_growth (growth.PuttingTop r) q seen.Done t did h = absurd (let e = t in cc)
+  taking_growth (growth.PuttingTop r) q (seen.Words c) t did h = absurd t
+  taking_growth (growth.PuttingTop r) q (seen.Took n) t did h = absurd t
+  taking_growth (growth.PuttingTop r) q (seen.Owner retired started own) t did h = absurd t
+  taking_growth (growth.PuttingTop r) q (seen.Blocks it) t did h = absurd t
+  taking_growth (growth.PuttingTop r) q seen.Missed t did h = absurd t
+  taking_growth (growth.PuttingTop r) q seen.Refused t did h = absurd t
+  taking_growth (growth.PuttingAnchor r) q seen.Done t did h = absurd (let e = t in cc)
+  taking_growth (growth.PuttingAnchor r) q (seen.Words c) t did h = absurd t
+  taking_growth (growth.PuttingAnchor r) q (seen.Took n) t did h = absurd t
+  taking_growth (growth.PuttingAnchor r) q (seen.Owner retired started own) t did h = absurd t
+  taking_growth (growth.PuttingAnchor r) q (seen.Blocks it) t did h = absurd t
+  taking_growth (growth.PuttingAnchor r) q seen.Missed t did h = absurd t
+  taking_growth (growth.PuttingAnchor r) q seen.Refused t did h = absurd t
+  taking_growth (growth.OpeningTop x) q seen.Done t did h = absurd (let e = t in cc)
+  taking_growth (growth.OpeningTop x) q (seen.Words c) t did h = absurd t
+  taking_growth (growth.OpeningTop x) q (seen.Took n) t did h = absurd t
+  taking_growth (growth.OpeningTop x) q (seen.Owner retired started own) t did h = absurd t
+  taking_growth (growth.OpeningTop x) q (seen.Blocks it) t did h = absurd t
+  taking_growth (growth.OpeningTop x) q seen.Missed t did h = absurd t
+  taking_growth (growth.OpeningTop x) q seen.Refused t did h = absurd t
+  taking_growth growth.OpeningGrown q seen.Done t did h = absurd t
+  taking_growth growth.OpeningGrown q (seen.Words c) t did h = absurd t
+  taking_growth growth.OpeningGrown q (seen.Took n) t did h = absurd t
+  taking_growth growth.OpeningGrown q (seen.Owner retired started own) t did h = absurd t
+  taking_growth growth.OpeningGrown q (seen.Blocks it) t did h = absurd t
+  taking_growth growth.OpeningGrown q seen.Missed t did h = absurd t
+  taking_growth growth.OpeningGrown q seen.Refused t did h = absurd t
+  taking_growth growth.OpeningRefused q seen.Done t did h = absurd t
+  taking_growth growth.OpeningRefused q (seen.Words c) t did h = absurd t
+  taking_growth growth.OpeningRefused q (seen.Took n) t did h = absurd t
+  taking_growth growth.OpeningRefused q (seen.Owner retired started own) t did h = absurd t
+  taking_growth growth.OpeningRefused q (seen.Blocks it) t did h = absurd t
+  taking_growth growth.OpeningRefused q seen.Missed t did h = absurd t
+  taking_growth growth.OpeningRefused q seen.Refused t did h = absurd t
+
+  refused_growth : (g : Growth) (what : Seen) → Grows level g what (grew.On growth.OpeningRefused) → m.event.act ≡ event_of None (growth_next g) what → growth_log g marks → growth_log growth.OpeningRefused more
+  refused_growth growth.Latching seen.Done t did h = absurd (let e = t in cc)
+  refused_growth growth.Latching (seen.Words c) t did h = absurd t
+  refused_growth growth.Latching (seen.Took n) t did h = absurd t
+  refused_growth growth.Latching (seen.Owner retired started own) t did h = absurd t
+  refused_growth growth.Latching (seen.Blocks it) t did h = absurd t
+  refused_growth growth.Latching seen.Missed t did h = absurd (let e = t in cc)
+  refused_growth growth.Latching seen.Refused t did h = absurd t
+  refused_growth growth.Latched seen.Done t did h = absurd t
+  refused_growth growth.Latched (seen.Words c) t did h = absurd t
+  refused_growth growth.Latched (seen.Took n) t did h = absurd t
+  refused_growth growth.Latched (seen.Owner retired started own) t did h = absurd t
+  refused_growth growth.Latched (seen.Blocks it) t did h = absurd t
+  refused_growth growth.Latched seen.Missed t did h = absurd t
+  refused_growth growth.Latched seen.Refused t did h = absurd t
+  refused_growth (growth.Taking r) seen.Done t did h = absurd t
+  refused_growth (growth.Taking r) (seen.Words c) t did h = absurd t
+  refused_growth (growth.Taking r) (seen.Took n) t did h = absurd t
+  refused_growth (growth.Taking r) (seen.Owner retired started own) t did h = absurd t
+  refused_growth (growth.Taking r) (seen.Blocks it) t did h = absurd t
+  refused_growth (growth.Taking r) seen.Missed t did h = absurd t
+  refused_growth (growth.Taking r) seen.Refused t did h = refused_while marks m did h
+  refused_growth (growth.PuttingTop r) seen.Done t did h = absurd (let e = t in cc)
+  refused_growth (growth.PuttingTop r) (seen.Words c) t did h = absurd t
+  refused_growth (growth.PuttingTop r) (seen.Took n) t did h = absurd t
+  refused_growth (growth.PuttingTop r) (seen.Owner retired started own) t did h = absurd t
+  refused_growth (growth.PuttingTop r) (seen.Blocks it) t did h = absurd t
+  refused_growth (growth.PuttingTop r) seen.Missed t did h = absurd t
+  refused_growth (growth.PuttingTop r) seen.Refused t did h = absurd t
+  refused_growth (growth.PuttingAnchor r) seen.Done t did h = absurd (let e = t in cc)
+  refused_growth (growth.PuttingAnchor r) (seen.Words c) t did h = absurd t
+  refused_growth (growth.PuttingAnchor r) (seen.Took n) t did h = absurd t
+  refused_growth (growth.PuttingAnchor r) (seen.Owner retired started own) t did h = absurd t
+  refused_growth (growth.PuttingAnchor r) (seen.Blocks it) t did h = absurd t
+  refused_growth (growth.PuttingAnchor r) seen.Missed t did h = absurd t
+  refused_growth (growth.PuttingAnchor r) seen.Refused t did h = absurd t
+  refused_growth (growth.OpeningTop x) seen.Done t did h = absurd (let e = t in cc)
+  refused_growth (growth.OpeningTop x) (seen.Words c) t did h = absurd t
+  refused_growth (growth.OpeningTop x) (seen.Took n) t did h = absurd t
+  refused_growth (growth.OpeningTop x) (seen.Owner retired started own) t did h = absurd t
+  refused_growth (growth.OpeningTop x) (seen.Blocks it) t did h = absurd t
+  refused_growth (growth.OpeningTop x) seen.Missed t did h = absurd t
+  refused_growth (growth.OpeningTop x) seen.Refused t did h = absurd t
+  refused_growth growth.OpeningGrown seen.Done t did h = absurd t
+  refused_growth growth.OpeningGrown (seen.Words c) t did h = absurd t
+  refused_growth growth.OpeningGrown (seen.Took n) t did h = absurd t
+  refused_growth growth.OpeningGrown (seen.Owner retired started own) t did h = absurd t
+  refused_growth growth.OpeningGrown (seen.Blocks it) t did h = absurd t
+  refused_growth growth.OpeningGrown seen.Missed t did h = absurd t
+  refused_growth growth.OpeningGrown seen.Refused t did h = absurd t
+  refused_growth growth.OpeningRefused seen.Done t did h = absurd t
+  refused_growth growth.OpeningRefused (seen.Words c) t did h = absurd t
+  refused_growth growth.OpeningRefused (seen.Took n) t did h = absurd t
+  refused_growth growth.OpeningRefused (seen.Owner retired started own) t did h = absurd t
+  refused_growth growth.OpeningRefused (seen.Blocks it) t did h = absurd t
+  refused_growth growth.OpeningRefused seen.Missed t did h = absurd t
+  refused_growth growth.OpeningRefused seen.Refused t did h = absurd t
+
+  grow_on : (g h : Growth) (what : Seen) → Grows level g what (grew.On h) → m.event.act ≡ event_of None (growth_next g) what → growth_log g marks → growth_log h more
+  grow_on g growth.Latching what t did h = tt
+  grow_on g growth.Latched what t did h = latched_growth g what t did h
+  grow_on g (growth.Taking q) what t did h = taking_growth g q what t did h
+  grow_on g (growth.PuttingTop r) what t did h = tt
+  grow_on g (growth.PuttingAnchor r) what t did h = tt
+  grow_on g (growth.OpeningTop x) what t did h = tt
+  grow_on g growth.OpeningGrown what t did h = tt
+  grow_on g growth.OpeningRefused what t did h = refused_growth g what t did h
+
+  grow_end : (g : Growth) (what : Seen) → Grows level g what grew.Refused → growth_log g marks → reply_log level key reply.NoRoom more
+  grow_end growth.Latching seen.Done t h = absurd t
+  grow_end growth.Latching (seen.Words c) t h = absurd t
+  grow_end growth.Latching (seen.Took n) t h = absurd t
+  grow_end growth.Latching (seen.Owner retired started own) t h = absurd t
+  grow_end growth.Latching (seen.Blocks it) t h = absurd t
+  grow_end growth.Latching seen.Missed t h = absurd t
+  grow_end growth.Latching seen.Refused t h = absurd t
+  grow_end growth.Latched seen.Done t h = absurd t
+  grow_end growth.Latched (seen.Words c) t h = absurd t
+  grow_end growth.Latched (seen.Took n) t h = absurd t
+  grow_end growth.Latched (seen.Owner retired started own) t h = absurd t
+  grow_end growth.Latched (seen.Blocks it) t h = absurd t
+  grow_end growth.Latched seen.Missed t h = absurd t
+  grow_end growth.Latched seen.Refused t h = absurd t
+  grow_end (growth.Taking r) seen.Done t h = absurd t
+  grow_end (growth.Taking r) (seen.Words c) t h = absurd t
+  grow_end (growth.Taking r) (seen.Took n) t h = absurd t
+  grow_end (growth.Taking r) (seen.Owner retired started own) t h = absurd t
+  grow_end (growth.Taking r) (seen.Blocks it) t h = absurd t
+  grow_end (growth.Taking r) seen.Missed t h = absurd t
+  grow_end (growth.Taking r) seen.Refused t h = absurd t
+  grow_end (growth.PuttingTop r) seen.Done t h = absurd t
+  grow_end (growth.PuttingTop r) (seen.Words c) t h = absurd t
+  grow_end (growth.PuttingTop r) (seen.Took n) t h = absurd t
+  grow_end (growth.PuttingTop r) (seen.Owner retired started own) t h = absurd t
+  grow_end (growth.PuttingTop r) (seen.Blocks it) t h = absurd t
+  grow_end (growth.PuttingTop r) seen.Missed t h = absurd t
+  grow_end (growth.PuttingTop r) seen.Refused t h = absurd t
+  grow_end (growth.PuttingAnchor r) seen.Done t h = absurd t
+  grow_end (growth.PuttingAnchor r) (seen.Words c) t h = absurd t
+  grow_end (growth.PuttingAnchor r) (seen.Took n) t h = absurd t
+  grow_end (growth.PuttingAnchor r) (seen.Owner retired started own) t h = absurd t
+  grow_end (growth.PuttingAnchor r) (seen.Blocks it) t h = absurd t
+  grow_end (growth.PuttingAnchor r) seen.Missed t h = absurd t
+  grow_end (growth.PuttingAnchor r) seen.Refused t h = absurd t
+  grow_end (growth.OpeningTop x) seen.Done t h = absurd t
+  grow_end (growth.OpeningTop x) (seen.Words c) t h = absurd t
+  grow_end (growth.OpeningTop x) (seen.Took n) t h = absurd t
+  grow_end (growth.OpeningTop x) (seen.Owner retired started own) t h = absurd t
+  grow_end (growth.OpeningTop x) (seen.Blocks it) t h = absurd t
+  grow_end (growth.OpeningTop x) seen.Missed t h = absurd t
+  grow_end (growth.OpeningTop x) seen.Refused t h = absurd t
+  grow_end growth.OpeningGrown seen.Done t h = absurd t
+  grow_end growth.OpeningGrown (seen.Words c) t h = absurd t
+  grow_end growth.OpeningGrown (seen.Took n) t h = absurd t
+  grow_end growth.OpeningGrown (seen.Owner retired started own) t h = absurd t
+  grow_end growth.OpeningGrown (seen.Blocks it) t h = absurd t
+  grow_end growth.OpeningGrown seen.Missed t h = absurd t
+  grow_end growth.OpeningGrown seen.Refused t h = absurd t
+  grow_end growth.OpeningRefused seen.Done t h = no_room_on marks m h
+  grow_end growth.OpeningRefused (seen.Words c) t h = absurd t
+  grow_end growth.OpeningRefused (seen.Took n) t h = absurd t
+  grow_end growth.OpeningRefused (seen.Owner retired started own) t h = absurd t
+  grow_end growth.OpeningRefused (seen.Blocks it) t h = absurd t
+  grow_end growth.OpeningRefused seen.Missed t h = absurd t
+  grow_end growth.OpeningRefused seen.Refused t h = absurd t
+
+  -- a pair is to enter the parent
+  enter_on : (x : ℕ) (c : Page) (word : ℕ) (d : Change) → EntersPair x c key word d → HoldsBoth level key more x c word [] → change_log level key d more
+  enter_on x c word (change.Putting y page) t h =
+      let put : IsToPut level key more x [] (page ∷ []) = record { parent = c; child = word; both = h; together = row_together c page key word (fits_row c page key word 0 t.1 h.above.covers) h.above.unlisted } in
+      subst (λ z. IsToPut level key more z [] (page ∷ [])) (sym t.0) put
+  enter_on x c word (change.Taking full) t h =
+      (subst (λ z. HoldsBoth level key more full.at z full.word []) (sym t.3) (subst (λ z. HoldsBoth level key more full.at c z []) (sym t.2) (subst (λ z. HoldsBoth level key more z c word []) (sym t.0) h)), t.1)
+  enter_on x c word (change.PuttingNew p) t h = absurd t
+  enter_on x c word (change.PuttingOld p) t h = absurd t
+  enter_on x c word (change.OpeningNew y new s) t h = absurd t
+  enter_on x c word (change.Opening y o) t h = absurd t
+
+  -- on the walk to the child
+  walk_on : (v : Walk) (c : Page) (new : PostStage) → PostWalks level v c new → m.event.act ≡ Get v.child → m.saw ≡ Some c → HoldsParent level key marks v.at (Inner v.parent) [] → v.key ≡ key → post_log level key new more
+  walk_on v c (post.Walking u) t did saw h same =
+      let on : HoldsParent level key more v.at (Inner v.parent) [] = parent_held_on marks m [] (λ o. (let e = sym did ∙ o in cc)) (ap put_in did) h in
+      (subst (λ z. HoldsParent level key more z (Inner u.parent) []) (sym t.0) (subst (λ z. HoldsParent level key more v.at (Inner z) []) (sym t.2) on), t.1 ∙ same)
+  walk_on v c (post.Changing d) t did saw h same =
+      let l : Leads c key (level - 1) Here = subst (λ z. Leads c z (level - 1) Here) same t.0 in
+      let both : HoldsBoth level key more v.at (Inner v.parent) v.child [] = child_got marks m v.child c did saw h (let e = l.2 in omega (arith, least)) l.1 (t.1 ∙ same) in
+      enter_on v.at (Inner v.parent) v.child d (subst (λ z. EntersPair v.at (Inner v.parent) z v.child d) same t.2) both
+  walk_on v c (post.Staying x reply.Stale) t did saw h same =
+      let l : Leads c key (level - 1) Here = subst (λ z. Leads c z (level - 1) Here) same t.1 in
+      let on = held_on marks m [] (λ o. (let e = sym did ∙ o in cc)) (ap put_in did) h.holding in
+      inr (record {
+        parent = record { at = v.at; under = under on; parent = Inner v.parent; got = got_on h.holding.during m h.got; level_is = h.level_is; covers = h.covers };
+        child = record { at = v.child; child = c; got = got_last h.holding.during m did saw; level_is = (let e = l.2 in omega (arith, least)); covers = l.1 };
+        low = subst (λ z. (node_of c).shape.low ≢ z) same t.2;
+      })
+  walk_on v c (post.Coming a) t did saw h same = subst (λ z. approach_log z more) (sym t.0) tt
+  walk_on v c post.New t did saw h same = absurd t
+  walk_on v c (post.Growing g) t did saw h same = absurd t
+  walk_on v c (post.Ending r) t did saw h same = absurd t
+  walk_on v c (post.Over r) t did saw h same = absurd t
+  walk_on v c (post.Staying y (reply.Done s)) t did saw h same = absurd t
+  walk_on v c (post.Staying y reply.Already) t did saw h same = absurd t
+  walk_on v c (post.Staying y reply.NoRoom) t did saw h same = absurd t
+  walk_on v c (post.Staying y reply.TooTall) t did saw h same = absurd t
+
+  -- on with the change of the parent
+  change_on : (c d : Change) (what : Seen) → Changes c what (changed.On d) → m.event.act ≡ event_of None (change_next c) what → change_log level key c marks → change_log level key d more
+  change_on (change.Putting x page) d seen.Done t did h =
+      let both : HoldsBoth level key more x h.parent h.child (page ∷ []) = both_held_on marks m (page ∷ []) (λ o. (let e = sym did ∙ o in cc)) (ap put_in did) h.both in
+      let put : IsToPut level key more x (page ∷ []) (page ∷ []) = record { parent = h.parent; child = h.child; both = both; together = h.together } in
+      subst (λ z. change_log level key z more) (sym t) (is_done (page ∷ []) put)
+  change_on (change.Putting x page) d (seen.Words c) t did h = absurd t
+  change_on (change.Putting x page) d (seen.Took n) t did h = absurd t
+  change_on (change.Putting x page) d (seen.Owner retired started own) t did h = absurd t
+  change_on (change.Putting x page) d (seen.Blocks it) t did h = absurd t
+  change_on (change.Putting x page) d seen.Missed t did h = absurd t
+  change_on (change.Putting x page) d seen.Refused t did h =
+      subst (λ z. change_log level key z more) (sym t) (refused_while marks m did h.both.above.holding)
+  change_on (change.Taking full) d seen.Done t did h = absurd t
+  change_on (change.Taking full) d (seen.Words c) t did h = absurd t
+  change_on (change.Taking full) (change.PuttingNew q) (seen.Took n) t did h =
+      let both : HoldsBoth level key more full.at full.page full.word [] = both_held_on marks m [] (λ o. (let e = sym did ∙ o in cc)) (ap put_in did) h.0 in
+      let cut = split_cut full.page q.left q.right key full.word n q.separator (subst (λ z. IsFitted full.page z full.word n (Split q.left q.right q.separator)) h.1 t.2) both.above.covers in
+      subst (λ z. IsToPut level key more z [] (q.right ∷ q.left ∷ [])) (sym t.0) (record { parent = full.page; child = full.word; both = both; together = cut_together full.page q.left q.right n key full.word cut both.above.unlisted })
+  change_on (change.Taking full) (change.Putting y page) (seen.Took n) t did h = absurd t
+  change_on (change.Taking full) (change.Taking q) (seen.Took n) t did h = absurd t
+  change_on (change.Taking full) (change.PuttingOld q) (seen.Took n) t did h = absurd t
+  change_on (change.Taking full) (change.OpeningNew y z s) (seen.Took n) t did h = absurd t
+  change_on (change.Taking full) (change.Opening y o) (seen.Took n) t did h = absurd t
+  change_on (change.Taking full) d (seen.Owner retired started own) t did h = absurd t
+  change_on (change.Taking full) d (seen.Blocks it) t did h = absurd t
+  change_on (change.Taking full) d seen.Missed t did h = absurd t
+  change_on (change.Taking full) d seen.Refused t did h =
+      subst (λ z. change_log level key z more) (sym t) (refused_while marks m did h.0.above.holding)
+  change_on (change.PuttingNew p) d seen.Done t did h =
+      let both : HoldsBoth level key more p.at h.parent h.child (p.right ∷ []) = both_held_on marks m (p.right ∷ []) (λ o. (let e = sym did ∙ o in cc)) (ap put_in did) h.both in
+      subst (λ z. change_log level key z more) (sym t) (record { parent = h.parent; child = h.child; both = both; together = h.together })
+  change_on (change.PuttingNew p) d (seen.Words c) t did h = absurd t
+  change_on (change.PuttingNew p) d (seen.Took n) t did h = absurd t
+  change_on (change.PuttingNew p) d (seen.Owner retired started own) t did h = absurd t
+  change_on (change.PuttingNew p) d (seen.Blocks it) t did h = absurd t
+  change_on (change.PuttingNew p) d seen.Missed t did h = absurd t
+  change_on (change.PuttingNew p) d seen.Refused t did h = absurd t
+  change_on (change.PuttingOld p) d seen.Done t did h =
+      let both : HoldsBoth level key more p.at h.parent h.child (p.right ∷ p.left ∷ []) = both_held_on marks m (p.left ∷ []) (λ o. (let e = sym did ∙ o in cc)) (ap put_in did) h.both in
+      let put : IsToPut level key more p.at (p.right ∷ p.left ∷ []) (p.right ∷ p.left ∷ []) = record { parent = h.parent; child = h.child; both = both; together = h.together } in
+      subst (λ z. change_log level key z more) (sym t) (is_done (p.right ∷ p.left ∷ []) put)
+  change_on (change.PuttingOld p) d (seen.Words c) t did h = absurd t
+  change_on (change.PuttingOld p) d (seen.Took n) t did h = absurd t
+  change_on (change.PuttingOld p) d (seen.Owner retired started own) t did h = absurd t
+  change_on (change.PuttingOld p) d (seen.Blocks it) t did h = absurd t
+  change_on (change.PuttingOld p) d seen.Missed t did h = absurd t
+  change_on (change.PuttingOld p) d seen.Refused t did h = absurd t
+  change_on (change.OpeningNew x new separator) d seen.Done t did h =
+      subst (λ z. change_log level key z more) (sym t) (done_on marks m h)
+  change_on (change.OpeningNew x new separator) d (seen.Words c) t did h = absurd t
+  change_on (change.OpeningNew x new separator) d (seen.Took n) t did h = absurd t
+  change_on (change.OpeningNew x new separator) d (seen.Owner retired started own) t did h = absurd t
+  change_on (change.OpeningNew x new separator) d (seen.Blocks it) t did h = absurd t
+  change_on (change.OpeningNew x new separator) d seen.Missed t did h = absurd t
+  change_on (change.OpeningNew x new separator) d seen.Refused t did h = absurd t
+  change_on (change.Opening x o) d seen.Done t did h = absurd t
+  change_on (change.Opening x o) d (seen.Words c) t did h = absurd t
+  change_on (change.Opening x o) d (seen.Took n) t did h = absurd t
+  change_on (change.Opening x o) d (seen.Owner retired started own) t did h = absurd t
+  change_on (change.Opening x o) d (seen.Blocks it) t did h = absurd t
+  change_on (change.Opening x o) d seen.Missed t did h = absurd t
+  change_on (change.Opening x o) d seen.Refused t did h = absurd t
+
+  change_end : (c : Change) (what : Seen) (o : Outcome) → Changes c what (changed.Over o) → change_log level key c marks → reply_log level key (post_reply o) more
+  change_end (change.Putting x page) seen.Done last t h = absurd t
+  change_end (change.Putting x page) (seen.Words c) last t h = absurd t
+  change_end (change.Putting x page) (seen.Took n) last t h = absurd t
+  change_end (change.Putting x page) (seen.Owner retired started own) last t h = absurd t
+  change_end (change.Putting x page) (seen.Blocks it) last t h = absurd t
+  change_end (change.Putting x page) seen.Missed last t h = absurd t
+  change_end (change.Putting x page) seen.Refused last t h = absurd t
+  change_end (change.Taking full) seen.Done last t h = absurd t
+  change_end (change.Taking full) (seen.Words c) last t h = absurd t
+  change_end (change.Taking full) (seen.Took n) last t h = absurd t
+  change_end (change.Taking full) (seen.Owner retired started own) last t h = absurd t
+  change_end (change.Taking full) (seen.Blocks it) last t h = absurd t
+  change_end (change.Taking full) seen.Missed last t h = absurd t
+  change_end (change.Taking full) seen.Refused last t h = absurd t
+  change_end (change.PuttingNew p) seen.Done last t h = absurd t
+  change_end (change.PuttingNew p) (seen.Words c) last t h = absurd t
+  change_end (change.PuttingNew p) (seen.Took n) last t h = absurd t
+  change_end (change.PuttingNew p) (seen.Owner retired started own) last t h = absurd t
+  change_end (change.PuttingNew p) (seen.Blocks it) last t h = absurd t
+  change_end (change.PuttingNew p) seen.Missed last t h = absurd t
+  change_end (change.PuttingNew p) seen.Refused last t h = absurd t
+  change_end (change.PuttingOld p) seen.Done last t h = absurd t
+  change_end (change.PuttingOld p) (seen.Words c) last t h = absurd t
+  change_end (change.PuttingOld p) (seen.Took n) last t h = absurd t
+  change_end (change.PuttingOld p) (seen.Owner retired started own) last t h = absurd t
+  change_end (change.PuttingOld p) (seen.Blocks it) last t h = absurd t
+  change_end (change.PuttingOld p) seen.Missed last t h = absurd t
+  change_end (change.PuttingOld p) seen.Refused last t h = absurd t
+  change_end (change.OpeningNew x new separator) seen.Done last t h = absurd t
+  change_end (change.OpeningNew x new separator) (seen.Words c) last t h = absurd t
+  change_end (change.OpeningNew x new separator) (seen.Took n) last t h = absurd t
+  change_end (change.OpeningNew x new separator) (seen.Owner retired started own) last t h = absurd t
+  change_end (change.OpeningNew x new separator) (seen.Blocks it) last t h = absurd t
+  change_end (change.OpeningNew x new separator) seen.Missed last t h = absurd t
+  change_end (change.OpeningNew x new separator) seen.Refused last t h = absurd t
+  change_end (change.Opening x o) seen.Done last t h = outcome_reply last (outcome_on last (subst (λ z. outcome_log level key z marks) (sym t) h))
+  change_end (change.Opening x o) (seen.Words c) last t h = absurd t
+  change_end (change.Opening x o) (seen.Took n) last t h = absurd t
+  change_end (change.Opening x o) (seen.Owner retired started own) last t h = absurd t
+  change_end (change.Opening x o) (seen.Blocks it) last t h = absurd t
+  change_end (change.Opening x o) seen.Missed last t h = absurd t
+  change_end (change.Opening x o) seen.Refused last t h = absurd t
+
+  -- any step of a post
+  pub post_on : (old new : PostStage) (what : Seen) → PostGoes level key old what new → m.event.act ≡ event_of None (post_next_in old) what → ((c : Page) → what ≡ seen.Words c → m.saw ≡ Some c) → post_log level key old marks → post_log level key new more
+  post_on (post.Coming a) new what t did saw h = come_on a new what t did saw h
+  post_on post.New post.New seen.Done t did saw h = absurd t
+  post_on post.New (post.Coming b) seen.Done t did saw h = subst (λ z. approach_log z more) (sym t) tt
+  post_on post.New (post.Growing k) seen.Done t did saw h = absurd t
+  post_on post.New (post.Walking u) seen.Done t did saw h = absurd t
+  post_on post.New (post.Changing d) seen.Done t did saw h = absurd t
+  post_on post.New (post.Staying y last) seen.Done t did saw h = absurd t
+  post_on post.New (post.Ending last) seen.Done t did saw h = absurd t
+  post_on post.New (post.Over last) seen.Done t did saw h = absurd t
+  post_on post.New new (seen.Words page) t did saw h = absurd t
+  post_on post.New new (seen.Took n) t did saw h = absurd t
+  post_on post.New new (seen.Owner retired started own) t did saw h = absurd t
+  post_on post.New new (seen.Blocks it) t did saw h = absurd t
+  post_on post.New new seen.Missed t did saw h = absurd t
+  post_on post.New new seen.Refused t did saw h = absurd t
+  post_on (post.Growing g) (post.Growing k) what t did saw h = grow_on g k what t did h
+  post_on (post.Growing g) (post.Coming b) what t did saw h = subst (λ z. approach_log z more) (sym t.1) tt
+  post_on (post.Growing g) (post.Ending last) what t did saw h = subst (λ z. reply_log level key z more) (sym t.1) (grow_end g what t.0 h)
+  post_on (post.Growing g) post.New what t did saw h = absurd t
+  post_on (post.Growing g) (post.Walking u) what t did saw h = absurd t
+  post_on (post.Growing g) (post.Changing d) what t did saw h = absurd t
+  post_on (post.Growing g) (post.Staying y last) what t did saw h = absurd t
+  post_on (post.Growing g) (post.Over last) what t did saw h = absurd t
+  post_on (post.Walking v) new seen.Done t did saw h = absurd t
+  post_on (post.Walking v) new (seen.Words page) t did saw h = walk_on v page new t did (saw page refl) h.0 h.1
+  post_on (post.Walking v) new (seen.Took n) t did saw h = absurd t
+  post_on (post.Walking v) new (seen.Owner retired started own) t did saw h = absurd t
+  post_on (post.Walking v) new (seen.Blocks it) t did saw h = absurd t
+  post_on (post.Walking v) new seen.Missed t did saw h = absurd t
+  post_on (post.Walking v) new seen.Refused t did saw h = absurd t
+  post_on (post.Changing c) (post.Changing d) what t did saw h = change_on c d what t did h
+  post_on (post.Changing c) (post.Ending last) what t did saw h = subst (λ z. reply_log level key z more) (sym t.2) (change_end c what t.0 t.1 h)
+  post_on (post.Changing c) post.New what t did saw h = absurd t
+  post_on (post.Changing c) (post.Coming b) what t did saw h = absurd t
+  post_on (post.Changing c) (post.Growing k) what t did saw h = absurd t
+  post_on (post.Changing c) (post.Walking u) what t did saw h = absurd t
+  post_on (post.Changing c) (post.Staying y last) what t did saw h = absurd t
+  post_on (post.Changing c) (post.Over last) what t did saw h = absurd t
+  post_on (post.Staying x r) post.New seen.Done t did saw h = absurd t
+  post_on (post.Staying x r) (post.Coming b) seen.Done t did saw h = absurd t
+  post_on (post.Staying x r) (post.Growing k) seen.Done t did saw h = absurd t
+  post_on (post.Staying x r) (post.Walking u) seen.Done t did saw h = absurd t
+  post_on (post.Staying x r) (post.Changing d) seen.Done t did saw h = absurd t
+  post_on (post.Staying x r) (post.Staying y last) seen.Done t did saw h = absurd t
+  post_on (post.Staying x r) (post.Ending last) seen.Done t did saw h = subst (λ z. reply_log level key z more) (sym t) (reply_on r h)
+  post_on (post.Staying x r) (post.Over last) seen.Done t did saw h = absurd t
+  post_on (post.Staying x r) new (seen.Words page) t did saw h = absurd t
+  post_on (post.Staying x r) new (seen.Took n) t did saw h = absurd t
+  post_on (post.Staying x r) new (seen.Owner retired started own) t did saw h = absurd t
+  post_on (post.Staying x r) new (seen.Blocks it) t did saw h = absurd t
+  post_on (post.Staying x r) new seen.Missed t did saw h = absurd t
+  post_on (post.Staying x r) new seen.Refused t did saw h = absurd t
+  post_on (post.Ending r) post.New seen.Done t did saw h = absurd t
+  post_on (post.Ending r) (post.Coming b) seen.Done t did saw h = absurd t
+  post_on (post.Ending r) (post.Growing k) seen.Done t did saw h = absurd t
+  post_on (post.Ending r) (post.Walking u) seen.Done t did saw h = absurd t
+  post_on (post.Ending r) (post.Changing d) seen.Done t did saw h = absurd t
+  post_on (post.Ending r) (post.Staying y last) seen.Done t did saw h = absurd t
+  post_on (post.Ending r) (post.Ending last) seen.Done t did saw h = absurd t
+  post_on (post.Ending r) (post.Over last) seen.Done t did saw h = subst (λ z. reply_log level key z more) (sym t) (reply_on r h)
+  post_on (post.Ending r) new (seen.Words page) t did saw h = absurd t
+  post_on (post.Ending r) new (seen.Took n) t did saw h = absurd t
+  post_on (post.Ending r) new (seen.Owner retired started own) t did saw h = absurd t
+  post_on (post.Ending r) new (seen.Blocks it) t did saw h = absurd t
+  post_on (post.Ending r) new seen.Missed t did saw h = absurd t
+  post_on (post.Ending r) new seen.Refused t did saw h = absurd t
+  post_on (post.Over r) post.New seen.Done t did saw h = absurd t
+  post_on (post.Over r) (post.Coming b) seen.Done t did saw h = absurd t
+  post_on (post.Over r) (post.Growing k) seen.Done t did saw h = absurd t
+  post_on (post.Over r) (post.Walking u) seen.Done t did saw h = absurd t
+  post_on (post.Over r) (post.Changing d) seen.Done t did saw h = absurd t
+  post_on (post.Over r) (post.Staying y last) seen.Done t did saw h = absurd t
+  post_on (post.Over r) (post.Ending last) seen.Done t did saw h = absurd t
+  post_on (post.Over r) (post.Over last) seen.Done t did saw h = absurd t
+  post_on (post.Over r) new (seen.Words page) t did saw h = absurd t
+  post_on (post.Over r) new (seen.Took n) t did saw h = absurd t
+  post_on (post.Over r) new (seen.Owner retired started own) t did saw h = absurd t
+  post_on (post.Over r) new (seen.Blocks it) t did saw h = absurd t
+  post_on (post.Over r) new seen.Missed t did saw h = absurd t
+  post_on (post.Over r) new seen.Refused t did saw h = absurd t
+
+  -- a mark that neither puts nor opens a page
+  module _ (put : put_in m.event.act ≡ []) (shut : (x : ℕ) → m.event.act ≢ Act.Open x) where
+    both_stay : {x y : ℕ} {c : Page} (puts : _) → HoldsBoth level key marks x c y puts → HoldsBoth level key more x c y puts
+    both_stay {x} {y} {c} puts h = subst (λ z. HoldsBoth level key more x c y z) (append-nil puts) (both_held_on marks m [] (shut x) put h)
+
+    to_put_stays : {x : ℕ} (puts pages : _) → IsToPut level key marks x puts pages → IsToPut level key more x puts pages
+    to_put_stays puts pages h = record { parent = h.parent; child = h.child; both = both_stay puts h.both; together = h.together }
+
+    approach_stays : (a : Approach) → approach_log a marks → approach_log a more
+    approach_stays way.Start h = tt
+    approach_stays (way.At x) h = tt
+    approach_stays (way.Latching x) h = tt
+    approach_stays (way.Latched x) h = held_on marks m [] (shut x) put h
+    approach_stays (way.Leaving x to) h = tt
+
+    growth_stays : (g : Growth) → growth_log g marks → growth_log g more
+    growth_stays growth.Latching h = tt
+    growth_stays growth.Latched h = held_on marks m [] (shut 0) put h
+    growth_stays (growth.Taking r) h = held_on marks m [] (shut 0) put h
+    growth_stays (growth.PuttingTop r) h = tt
+    growth_stays (growth.PuttingAnchor r) h = tt
+    growth_stays (growth.OpeningTop x) h = tt
+    growth_stays growth.OpeningGrown h = tt
+    growth_stays growth.OpeningRefused h = no_room_on marks m h
+
+    change_stays : (c : Change) → change_log level key c marks → change_log level key c more
+    change_stays (change.Putting x page) h = to_put_stays [] (page ∷ []) h
+    change_stays (change.Taking full) h = (both_stay [] h.0, h.1)
+    change_stays (change.PuttingNew p) h = to_put_stays [] (p.right ∷ p.left ∷ []) h
+    change_stays (change.PuttingOld p) h = to_put_stays (p.right ∷ []) (p.right ∷ p.left ∷ []) h
+    change_stays (change.OpeningNew x new separator) h = done_on marks m h
+    change_stays (change.Opening x o) h = outcome_on o h
+
+    pub post_stays : (old : PostStage) → post_log level key old marks → post_log level key old more
+    post_stays post.New h = tt
+    post_stays (post.Coming a) h = approach_stays a h
+    post_stays (post.Growing g) h = growth_stays g h
+    post_stays (post.Walking v) h = (parent_held_on marks m [] (shut v.at) put h.0, h.1)
+    post_stays (post.Changing c) h = change_stays c h
+    post_stays (post.Staying x r) h = reply_on r h
+    post_stays (post.Ending r) h = reply_on r h
+    post_stays (post.Over r) h = reply_on r h
