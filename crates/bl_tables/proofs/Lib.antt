@@ -11,6 +11,7 @@ pub mod Deleting
 pub mod Growing
 pub mod Posting
 pub mod Plain
+pub mod Logged
 pub mod Near
 pub mod Turning
 pub mod Starting

@@ -153,7 +153,7 @@ module _ (marks : Trail) (m : Mark) (level key : ℕ) (least : 0 < level) where
   arrive_on x c (post.Staying y reply.NoRoom) l t did saw h = absurd t
   arrive_on x c (post.Staying y reply.TooTall) l t did saw h = absurd t
 
-  here_on : (a : Approach) (new : PostStage) (what : Seen) (y : ℕ) (d : Page) → Approaches level key a what (came.Here y d) → PostArrives key y d new → m.event.act ≡ event_of None (approach_next a) what → ((c : Page) → what ≡ seen.Words c → m.saw ≡ Some c) → approach_log a marks → post_log level key new more
+  here_on : (a : Approach) (new : PostStage) (what : Seen) (y : ℕ) (d : Page) → Approaches level key a what (came.Here y d) → PostArrives key y d new → m.event.act ≡ event_of None (approach_next a) what → ((x : ℕ) (c : Page) → m.event.act ≡ Get x → what ≡ seen.Words c → m.saw ≡ Some c) → approach_log a marks → post_log level key new more
   here_on way.Start new seen.Done y d t at did saw h = absurd t
   here_on way.Start new (seen.Words c) y d t at did saw h = absurd t
   here_on way.Start new (seen.Took n) y d t at did saw h = absurd t
@@ -177,7 +177,7 @@ module _ (marks : Trail) (m : Mark) (level key : ℕ) (least : 0 < level) where
   here_on (way.Latching x) new seen.Refused y d t at did saw h = absurd t
   here_on (way.Latched x) new seen.Done y d t at did saw h = absurd t
   here_on (way.Latched x) new (seen.Words c) y d t at did saw h =
-      arrive_on y d new (subst (λ z. Leads z key level Here) (sym t.1) t.2) at (did ∙ ap Get (sym t.0)) (saw c refl ∙ ap Some (sym t.1)) (subst (λ z. Holding marks z []) (sym t.0) h)
+      arrive_on y d new (subst (λ z. Leads z key level Here) (sym t.1) t.2) at (did ∙ ap Get (sym t.0)) (saw x c did refl ∙ ap Some (sym t.1)) (subst (λ z. Holding marks z []) (sym t.0) h)
   here_on (way.Latched x) new (seen.Took n) y d t at did saw h = absurd t
   here_on (way.Latched x) new (seen.Owner retired started own) y d t at did saw h = absurd t
   here_on (way.Latched x) new (seen.Blocks it) y d t at did saw h = absurd t
@@ -198,7 +198,7 @@ module _ (marks : Trail) (m : Mark) (level key : ℕ) (least : 0 < level) where
   here_on (way.Leaving x (Some z)) new seen.Missed y d t at did saw h = absurd t
   here_on (way.Leaving x (Some z)) new seen.Refused y d t at did saw h = absurd t
 
-  near_on : (a : Approach) (new : PostStage) (what : Seen) → PostNears level key a what new → m.event.act ≡ event_of None (approach_next a) what → ((c : Page) → what ≡ seen.Words c → m.saw ≡ Some c) → approach_log a marks → post_log level key new more
+  near_on : (a : Approach) (new : PostStage) (what : Seen) → PostNears level key a what new → m.event.act ≡ event_of None (approach_next a) what → ((x : ℕ) (c : Page) → m.event.act ≡ Get x → what ≡ seen.Words c → m.saw ≡ Some c) → approach_log a marks → post_log level key new more
   near_on a (post.Coming b) what t did saw h = approach_on a b what t did
   near_on a post.New what (y, d, t, at) did saw h = here_on a post.New what y d t at did saw h
   near_on a (post.Growing g) what (y, d, t, at) did saw h = here_on a (post.Growing g) what y d t at did saw h
@@ -230,9 +230,9 @@ module _ (marks : Trail) (m : Mark) (level key : ℕ) (least : 0 < level) where
   start_on c (post.Growing growth.OpeningGrown) t did saw = absurd t
   start_on c (post.Growing growth.OpeningRefused) t did saw = absurd t
 
-  come_on : (a : Approach) (new : PostStage) (what : Seen) → PostComes level key a what new → m.event.act ≡ event_of None (approach_next a) what → ((c : Page) → what ≡ seen.Words c → m.saw ≡ Some c) → approach_log a marks → post_log level key new more
+  come_on : (a : Approach) (new : PostStage) (what : Seen) → PostComes level key a what new → m.event.act ≡ event_of None (approach_next a) what → ((x : ℕ) (c : Page) → m.event.act ≡ Get x → what ≡ seen.Words c → m.saw ≡ Some c) → approach_log a marks → post_log level key new more
   come_on way.Start new seen.Done t did saw h = absurd t
-  come_on way.Start new (seen.Words c) t did saw h = start_on c new t did (saw c refl)
+  come_on way.Start new (seen.Words c) t did saw h = start_on c new t did (saw 0 c did refl)
   come_on way.Start new (seen.Took n) t did saw h = absurd t
   come_on way.Start new (seen.Owner retired started own) t did saw h = absurd t
   come_on way.Start new (seen.Blocks it) t did saw h = absurd t
@@ -633,7 +633,7 @@ module _ (marks : Trail) (m : Mark) (level key : ℕ) (least : 0 < level) where
   change_end (change.Opening x o) seen.Refused last t h = absurd t
 
   -- any step of a post
-  pub post_on : (old new : PostStage) (what : Seen) → PostGoes level key old what new → m.event.act ≡ event_of None (post_next_in old) what → ((c : Page) → what ≡ seen.Words c → m.saw ≡ Some c) → post_log level key old marks → post_log level key new more
+  pub post_on : (old new : PostStage) (what : Seen) → PostGoes level key old what new → m.event.act ≡ event_of None (post_next_in old) what → ((x : ℕ) (c : Page) → m.event.act ≡ Get x → what ≡ seen.Words c → m.saw ≡ Some c) → post_log level key old marks → post_log level key new more
   post_on (post.Coming a) new what t did saw h = come_on a new what t did saw h
   post_on post.New post.New seen.Done t did saw h = absurd t
   post_on post.New (post.Coming b) seen.Done t did saw h = subst (λ z. approach_log z more) (sym t) tt
@@ -658,7 +658,7 @@ module _ (marks : Trail) (m : Mark) (level key : ℕ) (least : 0 < level) where
   post_on (post.Growing g) (post.Staying y last) what t did saw h = absurd t
   post_on (post.Growing g) (post.Over last) what t did saw h = absurd t
   post_on (post.Walking v) new seen.Done t did saw h = absurd t
-  post_on (post.Walking v) new (seen.Words page) t did saw h = walk_on v page new t did (saw page refl) h.0 h.1
+  post_on (post.Walking v) new (seen.Words page) t did saw h = walk_on v page new t did (saw v.child page did refl) h.0 h.1
   post_on (post.Walking v) new (seen.Took n) t did saw h = absurd t
   post_on (post.Walking v) new (seen.Owner retired started own) t did saw h = absurd t
   post_on (post.Walking v) new (seen.Blocks it) t did saw h = absurd t

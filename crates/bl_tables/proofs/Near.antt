@@ -35,7 +35,8 @@ use Rattle.bl_proc.specs.Deletes.{delete_next_in}
 use Rattle.bl_proc.specs.Posts.{post_next_in}
 use Rattle.bl_proc.specs.Processes.{next_of}
 use Rattle.bl_tables.specs.Tables.{Aim, know_approach, know_change}
-use Rattle.bl_tables.specs.Knowing.{know_growth, know_find, know_insert, know_delete, know_post, know_of, Run, know}
+use Rattle.bl_tables.specs.Knowing.{know_growth, know_find, know_insert, know_delete, know_post, know_of, Run, bare, know}
+use Rattle.bl_tables.proofs.Logged.{bare_good}
 
 abbrev pub IsNear : {P : Type 0} → World P → Name → Action → Type 0
 IsNear w p (act.Get x) = w.now.owner x ≢ Released
@@ -117,4 +118,4 @@ module _ {P : Type 0} (know : P → Know) (w : World P) (g : IsGood know w) (p :
   of_near got child (Post a) is = post_near a.level a.key got child a.stage is
 
 pub near : (w : World Run) (p : Name) → IsGood know w → IsNear w p (next_of (w.proc p).state)
-near w p g = of_near know w g p (w.proc p).got (w.proc p).child (w.proc p).state (g.sure p)
+near w p g = of_near bare w (bare_good w g) p (w.proc p).got (w.proc p).child (w.proc p).state ((bare_good w g).sure p)

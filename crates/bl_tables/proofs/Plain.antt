@@ -1,4 +1,4 @@
--- What no process knows: none of these is in the middle of a compression, has looked at others, or keeps a log.
+-- What no process knows by its state: none of these is in the middle of a compression, has looked at others, or keeps a log.
 use Rattle.std.proofs.Common.{ℕ, ◌≡◌, None, Some, refl}
 use Rattle.bl_page.specs.declared.page.Page.{Page}
 use Rattle.bl_trails.specs.Trails.{Trail}
@@ -20,7 +20,7 @@ use Rattle.bl_proc.specs.declared.posting.PostStage.TheVariants as post
 use Rattle.bl_proc.specs.declared.kinds.Proc.{Proc}
 use Rattle.bl_proc.specs.declared.kinds.Proc.TheVariants.{Find, Insert, Delete, Post}
 use Rattle.bl_tables.specs.Tables.{Aim, know_approach, know_change}
-use Rattle.bl_tables.specs.Knowing.{know_growth, know_find, know_insert, know_delete, know_post, know_of, Run, know}
+use Rattle.bl_tables.specs.Knowing.{know_growth, know_find, know_insert, know_delete, know_post, know_of, Run, bare}
 
 pub record IsPlain (k : Know) : Type 1 where
   pub middle : k.middle ≡ None
@@ -92,5 +92,5 @@ of_plain got child (Insert p) = insert_plain p.key p.value got p.stage
 of_plain got child (Delete p) = delete_plain p.key got p.stage
 of_plain got child (Post p) = post_plain p.level p.key got child p.stage
 
-pub plain : (r : Run) → IsPlain (know r)
+pub plain : (r : Run) → IsPlain (bare r)
 plain r = of_plain r.got r.child r.state

@@ -1,18 +1,19 @@
 -- Where worlds of processes begin, how a process enters one, and the laws of each.
-use Rattle.std.proofs.Common.{ℕ, ◌≡◌, None, Some, ap, ◌∙◌, inl, inr}
+use Rattle.std.proofs.Common.{ℕ, ◌≡◌, None, Some, ap, ◌∙◌, subst, inl, inr}
 use Rattle.bl_page.specs.Machine.{Name}
 use Rattle.bl_page.specs.Machine.Phase.{Waiting}
 use Rattle.bl_tree.specs.Trees.Status.{Right}
 use Rattle.bl_trails.specs.Moments.{HasLaws}
 use Rattle.bl_trails.specs.Trails.{marks_of, HasSaid}
 use Rattle.bl_trails.proofs.Pushes.{name_cases}
-use Rattle.bl_steps.specs.Worlds.{Know, World, IsHeld, IsGoes, IsRelied, IsSure, IsGood, IsPassed, MayGet}
+use Rattle.bl_steps.specs.Worlds.{Know, World, Holds, IsHeld, IsGoes, IsRelied, IsSure, IsGood, IsPassed, MayGet}
 use Rattle.bl_steps.proofs.Frames.{Each-map}
 use Rattle.bl_steps.proofs.After.{put_name, is_put_name}
 use Rattle.bl_starts.specs.Blank.{IsBlank}
 use Rattle.bl_starts.proofs.WorldLaws.{laws}
 use Rattle.bl_tables.specs.Knowing.{Run, know}
 use Rattle.bl_tables.proofs.Plain.{plain}
+use Rattle.bl_tables.proofs.Logged.{early_log}
 
 -- The laws of the tree hold in every good world of these processes.
 pub run_laws : (w : World Run) → IsGood know w → HasLaws w.now w.trail (w.map 0)
@@ -59,7 +60,7 @@ enters_good w p b g waiting old new =
         opened = g.owned.opened;
         retired = g.owned.retired;
         held = λ x q o. elim (name_cases q p) [
-          | inl e ↦ absurd (let h = g.owned.held x q o in let f : know (w.proc q) ≡ know (w.proc p) = ap (λ n. know (w.proc n)) e in rw (f, old.holds) at h)
+          | inl e ↦ absurd (subst (λ hs. Holds hs x) (ap (λ n. (know (w.proc n)).holds) e ∙ old.holds) (g.owned.held x q o))
           | inr n ↦ rw (put.others q n) (g.owned.held x q o)
         ];
         small = g.owned.small;
@@ -85,8 +86,7 @@ enters_good w p b g waiting old new =
       sure = λ q. elim (name_cases q p) [
         | inl e ↦
             let is : IsSure w q (know (w.proc q)) = g.sure q in
-            let same : know (w.proc q) ≡ know (w.proc p) = ap (λ n. know (w.proc n)) e in
-            let said : HasSaid w.trail q None = rw (same, old.said) at is.said in
+            let said : HasSaid w.trail q None = subst (HasSaid w.trail q) (ap (λ n. (know (w.proc n)).said) e ∙ old.said) is.said in
             let at : put_name p b w.proc q ≡ b = ap (put_name p b w.proc) e ∙ put.at in
             rw at (record {
               stage = rw (new.stage, e) waiting;
@@ -96,7 +96,7 @@ enters_good w p b g waiting old new =
               children = rw new.children tt;
               passed = rw new.passed tt;
               sound = new.sound;
-              log = (plain b).log (marks_of q w.trail);
+              log = early_log b new.stage (marks_of q w.trail);
             })
         | inr n ↦ rw (put.others q n) (same_sure w p q b (know (w.proc q)) (g.sure q))
       ];

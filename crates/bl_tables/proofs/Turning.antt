@@ -12,23 +12,24 @@ use Rattle.bl_proc.specs.declared.kinds.Proc.{Proc}
 use Rattle.bl_proc.specs.declared.kinds.Proc.TheVariants.{Find, Insert, Delete, Post}
 use Rattle.bl_proc.specs.Processes.{next_of, Takes}
 use Rattle.bl_tables.specs.Turns.{event_of, IsTold, Does, Turned}
-use Rattle.bl_tables.specs.Knowing.{Run, know_of, know, know_find, know_insert, know_delete, know_post, insert_got, delete_got, post_got, post_child, end_of_proc, got_next, child_next, run_next}
+use Rattle.bl_tables.specs.Knowing.{Run, know_of, bare, know, know_find, know_insert, know_delete, know_post, insert_got, delete_got, post_got, post_child, end_of_proc, got_next, child_next, run_next}
 use Rattle.bl_tables.proofs.Acts.{watched}
 use Rattle.bl_tables.proofs.Plain.{plain}
+use Rattle.bl_tables.proofs.Logged.{bare_good, with_logs, with_miss}
 use Rattle.bl_tables.proofs.Finding.{find_turn}
 use Rattle.bl_tables.proofs.Inserting.{insert_turn}
 use Rattle.bl_tables.proofs.Deleting.{delete_turn}
 use Rattle.bl_tables.proofs.Posting.{post_turn}
 
-state_turn : (w : World Run) (p : Name) (got : ℕ → Page) (child : ℕ) (old new : Proc) (b : Run) (what : Seen) (s : State Page) → IsGood know w → know (w.proc p) ≡ know_of got child old → know b ≡ know_of (got_next got old what) (child_next child old) new → Takes old what new → IsTold w.now w.size (next_of old) what → Does w.now p (event_of (end_of_proc old) (next_of old) what) s → Turned know w p (event_of (end_of_proc old) (next_of old) what) s b
+state_turn : (w : World Run) (p : Name) (got : ℕ → Page) (child : ℕ) (old new : Proc) (b : Run) (what : Seen) (s : State Page) → IsGood bare w → bare (w.proc p) ≡ know_of got child old → bare b ≡ know_of (got_next got old what) (child_next child old) new → Takes old what new → IsTold w.now w.size (next_of old) what → Does w.now p (event_of (end_of_proc old) (next_of old) what) s → Turned bare w p (event_of (end_of_proc old) (next_of old) what) s b
 state_turn w p got child (Find a) (Find c) b what s g before then t told does =
-    find_turn know w g p b a.key a.stage c.stage what s before (subst (λ k. know b ≡ know_find k c.stage) t.0 then) t.1 told does
+    find_turn bare w g p b a.key a.stage c.stage what s before (subst (λ k. bare b ≡ know_find k c.stage) t.0 then) t.1 told does
 state_turn w p got child (Insert a) (Insert c) b what s g before then t told does =
-    insert_turn know w g p b a.key a.value a.stage c.stage got what s before (subst (λ k. know b ≡ know_insert k a.value (insert_got got a.stage what) c.stage) t.0 (subst (λ v. know b ≡ know_insert c.key v (insert_got got a.stage what) c.stage) t.1 then)) t.2 told does
+    insert_turn bare w g p b a.key a.value a.stage c.stage got what s before (subst (λ k. bare b ≡ know_insert k a.value (insert_got got a.stage what) c.stage) t.0 (subst (λ v. bare b ≡ know_insert c.key v (insert_got got a.stage what) c.stage) t.1 then)) t.2 told does
 state_turn w p got child (Delete a) (Delete c) b what s g before then t told does =
-    delete_turn know w g p b a.key a.stage c.stage got what s before (subst (λ k. know b ≡ know_delete k (delete_got got a.stage what) c.stage) t.0 then) t.1 told does
+    delete_turn bare w g p b a.key a.stage c.stage got what s before (subst (λ k. bare b ≡ know_delete k (delete_got got a.stage what) c.stage) t.0 then) t.1 told does
 state_turn w p got child (Post a) (Post c) b what s g before then t told does =
-    post_turn know w g p b a.level a.key a.least a.most a.stage c.stage got child what s before (subst (λ l. know b ≡ know_post l a.key (post_got got a.stage what) (post_child child a.stage) c.stage) t.0 (subst (λ k. know b ≡ know_post c.level k (post_got got a.stage what) (post_child child a.stage) c.stage) t.1 then)) t.2 told does
+    post_turn bare w g p b a.level a.key a.least a.most a.stage c.stage got child what s before (subst (λ l. bare b ≡ know_post l a.key (post_got got a.stage what) (post_child child a.stage) c.stage) t.0 (subst (λ k. bare b ≡ know_post c.level k (post_got got a.stage what) (post_child child a.stage) c.stage) t.1 then)) t.2 told does
 state_turn w p got child (Find a) (Insert c) b what s g before then t told does = absurd t
 state_turn w p got child (Find a) (Delete c) b what s g before then t told does = absurd t
 state_turn w p got child (Find a) (Post c) b what s g before then t told does = absurd t
@@ -45,14 +46,16 @@ state_turn w p got child (Post a) (Delete c) b what s g before then t told does 
 -- Process p, which is a, was told this of its next action, truly, and goes to that state: from a good world this leads to a
 -- good world, in which p is in that state, and whose trail has one mark more.
 pub turn : (w : World Run) (p : Name) (a : Run) (new : Proc) (what : Seen) (s : State Page) → w.proc p ≡ a → IsGood know w → Takes a.state what new → IsTold w.now w.size (next_of a.state) what → Does w.now p (event_of (end_of_proc a.state) (next_of a.state) what) s → Turned know w p (event_of (end_of_proc a.state) (next_of a.state) what) s (run_next a what new)
-turn w p a new what s is g t told does = state_turn w p a.got a.child a.state new (run_next a what new) what s g (ap know is) refl t told does
+turn w p a new what s is g t told does =
+    with_logs w p a new what s _ is g t told refl (state_turn w p a.got a.child a.state new (run_next a what new) what s (bare_good w g) (ap bare is) refl t told does)
 
 -- A turn that is not fit is a miss, and changes nothing.
 pub idle_turn : (w : World Run) (p : Name) (s : State Page) → IsGood know w → Does w.now p Miss s → Turned know w p Miss s (w.proc p)
 idle_turn w p s g does =
-    let is = g.sure p in
+    let was = bare_good w g in
+    let is = was.sure p in
     let m : Mark = silent p Miss in
-    watched know w g p (w.proc p) _ _ refl refl Miss None None s tt tt does tt refl (λ x h. h) (λ it e. cc) (λ k. refl)
+    with_miss w p s g (watched bare w was p (w.proc p) _ _ refl refl Miss None None s tt tt does tt refl (λ x h. h) (λ it e. cc) (λ k. refl)
     (record {
       stage = is.stage;
       said = HasSaid-silent w.trail m p (know (w.proc p)).said refl is.said;
@@ -62,4 +65,4 @@ idle_turn w p s g does =
       passed = is.passed;
       sound = is.sound;
       log = (plain (w.proc p)).log (marks_of p w.trail ++ m ∷ []);
-    })
+    }))

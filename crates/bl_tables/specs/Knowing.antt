@@ -30,6 +30,7 @@ use Rattle.bl_proc.specs.declared.kinds.Proc.TheVariants as proc
 use Rattle.bl_proc.specs.Inserts.{insert_reply}
 use Rattle.bl_proc.specs.Deletes.{delete_reply}
 use Rattle.bl_ways.specs.Growths.{Raises, IsAnchor}
+use Rattle.bl_tables.specs.Logs.{proc_log}
 use Rattle.bl_tables.specs.Tables.{idle, holds_live, holds_known, goes_to, know_approach, Aim, IsDue, know_change}
 
 -- it is to begin; it is to end, or has ended, with what it said
@@ -148,8 +149,13 @@ know_of got child (proc.Insert p) = know_insert p.key p.value got p.stage
 know_of got child (proc.Delete p) = know_delete p.key got p.stage
 know_of got child (proc.Post p) = know_post p.level p.key got child p.stage
 
+-- by its state alone
+abbrev pub bare : Run → Know
+bare r = know_of r.got r.child r.state
+
+-- and by what it has done
 abbrev pub know : Run → Know
-know r = know_of r.got r.child r.state
+know r = record (bare r) { log = proc_log r.state }
 
 -- what is answered at an end
 abbrev pub find_end : FindStage → Option Reply
