@@ -15,3 +15,4 @@ pub mod Logged
 pub mod Near
 pub mod Turning
 pub mod Starting
+pub mod Answered
