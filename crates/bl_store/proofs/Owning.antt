@@ -172,5 +172,5 @@ module _ {D : Type 0} (l : Layout) (first : D) (holds : Pages D → Type 0) wher
     keeps,
     tt,
     told_load l first holds st r i id me.1 me.0 me.0.reading t.0 at live mine.reads t.1,
-    ((refl, refl, refl, refl), refl, (refl, refl, refl), refl, (s.clock, t.2)),
+    ((refl, refl, refl, refl), refl, (refl, refl, refl), refl, refl, (s.clock, t.2)),
   )

@@ -47,36 +47,36 @@ module _ {D : Type 0} (l : Layout) (first : D) (holds : Pages D → Type 0) wher
   Leads s i n id me then' = (w : View D) × (a : Act (Unit {0})) × Valid s.homes me.1 a × Rule (stepped s i n id me.1 w a) × then' (w, carried_after me.1 a)
 
   -- a load that is no event, after which the hand has other ticks, another sweep or another time of its own
-  pub silent_load : (st : St) (r : Rule st) (i id : ℕ) (cs : List (ℕ × Unit {0})) (v : View D) (puts retires : ℕ) (sw : Sweep) (seen : List ℕ) (bs' : List ℕ) → get_elem? st.views id ≡ some v → IsLive v → Budgeted l.passes r.pages.clock bs'
+  pub silent_load : (st : St) (r : Rule st) (i id : ℕ) (cs : List (ℕ × Unit {0})) (v : View D) (puts retires : ℕ) (sw : Sweep) (seen got : List ℕ) (bs' : List ℕ) → get_elem? st.views id ≡ some v → IsLive v → Budgeted l.passes r.pages.clock bs'
       → ((k : ℕ) → k ≢ v.number → get_elem? bs' k ≡ get_elem? r.budgets k) → get_elem? bs' v.number ≡ some (puts + retires) → SweepIs r.pages sw
-      → Rule (stepped st i (get_or st.words i 0) id cs (record v { puts = puts; retires = retires; sweep = sw; seen = seen }) keeps)
-  silent_load st r i id cs v puts retires sw seen bs' at live budgeted others mine_left swept = let mine = r.seats id v at live in
-      unmoved l first holds st r i id cs v (record v { puts = puts; retires = retires; sweep = sw; seen = seen }) r.pages bs' at live r.orderly r.shows budgeted (goes_on l st.words r.pages r.frames r.budgets bs' v.number others)
+      → Rule (stepped st i (get_or st.words i 0) id cs (record v { puts = puts; retires = retires; sweep = sw; seen = seen; got = got }) keeps)
+  silent_load st r i id cs v puts retires sw seen got bs' at live budgeted others mine_left swept = let mine = r.seats id v at live in
+      unmoved l first holds st r i id cs v (record v { puts = puts; retires = retires; sweep = sw; seen = seen; got = got }) r.pages bs' at live r.orderly r.shows budgeted (goes_on l st.words r.pages r.frames r.budgets bs' v.number others)
       record { layout = refl; number = refl; upto = refl; stands = mine.stands; clocked = mine.clocked; reads = mine.reads; stocks = mine.stocks; drops = mine.drops; seals = mine.seals; sweeps = swept; budget = mine_left; joined = refl } refl refl r.kept
 
   -- a step that leaves all as it is
   pub idle_step : (st : St) (r : Rule st) (i id : ℕ) (cs : List (ℕ × Unit {0})) (v : View D) → get_elem? st.views id ≡ some v → IsLive v → Rule (stepped st i (get_or st.words i 0) id cs v keeps)
-  idle_step st r i id cs v at live = let mine = r.seats id v at live in silent_load st r i id cs v v.puts v.retires v.sweep v.seen r.budgets at live r.budgeted (λ k _. refl) mine.budget mine.sweeps
+  idle_step st r i id cs v at live = let mine = r.seats id v at live in silent_load st r i id cs v v.puts v.retires v.sweep v.seen v.got r.budgets at live r.budgeted (λ k _. refl) mine.budget mine.sweeps
 
   abbrev pub noting : ℕ → View D → View D
-  noting i v = record v { puts = v.puts; retires = v.retires; sweep = v.sweep; seen = i ∷ v.seen }
+  noting i v = record v { puts = v.puts; retires = v.retires; sweep = v.sweep; seen = i ∷ v.seen; got = v.got }
 
   -- an owner word was found taken
   pub note_step : (st : St) (r : Rule st) (i id : ℕ) (cs : List (ℕ × Unit {0})) (v : View D) → get_elem? st.views id ≡ some v → IsLive v → Rule (stepped st i (get_or st.words i 0) id cs (noting i v) keeps)
-  note_step st r i id cs v at live = let mine = r.seats id v at live in silent_load st r i id cs v v.puts v.retires v.sweep (i ∷ v.seen) r.budgets at live r.budgeted (λ k _. refl) mine.budget mine.sweeps
+  note_step st r i id cs v at live = let mine = r.seats id v at live in silent_load st r i id cs v v.puts v.retires v.sweep (i ∷ v.seen) v.got r.budgets at live r.budgeted (λ k _. refl) mine.budget mine.sweeps
 
   pub notes : (slots id i : ℕ) (me : M) → IsLive me.0 → Allows Rule slots id me i (λ n. n) (noted (step slots i 0 0 none) me)
   notes slots id i me live st r _ at _ = dite (ℕ_discrete (get_or st.words i 0) 0)
-      (λ e. (me.0, keeps, tt, idle_step st r i id me.1 me.0 at live, (((refl, refl, refl, refl), refl, (refl, refl, refl), refl), (λ ne. absurd (ne e)), λ _. refl)))
-      (λ ne. (noting i me.0, keeps, tt, note_step st r i id me.1 me.0 at live, (((refl, refl, refl, refl), refl, (refl, refl, refl), refl), (λ _. refl), λ e. absurd (ne e))))
+      (λ e. (me.0, keeps, tt, idle_step st r i id me.1 me.0 at live, (((refl, refl, refl, refl), refl, (refl, refl, refl), refl), (λ ne. absurd (ne e)), (λ _. refl), refl)))
+      (λ ne. (noting i me.0, keeps, tt, note_step st r i id me.1 me.0 at live, (((refl, refl, refl, refl), refl, (refl, refl, refl), refl), (λ _. refl), (λ e. absurd (ne e)), refl)))
 
   -- a step on a word of a frame that no page names, after which the hand has another stock, or another frame to retire
-  frame_step : (st : St) (r : Rule st) (f i n id : ℕ) (cs : List (ℕ × Unit {0})) (v : View D) (ds : List Draft) (dr : Dropping) (rl : ℕ) (old new : Frame) → get_elem? st.views id ≡ some v → IsLive v → get_elem? r.frames f ≡ some old
+  frame_step : (st : St) (r : Rule st) (f i n id : ℕ) (cs : List (ℕ × Unit {0})) (v : View D) (ds : List Draft) (dr : Dropping) (rl : ℕ) (gt : List ℕ) (old new : Frame) → get_elem? st.views id ≡ some v → IsLive v → get_elem? r.frames f ≡ some old
       → (i ≡ state_at l f) ⊎ ((place_at l f 0 ≤ i) × (i < place_at l f 32)) → FrameIs l (set st.words i n) f new → ((x : ℕ) (ys : List ℕ) → used (shown x) ys ≢ old)
       → ((j b : ℕ) (d : D) (u : Use) (xs : List ℕ) → Stands r.pages j (Running b) d → j < l.passes → old ≡ used u xs → MayRead b u → (u' : Use) × (new ≡ used u' xs) × MayRead b u')
       → ((j k : ℕ) (ys : List ℕ) → j ≢ v.number → used (drafted j k) ys ≢ old) → ((j : ℕ) (ys : List ℕ) → j ≢ v.number → used (dropped j) ys ≢ old) → ((j t : ℕ) (ys : List ℕ) → j ≢ v.number → used (timed j t) ys ≢ old)
-      → Stocks (set r.frames f new) v.number ds → Drops (set r.frames f new) v.number dr → Rule (stepped st i n id cs (record v { stock = ds; dropping = dr; releases = rl }) keeps)
-  frame_step st r f i n id cs v ds dr rl old new at live here where_i is no_page readers no_stock no_drop no_time stocks drops =
+      → Stocks (set r.frames f new) v.number ds → Drops (set r.frames f new) v.number dr → Rule (stepped st i n id cs (record v { stock = ds; dropping = dr; releases = rl; got = gt }) keeps)
+  frame_step st r f i n id cs v ds dr rl gt old new at live here where_i is no_page readers no_stock no_drop no_time stocks drops =
       let mine = r.seats id v at live in let s : Pages D = r.pages in let orderly = r.orderly in let counts = orderly.owners in let counted = mine.counted in let dealt = mine.dealt in let total = r.shows.frame_total in let inside = at_below r.frames f old here in
       let ws : List ℕ = set st.words i n in let gs : List Frame = set r.frames f new in
       let owners : (x : ℕ) → x < length s.owners → get_or ws (owner_at l x) 0 ≡ get_or st.words (owner_at l x) 0 = (λ x below. get_or-set_other st.words i (owner_at l x) n 0
@@ -91,7 +91,7 @@ module _ {D : Type 0} (l : Layout) (first : D) (holds : Pages D → Type 0) wher
         seals = λ j x other k. seal_same l st.words ws s.owners j x owners k;
         swept = λ m k sw. sw;
       } in
-      moved l first holds st r i n id cs v (record v { stock = ds; dropping = dr; releases = rl }) s gs r.budgets at live r.orderly (shows_frame l st.words s r.frames f i n old new r.orderly r.shows here where_i is no_page) r.budgeted go
+      moved l first holds st r i n id cs v (record v { stock = ds; dropping = dr; releases = rl; got = gt }) s gs r.budgets at live r.orderly (shows_frame l st.words s r.frames f i n old new r.orderly r.shows here where_i is no_page) r.budgeted go
       record {
         layout = refl;
         number = refl;
@@ -105,7 +105,7 @@ module _ {D : Type 0} (l : Layout) (first : D) (holds : Pages D → Type 0) wher
         sweeps = mine.sweeps;
         budget = mine.budget;
         joined = refl;
-      } (sealing_stays l st.words ws s.owners st.views id v (record v { stock = ds; dropping = dr; releases = rl }) at refl (λ k. k) owners r.sealing) r.kept
+      } (sealing_stays l st.words ws s.owners st.views id v (record v { stock = ds; dropping = dr; releases = rl; got = gt }) at refl (λ k. k) owners r.sealing) r.kept
 
   -- a load of the clock by which a reservation begins
   pub allots : (slots id i : ℕ) (me : M) → i ≡ 0 → IsLive me.0 → Allows Rule slots id me i (λ n. n) (allotted (step slots i 0 0 none) me)
@@ -118,15 +118,15 @@ module _ {D : Type 0} (l : Layout) (first : D) (holds : Pages D → Type 0) wher
         record me.0 { seen = i ∷ [] },
         keeps,
         tt,
-        silent_load st r i id me.1 me.0 me.0.puts me.0.retires me.0.sweep (i ∷ []) r.budgets at live r.budgeted (λ k _. refl) mine.budget mine.sweeps,
+        silent_load st r i id me.1 me.0 me.0.puts me.0.retires me.0.sweep (i ∷ []) me.0.got r.budgets at live r.budgeted (λ k _. refl) mine.budget mine.sweeps,
         ((refl, refl, refl, refl), refl, refl, refl, (λ early. absurd (omega arith)), λ _. refl),
       ))
       (λ not_late. let early : n < 1152921504606846976 = lt_of_not-le not_late in (
-        record me.0 { puts = 3; retires = 1; seen = [] },
+        record me.0 { puts = 3; retires = 1; seen = []; got = [] },
         keeps,
         tt,
-        silent_load st r i id me.1 me.0 3 1 me.0.sweep [] bs' at live record { count = count; small = small; total = omega arith } (λ k other. set_else r.budgets q k 4 other) (set_there r.budgets q (me.0.puts + me.0.retires) 4 mine.budget) mine.sweeps,
-        ((refl, refl, refl, refl), refl, refl, refl, (λ _. (refl, refl, refl)), λ late. absurd (omega arith)),
+        silent_load st r i id me.1 me.0 3 1 me.0.sweep [] [] bs' at live record { count = count; small = small; total = omega arith } (λ k other. set_else r.budgets q k 4 other) (set_there r.budgets q (me.0.puts + me.0.retires) 4 mine.budget) mine.sweeps,
+        ((refl, refl, refl, refl), refl, refl, refl, (λ _. (refl, refl, refl, refl)), λ late. absurd (omega arith)),
       ))
 
   pub reserves : (slots id i n f : ℕ) (me : M) → i ≡ state_at l f → n ≡ 4 * me.0.number + 2 → f < frame_count l → me.0.layout ≡ l → IsLive me.0 → Allows Rule slots id me i (λ z. either (eqb z 0) n z) (reserved (step slots i 0 n none) me)
@@ -135,16 +135,16 @@ module _ {D : Type 0} (l : Layout) (first : D) (holds : Pages D → Type 0) wher
       exchanged (get_or st.words i 0) 0 n (λ z. Leads st i z id me (reserved (step slots i 0 n none) me (get_or st.words i 0)))
       (λ hit. let is : get_elem? r.frames f ≡ some free = was_free st r here.0 here.1 (r.shows.frame f here.0 here.1) (ap (λ (z : ℕ). get_or st.words z 0) (sym i_is) ∙ hit) in
       let new : Frame = used (drafted q (length me.0.stock)) [] in (
-        record me.0 { stock = draft f [] ∷ me.0.stock },
+        record me.0 { stock = draft f [] ∷ me.0.stock; got = f ∷ me.0.got },
         keeps,
         tt,
-        frame_step st r f i n id me.1 me.0 (draft f [] ∷ me.0.stock) me.0.dropping me.0.releases free new at live is (inl i_is)
+        frame_step st r f i n id me.1 me.0 (draft f [] ∷ me.0.stock) me.0.dropping me.0.releases (f ∷ me.0.got) free new at live is (inl i_is)
             (get_or-set_at st.words i (state_at l f) n 0 (sym i_is) (omega arith) ∙ n_is, tt, omega arith, λ k low. absurd (omega arith)) (λ x ys e. cc)
             (λ j b d u xs stands low e may. cc) (λ j k ys other e. cc) (λ j ys other e. cc) (λ j t ys other e. cc)
             (set_there r.frames f free new is, stocks_kept r.frames f free new q me.0.stock is (λ k ys _ e. cc) mine.stocks) (drops_kept r.frames f free new q me.0.dropping is (λ ys e. cc) (λ t ys e. cc) mine.drops),
-        ((refl, refl, refl, refl), refl, refl, (refl, refl), λ g e. let is_f : f ≡ g = omega arith in ((λ _. (ap (λ (z : ℕ). draft z [] ∷ me.0.stock) is_f, refl)), λ miss. absurd (miss hit))),
+        ((refl, refl, refl, refl), refl, refl, (refl, refl), λ g e. let is_f : f ≡ g = omega arith in ((λ _. (ap (λ (z : ℕ). draft z [] ∷ me.0.stock) is_f, refl, ap (λ (z : ℕ). z ∷ me.0.got) is_f)), λ miss. absurd (miss hit))),
       ))
-      (λ miss. (noting i me.0, keeps, tt, note_step st r i id me.1 me.0 at live, ((refl, refl, refl, refl), refl, refl, (refl, refl), λ g e. ((λ hit. absurd (miss hit)), λ _. (refl, refl)))))
+      (λ miss. (noting i me.0, keeps, tt, note_step st r i id me.1 me.0 at live, ((refl, refl, refl, refl), refl, refl, (refl, refl), λ g e. ((λ hit. absurd (miss hit)), λ _. (refl, refl, refl)))))
     where
       was_free : (st : St) (r : Rule st) (fr : Frame) → get_elem? r.frames f ≡ some fr → FrameIs l st.words f fr → get_or st.words (state_at l f) 0 ≡ 0 → get_elem? r.frames f ≡ some free
       was_free st r free at_f fact empty = at_f
@@ -163,10 +163,10 @@ module _ {D : Type 0} (l : Layout) (first : D) (holds : Pages D → Type 0) wher
         record me.0 { stock = ds },
         keeps,
         tt,
-        frame_step st r f i 0 id me.1 me.0 ds me.0.dropping me.0.releases old free at live here (inl i_is) (get_or-set_at st.words i (state_at l f) 0 0 (sym i_is) (omega arith)) (λ x ys e. cc)
+        frame_step st r f i 0 id me.1 me.0 ds me.0.dropping me.0.releases me.0.got old free at live here (inl i_is) (get_or-set_at st.words i (state_at l f) 0 0 (sym i_is) (omega arith)) (λ x ys e. cc)
             (λ j b d u ys stands low e may. let as_used : drafted q (length ds) ≡ u = cc in absurd (subst (MayRead b) (sym as_used) may)) (λ j k ys other e. other cc) (λ j ys other e. cc) (λ j t ys other e. cc)
             (stocks_kept r.frames f old free q ds here (λ k ys low e. let place : k ≡ length ds = cc in absurd (omega arith)) known.1) (drops_kept r.frames f old free q me.0.dropping here (λ ys e. cc) (λ t ys e. cc) mine.drops),
-        ((refl, refl, refl, refl), refl, refl, (refl, refl), refl, λ g ys es e _. ap tail_of (sym has ∙ e)),
+        ((refl, refl, refl, refl), refl, refl, (refl, refl), refl, refl, λ g ys es e _. ap tail_of (sym has ∙ e)),
       ))
       (λ miss. absurd (miss now))
 
@@ -178,7 +178,7 @@ module _ {D : Type 0} (l : Layout) (first : D) (holds : Pages D → Type 0) wher
         record me.0 { stock = draft f (xs ++ n ∷ []) ∷ ds },
         keeps,
         tt,
-        frame_step st r f i n id me.1 me.0 (draft f (xs ++ n ∷ []) ∷ ds) me.0.dropping me.0.releases old new at live here (inr (omega arith, omega arith)) (
+        frame_step st r f i n id me.1 me.0 (draft f (xs ++ n ∷ []) ∷ ds) me.0.dropping me.0.releases me.0.got old new at live here (inr (omega arith, omega arith)) (
           get_or-set_other st.words i (state_at l f) n 0 (λ e. omega arith) ∙ was.0,
           tt,
           omega arith,
@@ -202,7 +202,7 @@ module _ {D : Type 0} (l : Layout) (first : D) (holds : Pages D → Type 0) wher
         record me.0 { dropping = Empty },
         keeps,
         tt,
-        frame_step st r f i n id me.1 me.0 me.0.stock Empty me.0.releases old new at live here (inl i_is)
+        frame_step st r f i n id me.1 me.0 me.0.stock Empty me.0.releases me.0.got old new at live here (inl i_is)
             (get_or-set_at st.words i (state_at l f) n 0 (sym i_is) (omega arith) ∙ n_is, was.1, was.2, λ k low. let small = was.2 in get_or-set_other st.words i (place_at l f k) n 0 (λ z. omega arith) ∙ was.3 k low)
             (λ x ys e. cc)
             (λ j b d u ys stands low e may. let words : xs ≡ ys = cc in let as_used : timed q t ≡ u = cc in (retired t, ap (λ (z : List ℕ). used (retired t) z) words, subst (MayRead b) (sym as_used) may))
@@ -220,7 +220,7 @@ module _ {D : Type 0} (l : Layout) (first : D) (holds : Pages D → Type 0) wher
         record me.0 { releases = me.0.releases + 1 },
         keeps,
         tt,
-        frame_step st r f i 0 id me.1 me.0 me.0.stock me.0.dropping (me.0.releases + 1) old free at live was.1 (inl i_is) (get_or-set_at st.words i (state_at l f) 0 0 (sym i_is) (omega arith)) (λ x ys e. cc)
+        frame_step st r f i 0 id me.1 me.0 me.0.stock me.0.dropping (me.0.releases + 1) me.0.got old free at live was.1 (inl i_is) (get_or-set_at st.words i (state_at l f) 0 0 (sym i_is) (omega arith)) (λ x ys e. cc)
             (λ j b d u ys stands low e may. let after : m ≤ b = swept.later j b d stands low in let one : retired t ≡ u = cc in let soon : b ≤ t = subst (MayRead b) (sym one) may in absurd (omega arith))
             (λ j k ys other e. cc) (λ j ys other e. cc) (λ j u ys other e. cc)
             (stocks_kept r.frames f old free q me.0.stock was.1 (λ k ys _ e. cc) mine.stocks) (drops_kept r.frames f old free q me.0.dropping was.1 (λ ys e. cc) (λ u ys e. cc) mine.drops),

@@ -4,7 +4,7 @@ use mathlib.Core.Logic.{dite}
 use native.Mathlib.Decide.{ℕ_discrete}
 use Rattle.std.proofs.lemmas.Grind.{get_or-set_at}
 use Rattle.bl_store.specs.Told.{draft}
-use Rattle.bl_store.specs.Hands.{Has, IsAmong, drafts}
+use Rattle.bl_store.specs.Hands.{Has, drafts}
 
 drafts_set : (fs : List ℕ) (n m x : ℕ) → n ≤ m → drafts (set fs m x) n ≡ drafts fs n
 drafts_set fs zero m x low = refl
@@ -25,12 +25,6 @@ drafts_pop fs (suc n) some_frame = let e : n ≡ suc n - 1 = omega arith in λ i
 pub drafts_none : (fs : List ℕ) (n : ℕ) → n ≤ 0 → drafts fs n ≡ []
 drafts_none fs zero low = refl
 drafts_none fs (suc n) low = absurd (omega arith)
-
-pub among_push : (fs : List ℕ) (n x y : ℕ) → IsAmong n fs y → IsAmong (n + 1) (set fs n x) y
-among_push fs n x y is = let low = is.1 in (is.0, omega arith, get_or-set_other fs n is.0 x 0 (λ e. omega arith) ∙ is.2)
-
-pub among_new : (fs : List ℕ) (n x : ℕ) → n < length fs → IsAmong (n + 1) (set fs n x) x
-among_new fs n x low = (n, omega arith, get_or-set_same fs n x 0 low)
 
 pub within_push : (fs : List ℕ) (n x total : ℕ) → n < length fs → x < total → ((k : ℕ) → k < n → get_or fs k 0 < total) → (k : ℕ) → k < n + 1 → get_or (set fs n x) k 0 < total
 within_push fs n x total low small each k less = dite (ℕ_discrete k n)

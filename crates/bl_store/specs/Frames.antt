@@ -166,7 +166,7 @@ module _ {D : Type 0} where
 
   -- what a hand knows that has done nothing, has the number n, and deals out the numbers from the next one up to m
   abbrev pub share : Layout → D → ℕ → ℕ → View D
-  share l d n m = record { layout = l; number = n; upto = m; stamp = Out; reading = Nowhere; stock = []; dropping = Empty; sealing = Unsealed; sweep = Still; puts = 0; retires = 0; releases = 0; seen = []; known = d; joined = [] }
+  share l d n m = record { layout = l; number = n; upto = m; stamp = Out; reading = Nowhere; stock = []; dropping = Empty; sealing = Unsealed; sweep = Still; puts = 0; retires = 0; releases = 0; seen = []; got = []; known = d; joined = [] }
 
   abbrev pub joined : ℕ → D → Joined D
   joined n d = record { number = n; known = d }
@@ -188,7 +188,7 @@ module _ {D : Type 0} where
 
   -- what a seat knows that has given its hand to another: its number is no hand's
   abbrev pub spent_view : D → View D
-  spent_view d = record { layout = smallest; number = 1; upto = 0; stamp = Out; reading = Nowhere; stock = []; dropping = Empty; sealing = Unsealed; sweep = Still; puts = 0; retires = 0; releases = 0; seen = []; known = d; joined = [] }
+  spent_view d = record { layout = smallest; number = 1; upto = 0; stamp = Out; reading = Nowhere; stock = []; dropping = Empty; sealing = Unsealed; sweep = Still; puts = 0; retires = 0; releases = 0; seen = []; got = []; known = d; joined = [] }
 
   -- and one that has no hand yet
   abbrev pub without_hand : View D → View D

@@ -1,5 +1,5 @@
 -- What a caller sees of a hand.
-use Rattle.std.specs.Prelude.{◌≡◌, ◌⊎◌, ℕ, zero, suc, ◌<◌, ◌≤◌, List, [], ◌∷◌, slice_index}
+use Rattle.std.specs.Prelude.{◌≡◌, ◌⊎◌, ℕ, zero, suc, ◌<◌, ◌≤◌, List, [], ◌∷◌, length, slice_index}
 use Rattle.atomic_table.specs.Seated.{TableId}
 use Rattle.atomic_table.specs.declared.shared.Seat.{Seat}
 use Rattle.bl_layout.specs.declared.layout.Layout.{Layout}
@@ -17,10 +17,6 @@ use Rattle.bl_store.specs.declared.view.Stamp.TheVariants.{Out, In}
 abbrev pub Has : List ℕ → ℕ → Type 0
 Has [] x = ⊥
 Has (y ∷ ys) x = (x ≡ y) ⊎ Has ys x
-
--- one of the first n of the list
-abbrev pub IsAmong : ℕ → List ℕ → ℕ → Type 0
-IsAmong n xs x = (k : ℕ) × (k < n) × (slice_index xs k ≡ x)
 
 -- the first n of these frames, the last one first, with nothing written
 abbrev pub drafts : List ℕ → ℕ → List Draft
@@ -78,16 +74,17 @@ module _ {D : Type 0} where
   abbrev pub SawTaken : Seat (Unit {0}) (View D) → ℕ → Type 0
   SawTaken h i = Has h.me.0.seen i
 
-  -- Why a reservation of so many pages and frames is refused: the hand saw each page from 1 upward taken, or each frame but fewer than it asked for, which it got, or the clock at its end.
+  -- the frame is one that its last reservation got, or was seen taken
+  abbrev pub IsTried : Seat (Unit {0}) (View D) → ℕ → Type 0
+  IsTried h f = Has h.me.0.got f ⊎ SawTaken h (state_at h.me.0.layout f)
+
+  -- Why a reservation of so many pages and frames is refused: the hand saw each page from 1 upward taken; or it got fewer
+  -- frames than it asked for, and saw each other one taken; or it saw the clock, which is word 0, at its end.
   abbrev pub IsWhy : Seat (Unit {0}) (View D) → ℕ → ℕ → NoRoom → Type 0
   IsWhy h pages frames Pages = (pages ≡ 1) × ((x : ℕ) → 0 < x → x < h.me.0.layout.pages → SawTaken h (owner_at h.me.0.layout x))
-  IsWhy h pages frames Frames = (n : ℕ) × (got : List ℕ) × (n < frames) × ((f : ℕ) → f < frame_count h.me.0.layout → IsAmong n got f ⊎ SawTaken h (state_at h.me.0.layout f))
+  IsWhy h pages frames Frames = (length h.me.0.got < frames) × ((f : ℕ) → f < frame_count h.me.0.layout → IsTried h f)
   IsWhy h pages frames Clock = SawTaken h 0
 
   -- all but the stock and what it saw taken is as before
   abbrev pub IsQuiet : Seat (Unit {0}) (View D) → Seat (Unit {0}) (View D) → Type 0
   IsQuiet h h' = (h'.table_id ≡ h.table_id) × (h'.me.0.layout ≡ h.me.0.layout) × (h'.me.0.number ≡ h.me.0.number) × (h'.me.0.stamp ≡ h.me.0.stamp) × (h'.me.0.known ≡ h.me.0.known) × (h'.me.0.puts ≡ h.me.0.puts) × (h'.me.0.retires ≡ h.me.0.retires)
-
-  -- the frame is in the stock, or was seen taken
-  abbrev pub IsTried : Seat (Unit {0}) (View D) → Stock → ℕ → Type 0
-  IsTried h stock f = IsAmong stock.count stock.frames f ⊎ SawTaken h (state_at h.me.0.layout f)

@@ -70,20 +70,20 @@ module _ {D : Type 0} where
 
   -- a load of the clock by which a reservation begins
   abbrev pub allotted : Play → Sat D → ℕ → Sat D → Type 0
-  allotted st m r m' = IsThere m m' × (m'.0.stamp ≡ m.0.stamp) × (m'.0.known ≡ m.0.known) × (m'.0.stock ≡ m.0.stock) × (r < 1152921504606846976 → (m'.0.puts ≡ 3) × (m'.0.retires ≡ 1) × (m'.0.seen ≡ [])) × (1152921504606846976 ≤ r → m'.0.seen ≡ st.word ∷ [])
+  allotted st m r m' = IsThere m m' × (m'.0.stamp ≡ m.0.stamp) × (m'.0.known ≡ m.0.known) × (m'.0.stock ≡ m.0.stock) × (r < 1152921504606846976 → (m'.0.puts ≡ 3) × (m'.0.retires ≡ 1) × (m'.0.seen ≡ []) × (m'.0.got ≡ [])) × (1152921504606846976 ≤ r → m'.0.seen ≡ st.word ∷ [])
 
   -- a look at an owner word, of which the hand notes whether it was taken
   abbrev pub noted : Play → Sat D → ℕ → Sat D → Type 0
-  noted st m r m' = IsSilent m m' × (r ≢ 0 → m'.0.seen ≡ st.word ∷ m.0.seen) × (r ≡ 0 → m'.0.seen ≡ m.0.seen)
+  noted st m r m' = IsSilent m m' × (r ≢ 0 → m'.0.seen ≡ st.word ∷ m.0.seen) × (r ≡ 0 → m'.0.seen ≡ m.0.seen) × (m'.0.got ≡ m.0.got)
 
   -- a frame that was free is the hand's
   abbrev pub reserved : Play → Sat D → ℕ → Sat D → Type 0
   reserved st m r m' = IsThere m m' × (m'.0.stamp ≡ m.0.stamp) × (m'.0.known ≡ m.0.known) × HasTicks m.0 m'.0
-      × ((f : ℕ) → st.word ≡ state_at m.0.layout f → (r ≡ 0 → (m'.0.stock ≡ draft f [] ∷ m.0.stock) × (m'.0.seen ≡ m.0.seen)) × (r ≢ 0 → (m'.0.stock ≡ m.0.stock) × (m'.0.seen ≡ st.word ∷ m.0.seen)))
+      × ((f : ℕ) → st.word ≡ state_at m.0.layout f → (r ≡ 0 → (m'.0.stock ≡ draft f [] ∷ m.0.stock) × (m'.0.seen ≡ m.0.seen) × (m'.0.got ≡ f ∷ m.0.got)) × (r ≢ 0 → (m'.0.stock ≡ m.0.stock) × (m'.0.seen ≡ st.word ∷ m.0.seen) × (m'.0.got ≡ m.0.got)))
 
   -- the frame that was reserved last is free again
   abbrev pub returned : Play → Sat D → ℕ → Sat D → Type 0
-  returned st m r m' = IsThere m m' × (m'.0.stamp ≡ m.0.stamp) × (m'.0.known ≡ m.0.known) × HasTicks m.0 m'.0 × (m'.0.seen ≡ m.0.seen)
+  returned st m r m' = IsThere m m' × (m'.0.stamp ≡ m.0.stamp) × (m'.0.known ≡ m.0.known) × HasTicks m.0 m'.0 × (m'.0.seen ≡ m.0.seen) × (m'.0.got ≡ m.0.got)
       × ((f : ℕ) (xs : List ℕ) (ds : List Draft) → m.0.stock ≡ draft f xs ∷ ds → st.word ≡ state_at m.0.layout f → m'.0.stock ≡ ds)
 
   abbrev pub wrote : Play → Sat D → ℕ → Sat D → Type 0
@@ -152,4 +152,4 @@ module _ {D : Type 0} where
 
   -- the event of a reservation that is refused
   abbrev pub refused : (D → ℕ → D → Type 0) → Play → Sat D → ℕ → Sat D → Type 0
-  refused then st m r m' = IsThere m m' × (m'.0.stamp ≡ m.0.stamp) × IsStocked m.0 m'.0 × (m'.0.seen ≡ m.0.seen) × ((now : ℕ) × then m.0.known now m'.0.known)
+  refused then st m r m' = IsThere m m' × (m'.0.stamp ≡ m.0.stamp) × IsStocked m.0 m'.0 × (m'.0.seen ≡ m.0.seen) × (m'.0.got ≡ m.0.got) × ((now : ℕ) × then m.0.known now m'.0.known)

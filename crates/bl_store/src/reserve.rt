@@ -71,7 +71,7 @@ impl<D, R: PageRule<D>, A: Allocator> Store<D, R, A> {
         requires own { IsOf self.now.table.shared.table_id self.now.layout hand.old.seat }
         requires refuses { Refuses R.holds self.now.layout hand.old.number (known hand.old.seat) M.then }
         ensures same { IsSameHand hand.old.seat hand.new.seat × IsSameStage hand.old.seat hand.new.seat }
-        ensures stock { (hand.new.seat.me.0.stock ≡ hand.old.seat.me.0.stock) × (hand.new.seat.me.0.seen ≡ hand.old.seat.me.0.seen) }
+        ensures stock { (hand.new.seat.me.0.stock ≡ hand.old.seat.me.0.stock) × (hand.new.seat.me.0.seen ≡ hand.old.seat.me.0.seen) × (hand.new.seat.me.0.got ≡ hand.old.seat.me.0.got) }
         ensures told { (now : ℕ) × M.then (known hand.old.seat) now (known hand.new.seat) }
     {
         self.table
@@ -86,7 +86,8 @@ impl<D, R: PageRule<D>, A: Allocator> Store<D, R, A> {
         requires stock { IsStockOf hand.old.seat stock.old × (stock.old.count ≤ wanted) }
         ensures same { IsQuiet hand.old.seat hand.new.seat × (stock.new.page ≡ stock.old.page) }
         ensures stock { IsStockOf hand.new.seat stock.new × (stock.new.count ≤ wanted) }
-        ensures seen { stock.new.count < wanted → (f : ℕ) → f < frame_count hand.new.seat.me.0.layout → IsTried hand.new.seat stock.new f }
+        ensures got { length hand.new.seat.me.0.got + stock.old.count ≡ length hand.old.seat.me.0.got + stock.new.count }
+        ensures seen { stock.new.count < wanted → (f : ℕ) → f < frame_count hand.new.seat.me.0.layout → IsTried hand.new.seat f }
     {
         let total = self.layout.frames();
         let first = hand.frame.min(total);
@@ -105,8 +106,9 @@ impl<D, R: PageRule<D>, A: Allocator> Store<D, R, A> {
         requires stock { IsStockOf hand.old.seat stock.old × (stock.old.count ≤ wanted) }
         ensures same { IsQuiet hand.old.seat hand.new.seat × (stock.new.page ≡ stock.old.page) }
         ensures stock { IsStockOf hand.new.seat stock.new × (stock.new.count ≤ wanted) }
-        ensures seen { stock.new.count < wanted → (f : ℕ) → from ≤ f → f < to → IsTried hand.new.seat stock.new f }
-        ensures kept { (f : ℕ) → IsTried hand.old.seat stock.old f → IsTried hand.new.seat stock.new f }
+        ensures got { length hand.new.seat.me.0.got + stock.old.count ≡ length hand.old.seat.me.0.got + stock.new.count }
+        ensures seen { stock.new.count < wanted → (f : ℕ) → from ≤ f → f < to → IsTried hand.new.seat f }
+        ensures kept { (f : ℕ) → IsTried hand.old.seat f → IsTried hand.new.seat f }
         ensures more { stock.old.count ≤ stock.new.count }
     {
         for frame in from..to {
@@ -124,8 +126,9 @@ impl<D, R: PageRule<D>, A: Allocator> Store<D, R, A> {
         requires stock { IsStockOf hand.old.seat stock.old × (stock.old.count < 3) × (stock.old.count < hand.old.seat.me.0.puts) }
         ensures same { IsQuiet hand.old.seat hand.new.seat × (stock.new.page ≡ stock.old.page) }
         ensures stock { IsStockOf hand.new.seat stock.new × (stock.old.count ≤ stock.new.count) × (stock.new.count ≤ stock.old.count + 1) }
-        ensures tried { IsTried hand.new.seat stock.new frame }
-        ensures kept { (f : ℕ) → IsTried hand.old.seat stock.old f → IsTried hand.new.seat stock.new f }
+        ensures got { length hand.new.seat.me.0.got + stock.old.count ≡ length hand.old.seat.me.0.got + stock.new.count }
+        ensures tried { IsTried hand.new.seat frame }
+        ensures kept { (f : ℕ) → IsTried hand.old.seat f → IsTried hand.new.seat f }
     {
         let at = self.layout.frame_owner(frame);
         if self.table.shared.load::<Note>(&mut hand.seat, at) != 0 {
@@ -146,7 +149,7 @@ impl<D, R: PageRule<D>, A: Allocator> Store<D, R, A> {
     fn give_back(&self, hand: &mut Hand<D>, stock: &mut Stock)
         requires own { IsOf self.now.table.shared.table_id self.now.layout hand.old.seat }
         requires stock { IsStockOf hand.old.seat stock.old }
-        ensures same { IsQuiet hand.old.seat hand.new.seat × (hand.new.seat.me.0.seen ≡ hand.old.seat.me.0.seen) }
+        ensures same { IsQuiet hand.old.seat hand.new.seat × (hand.new.seat.me.0.seen ≡ hand.old.seat.me.0.seen) × (hand.new.seat.me.0.got ≡ hand.old.seat.me.0.got) }
         ensures stock { HasNoStock hand.new.seat }
     {
         while stock.count > 0 {

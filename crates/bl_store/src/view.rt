@@ -72,6 +72,8 @@ pub struct View<D> {
     pub releases: u64,
     /// The owner words that its last reservation found taken, and the clock's word where that was found at its end.
     pub seen: LinkedList<u64>,
+    /// The frames that its last reservation got, also those that it gave back since.
+    pub got: LinkedList<u32>,
     pub known: D,
     /// The hands that it has taken in, the last one first.
     pub joined: LinkedList<Joined<D>>,

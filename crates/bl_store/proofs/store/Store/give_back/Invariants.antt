@@ -6,6 +6,7 @@ abbrev pub invariant-loop-stock : goal.invariant-loop-stock
 invariant-loop-stock g l = record {
   same : IsQuiet l.fn.hand.seat l.hand.seat;
   seen : l.hand.seat.me.0.seen ≡ l.fn.hand.seat.me.0.seen;
+  got : l.hand.seat.me.0.got ≡ l.fn.hand.seat.me.0.got;
   frames : l.stock.frames ≡ l.fn.stock.frames;
   stock : l.hand.seat.me.0.stock ≡ drafts l.stock.frames l.stock.count;
   less : l.stock.count ≤ l.fn.stock.count;

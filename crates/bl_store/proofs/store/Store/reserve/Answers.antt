@@ -1,4 +1,4 @@
-use Rattle.std.proofs.Common.{rules, arith, ◌≡◌, ℕ, ap, sym, subst, ◌∙◌, inl, inr, ⊎_elim}
+use Rattle.std.proofs.Common.{rules, arith, ◌≡◌, ℕ, ap, sym, subst, ◌∙◌, inl, inr, ⊎_elim, length, refl}
 use Rattle.bl_layout.specs.declared.layout.Layout.{Layout}
 use Rattle.bl_layout.specs.Words.{frame_count}
 use Rattle.bl_store.specs.Pages.{Takes}
@@ -14,7 +14,10 @@ load-clock-requires g c = let wide = c.args.self.now.wide in (search rules, omeg
 pub returns-then-stock-frames-clause-why : goal.returns-then-stock-frames-clause-why
 returns-then-stock-frames-clause-why g c = let less = c.if-stock-frames.true in let seen = c.refuse-then-stock-frames.ensures.stock.1 ∙ c.give_back.ensures.same.1 in
     let layout = c.refuse-then-stock-frames.ensures.same.0.1 ∙ c.give_back.ensures.same.0.1 in let total = ap (λ (z : Layout). frame_count z) layout in
-    (c.reserve_frames.new.stock.count, c.reserve_frames.new.stock.frames, less, λ f low. ⊎_elim inl (λ h. inr (has_same _ _ _ _ seen (ap (λ (z : Layout). state_at z f) (sym layout)) h)) (c.reserve_frames.ensures.seen less f (omega arith)))
+    let got = c.refuse-then-stock-frames.ensures.stock.2 ∙ c.give_back.ensures.same.2 in let first = ap length (c.load-clock.ensures.2.4 (omega arith)).3 in let count = c.reserve_frames.ensures.got in let now = ap length got in (
+      omega arith,
+      λ f low. ⊎_elim (λ h. inl (has_same _ _ _ _ got refl h)) (λ h. inr (has_same _ _ _ _ seen (ap (λ (z : Layout). state_at z f) (sym layout)) h)) (c.reserve_frames.ensures.seen less f (omega arith)),
+    )
 
 pub take-stock-requires-clause-takes : goal.take-stock-requires-clause-takes
 take-stock-requires-clause-takes g c = let e = c.load-clock.ensures.2 in let same = c.reserve_frames.ensures.same.0 in

@@ -5,7 +5,7 @@ use Rattle.bl_store.specs.Frames.{state_at}
 use Rattle.bl_store.specs.Told.{draft}
 use Rattle.bl_store.specs.declared.view.Draft.{Draft}
 use Rattle.bl_store.proofs.Reserving.{notes, reserves}
-use Rattle.bl_store.proofs.StockLemmas.{drafts_push, among_push, among_new, within_push, has_same, has_more, has_new}
+use Rattle.bl_store.proofs.StockLemmas.{drafts_push, within_push, has_same, has_more, has_new}
 use Rattle.bl_store.proofs.Living.{live_hand, live_on}
 use Rattle.bl_store.proofs.store.Store.try_frame.Goals as goal
 
@@ -34,12 +34,13 @@ returns-then-found-eq0-clause-stock g c = let e = c.load.ensures.2.0 in let f = 
     )
 
 pub returns-then-found-eq0-clause-tried : goal.returns-then-found-eq0-clause-tried
-returns-then-found-eq0-clause-tried g c = let size : length c.args.stock.now.frames ≡ 3 = search rules in let less = c.requires.stock.1 in inl (among_new c.args.stock.now.frames c.args.stock.now.count c.args.frame (omega arith))
+returns-then-found-eq0-clause-tried g c = let e = c.load.ensures.2.0 in let f = c.compare_exchange-found.ensures.2 in let layout = e.0.0 ∙ c.requires.own.1 in let passes = ap (λ (z : Layout). z.passes) layout in let pages = ap (λ (z : Layout). z.pages) layout in
+    let t = (f.4 c.args.frame (omega arith)).0 c.if-found-eq0.true in inl (has_new _ _ _ _ t.2 refl)
 
 pub returns-then-found-eq0-clause-kept : goal.returns-then-found-eq0-clause-kept
 returns-then-found-eq0-clause-kept g c = let e = c.load.ensures.2 in let f = c.compare_exchange-found.ensures.2 in let layout = e.0.0.0 ∙ c.requires.own.1 in let passes = ap (λ (z : Layout). z.passes) layout in let pages = ap (λ (z : Layout). z.pages) layout in
     let t = (f.4 c.args.frame (omega arith)).0 c.if-found-eq0.true in let same = f.0.0 ∙ e.0.0.0 in
-    λ x. ⊎_elim (λ h. inl (among_push c.args.stock.now.frames c.args.stock.now.count c.args.frame x h)) (λ h. inr (has_same _ _ _ _ (t.1 ∙ e.2 c.if-load-ne0.false) (ap (λ (z : Layout). state_at z x) (sym same)) h))
+    λ x. ⊎_elim (λ h. inl (has_more _ _ _ _ _ t.2 refl (has_same _ _ _ _ e.3 refl h))) (λ h. inr (has_same _ _ _ _ (t.1 ∙ e.2 c.if-load-ne0.false) (ap (λ (z : Layout). state_at z x) (sym same)) h))
 
 pub returns-else-found-eq0-clause-stock : goal.returns-else-found-eq0-clause-stock
 returns-else-found-eq0-clause-stock g c = let e = c.load.ensures.2.0 in let f = c.compare_exchange-found.ensures.2 in let layout = e.0.0 ∙ c.requires.own.1 in let passes = ap (λ (z : Layout). z.passes) layout in let pages = ap (λ (z : Layout). z.pages) layout in
@@ -63,4 +64,12 @@ returns-else-found-eq0-clause-tried g c = let e = c.load.ensures.2.0 in let f = 
 pub returns-else-found-eq0-clause-kept : goal.returns-else-found-eq0-clause-kept
 returns-else-found-eq0-clause-kept g c = let e = c.load.ensures.2 in let f = c.compare_exchange-found.ensures.2 in let layout = e.0.0.0 ∙ c.requires.own.1 in let passes = ap (λ (z : Layout). z.passes) layout in let pages = ap (λ (z : Layout). z.pages) layout in
     let t = (f.4 c.args.frame (omega arith)).1 c.if-found-eq0.false in let same = f.0.0 ∙ e.0.0.0 in
-    λ x. ⊎_elim inl (λ h. inr (has_more _ _ _ _ _ t.1 (ap (λ (z : Layout). state_at z x) (sym same)) (has_same _ _ _ _ (e.2 c.if-load-ne0.false) refl h)))
+    λ x. ⊎_elim (λ h. inl (has_same _ _ _ _ (t.2 ∙ e.3) refl h)) (λ h. inr (has_more _ _ _ _ _ t.1 (ap (λ (z : Layout). state_at z x) (sym same)) (has_same _ _ _ _ (e.2 c.if-load-ne0.false) refl h)))
+
+pub returns-then-found-eq0-clause-got : goal.returns-then-found-eq0-clause-got
+returns-then-found-eq0-clause-got g c = let e = c.load.ensures.2 in let f = c.compare_exchange-found.ensures.2 in let layout = e.0.0.0 ∙ c.requires.own.1 in let passes = ap (λ (z : Layout). z.passes) layout in let pages = ap (λ (z : Layout). z.pages) layout in
+    let t = (f.4 c.args.frame (omega arith)).0 c.if-found-eq0.true in let more = ap length t.2 in let same = ap length e.3 in omega arith
+
+pub returns-else-found-eq0-clause-got : goal.returns-else-found-eq0-clause-got
+returns-else-found-eq0-clause-got g c = let e = c.load.ensures.2 in let f = c.compare_exchange-found.ensures.2 in let layout = e.0.0.0 ∙ c.requires.own.1 in let passes = ap (λ (z : Layout). z.passes) layout in let pages = ap (λ (z : Layout). z.pages) layout in
+    let t = (f.4 c.args.frame (omega arith)).1 c.if-found-eq0.false in let more = ap length t.2 in let same = ap length e.3 in omega arith

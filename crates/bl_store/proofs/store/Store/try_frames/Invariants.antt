@@ -1,4 +1,4 @@
-use Rattle.std.proofs.Common.{◌≡◌, ℕ, ◌≤◌, ◌<◌}
+use Rattle.std.proofs.Common.{◌≡◌, ℕ, ◌+◌, ◌≤◌, ◌<◌, length}
 use Rattle.bl_store.specs.Hands.{IsQuiet, IsStockOf, IsTried}
 use Rattle.bl_store.proofs.store.Store.try_frames.Given as goal
 
@@ -9,6 +9,7 @@ invariant-loop-frame g l = record {
   stock : IsStockOf l.hand.seat l.stock;
   few : l.stock.count ≤ l.fn.wanted;
   more : l.fn.stock.count ≤ l.stock.count;
-  seen : (f : ℕ) → l.fn.from ≤ f → f < l.frame → IsTried l.hand.seat l.stock f;
-  kept : (f : ℕ) → IsTried l.fn.hand.seat l.fn.stock f → IsTried l.hand.seat l.stock f;
+  got : length l.hand.seat.me.0.got + l.fn.stock.count ≡ length l.fn.hand.seat.me.0.got + l.stock.count;
+  seen : (f : ℕ) → l.fn.from ≤ f → f < l.frame → IsTried l.hand.seat f;
+  kept : (f : ℕ) → IsTried l.fn.hand.seat f → IsTried l.hand.seat f;
 }
