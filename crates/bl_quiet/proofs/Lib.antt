@@ -1,1 +1,5 @@
 pub mod Beginnings
+pub mod RowLemmas
+pub mod SameNodes
+pub mod RowsFound
+pub mod Opened

@@ -7,4 +7,4 @@
 
 mod laws;
 
-pub use laws::may_begin;
+pub use laws::{begins_with_rows, has_rows, may_begin};
