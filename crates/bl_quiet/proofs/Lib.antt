@@ -3,3 +3,4 @@ pub mod RowLemmas
 pub mod SameNodes
 pub mod RowsFound
 pub mod Opened
+mod Examples

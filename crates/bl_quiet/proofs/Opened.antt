@@ -1,6 +1,6 @@
 -- An index that is opened from an image begins with the map of the image's rows.
 use Rattle.std.proofs.Common.{◌≡◌, ◌≢◌, ℕ, ◌<◌, ◌≤◌, ◌^◌, List, [], true, false, Option, Some, None, refl, sym, subst, ap, ◌∙◌, inl, inr, arith}
-use Rattle.std.specs.Prelude.{MatchOption, is_some, length}
+use Rattle.std.specs.Prelude.{is_some, length}
 use Rattle.std.proofs.lemmas.Bool.{cases_lt, false≢true}
 use Rattle.std.proofs.lemmas.List.{get_or_past}
 use Rattle.bl_model.specs.Rows.{map_of}
@@ -21,7 +21,7 @@ use Rattle.bl_check.specs.Rows.{RowsFrom, AreRowsOf}
 use Rattle.bl_check.specs.Rules.{is_anchor, is_dead, Rule, AreSound as AreSoundPages}
 use Rattle.bl_check.specs.Spans.{page_at, span_of, span_at, leftmost}
 use Rattle.bl_check.proofs.Reaching.{live_below}
-use Rattle.bl_quiet.specs.Begins.{node_in, roots_in, live_in, MayBegin, HasOneListOfRows, IsOpened, BeginsWithRows}
+use Rattle.bl_quiet.specs.Begins.{node_in, roots_in, live_in, MayBegin, HasOneListOfRows, IsStored, IsOpened, BeginsWithRows}
 use Rattle.bl_quiet.proofs.Beginnings.{anchored, begins, live_span}
 use Rattle.bl_quiet.proofs.RowLemmas.{rising_keys, none_outside}
 use Rattle.bl_quiet.proofs.RowsFound.{rows_same, rows_bound, rows_map, some_rows}
@@ -60,26 +60,23 @@ keys_fit pages bytes rows key image sound are high =
 
 -- the opened index
 
-abbrev Stored : List (Option Page) → State Page → Option Page → ℕ → Type 0
-Stored pages s page x = MatchOption page (s.owner x ≡ Owner.Released) (λ page. (s.owner x ≡ Owner.Open) × (s.contents x ≡ page))
-
 -- a live page is open and holds what the image says
-live_stored : (pages : List (Option Page)) (s : State Page) (page : Option Page) (x : ℕ) → is_some (span_of page) ≡ true → Stored pages s page x → (s.owner x ≡ Owner.Open) × (node_of (s.contents x) ≡ node_in page)
-live_stored pages s None x alive h = absurd (false≢true alive)
-live_stored pages s (Some page) x alive h = (h.0, ap node_of h.1)
+live_stored : (s : State Page) (page : Option Page) (x : ℕ) → is_some (span_of page) ≡ true → IsStored s x page → (s.owner x ≡ Owner.Open) × (node_of (s.contents x) ≡ node_in page)
+live_stored s None x alive h = absurd (false≢true alive)
+live_stored s (Some page) x alive h = (h.0, ap node_of h.1)
 
 -- and so does page 0
-anchor_stored : (pages : List (Option Page)) (s : State Page) (page : Option Page) (x : ℕ) → is_anchor page ≡ true → Stored pages s page x → (s.owner x ≡ Owner.Open) × (roots_of (s.contents x) ≡ roots_in page)
-anchor_stored pages s None x anchor h = absurd (false≢true anchor)
-anchor_stored pages s (Some page) x anchor h = (h.0, ap roots_of h.1)
+anchor_stored : (s : State Page) (page : Option Page) (x : ℕ) → is_anchor page ≡ true → IsStored s x page → (s.owner x ≡ Owner.Open) × (roots_of (s.contents x) ≡ roots_in page)
+anchor_stored s None x anchor h = absurd (false≢true anchor)
+anchor_stored s (Some page) x anchor h = (h.0, ap roots_of h.1)
 
 -- a page that is neither live nor the anchor is not in use, since none is dead
-other_stored : (pages : List (Option Page)) (s : State Page) (page : Option Page) (x : ℕ) → is_some (span_of page) ≡ false → is_anchor page ≡ false → is_dead page ≡ false → Stored pages s page x → s.owner x ≡ Owner.Released
-other_stored pages s None x off other none h = h
-other_stored pages s (Some (Anchor a)) x off other none h = absurd (false≢true (sym other))
-other_stored pages s (Some (Leaf l)) x off other none h = absurd (false≢true (sym off))
-other_stored pages s (Some (Inner i)) x off other none h = absurd (false≢true (sym off))
-other_stored pages s (Some (Dead d)) x off other none h = absurd (false≢true (sym none))
+other_stored : (s : State Page) (page : Option Page) (x : ℕ) → is_some (span_of page) ≡ false → is_anchor page ≡ false → is_dead page ≡ false → IsStored s x page → s.owner x ≡ Owner.Released
+other_stored s None x off other none h = h
+other_stored s (Some (Anchor a)) x off other none h = absurd (false≢true (sym other))
+other_stored s (Some (Leaf l)) x off other none h = absurd (false≢true (sym off))
+other_stored s (Some (Inner i)) x off other none h = absurd (false≢true (sym off))
+other_stored s (Some (Dead d)) x off other none h = absurd (false≢true (sym none))
 
 none_past : (pages : List (Option Page)) (x : ℕ) → length pages ≤ x → page_at pages x ≡ None
 none_past pages x le = get_or_past pages x None le
@@ -88,16 +85,16 @@ released : (pages : List (Option Page)) (bytes : List ℕ) (s : State Page) (x :
 released pages bytes s x image sound opened other off = elim (cases_lt x (length pages)) [
   | inl lt ↦ elim (bool_cases (is_anchor (page_at pages x))) [
     | inl anchor ↦ absurd (other ((sound Rule.OneAnchor x lt).0 anchor))
-    | inr plain ↦ other_stored pages s (page_at pages x) x off plain (sound Rule.NoneDead x lt) (opened.pages_are x)
+    | inr plain ↦ other_stored s (page_at pages x) x off plain (sound Rule.NoneDead x lt) (opened.pages_are x)
   ]
-  | inr ge ↦ subst (λ page. Stored pages s page x) (none_past pages x ge) (opened.pages_are x)
+  | inr ge ↦ subst (IsStored s x) (none_past pages x ge) (opened.pages_are x)
 ]
 
 pub opened_sound : (pages : List (Option Page)) (bytes : List ℕ) (s : State Page) → IsImage pages bytes → AreSoundPages pages → IsOpened pages s → Sound (live_in pages) s (length pages)
 opened_sound pages bytes s image sound opened =
     let g : MayBegin pages = begins pages bytes image sound in
-    let anchor = anchor_stored pages s (page_at pages 0) 0 (anchor_at pages bytes image sound) (opened.pages_are 0) in
-    let stored : (x : ℕ) → live_in pages x ≡ true → (s.owner x ≡ Owner.Open) × (node_of (s.contents x) ≡ node_in (page_at pages x)) = λ x alive. live_stored pages s (page_at pages x) x alive (opened.pages_are x) in
+    let anchor = anchor_stored s (page_at pages 0) 0 (anchor_at pages bytes image sound) (opened.pages_are 0) in
+    let stored : (x : ℕ) → live_in pages x ≡ true → (s.owner x ≡ Owner.Open) × (node_of (s.contents x) ≡ node_in (page_at pages x)) = λ x alive. live_stored s (page_at pages x) x alive (opened.pages_are x) in
     record {
       pages = subst (λ roots. AreSound (live_in pages) (λ x. node_of (s.contents x)) roots) (sym anchor.1)
           (same_sound (live_in pages) (λ x. node_in (page_at pages x)) (λ x. node_of (s.contents x)) (roots_in (page_at pages 0)) (λ x alive. (stored x alive).1) g);
@@ -116,10 +113,10 @@ idle p = record { stage = Stage.Early; said = None; holds = []; goes = []; child
 pub opened_begins : (pages : List (Option Page)) (bytes : List ℕ) (rows : List (ℕ × ℕ)) (s : State Page) → IsImage pages bytes → AreSoundPages pages → AreRowsOf pages rows → IsOpened pages s → BeginsWithRows s rows
 opened_begins pages bytes rows s image sound are opened =
     let o = opened_sound pages bytes s image sound opened in
-    let anchor = anchor_stored pages s (page_at pages 0) 0 (anchor_at pages bytes image sound) (opened.pages_are 0) in
+    let anchor = anchor_stored s (page_at pages 0) 0 (anchor_at pages bytes image sound) (opened.pages_are 0) in
     let first : leftmost pages 0 ≡ (roots_of (s.contents 0)).leftmost 0 = leftmost_is pages (anchor_at pages bytes image sound) ∙ ap (λ r. r.leftmost 0) (sym anchor.1) in
     let same : (k : ℕ) → start_map (λ x. node_of (s.contents x)) (roots_of (s.contents 0)) 0 k ≡ map_of rows k =
-    λ k. rows_map pages (λ x. node_of (s.contents x)) (roots_of (s.contents 0)) (λ x alive. (live_stored pages s (page_at pages x) x alive (opened.pages_are x)).1) o.pages rows k (subst (λ x. RowsFrom pages x rows) first are) in
+    λ k. rows_map pages (λ x. node_of (s.contents x)) (roots_of (s.contents 0)) (λ x alive. (live_stored s (page_at pages x) x alive (opened.pages_are x)).1) o.pages rows k (subst (λ x. RowsFrom pages x rows) first are) in
     let w : World (Unit {0}) = sound_world (live_in pages) s (length pages) (λ p. tt) in
     let tells : TellsMiddles w = record {
       middle = λ x y h. absurd ((none_paired (live_in pages) y x).1 h);

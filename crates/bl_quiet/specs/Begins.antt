@@ -1,5 +1,5 @@
 -- What an index that is opened from an image begins with.
-use Rattle.std.specs.Prelude.{◌≡◌, ℕ, List, [], Bool, Option, Some, None, is_some, MatchOption}
+use Rattle.std.specs.Prelude.{◌≡◌, ℕ, List, [], Bool, Option, Some, None, is_some}
 use Rattle.bl_model.specs.Map.{SameMap}
 use Rattle.bl_model.specs.Rows.{map_of, HasRisingKeys}
 use Rattle.bl_page.specs.declared.page.Page.{Page}
@@ -35,10 +35,14 @@ pub record HasOneListOfRows (pages : List (Option Page)) : Type 0 where
   pub rising : HasRisingKeys rows
   pub only : (other : List (ℕ × ℕ)) → AreRowsOf pages other → other ≡ rows
 
--- The machine where nothing has happened since the image was opened: each page in use is open and holds what the image has
--- there, all others are released, and no process has begun.
+-- page x as the machine has it: released where it is not in use, else open, with what the image has there
+abbrev pub IsStored : State Page → ℕ → Option Page → Type 0
+IsStored s x None = s.owner x ≡ Owner.Released
+IsStored s x (Some page) = (s.owner x ≡ Owner.Open) × (s.contents x ≡ page)
+
+-- The machine holds the pages of an image, and no process has begun.
 pub record IsOpened (pages : List (Option Page)) (s : State Page) : Type 0 where
-  pub pages_are : (x : ℕ) → MatchOption (page_at pages x) (s.owner x ≡ Owner.Released) (λ page. (s.owner x ≡ Owner.Open) × (s.contents x ≡ page))
+  pub pages_are : (x : ℕ) → IsStored s x (page_at pages x)
   pub waiting : (p : Name) → s.phase p ≡ Waiting
 
 -- What its leaves say is the map of the image's rows, and the laws of the tree hold with that map.
