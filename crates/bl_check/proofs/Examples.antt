@@ -1,18 +1,21 @@
 -- Small pages, by the definitions: an anchor with two levels, two leaves, and the inner page that lists them.
 use Rattle.std.proofs.Common.{◌≡◌, ◌==◌, ◌||◌, List, [], ◌∷◌, true, false, Option, Some, None, refl, arith}
+use Rattle.bl_page.specs.declared.page.Leaf.{Leaf as LeafPage}
 use Rattle.bl_page.specs.declared.page.Page.{Page}
 use Rattle.bl_page.specs.declared.page.Page.TheVariants.{Anchor, Leaf, Inner}
 use Rattle.bl_check.specs.Spans.{span_at, StandsAt, levels, leftmost}
 use Rattle.bl_check.specs.Rules.{OnChain, ChildrenFit}
 use Rattle.bl_check.specs.Rules.Reaches.{Here, Next}
+use Rattle.bl_check.specs.Rows.{AreRowsOf}
+use Rattle.bl_check.specs.Rows.RowsFrom.{Last as LastRows, Next as NextRows}
 use Rattle.bl_check.specs.Reports.{is_thin, lists, is_unposted, count_below}
 
 abbrev anchor : Option Page
 anchor = Some (Anchor (record { leftmost = record { items = 1 ∷ 3 ∷ [] }; some = omega arith; few = omega arith; pages = ((omega arith, omega arith), ((omega arith, omega arith), tt)) }))
 
 -- the keys below 9, and page 2 to its right
-abbrev left_leaf : Option Page
-left_leaf = Some (Leaf (record {
+abbrev lower : LeafPage
+lower = record {
   low = 0;
   high = 9;
   right = 2;
@@ -22,11 +25,11 @@ left_leaf = Some (Leaf (record {
   few = omega arith;
   order = (omega arith, tt);
   cover = ((omega arith, omega arith), tt);
-}))
+}
 
 -- the keys from 9 on
-abbrev right_leaf : Option Page
-right_leaf = Some (Leaf (record {
+abbrev upper : LeafPage
+upper = record {
   low = 9;
   high = 0;
   right = 0;
@@ -36,7 +39,13 @@ right_leaf = Some (Leaf (record {
   few = omega arith;
   order = (omega arith, tt);
   cover = ((omega arith, omega arith), tt);
-}))
+}
+
+abbrev left_leaf : Option Page
+left_leaf = Some (Leaf lower)
+
+abbrev right_leaf : Option Page
+right_leaf = Some (Leaf upper)
 
 abbrev parent : Option Page
 parent = Some (Inner (record {
@@ -81,6 +90,10 @@ right_stands = (refl, refl)
 -- the right leaf stands on the chain of level 0, behind the left one
 right_on_chain : OnChain pages 0 2
 right_on_chain = (omega arith, Next (record { level = 0; low = 0; high = 9; right = 2 }) refl ((λ e. absurd (omega arith)), (refl, refl)) Here)
+
+-- the rows of the left leaf, and then those of the right one
+rows_of_both : AreRowsOf pages ((1, 10) ∷ (9, 90) ∷ [])
+rows_of_both = NextRows lower refl (λ e. absurd (omega arith)) (LastRows upper refl refl)
 
 children_fit : ChildrenFit pages parent
 children_fit = ((refl, refl), ((refl, refl), tt))

@@ -83,6 +83,32 @@ fn split() -> [u8; 2080] {
     bytes
 }
 
+/// The image of that index after key 9 was deleted and page 2 merged into page 1: page 1 has the keys 1 to 8 and 10 to 15,
+/// page 2 is dead, and page 3 lists page 1 alone.
+fn merged() -> [u8; 2080] {
+    let mut bytes = [0; 2080];
+    begin(&mut bytes, 8);
+    change(
+        &mut bytes,
+        &[
+            (0, 0, 4294967298),
+            (0, 4, 1),
+            (0, 5, 3),
+            (1, 0, 8589934606),
+            (2, 0, 17179869184),
+            (2, 1, 9),
+            (2, 3, 1),
+            (3, 0, 12884967425),
+            (3, 5, 1),
+        ],
+    );
+    for i in 0..14usize {
+        let key = i as u64 + if i < 8 { 1 } else { 2 };
+        change(&mut bytes, &[(1, 4 + 2 * i, key), (1, 5 + 2 * i, 10 * key)]);
+    }
+    bytes
+}
+
 /// What the checker finds in the split index with these changes.
 fn checked(alloc: Global, changes: &[Change]) -> Result<Report, Fault> {
     let mut bytes = split();
@@ -145,6 +171,26 @@ fn a_page_that_is_not_posted(rt: HostRuntime) {
         checked(rt.alloc(), &[(3, 0, 12884967425), (3, 6, 0), (3, 7, 0)]),
         Ok(report)
     );
+}
+
+#[test]
+fn a_merged_index_is_sound_without_its_dead_page(rt: HostRuntime) {
+    let mut bytes = merged();
+    assert!(rt; &bytes[544..552] == [0, 0, 0, 0, 4, 0, 0, 0].as_slice());
+    assert_eq!(rt;
+        check(rt.alloc(), &bytes),
+        Err(Fault::Rule { rule: 8, page: 2 })
+    );
+    change(&mut bytes, &[(2, 0, 0), (2, 1, 0), (2, 3, 0)]);
+    let report = Report {
+        rows: 14,
+        leaves: 1,
+        inners: 1,
+        levels: 2,
+        unposted: 0,
+        thin: 0,
+    };
+    assert_eq!(rt; check(rt.alloc(), &bytes), Ok(report));
 }
 
 #[test]

@@ -1,2 +1,3 @@
 pub mod Statuses
 pub mod Limits
+pub mod Checks

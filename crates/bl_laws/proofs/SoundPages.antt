@@ -8,7 +8,7 @@ use Rattle.bl_model.specs.Rows.{map_of}
 use Rattle.bl_laws.specs.Pages.{node_of, IsTreePage, IsSoundNode}
 
 -- what is listed is within the bounds
-listed_within : (low high : ℕ) (pairs : List (ℕ × ℕ)) (k v : ℕ) → AllWithin low high pairs → map_of pairs k ≡ Some v → IsWithin low high k
+pub listed_within : (low high : ℕ) (pairs : List (ℕ × ℕ)) (k v : ℕ) → AllWithin low high pairs → map_of pairs k ≡ Some v → IsWithin low high k
 listed_within low high [] k v h e = cc
 listed_within low high (pair ∷ pairs) k v h e = elim (cases_eq pair.0 k) [
   | inl i ↦ rw i at h.0

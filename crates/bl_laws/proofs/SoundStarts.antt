@@ -3,8 +3,8 @@ use Rattle.std.proofs.Common.{ℕ, ◌≡◌, ◌≢◌, ◌⊎◌, ◌≤◌, �
 use Rattle.std.specs.Prelude.{nat_lt}
 use Rattle.std.proofs.lemmas.Bool.{cases_eq, cases_lt, false≢true}
 use Rattle.std.proofs.lemmas.Bool.Decides.{nat_tests}
-use Rattle.bl_tree.specs.Nodes.{Node, Look, Covers, Roots, unbounded}
-use Rattle.bl_laws.specs.Starts.{IsReached, AreSound}
+use Rattle.bl_tree.specs.Nodes.{Node, Covers, Roots, unbounded}
+use Rattle.bl_laws.specs.Starts.{IsReached, AreSound, found, start_map}
 use Rattle.bl_laws.specs.Starts.IsReached.{Here, Next}
 use Rattle.bl_tree.specs.Trees.{Status, is_live, IsLive, Tree, IsTree}
 use Rattle.bl_tree.specs.Trees.Status.{Free, Live, Left, Right, Anchored}
@@ -14,22 +14,13 @@ use Rattle.bl_tree.proofs.Statuses.{live_live, free_dead, anchored_dead}
 abbrev pub start_status : (ℕ → Bool) → ℕ → Status
 start_status live x = if x == 0 then Anchored else if live x then Live else Free
 
--- the page that covers a key, from x to the right
-abbrev pub found : (ℕ → Node) → ℕ → ℕ → ℕ → ℕ
-found node zero x k = x
-found node (suc n) x k = if nat_lt k (node x).shape.end then x else found node n (node x).shape.right k
-
--- what each level says
-abbrev pub start_map : (ℕ → Node) → Roots → ℕ → Look
-start_map node roots l k = if nat_lt l roots.levels then (if nat_lt k unbounded then (node (found node (suc k) (roots.leftmost l) k)).look k else None) else None
-
 abbrev pub start_tree : (ℕ → Bool) → (ℕ → Node) → Roots → Tree
 start_tree live node roots = record { node = node; roots = roots; status = start_status live; sep = λ x. (node x).shape.low; map = start_map node roots }
 
-if_lt : {A : Type 0} (a b : ℕ) (x y : A) → a < b → (if nat_lt a b then x else y) ≡ x
+pub if_lt : {A : Type 0} (a b : ℕ) (x y : A) → a < b → (if nat_lt a b then x else y) ≡ x
 if_lt a b x y h = grind (arith, nat_tests)
 
-if_ge : {A : Type 0} (a b : ℕ) (x y : A) → b ≤ a → (if nat_lt a b then x else y) ≡ y
+pub if_ge : {A : Type 0} (a b : ℕ) (x y : A) → b ≤ a → (if nat_lt a b then x else y) ≡ y
 if_ge a b x y h = grind (arith, nat_tests)
 
 pub bool_cases : (b : Bool) → (b ≡ true) ⊎ (b ≡ false)
@@ -101,7 +92,7 @@ module _ (live : ℕ → Bool) (node : ℕ → Node) (roots : Roots) (g : AreSou
         rw (if_ge k (node x).shape.end x (found node n (node x).shape.right k) c) (r.0, r.1 ∙ l.1, r.2)
   ]
 
-  map_says : (l k : ℕ) → l < roots.levels → k < unbounded → (y : ℕ) × (live y ≡ true) × ((node y).shape.level ≡ l) × Covers (node y).shape k × (start_map node roots l k ≡ (node y).look k)
+  pub map_says : (l k : ℕ) → l < roots.levels → k < unbounded → (y : ℕ) × (live y ≡ true) × ((node y).shape.level ≡ l) × Covers (node y).shape k × (start_map node roots l k ≡ (node y).look k)
   map_says l k h b =
       let o = g.leftmost l h in
       let r = found_covers (suc k) (roots.leftmost l) k o.0 (omega (arith, o.2)) b (omega arith) in

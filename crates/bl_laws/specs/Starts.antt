@@ -1,6 +1,6 @@
 -- Sound pages: what holds of a tree's pages when nothing is under way, so that work may begin.
-use Rattle.std.specs.Prelude.{◌≡◌, ℕ, suc, ◌<◌, ◌≤◌, Bool, false, IsTrue, Some}
-use Rattle.bl_tree.specs.Nodes.{Node, Roots, unbounded}
+use Rattle.std.specs.Prelude.{◌≡◌, ℕ, zero, suc, ◌<◌, ◌≤◌, nat_lt, if◌then◌else◌, Bool, false, IsTrue, Some, None}
+use Rattle.bl_tree.specs.Nodes.{Node, Look, Roots, unbounded}
 
 -- y is reached from x by right links
 pub data IsReached (node : ℕ → Node) : ℕ → ℕ → Type 0 where
@@ -20,3 +20,13 @@ pub record AreSound (live : ℕ → Bool) (node : ℕ → Node) (roots : Roots) 
   pub last : (x : ℕ) → IsTrue (live x) → (node x).shape.end ≡ unbounded → (node x).shape.right ≡ 0
   pub on_chain : (x : ℕ) → IsTrue (live x) → ((node x).shape.level < roots.levels) × IsReached node (roots.leftmost (node x).shape.level) x
   pub children : (x k c : ℕ) → IsTrue (live x) → 0 < (node x).shape.level → (node x).look k ≡ Some c → IsTrue (live c) × (suc (node c).shape.level ≡ (node x).shape.level) × ((node c).shape.low ≡ k)
+
+-- the page that covers a key: x, or one to its right, after n links at most
+abbrev pub found : (ℕ → Node) → ℕ → ℕ → ℕ → ℕ
+found node zero x k = x
+found node (suc n) x k = if nat_lt k (node x).shape.end then x else found node n (node x).shape.right k
+
+-- What a level of sound pages lists with a key: what the page of that level says that covers it. Each bound is above the one
+-- before, so k + 1 links lead past k. There is nothing above the last level, nor with numbers that are no keys.
+abbrev pub start_map : (ℕ → Node) → Roots → ℕ → Look
+start_map node roots l k = if nat_lt l roots.levels then (if nat_lt k unbounded then (node (found node (suc k) (roots.leftmost l) k)).look k else None) else None

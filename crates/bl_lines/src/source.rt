@@ -62,8 +62,9 @@ fn keep(line: &mut ArrayVec<u8, KEPT>, piece: &[u8])
     line.try_extend_from_slice(&piece[..kept]).unwrap();
 }
 
-/// Reads once, and again where the call was interrupted.
-fn read_some<R: Read>(reader: &mut Watched<R>, buffer: &mut [u8]) -> Result<usize, Failed>
+/// Reads once, and again where the call was interrupted. Gives how many bytes are now at the front of the buffer; none only
+/// where the reader is at its end, or the buffer has no room.
+pub fn read_some<R: Read>(reader: &mut Watched<R>, buffer: &mut [u8]) -> Result<usize, Failed>
     ensures { ReadsSome result (R.remaining reader.old.inner) (R.remaining reader.new.inner) buffer.new
         (reader.new.failed ≡ true) }
 {

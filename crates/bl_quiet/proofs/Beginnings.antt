@@ -37,7 +37,7 @@ says (Some (Inner i)) s is = let same : (record { level = i.level; low = i.low; 
 says (Some (Dead d)) s is = absurd cc
 
 -- the span of a live page
-live_span : (o : Option Span) → IsTrue (is_some o) → (s : Span) × (o ≡ Some s)
+pub live_span : (o : Option Span) → IsTrue (is_some o) → (s : Span) × (o ≡ Some s)
 live_span None h = absurd cc
 live_span (Some s) h = (s, refl)
 
@@ -77,13 +77,13 @@ no_node (Some (Leaf l)) is = absurd cc
 no_node (Some (Inner i)) is = absurd cc
 no_node (Some (Dead d)) is = absurd cc
 
-record Anchored (page : Option Page) : Type 0 where
+pub record Anchored (page : Option Page) : Type 0 where
   pub some : 0 < (roots_in page).levels
   pub few : (roots_in page).levels ≤ 12
   pub count : length (roots_of page) ≡ (roots_in page).levels
   pub leftmost_is : (l : ℕ) → get_or (roots_of page) l 0 ≡ (roots_in page).leftmost l
 
-anchored : (page : Option Page) → is_anchor page ≡ true → Anchored page
+pub anchored : (page : Option Page) → is_anchor page ≡ true → Anchored page
 anchored None is = absurd cc
 anchored (Some (Anchor a)) is = record { some = a.some; few = a.few; count = refl; leftmost_is = λ l. refl }
 anchored (Some (Leaf l)) is = absurd cc

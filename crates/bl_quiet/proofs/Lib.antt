@@ -1,1 +1,6 @@
 pub mod Beginnings
+pub mod RowLemmas
+pub mod SameNodes
+pub mod RowsFound
+pub mod Opened
+mod Examples

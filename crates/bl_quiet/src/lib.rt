@@ -1,10 +1,12 @@
 //! Sound images and the core: an index may begin with the pages of a sound image.
 //!
-//! Promised to whoever opens an index from a `Quiet`: its live pages are sound pages in the words of the tree, so that
-//! every theorem of `bl_laws` and `bl_starts` on sound pages holds of them. The checker does not stand on the tree, so
-//! this stands in a crate of its own.
+//! Promised to whoever opens an index from a `Quiet`: its live pages are sound pages in the words of the tree; the image
+//! has one list of rows, whose keys rise; and where its pages are open and nothing has happened yet, the laws of the tree
+//! hold with the map of these rows. The checker does not stand on the tree, so this stands in a crate of its own.
 #![tactic(auto)]
 
 mod laws;
+#[cfg(test)]
+mod tests;
 
-pub use laws::may_begin;
+pub use laws::{begins_with_rows, has_rows, may_begin};

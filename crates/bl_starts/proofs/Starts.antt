@@ -12,8 +12,8 @@ use Rattle.bl_page.specs.declared.page.Page.{Page}
 use Rattle.std.proofs.lemmas.Bool.{cases_eq}
 use Rattle.bl_laws.specs.Pages.{node_of, roots_of}
 use Rattle.bl_laws.proofs.Opening.{empty_leaf, opens}
-use Rattle.bl_laws.specs.Starts.{AreSound}
-use Rattle.bl_laws.proofs.SoundStarts.{start_status, start_map, start_live, sound_tree, bool_cases}
+use Rattle.bl_laws.specs.Starts.{AreSound, start_map}
+use Rattle.bl_laws.proofs.SoundStarts.{start_status, start_live, sound_tree, bool_cases}
 use Rattle.bl_starts.specs.Blank.{IsBlank, IsStart}
 
 nothing_does : (i : ℕ) (p : Name) (act : Act _ Reply) → DoesAt [] i p act → ⊥
