@@ -15,6 +15,7 @@ use Rattle.bl_laws.proofs.Opening.{empty_leaf, opens}
 use Rattle.bl_laws.specs.Starts.{AreSound, start_map}
 use Rattle.bl_laws.proofs.SoundStarts.{start_status, start_live, sound_tree, bool_cases}
 use Rattle.bl_starts.specs.Blank.{IsBlank, IsStart}
+use Rattle.bl_starts.specs.Opening.{Opening}
 
 nothing_does : (i : ℕ) (p : Name) (act : Act _ Reply) → DoesAt [] i p act → ⊥
 nothing_does i p act h = let e = h.is in cc
@@ -80,16 +81,7 @@ starts_good know w s =
       sure = λ p. blank_sure know w p s;
     }
 
--- The opening world: page 0 names one level, whose only page is page 1, an empty leaf; the two are open, all others released.
-pub record Opening (now : State Page) : Type 0 where
-  pub levels : (roots_of (now.contents 0)).levels ≡ 1
-  pub leftmost : (roots_of (now.contents 0)).leftmost 0 ≡ 1
-  pub leaf : node_of (now.contents 1) ≡ empty_leaf
-  pub anchor_open : now.owner 0 ≡ Owner.Open
-  pub leaf_open : now.owner 1 ≡ Owner.Open
-  pub others : (x : ℕ) → x ≢ 0 → x ≢ 1 → now.owner x ≡ Released
-  pub waiting : (p : Name) → now.phase p ≡ Waiting
-
+-- the world that begins there
 abbrev pub opening_world : {P : Type 0} → State Page → ℕ → (Name → P) → World P
 opening_world now size proc = record {
   start = now;

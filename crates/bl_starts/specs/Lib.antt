@@ -1,2 +1,3 @@
 pub mod Told
 pub mod Blank
+pub mod Opening

@@ -3,7 +3,6 @@ use Rattle.std.proofs.Common.{ℕ, ◌≡◌, ◌≢◌, ◌⊎◌, ◌<◌, ◌
 use Rattle.std.proofs.lemmas.Bool.{cases_eq}
 use Rattle.std.proofs.lemmas.Option.{slice_get_within, get_or_from_slice_get}
 use Rattle.std.proofs.lemmas.List.{length-set}
-use mathlib.Core.Logic.{∥∥₁_map}
 use Rattle.bl_page.specs.declared.page.Page.{Page}
 use Rattle.bl_page.specs.Machine.{Name, State, Act as MachineAct, IsAt}
 use Rattle.bl_page.specs.Machine.Owner.{Held as MachineHeld}
@@ -23,8 +22,9 @@ use Rattle.bl_world.specs.declared.turns.Act.TheVariants as shown
 use Rattle.bl_world.specs.declared.turns.Event.{Event}
 use Rattle.bl_world.specs.declared.owners.Owner.{Owner}
 use Rattle.bl_world.specs.declared.owners.Owner.TheVariants as own
-use Rattle.bl_world.specs.Worlds.{name_of, owner_of, act_shown, HasWorld}
-use Rattle.bl_world.proofs.Stands.{turned_lists}
+use Rattle.bl_world.specs.Views.{name_of, owner_of, act_shown}
+use Rattle.bl_world.specs.Worlds.{HasWorld}
+use Rattle.bl_world.proofs.Stands.{Grows, turned_lists}
 
 pub set_here : {A : Type 0} (xs : List A) (n : ℕ) (v : A) → n < length xs → slice_get (slice_set xs n v) n ≡ Some v
 set_here [] n v l = absurd (omega (arith, l))
@@ -61,45 +61,45 @@ module _ (pages : List Page) (owners : List Owner) (processes : List Proc) (even
       subst (λ a. IsTold w.now w.size a what → Does w.now p (event_of (end_of_proc p0) a what) s → Turned know w p (event_of (end_of_proc p0) a what) s (run_next (w.proc p) what p1)) next (by_state p0 is takes)
 
   -- the pages and owners are as they were
-  stay : (what : Seen) (a : MachineAct Page _) (h : HasWorld pages owners processes events) (s : State Page) → s.contents ≡ h.world.now.contents → s.owner ≡ h.world.now.owner → Turned know h.world (name_of (suc n)) a s (run_next (h.world.proc (name_of (suc n))) what p1) → HasWorld pages owners (slice_set processes n p1) (events ++ record { process = suc n; act = act_shown a } ∷ [])
+  stay : (what : Seen) (a : MachineAct Page _) (h : HasWorld pages owners processes events) (s : State Page) → s.contents ≡ h.world.now.contents → s.owner ≡ h.world.now.owner → Turned know h.world (name_of (suc n)) a s (run_next (h.world.proc (name_of (suc n))) what p1) → Grows h pages owners (slice_set processes n p1) (events ++ record { process = suc n; act = act_shown a } ∷ [])
   stay what a h s contents owner t =
-      turned_lists pages pages owners owners processes (slice_set processes n p1) events n a s _ h (slice_get_within processes n p0 stood) refl (length-set processes n p1)
+      turned_lists pages pages owners owners processes (slice_set processes n p1) events n a s _ h (slice_get_within processes n p0 stood) refl refl (length-set processes n p1)
       (λ x c is. ap (λ f. f x) contents ∙ h.contents x c is)
       (λ x o is. ap (λ f. f x) owner ∙ h.owner x o is)
       (λ c is. some_same p1 c (sym (set_here processes n p1 (slice_get_within processes n p0 stood)) ∙ is))
       (λ i ne. set_other processes n i p1 ne) t
 
-  pub begins : next_of p0 ≡ act.Begin → Takes p0 seen.Done p1 → HasWorld pages owners processes events → HasWorld pages owners (slice_set processes n p1) (events ++ record { process = suc n; act = shown.Begin } ∷ [])
+  pub begins : next_of p0 ≡ act.Begin → Takes p0 seen.Done p1 → (h : HasWorld pages owners processes events) → Grows h pages owners (slice_set processes n p1) (events ++ record { process = suc n; act = shown.Begin } ∷ [])
   begins next takes h =
       let now = h.world.now in
       let p = name_of (suc n) in
       let s : State Page = record now { phase = put_name p (Running now.clock) now.phase } in
       stay seen.Done _ h s refl refl (turned seen.Done act.Begin h s next takes tt (record { changes = (λ x. refl, λ x. refl, (now.clock, omega arith, omega arith, is_put_name p (Running now.clock) now.phase)); on = omega arith }))
 
-  pub ends : next_of p0 ≡ act.End → Takes p0 seen.Done p1 → HasWorld pages owners processes events → HasWorld pages owners (slice_set processes n p1) (events ++ record { process = suc n; act = shown.End } ∷ [])
+  pub ends : next_of p0 ≡ act.End → Takes p0 seen.Done p1 → (h : HasWorld pages owners processes events) → Grows h pages owners (slice_set processes n p1) (events ++ record { process = suc n; act = shown.End } ∷ [])
   ends next takes h =
       let now = h.world.now in
       let p = name_of (suc n) in
       let s : State Page = record now { phase = put_name p Ended now.phase } in
       stay seen.Done _ h s refl refl (turned seen.Done act.End h s next takes tt (record { changes = (λ x. refl, λ x. refl, is_put_name p Ended now.phase); on = omega arith }))
 
-  pub gets : (x : ℕ) (c : Page) → slice_get pages x ≡ Some c → next_of p0 ≡ act.Get x → Takes p0 (seen.Words c) p1 → HasWorld pages owners processes events → HasWorld pages owners (slice_set processes n p1) (events ++ record { process = suc n; act = shown.Get x } ∷ [])
+  pub gets : (x : ℕ) (c : Page) → slice_get pages x ≡ Some c → next_of p0 ≡ act.Get x → Takes p0 (seen.Words c) p1 → (h : HasWorld pages owners processes events) → Grows h pages owners (slice_set processes n p1) (events ++ record { process = suc n; act = shown.Get x } ∷ [])
   gets x c page next takes h =
       let now = h.world.now in
       stay (seen.Words c) _ h now refl refl (turned (seen.Words c) (act.Get x) h now next takes (sym (h.contents x c page)) (record { changes = (λ x. refl, λ x. refl, λ q. refl); on = omega arith }))
 
-  pub misses : (x : ℕ) → next_of p0 ≡ act.Latch x → Takes p0 seen.Missed p1 → HasWorld pages owners processes events → HasWorld pages owners (slice_set processes n p1) (events ++ record { process = suc n; act = shown.Miss } ∷ [])
+  pub misses : (x : ℕ) → next_of p0 ≡ act.Latch x → Takes p0 seen.Missed p1 → (h : HasWorld pages owners processes events) → Grows h pages owners (slice_set processes n p1) (events ++ record { process = suc n; act = shown.Miss } ∷ [])
   misses x next takes h =
       let now = h.world.now in
       stay seen.Missed _ h now refl refl (turned seen.Missed (act.Latch x) h now next takes tt (record { changes = (λ x. refl, λ x. refl, λ q. refl); on = omega arith }))
 
   -- a page is put
-  pub puts : (x : ℕ) (c : Page) → x < length pages → next_of p0 ≡ act.Put x c → Takes p0 seen.Done p1 → HasWorld pages owners processes events → HasWorld (slice_set pages x c) owners (slice_set processes n p1) (events ++ record { process = suc n; act = shown.Put x } ∷ [])
+  pub puts : (x : ℕ) (c : Page) → x < length pages → next_of p0 ≡ act.Put x c → Takes p0 seen.Done p1 → (h : HasWorld pages owners processes events) → Grows h (slice_set pages x c) owners (slice_set processes n p1) (events ++ record { process = suc n; act = shown.Put x } ∷ [])
   puts x c within next takes h =
       let now = h.world.now in
       let s : State Page = record now { contents = put_at x c now.contents } in
       let changed = is_put_at x c now.contents in
-      turned_lists pages (slice_set pages x c) owners owners processes (slice_set processes n p1) events n _ s _ h (slice_get_within processes n p0 stood) (length-set pages x c) (length-set processes n p1)
+      turned_lists pages (slice_set pages x c) owners owners processes (slice_set processes n p1) events n _ s _ h (slice_get_within processes n p0 stood) (length-set pages x c) refl (length-set processes n p1)
       (set_cases (λ z d. s.contents z ≡ d) pages x c within changed.at (λ z d ne is. changed.others z ne ∙ h.contents z d is))
       (λ z o is. h.owner z o is)
       (λ d is. some_same p1 d (sym (set_here processes n p1 (slice_get_within processes n p0 stood)) ∙ is))
@@ -107,32 +107,32 @@ module _ (pages : List Page) (owners : List Owner) (processes : List Proc) (even
       (turned seen.Done (act.Put x c) h s next takes tt (record { changes = (changed, λ z. refl, λ q. refl); on = omega arith }))
 
   -- a page gets another owner
-  owns : (what : Seen) (a : MachineAct Page _) (x : ℕ) (o : Owner) (h : HasWorld pages owners processes events) → x < length owners → Turned know h.world (name_of (suc n)) a (record h.world.now { owner = put_at x (owner_of o) h.world.now.owner }) (run_next (h.world.proc (name_of (suc n))) what p1) → HasWorld pages (slice_set owners x o) (slice_set processes n p1) (events ++ record { process = suc n; act = act_shown a } ∷ [])
+  owns : (what : Seen) (a : MachineAct Page _) (x : ℕ) (o : Owner) (h : HasWorld pages owners processes events) → x < length owners → Turned know h.world (name_of (suc n)) a (record h.world.now { owner = put_at x (owner_of o) h.world.now.owner }) (run_next (h.world.proc (name_of (suc n))) what p1) → Grows h pages (slice_set owners x o) (slice_set processes n p1) (events ++ record { process = suc n; act = act_shown a } ∷ [])
   owns what a x o h within t =
       let now = h.world.now in
       let s : State Page = record now { owner = put_at x (owner_of o) now.owner } in
       let changed = is_put_at x (owner_of o) now.owner in
-      turned_lists pages pages owners (slice_set owners x o) processes (slice_set processes n p1) events n a s _ h (slice_get_within processes n p0 stood) refl (length-set processes n p1)
+      turned_lists pages pages owners (slice_set owners x o) processes (slice_set processes n p1) events n a s _ h (slice_get_within processes n p0 stood) refl (length-set owners x o) (length-set processes n p1)
       (λ z c is. h.contents z c is)
       (set_cases (λ z d. s.owner z ≡ owner_of d) owners x o within changed.at (λ z d ne is. changed.others z ne ∙ h.owner z d is))
       (λ d is. some_same p1 d (sym (set_here processes n p1 (slice_get_within processes n p0 stood)) ∙ is))
       (λ i ne. set_other processes n i p1 ne) t
 
-  pub latches : (x : ℕ) → slice_get owners x ≡ Some own.Open → next_of p0 ≡ act.Latch x → Takes p0 seen.Done p1 → HasWorld pages owners processes events → HasWorld pages (slice_set owners x (own.Held (suc n))) (slice_set processes n p1) (events ++ record { process = suc n; act = shown.Latch x } ∷ [])
+  pub latches : (x : ℕ) → slice_get owners x ≡ Some own.Open → next_of p0 ≡ act.Latch x → Takes p0 seen.Done p1 → (h : HasWorld pages owners processes events) → Grows h pages (slice_set owners x (own.Held (suc n))) (slice_set processes n p1) (events ++ record { process = suc n; act = shown.Latch x } ∷ [])
   latches x free next takes h =
       let now = h.world.now in
       let s : State Page = record now { owner = put_at x (MachineHeld (name_of (suc n))) now.owner } in
       owns seen.Done _ x (own.Held (suc n)) h (slice_get_within owners x own.Open free)
       (turned seen.Done (act.Latch x) h s next takes (h.owner x own.Open free) (record { changes = (λ z. refl, is_put_at x (MachineHeld (name_of (suc n))) now.owner, λ q. refl); on = omega arith }))
 
-  pub opens : (x : ℕ) → x < length owners → next_of p0 ≡ act.Open x → Takes p0 seen.Done p1 → HasWorld pages owners processes events → HasWorld pages (slice_set owners x own.Open) (slice_set processes n p1) (events ++ record { process = suc n; act = shown.Open x } ∷ [])
+  pub opens : (x : ℕ) → x < length owners → next_of p0 ≡ act.Open x → Takes p0 seen.Done p1 → (h : HasWorld pages owners processes events) → Grows h pages (slice_set owners x own.Open) (slice_set processes n p1) (events ++ record { process = suc n; act = shown.Open x } ∷ [])
   opens x within next takes h =
       let now = h.world.now in
       let s : State Page = record now { owner = put_at x MachineOwner.Open now.owner } in
       owns seen.Done _ x own.Open h within
       (turned seen.Done (act.Open x) h s next takes tt (record { changes = (λ z. refl, is_put_at x MachineOwner.Open now.owner, λ q. refl); on = omega arith }))
 
-  pub takes_page : (x : ℕ) → slice_get owners x ≡ Some own.Released → x < length pages → next_of p0 ≡ act.Take → Takes p0 (seen.Took x) p1 → HasWorld pages owners processes events → HasWorld pages (slice_set owners x (own.Held (suc n))) (slice_set processes n p1) (events ++ record { process = suc n; act = shown.Take x } ∷ [])
+  pub takes_page : (x : ℕ) → slice_get owners x ≡ Some own.Released → x < length pages → next_of p0 ≡ act.Take → Takes p0 (seen.Took x) p1 → (h : HasWorld pages owners processes events) → Grows h pages (slice_set owners x (own.Held (suc n))) (slice_set processes n p1) (events ++ record { process = suc n; act = shown.Take x } ∷ [])
   takes_page x free within next takes h =
       let now = h.world.now in
       let s : State Page = record now { owner = put_at x (MachineHeld (name_of (suc n))) now.owner } in
@@ -140,21 +140,21 @@ module _ (pages : List Page) (owners : List Owner) (processes : List Proc) (even
       (turned (seen.Took x) act.Take h s next takes (h.owner x own.Released free, rw h.size within) (record { changes = (λ z. refl, is_put_at x (MachineHeld (name_of (suc n))) now.owner, λ q. refl); on = omega arith }))
 
   -- what it was about to reserve is refused
-  pub refuses_take : next_of p0 ≡ act.Take → Takes p0 seen.Refused p1 → HasWorld pages owners processes events → HasWorld pages owners (slice_set processes n p1) (events ++ record { process = suc n; act = shown.Miss } ∷ [])
+  pub refuses_take : next_of p0 ≡ act.Take → Takes p0 seen.Refused p1 → (h : HasWorld pages owners processes events) → Grows h pages owners (slice_set processes n p1) (events ++ record { process = suc n; act = shown.Miss } ∷ [])
   refuses_take next takes h =
       let now = h.world.now in
       stay seen.Refused _ h now refl refl (turned seen.Refused act.Take h now next takes tt (record { changes = (λ x. refl, λ x. refl, λ q. refl); on = omega arith }))
 
-  pub refuses_put : (x : ℕ) (c : Page) → next_of p0 ≡ act.Put x c → Takes p0 seen.Refused p1 → HasWorld pages owners processes events → HasWorld pages owners (slice_set processes n p1) (events ++ record { process = suc n; act = shown.Miss } ∷ [])
+  pub refuses_put : (x : ℕ) (c : Page) → next_of p0 ≡ act.Put x c → Takes p0 seen.Refused p1 → (h : HasWorld pages owners processes events) → Grows h pages owners (slice_set processes n p1) (events ++ record { process = suc n; act = shown.Miss } ∷ [])
   refuses_put x c next takes h =
       let now = h.world.now in
       stay seen.Refused _ h now refl refl (turned seen.Refused (act.Put x c) h now next takes tt (record { changes = (λ x. refl, λ x. refl, λ q. refl); on = omega arith }))
 
 -- a turn that is not fit
-pub idles : (pages : List Page) (owners : List Owner) (processes : List Proc) (events : List Event) (n : ℕ) → n < length processes → HasWorld pages owners processes events → HasWorld pages owners processes (events ++ record { process = suc n; act = shown.Miss } ∷ [])
+pub idles : (pages : List Page) (owners : List Owner) (processes : List Proc) (events : List Event) (n : ℕ) → n < length processes → (h : HasWorld pages owners processes events) → Grows h pages owners processes (events ++ record { process = suc n; act = shown.Miss } ∷ [])
 idles pages owners processes events n within h =
     let now = h.world.now in
-    turned_lists pages pages owners owners processes processes events n _ now _ h within refl refl
+    turned_lists pages pages owners owners processes processes events n _ now _ h within refl refl refl
     (λ x c is. h.contents x c is) (λ x o is. h.owner x o is) (λ p is. h.runs n p is) (λ i ne. refl)
     (idle_turn h.world (name_of (suc n)) now h.good (record { changes = (λ x. refl, λ x. refl, λ q. refl); on = omega arith }))
 
@@ -163,47 +163,6 @@ pub stands : {A : Type 0} (xs : List A) (n : ℕ) → n < length xs → (a : A) 
 stands [] n l = absurd (omega (arith, l))
 stands (x ∷ xs) zero l = (x, refl)
 stands (x ∷ xs) (suc n) l = stands xs n (omega (arith, l))
-
-pub idles_on : (pages : List Page) (owners : List Owner) (processes : List Proc) (events events' : List Event) (n : ℕ) → n < length processes → events' ≡ events ++ record { process = n + 1; act = shown.Miss } ∷ [] → ∥ HasWorld pages owners processes events ∥₁ → ∥ HasWorld pages owners processes events' ∥₁
-idles_on pages owners processes events events' n within e h = rw (e, one n) (∥∥₁_map h (idles pages owners processes events n within))
-  where
-    one : (n : ℕ) → n + 1 ≡ suc n
-    one n = omega arith
-
--- The same of a world that is only known to be there.
-one_more : (n : ℕ) → n + 1 ≡ suc n
-one_more n = omega arith
-
-module _ (pages : List Page) (owners : List Owner) (processes : List Proc) (events : List Event) (n : ℕ) (p0 p1 : Proc) (stood : slice_get processes n ≡ Some p0) where
-  pub begins_on : next_of p0 ≡ act.Begin → Takes p0 seen.Done p1 → ∥ HasWorld pages owners processes events ∥₁ → ∥ HasWorld pages owners (slice_set processes n p1) (events ++ record { process = n + 1; act = shown.Begin } ∷ []) ∥₁
-  begins_on next takes h = rw (one_more n) (∥∥₁_map h (begins pages owners processes events n p0 p1 stood next takes))
-
-  pub ends_on : next_of p0 ≡ act.End → Takes p0 seen.Done p1 → ∥ HasWorld pages owners processes events ∥₁ → ∥ HasWorld pages owners (slice_set processes n p1) (events ++ record { process = n + 1; act = shown.End } ∷ []) ∥₁
-  ends_on next takes h = rw (one_more n) (∥∥₁_map h (ends pages owners processes events n p0 p1 stood next takes))
-
-  pub gets_on : (x : ℕ) (c : Page) → slice_get pages x ≡ Some c → next_of p0 ≡ act.Get x → Takes p0 (seen.Words c) p1 → ∥ HasWorld pages owners processes events ∥₁ → ∥ HasWorld pages owners (slice_set processes n p1) (events ++ record { process = n + 1; act = shown.Get x } ∷ []) ∥₁
-  gets_on x c page next takes h = rw (one_more n) (∥∥₁_map h (gets pages owners processes events n p0 p1 stood x c page next takes))
-
-  pub misses_on : (x : ℕ) → next_of p0 ≡ act.Latch x → Takes p0 seen.Missed p1 → ∥ HasWorld pages owners processes events ∥₁ → ∥ HasWorld pages owners (slice_set processes n p1) (events ++ record { process = n + 1; act = shown.Miss } ∷ []) ∥₁
-  misses_on x next takes h = rw (one_more n) (∥∥₁_map h (misses pages owners processes events n p0 p1 stood x next takes))
-
-  pub refuses_take_on : next_of p0 ≡ act.Take → Takes p0 seen.Refused p1 → ∥ HasWorld pages owners processes events ∥₁ → ∥ HasWorld pages owners (slice_set processes n p1) (events ++ record { process = n + 1; act = shown.Miss } ∷ []) ∥₁
-  refuses_take_on next takes h = rw (one_more n) (∥∥₁_map h (refuses_take pages owners processes events n p0 p1 stood next takes))
-
-  pub refuses_put_on : (x : ℕ) (c : Page) → next_of p0 ≡ act.Put x c → Takes p0 seen.Refused p1 → ∥ HasWorld pages owners processes events ∥₁ → ∥ HasWorld pages owners (slice_set processes n p1) (events ++ record { process = n + 1; act = shown.Miss } ∷ []) ∥₁
-  refuses_put_on x c next takes h = rw (one_more n) (∥∥₁_map h (refuses_put pages owners processes events n p0 p1 stood x c next takes))
-
-  pub puts_on : (x : ℕ) (c : Page) → x < length pages → next_of p0 ≡ act.Put x c → Takes p0 seen.Done p1 → ∥ HasWorld pages owners processes events ∥₁ → ∥ HasWorld (slice_set pages x c) owners (slice_set processes n p1) (events ++ record { process = n + 1; act = shown.Put x } ∷ []) ∥₁
-  puts_on x c within next takes h = rw (one_more n) (∥∥₁_map h (puts pages owners processes events n p0 p1 stood x c within next takes))
-
-  pub latches_on : (x : ℕ) → slice_get owners x ≡ Some own.Open → next_of p0 ≡ act.Latch x → Takes p0 seen.Done p1 → ∥ HasWorld pages owners processes events ∥₁ → ∥ HasWorld pages (slice_set owners x (own.Held (n + 1))) (slice_set processes n p1) (events ++ record { process = n + 1; act = shown.Latch x } ∷ []) ∥₁
-  latches_on x free next takes h = rw (one_more n) (∥∥₁_map h (latches pages owners processes events n p0 p1 stood x free next takes))
-
-  pub opens_on : (x : ℕ) → x < length owners → next_of p0 ≡ act.Open x → Takes p0 seen.Done p1 → ∥ HasWorld pages owners processes events ∥₁ → ∥ HasWorld pages (slice_set owners x own.Open) (slice_set processes n p1) (events ++ record { process = n + 1; act = shown.Open x } ∷ []) ∥₁
-  opens_on x within next takes h = rw (one_more n) (∥∥₁_map h (opens pages owners processes events n p0 p1 stood x within next takes))
-
-  pub takes_page_on : (x : ℕ) → slice_get owners x ≡ Some own.Released → x < length pages → next_of p0 ≡ act.Take → Takes p0 (seen.Took x) p1 → ∥ HasWorld pages owners processes events ∥₁ → ∥ HasWorld pages (slice_set owners x (own.Held (n + 1))) (slice_set processes n p1) (events ++ record { process = n + 1; act = shown.Take x } ∷ []) ∥₁
-  takes_page_on x free within next takes h = rw (one_more n) (∥∥₁_map h (takes_page pages owners processes events n p0 p1 stood x free within next takes))
 
 -- what was read at a place stands there
 pub read_at : {A : Type 0} (xs : List A) (i : ℕ) (v : A) → i < length xs → v ≡ get_or xs i v → slice_get xs i ≡ Some v

@@ -11,7 +11,8 @@ use Rattle.bl_proc.specs.Processes.{next_of}
 use Rattle.bl_tables.proofs.Near.{IsNear, near}
 use Rattle.bl_world.specs.declared.turns.Event.{Event}
 use Rattle.bl_world.specs.declared.owners.Owner.{Owner}
-use Rattle.bl_world.specs.Worlds.{name_of, HasWorld}
+use Rattle.bl_world.specs.Views.{name_of}
+use Rattle.bl_world.specs.Worlds.{HasWorld}
 
 -- the number of the page, if the action is of one
 abbrev pub IsWithin : ℕ → Action → Type 0

@@ -1,1 +1,5 @@
+pub mod Views
+pub mod Turns
+pub mod Deeds
+pub mod Accounts
 pub mod Worlds

@@ -4,6 +4,9 @@
 //! next, and at every moment there is one legal history of the map in which each answered operation stands at its point.
 #![tactic(auto)]
 
+mod carrying;
+mod lists;
+mod opening;
 mod owners;
 mod turns;
 mod world;

@@ -1,257 +1,116 @@
-//! A world, and its turns.
+//! Worlds.
 
-ghost use Rattle.std.specs.Prelude.{◌≡◌, ◌<◌, ◌≤◌, ◌++◌, ◌∷◌, ◌+◌, ◌^◌, [], length, Some, None, slice_get, slice_set, OnOk, OnErr, IsTrue, ◌↔◌};
-ghost use Rattle.bl_world.specs.declared.owners.Owner.TheVariants as own;
-ghost use Rattle.bl_proc.specs.declared.kinds.Proc.{Proc};
-ghost use Rattle.bl_ways.specs.declared.acts.Action.TheVariants as act;
-ghost use Rattle.bl_ways.specs.Given.{Gives};
-ghost use Rattle.bl_proc.specs.Processes.{next_of, needs_of, answer_of, Takes};
-ghost use Rattle.bl_world.specs.Worlds.{HasWorld, number_in};
+ghost use Rattle.std.specs.Prelude.{◌≡◌, ℕ};
+ghost use Rattle.bl_world.specs.Views.{view_of};
+ghost use Rattle.bl_world.specs.Deeds.{Way};
+ghost use Rattle.bl_world.specs.Worlds.{IsWorld};
+ghost use Rattle.bl_world.specs.Accounts.{key_in};
 
-use crate::owners::Owner;
-use crate::turns::{Act, Event, Turn, WorldFault};
-use bl_page::Page;
-use bl_proc::{Action, Answer, Proc, Process, Seen};
-use std::alloc::AllocError;
+use crate::lists::Lists;
+use crate::opening::opening;
+use crate::turns::{Event, Turn, WorldFault};
+use bl_proc::{Answer, Proc, Process};
+use std::alloc::Global;
 
-/// Pages and their owners, processes in the order in which they were started, and the events so far.
+/// An index of plain pages, with the processes that were started on it. Whoever has a world gives the turns: at each
+/// moment any process may be the next.
 #[derive(Drop)]
 pub struct World {
-    pages: Vec<Page>,
-    owners: Vec<Owner>,
-    processes: Vec<Proc>,
-    events: Vec<Event>,
-    ghost paired: { length owners.items ≡ length pages.items },
-    ghost most: { length pages.items ≤ 65536 },
-    ghost world: { ∥ HasWorld pages.items owners.items processes.items events.items ∥₁ },
+    lists: Lists,
+    ghost world: { IsWorld (view_of lists) },
+    ghost way: { ∥ Way (view_of lists) ∥₁ },
 }
 
-/// Adds an event of the process at that place.
-fn record(events: &mut Vec<Event>, index: usize, act: Act) -> Result<(), AllocError>
-    requires { index + 1 < 2 ^ 64 }
-    ensures ok { OnOk result (events.new.items ≡ events.old.items ++ record { process = index + 1; act = act } ∷ []) }
-    ensures err { OnErr result (events.new.items ≡ events.old.items) }
+/// The key of a process.
+fn key_of(process: &Proc) -> u64
+    ensures { result ≡ key_in process.now }
 {
-    events.push(Event {
-        process: index + 1,
-        act,
-    })?;
-    Ok(())
-}
-
-/// The process at that place goes on by what it was told.
-fn advance(processes: &mut Vec<Proc>, index: usize, seen: Seen)
-    requires started { index < length processes.old.items }
-    requires given { (p : Proc) → slice_get processes.old.items index ≡ Some p → (answer_of p ≡ None) × Gives (next_of p) (needs_of p) seen }
-    ensures { (p : Proc) → slice_get processes.old.items index ≡ Some p → (new : Proc) × Takes p seen new × (processes.new.items ≡ slice_set processes.old.items index new) }
-{
-    processes[index].took(seen);
+    match process {
+        Proc::Find(process) => process.key,
+        Proc::Insert(process) => process.key,
+        Proc::Delete(process) => process.key,
+        Proc::Post(process) => process.key,
+    }
 }
 
 impl World {
-    /// The events so far, one for each turn.
-    pub fn steps(&self) -> &[Event]
-        ensures { result.now ≡ self.now.events.items }
-    {
-        self.events.as_slice()
-    }
+    ghost use Rattle.std.specs.Prelude.{◌≡◌, ◌≢◌, ◌⊎◌, ◌<◌, ◌≤◌, ◌+◌, ◌↔◌, Some, None, Ok, Err, slice_get, length, IfOk, IfErr, OnOk, OnErr};
+    ghost use Rattle.bl_ways.specs.declared.acts.Action.TheVariants as act;
+    ghost use Rattle.bl_proc.specs.declared.kinds.Proc.{Proc as AnyProc};
+    ghost use Rattle.bl_proc.specs.Processes.{next_of, answer_of};
+    ghost use Rattle.bl_world.specs.declared.turns.WorldFault.TheVariants as fault;
+    ghost use Rattle.bl_world.specs.Turns.{RunsTo, RunsInto, IsStarted, HasUnknown};
+    ghost use Rattle.bl_world.specs.Deeds.{IsOpening, Starts};
+    ghost use Rattle.bl_world.specs.Accounts.{Account, Continues};
 
-    /// A turn that is not fit.
-    fn idle(&mut self, index: usize) -> Result<(), AllocError>
-        requires { index < length self.old.processes.items }
-        ensures { length self.new.processes.items ≡ length self.old.processes.items }
+    /// A world with the opening index of that many pages, 4 to 65,536: page 0 names one level, page 1 is an empty leaf, and
+    /// all other pages are released. Any other number is `BadPages`.
+    pub fn open(alloc: Global, pages: u32) -> Result<World, WorldFault>
+        ensures ok { IfOk result (λ world. IsOpening pages (view_of world.lists)) }
+        ensures account { IfOk result (λ world. ∥ Account (view_of world.lists) ∥₁) }
+        ensures bad { (pages < 4) ⊎ (65536 < pages) → result ≡ Err fault.BadPages }
+        ensures memory { 4 ≤ pages → pages ≤ 65536 → IfErr result (λ why. why ≡ fault.Memory) }
     {
-        record(&mut self.events, index, Act::Miss)?;
-        Ok(())
-    }
-
-    /// The process is told of an event that leaves pages and owners as they are.
-    fn told(&mut self, index: usize, act: Act, seen: Seen) -> Result<(), AllocError>
-        requires started { index < length self.old.processes.items }
-        requires given { (p : Proc) → slice_get self.old.processes.items index ≡ Some p → (answer_of p ≡ None) × Gives (next_of p) (needs_of p) seen }
-        requires keeps { (p new : Proc) → slice_get self.old.processes.items index ≡ Some p → Takes p seen new
-            → ∥ HasWorld self.old.pages.items self.old.owners.items (slice_set self.old.processes.items index new) (self.old.events.items ++ record { process = index + 1; act = act } ∷ []) ∥₁ }
-        ensures { length self.new.processes.items ≡ length self.old.processes.items }
-    {
-        record(&mut self.events, index, act)?;
-        advance(&mut self.processes, index, seen);
-        Ok(())
-    }
-
-    /// The process puts a page that it holds.
-    fn put(&mut self, index: usize, at: u32, page: Page) -> Result<(), AllocError>
-        requires started { index < length self.old.processes.items }
-        requires next { (p : Proc) → slice_get self.old.processes.items index ≡ Some p → (answer_of p ≡ None) × (next_of p ≡ act.Put at page) }
-        ensures { length self.new.processes.items ≡ length self.old.processes.items }
-    {
-        record(&mut self.events, index, Act::Put(at))?;
-        self.pages[at as usize] = page;
-        advance(&mut self.processes, index, Seen::Done);
-        Ok(())
-    }
-
-    /// A page gets another owner, and the process is told of it.
-    fn own(
-        &mut self,
-        index: usize,
-        at: u32,
-        owner: Owner,
-        act: Act,
-        seen: Seen,
-    ) -> Result<(), AllocError>
-        requires started { index < length self.old.processes.items }
-        requires within { at < length self.old.owners.items }
-        requires given { (p : Proc) → slice_get self.old.processes.items index ≡ Some p → (answer_of p ≡ None) × Gives (next_of p) (needs_of p) seen }
-        requires keeps { (p new : Proc) → slice_get self.old.processes.items index ≡ Some p → Takes p seen new
-            → ∥ HasWorld self.old.pages.items (slice_set self.old.owners.items at owner) (slice_set self.old.processes.items index new) (self.old.events.items ++ record { process = index + 1; act = act } ∷ []) ∥₁ }
-        ensures { length self.new.processes.items ≡ length self.old.processes.items }
-    {
-        record(&mut self.events, index, act)?;
-        self.owners[at as usize] = owner;
-        advance(&mut self.processes, index, seen);
-        Ok(())
-    }
-
-    /// The process tries to latch a page.
-    fn latch(&mut self, index: usize, at: u32) -> Result<(), AllocError>
-        requires started { index < length self.old.processes.items }
-        requires next { (p : Proc) → slice_get self.old.processes.items index ≡ Some p → (answer_of p ≡ None) × (next_of p ≡ act.Latch at) }
-        ensures { length self.new.processes.items ≡ length self.old.processes.items }
-    {
-        match self.owners[at as usize] {
-            Owner::Open => self.own(
-                index,
-                at,
-                Owner::Held(index + 1),
-                Act::Latch(at),
-                Seen::Done,
-            ),
-            _ => self.told(index, Act::Miss, Seen::Missed),
+        if pages < 4 || pages > 65536 {
+            return Err(WorldFault::BadPages);
+        }
+        match opening(alloc, pages) {
+            Ok(lists) => Ok(World { lists }),
+            Err(_) => Err(WorldFault::Memory),
         }
     }
 
-    /// The process reads a page.
-    fn get(&mut self, index: usize, at: u32) -> Result<(), AllocError>
-        requires started { index < length self.old.processes.items }
-        requires next { (p : Proc) → slice_get self.old.processes.items index ≡ Some p → (answer_of p ≡ None) × (next_of p ≡ act.Get at) }
-        ensures { length self.new.processes.items ≡ length self.old.processes.items }
+    /// Adds a process that is to begin, and gives its number; they count from 1. Without memory nothing changes.
+    pub fn start(&mut self, process: Proc) -> Result<usize, WorldFault>
+        requires { next_of process ≡ act.Begin }
+        ensures ok { OnOk result (Starts (view_of self.old.lists) process (view_of self.new.lists)) }
+        ensures number { IfOk result (λ number. number ≡ length self.new.lists.processes.items) }
+        ensures err { IfErr result (λ why. (why ≡ fault.Memory) × (view_of self.new.lists ≡ view_of self.old.lists)) }
+        ensures account { ∥ Continues (view_of self.old.lists) (view_of self.new.lists) ∥₁ }
     {
-        let page = self.pages[at as usize].copied();
-        self.told(index, Act::Get(at), Seen::Words(page))
-    }
-
-    /// The process opens a page that it holds.
-    fn open_page(&mut self, index: usize, at: u32) -> Result<(), AllocError>
-        requires started { index < length self.old.processes.items }
-        requires next { (p : Proc) → slice_get self.old.processes.items index ≡ Some p → (answer_of p ≡ None) × (next_of p ≡ act.Open at) }
-        ensures { length self.new.processes.items ≡ length self.old.processes.items }
-    {
-        self.own(index, at, Owner::Open, Act::Open(at), Seen::Done)
-    }
-
-    /// The next action of a process, unless that is to take a page.
-    fn step(&mut self, index: usize) -> Result<(), AllocError>
-        requires { index < length self.old.processes.items }
-        ensures { length self.new.processes.items ≡ length self.old.processes.items }
-    {
-        if let Some(_) = self.processes[index].answer() {
-            return self.idle(index);
+        let _key = key_of(&process);
+        if self.lists.enter(process).is_err() {
+            return Err(WorldFault::Memory);
         }
-        match self.processes[index].next() {
-            Action::Begin => self.told(index, Act::Begin, Seen::Done),
-            Action::End => self.told(index, Act::End, Seen::Done),
-            Action::Get(at) => self.get(index, at),
-            Action::Put(at, page) => self.put(index, at, page),
-            Action::Latch(at) => self.latch(index, at),
-            Action::Open(at) => self.open_page(index, at),
-            _ => self.idle(index),
-        }
-    }
-
-    /// The page may be taken.
-    fn is_free(&self, at: u32) -> bool
-        ensures { IsTrue result ↔ ((0 < at) × (slice_get self.now.owners.items at ≡ Some own.Released)) }
-    {
-        at > 0 && (at as usize) < self.owners.len() && self.owners[at as usize] == Owner::Released
-    }
-
-    /// The process takes that page, if it is to take one.
-    fn take(&mut self, index: usize, at: u32) -> Result<(), AllocError>
-        requires { index < length self.old.processes.items }
-        ensures { length self.new.processes.items ≡ length self.old.processes.items }
-    {
-        if !self.is_free(at) {
-            return self.idle(index);
-        }
-        if let Some(_) = self.processes[index].answer() {
-            return self.idle(index);
-        }
-        match self.processes[index].next() {
-            Action::Take => self.own(
-                index,
-                at,
-                Owner::Held(index + 1),
-                Act::Take(at),
-                Seen::Took(at),
-            ),
-            _ => self.idle(index),
-        }
-    }
-
-    /// What the process is about to reserve is refused.
-    fn refuse(&mut self, index: usize) -> Result<(), AllocError>
-        requires { index < length self.old.processes.items }
-        ensures { length self.new.processes.items ≡ length self.old.processes.items }
-    {
-        if let Some(_) = self.processes[index].answer() {
-            return self.idle(index);
-        }
-        if self.processes[index].needs().is_none() {
-            return self.idle(index);
-        }
-        match self.processes[index].next() {
-            Action::Take => self.told(index, Act::Miss, Seen::Refused),
-            Action::Put(_, _) => self.told(index, Act::Miss, Seen::Refused),
-            _ => self.idle(index),
-        }
-    }
-
-    /// One turn of a process that was started.
-    fn turn(&mut self, turn: Turn) -> Result<(), AllocError>
-        requires { (0 < number_in turn) × (number_in turn ≤ length self.old.processes.items) }
-        ensures { length self.new.processes.items ≡ length self.old.processes.items }
-    {
-        match turn {
-            Turn::Step(number) => self.step(number - 1),
-            Turn::Take(number, at) => self.take(number - 1, at),
-            Turn::Refuse(number) => self.refuse(number - 1),
-        }
+        Ok(self.lists.processes.len())
     }
 
     /// Carries out turns in their order. Where memory fails, what stands is what stood after the turns before; where a turn
     /// is of a process that was not started, none is carried out.
-    pub fn run(&mut self, turns: &[Turn]) -> Result<(), WorldFault> {
-        for turn in turns {
-            let number = number_of(*turn);
-            if number == 0 || number > self.processes.len() {
-                return Err(WorldFault::NoSuchProcess);
-            }
+    pub fn run(&mut self, turns: &[Turn]) -> Result<(), WorldFault>
+        ensures ok { OnOk result (RunsTo (view_of self.old.lists) turns.now (view_of self.new.lists)) }
+        ensures memory { result ≡ Err fault.Memory → RunsInto (view_of self.old.lists) turns.now (view_of self.new.lists) }
+        ensures unknown { HasUnknown (view_of self.old.lists) turns.now → result ≡ Err fault.NoSuchProcess }
+        ensures none { result ≡ Err fault.NoSuchProcess → HasUnknown (view_of self.old.lists) turns.now × (view_of self.new.lists ≡ view_of self.old.lists) }
+        ensures never { result ≢ Err fault.BadPages }
+        ensures account { ∥ Continues (view_of self.old.lists) (view_of self.new.lists) ∥₁ }
+    {
+        if !self.lists.has_all(turns) {
+            return Err(WorldFault::NoSuchProcess);
         }
-        for turn in turns {
-            let number = number_of(*turn);
-            if number == 0 || number > self.processes.len() || self.turn(*turn).is_err() {
-                return Err(WorldFault::Memory);
-            }
+        if self.lists.carry(turns).is_err() {
+            return Err(WorldFault::Memory);
         }
         Ok(())
     }
-}
 
-/// The number of the process whose turn it is.
-fn number_of(turn: Turn) -> usize
-    ensures { result ≡ number_in turn }
-{
-    match turn {
-        Turn::Step(number) | Turn::Take(number, _) | Turn::Refuse(number) => number,
+    /// The events so far, one for each turn.
+    pub fn steps(&self) -> &[Event]
+        ensures events { result.now ≡ self.now.lists.events.items }
+        ensures account { ∥ Account (view_of self.now.lists) ∥₁ }
+    {
+        self.lists.events.as_slice()
+    }
+
+    /// The answer of the process with that number, if it was started and has ended.
+    pub fn answer(&self, number: usize) -> Option<Answer>
+        ensures started { (n : ℕ) (p : AnyProc) → number ≡ n + 1 → slice_get self.now.lists.processes.items n ≡ Some p → result ≡ answer_of p }
+        ensures unknown { (¬ IsStarted (view_of self.now.lists) number) → result ≡ None }
+        ensures account { ∥ Account (view_of self.now.lists) ∥₁ }
+    {
+        if number == 0 || number > self.lists.processes.len() {
+            return None;
+        }
+        self.lists.processes[number - 1].answer()
     }
 }

@@ -1,0 +1,127 @@
+-- The account of a world.
+use Rattle.std.proofs.Common.{ℕ, ◌≡◌, ◌≢◌, ◌⊎◌, ◌+◌, ◌-◌, ◌<◌, ◌≤◌, ◌++◌, suc, Option, Some, None, List, [], ◌∷◌, length, slice_get, arith, ap, sym, ◌∙◌, refl, subst, inl, inr}
+use Rattle.std.proofs.lemmas.Bool.{cases_eq, cases_lt}
+use mathlib.Core.Logic.{∥∥₁_map}
+use Rattle.std.proofs.Math.Logic.{∥∥₁_elim}
+use Rattle.bl_model.specs.Map.{Map, empty}
+use Rattle.bl_model.specs.History.{IsLegalFrom, final_map}
+use Rattle.bl_page.specs.Machine.{Name}
+use Rattle.bl_page.specs.Machine.Act.{End}
+use Rattle.bl_page.specs.Machine.Phase.{Waiting, Ended}
+use Rattle.bl_trails.specs.Trails.{Said, Trail, history_of, SaysAt, DoesAt, HasSaid}
+use Rattle.bl_trails.specs.Moments.{HasLaws}
+use Rattle.bl_steps.specs.Worlds.{Stage, IsStage, World as ModelWorld, IsSure, IsGood}
+use Rattle.bl_ways.specs.declared.answers.Answer.{Answer}
+use Rattle.bl_ways.specs.declared.answers.Answer.TheVariants as answer
+use Rattle.bl_ways.specs.declared.answers.Hint.{Hint}
+use Rattle.bl_proc.specs.declared.kinds.Proc.{Proc}
+use Rattle.bl_proc.specs.Processes.{answer_of}
+use Rattle.bl_tables.specs.Knowing.{Run, know_of, know}
+use Rattle.bl_tables.proofs.Starting.{run_laws}
+use Rattle.bl_world.specs.Views.{View, name_of}
+use Rattle.bl_world.specs.Deeds.{Way, turns_in}
+use Rattle.bl_world.specs.Accounts.{op_of, Answers, IsOwn, Account, Continues}
+use Rattle.bl_world.specs.Worlds.{IsUnknown, IsWorld}
+use Rattle.bl_world.proofs.Arms.{stands}
+use Rattle.bl_world.proofs.Moments.{world_map}
+use Rattle.bl_world.proofs.Orders.{ordered, ended_in}
+use Rattle.bl_world.proofs.Entries.{said_op, answered_said, answered_late}
+use Rattle.bl_world.proofs.Refusals.{answers_refused}
+use Rattle.bl_world.proofs.Ways.{events_count, first_refused}
+use Rattle.bl_world.proofs.Keeping.{Has, GrowsTo}
+
+one_more : (n : ℕ) → n + 1 ≡ suc n
+one_more n = omega arith
+
+-- a name is that of a process that was started, or of none
+named : (count : ℕ) (q : Name) → ((n : ℕ) × (n < count) × (q ≡ name_of (suc n))) ⊎ IsUnknown count q
+named count q = elim (cases_eq q.number 0) [
+  | inl zero_is ↦ elim (cases_lt 0 q.pass) [
+    | inl some ↦ elim (cases_lt count q.pass) [
+      | inl far ↦ inr (λ n l e. (let f = ap (λ z. z.pass) e in omega (arith, f, l, far)))
+      | inr near ↦ inl (q.pass - 1, omega (arith, some, near), λ i. record { pass = (let p : q.pass ≡ suc (q.pass - 1) = omega (arith, some) in p) i; number = zero_is i })
+    ]
+    | inr none ↦ inr (λ n l e. (let f = ap (λ z. z.pass) e in omega (arith, f, none)))
+  ]
+  | inr other ↦ inr (λ n l e. other (ap (λ z. z.number) e))
+]
+
+-- two operations of one process are one
+same_said : (w : ModelWorld Run) (q : Name) (said : Option Said) (i : ℕ) (s : Said) → IsGood know w → HasSaid w.trail q said → SaysAt w.trail i q s → said ≡ Some s
+same_said w q None i s g has says = absurd (has i s says)
+same_said w q (Some t) i s g has says =
+    let e = g.recorded.marked.once has.0 i q t s has.1 says in
+    let a = has.1.is in
+    let b : slice_get w.trail has.0 ≡ Some says.mark = ap (slice_get w.trail) e ∙ says.is in
+    let m : has.1.mark ≡ says.mark = (let f : Some has.1.mark ≡ Some says.mark = sym a ∙ b in cc) in
+    sym has.1.says ∙ (ap (λ z. z.said) m ∙ says.says)
+
+module _ (v : View) (h : Has v) where
+  -- what a process that was started knows, by its state
+  sure_of : (n : ℕ) (p : Proc) → slice_get v.processes n ≡ Some p → IsSure h.world (name_of (suc n)) (know_of (h.world.proc (name_of (suc n))).got (h.world.proc (name_of (suc n))).child p)
+  sure_of n p stood = subst (λ z. IsSure h.world (name_of (suc n)) (know_of (h.world.proc (name_of (suc n))).got (h.world.proc (name_of (suc n))).child z)) (h.runs n p stood) (h.good.sure (name_of (suc n)))
+
+  own : (i : ℕ) (q : Name) (said : Said) → SaysAt h.world.trail i q said → IsOwn v q said
+  own i q said says = elim (named (length v.processes) q) [
+    | inl known ↦
+        let n = known.0 in
+        let p = stands v.processes n known.1 in
+        let r = h.world.proc (name_of (suc n)) in
+        let here : SaysAt h.world.trail i (name_of (suc n)) said = rw known.2 at says in
+        let is = same_said h.world (name_of (suc n)) (know_of r.got r.child p.0).said i said h.good (sure_of n p.0 p.1).said here in
+        record { place = n; process = p.0; name = known.2 ∙ ap name_of (sym (one_more n)); stood = p.1; op = said_op r.got r.child p.0 said is }
+    | inr far ↦
+        let none : (know (h.world.proc q)).said ≡ None = (h.others q far).1.said in
+        let is = same_said h.world q (know (h.world.proc q)).said i said h.good (h.good.sure q).said says in
+        absurd (let f : None ≡ Some said = sym none ∙ is in cc)
+  ]
+
+  answers : (n : ℕ) (p : Proc) (reply : _) (hint : Option Hint) → slice_get v.processes n ≡ Some p → answer_of p ≡ Some (answer.Op reply hint) → Answers h.world.trail (name_of (n + 1)) (op_of p) reply
+  answers n p reply hint stood e =
+      let r = h.world.proc (name_of (suc n)) in
+      let a = answered_said r.got r.child p reply hint e in
+      let has : HasSaid h.world.trail (name_of (suc n)) (Some a.it) = subst (HasSaid h.world.trail (name_of (suc n))) a.is (sure_of n p stood).said in
+      rw (one_more n) (record { place = has.0; said = a.it; says = has.1; op = said_op r.got r.child p a.it a.is; reply = a.reply_is })
+
+  ended : (n : ℕ) (p : Proc) (a : Answer) → slice_get v.processes n ≡ Some p → answer_of p ≡ Some a → (i : ℕ) × ((reply : Option _) × DoesAt h.world.trail i (name_of (n + 1)) (End reply))
+  ended n p a stood e =
+      let r = h.world.proc (name_of (suc n)) in
+      let late : h.world.now.phase (name_of (suc n)) ≡ Ended = subst (λ z. IsStage z (h.world.now.phase (name_of (suc n)))) (answered_late r.got r.child p a e) (sure_of n p stood).stage in
+      let began = h.opening.waiting (name_of (suc n)) in
+      rw (one_more n) (ended_in h.world.start h.world.now h.world.trail (name_of (suc n)) (λ f. (let g : Waiting ≡ Ended = sym began ∙ f in cc)) h.good.recorded.leads late)
+
+  pub account : Way v → Account v
+  account way =
+      let w = h.world in
+      let r = h.good.recorded in
+      record {
+        way = way;
+        count = events_count way.opened v way.deeds way.led ∙ (let e : length way.opened.events ≡ 0 = ap length way.opening.events in omega (arith, e));
+        trail = w.trail;
+        shown = h.shown;
+        start = w.start;
+        opening = h.opening;
+        now = w.now;
+        leads = r.leads;
+        contents = h.contents;
+        owner = h.owner;
+        laws = subst (λ f. HasLaws w.now w.trail f) (world_map w h.good h.first) (run_laws w h.good);
+        moments = h.moments;
+        marked = r.marked;
+        legal = subst (λ m. IsLegalFrom m (history_of w.trail)) h.first r.legal;
+        ordered = ordered w.start w.now w.trail r.leads r.marked;
+        own = own;
+        answers = answers;
+        ended = λ n p a stood e. (let x = ended n p a stood e in (x.0, x.1.0, x.1.1));
+        refused = λ n p a stood e no. first_refused way.size way.opened v way.deeds n way.opening way.led (record { process = p; stood = stood; refused = answers_refused p a e no });
+      }
+
+-- the account of a world that is there, and its going on
+pub has_account : (v : View) → IsWorld v → ∥ Way v ∥₁ → ∥ Account v ∥₁
+has_account v h way = ∥∥₁_elim h squash₁ (λ h. ∥∥₁_map way (account v h))
+
+pub continues : (v v' : View) → IsWorld v → ∥ Way v ∥₁ → ((h : Has v) → GrowsTo h v') → (Way v → Way v') → ∥ Continues v v' ∥₁
+unfolding account
+continues v v' h way grows on = ∥∥₁_elim h squash₁ (λ h. ∥∥₁_map way (λ way.
+    (let g = grows h in
+    record { before = account v h way; after = account v' g.0 (on way); more = g.1.0; goes_on = g.1.1 })))

@@ -1,0 +1,142 @@
+-- A process enters a world.
+use Rattle.std.proofs.Common.{ℕ, ◌≡◌, ◌≢◌, ◌⊎◌, ◌+◌, ◌^◌, ◌<◌, ◌≤◌, ◌++◌, zero, suc, Option, Some, None, List, [], ◌∷◌, length, slice_get, arith, ap, sym, ◌∙◌, refl, subst, inl, inr, append-nil}
+use Rattle.std.proofs.lemmas.Option.{slice_get_within}
+use Rattle.bl_page.specs.declared.page.Page.{Page}
+use Rattle.bl_page.specs.Machine.{Name}
+use Rattle.bl_steps.specs.Worlds.{World as ModelWorld}
+use Rattle.bl_steps.proofs.After.{put_name, is_put_name}
+use Rattle.bl_starts.specs.Blank.{IsBlank}
+use Rattle.bl_ways.specs.declared.acts.Action.TheVariants as act
+use Rattle.bl_ways.specs.declared.approaching.Approach.{Approach}
+use Rattle.bl_ways.specs.declared.approaching.Approach.TheVariants as way
+use Rattle.bl_ways.specs.declared.changing.Change.{Change}
+use Rattle.bl_ways.specs.declared.changing.Change.TheVariants as change
+use Rattle.bl_ways.specs.declared.growing.Growth.{Growth}
+use Rattle.bl_ways.specs.declared.growing.Growth.TheVariants as growth
+use Rattle.bl_ways.specs.Approaches.{approach_next}
+use Rattle.bl_ways.specs.Changes.{change_next}
+use Rattle.bl_ways.specs.Growths.{growth_next}
+use Rattle.bl_proc.specs.declared.searching.FindStage.{FindStage}
+use Rattle.bl_proc.specs.declared.searching.FindStage.TheVariants as find
+use Rattle.bl_proc.specs.declared.inserting.InsertStage.{InsertStage}
+use Rattle.bl_proc.specs.declared.inserting.InsertStage.TheVariants as insert
+use Rattle.bl_proc.specs.declared.deleting.DeleteStage.{DeleteStage}
+use Rattle.bl_proc.specs.declared.deleting.DeleteStage.TheVariants as delete
+use Rattle.bl_proc.specs.declared.posting.PostStage.{PostStage}
+use Rattle.bl_proc.specs.declared.posting.PostStage.TheVariants as post
+use Rattle.bl_proc.specs.declared.kinds.Proc.{Proc}
+use Rattle.bl_proc.specs.declared.kinds.Proc.TheVariants as proc
+use Rattle.bl_proc.specs.Processes.{next_of}
+use Rattle.bl_proc.specs.Searches.{find_next_in}
+use Rattle.bl_proc.specs.Inserts.{insert_next_in}
+use Rattle.bl_proc.specs.Deletes.{delete_next_in}
+use Rattle.bl_proc.specs.Posts.{post_next_in}
+use Rattle.bl_tables.specs.Knowing.{Run, know_of, know, know_find, know_insert, know_delete, know_post}
+use Rattle.bl_tables.proofs.Starting.{with_proc, enters_good}
+use Rattle.bl_world.specs.declared.turns.Event.{Event}
+use Rattle.bl_world.specs.declared.owners.Owner.{Owner}
+use Rattle.bl_world.specs.Views.{name_of}
+use Rattle.bl_world.specs.Accounts.{key_in}
+use Rattle.bl_world.specs.Worlds.{IsUnknown, HasWorld}
+use Rattle.bl_world.proofs.Stands.{Grows, name_differs}
+use Rattle.bl_world.proofs.Places.{push_cases, push_length}
+
+-- A process that is to begin has done nothing.
+
+approach_begins : {X : Type 0} (a : Approach) → approach_next a ≡ act.Begin → X
+approach_begins way.Start e = absurd cc
+approach_begins (way.At x) e = absurd cc
+approach_begins (way.Latching x) e = absurd cc
+approach_begins (way.Latched x) e = absurd cc
+approach_begins (way.Leaving x to) e = absurd cc
+
+change_begins : {X : Type 0} (c : Change) → change_next c ≡ act.Begin → X
+change_begins (change.Putting x page) e = absurd cc
+change_begins (change.Taking full) e = absurd cc
+change_begins (change.PuttingNew p) e = absurd cc
+change_begins (change.PuttingOld p) e = absurd cc
+change_begins (change.OpeningNew x new s) e = absurd cc
+change_begins (change.Opening x what) e = absurd cc
+
+growth_begins : {X : Type 0} (g : Growth) → growth_next g ≡ act.Begin → X
+growth_begins growth.Latching e = absurd cc
+growth_begins growth.Latched e = absurd cc
+growth_begins (growth.Taking r) e = absurd cc
+growth_begins (growth.PuttingTop r) e = absurd cc
+growth_begins (growth.PuttingAnchor r) e = absurd cc
+growth_begins (growth.OpeningTop x) e = absurd cc
+growth_begins growth.OpeningGrown e = absurd cc
+growth_begins growth.OpeningRefused e = absurd cc
+
+find_blank : (k : ℕ) (a : FindStage) → k < 2 ^ 64 → find_next_in a ≡ act.Begin → IsBlank (know_find k a)
+find_blank k find.New small e = record { stage = refl; said = refl; holds = refl; goes = refl; children = refl; passed = refl; sound = small; log = tt }
+find_blank k find.AtAnchor small e = absurd cc
+find_blank k (find.At x) small e = absurd cc
+find_blank k (find.Ending v) small e = absurd cc
+find_blank k (find.Over v) small e = absurd cc
+
+insert_blank : (k v : ℕ) (got : ℕ → Page) (a : InsertStage) → k < 2 ^ 64 → insert_next_in a ≡ act.Begin → IsBlank (know_insert k v got a)
+insert_blank k v got insert.New small e = record { stage = refl; said = refl; holds = refl; goes = refl; children = refl; passed = refl; sound = small; log = tt }
+insert_blank k v got (insert.Coming a) small e = approach_begins a e
+insert_blank k v got (insert.Present x there) small e = absurd cc
+insert_blank k v got (insert.Changing c) small e = change_begins c e
+insert_blank k v got (insert.Ending r) small e = absurd cc
+insert_blank k v got (insert.Over r) small e = absurd cc
+
+delete_blank : (k : ℕ) (got : ℕ → Page) (a : DeleteStage) → k < 2 ^ 64 → delete_next_in a ≡ act.Begin → IsBlank (know_delete k got a)
+delete_blank k got delete.New small e = record { stage = refl; said = refl; holds = refl; goes = refl; children = refl; passed = refl; sound = small; log = tt }
+delete_blank k got (delete.Coming a) small e = approach_begins a e
+delete_blank k got (delete.Absent x) small e = absurd cc
+delete_blank k got (delete.Changing v c) small e = change_begins c e
+delete_blank k got (delete.Ending r) small e = absurd cc
+delete_blank k got (delete.Over r) small e = absurd cc
+
+post_blank : (l k : ℕ) (got : ℕ → Page) (child : ℕ) (a : PostStage) → k < 2 ^ 64 → post_next_in a ≡ act.Begin → IsBlank (know_post l k got child a)
+post_blank l k got child post.New small e = record { stage = refl; said = refl; holds = refl; goes = refl; children = refl; passed = refl; sound = small; log = tt }
+post_blank l k got child (post.Coming a) small e = approach_begins a e
+post_blank l k got child (post.Growing g) small e = growth_begins g e
+post_blank l k got child (post.Walking w) small e = absurd cc
+post_blank l k got child (post.Changing c) small e = change_begins c e
+post_blank l k got child (post.Staying x r) small e = absurd cc
+post_blank l k got child (post.Ending r) small e = absurd cc
+post_blank l k got child (post.Over r) small e = absurd cc
+
+pub blank : (got : ℕ → Page) (child : ℕ) (p : Proc) → key_in p < 2 ^ 64 → next_of p ≡ act.Begin → IsBlank (know_of got child p)
+blank got child (proc.Find p) small e = find_blank p.key p.stage small e
+blank got child (proc.Insert p) small e = insert_blank p.key p.value got p.stage small e
+blank got child (proc.Delete p) small e = delete_blank p.key got p.stage small e
+blank got child (proc.Post p) small e = post_blank p.level p.key got child p.stage small e
+
+-- It stands after all others.
+pub enters : (pages : List Page) (owners : List Owner) (processes : List Proc) (events : List Event) (p : Proc) → key_in p < 2 ^ 64 → next_of p ≡ act.Begin → (h : HasWorld pages owners processes events) → Grows h pages owners (processes ++ p ∷ []) events
+enters pages owners processes events p small next h =
+    let n = length processes in
+    let name : Name = name_of (suc n) in
+    let old = h.world in
+    let b : Run = record { state = p; got = (old.proc name).got; child = 0 } in
+    let unknown : IsUnknown n name = λ i l. name_differs n i (λ e. omega (arith, e, l)) in
+    let free = h.others name unknown in
+    let put = is_put_name name b old.proc in
+    let more : length (processes ++ p ∷ []) ≡ suc n = push_length processes p in (
+      record {
+        world = with_proc old name b;
+        good = enters_good old name b h.good free.0 free.1 (blank b.got 0 p small next);
+        opening = h.opening;
+        first = h.first;
+        size = h.size;
+        paired = h.paired;
+        contents = h.contents;
+        owner = h.owner;
+        runs = λ i c is. elim (push_cases processes p i c is) [
+          | inl e ↦ ap (λ r. r.state) (put.others (name_of (suc i)) (name_differs i n (λ f. (let l = slice_get_within processes i c e in omega (arith, f, l))))) ∙ h.runs i c e
+          | inr e ↦ ap (λ z. (put_name name b old.proc (name_of (suc z))).state) e.0 ∙ (ap (λ r. r.state) put.at ∙ sym e.1)
+        ];
+        others = λ q far.
+            let ne : q ≢ name = far n (rw more (omega arith)) in
+            let o = h.others q (λ i l. far i (rw more (omega (arith, l)))) in
+            (o.0, rw (put.others q ne) o.1);
+        shown = h.shown;
+        moments = h.moments;
+      },
+      ([], sym (append-nil old.trail)),
+    )

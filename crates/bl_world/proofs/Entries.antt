@@ -1,0 +1,224 @@
+-- What a process has said, by its state: its own operation, with the reply that it answers.
+use Rattle.std.proofs.Common.{ℕ, ◌≡◌, ◌≢◌, ◌⊎◌, Option, Some, None, List, [], ap, sym, ◌∙◌, refl, subst}
+use Rattle.bl_model.specs.declared.operation.Op.TheVariants as op
+use Rattle.bl_model.specs.declared.operation.Reply.{Reply}
+use Rattle.bl_page.specs.declared.page.Page.{Page}
+use Rattle.bl_trails.specs.Trails.{Said}
+use Rattle.bl_steps.specs.Worlds.{Stage}
+use Rattle.bl_ways.specs.declared.approaching.Approach.{Approach}
+use Rattle.bl_ways.specs.declared.approaching.Approach.TheVariants as way
+use Rattle.bl_ways.specs.declared.changing.Outcome.{Outcome}
+use Rattle.bl_ways.specs.declared.changing.Change.{Change}
+use Rattle.bl_ways.specs.declared.changing.Change.TheVariants as change
+use Rattle.bl_ways.specs.declared.growing.Growth.{Growth}
+use Rattle.bl_ways.specs.declared.growing.Growth.TheVariants as growth
+use Rattle.bl_ways.specs.declared.answers.Answer.{Answer}
+use Rattle.bl_ways.specs.declared.answers.Answer.TheVariants as answer
+use Rattle.bl_ways.specs.declared.answers.Hint.{Hint}
+use Rattle.bl_proc.specs.declared.searching.FindStage.{FindStage}
+use Rattle.bl_proc.specs.declared.searching.FindStage.TheVariants as find
+use Rattle.bl_proc.specs.declared.inserting.InsertStage.{InsertStage}
+use Rattle.bl_proc.specs.declared.inserting.InsertStage.TheVariants as insert
+use Rattle.bl_proc.specs.declared.inserting.InsertReply.TheVariants as inserted
+use Rattle.bl_proc.specs.declared.deleting.DeleteStage.{DeleteStage}
+use Rattle.bl_proc.specs.declared.deleting.DeleteStage.TheVariants as delete
+use Rattle.bl_proc.specs.declared.deleting.DeleteReply.TheVariants as deleted
+use Rattle.bl_proc.specs.declared.posting.PostStage.{PostStage}
+use Rattle.bl_proc.specs.declared.posting.PostStage.TheVariants as post
+use Rattle.bl_proc.specs.declared.posting.PostReply.TheVariants as listed
+use Rattle.bl_proc.specs.declared.kinds.Proc.{Proc}
+use Rattle.bl_proc.specs.declared.kinds.Proc.TheVariants as proc
+use Rattle.bl_proc.specs.Processes.{answer_of}
+use Rattle.bl_proc.specs.Searches.{find_answer_in}
+use Rattle.bl_proc.specs.Inserts.{insert_answer_in}
+use Rattle.bl_proc.specs.Deletes.{delete_answer_in}
+use Rattle.bl_proc.specs.Posts.{post_answer_in}
+use Rattle.bl_tables.specs.Tables.{Aim, know_approach, know_change}
+use Rattle.bl_tables.specs.Knowing.{know_of, know_find, know_insert, know_delete, know_post, know_growth, insert_aim, delete_aim, post_aim}
+use Rattle.bl_world.specs.Accounts.{op_of}
+
+none_said : {X : Type 0} (s : Said) → None ≡ Some s → X
+none_said s e = absurd (let f : None ≡ Some s = e in cc)
+
+same_op : (a b : Said) → Some a ≡ Some b → Some a.op ≡ Some b.op
+same_op a b e = (let f : a ≡ b = cc in ap (λ z. Some z.op) f)
+
+approach_said : (level key : ℕ) (a : Approach) → (know_approach level key a).said ≡ None
+approach_said level key way.Start = refl
+approach_said level key (way.At x) = refl
+approach_said level key (way.Latching x) = refl
+approach_said level key (way.Latched x) = refl
+approach_said level key (way.Leaving x None) = refl
+approach_said level key (way.Leaving x (Some y)) = refl
+
+change_said : (aim : Aim) (got : ℕ → Page) (c : Change) (s : Said) → (know_change aim got c).said ≡ Some s → (o : Outcome) × (aim.said o ≡ Some s)
+change_said aim got (change.Putting x page) s e = none_said s e
+change_said aim got (change.Taking full) s e = none_said s e
+change_said aim got (change.PuttingNew t) s e = none_said s e
+change_said aim got (change.PuttingOld t) s e = none_said s e
+change_said aim got (change.OpeningNew x y k) s e = (_, e)
+change_said aim got (change.Opening x o) s e = (_, e)
+
+growth_said : (level key : ℕ) (got : ℕ → Page) (g : Growth) → (know_growth level key got g).said ≡ None
+growth_said level key got growth.Latching = refl
+growth_said level key got growth.Latched = refl
+growth_said level key got (growth.Taking r) = refl
+growth_said level key got (growth.PuttingTop r) = refl
+growth_said level key got (growth.PuttingAnchor r) = refl
+growth_said level key got (growth.OpeningTop x) = refl
+growth_said level key got growth.OpeningGrown = refl
+growth_said level key got growth.OpeningRefused = refl
+
+-- Its own operation
+
+find_op : (k : ℕ) (a : FindStage) (s : Said) → (know_find k a).said ≡ Some s → Some (op.Find k) ≡ Some s.op
+find_op k find.New s e = none_said s e
+find_op k find.AtAnchor s e = none_said s e
+find_op k (find.At x) s e = none_said s e
+find_op k (find.Ending v) s e = same_op _ s e
+find_op k (find.Over v) s e = same_op _ s e
+
+insert_op : (k v : ℕ) (got : ℕ → Page) (a : InsertStage) (s : Said) → (know_insert k v got a).said ≡ Some s → Some (op.Insert k v) ≡ Some s.op
+insert_op k v got insert.New s e = none_said s e
+insert_op k v got (insert.Coming a) s e = none_said s (sym (approach_said 0 k a) ∙ e)
+insert_op k v got (insert.Present x there) s e = same_op _ s e
+insert_op k v got (insert.Changing c) s e = same_op _ s (change_said (insert_aim k v) got c s e).1
+insert_op k v got (insert.Ending r) s e = same_op _ s e
+insert_op k v got (insert.Over r) s e = same_op _ s e
+
+delete_op : (k : ℕ) (got : ℕ → Page) (a : DeleteStage) (s : Said) → (know_delete k got a).said ≡ Some s → Some (op.Delete k) ≡ Some s.op
+delete_op k got delete.New s e = none_said s e
+delete_op k got (delete.Coming a) s e = none_said s (sym (approach_said 0 k a) ∙ e)
+delete_op k got (delete.Absent x) s e = same_op _ s e
+delete_op k got (delete.Changing v c) s e = same_op _ s (change_said (delete_aim k v) got c s e).1
+delete_op k got (delete.Ending r) s e = same_op _ s e
+delete_op k got (delete.Over r) s e = same_op _ s e
+
+post_none : {X : Type 0} (l k : ℕ) (got : ℕ → Page) (child : ℕ) (a : PostStage) (s : Said) → (know_post l k got child a).said ≡ Some s → X
+post_none l k got child post.New s e = none_said s e
+post_none l k got child (post.Coming a) s e = none_said s (sym (approach_said l k a) ∙ e)
+post_none l k got child (post.Growing g) s e = none_said s (sym (growth_said l k got g) ∙ e)
+post_none l k got child (post.Walking w) s e = none_said s e
+post_none l k got child (post.Changing c) s e = none_said s (change_said (post_aim l k child) got c s e).1
+post_none l k got child (post.Staying x r) s e = none_said s e
+post_none l k got child (post.Ending r) s e = none_said s e
+post_none l k got child (post.Over r) s e = none_said s e
+
+pub said_op : (got : ℕ → Page) (child : ℕ) (p : Proc) (s : Said) → (know_of got child p).said ≡ Some s → op_of p ≡ Some s.op
+said_op got child (proc.Find p) s e = find_op p.key p.stage s e
+said_op got child (proc.Insert p) s e = insert_op p.key p.value got p.stage s e
+said_op got child (proc.Delete p) s e = delete_op p.key got p.stage s e
+said_op got child (proc.Post p) s e = post_none p.level p.key got child p.stage s e
+
+-- What it answers
+
+none_answer : {X : Type 0} (a : Answer) → None ≡ Some a → X
+none_answer a e = absurd (let f : None ≡ Some a = e in cc)
+
+abbrev reply_in : Answer → Option Reply
+reply_in (answer.Op reply hint) = Some reply
+reply_in (answer.Post posted hint) = None
+
+same_reply : (a b : Reply) (hint other : Option Hint) → Some (answer.Op a hint) ≡ Some (answer.Op b other) → a ≡ b
+same_reply a b hint other e =
+    let f : answer.Op a hint ≡ answer.Op b other = cc in
+    let g : Some a ≡ Some b = ap reply_in f in
+    cc
+
+no_post : {X : Type 0} (p : _) (b : Reply) (hint other : Option Hint) → Some (answer.Post p hint) ≡ Some (answer.Op b other) → X
+no_post p b hint other e = absurd (let f : answer.Post p hint ≡ answer.Op b other = cc in let g : None ≡ Some b = ap reply_in f in cc)
+
+-- it has said that reply to its operation
+pub record HasAnswered (said : Option Said) (reply : Reply) : Type 0 where
+  pub it : Said
+  pub is : said ≡ Some it
+  pub reply_is : it.reply ≡ reply
+
+find_answered : (k : ℕ) (a : FindStage) (reply : Reply) (hint : Option Hint) → find_answer_in a ≡ Some (answer.Op reply hint) → HasAnswered (know_find k a).said reply
+find_answered k find.New reply hint e = none_answer _ e
+find_answered k find.AtAnchor reply hint e = none_answer _ e
+find_answered k (find.At x) reply hint e = none_answer _ e
+find_answered k (find.Ending v) reply hint e = none_answer _ e
+find_answered k (find.Over None) reply hint e = record { it = _; is = refl; reply_is = same_reply _ _ _ _ e }
+find_answered k (find.Over (Some v)) reply hint e = record { it = _; is = refl; reply_is = same_reply _ _ _ _ e }
+
+insert_answered : (k v : ℕ) (got : ℕ → Page) (a : InsertStage) (reply : Reply) (hint : Option Hint) → insert_answer_in a ≡ Some (answer.Op reply hint) → HasAnswered (know_insert k v got a).said reply
+insert_answered k v got insert.New reply hint e = none_answer _ e
+insert_answered k v got (insert.Coming a) reply hint e = none_answer _ e
+insert_answered k v got (insert.Present x there) reply hint e = none_answer _ e
+insert_answered k v got (insert.Changing c) reply hint e = none_answer _ e
+insert_answered k v got (insert.Ending r) reply hint e = none_answer _ e
+insert_answered k v got (insert.Over (inserted.Inserted s)) reply hint e = record { it = _; is = refl; reply_is = same_reply _ _ _ _ e }
+insert_answered k v got (insert.Over (inserted.Present w)) reply hint e = record { it = _; is = refl; reply_is = same_reply _ _ _ _ e }
+insert_answered k v got (insert.Over inserted.NoRoom) reply hint e = record { it = _; is = refl; reply_is = same_reply _ _ _ _ e }
+
+delete_answered : (k : ℕ) (got : ℕ → Page) (a : DeleteStage) (reply : Reply) (hint : Option Hint) → delete_answer_in a ≡ Some (answer.Op reply hint) → HasAnswered (know_delete k got a).said reply
+delete_answered k got delete.New reply hint e = none_answer _ e
+delete_answered k got (delete.Coming a) reply hint e = none_answer _ e
+delete_answered k got (delete.Absent x) reply hint e = none_answer _ e
+delete_answered k got (delete.Changing v c) reply hint e = none_answer _ e
+delete_answered k got (delete.Ending r) reply hint e = none_answer _ e
+delete_answered k got (delete.Over (deleted.Deleted v)) reply hint e = record { it = _; is = refl; reply_is = same_reply _ _ _ _ e }
+delete_answered k got (delete.Over deleted.Absent) reply hint e = record { it = _; is = refl; reply_is = same_reply _ _ _ _ e }
+delete_answered k got (delete.Over deleted.NoRoom) reply hint e = record { it = _; is = refl; reply_is = same_reply _ _ _ _ e }
+
+post_answered : {X : Type 0} (l : ℕ) (a : PostStage) (reply : Reply) (hint : Option Hint) → post_answer_in l a ≡ Some (answer.Op reply hint) → X
+post_answered l post.New reply hint e = none_answer _ e
+post_answered l (post.Coming a) reply hint e = none_answer _ e
+post_answered l (post.Growing g) reply hint e = none_answer _ e
+post_answered l (post.Walking w) reply hint e = none_answer _ e
+post_answered l (post.Changing c) reply hint e = none_answer _ e
+post_answered l (post.Staying x r) reply hint e = none_answer _ e
+post_answered l (post.Ending r) reply hint e = none_answer _ e
+post_answered l (post.Over (listed.Done s)) reply hint e = no_post _ _ _ _ e
+post_answered l (post.Over listed.Already) reply hint e = no_post _ _ _ _ e
+post_answered l (post.Over listed.Stale) reply hint e = no_post _ _ _ _ e
+post_answered l (post.Over listed.NoRoom) reply hint e = no_post _ _ _ _ e
+post_answered l (post.Over listed.TooTall) reply hint e = no_post _ _ _ _ e
+
+pub answered_said : (got : ℕ → Page) (child : ℕ) (p : Proc) (reply : Reply) (hint : Option Hint) → answer_of p ≡ Some (answer.Op reply hint) → HasAnswered (know_of got child p).said reply
+answered_said got child (proc.Find p) reply hint e = find_answered p.key p.stage reply hint e
+answered_said got child (proc.Insert p) reply hint e = insert_answered p.key p.value got p.stage reply hint e
+answered_said got child (proc.Delete p) reply hint e = delete_answered p.key got p.stage reply hint e
+answered_said got child (proc.Post p) reply hint e = post_answered p.level p.stage reply hint e
+
+-- It has ended
+
+find_late : (k : ℕ) (a : FindStage) (b : Answer) → find_answer_in a ≡ Some b → (know_find k a).stage ≡ Stage.Late
+find_late k find.New b e = none_answer _ e
+find_late k find.AtAnchor b e = none_answer _ e
+find_late k (find.At x) b e = none_answer _ e
+find_late k (find.Ending v) b e = none_answer _ e
+find_late k (find.Over v) b e = refl
+
+insert_late : (k v : ℕ) (got : ℕ → Page) (a : InsertStage) (b : Answer) → insert_answer_in a ≡ Some b → (know_insert k v got a).stage ≡ Stage.Late
+insert_late k v got insert.New b e = none_answer _ e
+insert_late k v got (insert.Coming a) b e = none_answer _ e
+insert_late k v got (insert.Present x there) b e = none_answer _ e
+insert_late k v got (insert.Changing c) b e = none_answer _ e
+insert_late k v got (insert.Ending r) b e = none_answer _ e
+insert_late k v got (insert.Over r) b e = refl
+
+delete_late : (k : ℕ) (got : ℕ → Page) (a : DeleteStage) (b : Answer) → delete_answer_in a ≡ Some b → (know_delete k got a).stage ≡ Stage.Late
+delete_late k got delete.New b e = none_answer _ e
+delete_late k got (delete.Coming a) b e = none_answer _ e
+delete_late k got (delete.Absent x) b e = none_answer _ e
+delete_late k got (delete.Changing v c) b e = none_answer _ e
+delete_late k got (delete.Ending r) b e = none_answer _ e
+delete_late k got (delete.Over r) b e = refl
+
+post_late : (l k : ℕ) (got : ℕ → Page) (child : ℕ) (a : PostStage) (b : Answer) → post_answer_in l a ≡ Some b → (know_post l k got child a).stage ≡ Stage.Late
+post_late l k got child post.New b e = none_answer _ e
+post_late l k got child (post.Coming a) b e = none_answer _ e
+post_late l k got child (post.Growing g) b e = none_answer _ e
+post_late l k got child (post.Walking w) b e = none_answer _ e
+post_late l k got child (post.Changing c) b e = none_answer _ e
+post_late l k got child (post.Staying x r) b e = none_answer _ e
+post_late l k got child (post.Ending r) b e = none_answer _ e
+post_late l k got child (post.Over r) b e = refl
+
+pub answered_late : (got : ℕ → Page) (child : ℕ) (p : Proc) (b : Answer) → answer_of p ≡ Some b → (know_of got child p).stage ≡ Stage.Late
+answered_late got child (proc.Find p) b e = find_late p.key p.stage b e
+answered_late got child (proc.Insert p) b e = insert_late p.key p.value got p.stage b e
+answered_late got child (proc.Delete p) b e = delete_late p.key got p.stage b e
+answered_late got child (proc.Post p) b e = post_late p.level p.key got child p.stage b e

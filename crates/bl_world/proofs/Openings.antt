@@ -1,0 +1,87 @@
+-- The opening index is a world in which nothing has happened.
+use Rattle.std.proofs.Common.{ℕ, ◌≡◌, ◌≢◌, ◌⊎◌, ◌+◌, ◌-◌, ◌==◌, ◌<◌, ◌≤◌, zero, suc, Option, Some, None, List, [], ◌∷◌, length, get_or, replicate, slice_get, slice_set, arith, ap, sym, ◌∙◌, refl, subst, inl, inr}
+use Rattle.std.proofs.lemmas.Bool.{cases_eq, cases_lt}
+use Rattle.std.proofs.lemmas.Option.{get_or_from_slice_get, slice_get-get_or, slice_get_within, slice_get_past}
+use Rattle.std.proofs.lemmas.List.{length-set, get_or-replicate}
+use Rattle.bl_model.specs.Map.{empty}
+use Rattle.bl_page.specs.declared.page.Page.{Page}
+use Rattle.bl_page.specs.declared.page.Page.TheVariants.{Anchor, Leaf, Inner, Dead}
+use Rattle.bl_page.specs.Machine.{Name, State, Owner as MachineOwner}
+use Rattle.bl_page.specs.Machine.Phase.{Waiting}
+use Rattle.bl_tree.specs.Nodes.{unbounded}
+use Rattle.bl_laws.specs.Pages.{node_of, roots_of}
+use Rattle.bl_steps.specs.Worlds.{Stage}
+use Rattle.bl_starts.specs.Opening.{Opening}
+use Rattle.bl_starts.specs.Blank.{IsBlank}
+use Rattle.bl_starts.proofs.Starts.{opening_world, opening_good}
+use Rattle.bl_ways.specs.Growths.{IsAnchor}
+use Rattle.bl_proc.specs.declared.kinds.Proc.{Proc}
+use Rattle.bl_proc.specs.declared.kinds.Proc.TheVariants as proc
+use Rattle.bl_proc.specs.declared.searching.FindStage.TheVariants as find
+use Rattle.bl_tables.specs.Knowing.{Run, know}
+use Rattle.bl_world.specs.declared.owners.Owner.{Owner}
+use Rattle.bl_world.specs.declared.owners.Owner.TheVariants as own
+use Rattle.bl_world.specs.Views.{View, owner_of}
+use Rattle.bl_world.specs.Deeds.{AreEmptyLeaves, IsOpening}
+use Rattle.bl_world.specs.Worlds.{HasWorld}
+use Rattle.bl_world.proofs.Arms.{set_here, set_other, stands}
+use Rattle.bl_world.proofs.Keeping.{Has}
+use Rattle.bl_world.proofs.Moments.{world_moment, moments_first}
+
+-- what a page 0 that names page 1 says of the levels
+names_one : (c : Page) → IsAnchor (1 ∷ []) c → ((roots_of c).levels ≡ 1) × ((roots_of c).leftmost 0 ≡ 1)
+names_one (Anchor a) e = (ap length e, ap (λ z. get_or z 0 0) e)
+names_one (Leaf l) e = absurd e
+names_one (Inner i) e = absurd e
+names_one (Dead d) e = absurd e
+
+-- what a list holds at a place, if it is that long
+at : {A : Type 0} (xs : List A) (d : A) (x : ℕ) (a : A) → slice_get xs x ≡ Some a → get_or xs x d ≡ a
+at xs d x a e = get_or_from_slice_get xs x a d e
+
+past : {A : Type 0} (xs : List A) (d : A) (x : ℕ) → length xs ≤ x → get_or xs x d ≡ d
+past [] d x le = refl
+past (y ∷ xs) d zero le = absurd (omega arith)
+past (y ∷ xs) d (suc x) le = past xs d x (omega (arith, le))
+
+-- nobody was started
+abbrev nobody : Page → Run
+nobody c = record { state = proc.Find (record { key = 0; stage = find.New }); got = λ x. c; child = 0 }
+
+nobody_blank : (c : Page) → IsBlank (know (nobody c))
+nobody_blank c = record { stage = refl; said = refl; holds = refl; goes = refl; children = refl; passed = refl; sound = omega arith; log = tt }
+
+pub opens : (size : ℕ) (v : View) → 1 < size → IsOpening size v → Has v
+opens size v wide o =
+    let leaf = o.leaf.0 in
+    let now : State Page = record { contents = λ x. get_or v.pages x leaf; owner = λ x. owner_of (get_or v.owners x own.Released); phase = λ p. Waiting; clock = 0 } in
+    let first : get_or v.pages 0 leaf ≡ o.anchor.0 = at v.pages leaf 0 o.anchor.0 o.anchor.1 in
+    let second : get_or v.pages 1 leaf ≡ leaf = at v.pages leaf 1 leaf o.leaf.1 in
+    let names = names_one o.anchor.0 o.anchor.2 in
+    let opening : Opening now = record {
+      levels = ap (λ c. (roots_of c).levels) first ∙ names.0;
+      leftmost = ap (λ c. (roots_of c).leftmost 0) first ∙ names.1;
+      leaf = ap node_of second ∙ o.leaf.2;
+      anchor_open = ap owner_of (at v.owners own.Released 0 own.Open o.anchor_open);
+      leaf_open = ap owner_of (at v.owners own.Released 1 own.Open o.leaf_open);
+      others = λ x a b. elim (cases_lt x size) [
+        | inl l ↦ ap owner_of (at v.owners own.Released x own.Released (o.others x (omega (arith, a, b)) l))
+        | inr l ↦ ap owner_of (past v.owners own.Released x (let e = o.owners in omega (arith, l, e)))
+      ];
+      waiting = λ p. refl;
+    } in
+    let good = opening_good know now size (λ p. nobody leaf) wide opening (λ p. nobody_blank leaf) in
+    record {
+      world = opening_world now size (λ p. nobody leaf);
+      good = good;
+      opening = opening;
+      first = refl;
+      size = sym o.count;
+      paired = o.owners ∙ sym o.count;
+      contents = λ x c is. at v.pages leaf x c is;
+      owner = λ x a is. ap owner_of (at v.owners own.Released x a is);
+      runs = λ n p is. absurd (let e : slice_get {X = Proc} [] n ≡ Some p = rw o.processes at is in cc);
+      others = λ q far. (refl, nobody_blank leaf);
+      shown = o.events;
+      moments = moments_first now (world_moment (opening_world now size (λ p. nobody leaf)) good refl);
+    }

@@ -1,0 +1,86 @@
+-- A process reserves only for a take, or for a put.
+use Rattle.std.proofs.Common.{ℕ, Option, Some, None, IsSome}
+use Rattle.std.proofs.lemmas.Bool.{false≢true}
+use Rattle.bl_ways.specs.declared.acts.Action.{Action}
+use Rattle.bl_ways.specs.declared.acts.Action.TheVariants as act
+use Rattle.bl_ways.specs.declared.changing.Change.{Change}
+use Rattle.bl_ways.specs.declared.changing.Change.TheVariants as change
+use Rattle.bl_ways.specs.declared.growing.Growth.{Growth}
+use Rattle.bl_ways.specs.declared.growing.Growth.TheVariants as growth
+use Rattle.bl_ways.specs.Changes.{change_next, change_needs}
+use Rattle.bl_ways.specs.Growths.{growth_next, growth_needs}
+use Rattle.bl_proc.specs.declared.inserting.InsertStage.{InsertStage}
+use Rattle.bl_proc.specs.declared.inserting.InsertStage.TheVariants as insert
+use Rattle.bl_proc.specs.declared.deleting.DeleteStage.{DeleteStage}
+use Rattle.bl_proc.specs.declared.deleting.DeleteStage.TheVariants as delete
+use Rattle.bl_proc.specs.declared.posting.PostStage.{PostStage}
+use Rattle.bl_proc.specs.declared.posting.PostStage.TheVariants as post
+use Rattle.bl_proc.specs.declared.kinds.Proc.{Proc}
+use Rattle.bl_proc.specs.declared.kinds.Proc.TheVariants as proc
+use Rattle.bl_proc.specs.Processes.{next_of, needs_of}
+use Rattle.bl_proc.specs.Inserts.{insert_next_in, insert_needs_in}
+use Rattle.bl_proc.specs.Deletes.{delete_next_in, delete_needs_in}
+use Rattle.bl_proc.specs.Posts.{post_next_in, post_needs_in}
+
+abbrev pub Reserves : Action → Type 0
+Reserves act.Begin = ⊥
+Reserves act.End = ⊥
+Reserves (act.Get x) = ⊥
+Reserves (act.Put x c) = Unit {0}
+Reserves (act.Latch x) = ⊥
+Reserves act.Take = Unit {0}
+Reserves (act.Open x) = ⊥
+Reserves (act.Retire x) = ⊥
+Reserves (act.Look p) = ⊥
+Reserves (act.See x) = ⊥
+Reserves (act.Release x) = ⊥
+
+change_reserves : (c : Change) → IsSome (change_needs c) → Reserves (change_next c)
+change_reserves (change.Putting x page) h = tt
+change_reserves (change.Taking full) h = tt
+change_reserves (change.PuttingNew p) h = tt
+change_reserves (change.PuttingOld p) h = tt
+change_reserves (change.OpeningNew x new s) h = absurd (false≢true h)
+change_reserves (change.Opening x what) h = absurd (false≢true h)
+
+growth_reserves : (g : Growth) → IsSome (growth_needs g) → Reserves (growth_next g)
+growth_reserves growth.Latching h = absurd (false≢true h)
+growth_reserves growth.Latched h = absurd (false≢true h)
+growth_reserves (growth.Taking rise) h = tt
+growth_reserves (growth.PuttingTop r) h = tt
+growth_reserves (growth.PuttingAnchor r) h = tt
+growth_reserves (growth.OpeningTop x) h = absurd (false≢true h)
+growth_reserves growth.OpeningGrown h = absurd (false≢true h)
+growth_reserves growth.OpeningRefused h = absurd (false≢true h)
+
+insert_reserves : (a : InsertStage) → IsSome (insert_needs_in a) → Reserves (insert_next_in a)
+insert_reserves insert.New h = absurd (false≢true h)
+insert_reserves (insert.Coming a) h = absurd (false≢true h)
+insert_reserves (insert.Present x v) h = absurd (false≢true h)
+insert_reserves (insert.Changing c) h = change_reserves c h
+insert_reserves (insert.Ending r) h = absurd (false≢true h)
+insert_reserves (insert.Over r) h = absurd (false≢true h)
+
+delete_reserves : (a : DeleteStage) → IsSome (delete_needs_in a) → Reserves (delete_next_in a)
+delete_reserves delete.New h = absurd (false≢true h)
+delete_reserves (delete.Coming a) h = absurd (false≢true h)
+delete_reserves (delete.Absent x) h = absurd (false≢true h)
+delete_reserves (delete.Changing v c) h = change_reserves c h
+delete_reserves (delete.Ending r) h = absurd (false≢true h)
+delete_reserves (delete.Over r) h = absurd (false≢true h)
+
+post_reserves : (a : PostStage) → IsSome (post_needs_in a) → Reserves (post_next_in a)
+post_reserves post.New h = absurd (false≢true h)
+post_reserves (post.Coming a) h = absurd (false≢true h)
+post_reserves (post.Growing g) h = growth_reserves g h
+post_reserves (post.Walking w) h = absurd (false≢true h)
+post_reserves (post.Changing c) h = change_reserves c h
+post_reserves (post.Staying x r) h = absurd (false≢true h)
+post_reserves (post.Ending r) h = absurd (false≢true h)
+post_reserves (post.Over r) h = absurd (false≢true h)
+
+pub reserves : (p : Proc) → IsSome (needs_of p) → Reserves (next_of p)
+reserves (proc.Find p) h = absurd (false≢true h)
+reserves (proc.Insert p) h = insert_reserves p.stage h
+reserves (proc.Delete p) h = delete_reserves p.stage h
+reserves (proc.Post p) h = post_reserves p.stage h

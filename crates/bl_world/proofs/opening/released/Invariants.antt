@@ -1,0 +1,5 @@
+use Rattle.bl_world.specs.Deeds.{AreReleased}
+use Rattle.bl_world.proofs.opening.released.Given as goal
+
+abbrev pub invariant-loop : goal.invariant-loop
+invariant-loop l = AreReleased l.counter l.owners.items

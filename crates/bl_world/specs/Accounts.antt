@@ -1,0 +1,104 @@
+-- What may be believed of a world, at every moment so far.
+use Rattle.std.specs.Prelude.{◌≡◌, ℕ, ◌<◌, ◌≤◌, ◌+◌, ◌++◌, Option, Some, None, List, length, take, slice_get}
+use Rattle.bl_model.specs.Map.{empty}
+use Rattle.bl_model.specs.History.{IsLegalFrom, final_map}
+use Rattle.bl_model.specs.declared.operation.Op.{Op}
+use Rattle.bl_model.specs.declared.operation.Op.TheVariants as op
+use Rattle.bl_model.specs.declared.operation.Reply.{Reply}
+use Rattle.bl_page.specs.declared.page.Page.{Page}
+use Rattle.bl_page.specs.Machine.{Name, State}
+use Rattle.bl_page.specs.Machine.Act.{Begin, End}
+use Rattle.bl_trails.specs.Trails.{Said, Trail, events_of, history_of, DoesAt, SaysAt, IsMarked, LeadsOn}
+use Rattle.bl_trails.specs.Moments.{HasLaws}
+use Rattle.bl_starts.specs.Opening.{Opening}
+use Rattle.bl_ways.specs.declared.answers.Answer.{Answer}
+use Rattle.bl_ways.specs.declared.answers.Answer.TheVariants as answer
+use Rattle.bl_ways.specs.declared.answers.Hint.{Hint}
+use Rattle.bl_proc.specs.declared.kinds.Proc.{Proc}
+use Rattle.bl_proc.specs.declared.kinds.Proc.TheVariants as proc
+use Rattle.bl_proc.specs.Processes.{answer_of}
+use Rattle.bl_world.specs.declared.owners.Owner.{Owner}
+use Rattle.bl_world.specs.Views.{View, name_of, owner_of, events_shown}
+use Rattle.bl_world.specs.Deeds.{Way, turns_in, IsNoRoom, WasRefused}
+
+-- One moment: the marks so far lead from the start, each event enabled in its turn, to pages that have the laws of the tree,
+-- with the map after the history so far.
+pub record Moment (start : State Page) (trail : Trail) : Type 0 where
+  pub now : State Page
+  pub leads : LeadsOn start trail now
+  pub laws : HasLaws now trail (final_map empty (history_of trail))
+
+-- every moment so far: after any number of events
+abbrev pub HasMoments : State Page → Trail → Type 0
+HasMoments start trail = (i : ℕ) → i ≤ length trail → Moment start (take i trail)
+
+-- an operation that ended before another began has its point before the other's
+abbrev pub IsOrdered : Trail → Type 0
+IsOrdered trail = (i j end begin : ℕ) (p q : Name) (said other : Said) (reply : Option Reply) → SaysAt trail i p said → SaysAt trail j q other → DoesAt trail end p (End reply) → DoesAt trail begin q Begin → end < begin → i < j
+
+-- the operation that a process is, if it is one on the map
+abbrev pub op_of : Proc → Option Op
+op_of (proc.Find p) = Some (op.Find p.key)
+op_of (proc.Insert p) = Some (op.Insert p.key p.value)
+op_of (proc.Delete p) = Some (op.Delete p.key)
+op_of (proc.Post p) = None
+
+-- the key that a process is about
+abbrev pub key_in : Proc → ℕ
+key_in (proc.Find p) = p.key
+key_in (proc.Insert p) = p.key
+key_in (proc.Delete p) = p.key
+key_in (proc.Post p) = p.key
+
+-- The operation of p has its point in the trail, with that reply.
+pub record Answers (trail : Trail) (p : Name) (is : Option Op) (answer : Reply) : Type 0 where
+  pub place : ℕ
+  pub said : Said
+  pub says : SaysAt trail place p said
+  pub op : is ≡ Some said.op
+  pub reply : said.reply ≡ answer
+
+-- Whose operation an entry is: that of a process that was started.
+pub record IsOwn (v : View) (q : Name) (said : Said) : Type 0 where
+  pub place : ℕ
+  pub process : Proc
+  pub name : q ≡ name_of (place + 1)
+  pub stood : slice_get v.processes place ≡ Some process
+  pub op : op_of process ≡ Some said.op
+
+-- The account of a world. A trail tells what has happened, event by event, with the point of each answered operation.
+pub record Account (v : View) : Type 0 where
+  -- the starts and turns that led here from the opening index, and one event for each turn
+  pub way : Way v
+  pub count : length v.events ≡ turns_in way.deeds
+  -- the step list is the one that is shown; it is legal from the opening index, so that no released page was got, and leads
+  -- to the pages and owners that stand here
+  pub trail : Trail
+  pub shown : v.events ≡ events_shown (events_of trail)
+  pub start : State Page
+  pub opening : Opening start
+  pub now : State Page
+  pub leads : LeadsOn start trail now
+  pub contents : (x : ℕ) (c : Page) → slice_get v.pages x ≡ Some c → now.contents x ≡ c
+  pub owner : (x : ℕ) (o : Owner) → slice_get v.owners x ≡ Some o → now.owner x ≡ owner_of o
+  -- the laws of the tree hold with the map after the history, now and at every moment so far
+  pub laws : HasLaws now trail (final_map empty (history_of trail))
+  pub moments : HasMoments start trail
+  -- the history is one of the step list: each entry stands once, at its point between begin and end; it is legal from the
+  -- empty map; and an operation that ended before another began stands before it
+  pub marked : IsMarked trail
+  pub legal : IsLegalFrom empty (history_of trail)
+  pub ordered : IsOrdered trail
+  -- each entry is the operation of a process that was started; and what a process answered is what its entry says
+  pub own : (i : ℕ) (q : Name) (said : Said) → SaysAt trail i q said → IsOwn v q said
+  pub answers : (n : ℕ) (p : Proc) (reply : Reply) (hint : Option Hint) → slice_get v.processes n ≡ Some p → answer_of p ≡ Some (answer.Op reply hint) → Answers trail (name_of (n + 1)) (op_of p) reply
+  pub ended : (n : ℕ) (p : Proc) (a : Answer) → slice_get v.processes n ≡ Some p → answer_of p ≡ Some a → (i : ℕ) × (reply : Option Reply) × DoesAt trail i (name_of (n + 1)) (End reply)
+  -- a process answers that there was no room only where a turn refused it what it was about to reserve
+  pub refused : (n : ℕ) (p : Proc) (a : Answer) → slice_get v.processes n ≡ Some p → answer_of p ≡ Some a → IsNoRoom a → WasRefused way.opened way.deeds n
+
+-- The account of what stands after goes on from that of what stood before.
+pub record Continues (v v' : View) : Type 0 where
+  pub before : Account v
+  pub after : Account v'
+  pub more : Trail
+  pub goes_on : after.trail ≡ before.trail ++ more

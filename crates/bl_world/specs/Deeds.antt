@@ -1,0 +1,95 @@
+-- What the user of a world does with it, and where that leads.
+use Rattle.std.specs.Prelude.{◌≡◌, ◌≢◌, ℕ, ◌<◌, ◌≤◌, ◌+◌, ◌++◌, Some, None, List, [], ◌∷◌, length, slice_get}
+use Rattle.bl_model.specs.declared.operation.Reply.{Reply}
+use Rattle.bl_model.specs.declared.operation.Reply.TheVariants as reply
+use Rattle.bl_page.specs.declared.page.Page.{Page}
+use Rattle.bl_tree.specs.Nodes.{unbounded}
+use Rattle.bl_laws.specs.Pages.{node_of}
+use Rattle.bl_ways.specs.declared.acts.Action.TheVariants as act
+use Rattle.bl_ways.specs.declared.answers.Answer.{Answer}
+use Rattle.bl_ways.specs.declared.answers.Answer.TheVariants as answer
+use Rattle.bl_ways.specs.declared.answers.Posted.{Posted}
+use Rattle.bl_ways.specs.declared.answers.Posted.TheVariants as posted
+use Rattle.bl_ways.specs.Growths.{IsAnchor}
+use Rattle.bl_proc.specs.declared.kinds.Proc.{Proc}
+use Rattle.bl_proc.specs.Processes.{next_of, answer_of}
+use Rattle.bl_world.specs.declared.turns.Turn.{Turn}
+use Rattle.bl_world.specs.declared.turns.Turn.TheVariants as turn
+use Rattle.bl_world.specs.declared.owners.Owner.{Owner}
+use Rattle.bl_world.specs.declared.owners.Owner.TheVariants as own
+use Rattle.bl_world.specs.Views.{View, name_of, owner_of}
+use Rattle.bl_world.specs.Turns.{MayRefuse, TurnsTo}
+
+-- a leaf that covers every key and has no row
+abbrev pub IsEmptyLeaf : Page → Type 0
+IsEmptyLeaf c = node_of c ≡ record { shape = record { level = 0; low = 0; end = unbounded; right = 0 }; look = λ k. None }
+
+-- that many pages, all of them empty leaves
+abbrev pub AreEmptyLeaves : ℕ → List Page → Type 0
+AreEmptyLeaves count pages = (length pages ≡ count) × ((x : ℕ) (c : Page) → slice_get pages x ≡ Some c → IsEmptyLeaf c)
+
+-- that many owners, all of them none
+abbrev pub AreReleased : ℕ → List Owner → Type 0
+AreReleased count owners = (length owners ≡ count) × ((x : ℕ) (o : Owner) → slice_get owners x ≡ Some o → o ≡ own.Released)
+
+-- The opening index of that many pages: page 0 names one level, whose only page is page 1, an empty leaf that covers every
+-- key. These two are open, and all others released. No process was started, and nothing has happened.
+pub record IsOpening (size : ℕ) (v : View) : Type 0 where
+  pub count : length v.pages ≡ size
+  pub owners : length v.owners ≡ size
+  pub anchor : (c : Page) × (slice_get v.pages 0 ≡ Some c) × IsAnchor (1 ∷ []) c
+  pub leaf : (c : Page) × (slice_get v.pages 1 ≡ Some c) × IsEmptyLeaf c
+  pub anchor_open : slice_get v.owners 0 ≡ Some own.Open
+  pub leaf_open : slice_get v.owners 1 ≡ Some own.Open
+  pub others : (x : ℕ) → 1 < x → x < size → slice_get v.owners x ≡ Some own.Released
+  pub processes : v.processes ≡ []
+  pub events : v.events ≡ []
+
+-- It starts a process that is to begin, or gives one a turn.
+pub data Deed : Type 0 where
+  Starting : Proc → Deed
+  Turning : Turn → Deed
+
+-- One more process stands there, after all others.
+abbrev pub Starts : View → Proc → View → Type 0
+Starts v p v' = v' ≡ record v { processes = v.processes ++ p ∷ [] }
+
+abbrev pub DoneTo : View → Deed → View → Type 0
+DoneTo v (Starting p) v' = (next_of p ≡ act.Begin) × Starts v p v'
+DoneTo v (Turning t) v' = TurnsTo v t v'
+
+-- deeds in their order
+abbrev pub LeadsTo : View → List Deed → View → Type 0
+LeadsTo v [] v' = v' ≡ v
+LeadsTo v (deed ∷ deeds) v' = (mid : View) × DoneTo v deed mid × LeadsTo mid deeds v'
+
+-- how many of them are turns
+abbrev pub turns_in : List Deed → ℕ
+turns_in [] = 0
+turns_in (Starting p ∷ deeds) = turns_in deeds
+turns_in (Turning t ∷ deeds) = turns_in deeds + 1
+
+-- How a world came to be: from an opening index, by these deeds.
+pub record Way (v : View) : Type 0 where
+  pub size : ℕ
+  pub opened : View
+  pub opening : IsOpening size opened
+  pub deeds : List Deed
+  pub led : LeadsTo opened deeds v
+
+-- there was no room
+abbrev pub IsNoRoom : Answer → Type 0
+IsNoRoom (answer.Op reply.NoRoom hint) = Unit {0}
+IsNoRoom (answer.Post posted.NoRoom hint) = Unit {0}
+IsNoRoom other = ⊥
+
+-- One of the deeds was to refuse the process at place n what it was about to reserve.
+pub record WasRefused (opened : View) (deeds : List Deed) (n : ℕ) : Type 0 where
+  pub before : List Deed
+  pub after : List Deed
+  pub split : deeds ≡ before ++ Turning (turn.Refuse (n + 1)) ∷ after
+  pub then : View
+  pub led : LeadsTo opened before then
+  pub process : Proc
+  pub stood : slice_get then.processes n ≡ Some process
+  pub fit : MayRefuse process
