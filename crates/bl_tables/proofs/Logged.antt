@@ -9,6 +9,7 @@ use Rattle.bl_trails.specs.Trails.{Mark, Trail, Saw, marks_of}
 use Rattle.bl_trails.specs.Meanings.{put_in}
 use Rattle.bl_trails.proofs.Pushes.{name_cases, marks_of-own, marks_of-other}
 use Rattle.bl_steps.specs.Worlds.{Stage, World, IsSure, IsGood}
+use Rattle.bl_starts.specs.Blank.{IsBlank}
 use Rattle.bl_ways.specs.declared.acts.Action.{Action}
 use Rattle.bl_ways.specs.declared.acts.Action.TheVariants as act
 use Rattle.bl_ways.specs.declared.acts.Seen.{Seen}
@@ -123,6 +124,18 @@ early_state got child (Post a) e marks = early_post a.level a.key got child a.st
 
 pub early_log : (b : Run) → (know b).stage ≡ Stage.Early → (marks : Trail) → proc_log b.state marks
 early_log b e marks = early_state b.got b.child b.state e marks
+
+pub full_blank : (b : Run) → IsBlank (bare b) → IsBlank (know b)
+full_blank b is = record {
+  stage = is.stage;
+  said = is.said;
+  holds = is.holds;
+  goes = is.goes;
+  children = is.children;
+  passed = is.passed;
+  sound = is.sound;
+  log = early_log b is.stage [];
+}
 
 same_words : (c d : Page) → seen.Words c ≡ seen.Words d → c ≡ d
 same_words c d e = cc

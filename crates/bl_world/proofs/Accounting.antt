@@ -8,15 +8,21 @@ use Rattle.bl_model.specs.History.{IsLegalFrom, final_map}
 use Rattle.bl_page.specs.Machine.{Name}
 use Rattle.bl_page.specs.Machine.Act.{End}
 use Rattle.bl_page.specs.Machine.Phase.{Waiting, Ended}
-use Rattle.bl_trails.specs.Trails.{Said, Trail, history_of, SaysAt, DoesAt, HasSaid}
+use Rattle.bl_trails.specs.Trails.{Said, Trail, marks_of, history_of, SaysAt, DoesAt, HasSaid}
 use Rattle.bl_trails.specs.Moments.{HasLaws}
 use Rattle.bl_steps.specs.Worlds.{Stage, IsStage, World as ModelWorld, IsSure, IsGood}
 use Rattle.bl_ways.specs.declared.answers.Answer.{Answer}
 use Rattle.bl_ways.specs.declared.answers.Answer.TheVariants as answer
 use Rattle.bl_ways.specs.declared.answers.Hint.{Hint}
+use Rattle.bl_ways.specs.declared.answers.Posted.{Posted}
+use Rattle.bl_proc.specs.declared.posting.Post.{Post}
+use Rattle.bl_proc.specs.declared.kinds.Proc.TheVariants as proc
 use Rattle.bl_proc.specs.declared.kinds.Proc.{Proc}
 use Rattle.bl_proc.specs.Processes.{answer_of}
 use Rattle.bl_tables.specs.Knowing.{Run, know_of, know}
+use Rattle.bl_tables.specs.Answers.{MeansPosted}
+use Rattle.bl_tables.proofs.Logged.{bare_good}
+use Rattle.bl_tables.proofs.Answered.{post_means}
 use Rattle.bl_tables.proofs.Starting.{run_laws}
 use Rattle.bl_world.specs.Views.{View, name_of}
 use Rattle.bl_world.specs.Deeds.{Way, turns_in}
@@ -59,7 +65,7 @@ same_said w q (Some t) i s g has says =
 module _ (v : View) (h : Has v) where
   -- what a process that was started knows, by its state
   sure_of : (n : ℕ) (p : Proc) → slice_get v.processes n ≡ Some p → IsSure h.world (name_of (suc n)) (know_of (h.world.proc (name_of (suc n))).got (h.world.proc (name_of (suc n))).child p)
-  sure_of n p stood = subst (λ z. IsSure h.world (name_of (suc n)) (know_of (h.world.proc (name_of (suc n))).got (h.world.proc (name_of (suc n))).child z)) (h.runs n p stood) (h.good.sure (name_of (suc n)))
+  sure_of n p stood = subst (λ z. IsSure h.world (name_of (suc n)) (know_of (h.world.proc (name_of (suc n))).got (h.world.proc (name_of (suc n))).child z)) (h.runs n p stood) ((bare_good h.world h.good).sure (name_of (suc n)))
 
   own : (i : ℕ) (q : Name) (said : Said) → SaysAt h.world.trail i q said → IsOwn v q said
   own i q said says = elim (named (length v.processes) q) [
@@ -90,6 +96,9 @@ module _ (v : View) (h : Has v) where
       let began = h.opening.waiting (name_of (suc n)) in
       rw (one_more n) (ended_in h.world.start h.world.now h.world.trail (name_of (suc n)) (λ f. (let g : Waiting ≡ Ended = sym began ∙ f in cc)) h.good.recorded.leads late)
 
+  posted : (n : ℕ) (p : Post) (a : Posted) (hint : Option Hint) → slice_get v.processes n ≡ Some (proc.Post p) → answer_of (proc.Post p) ≡ Some (answer.Post a hint) → MeansPosted p.level p.key a (marks_of (name_of (n + 1)) h.world.trail)
+  posted n p a hint stood e = subst (λ k. MeansPosted p.level p.key a (marks_of (name_of k) h.world.trail)) (sym (one_more n)) (post_means h.world (name_of (suc n)) p a hint h.good (h.runs n (proc.Post p) stood) e)
+
   pub account : Way v → Account v
   account way =
       let w = h.world in
@@ -112,6 +121,7 @@ module _ (v : View) (h : Has v) where
         ordered = ordered w.start w.now w.trail r.leads r.marked;
         own = own;
         answers = answers;
+        posted = posted;
         ended = λ n p a stood e. (let x = ended n p a stood e in (x.0, x.1.0, x.1.1));
         refused = λ n p a stood e no. first_refused way.size way.opened v way.deeds n way.opening way.led (record { process = p; stood = stood; refused = answers_refused p a e no });
       }

@@ -31,7 +31,8 @@ use Rattle.bl_proc.specs.Searches.{find_next_in}
 use Rattle.bl_proc.specs.Inserts.{insert_next_in}
 use Rattle.bl_proc.specs.Deletes.{delete_next_in}
 use Rattle.bl_proc.specs.Posts.{post_next_in}
-use Rattle.bl_tables.specs.Knowing.{Run, know_of, know, know_find, know_insert, know_delete, know_post}
+use Rattle.bl_tables.specs.Knowing.{Run, know_of, know_find, know_insert, know_delete, know_post}
+use Rattle.bl_tables.proofs.Logged.{full_blank}
 use Rattle.bl_tables.proofs.Starting.{with_proc, enters_good}
 use Rattle.bl_world.specs.declared.turns.Event.{Event}
 use Rattle.bl_world.specs.declared.owners.Owner.{Owner}
@@ -120,7 +121,7 @@ enters pages owners processes events p small next h =
     let more : length (processes ++ p ∷ []) ≡ suc n = push_length processes p in (
       record {
         world = with_proc old name b;
-        good = enters_good old name b h.good free.0 free.1 (blank b.got 0 p small next);
+        good = enters_good old name b h.good free.0 free.1 (full_blank b (blank b.got 0 p small next));
         opening = h.opening;
         first = h.first;
         size = h.size;

@@ -8,15 +8,18 @@ use Rattle.bl_model.specs.declared.operation.Reply.{Reply}
 use Rattle.bl_page.specs.declared.page.Page.{Page}
 use Rattle.bl_page.specs.Machine.{Name, State}
 use Rattle.bl_page.specs.Machine.Act.{Begin, End}
-use Rattle.bl_trails.specs.Trails.{Said, Trail, events_of, history_of, DoesAt, SaysAt, IsMarked, LeadsOn}
+use Rattle.bl_trails.specs.Trails.{Said, Trail, marks_of, events_of, history_of, DoesAt, SaysAt, IsMarked, LeadsOn}
 use Rattle.bl_trails.specs.Moments.{HasLaws}
 use Rattle.bl_starts.specs.Opening.{Opening}
 use Rattle.bl_ways.specs.declared.answers.Answer.{Answer}
 use Rattle.bl_ways.specs.declared.answers.Answer.TheVariants as answer
 use Rattle.bl_ways.specs.declared.answers.Hint.{Hint}
+use Rattle.bl_ways.specs.declared.answers.Posted.{Posted}
+use Rattle.bl_proc.specs.declared.posting.Post.{Post}
 use Rattle.bl_proc.specs.declared.kinds.Proc.{Proc}
 use Rattle.bl_proc.specs.declared.kinds.Proc.TheVariants as proc
 use Rattle.bl_proc.specs.Processes.{answer_of}
+use Rattle.bl_tables.specs.Answers.{MeansPosted}
 use Rattle.bl_world.specs.declared.owners.Owner.{Owner}
 use Rattle.bl_world.specs.Views.{View, name_of, owner_of, events_shown}
 use Rattle.bl_world.specs.Deeds.{Way, turns_in, IsNoRoom, WasRefused}
@@ -93,6 +96,8 @@ pub record Account (v : View) : Type 0 where
   pub own : (i : ℕ) (q : Name) (said : Said) → SaysAt trail i q said → IsOwn v q said
   pub answers : (n : ℕ) (p : Proc) (reply : Reply) (hint : Option Hint) → slice_get v.processes n ≡ Some p → answer_of p ≡ Some (answer.Op reply hint) → Answers trail (name_of (n + 1)) (op_of p) reply
   pub ended : (n : ℕ) (p : Proc) (a : Answer) → slice_get v.processes n ≡ Some p → answer_of p ≡ Some a → (i : ℕ) × (reply : Option Reply) × DoesAt trail i (name_of (n + 1)) (End reply)
+  -- what a post answered means what it says, by what its process has done
+  pub posted : (n : ℕ) (p : Post) (a : Posted) (hint : Option Hint) → slice_get v.processes n ≡ Some (proc.Post p) → answer_of (proc.Post p) ≡ Some (answer.Post a hint) → MeansPosted p.level p.key a (marks_of (name_of (n + 1)) trail)
   -- a process answers that there was no room only where a turn refused it what it was about to reserve
   pub refused : (n : ℕ) (p : Proc) (a : Answer) → slice_get v.processes n ≡ Some p → answer_of p ≡ Some a → IsNoRoom a → WasRefused way.opened way.deeds n
 
