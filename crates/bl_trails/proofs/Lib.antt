@@ -4,3 +4,4 @@ pub mod Middles
 pub mod Legal
 mod Examples
 pub mod Meant
+mod PostExamples
