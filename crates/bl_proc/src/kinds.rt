@@ -1,6 +1,7 @@
 //! The sum of all kinds of processes.
 
 ghost use Rattle.std.specs.Prelude.{◌≡◌, ◌<◌, ◌≤◌};
+ghost use Rattle.bl_ways.specs.declared.acts.Action.TheVariants as act;
 ghost use Rattle.bl_proc.specs.Processes.{next_of, needs_of, answer_of, Takes, IsFind, IsInsert, IsDelete, IsPost};
 
 use crate::deleting::Delete;
@@ -25,21 +26,24 @@ pub enum Proc {
 impl Proc {
     /// A process that is to look the key up.
     pub fn find(key: u64) -> Proc
-        ensures { IsFind key result }
+        ensures made { IsFind key result }
+        ensures begins { next_of result ≡ act.Begin }
     {
         Proc::Find(Find::new(key))
     }
 
     /// A process that is to put the value at the key, where the key has none.
     pub fn insert(key: u64, value: u64) -> Proc
-        ensures { IsInsert key value result }
+        ensures made { IsInsert key value result }
+        ensures begins { next_of result ≡ act.Begin }
     {
         Proc::Insert(Insert::new(key, value))
     }
 
     /// A process that is to take the key and its value away.
     pub fn delete(key: u64) -> Proc
-        ensures { IsDelete key result }
+        ensures made { IsDelete key result }
+        ensures begins { next_of result ≡ act.Begin }
     {
         Proc::Delete(Delete::new(key))
     }
@@ -48,7 +52,8 @@ impl Proc {
     pub fn post(level: u32, key: u64) -> Proc
         requires least { 0 < level }
         requires most { level ≤ 12 }
-        ensures { IsPost level key result }
+        ensures made { IsPost level key result }
+        ensures begins { next_of result ≡ act.Begin }
     {
         Proc::Post(Post::new(level, key))
     }

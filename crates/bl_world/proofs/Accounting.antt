@@ -105,7 +105,7 @@ module _ (v : View) (h : Has v) where
       let r = h.good.recorded in
       record {
         way = way;
-        count = events_count way.opened v way.deeds way.led ∙ (let e : length way.opened.events ≡ 0 = ap length way.opening.events in omega (arith, e));
+        count = λ way. events_count way.opened v way.deeds way.led ∙ (let e : length way.opened.events ≡ 0 = ap length way.opening.events in omega (arith, e));
         trail = w.trail;
         shown = h.shown;
         start = w.start;
@@ -123,7 +123,7 @@ module _ (v : View) (h : Has v) where
         answers = answers;
         posted = posted;
         ended = λ n p a stood e. (let x = ended n p a stood e in (x.0, x.1.0, x.1.1));
-        refused = λ n p a stood e no. first_refused way.size way.opened v way.deeds n way.opening way.led (record { process = p; stood = stood; refused = answers_refused p a e no });
+        refused = λ way n p a stood e no. first_refused way.size way.opened v way.deeds n way.opening way.led (record { process = p; stood = stood; refused = answers_refused p a e no });
       }
 
 -- the account of a world that is there, and its going on

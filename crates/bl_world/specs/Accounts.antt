@@ -71,9 +71,9 @@ pub record IsOwn (v : View) (q : Name) (said : Said) : Type 0 where
 
 -- The account of a world. A trail tells what has happened, event by event, with the point of each answered operation.
 pub record Account (v : View) : Type 0 where
-  -- the starts and turns that led here from the opening index, and one event for each turn
+  -- starts and turns led here from the opening index; and whichever these were, there is one event for each turn
   pub way : Way v
-  pub count : length v.events ≡ turns_in way.deeds
+  pub count : (way : Way v) → length v.events ≡ turns_in way.deeds
   -- the step list is the one that is shown; it is legal from the opening index, so that no released page was got, and leads
   -- to the pages and owners that stand here
   pub trail : Trail
@@ -98,8 +98,8 @@ pub record Account (v : View) : Type 0 where
   pub ended : (n : ℕ) (p : Proc) (a : Answer) → slice_get v.processes n ≡ Some p → answer_of p ≡ Some a → (i : ℕ) × (reply : Option Reply) × DoesAt trail i (name_of (n + 1)) (End reply)
   -- what a post answered means what it says, by what its process has done
   pub posted : (n : ℕ) (p : Post) (a : Posted) (hint : Option Hint) → slice_get v.processes n ≡ Some (proc.Post p) → answer_of (proc.Post p) ≡ Some (answer.Post a hint) → MeansPosted p.level p.key a (marks_of (name_of (n + 1)) trail)
-  -- a process answers that there was no room only where a turn refused it what it was about to reserve
-  pub refused : (n : ℕ) (p : Proc) (a : Answer) → slice_get v.processes n ≡ Some p → answer_of p ≡ Some a → IsNoRoom a → WasRefused way.opened way.deeds n
+  -- whichever the turns were: a process answers that there was no room only where one of them was a fit refusal of it
+  pub refused : (way : Way v) (n : ℕ) (p : Proc) (a : Answer) → slice_get v.processes n ≡ Some p → answer_of p ≡ Some a → IsNoRoom a → WasRefused way.opened way.deeds n
 
 -- The account of what stands after goes on from that of what stood before.
 pub record Continues (v v' : View) : Type 0 where
