@@ -9,6 +9,8 @@ pub mod command;
 mod lines;
 mod parse;
 mod reading;
+#[cfg(test)]
+mod tests;
 
 pub use command::{Command, Kinds, Script, Start};
 pub use reading::{ScriptFault, read_script};
