@@ -1,7 +1,7 @@
 pub mod Numbers
 pub mod Long
 pub mod Examples
-mod Known
+pub mod Known
 mod Cuts
 mod Sections
 mod Progress

@@ -18,8 +18,8 @@ pub enum Request {
     Sync,
 }
 
-/// What stands behind the word.
-fn after<'a>(line: &'a [u8], word: &[u8]) -> Option<&'a [u8]>
+/// What stands behind the word, if the line begins with it.
+pub fn after<'a>(line: &'a [u8], word: &[u8]) -> Option<&'a [u8]>
     ensures { MatchOption result ((rest : List ℕ) → line.now ≢ word.now ++ rest) (λ rest. line.now ≡ word.now ++ rest.now) }
 {
     line.strip_prefix(word)

@@ -1,0 +1,61 @@
+//! Scripts and their commands.
+
+use bl_model::Op;
+
+/// A process that a script starts.
+#[derive(Clone, Copy, Debug, PartialEq, Eq)]
+pub enum Start {
+    /// An operation on the map.
+    Operation(Op),
+    /// Lists a child in its parent.
+    Post {
+        /// The level of the parent, 1 to 12.
+        level: u32,
+        /// The least key of the child.
+        key: u64,
+    },
+    /// Merges two neighbours or evens them out.
+    Compress {
+        /// The level of their parent, 1 to 12.
+        level: u32,
+        /// A key that the parent covers.
+        key: u64,
+    },
+    /// Releases this page, if it is retired and no process may still read it.
+    Reclaim(u32),
+}
+
+/// A line of a script behind the first. Processes are numbered from 1, in the order in which they are started.
+#[derive(Clone, Copy, Debug, PartialEq, Eq)]
+pub enum Command {
+    /// Starts a process.
+    Start(Start),
+    /// One turn of a process. A take tries the least released page.
+    Turn(u64),
+    /// One turn of a process. A take tries this page; at another action the page is not looked at.
+    TurnAt(u64, u32),
+    /// One turn in which a process is refused what it is about to reserve.
+    Refuse(u64),
+    /// Turns of a process, at most so many, until it has answered.
+    Run(u64, u64),
+}
+
+/// A whole script.
+#[derive(Debug, PartialEq, Eq, Drop)]
+pub struct Script {
+    /// How many pages there are, 4 to 65,536.
+    pub pages: u32,
+    /// The lines behind the first.
+    pub commands: Vec<Command>,
+}
+
+/// Which kinds of process a script may start, beside searches, insertions, deletions and posts.
+#[derive(Clone, Copy, Debug, PartialEq, Eq)]
+pub struct Kinds {
+    /// `part` lines.
+    pub part: bool,
+    /// `compress` lines.
+    pub compress: bool,
+    /// `reclaim` lines.
+    pub reclaim: bool,
+}

@@ -1,0 +1,269 @@
+//! Scripts that are read, and scripts with a bad line.
+
+use super::*;
+use bl_model::{Op, Watched};
+use std::alloc::Global;
+use std::io;
+use std::io::{ErrorKind, Read};
+use std::test::Fail;
+
+/// Every kind of process.
+const ALL: Kinds = Kinds {
+    part: true,
+    compress: true,
+    reclaim: true,
+};
+
+/// Searches, insertions, deletions and posts alone.
+const FEW: Kinds = Kinds {
+    part: false,
+    compress: false,
+    reclaim: false,
+};
+
+fn script_of(alloc: Global, text: &[u8], kinds: Kinds) -> Result<Script, ScriptFault> {
+    read_script(alloc, &mut Watched::new(text), kinds)
+}
+
+/// The script is bad at that line.
+fn is_bad_at(rt: &HostRuntime, text: &[u8], kinds: Kinds, line: u64) -> bool {
+    match script_of(rt.alloc(), text, kinds) {
+        Err(fault) => fault == ScriptFault::Line(line),
+        Ok(_) => false,
+    }
+}
+
+#[test]
+fn a_search_beside_an_insertion(rt: HostRuntime) -> Result<(), Fail> {
+    let text = b"pages 4\ninsert 5 50\nfind 5\nrun 1 4\nrun 2 9\nrun 1 9\n";
+    let script = script_of(rt.alloc(), text, FEW).ok().ok_or("bad")?;
+    assert_eq!(rt; script.pages, 4);
+    let wanted = [
+        Command::Start(Start::Operation(Op::Insert(5, 50))),
+        Command::Start(Start::Operation(Op::Find(5))),
+        Command::Run(1, 4),
+        Command::Run(2, 9),
+        Command::Run(1, 9),
+    ];
+    assert!(rt; script.commands.as_slice() == wanted.as_slice());
+    Ok(())
+}
+
+#[test]
+fn each_line_has_its_command(rt: HostRuntime) -> Result<(), Fail> {
+    let lines: [(&[u8], Command); 14] = [
+        (b"find 0", Command::Start(Start::Operation(Op::Find(0)))),
+        (
+            b"insert 18446744073709551615 18446744073709551615",
+            Command::Start(Start::Operation(Op::Insert(u64::MAX, u64::MAX))),
+        ),
+        (b"delete 7", Command::Start(Start::Operation(Op::Delete(7)))),
+        (b"part 8", Command::Start(Start::Operation(Op::Part(8)))),
+        (b"post 1 9", Command::Start(Start::Post { level: 1, key: 9 })),
+        (b"post 12 0", Command::Start(Start::Post { level: 12, key: 0 })),
+        (
+            b"compress 1 90",
+            Command::Start(Start::Compress { level: 1, key: 90 }),
+        ),
+        (b"reclaim 0", Command::Start(Start::Reclaim(0))),
+        (b"reclaim 7", Command::Start(Start::Reclaim(7))),
+        (b"turn 1", Command::Turn(1)),
+        (b"turn 1 7", Command::TurnAt(1, 7)),
+        (b"turn 1 0", Command::TurnAt(1, 0)),
+        (b"refuse 1", Command::Refuse(1)),
+        (b"run 1 18446744073709551615", Command::Run(1, u64::MAX)),
+    ];
+    for (line, command) in lines {
+        let mut text = Vec::from_slice(rt.alloc(), b"pages 8\nfind 1\n")?;
+        text.extend_from_slice(line)?;
+        text.push(b'\n')?;
+        let script = script_of(rt.alloc(), text.as_slice(), ALL).ok().ok_or("bad")?;
+        assert_eq!(rt; script.commands.len(), 2);
+        assert_eq!(rt; script.commands[1], command);
+    }
+    Ok(())
+}
+
+#[test]
+fn limits_of_the_first_line(rt: HostRuntime) -> Result<(), Fail> {
+    for (text, pages) in [(b"pages 4\n".as_slice(), 4), (b"pages 65536\n".as_slice(), 65536)] {
+        let script = script_of(rt.alloc(), text, FEW).ok().ok_or("bad")?;
+        assert_eq!(rt; script.pages, pages);
+        assert!(rt; script.commands.is_empty());
+    }
+    let bad: [&[u8]; 12] = [
+        b"",
+        b"\n",
+        b"pages 3\n",
+        b"pages 65537\n",
+        b"pages 4294967300\n",
+        b"pages 04\n",
+        b"pages  4\n",
+        b"pages 4 \n",
+        b"pages 4\r\n",
+        b"Pages 4\n",
+        b"pages 4",
+        b"find 1\npages 4\n",
+    ];
+    for text in bad {
+        assert!(rt; is_bad_at(&rt, text, FEW, 1));
+    }
+    Ok(())
+}
+
+#[test]
+fn a_bad_line_of_each_kind(rt: HostRuntime) -> Result<(), Fail> {
+    let bad: [&[u8]; 25] = [
+        b"\n",
+        b"pages 8\n",
+        b"fetch 1\n",
+        b"find\n",
+        b"find \n",
+        b"find 01\n",
+        b"find 18446744073709551616\n",
+        b"find 1 \n",
+        b"find 1\r\n",
+        b"insert 1\n",
+        b"insert 1 2 3\n",
+        b"post 0 9\n",
+        b"post 13 9\n",
+        b"post 4294967297 9\n",
+        b"compress 13 9\n",
+        b"reclaim 8\n",
+        b"reclaim 4294967296\n",
+        b"turn 2\n",
+        b"turn 0\n",
+        b"turn 1 8\n",
+        b"turn 4294967297\n",
+        b"refuse 2\n",
+        b"refuse 1 1\n",
+        b"run 1\n",
+        b"run 2 1\n",
+    ];
+    for line in bad {
+        let mut text = Vec::from_slice(rt.alloc(), b"pages 8\nfind 1\n")?;
+        text.extend_from_slice(line)?;
+        assert!(rt; is_bad_at(&rt, text.as_slice(), ALL, 3));
+        // the first bad line is named, whatever stands behind it
+        text.extend_from_slice(b"\nx\n")?;
+        assert!(rt; is_bad_at(&rt, text.as_slice(), ALL, 3));
+    }
+    Ok(())
+}
+
+#[test]
+fn bytes_behind_the_last_line(rt: HostRuntime) {
+    assert!(rt; is_bad_at(&rt, b"pages 8\nfind 1\nturn 1", ALL, 3));
+    assert!(rt; is_bad_at(&rt, b"pages 8\nfind 1\nturn 1\n ", ALL, 4));
+    assert!(rt; script_of(rt.alloc(), b"pages 8\nfind 1\nturn 1\n", ALL).is_ok());
+}
+
+#[test]
+fn a_turn_before_its_process(rt: HostRuntime) {
+    assert!(rt; is_bad_at(&rt, b"pages 4\nturn 1\nfind 1\n", ALL, 2));
+    assert!(rt; is_bad_at(&rt, b"pages 4\nfind 1\nrun 1 9\nturn 2\nfind 1\n", ALL, 4));
+}
+
+#[test]
+fn kinds_that_are_not_there(rt: HostRuntime) {
+    for line in [b"part 1\n".as_slice(), b"compress 1 9\n".as_slice(), b"reclaim 1\n".as_slice()] {
+        let mut text = Vec::new(rt.alloc());
+        assert!(rt; text.extend_from_slice(b"pages 4\n").is_ok());
+        assert!(rt; text.extend_from_slice(line).is_ok());
+        assert!(rt; is_bad_at(&rt, text.as_slice(), FEW, 2));
+        assert!(rt; script_of(rt.alloc(), text.as_slice(), ALL).is_ok());
+    }
+}
+
+/// Gives a text, so many times the same byte, and then another text, in pieces of at most 7 bytes; then it ends, or
+/// fails. Each second call is interrupted.
+#[derive(Drop)]
+struct Slow<'a> {
+    front: &'a [u8],
+    byte: u8,
+    count: usize,
+    back: &'a [u8],
+    fails: bool,
+    interrupts: bool,
+}
+
+impl<'a> Read for Slow<'a> {
+    fn read(&mut self, buf: &mut [u8]) -> io::Result<usize> {
+        self.interrupts = !self.interrupts;
+        if self.interrupts {
+            return Err(io::Error::from(ErrorKind::Interrupted));
+        }
+        let most = buf.len().min(7);
+        if !self.front.is_empty() {
+            let count = most.min(self.front.len());
+            buf[..count].copy_from_slice(&self.front[..count]);
+            self.front = &self.front[count..];
+            return Ok(count);
+        }
+        if self.count > 0 {
+            let count = buf.len().min(self.count);
+            for byte in buf[..count].iter_mut() {
+                *byte = self.byte;
+            }
+            self.count -= count;
+            return Ok(count);
+        }
+        if self.back.is_empty() && self.fails {
+            return Err(io::Error::from(ErrorKind::BrokenPipe));
+        }
+        let count = most.min(self.back.len());
+        buf[..count].copy_from_slice(&self.back[..count]);
+        self.back = &self.back[count..];
+        Ok(count)
+    }
+}
+
+/// What is read from such a reader.
+fn slowly(alloc: Global, front: &[u8], count: usize, back: &[u8], fails: bool) -> Result<Script, ScriptFault> {
+    let mut reader = Watched::new(Slow {
+        front,
+        byte: b'1',
+        count,
+        back,
+        fails,
+        interrupts: false,
+    });
+    read_script(alloc, &mut reader, ALL)
+}
+
+#[test]
+fn a_script_in_pieces(rt: HostRuntime) {
+    let alloc = rt.alloc();
+    let whole = slowly(alloc, b"pages 8\nfind ", 3, b"\nrun 1 9\n", false);
+    let at_once = script_of(alloc, b"pages 8\nfind 111\nrun 1 9\n", ALL);
+    assert!(rt; whole == at_once);
+    // a line of two million bytes, with an LF and without
+    let long = slowly(alloc, b"pages 8\nfind ", 2_000_000, b"\nrun 1 9\n", false);
+    assert!(rt; long == Err(ScriptFault::Line(2)));
+    let open = slowly(alloc, b"pages 8\nfind ", 2_000_000, b"", false);
+    assert!(rt; open == Err(ScriptFault::Line(2)));
+}
+
+#[test]
+fn a_read_that_fails_in_the_middle(rt: HostRuntime) {
+    let alloc = rt.alloc();
+    let texts: [&[u8]; 4] = [b"", b"pages", b"pages 8\n", b"pages 8\nfind 1\nru"];
+    for text in texts {
+        assert!(rt; slowly(alloc, text, 0, b"", true) == Err(ScriptFault::Read));
+    }
+    // a bad line comes first
+    assert!(rt; slowly(alloc, b"pages 8\nfind\n", 0, b"", true) == Err(ScriptFault::Line(2)));
+}
+
+/// Holds whichever allocation is refused: the answer is Memory, or that of ample memory.
+#[test]
+fn memory_or_the_script(rt: HostRuntime) {
+    match script_of(rt.alloc(), b"pages 8\nfind 1\nturn 1\nrefuse 1\nrun 1 2\nturn 1\n", ALL) {
+        Ok(script) => assert_eq!(rt; script.commands.len(), 5),
+        Err(fault) => assert_eq!(rt; fault, ScriptFault::Memory),
+    }
+    match script_of(rt.alloc(), b"pages 8\nfind 1\nturn 2\n", ALL) {
+        Ok(_) => assert!(rt; false),
+        Err(fault) => assert!(rt; fault == ScriptFault::Memory || fault == ScriptFault::Line(3)),
+    }
+}
