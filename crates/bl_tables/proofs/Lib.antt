@@ -12,3 +12,5 @@ pub mod Plain
 pub mod Near
 pub mod Turning
 pub mod Starting
+pub mod Gets
+pub mod GivingUp
