@@ -1,6 +1,7 @@
 -- A process begins, and ends: each keeps the rule, and the pass knows it.
 use Rattle.std.proofs.Common.{ℕ, ◌≡◌, ◌≢◌, ◌⊎◌, ◌+◌, ◌<◌, ◌≤◌, ◌++◌, Bool, true, false, Option, Some, None, List, [], ◌∷◌, length, set, refl, sym, ap, ◌∙◌, subst, inl, inr, arith, append-nil}
 use mathlib.Core.Option.{some, some-injective}
+use mathlib.Core.Option as lists
 use lib.ListN.{get_elem?}
 use Rattle.bl_model.specs.declared.operation.Entry.{Entry}
 use Rattle.bl_model.specs.declared.operation.Reply.{Reply}
@@ -10,7 +11,7 @@ use Rattle.bl_page.specs.Machine.{Name, State, Act}
 use Rattle.bl_page.specs.Machine as machine
 use Rattle.bl_trails.specs.Trails.{Said, Mark, Trail, entries_at, IsMarked}
 use Rattle.bl_trails.proofs.Pushes.{name_cases, SaysAt-last, DoesAt-last}
-use Rattle.bl_steps.specs.Worlds.{Stage as WorldStage, World, IsGood}
+use Rattle.bl_steps.specs.Worlds.{World, IsGood}
 use Rattle.bl_steps.proofs.After.{put_name, is_put_name}
 use Rattle.bl_starts.specs.Blank.{IsBlank}
 use Rattle.bl_ways.specs.declared.acts.Action.TheVariants as act
@@ -28,7 +29,7 @@ use Rattle.bl_passes.specs.declared.known.Mine.{Mine}
 use Rattle.bl_passes.specs.Noting.{trail_of}
 use Rattle.bl_passes.specs.Seeing.{own}
 use Rattle.bl_passes.specs.Fitting.{name, owner_in, IsAtStage, IsHand, Fits}
-use Rattle.bl_passes.specs.Told.{Notes, Begins, Finishes, begins, ends, gives_up}
+use Rattle.bl_passes.specs.Told.{MayGiveUp, IsUnborn, Notes, Begins, Finishes, begins, ends, gives_up}
 use Rattle.bl_passes.proofs.Notings.{trail_back}
 use Rattle.bl_passes.proofs.Entries.{own-mine}
 use Rattle.bl_passes.proofs.Stages.{pass_of, number_of, turn_mark}
@@ -63,11 +64,11 @@ module _ (s : Pages Mine) (f : Fits s) (n : ℕ) (d : Mine) (at : Stands s n Idl
   not_now : (k : ℕ) (st : Stage) (e : Mine) → Stands s k st e → IsHand f.world k st e → name k e.number ≢ next_name
   not_now k st e at_k h same = (
       let hands = f.hands n Idle d at in
-      let here : k ≡ n = pass_of _ _ same in
-      let there : some (st, e) ≡ some (Idle, d) = sym at_k ∙ (ap (λ (z : ℕ). get_elem? s.hands z) here ∙ at) in
-      let one : (st, e) ≡ (Idle, d) = some-injective (st, e) (Idle, d) there in
+      let here : k ≡ n = pass_of (name k e.number) next_name same in
+      let there : ◌≡◌ {A = lists.Option (Stage × Mine)} (some (st, e)) (some (Idle, d)) = sym at_k ∙ (ap (λ (z : ℕ). get_elem? s.hands z) here ∙ at) in
+      let one : ◌≡◌ {A = Stage × Mine} (st, e) (Idle, d) = some-injective {A = Stage × Mine} (st, e) (Idle, d) there in
       let count : e.number ≡ d.number = ap (λ (z : Stage × Mine). z.1.number) one in
-      let more : e.number ≡ d.number + 1 = number_of _ _ same in
+      let more : e.number ≡ d.number + 1 = number_of (name k e.number) next_name same in
       omega arith)
 
   pub entered : Fits s
@@ -89,14 +90,19 @@ module _ (s : Pages Mine) (f : Fits s) (n : ℕ) (d : Mine) (at : Stands s n Idl
     };
   }
 
--- a process that is to begin, and knows nothing yet
-abbrev pub fresh_run : Proc → Run
-fresh_run process = record { state = process; got = λ x. Anchor (record { leftmost = record { items = 1 ∷ [] }; some = omega arith; few = omega arith; pages = ((omega arith, omega arith), tt) }); child = 0 }
+-- the anchor of a tree whose one page is page 1
+abbrev pub first_anchor : Page
+first_anchor = Anchor (record { leftmost = record { items = 1 ∷ [] }; some = omega arith; few = omega arith; pages = ((omega arith, omega arith), tt) })
 
-pub begins_process : (l : Layout) (n : ℕ) (d : Mine) (process : Proc) → next_of process ≡ act.Begin → IsBlank (know (fresh_run process)) → GoesOn process seen.Done → BeginsIn Fits l n d (begins n l.pages process)
+-- a process that is to begin, in the world that has got nothing yet
+abbrev pub fresh_run : Proc → Run
+fresh_run process = record { state = process; got = λ x. first_anchor; child = 0 }
+
+pub begins_process : (l : Layout) (n : ℕ) (d : Mine) (process : Proc) → next_of process ≡ act.Begin → IsUnborn process → GoesOn process seen.Done → BeginsIn Fits l n d (begins n l.pages process)
 unfolding entered
-begins_process l n d process next blank course s g o at =
+begins_process l n d process next unborn course s g o at =
     let b = fresh_run process in
+    let blank : IsBlank (know b) = unborn b refl in
     let f = entered s g n d at b blank in
     let w = f.world in
     let m = d.number + 1 in
@@ -177,13 +183,6 @@ ends_process l n d next course s since f o at =
     let s1 : State Page = record w.now { phase = put_name p machine.Ended w.now.phase } in
     let does : Does w.now p (Act.End (end_of_proc d.state)) s1 = record { changes = (λ x. refl, λ x. refl, is_put_name p machine.Ended w.now.phase); on = omega arith } in
     finishes l n d s since f o at (end_of_proc d.state) _ (turned s f n since d at seen.Done course act.End next s1 tt does)
-
--- a process that may end at once
-pub record MayGiveUp (state : Proc) : Type 0 where
-  pub busy : (r : Run) → r.state ≡ state → (know r).stage ≡ WorldStage.Busy
-  pub silent : (r : Run) → r.state ≡ state → (know r).said ≡ None
-  pub empty : (r : Run) → r.state ≡ state → (know r).holds ≡ []
-  pub no_middle : (r : Run) → r.state ≡ state → (know r).middle ≡ None
 
 pub gives_up_process : (l : Layout) (n : ℕ) (d : Mine) → MayGiveUp d.state → Ends Fits l n d gives_up
 gives_up_process l n d may s since f o at =

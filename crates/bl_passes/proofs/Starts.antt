@@ -19,12 +19,9 @@ use Rattle.bl_passes.specs.Seeing.{IsSeen}
 use Rattle.bl_passes.specs.Fitting.{name, unborn, newcomer, Shows, owner_in, IsHand, Fits}
 use Rattle.bl_passes.proofs.Shown.{at_below}
 use Rattle.bl_passes.proofs.Sights.{world_seen}
-use Rattle.bl_passes.proofs.Bounds.{fresh_run}
+use Rattle.bl_passes.proofs.Bounds.{first_anchor, fresh_run}
 
--- the anchor of a tree whose one page is page 1, and an empty leaf
-abbrev pub first_anchor : Page
-first_anchor = Anchor (record { leftmost = record { items = 1 ∷ [] }; some = omega arith; few = omega arith; pages = ((omega arith, omega arith), tt) })
-
+-- an empty leaf
 abbrev pub first_leaf : Page
 first_leaf = Leaf (record { low = 0; high = 0; right = 0; rows = record { items = [] }; bounds = omega arith; link = omega arith; few = omega arith; order = tt; cover = tt })
 

@@ -13,6 +13,8 @@ use Rattle.bl_proc.specs.declared.kinds.Proc.{Proc}
 use Rattle.bl_proc.specs.Processes.{next_of}
 use Rattle.bl_tables.specs.Turns.{event_of}
 use Rattle.bl_tables.specs.Knowing.{Run, know, end_of_proc}
+use Rattle.bl_steps.specs.Worlds.{Stage}
+use Rattle.bl_starts.specs.Blank.{IsBlank}
 use Rattle.bl_courses.specs.Courses.{GoesOn}
 use Rattle.bl_store.specs.Pages.{Owner, Open}
 use Rattle.bl_passes.specs.declared.known.Mine.{Mine}
@@ -116,3 +118,14 @@ pub record Sweeps (d e : Mine) : Type 0 where
 
 abbrev pub sweeps : Mine → Mine → Type 0
 sweeps d e = e ≡ d
+
+-- a process that may end at once: it runs, has said nothing, and holds nothing
+pub record MayGiveUp (state : Proc) : Type 0 where
+  pub busy : (r : Run) → r.state ≡ state → (know r).stage ≡ Stage.Busy
+  pub silent : (r : Run) → r.state ≡ state → (know r).said ≡ None
+  pub empty : (r : Run) → r.state ≡ state → (know r).holds ≡ []
+  pub no_middle : (r : Run) → r.state ≡ state → (know r).middle ≡ None
+
+-- a process that is to begin, and has nothing
+abbrev pub IsUnborn : Proc → Type 0
+IsUnborn state = (r : Run) → r.state ≡ state → IsBlank (know r)

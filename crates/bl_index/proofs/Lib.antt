@@ -1,0 +1,4 @@
+pub mod Calls
+pub mod Hands
+pub mod Searches
+pub mod Firsts
