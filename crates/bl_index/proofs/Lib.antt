@@ -2,3 +2,4 @@ pub mod Calls
 pub mod Hands
 pub mod Searches
 pub mod Firsts
+pub mod Taken

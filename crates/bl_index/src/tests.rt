@@ -1,12 +1,39 @@
+ghost use Rattle.std.specs.Prelude.{IfSome};
 ghost use Rattle.bl_index.specs.Calls.{IsPassOf};
 
 use crate::{Config, Index, OpenFault, OutOfTurns, Pass};
 use bl_model::Reply;
+use std::alloc::Global;
 use std::test::Fail;
 use std::thread::join;
 
 fn config(pages: u32, passes: u32) -> Config {
     Config { pages, passes }
+}
+
+fn one_pass(alloc: Global, pages: u32) -> Option<(Index, Pass)>
+    ensures { IfSome result (λ t. IsPassOf t.0 t.1) }
+{
+    match Index::open(alloc, config(pages, 1)) {
+        Ok((index, mut passes)) => {
+            let pass = passes.pop()?;
+            Some((index, pass))
+        }
+        Err(_) => None,
+    }
+}
+
+fn two_passes(alloc: Global, pages: u32) -> Option<(Index, Pass, Pass)>
+    ensures { IfSome result (λ t. IsPassOf t.0 t.1 × IsPassOf t.0 t.2) }
+{
+    match Index::open(alloc, config(pages, 2)) {
+        Ok((index, mut passes)) => {
+            let two = passes.pop()?;
+            let one = passes.pop()?;
+            Some((index, one, two))
+        }
+        Err(_) => None,
+    }
 }
 
 fn is_absent(index: &Index, pass: Pass, key: u64) -> bool
@@ -19,15 +46,11 @@ fn is_absent(index: &Index, pass: Pass, key: u64) -> bool
 // In an index without rows, two threads find nothing.
 #[test]
 fn two_threads_find_nothing(rt: HostRuntime) -> Result<(), Fail> {
-    let Ok((index, mut passes)) = Index::open(rt.alloc(), config(8, 2)) else {
+    let Some((index, one, two)) = two_passes(rt.alloc(), 8) else {
         assert!(rt; false);
         return Ok(());
     };
-    assert!(rt; index.patience() == 8 && passes.len() == 2);
-    let (Some(two), Some(one)) = (passes.pop(), passes.pop()) else {
-        assert!(rt; false);
-        return Ok(());
-    };
+    assert!(rt; index.patience() == 8);
     let (x, y) = join(
         &rt,
         || -> bool
@@ -44,11 +67,7 @@ fn two_threads_find_nothing(rt: HostRuntime) -> Result<(), Fail> {
 // One get is too few.
 #[test]
 fn searches_run_out_of_turns(rt: HostRuntime) -> Result<(), Fail> {
-    let Ok((index, mut passes)) = Index::open(rt.alloc(), config(4, 1)) else {
-        assert!(rt; false);
-        return Ok(());
-    };
-    let Some(mut pass) = passes.pop() else {
+    let Some((index, mut pass)) = one_pass(rt.alloc(), 4) else {
         assert!(rt; false);
         return Ok(());
     };
