@@ -16,3 +16,5 @@ pub mod Near
 pub mod Turning
 pub mod Starting
 pub mod Answered
+pub mod Gets
+pub mod GivingUp

@@ -137,6 +137,18 @@ full_blank b is = record {
   log = early_log b is.stage [];
 }
 
+pub bare_blank : (b : Run) → IsBlank (know b) → IsBlank (bare b)
+bare_blank b is = record {
+  stage = is.stage;
+  said = is.said;
+  holds = is.holds;
+  goes = is.goes;
+  children = is.children;
+  passed = is.passed;
+  sound = is.sound;
+  log = (plain b).log [];
+}
+
 same_words : (c d : Page) → seen.Words c ≡ seen.Words d → c ≡ d
 same_words c d e = cc
 

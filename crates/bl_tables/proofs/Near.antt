@@ -117,5 +117,8 @@ module _ {P : Type 0} (know : P → Know) (w : World P) (g : IsGood know w) (p :
   of_near got child (Delete a) is = delete_near a.key got a.stage is
   of_near got child (Post a) is = post_near a.level a.key got child a.stage is
 
+pub bare_near : (w : World Run) (p : Name) → IsGood bare w → IsNear w p (next_of (w.proc p).state)
+bare_near w p g = of_near bare w g p (w.proc p).got (w.proc p).child (w.proc p).state (g.sure p)
+
 pub near : (w : World Run) (p : Name) → IsGood know w → IsNear w p (next_of (w.proc p).state)
-near w p g = of_near bare w (bare_good w g) p (w.proc p).got (w.proc p).child (w.proc p).state ((bare_good w g).sure p)
+near w p g = bare_near w p (bare_good w g)

@@ -1,5 +1,5 @@
 -- Where worlds of processes begin, how a process enters one, and the laws of each.
-use Rattle.std.proofs.Common.{ℕ, ◌≡◌, None, Some, ap, ◌∙◌, subst, inl, inr}
+use Rattle.std.proofs.Common.{ℕ, ◌≡◌, None, Some, ap, sym, ◌∙◌, subst, inl, inr}
 use Rattle.bl_page.specs.Machine.{Name}
 use Rattle.bl_page.specs.Machine.Phase.{Waiting}
 use Rattle.bl_tree.specs.Trees.Status.{Right}
@@ -11,19 +11,23 @@ use Rattle.bl_steps.proofs.Frames.{Each-map}
 use Rattle.bl_steps.proofs.After.{put_name, is_put_name}
 use Rattle.bl_starts.specs.Blank.{IsBlank}
 use Rattle.bl_starts.proofs.WorldLaws.{laws}
-use Rattle.bl_tables.specs.Knowing.{Run, know}
+use Rattle.bl_tables.specs.Logs.{proc_log}
+use Rattle.bl_tables.specs.Knowing.{Run, bare, know}
 use Rattle.bl_tables.proofs.Plain.{plain}
-use Rattle.bl_tables.proofs.Logged.{early_log}
+use Rattle.bl_tables.proofs.Logged.{bare_good, full_good, bare_blank, early_log}
 
 -- The laws of the tree hold in every good world of these processes.
-pub run_laws : (w : World Run) → IsGood know w → HasLaws w.now w.trail (w.map 0)
-run_laws w g = laws know w (record {
+pub bare_laws : (w : World Run) → IsGood bare w → HasLaws w.now w.trail (w.map 0)
+bare_laws w g = laws bare w (record {
   middle = λ x y e. absurd (none x y e);
   evening = λ x y e. absurd (none x y e);
 }) g
   where
     none : (x y : ℕ) → w.status y ≡ Right x → ⊥
     none x y e = (let m = g.middles x y e in let n = (plain (w.proc m.by)).middle in let i = m.is in cc)
+
+pub run_laws : (w : World Run) → IsGood know w → HasLaws w.now w.trail (w.map 0)
+run_laws w g = bare_laws w (bare_good w g)
 
 -- the same world with another process at one name
 abbrev pub with_proc : World Run → Name → Run → World Run
@@ -49,8 +53,8 @@ same_sure w p q b k is = record {
     passed (Some s) h = h
 
 -- A process that has done nothing enters where none has begun.
-pub enters_good : (w : World Run) (p : Name) (b : Run) → IsGood know w → w.now.phase p ≡ Waiting → IsBlank (know (w.proc p)) → IsBlank (know b) → IsGood know (with_proc w p b)
-enters_good w p b g waiting old new =
+pub bare_enters_good : (w : World Run) (p : Name) (b : Run) → IsGood bare w → w.now.phase p ≡ Waiting → IsBlank (bare (w.proc p)) → IsBlank (bare b) → IsGood bare (with_proc w p b)
+bare_enters_good w p b g waiting old new =
     let put = is_put_name p b w.proc in
     record {
       tree = g.tree;
@@ -60,7 +64,7 @@ enters_good w p b g waiting old new =
         opened = g.owned.opened;
         retired = g.owned.retired;
         held = λ x q o. elim (name_cases q p) [
-          | inl e ↦ absurd (subst (λ hs. Holds hs x) (ap (λ n. (know (w.proc n)).holds) e ∙ old.holds) (g.owned.held x q o))
+          | inl e ↦ absurd (subst (λ hs. Holds hs x) (ap (λ n. (bare (w.proc n)).holds) e ∙ old.holds) (g.owned.held x q o))
           | inr n ↦ rw (put.others q n) (g.owned.held x q o)
         ];
         small = g.owned.small;
@@ -85,8 +89,8 @@ enters_good w p b g waiting old new =
       middles = λ x y e. absurd (let m = g.middles x y e in let n = (plain (w.proc m.by)).middle in let i = m.is in cc);
       sure = λ q. elim (name_cases q p) [
         | inl e ↦
-            let is : IsSure w q (know (w.proc q)) = g.sure q in
-            let said : HasSaid w.trail q None = subst (HasSaid w.trail q) (ap (λ n. (know (w.proc n)).said) e ∙ old.said) is.said in
+            let is : IsSure w q (bare (w.proc q)) = g.sure q in
+            let said : HasSaid w.trail q None = subst (HasSaid w.trail q) (ap (λ n. (bare (w.proc n)).said) e ∙ old.said) is.said in
             let at : put_name p b w.proc q ≡ b = ap (put_name p b w.proc) e ∙ put.at in
             rw at (record {
               stage = rw (new.stage, e) waiting;
@@ -96,8 +100,16 @@ enters_good w p b g waiting old new =
               children = rw new.children tt;
               passed = rw new.passed tt;
               sound = new.sound;
-              log = early_log b new.stage (marks_of q w.trail);
+              log = (plain b).log (marks_of q w.trail);
             })
-        | inr n ↦ rw (put.others q n) (same_sure w p q b (know (w.proc q)) (g.sure q))
+        | inr n ↦ rw (put.others q n) (same_sure w p q b (bare (w.proc q)) (g.sure q))
       ];
     }
+
+pub enters_good : (w : World Run) (p : Name) (b : Run) → IsGood know w → w.now.phase p ≡ Waiting → IsBlank (know (w.proc p)) → IsBlank (know b) → IsGood know (with_proc w p b)
+enters_good w p b g waiting old new =
+    let put = is_put_name p b w.proc in
+    full_good (with_proc w p b) (bare_enters_good w p b (bare_good w g) waiting (bare_blank (w.proc p) old) (bare_blank b new)) (λ q. elim (name_cases q p) [
+      | inl e ↦ subst (λ r. proc_log r.state (marks_of q w.trail)) (sym (ap (put_name p b w.proc) e ∙ put.at)) (early_log b new.stage (marks_of q w.trail))
+      | inr n ↦ subst (λ r. proc_log r.state (marks_of q w.trail)) (sym (put.others q n)) (g.sure q).log
+    ])

@@ -44,25 +44,30 @@ state_turn w p got child (Post a) (Insert c) b what s g before then t told does 
 state_turn w p got child (Post a) (Delete c) b what s g before then t told does = absurd t
 
 -- Process p, which is a, was told this of its next action, truly, and goes to that state: from a good world this leads to a
--- good world, in which p is in that state, and whose trail has one mark more.
-pub turn : (w : World Run) (p : Name) (a : Run) (new : Proc) (what : Seen) (s : State Page) → w.proc p ≡ a → IsGood know w → Takes a.state what new → IsTold w.now w.size (next_of a.state) what → Does w.now p (event_of (end_of_proc a.state) (next_of a.state) what) s → Turned know w p (event_of (end_of_proc a.state) (next_of a.state) what) s (run_next a what new)
-turn w p a new what s is g t told does =
-    with_logs w p a new what s _ is g t told refl (state_turn w p a.got a.child a.state new (run_next a what new) what s (bare_good w g) (ap bare is) refl t told does)
+-- good world, in which p is in that state, and whose trail has one mark more. First by the states of processes alone.
+pub bare_turn : (w : World Run) (p : Name) (a : Run) (new : Proc) (what : Seen) (s : State Page) → w.proc p ≡ a → IsGood bare w → Takes a.state what new → IsTold w.now w.size (next_of a.state) what → Does w.now p (event_of (end_of_proc a.state) (next_of a.state) what) s → Turned bare w p (event_of (end_of_proc a.state) (next_of a.state) what) s (run_next a what new)
+bare_turn w p a new what s is g t told does = state_turn w p a.got a.child a.state new (run_next a what new) what s g (ap bare is) refl t told does
 
 -- A turn that is not fit is a miss, and changes nothing.
-pub idle_turn : (w : World Run) (p : Name) (s : State Page) → IsGood know w → Does w.now p Miss s → Turned know w p Miss s (w.proc p)
-idle_turn w p s g does =
-    let was = bare_good w g in
-    let is = was.sure p in
+pub bare_idle_turn : (w : World Run) (p : Name) (s : State Page) → IsGood bare w → Does w.now p Miss s → Turned bare w p Miss s (w.proc p)
+bare_idle_turn w p s g does =
+    let is = g.sure p in
     let m : Mark = silent p Miss in
-    with_miss w p s g (watched bare w was p (w.proc p) _ _ refl refl Miss None None s tt tt does tt refl (λ x h. h) (λ it e. cc) (λ k. refl)
+    watched bare w g p (w.proc p) _ _ refl refl Miss None None s tt tt does tt refl (λ x h. h) (λ it e. cc) (λ k. refl)
     (record {
       stage = is.stage;
-      said = HasSaid-silent w.trail m p (know (w.proc p)).said refl is.said;
-      holds = Each-map (IsHeld w p) _ (know (w.proc p)).holds (λ h i. (does.changes.1 h.at ∙ i.owner, i.status, i.sep, i.page)) is.holds;
+      said = HasSaid-silent w.trail m p (bare (w.proc p)).said refl is.said;
+      holds = Each-map (IsHeld w p) _ (bare (w.proc p)).holds (λ h i. (does.changes.1 h.at ∙ i.owner, i.status, i.sep, i.page)) is.holds;
       goes = is.goes;
-      children = Each-map (IsRelied w p) _ (know (w.proc p)).children (λ c i. (does.changes.1 c.parent ∙ i.owner, i)) is.children;
+      children = Each-map (IsRelied w p) _ (bare (w.proc p)).children (λ c i. (does.changes.1 c.parent ∙ i.owner, i)) is.children;
       passed = is.passed;
       sound = is.sound;
       log = (plain (w.proc p)).log (marks_of p w.trail ++ m ∷ []);
-    }))
+    })
+
+-- The same, with what each process has done.
+pub turn : (w : World Run) (p : Name) (a : Run) (new : Proc) (what : Seen) (s : State Page) → w.proc p ≡ a → IsGood know w → Takes a.state what new → IsTold w.now w.size (next_of a.state) what → Does w.now p (event_of (end_of_proc a.state) (next_of a.state) what) s → Turned know w p (event_of (end_of_proc a.state) (next_of a.state) what) s (run_next a what new)
+turn w p a new what s is g t told does = with_logs w p a new what s _ is g t told refl (bare_turn w p a new what s is (bare_good w g) t told does)
+
+pub idle_turn : (w : World Run) (p : Name) (s : State Page) → IsGood know w → Does w.now p Miss s → Turned know w p Miss s (w.proc p)
+idle_turn w p s g does = with_miss w p s g (bare_idle_turn w p s (bare_good w g) does)

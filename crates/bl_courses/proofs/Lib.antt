@@ -1,0 +1,3 @@
+pub mod Onwards
+pub mod Searches
+pub mod Rows

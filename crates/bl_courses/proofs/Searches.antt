@@ -1,0 +1,128 @@
+-- A search goes on, and in one way.
+use Rattle.std.proofs.Common.{ℕ, ◌≡◌, Option, Some, None, ap, sym, ◌∙◌, refl, inl, inr, ⊎_elim, subst}
+use Rattle.bl_page.specs.declared.page.Page.{Page}
+use Rattle.bl_laws.specs.Pages.{node_of, roots_of}
+use Rattle.bl_ways.specs.declared.acts.Seen.{Seen}
+use Rattle.bl_ways.specs.declared.acts.Seen.TheVariants as seen
+use Rattle.bl_ways.specs.declared.onwards.Onward.{Onward}
+use Rattle.bl_ways.specs.declared.onwards.Onward.TheVariants.{Again, Right, Down, Here}
+use Rattle.bl_ways.specs.Given.{Gives}
+use Rattle.bl_ways.specs.Onwards.{top_of, Leads}
+use Rattle.bl_proc.specs.declared.kinds.Proc.{Proc}
+use Rattle.bl_proc.specs.declared.kinds.Proc.TheVariants.{Find, Insert, Delete, Post}
+use Rattle.bl_proc.specs.declared.searching.Find.{Find as FindState}
+use Rattle.bl_proc.specs.declared.searching.FindStage.{FindStage}
+use Rattle.bl_proc.specs.declared.searching.FindStage.TheVariants.{New, AtAnchor, At, Ending, Over}
+use Rattle.bl_proc.specs.Searches.{find_next_in, find_answer_in, FindGoes}
+use Rattle.bl_proc.specs.Processes.{Takes}
+use Rattle.bl_courses.specs.Courses.{GoesOn}
+use Rattle.bl_courses.proofs.Onwards.{leads_some, leads_one}
+
+record Goes (key : ℕ) (old : FindStage) (what : Seen) : Type 0 where
+  pub new : FindStage
+  pub goes : FindGoes key old what new
+  pub only : (other : FindStage) → FindGoes key old what other → other ≡ new
+
+new_only : (key : ℕ) (other : FindStage) → FindGoes key New seen.Done other → other ≡ AtAnchor
+new_only key New t = absurd t
+new_only key AtAnchor t = refl
+new_only key (At y) t = absurd t
+new_only key (Ending v) t = absurd t
+new_only key (Over v) t = absurd t
+
+anchor_only : (key : ℕ) (c : Page) (other : FindStage) → FindGoes key AtAnchor (seen.Words c) other → other ≡ (At (top_of (roots_of c)))
+anchor_only key c New t = absurd t
+anchor_only key c AtAnchor t = absurd t
+anchor_only key c (At y) t = ap At t
+anchor_only key c (Ending v) t = absurd t
+anchor_only key c (Over v) t = absurd t
+
+ending_only : (key : ℕ) (value : Option ℕ) (other : FindStage) → FindGoes key (Ending value) seen.Done other → other ≡ (Over value)
+ending_only key value New t = absurd t
+ending_only key value AtAnchor t = absurd t
+ending_only key value (At y) t = absurd t
+ending_only key value (Ending v) t = absurd t
+ending_only key value (Over v) t = ap Over t
+
+module _ (key x : ℕ) (c : Page) where
+  again_only : Leads c key 0 Again → (other : FindStage) → FindGoes key (At x) (seen.Words c) other → other ≡ AtAnchor
+  again_only a AtAnchor t = refl
+  again_only a (At y) t = elim t [ inl r ↦ (let e = leads_one c key 0 Again (Right y) a r in cc) | inr d ↦ (let e = leads_one c key 0 Again (Down y) a d in cc) ]
+  again_only a (Ending v) t = (let e = leads_one c key 0 Again Here a t.0 in cc)
+  again_only a New t = absurd t
+  again_only a (Over v) t = absurd t
+
+  right_only : (z : ℕ) → Leads c key 0 (Right z) → (other : FindStage) → FindGoes key (At x) (seen.Words c) other → other ≡ At z
+  right_only z a AtAnchor t = (let e = leads_one c key 0 (Right z) Again a t in cc)
+  right_only z a (At y) t = elim t [ inl r ↦ (let e = leads_one c key 0 (Right z) (Right y) a r in cc) | inr d ↦ (let e = leads_one c key 0 (Right z) (Down y) a d in cc) ]
+  right_only z a (Ending v) t = (let e = leads_one c key 0 (Right z) Here a t.0 in cc)
+  right_only z a New t = absurd t
+  right_only z a (Over v) t = absurd t
+
+  down_only : (z : ℕ) → Leads c key 0 (Down z) → (other : FindStage) → FindGoes key (At x) (seen.Words c) other → other ≡ At z
+  down_only z a AtAnchor t = (let e = leads_one c key 0 (Down z) Again a t in cc)
+  down_only z a (At y) t = elim t [ inl r ↦ (let e = leads_one c key 0 (Down z) (Right y) a r in cc) | inr d ↦ (let e = leads_one c key 0 (Down z) (Down y) a d in cc) ]
+  down_only z a (Ending v) t = (let e = leads_one c key 0 (Down z) Here a t.0 in cc)
+  down_only z a New t = absurd t
+  down_only z a (Over v) t = absurd t
+
+  here_only : Leads c key 0 Here → (other : FindStage) → FindGoes key (At x) (seen.Words c) other → other ≡ Ending ((node_of c).look key)
+  here_only a AtAnchor t = (let e = leads_one c key 0 Here Again a t in cc)
+  here_only a (At y) t = elim t [ inl r ↦ (let e = leads_one c key 0 Here (Right y) a r in cc) | inr d ↦ (let e = leads_one c key 0 Here (Down y) a d in cc) ]
+  here_only a (Ending v) t = ap Ending t.1
+  here_only a New t = absurd t
+  here_only a (Over v) t = absurd t
+
+  at_goes : (o : Onward) → Leads c key 0 o → Goes key (At x) (seen.Words c)
+  at_goes Again a = record { new = AtAnchor; goes = a; only = again_only a }
+  at_goes (Right y) a = record { new = At y; goes = inl a; only = right_only y a }
+  at_goes (Down y) a = record { new = At y; goes = inr a; only = down_only y a }
+  at_goes Here a = record { new = Ending ((node_of c).look key); goes = (a, refl); only = here_only a }
+
+stage_goes : (key : ℕ) (old : FindStage) (what : Seen) → find_answer_in old ≡ None → Gives (find_next_in old) None what → Goes key old what
+stage_goes key New seen.Done a g = record { new = AtAnchor; goes = tt; only = new_only key }
+stage_goes key New (seen.Words c) a g = absurd g
+stage_goes key New (seen.Took y) a g = absurd g
+stage_goes key New (seen.Owner retired started own) a g = absurd g
+stage_goes key New (seen.Blocks b) a g = absurd g
+stage_goes key New seen.Missed a g = absurd g
+stage_goes key New seen.Refused a g = absurd g
+stage_goes key AtAnchor seen.Done a g = absurd g
+stage_goes key AtAnchor (seen.Words c) a g = record { new = At (top_of (roots_of c)); goes = refl; only = anchor_only key c }
+stage_goes key AtAnchor (seen.Took y) a g = absurd g
+stage_goes key AtAnchor (seen.Owner retired started own) a g = absurd g
+stage_goes key AtAnchor (seen.Blocks b) a g = absurd g
+stage_goes key AtAnchor seen.Missed a g = absurd g
+stage_goes key AtAnchor seen.Refused a g = absurd g
+stage_goes key (At x) seen.Done a g = absurd g
+stage_goes key (At x) (seen.Words c) a g = (let o = leads_some c key 0 in at_goes key x c o.0 o.1)
+stage_goes key (At x) (seen.Took y) a g = absurd g
+stage_goes key (At x) (seen.Owner retired started own) a g = absurd g
+stage_goes key (At x) (seen.Blocks b) a g = absurd g
+stage_goes key (At x) seen.Missed a g = absurd g
+stage_goes key (At x) seen.Refused a g = absurd g
+stage_goes key (Ending v) seen.Done a g = record { new = Over v; goes = refl; only = ending_only key v }
+stage_goes key (Ending v) (seen.Words c) a g = absurd g
+stage_goes key (Ending v) (seen.Took y) a g = absurd g
+stage_goes key (Ending v) (seen.Owner retired started own) a g = absurd g
+stage_goes key (Ending v) (seen.Blocks b) a g = absurd g
+stage_goes key (Ending v) seen.Missed a g = absurd g
+stage_goes key (Ending v) seen.Refused a g = absurd g
+stage_goes key (Over v) seen.Done a g = absurd (cc)
+stage_goes key (Over v) (seen.Words c) a g = absurd (cc)
+stage_goes key (Over v) (seen.Took y) a g = absurd (cc)
+stage_goes key (Over v) (seen.Owner retired started own) a g = absurd (cc)
+stage_goes key (Over v) (seen.Blocks b) a g = absurd (cc)
+stage_goes key (Over v) seen.Missed a g = absurd (cc)
+stage_goes key (Over v) seen.Refused a g = absurd (cc)
+
+find_only : (old : FindState) (what : Seen) (g : Goes old.key old.stage what) (other : Proc) → Takes (Find old) what other → other ≡ Find (record { key = old.key; stage = g.new })
+find_only old what g (Find f) t = (let e = g.only f.stage (subst (λ k. FindGoes old.key old.stage what f.stage) t.0 t.1) in λ i. Find (record { key = t.0 i; stage = e i }))
+find_only old what g (Insert f) t = absurd t
+find_only old what g (Delete f) t = absurd t
+find_only old what g (Post f) t = absurd t
+
+pub find_goes : (old : FindState) (what : Seen) → find_answer_in old.stage ≡ None → Gives (find_next_in old.stage) None what → GoesOn (Find old) what
+find_goes old what running given =
+    let g = stage_goes old.key old.stage what running given in
+    record { new = Find (record { key = old.key; stage = g.new }); takes = (refl, g.goes); only = find_only old what g }

@@ -1,0 +1,68 @@
+-- An index as it is made.
+use Rattle.std.proofs.Common.{ℕ, zero, suc, ◌≡◌, ◌≢◌, ◌+◌, ◌<◌, ◌≤◌, List, [], ◌∷◌, length, replicate, refl, sym, ap, ◌∙◌, subst, arith}
+use mathlib.Core.Option.{some}
+use lib.ListN.{get_elem?}
+use Rattle.std.proofs.Math.ListN.{length-set}
+use Rattle.bl_page.specs.declared.page.Page.{Page}
+use Rattle.bl_page.specs.declared.page.Page.TheVariants.{Anchor, Leaf, Inner, Dead}
+use Rattle.bl_page.specs.Words.{words_of}
+use Rattle.bl_store.specs.Opening.{first_pages, IsDealt}
+use Rattle.bl_store.specs.declared.view.View.{View}
+use Rattle.bl_store.specs.Frames.{share}
+use Rattle.bl_passes.specs.Fitting.{newcomer, Fits}
+use Rattle.bl_passes.proofs.Bounds.{first_anchor}
+use Rattle.bl_passes.proofs.Starts.{first_leaf, AreOpening, starts, newcomer_seen}
+use Rattle.bl_store.specs.declared.store.Hand.{Hand}
+use Rattle.bl_passes.specs.declared.known.Mine.{Mine}
+use Rattle.bl_passes.specs.Noting.{trail_of}
+use Rattle.bl_index.specs.declared.config.Config.{Config}
+use Rattle.bl_index.specs.declared.index.Index.{Index}
+use Rattle.bl_index.specs.declared.index.Pass.{Pass}
+use Rattle.bl_index.specs.Opened.{IsFirstAnchor, IsFirstLeaf, IsFirst, AreFirst, AreNew, ArePasses, IsOpened}
+
+there : {A : Type 0} (l : List A) (i : ℕ) → i < length l → (a : A) × (get_elem? l i ≡ some a)
+there [] i h = absurd (omega arith)
+there (x ∷ xs) zero h = (x, refl)
+there (x ∷ xs) (suc i) h = there xs i (omega arith)
+
+anchor_words : (c : Page) → IsFirstAnchor c → words_of c ≡ words_of first_anchor
+anchor_words (Anchor a) is = rw is refl
+anchor_words (Leaf l) is = absurd is
+anchor_words (Inner i) is = absurd is
+anchor_words (Dead d) is = absurd is
+
+leaf_words : (c : Page) → IsFirstLeaf c → words_of c ≡ words_of first_leaf
+leaf_words (Anchor a) is = absurd is
+leaf_words (Leaf l) is = rw (is.0, is.1, is.2, is.3) refl
+leaf_words (Inner i) is = absurd is
+leaf_words (Dead d) is = absurd is
+
+pub opens : (many : ℕ) (contents : List (List ℕ)) → 4 ≤ many → AreFirst many contents → (passes : ℕ) → Fits (first_pages contents passes newcomer)
+opens many contents four f passes =
+    let count = f.count in
+    let zero_at = there contents 0 (omega arith) in
+    let one_at = there contents 1 (omega arith) in
+    let zero_is = f.each 0 zero_at.0 zero_at.1 in
+    let one_is = f.each 1 one_at.0 one_at.1 in
+    starts contents (record {
+      many = omega arith;
+      anchor = zero_at.1 ∙ ap some (zero_is.2 ∙ anchor_words zero_is.0 zero_is.1);
+      leaf = one_at.1 ∙ ap some (one_is.2 ∙ leaf_words one_is.0 one_is.1);
+      others = λ x two lt. rest x two (there contents x lt);
+    }) passes
+  where
+    rest : (x : ℕ) → 2 ≤ x → (words : List ℕ) × (get_elem? contents x ≡ some words) → get_elem? contents x ≡ some (replicate 32 0)
+    rest zero two at = absurd (omega arith)
+    rest (suc zero) two at = absurd (omega arith)
+    rest (suc (suc x)) two at = at.1 ∙ ap some (f.each (suc (suc x)) at.0 at.1)
+
+pub dealt_new : (index : Index) (passes : ℕ) (hands : List (Hand Mine)) → IsDealt index.store.table.shared.table_id index.store.layout newcomer passes hands → AreNew index.store.table.shared.table_id index.store.layout 0 hands
+dealt_new index passes hands dealt j hand at = (let is = dealt.each j hand at in let same : j ≡ 0 + j = omega arith in subst (λ (z : ℕ). (hand.number ≡ z) × (hand.seat.table_id ≡ index.store.table.shared.table_id) × (hand.seat.me.0 ≡ share index.store.layout newcomer z (z + 1))) same is)
+
+pub is_opened : (config : Config) (index : Index) (hands : List (Hand Mine)) (passes : List Pass) → index.store.layout.pages ≡ config.pages → IsDealt index.store.table.shared.table_id index.store.layout newcomer config.passes hands → ArePasses index.store.table.shared.table_id index.store.layout (length hands) passes → IsOpened config index passes
+is_opened config index hands passes pages dealt are = record {
+  pages = pages;
+  count = are.count ∙ dealt.count;
+  each = λ n pass at. (let is = are.each n pass at in ((is.1, ap (λ (v : View Mine). v.layout) is.2), is.0, ap (λ (v : View Mine). trail_of v.known.trail) is.2));
+  seen = newcomer_seen;
+}

@@ -1,0 +1,5 @@
+pub mod Calls
+pub mod Hands
+pub mod Searches
+pub mod Firsts
+pub mod Taken

@@ -1,0 +1,16 @@
+-- The passes of a new index, taken from the last one on.
+use Rattle.std.proofs.Common.{ℕ, ◌≡◌, ◌++◌, List, [], ◌∷◌, length, sym, ap, ◌∙◌, refl}
+use mathlib.Core.Option.{some}
+use lib.ListN.{get_elem?}
+use Rattle.atomic_table.proofs.Lists.{at_last, at_longer}
+use Rattle.bl_index.specs.declared.config.Config.{Config}
+use Rattle.bl_index.specs.declared.index.Index.{Index}
+use Rattle.bl_index.specs.declared.index.Pass.{Pass}
+use Rattle.bl_index.specs.Calls.{IsPassOf}
+use Rattle.bl_index.specs.Opened.{IsOpened}
+
+pub last_pass : (config : Config) (index : Index) (passes rest : List Pass) (pass : Pass) → IsOpened config index passes → passes ≡ rest ++ pass ∷ [] → IsPassOf index pass
+last_pass config index passes rest pass o e = (o.each (length rest) pass (ap (λ (z : List Pass). get_elem? z (length rest)) e ∙ at_last rest pass (length rest) refl)).0
+
+pub next_pass : (config : Config) (index : Index) (passes more rest : List Pass) (one two : Pass) → IsOpened config index passes → passes ≡ more ++ two ∷ [] → more ≡ rest ++ one ∷ [] → IsPassOf index one
+next_pass config index passes more rest one two o e f = (o.each (length rest) one (ap (λ (z : List Pass). get_elem? z (length rest)) e ∙ at_longer more (two ∷ []) (length rest) one (ap (λ (z : List Pass). get_elem? z (length rest)) f ∙ at_last rest one (length rest) refl))).0

@@ -1,0 +1,21 @@
+use Rattle.std.proofs.Common.{◌≡◌, refl, ap, sym, ◌∙◌, subst}
+use Rattle.bl_ways.specs.declared.acts.Seen.TheVariants as seen
+use Rattle.bl_store.specs.Hands.{known}
+use Rattle.bl_proc.specs.declared.kinds.Proc.{Proc}
+use Rattle.bl_index.proofs.Calls.{since_begin}
+use Rattle.bl_index.proofs.index.Index.begin.Goals as goal
+
+pub launch-requires-clause-next : goal.launch-requires-clause-next
+launch-requires-clause-next g c = g.met.P.Kind.acts c.args.process.now ∙ c.requires.new.1
+
+pub launch-requires-clause-course : goal.launch-requires-clause-course
+launch-requires-clause-course g c = g.met.P.Kind.courses c.args.process.now seen.Done c.requires.new.0 (rw c.requires.new.1 tt)
+
+pub returns-clause-process : goal.returns-clause-process
+returns-clause-process g c =
+    let told = c.launch.ensures.told in
+    let goes = g.met.P.Kind.goes c.args.process.now c.took.new.self seen.Done c.took.ensures in
+    record { runs = told.runs; state = told.state ∙ sym (told.course.only _ goes); pages = told.pages; near = told.near }
+
+pub returns-clause-begun : goal.returns-clause-begun
+returns-clause-begun g c = since_begin _ _ _ _ _ c.launch.ensures.told

@@ -1,0 +1,26 @@
+use Rattle.std.proofs.Common.{◌≡◌, ℕ, ◌+◌, ◌<◌, length, ap, sym, ◌∙◌, subst, arith}
+use Rattle.bl_store.specs.declared.view.View.{View}
+use Rattle.bl_index.specs.Opened.{AreNew, IsNewHand, ArePasses}
+use Rattle.bl_index.proofs.Hands.{rest_new, first_new, passes_push}
+use Rattle.bl_index.proofs.opening.passes_of.Goals as goal
+
+pub remove-requires : goal.remove-requires
+remove-requires c = (let left = c.loop-number.invariant.left in omega arith)
+
+pub invariant_of-push : goal.invariant_of-push
+invariant_of-push c = (
+    let left = c.loop-number.invariant.left in
+    let is = first_new c.args.store.now.table.shared.table_id c.args.store.now.layout c.loop-number._number c.loop-number.hands.items c.remove.result (omega arith) c.loop-number.invariant.hands c.remove.ensures.value in
+    record { idle = ap (λ (v : View _). v.stamp) is.2; empty = ap (λ (v : View _). v.stock) is.2 })
+
+pub loop-number-preserved : goal.loop-number-preserved
+loop-number-preserved c = (
+    let left = c.loop-number.invariant.left in
+    let table = c.args.store.now.table.shared.table_id in
+    let layout = c.args.store.now.layout in
+    let is = first_new table layout c.loop-number._number c.loop-number.hands.items c.remove.result (omega arith) c.loop-number.invariant.hands c.remove.ensures.value in
+    record {
+      left = (let len = c.remove.ensures.len in omega arith);
+      hands = subst (AreNew table layout (c.loop-number._number + 1)) (sym c.remove.ensures.items) (rest_new table layout c.loop-number._number c.loop-number.hands.items c.loop-number.invariant.hands);
+      passes = passes_push table layout c.loop-number._number c.loop-number.passes.items _ _ c.loop-number.invariant.passes is c.in_ok-push.ensures.items;
+    })

@@ -1,0 +1,51 @@
+-- What a call tells the pass that makes it.
+use Rattle.std.specs.Prelude.{◌≡◌, ℕ, ◌++◌, Some, None, List, [], ◌∷◌, Result, IfOk, IfErr}
+use Rattle.bl_model.specs.declared.operation.Op.{Op}
+use Rattle.bl_model.specs.declared.operation.Reply.{Reply}
+use Rattle.bl_page.specs.Machine.{Name}
+use Rattle.bl_trails.specs.Trails.{Trail}
+use Rattle.bl_store.specs.Hands.{known, IsOf}
+use Rattle.bl_passes.specs.Noting.{trail_of}
+use Rattle.bl_passes.specs.Seeing.{IsSeen, own, Holds}
+use Rattle.bl_passes.specs.Fitting.{name}
+use Rattle.bl_index.specs.declared.config.OutOfTurns.{OutOfTurns}
+use Rattle.bl_index.specs.declared.index.Index.{Index}
+use Rattle.bl_index.specs.declared.index.Pass.{Pass}
+
+abbrev pub pages_of : Index → ℕ
+pages_of index = index.store.layout.pages
+
+-- the pass is of this index
+abbrev pub IsPassOf : Index → Pass → Type 0
+IsPassOf index pass = IsOf index.store.table.shared.table_id index.store.layout pass.hand.seat
+
+abbrev pub number_of : Pass → ℕ
+number_of pass = pass.hand.number
+
+-- all that has happened in the index, up to the pass's own last event
+abbrev pub trail : Pass → Trail
+trail pass = trail_of (known pass.hand.seat).trail
+
+-- The same pass of the same index
+abbrev pub IsSamePass : Pass → Pass → Type 0
+IsSamePass old new = (new.hand.seat.table_id ≡ old.hand.seat.table_id) × (new.hand.seat.me.0.layout ≡ old.hand.seat.me.0.layout) × (new.hand.number ≡ old.hand.number)
+
+-- A call of the pass is answered: it is one process, begun and ended after all that the pass had seen. What the pass has
+-- seen then is a trail that an index may have, and its only new entry of this pass is this operation with this reply.
+pub record Answers (pass : ℕ) (op : Op) (reply : Reply) (old new : Trail) : Type 0 where
+  pub number : ℕ
+  pub holds : Holds (name pass number) (Some reply) old new
+  pub seen : IsSeen new
+  pub once : own pass new ≡ own pass old ++ record { pass = pass; op = op; reply = reply } ∷ []
+
+-- The same of a call that says nothing of the map.
+pub record Adds (pass : ℕ) (old new : Trail) : Type 0 where
+  pub number : ℕ
+  pub holds : Holds (name pass number) None old new
+  pub seen : IsSeen new
+  pub none : own pass new ≡ own pass old
+
+-- A search is answered, or runs out of turns and says nothing.
+pub record MayAnswer (pass : ℕ) (op : Op) (result : Result Reply OutOfTurns) (old new : Trail) : Type 0 where
+  pub answered : IfOk result (λ reply. Answers pass op reply old new)
+  pub refused : IfErr result (λ fault. Adds pass old new)

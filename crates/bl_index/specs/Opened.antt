@@ -1,0 +1,72 @@
+-- An index that was just made.
+use Rattle.std.specs.Prelude.{◌≡◌, ◌≢◌, ◌⊎◌, ℕ, zero, suc, ◌+◌, ◌<◌, ◌≤◌, List, [], ◌∷◌, length, replicate}
+use mathlib.Core.Option.{some}
+use lib.ListN.{get_elem?}
+use Rattle.atomic_table.specs.Seated.{TableId}
+use Rattle.bl_layout.specs.declared.layout.Layout.{Layout}
+use Rattle.bl_page.specs.declared.page.Page.{Page}
+use Rattle.bl_page.specs.declared.page.Page.TheVariants.{Anchor, Leaf, Inner, Dead}
+use Rattle.bl_page.specs.Words.{words_of}
+use Rattle.bl_store.specs.Frames.{share}
+use Rattle.bl_store.specs.declared.store.Hand.{Hand}
+use Rattle.bl_passes.specs.declared.known.Mine.{Mine}
+use Rattle.bl_passes.specs.Seeing.{IsSeen}
+use Rattle.bl_passes.specs.Fitting.{newcomer}
+use Rattle.bl_index.specs.declared.config.Config.{Config}
+use Rattle.bl_index.specs.declared.config.OpenFault.{OpenFault}
+use Rattle.bl_index.specs.declared.config.OpenFault.TheVariants.{Pages, Passes, Memory}
+use Rattle.bl_index.specs.declared.index.Index.{Index}
+use Rattle.bl_index.specs.declared.index.Pass.{Pass}
+use Rattle.bl_index.specs.Calls.{pages_of, IsPassOf, number_of, trail}
+
+-- why an index of that size was refused: it breaks a limit, or it is within them and there was no memory
+abbrev pub IsRefusal : Config → OpenFault → Type 0
+IsRefusal config Pages = (config.pages < 4) ⊎ (65536 < config.pages)
+IsRefusal config Passes = (config.passes < 1) ⊎ (64 < config.passes)
+IsRefusal config Memory = ((4 ≤ config.pages) × (config.pages ≤ 65536)) × ((1 ≤ config.passes) × (config.passes ≤ 64))
+
+-- The index has so many pages. There is a pass of it for each number, in their order. None has seen anything, so that it
+-- stands at the opening index.
+pub record IsOpened (config : Config) (index : Index) (passes : List Pass) : Type 0 where
+  pub pages : pages_of index ≡ config.pages
+  pub count : length passes ≡ config.passes
+  pub each : (n : ℕ) (pass : Pass) → get_elem? passes n ≡ some pass → IsPassOf index pass × (number_of pass ≡ n) × (trail pass ≡ [])
+  pub seen : IsSeen []
+
+-- the anchor of one level, whose page is page 1
+abbrev pub IsFirstAnchor : Page → Type 0
+IsFirstAnchor (Anchor a) = a.leftmost.items ≡ 1 ∷ []
+IsFirstAnchor (Leaf l) = ⊥
+IsFirstAnchor (Inner i) = ⊥
+IsFirstAnchor (Dead d) = ⊥
+
+-- a leaf without bounds, link and rows
+abbrev pub IsFirstLeaf : Page → Type 0
+IsFirstLeaf (Anchor a) = ⊥
+IsFirstLeaf (Leaf l) = (l.low ≡ 0) × (l.high ≡ 0) × (l.right ≡ 0) × (l.rows.items ≡ [])
+IsFirstLeaf (Inner i) = ⊥
+IsFirstLeaf (Dead d) = ⊥
+
+-- the words of the pages of an opening index
+abbrev pub IsFirst : ℕ → List ℕ → Type 0
+IsFirst zero words = (c : Page) × IsFirstAnchor c × (words ≡ words_of c)
+IsFirst (suc zero) words = (c : Page) × IsFirstLeaf c × (words ≡ words_of c)
+IsFirst (suc (suc x)) words = words ≡ replicate 32 0
+
+-- a hand of that number that has done nothing
+abbrev pub IsNewHand : TableId → Layout → ℕ → Hand Mine → Type 0
+IsNewHand table layout n hand = (hand.number ≡ n) × (hand.seat.table_id ≡ table) × (hand.seat.me.0 ≡ share layout newcomer n (n + 1))
+
+-- these hands have done nothing, and are numbered from that number on
+abbrev pub AreNew : TableId → Layout → ℕ → List (Hand Mine) → Type 0
+AreNew table layout least hands = (j : ℕ) (hand : Hand Mine) → get_elem? hands j ≡ some hand → IsNewHand table layout (least + j) hand
+
+-- the words of the pages of an opening index of so many pages
+pub record AreFirst (many : ℕ) (contents : List (List ℕ)) : Type 0 where
+  pub count : length contents ≡ many
+  pub each : (x : ℕ) (words : List ℕ) → get_elem? contents x ≡ some words → IsFirst x words
+
+-- so many passes whose hands have done nothing, in the order of their numbers
+pub record ArePasses (table : TableId) (layout : Layout) (many : ℕ) (passes : List Pass) : Type 0 where
+  pub count : length passes ≡ many
+  pub each : (n : ℕ) (pass : Pass) → get_elem? passes n ≡ some pass → IsNewHand table layout n pass.hand

@@ -1,0 +1,25 @@
+//! How an index is made, and what may be refused.
+
+/// How large an index is.
+#[derive(Clone, Copy, Debug, PartialEq, Eq)]
+pub struct Config {
+    /// How many pages there are, 4 to 65,536.
+    pub pages: u32,
+    /// How many passes there are, 1 to 64.
+    pub passes: u32,
+}
+
+/// Why an index could not be made.
+#[derive(Clone, Copy, Debug, PartialEq, Eq)]
+pub enum OpenFault {
+    /// The number of pages is not 4 to 65,536.
+    Pages,
+    /// The number of passes is not 1 to 64.
+    Passes,
+    /// There was no memory.
+    Memory,
+}
+
+/// A search has got as many pages as it was allowed, and has answered nothing.
+#[derive(Clone, Copy, Debug, PartialEq, Eq)]
+pub struct OutOfTurns;

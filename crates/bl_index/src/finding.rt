@@ -1,0 +1,73 @@
+//! Searches.
+
+ghost use Rattle.std.specs.Prelude.{◌≡◌, None};
+ghost use Rattle.bl_model.specs.declared.operation.Op.TheVariants as op;
+ghost use Rattle.bl_tables.specs.Knowing.{found_reply};
+ghost use Rattle.bl_store.specs.Hands.{known, IsOf, IsIdle, IsSameHand, IsSameStock};
+ghost use Rattle.bl_passes.specs.Noting.{trail_of};
+ghost use Rattle.bl_ways.specs.declared.acts.Action.TheVariants as act;
+ghost use Rattle.bl_proc.specs.Searches.{find_next_in};
+ghost use Rattle.bl_index.specs.Searching.{IsSearching};
+
+use crate::config::OutOfTurns;
+use crate::index::{Index, Pass};
+use bl_model::Reply;
+use bl_passes::Mine;
+use bl_proc::{Find, FindStage};
+use bl_store::Hand;
+
+/// What a search answers.
+fn reply_of(value: Option<u64>) -> Reply
+    ensures { result ≡ found_reply value }
+{
+    match value {
+        Some(value) => Reply::Found(value),
+        None => Reply::Absent,
+    }
+}
+
+/// The page that a search is to get next.
+fn page_of(stage: FindStage) -> u32
+    requires { IsSearching stage }
+    ensures { find_next_in stage ≡ act.Get result }
+{
+    match stage {
+        FindStage::AtAnchor => 0,
+        FindStage::At(page) => page,
+        _ => unreachable!(),
+    }
+}
+
+impl Index {
+    ghost use Rattle.bl_index.specs.Calls.{IsPassOf, IsSamePass, number_of, trail, MayAnswer};
+
+    /// The value of a key, or that the key is absent. It gets at most so many pages, the anchor included.
+    pub fn find(&self, pass: &mut Pass, key: u64, turns: u32) -> Result<Reply, OutOfTurns>
+        requires { IsPassOf self.now pass.old }
+        ensures same { IsSamePass pass.old pass.new }
+        ensures answers { MayAnswer (number_of pass.old) (op.Find key) result (trail pass.old) (trail pass.new) }
+    {
+        self.find_by(&mut pass.hand, key, turns)
+    }
+
+    fn find_by(&self, hand: &mut Hand<Mine>, key: u64, turns: u32) -> Result<Reply, OutOfTurns>
+        requires own { IsOf self.now.store.table.shared.table_id self.now.store.layout hand.old.seat }
+        requires idle { IsIdle hand.old.seat }
+        ensures same { IsSameHand hand.old.seat hand.new.seat × IsSameStock hand.old.seat hand.new.seat }
+        ensures idle { IsIdle hand.new.seat }
+        ensures answers { MayAnswer hand.old.number (op.Find key) result (trail_of (known hand.old.seat).trail) (trail_of (known hand.new.seat).trail) }
+    {
+        let mut process = Find::new(key);
+        self.begin(hand, &mut process);
+        for _ in 0..turns {
+            let page = page_of(process.stage);
+            self.read(hand, &mut process, page);
+            if let FindStage::Ending(value) = process.stage {
+                self.finish(hand, &mut process);
+                return Ok(reply_of(value));
+            }
+        }
+        self.give_up(hand);
+        Err(OutOfTurns)
+    }
+}

@@ -1,0 +1,34 @@
+//! The index, and who works with it.
+
+ghost use Rattle.std.specs.Prelude.{◌≡◌};
+ghost use Rattle.bl_store.specs.Hands.{IsIdle, HasNoStock};
+
+use bl_passes::{Mine, Passes};
+use bl_store::{Hand, Store};
+
+/// Pages of a tree that threads share.
+#[derive(Drop)]
+pub struct Index {
+    pub(crate) store: Store<Mine, Passes>,
+    pub(crate) pages: u32,
+    pub ghost sized: { pages ≡ store.layout.pages },
+}
+
+/// One who works with an index. Each thread has a pass of its own, and between two calls it runs no process.
+#[derive(Drop)]
+pub struct Pass {
+    pub(crate) hand: Hand<Mine>,
+    pub ghost idle: { IsIdle hand.seat },
+    pub ghost empty: { HasNoStock hand.seat },
+}
+
+impl Index {
+    ghost use Rattle.bl_index.specs.Calls.{pages_of};
+
+    /// So many gets answer every search, where nothing is put meanwhile: the number of pages.
+    pub fn patience(&self) -> u32
+        ensures { result ≡ pages_of self.now }
+    {
+        self.pages
+    }
+}

@@ -1,0 +1,109 @@
+//! An index is made.
+
+ghost use Rattle.std.specs.Prelude.{◌≤◌, length, IfOk, IfErr};
+ghost use Rattle.bl_index.specs.Opened.{IsRefusal, IsFirstAnchor, IsFirstLeaf, IsFirst, AreFirst, AreNew, ArePasses, IsOpened};
+
+use crate::config::{Config, OpenFault};
+use crate::index::{Index, Pass};
+use arrayvec::ArrayVec;
+use bl_page::{Anchor, Leaf, Page};
+use bl_passes::{Mine, Passes};
+use bl_store::{Hand, Store};
+use std::alloc::{AllocError, Global};
+
+/// The anchor of a tree whose only page is page 1.
+fn first_anchor() -> Page
+    ensures { IsFirstAnchor result }
+{
+    let mut leftmost = ArrayVec::new();
+    leftmost.push(1);
+    Page::Anchor(Anchor { leftmost })
+}
+
+/// A leaf without rows.
+fn first_leaf() -> Page
+    ensures { IsFirstLeaf result }
+{
+    Page::Leaf(Leaf {
+        low: 0,
+        high: 0,
+        right: 0,
+        rows: ArrayVec::new(),
+    })
+}
+
+/// The words of a page of the opening index: page 0 names page 1, which is an empty leaf, and all others are zeros.
+fn first_words(page: u32) -> [u64; 32]
+    ensures { IsFirst page result }
+{
+    match page {
+        0 => first_anchor().to_words(),
+        1 => first_leaf().to_words(),
+        _ => [0; 32],
+    }
+}
+
+/// The words of all its pages.
+fn first_pages(alloc: Global, pages: u32) -> Result<Vec<[u64; 32]>, AllocError>
+    ensures { IfOk result (λ v. AreFirst pages v.items) }
+{
+    let mut first = Vec::with_capacity(alloc, pages as usize)?;
+    for page in 0..pages {
+        first.push(first_words(page))?;
+    }
+    Ok(first)
+}
+
+/// A pass of each hand.
+fn passes_of(
+    alloc: Global,
+    store: &Store<Mine, Passes>,
+    hands: Vec<Hand<Mine>>,
+) -> Result<Vec<Pass>, AllocError>
+    requires { AreNew store.now.table.shared.table_id store.now.layout 0 hands.items }
+    ensures { IfOk result (λ v. ArePasses store.now.table.shared.table_id store.now.layout (length hands.items) v.items) }
+{
+    let mut hands = hands;
+    let count = hands.len();
+    let mut passes = Vec::with_capacity(alloc, count)?;
+    for _number in 0..count {
+        passes.push(Pass {
+            hand: hands.remove(0),
+        })?;
+    }
+    Ok(passes)
+}
+
+impl Index {
+    /// An index without rows, and its passes, in the order of their numbers.
+    pub fn open(alloc: Global, config: Config) -> Result<(Index, Vec<Pass>), OpenFault>
+        ensures ok { IfOk result (λ t. IsOpened config t.0 t.1.items) }
+        ensures fault { IfErr result (IsRefusal config) }
+    {
+        if config.pages < 4 || config.pages > 65536 {
+            return Err(OpenFault::Pages);
+        }
+        if config.passes < 1 || config.passes > 64 {
+            return Err(OpenFault::Passes);
+        }
+        match Self::made(alloc, config) {
+            Ok(made) => Ok(made),
+            Err(_) => Err(OpenFault::Memory),
+        }
+    }
+
+    fn made(alloc: Global, config: Config) -> Result<(Index, Vec<Pass>), AllocError>
+        requires pages { (4 ≤ config.pages) × (config.pages ≤ 65536) }
+        requires passes { (1 ≤ config.passes) × (config.passes ≤ 64) }
+        ensures { IfOk result (λ t. IsOpened config t.0 t.1.items) }
+    {
+        let first = first_pages(alloc, config.pages)?;
+        let (store, hands) = Store::new(alloc, first.as_slice(), config.passes)?;
+        let passes = passes_of(alloc, &store, hands)?;
+        let index = Index {
+            store,
+            pages: config.pages,
+        };
+        Ok((index, passes))
+    }
+}

@@ -1,0 +1,97 @@
+//! A process is carried out over the store, one event at a time.
+
+ghost use Rattle.std.specs.Prelude.{◌≡◌, ◌+◌, ◌<◌, None};
+ghost use Rattle.bl_ways.specs.declared.acts.Action.TheVariants as act;
+ghost use Rattle.bl_ways.specs.declared.acts.Seen.TheVariants as seen;
+ghost use Rattle.bl_page.specs.declared.page.Page.{Page as PageIs};
+ghost use Rattle.bl_proc.specs.Processes.{next_of};
+ghost use Rattle.bl_courses.specs.Courses.{GoesOn};
+ghost use Rattle.bl_tables.specs.Knowing.{end_of_proc};
+ghost use Rattle.bl_store.specs.Hands.{known, IsOf, IsIdle, IsRunning, IsSameHand, IsSameStage, IsSameStock};
+ghost use Rattle.bl_passes.specs.Told.{Begins, Finishes, IsUnborn, MayGiveUp};
+ghost use Rattle.bl_index.specs.Runs.{IsOn, IsSince, Moves};
+
+use crate::index::Index;
+use crate::kinds::Kind;
+use bl_page::from_words;
+use bl_passes::{Began, Ended, GaveUp, Got, Launch, Mine};
+use bl_proc::Seen;
+use bl_store::Hand;
+use std::marker::Brand;
+
+impl Index {
+    // Begins the process, which the first bound names beside its pass.
+    fn launch<J: Launch, P: Kind>(&self, hand: &mut Hand<Mine>, process: &P)
+        requires own { IsOf self.now.store.table.shared.table_id self.now.store.layout hand.old.seat }
+        requires idle { IsIdle hand.old.seat }
+        requires names { (hand.old.number ≡ J.pass) × (self.now.store.layout.pages ≡ J.pages) × (P.proc_of process.now ≡ J.process) }
+        requires next { next_of J.process ≡ act.Begin }
+        requires unborn { IsUnborn J.process }
+        requires course { GoesOn J.process seen.Done }
+        ensures same { IsSameHand hand.old.seat hand.new.seat × IsSameStock hand.old.seat hand.new.seat }
+        ensures running { IsRunning hand.new.seat }
+        ensures told { Begins J.pass J.pages J.process (known hand.old.seat) (known hand.new.seat) }
+    {
+        self.store.begin::<Began<J>>(hand);
+    }
+
+    /// Begins the process.
+    pub(crate) fn begin<P: Kind>(&self, hand: &mut Hand<Mine>, process: &mut P)
+        requires own { IsOf self.now.store.table.shared.table_id self.now.store.layout hand.old.seat }
+        requires idle { IsIdle hand.old.seat }
+        requires new { (P.answer_of process.old ≡ None) × (P.next_of process.old ≡ act.Begin) × IsUnborn (P.proc_of process.old) }
+        ensures same { IsSameHand hand.old.seat hand.new.seat × IsSameStock hand.old.seat hand.new.seat }
+        ensures running { IsRunning hand.new.seat }
+        ensures process { IsOn self.now.store.layout.pages (known hand.new.seat) (P.proc_of process.new) }
+        ensures begun { IsSince hand.old.number (known hand.old.seat) (known hand.new.seat) }
+        ensures takes { P.Takes process.old seen.Done process.new }
+    {
+        self.launch::<Brand, P>(hand, process);
+        process.took(Seen::Done);
+    }
+
+    /// The process gets the page.
+    pub(crate) fn read<P: Kind>(&self, hand: &mut Hand<Mine>, process: &mut P, page: u32)
+        requires own { IsOf self.now.store.table.shared.table_id self.now.store.layout hand.old.seat }
+        requires running { IsRunning hand.old.seat }
+        requires process { IsOn self.now.store.layout.pages (known hand.old.seat) (P.proc_of process.old) }
+        requires next { (P.answer_of process.old ≡ None) × (P.next_of process.old ≡ act.Get page) }
+        ensures same { IsSameHand hand.old.seat hand.new.seat × IsSameStage hand.old.seat hand.new.seat × IsSameStock hand.old.seat hand.new.seat }
+        ensures process { IsOn self.now.store.layout.pages (known hand.new.seat) (P.proc_of process.new) }
+        ensures moves { Moves (known hand.old.seat) (known hand.new.seat) }
+        ensures takes { (c : PageIs) × P.Takes process.old (seen.Words c) process.new }
+    {
+        let words = self.store.get::<Got>(hand, page);
+        match from_words(&words) {
+            Ok(page) => process.took(Seen::Words(page)),
+            Err(_) => unreachable!(),
+        }
+    }
+
+    /// The process ends.
+    pub(crate) fn finish<P: Kind>(&self, hand: &mut Hand<Mine>, process: &mut P)
+        requires own { IsOf self.now.store.table.shared.table_id self.now.store.layout hand.old.seat }
+        requires running { IsRunning hand.old.seat }
+        requires process { IsOn self.now.store.layout.pages (known hand.old.seat) (P.proc_of process.old) }
+        requires next { (P.answer_of process.old ≡ None) × (P.next_of process.old ≡ act.End) }
+        ensures same { IsSameHand hand.old.seat hand.new.seat × IsSameStock hand.old.seat hand.new.seat }
+        ensures idle { IsIdle hand.new.seat }
+        ensures told { Finishes (end_of_proc (P.proc_of process.old)) (known hand.old.seat) (known hand.new.seat) }
+        ensures takes { P.Takes process.old seen.Done process.new }
+    {
+        self.store.end::<Ended>(hand);
+        process.took(Seen::Done);
+    }
+
+    /// A process that has said nothing and holds nothing ends at once.
+    pub(crate) fn give_up(&self, hand: &mut Hand<Mine>)
+        requires own { IsOf self.now.store.table.shared.table_id self.now.store.layout hand.old.seat }
+        requires running { IsRunning hand.old.seat }
+        requires may { MayGiveUp (known hand.old.seat).state }
+        ensures same { IsSameHand hand.old.seat hand.new.seat × IsSameStock hand.old.seat hand.new.seat }
+        ensures idle { IsIdle hand.new.seat }
+        ensures told { Finishes None (known hand.old.seat) (known hand.new.seat) }
+    {
+        self.store.end::<GaveUp>(hand);
+    }
+}

@@ -1,0 +1,93 @@
+-- The one lemma of all events: a turn of a process of a hand, where the pages go on as the store's do.
+use Rattle.std.proofs.Common.{ℕ, Bool, true, false, ◌≡◌, ◌≢◌, ◌⊎◌, ◌+◌, ◌<◌, ◌≤◌, ◌++◌, Option, Some, None, List, [], ◌∷◌, length, set, refl, sym, ap, ◌∙◌, subst, ⊎_elim, arith, append-nil, append_assoc}
+use mathlib.Core.Option.{some}
+use lib.ListN.{get_elem?}
+use Rattle.atomic_table.proofs.Lists.{at_set}
+use Rattle.bl_model.specs.declared.operation.Entry.{Entry}
+use Rattle.bl_model.specs.declared.operation.Reply.{Reply}
+use Rattle.bl_page.specs.declared.page.Page.{Page}
+use Rattle.bl_page.specs.Machine.{Name, State, Act}
+use Rattle.bl_page.specs.Machine as machine
+use Rattle.bl_trails.specs.Trails.{Mark, Trail, entries_at}
+use Rattle.bl_steps.specs.Worlds.{World, IsGood}
+use Rattle.bl_starts.specs.Opening.{Opening}
+use Rattle.bl_proc.specs.Processes.{next_of}
+use Rattle.bl_tables.specs.Turns.{Turned}
+use Rattle.bl_tables.specs.Knowing.{Run, bare as know}
+use Rattle.bl_tables.proofs.Near.{bare_near as near}
+use Rattle.bl_store.specs.Pages.{Owner, Stage, Idle, Running, Pages, Stands}
+use Rattle.bl_passes.specs.declared.known.Mine.{Mine}
+use Rattle.bl_passes.specs.Noting.{trail_of, all_noted}
+use Rattle.bl_passes.specs.Seeing.{IsSeen, own}
+use Rattle.bl_passes.specs.Fitting.{name, Shows, owner_in, IsAtStage, IsHand, Fits}
+use Rattle.bl_passes.specs.Told.{IsNear, HasOwn, Notes}
+use Rattle.bl_passes.proofs.Notings.{trail_back}
+use Rattle.bl_passes.proofs.Stages.{turn_mark, after, own_after, hand_self, hand_else}
+use Rattle.bl_passes.proofs.Sights.{world_seen, near_pages}
+
+module _ (s : Pages Mine) (f : Fits s) (n m : ℕ) (st : Stage) (d : Mine) (at : Stands s n st d) (a : Act Page Reply) (s1 : State Page) (b : Run) (t : Turned know f.world (name n m) a s1 b) (runs : Bool) (past : List Entry) where
+  abbrev pub next_known : Mine
+  next_known = after f.world f.good n m a s1 b t runs past
+
+  pub advance : (s' : Pages Mine) (st' : Stage) → s'.hands ≡ set s.hands n (st', next_known) → length s'.contents ≡ length s.contents → d.number ≤ m → s1.clock ≤ s'.clock
+      → ((q : Name) → q ≢ name n m → s1.phase q ≡ f.world.now.phase q)
+      → ((x : ℕ) (q : Name) → q ≢ name n m → s1.owner x ≡ machine.Held q → f.world.now.owner x ≡ machine.Held q)
+      → ((x : ℕ) (words : List ℕ) → get_elem? s'.contents x ≡ some words → Shows x words (s1.contents x))
+      → ((x : ℕ) (o : Owner) → get_elem? s'.owners x ≡ some o → s1.owner x ≡ owner_in s'.hands o)
+      → IsAtStage t.next n st' next_known
+      → Fits s'
+  advance s' st' hands size le clock others kept pages owners stage = record {
+    world = t.next;
+    good = t.good;
+    opening = subst Opening (sym t.extends.start) f.opening;
+    first = t.extends.first ∙ f.first;
+    size = t.extends.size ∙ (f.size ∙ sym size);
+    clock = subst (λ (z : State Page). z.clock ≤ s'.clock) (sym t.now) clock;
+    pages = λ x words e. subst (λ (z : State Page). Shows x words (z.contents x)) (sym t.now) (pages x words e);
+    owners = λ x o e. ap (λ (z : State Page). z.owner x) t.now ∙ owners x o e;
+    hands = λ k sg g at_k. ⊎_elim
+        (λ (z : (k ≡ n) × ((st', next_known) ≡ (sg, g))). subst (λ (u : ℕ × (Stage × Mine)). IsHand t.next u.0 u.1.0 u.1.1) (λ i. (sym z.0 i, z.1 i)) (hand_self f.world f.good n m a s1 b t others kept st st' d runs past (f.hands n st d at) le stage))
+        (λ (z : (k ≢ n) × (get_elem? s.hands k ≡ some (sg, g))). hand_else f.world f.good n m a s1 b t others kept k sg g z.0 (f.hands k sg g z.1))
+        (at_set s.hands n k (st', next_known) (sg, g) (ap (λ (z : List (Stage × Mine)). get_elem? z k) (sym hands) ∙ at_k));
+  }
+
+  pub next_seen : IsSeen (trail_of next_known.trail)
+  next_seen = subst IsSeen (sym (trail_back t.next.trail)) (world_seen t.next t.good (subst Opening (sym t.extends.start) f.opening) (t.extends.first ∙ f.first))
+
+  pub next_notes : Notes n m a d next_known
+  next_notes =
+      let h = f.hands n st d at in
+      let mk = turn_mark f.world f.good n m a s1 b t in
+      record {
+        between = h.begins.0;
+        last = mk;
+        trail = trail_back t.next.trail ∙ (t.extends.trail ∙ (ap (λ (l : Trail). l ++ mk ∷ []) h.begins.1 ∙ append_assoc (trail_of d.trail) h.begins.0 (mk ∷ [])));
+        event = refl;
+        seen = next_seen;
+        pass = refl;
+        number = refl;
+      }
+
+  pub next_near : IsNear next_known.pages (next_of next_known.state)
+  next_near =
+      let p = name n m in
+      let here : IsNear t.next.size (next_of (t.next.proc p).state) = near_pages t.next t.good p (next_of (t.next.proc p).state) (near t.next p t.good) in
+      let sized : IsNear f.world.size (next_of (t.next.proc p).state) = subst (λ (z : ℕ). IsNear z (next_of (t.next.proc p).state)) t.extends.size here in
+      subst (λ (r : Run). IsNear f.world.size (next_of r.state)) t.extends.proc.at sized
+
+  pub next_own : own n f.world.trail ≡ past ++ entries_at (name n m) (know (f.world.proc (name n m))).said → HasOwn next_known
+  next_own was = record {
+    run = t.next.proc (name n m);
+    state = ap (λ (r : Run). r.state) t.extends.proc.at;
+    own = ap (own n) (trail_back t.next.trail) ∙ own_after f.world f.good n m a s1 b t past was;
+  }
+
+  -- where it runs on
+  pub next_stage : (since : ℕ) → runs ≡ true → m ≢ 0 → s1.phase (name n m) ≡ machine.Running since → own n f.world.trail ≡ past ++ entries_at (name n m) (know (f.world.proc (name n m))).said → IsAtStage t.next n (Running since) next_known
+  next_stage since on begun phase was = (
+    on,
+    begun,
+    ap (λ (z : State Page). z.phase (name n m)) t.now ∙ phase,
+    ap (λ (r : Run). r.state) t.extends.proc.at,
+    own_after f.world f.good n m a s1 b t past was,
+  )

@@ -1,0 +1,10 @@
+pub mod Notings
+pub mod Entries
+pub mod Stages
+pub mod Sights
+pub mod Advance
+pub mod Shown
+pub mod Turns
+pub mod Pages
+pub mod Bounds
+pub mod Starts

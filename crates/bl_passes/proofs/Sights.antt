@@ -1,0 +1,55 @@
+-- What a pass sees at its own event.
+use Rattle.std.proofs.Common.{ℕ, ◌≡◌, ◌≢◌, ◌<◌, ◌++◌, Option, Some, None, List, [], ◌∷◌, refl, sym, ap, ◌∙◌, subst}
+use Rattle.bl_model.specs.Map.{Map, empty}
+use Rattle.bl_model.specs.History.{IsLegalFrom, final_map}
+use Rattle.bl_page.specs.declared.page.Page.{Page}
+use Rattle.bl_page.specs.Machine.{Name}
+use Rattle.bl_page.specs.Machine.Owner.{Released, Held}
+use Rattle.bl_tree.specs.Nodes.{Look}
+use Rattle.bl_tree.specs.Trees.Status.{Free}
+use Rattle.bl_trails.specs.Trails.{Trail, history_of}
+use Rattle.bl_trails.specs.Moments.{HasLaws}
+use Rattle.bl_steps.specs.Worlds.{World, IsGood}
+use Rattle.bl_starts.specs.Opening.{Opening}
+use Rattle.bl_ways.specs.declared.acts.Action.{Action}
+use Rattle.bl_ways.specs.declared.acts.Action.TheVariants as action
+use Rattle.bl_tables.specs.Knowing.{Run, bare as know}
+use Rattle.bl_tables.proofs.Starting.{bare_laws as run_laws}
+use Rattle.bl_tables.proofs.Near.{IsNear as IsNearIn}
+use Rattle.bl_passes.specs.Seeing.{IsSeen}
+use Rattle.bl_passes.specs.Told.{IsNear}
+
+-- the trail of a good world that began with the opening index
+pub world_seen : (w : World Run) → IsGood know w → Opening w.start → w.first ≡ empty → IsSeen w.trail
+world_seen w good opening first =
+    let map : w.map 0 ≡ final_map empty (history_of w.trail) = λ i k. (good.recorded.map k ∙ ap (λ (z : Map). final_map z (history_of w.trail) k) first) i in
+    record {
+      start = w.start;
+      now = w.now;
+      opening = opening;
+      leads = good.recorded.leads;
+      marked = good.recorded.marked;
+      legal = subst (λ (z : Map). IsLegalFrom z (history_of w.trail)) first good.recorded.legal;
+      laws = subst (λ (z : Look). HasLaws w.now w.trail z) map (run_laws w good);
+    }
+
+module _ (w : World Run) (good : IsGood know w) (p : Name) where
+  not_free : (x : ℕ) → w.now.owner x ≢ Released → x < w.size
+  not_free x ne = good.owned.small x (λ e. ne (good.owned.free x e))
+
+  mine : (x : ℕ) → w.now.owner x ≡ Held p → x < w.size
+  mine x e = not_free x (λ r. let z : Held p ≡ Released = sym e ∙ r in cc)
+
+  -- its next pages are pages of the world
+  pub near_pages : (a : Action) → IsNearIn w p a → IsNear w.size a
+  near_pages (action.Get x) h = not_free x h
+  near_pages (action.Put x c) h = mine x h
+  near_pages (action.Latch x) h = good.owned.small x h
+  near_pages (action.Open x) h = mine x h
+  near_pages action.Begin h = tt
+  near_pages action.End h = tt
+  near_pages action.Take h = tt
+  near_pages (action.Retire x) h = tt
+  near_pages (action.Look q) h = tt
+  near_pages (action.See x) h = tt
+  near_pages (action.Release x) h = tt

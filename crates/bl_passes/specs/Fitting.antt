@@ -1,0 +1,82 @@
+-- The rule of threads.
+use Rattle.std.specs.Prelude.{◌≡◌, ◌≢◌, ◌⊎◌, ℕ, zero, suc, ◌+◌, ◌<◌, ◌≤◌, ◌++◌, ◌==◌, if◌then◌else◌, true, false, None, List, [], ◌∷◌, length, replicate}
+use mathlib.Core.Option.{Option, none, some}
+use lib.ListN.{get_elem?}
+use Rattle.bl_model.specs.Map.{empty}
+use Rattle.bl_page.specs.declared.page.Page.{Page}
+use Rattle.bl_page.specs.declared.page.Page.TheVariants.{Anchor, Leaf, Inner, Dead}
+use Rattle.bl_page.specs.Words.{words_of}
+use Rattle.bl_page.specs.Machine.{Name}
+use Rattle.bl_page.specs.Machine as machine
+use Rattle.bl_trails.specs.Trails.{Trail, history_of, entries_at}
+use Rattle.bl_steps.specs.Worlds.{World, IsGood}
+use Rattle.bl_starts.specs.Blank.{IsBlank}
+use Rattle.bl_starts.specs.Opening.{Opening}
+use Rattle.bl_proc.specs.declared.kinds.Proc.{Proc}
+use Rattle.bl_proc.specs.declared.kinds.Proc.TheVariants.{Find}
+use Rattle.bl_proc.specs.declared.searching.FindStage.TheVariants as find
+use Rattle.bl_tables.specs.Knowing.{Run, bare as know}
+use Rattle.bl_store.specs.Pages.{Owner, Released, Open, Held, Retired, Stage, Idle, Running, Pages, Stands}
+use Rattle.bl_passes.specs.declared.known.Mine.{Mine}
+use Rattle.bl_passes.specs.Noting.{trail_of}
+use Rattle.bl_passes.specs.Seeing.{own}
+
+abbrev pub name : ℕ → ℕ → Name
+name pass number = record { pass = pass; number = number }
+
+-- a process that is to look a key up
+abbrev pub unborn : Proc
+unborn = Find (record { key = 0; stage = find.New })
+
+-- what a pass knows that has begun no process
+abbrev pub newcomer : Mine
+newcomer = record { pass = 0; pages = 0; number = 0; runs = false; state = unborn; past = []; trail = [] }
+
+abbrev pub IsAnchor : Page → Type 0
+IsAnchor (Anchor a) = Unit {0}
+IsAnchor (Leaf l) = ⊥
+IsAnchor (Inner i) = ⊥
+IsAnchor (Dead d) = ⊥
+
+-- The words are those of the page. Where a page other than page 0 was never put, its words are zeros, and an anchor stands
+-- for it, which no process may get there.
+abbrev pub Shows : ℕ → List ℕ → Page → Type 0
+Shows zero words c = words ≡ words_of c
+Shows (suc x) words c = (words ≡ words_of c) ⊎ ((words ≡ replicate 32 0) × IsAnchor c)
+
+-- how many processes the hand at that place has begun
+abbrev pub number_in : Option (Stage × Mine) → ℕ
+number_in none = 0
+number_in (some h) = h.1.number
+
+abbrev pub owner_in : List (Stage × Mine) → Owner → machine.Owner
+owner_in hands Released = machine.Released
+owner_in hands Open = machine.Owner.Open
+owner_in hands (Held n) = machine.Held (name n (number_in (get_elem? hands n)))
+owner_in hands (Retired time) = machine.Retired time
+
+-- Where a hand runs a process, it is the last that it has begun, which stands as the pass knows, and what it has said is
+-- all that the pass has said since the entries of before. Where it runs none, the last one holds no page any more.
+abbrev pub IsAtStage : World Run → ℕ → Stage → Mine → Type 0
+IsAtStage w n Idle d = (d.runs ≡ false) × ((x : ℕ) → w.now.owner x ≢ machine.Held (name n d.number))
+IsAtStage w n (Running since) d = (d.runs ≡ true) × (d.number ≢ 0) × (w.now.phase (name n d.number) ≡ machine.Running since) × ((w.proc (name n d.number)).state ≡ d.state) × (own n w.trail ≡ d.past ++ entries_at (name n d.number) (know (w.proc (name n d.number))).said)
+
+-- the world knows the hand n, which stands there and knows d
+pub record IsHand (w : World Run) (n : ℕ) (st : Stage) (d : Mine) : Type 0 where
+  pub named : d.number ≢ 0 → (d.pass ≡ n) × (d.pages ≡ w.size)
+  pub stage : IsAtStage w n st d
+  pub later : (m : ℕ) → d.number < m → (w.now.phase (name n m) ≡ machine.Waiting) × IsBlank (know (w.proc (name n m)))
+  pub begins : (rest : Trail) × (w.trail ≡ trail_of d.trail ++ rest)
+  pub mine : own n w.trail ≡ own n (trail_of d.trail)
+
+-- One good world that began with the opening index has the pages and owners of the store, and knows each hand.
+pub record Fits (s : Pages Mine) : Type 0 where
+  pub world : World Run
+  pub good : IsGood know world
+  pub opening : Opening world.start
+  pub first : world.first ≡ empty
+  pub size : world.size ≡ length s.contents
+  pub clock : world.now.clock ≤ s.clock
+  pub pages : (x : ℕ) (words : List ℕ) → get_elem? s.contents x ≡ some words → Shows x words (world.now.contents x)
+  pub owners : (x : ℕ) (o : Owner) → get_elem? s.owners x ≡ some o → world.now.owner x ≡ owner_in s.hands o
+  pub hands : (n : ℕ) (st : Stage) (d : Mine) → Stands s n st d → IsHand world n st d

@@ -1,0 +1,4 @@
+pub mod Noting
+pub mod Seeing
+pub mod Fitting
+pub mod Told

@@ -1,0 +1,42 @@
+-- What a pass has seen: all events up to its own last one, as a trail.
+use Rattle.std.specs.Prelude.{◌≡◌, ℕ, ◌++◌, Option, List, [], ◌∷◌}
+use Rattle.bl_model.specs.Map.{empty}
+use Rattle.bl_model.specs.History.{IsLegalFrom, final_map, entries_of_pass}
+use Rattle.bl_model.specs.declared.operation.Entry.{Entry}
+use Rattle.bl_model.specs.declared.operation.Reply.{Reply}
+use Rattle.bl_page.specs.declared.page.Page.{Page}
+use Rattle.bl_page.specs.Machine.{Name, State, Act}
+use Rattle.bl_page.specs.Machine.Act.{Begin, End}
+use Rattle.bl_trails.specs.Trails.{Said, Mark, Trail, history_of, entries_at, DoesAt, IsMarked, LeadsOn}
+use Rattle.bl_trails.specs.Moments.{HasLaws}
+use Rattle.bl_starts.specs.Opening.{Opening}
+
+-- The trail is one that an index may have: its events are legal and lead from the opening index to some state, its history
+-- is one of them, legal from the empty map, and in that state the laws of the tree hold with the map after the history.
+pub record IsSeen (trail : Trail) : Type 0 where
+  pub start : State Page
+  pub now : State Page
+  pub opening : Opening start
+  pub leads : LeadsOn start trail now
+  pub marked : IsMarked trail
+  pub legal : IsLegalFrom empty (history_of trail)
+  pub laws : HasLaws now trail (final_map empty (history_of trail))
+
+-- the entries of one pass
+abbrev pub own : ℕ → Trail → List Entry
+own pass trail = entries_of_pass pass (history_of trail)
+
+-- new begins with old
+abbrev pub GoesOnFrom : Trail → Trail → Type 0
+GoesOnFrom old new = (more : Trail) × (new ≡ old ++ more)
+
+-- Of the new part of the trail: p begins there, and its end, with that answer, is the last event.
+pub record Holds (p : Name) (answer : Option Reply) (old new : Trail) : Type 0 where
+  pub more : Trail
+  pub begins : new ≡ old ++ more
+  pub place : ℕ
+  pub begun : DoesAt more place p Begin
+  pub before : Trail
+  pub last : Mark
+  pub ends : more ≡ before ++ last ∷ []
+  pub ended : last.event ≡ record { process = p; act = End answer }

@@ -1,0 +1,131 @@
+-- What each event tells the pass that makes it.
+use Rattle.std.specs.Prelude.{true, false, ◌≡◌, ◌≢◌, ℕ, ◌+◌, ◌<◌, ◌++◌, Option, None, Some, List, [], ◌∷◌}
+use Rattle.bl_model.specs.declared.operation.Reply.{Reply}
+use Rattle.bl_page.specs.declared.page.Page.{Page}
+use Rattle.bl_page.specs.Words.{words_of}
+use Rattle.bl_page.specs.Machine.{Act}
+use Rattle.bl_trails.specs.Trails.{Mark, Trail, entries_at}
+use Rattle.bl_ways.specs.declared.acts.Action.{Action}
+use Rattle.bl_ways.specs.declared.acts.Action.TheVariants as action
+use Rattle.bl_ways.specs.declared.acts.Seen.{Seen}
+use Rattle.bl_ways.specs.declared.acts.Seen.TheVariants as seen
+use Rattle.bl_proc.specs.declared.kinds.Proc.{Proc}
+use Rattle.bl_proc.specs.Processes.{next_of}
+use Rattle.bl_tables.specs.Turns.{event_of}
+use Rattle.bl_tables.specs.Knowing.{Run, bare as know, end_of_proc}
+use Rattle.bl_steps.specs.Worlds.{Stage}
+use Rattle.bl_starts.specs.Blank.{IsBlank}
+use Rattle.bl_courses.specs.Courses.{GoesOn}
+use Rattle.bl_store.specs.Pages.{Owner, Open}
+use Rattle.bl_passes.specs.declared.known.Mine.{Mine}
+use Rattle.bl_passes.specs.Noting.{trail_of}
+use Rattle.bl_passes.specs.Seeing.{IsSeen, own}
+use Rattle.bl_passes.specs.Fitting.{name}
+
+-- the page that a process is to get, latch, put or open is one of so many
+abbrev pub IsNear : ℕ → Action → Type 0
+IsNear pages (action.Get x) = x < pages
+IsNear pages (action.Put x c) = x < pages
+IsNear pages (action.Latch x) = x < pages
+IsNear pages (action.Open x) = x < pages
+IsNear pages action.Begin = Unit {0}
+IsNear pages action.End = Unit {0}
+IsNear pages action.Take = Unit {0}
+IsNear pages (action.Retire x) = Unit {0}
+IsNear pages (action.Look p) = Unit {0}
+IsNear pages (action.See x) = Unit {0}
+IsNear pages (action.Release x) = Unit {0}
+
+-- What the pass has said since its entries of before is what its process knows that it has said.
+pub record HasOwn (d : Mine) : Type 0 where
+  pub run : Run
+  pub state : run.state ≡ d.state
+  pub own : own d.pass (trail_of d.trail) ≡ d.past ++ entries_at (name d.pass d.number) (know run).said
+
+-- One event of the pass's process of that count, after all that the pass knew: e is what it knows then.
+pub record Notes (by count : ℕ) (act : Act Page Reply) (d e : Mine) : Type 0 where
+  pub between : Trail
+  pub last : Mark
+  pub trail : trail_of e.trail ≡ trail_of d.trail ++ (between ++ last ∷ [])
+  pub event : last.event ≡ record { process = name by count; act = act }
+  pub seen : IsSeen (trail_of e.trail)
+  pub pass : e.pass ≡ by
+  pub number : e.number ≡ count
+
+-- the process goes on by one event
+pub record Steps (act : Act Page Reply) (d e : Mine) : Type 0 where
+  pub notes : Notes d.pass d.number act d e
+  pub runs : e.runs ≡ true
+  pub pages : e.pages ≡ d.pages
+  pub past : e.past ≡ d.past
+  pub own : HasOwn e
+  pub near : IsNear e.pages (next_of e.state)
+
+-- the process was told this of its next action, and goes on
+pub record Goes (what : Seen) (d e : Mine) : Type 0 where
+  pub steps : Steps (event_of (end_of_proc d.state) (next_of d.state) what) d e
+  pub course : GoesOn d.state what
+  pub state : e.state ≡ course.new
+
+abbrev pub gets : Mine → ℕ → Owner → List ℕ → Mine → Type 0
+gets d x owner words e = (c : Page) × (words ≡ words_of c) × Goes (seen.Words c) d e
+
+abbrev pub puts : Mine → ℕ → Owner → List ℕ → Mine → Type 0
+puts d x owner words e = Goes seen.Done d e
+
+abbrev pub opens : Mine → ℕ → Owner → List ℕ → Mine → Type 0
+opens d x owner words e = Goes seen.Done d e
+
+abbrev pub takes : Mine → ℕ → Owner → List ℕ → Mine → Type 0
+takes d x owner words e = Goes (seen.Took x) d e
+
+abbrev pub tries : Mine → ℕ → Owner → List ℕ → Mine → Type 0
+tries d x owner words e = (owner ≡ Open → Goes seen.Done d e) × (owner ≢ Open → Goes seen.Missed d e)
+
+abbrev pub refuses : Mine → ℕ → Mine → Type 0
+refuses d now e = Goes seen.Refused d e
+
+-- a process begins, the next of its pass
+pub record Begins (by many : ℕ) (process : Proc) (d e : Mine) : Type 0 where
+  pub notes : Notes by (d.number + 1) Act.Begin d e
+  pub runs : e.runs ≡ true
+  pub pages : e.pages ≡ many
+  pub past : e.past ≡ own by (trail_of d.trail)
+  pub own : HasOwn e
+  pub near : IsNear e.pages (next_of e.state)
+  pub course : GoesOn process seen.Done
+  pub state : e.state ≡ course.new
+
+abbrev pub begins : ℕ → ℕ → Proc → Mine → ℕ → Mine → Type 0
+begins pass pages process d now e = Begins pass pages process d e
+
+-- the process has ended, and the entries of its pass are those of before
+pub record Finishes (answer : Option Reply) (d e : Mine) : Type 0 where
+  pub notes : Notes d.pass d.number (Act.End answer) d e
+  pub runs : e.runs ≡ false
+  pub pages : e.pages ≡ d.pages
+  pub own : own d.pass (trail_of e.trail) ≡ own d.pass (trail_of d.trail)
+
+abbrev pub ends : Mine → ℕ → Mine → Type 0
+ends d now e = Finishes (end_of_proc d.state) d e
+
+abbrev pub gives_up : Mine → ℕ → Mine → Type 0
+gives_up d now e = Finishes None d e
+
+-- The releases of a sweep: events of the pass that say nothing.
+pub record Sweeps (d e : Mine) : Type 0 where
+  pub pass : e.pass ≡ d.pass
+
+abbrev pub sweeps : Mine → Mine → Type 0
+sweeps d e = e ≡ d
+
+-- a process that may end at once: it runs, has said nothing, and holds nothing
+pub record MayGiveUp (state : Proc) : Type 0 where
+  pub busy : (r : Run) → r.state ≡ state → (know r).stage ≡ Stage.Busy
+  pub silent : (r : Run) → r.state ≡ state → (know r).said ≡ None
+  pub empty : (r : Run) → r.state ≡ state → (know r).holds ≡ []
+  pub no_middle : (r : Run) → r.state ≡ state → (know r).middle ≡ None
+
+-- a process that is to begin, and has nothing
+abbrev pub IsUnborn : Proc → Type 0
+IsUnborn state = (r : Run) → r.state ≡ state → IsBlank (know r)

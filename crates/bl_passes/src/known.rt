@@ -1,0 +1,63 @@
+//! What a pass knows, as plain data.
+
+use bl_model::{Entry, Op, Reply};
+use bl_page::Page;
+use bl_proc::Proc;
+use std::collections::LinkedList;
+
+/// A process: the pass that runs it, and its number among that pass's processes, from 1.
+pub struct Who {
+    pub pass: u32,
+    pub number: u64,
+}
+
+/// What one event did.
+pub enum Deed {
+    Begin,
+    /// An end, and what was answered, if anything.
+    End(Option<Reply>),
+    Get(u32),
+    Put(u32, Page),
+    Take(u32),
+    Latch(u32),
+    Open(u32),
+    Retire(u32),
+    /// A look at a process.
+    Look(Who),
+    /// A look at the owner of a page.
+    See(u32),
+    Release(u32),
+    Miss,
+}
+
+/// An answered operation.
+pub struct Spoken {
+    pub op: Op,
+    pub reply: Reply,
+}
+
+/// One event, the page that it saw, if it is a get, and the operation that has its point there, if one has.
+pub struct Noted {
+    pub who: Who,
+    pub deed: Deed,
+    pub saw: Option<Page>,
+    pub spoken: Option<Spoken>,
+}
+
+/// What a pass knows.
+pub struct Mine {
+    /// The number of the pass, once it has begun a process.
+    pub pass: u32,
+    /// How many pages there are, once it has begun a process.
+    pub pages: u32,
+    /// How many processes it has begun.
+    pub number: u64,
+    /// Whether the last of them still runs.
+    pub runs: bool,
+    /// Where the last of them stands.
+    pub state: Proc,
+    /// The entries of the pass before that process.
+    pub past: LinkedList<Entry>,
+    /// All that had happened up to its own last event.
+    pub trail: LinkedList<Noted>,
+}

@@ -1,0 +1,15 @@
+//! What a pass knows, and the rule by which threads share a store of pages: one world of processes stands behind the
+//! words of the store, and each pass knows a beginning of what has happened in it.
+//!
+//! Promised to `bl_index`: each event of a store is a turn of the process that the hand's pass has, whatever its kind, so
+//! the rule holds after it, and the pass knows all that has happened up to its own event. No value of the types here is
+//! made while a program runs.
+#![tactic(auto)]
+
+mod events;
+mod known;
+mod rule;
+
+pub use events::{Began, Ended, GaveUp, Got, Launch, Opened, Put, Refused, Swept, Took, Tried};
+pub use known::{Deed, Mine, Noted, Spoken, Who};
+pub use rule::Passes;
