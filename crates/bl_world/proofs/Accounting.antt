@@ -1,16 +1,15 @@
 -- The account of a world.
-use Rattle.std.proofs.Common.{ℕ, ◌≡◌, ◌≢◌, ◌⊎◌, ◌+◌, ◌-◌, ◌<◌, ◌≤◌, ◌++◌, suc, Option, Some, None, List, [], ◌∷◌, length, slice_get, arith, ap, sym, ◌∙◌, refl, subst, inl, inr}
+use Rattle.std.proofs.Common.{ℕ, ◌≡◌, ◌⊎◌, ◌+◌, ◌-◌, ◌<◌, suc, Option, Some, None, length, slice_get, arith, ap, sym, ◌∙◌, subst, inl, inr}
 use Rattle.std.proofs.lemmas.Bool.{cases_eq, cases_lt}
 use mathlib.Core.Logic.{∥∥₁_map}
 use Rattle.std.proofs.Math.Logic.{∥∥₁_elim}
-use Rattle.bl_model.specs.Map.{Map, empty}
-use Rattle.bl_model.specs.History.{IsLegalFrom, final_map}
+use Rattle.bl_model.specs.History.{IsLegalFrom}
 use Rattle.bl_page.specs.Machine.{Name}
 use Rattle.bl_page.specs.Machine.Act.{End}
 use Rattle.bl_page.specs.Machine.Phase.{Waiting, Ended}
-use Rattle.bl_trails.specs.Trails.{Said, Trail, marks_of, history_of, SaysAt, DoesAt, HasSaid}
+use Rattle.bl_trails.specs.Trails.{Said, marks_of, history_of, SaysAt, DoesAt, HasSaid}
 use Rattle.bl_trails.specs.Moments.{HasLaws}
-use Rattle.bl_steps.specs.Worlds.{Stage, IsStage, World as ModelWorld, IsSure, IsGood}
+use Rattle.bl_steps.specs.Worlds.{IsStage, World as ModelWorld, IsSure, IsGood}
 use Rattle.bl_ways.specs.declared.answers.Answer.{Answer}
 use Rattle.bl_ways.specs.declared.answers.Answer.TheVariants as answer
 use Rattle.bl_ways.specs.declared.answers.Hint.{Hint}
@@ -25,14 +24,14 @@ use Rattle.bl_tables.proofs.Logged.{bare_good}
 use Rattle.bl_tables.proofs.Answered.{post_means}
 use Rattle.bl_tables.proofs.Starting.{run_laws}
 use Rattle.bl_world.specs.Views.{View, name_of}
-use Rattle.bl_world.specs.Deeds.{Way, turns_in}
+use Rattle.bl_world.specs.Deeds.{Way}
 use Rattle.bl_world.specs.Accounts.{op_of, Answers, IsOwn, Account, Continues}
 use Rattle.bl_world.specs.Worlds.{IsUnknown, IsWorld}
 use Rattle.bl_world.proofs.Arms.{stands}
 use Rattle.bl_world.proofs.Moments.{world_map}
-use Rattle.bl_world.proofs.Orders.{ordered, ended_in}
+use Rattle.bl_world.proofs.Orders.{ordered, ended_in, none_released}
 use Rattle.bl_world.proofs.Entries.{said_op, answered_said, answered_late}
-use Rattle.bl_world.proofs.Refusals.{answers_refused}
+use Rattle.bl_world.proofs.RefusedAnswers.{answers_refused}
 use Rattle.bl_world.proofs.Ways.{events_count, first_refused}
 use Rattle.bl_world.proofs.Keeping.{Has, GrowsTo}
 
@@ -112,6 +111,8 @@ module _ (v : View) (h : Has v) where
         opening = h.opening;
         now = w.now;
         leads = r.leads;
+        numbered = h.numbered;
+        unreleased = none_released w.start w.now w.trail r.leads;
         contents = h.contents;
         owner = h.owner;
         laws = subst (λ f. HasLaws w.now w.trail f) (world_map w h.good h.first) (run_laws w h.good);

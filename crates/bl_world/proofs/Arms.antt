@@ -1,10 +1,10 @@
 -- Each kind of turn on the lists of a world.
-use Rattle.std.proofs.Common.{ℕ, ◌≡◌, ◌≢◌, ◌⊎◌, ◌<◌, ◌≤◌, ◌++◌, ◌+◌, zero, suc, Option, Some, None, List, [], ◌∷◌, length, get_or, slice_get, slice_set, Result, Ok, Err, OnOk, OnErr, arith, ap, sym, ◌∙◌, refl, subst, inl, inr}
+use Rattle.std.proofs.Common.{ℕ, ◌≡◌, ◌≢◌, ◌⊎◌, ◌<◌, ◌++◌, zero, suc, Option, Some, None, List, [], ◌∷◌, length, get_or, slice_get, slice_set, Result, Ok, Err, OnOk, OnErr, arith, ap, sym, ◌∙◌, refl, subst, inl, inr}
 use Rattle.std.proofs.lemmas.Bool.{cases_eq}
 use Rattle.std.proofs.lemmas.Option.{slice_get_within, get_or_from_slice_get}
 use Rattle.std.proofs.lemmas.List.{length-set}
 use Rattle.bl_page.specs.declared.page.Page.{Page}
-use Rattle.bl_page.specs.Machine.{Name, State, Act as MachineAct, IsAt}
+use Rattle.bl_page.specs.Machine.{State, Act as MachineAct}
 use Rattle.bl_page.specs.Machine.Owner.{Held as MachineHeld}
 use Rattle.bl_page.specs.Machine.{Owner as MachineOwner}
 use Rattle.bl_page.specs.Machine.Phase.{Running, Ended}
@@ -16,7 +16,7 @@ use Rattle.bl_ways.specs.declared.acts.Seen.TheVariants as seen
 use Rattle.bl_proc.specs.declared.kinds.Proc.{Proc}
 use Rattle.bl_proc.specs.Processes.{next_of, Takes}
 use Rattle.bl_tables.specs.Turns.{event_of, IsTold, Does, Turned}
-use Rattle.bl_tables.specs.Knowing.{Run, know, end_of_proc, run_next}
+use Rattle.bl_tables.specs.Knowing.{know, end_of_proc, run_next}
 use Rattle.bl_tables.proofs.Turning.{turn, idle_turn}
 use Rattle.bl_world.specs.declared.turns.Act.TheVariants as shown
 use Rattle.bl_world.specs.declared.turns.Event.{Event}

@@ -1,9 +1,8 @@
 -- A process enters a world.
-use Rattle.std.proofs.Common.{ℕ, ◌≡◌, ◌≢◌, ◌⊎◌, ◌+◌, ◌^◌, ◌<◌, ◌≤◌, ◌++◌, zero, suc, Option, Some, None, List, [], ◌∷◌, length, slice_get, arith, ap, sym, ◌∙◌, refl, subst, inl, inr, append-nil}
+use Rattle.std.proofs.Common.{ℕ, ◌≡◌, ◌≢◌, ◌^◌, ◌<◌, ◌++◌, suc, List, [], ◌∷◌, length, arith, ap, sym, ◌∙◌, refl, inl, inr, append-nil}
 use Rattle.std.proofs.lemmas.Option.{slice_get_within}
 use Rattle.bl_page.specs.declared.page.Page.{Page}
 use Rattle.bl_page.specs.Machine.{Name}
-use Rattle.bl_steps.specs.Worlds.{World as ModelWorld}
 use Rattle.bl_steps.proofs.After.{put_name, is_put_name}
 use Rattle.bl_starts.specs.Blank.{IsBlank}
 use Rattle.bl_ways.specs.declared.acts.Action.TheVariants as act
@@ -37,8 +36,7 @@ use Rattle.bl_tables.proofs.Starting.{with_proc, enters_good}
 use Rattle.bl_world.specs.declared.turns.Event.{Event}
 use Rattle.bl_world.specs.declared.owners.Owner.{Owner}
 use Rattle.bl_world.specs.Views.{name_of}
-use Rattle.bl_world.specs.Accounts.{key_in}
-use Rattle.bl_world.specs.Worlds.{IsUnknown, HasWorld}
+use Rattle.bl_world.specs.Worlds.{key_in, IsUnknown, HasWorld}
 use Rattle.bl_world.proofs.Stands.{Grows, name_differs}
 use Rattle.bl_world.proofs.Places.{push_cases, push_length}
 
@@ -137,6 +135,7 @@ enters pages owners processes events p small next h =
             let o = h.others q (λ i l. far i (rw more (omega (arith, l)))) in
             (o.0, rw (put.others q ne) o.1);
         shown = h.shown;
+        numbered = h.numbered;
         moments = h.moments;
       },
       ([], sym (append-nil old.trail)),

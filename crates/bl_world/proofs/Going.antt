@@ -1,5 +1,5 @@
 -- A call leads from a world to a world, and its account goes on.
-use Rattle.std.proofs.Common.{ℕ, ◌≡◌, ◌⊎◌, ◌<◌, ◌^◌, List, [], Result, Ok, Err, OnOk, OnErr, sym, refl, subst, inl, inr, append-nil}
+use Rattle.std.proofs.Common.{◌≡◌, ◌<◌, ◌^◌, List, [], Result, Ok, Err, OnOk, OnErr, sym, subst, append-nil}
 use mathlib.Core.Logic.{∥∥₁_map}
 use Rattle.bl_ways.specs.declared.acts.Action.TheVariants as act
 use Rattle.bl_proc.specs.declared.kinds.Proc.{Proc}
@@ -8,8 +8,8 @@ use Rattle.bl_world.specs.declared.turns.Turn.{Turn}
 use Rattle.bl_world.specs.Views.{View}
 use Rattle.bl_world.specs.Turns.{RunsTo, RunsInto}
 use Rattle.bl_world.specs.Deeds.{Starts, Way}
-use Rattle.bl_world.specs.Accounts.{key_in, Continues}
-use Rattle.bl_world.specs.Worlds.{IsWorld}
+use Rattle.bl_world.specs.Accounts.{Continues}
+use Rattle.bl_world.specs.Worlds.{key_in, IsWorld}
 use Rattle.bl_world.proofs.Keeping.{Has, GrowsTo, runs_grow}
 use Rattle.bl_world.proofs.Entering.{enters}
 use Rattle.bl_world.proofs.Ways.{way_start, way_run}

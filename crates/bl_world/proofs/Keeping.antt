@@ -1,22 +1,21 @@
 -- Turns lead from lists of a world to lists of a world, and the trail goes on.
-use Rattle.std.proofs.Common.{ℕ, ◌≡◌, ◌⊎◌, ◌+◌, ◌<◌, ◌≤◌, ◌++◌, suc, Option, Some, None, IsSome, List, [], ◌∷◌, length, slice_get, slice_set, arith, ap, sym, ◌∙◌, refl, subst, inl, inr, append_assoc, append-nil}
+use Rattle.std.proofs.Common.{ℕ, ◌≡◌, ◌+◌, ◌++◌, suc, Some, List, [], ◌∷◌, slice_get, slice_set, arith, ap, sym, ◌∙◌, refl, subst, inl, inr, append_assoc, append-nil}
 use Rattle.std.proofs.lemmas.Option.{slice_get_within}
 use mathlib.Core.Logic.{∥∥₁_map}
 use Rattle.bl_page.specs.declared.page.Page.{Page}
-use Rattle.bl_trails.specs.Trails.{Trail}
 use Rattle.bl_ways.specs.declared.acts.Action.{Action}
 use Rattle.bl_ways.specs.declared.acts.Action.TheVariants as act
 use Rattle.bl_ways.specs.declared.acts.Seen.{Seen}
 use Rattle.bl_ways.specs.declared.acts.Seen.TheVariants as seen
 use Rattle.bl_proc.specs.declared.kinds.Proc.{Proc}
-use Rattle.bl_proc.specs.Processes.{next_of, needs_of, answer_of, Takes}
+use Rattle.bl_proc.specs.Processes.{next_of}
 use Rattle.bl_world.specs.declared.turns.Act.{Act}
 use Rattle.bl_world.specs.declared.turns.Act.TheVariants as shown
 use Rattle.bl_world.specs.declared.turns.Turn.{Turn}
 use Rattle.bl_world.specs.declared.turns.Turn.TheVariants as turn
 use Rattle.bl_world.specs.declared.owners.Owner.TheVariants as own
 use Rattle.bl_world.specs.Views.{View}
-use Rattle.bl_world.specs.Turns.{Stays, Puts, Owns, Tells, Idles, Carries, StepsTo, TakesTo, RefusesTo, TurnsAt, TurnsTo, RunsTo}
+use Rattle.bl_world.specs.Turns.{Stays, Puts, Owns, Tells, Idles, Carries, TurnsAt, TurnsTo, RunsTo}
 use Rattle.bl_world.specs.Worlds.{HasWorld, IsWorld}
 use Rattle.bl_world.proofs.Stands.{Grows}
 use Rattle.bl_world.proofs.Arms.{begins, ends, gets, misses, puts, latches, opens, takes_page, refuses_take, refuses_put, idles}

@@ -1,5 +1,5 @@
 -- The pages and owners of the opening index.
-use Rattle.std.proofs.Common.{ℕ, ◌≡◌, ◌≢◌, ◌<◌, ◌≤◌, Some, List, [], ◌∷◌, length, slice_get, slice_set, arith, ap, sym, ◌∙◌, refl}
+use Rattle.std.proofs.Common.{ℕ, ◌≡◌, ◌≤◌, Some, List, [], ◌∷◌, length, slice_set, arith, ap, ◌∙◌, refl}
 use Rattle.std.proofs.lemmas.List.{length-set}
 use Rattle.bl_page.specs.declared.page.Page.{Page}
 use Rattle.bl_ways.specs.Growths.{IsAnchor}

@@ -11,6 +11,8 @@ pub mod Runs
 pub mod Orders
 pub mod Entries
 pub mod Refusals
+pub mod RefusedTurns
+pub mod RefusedAnswers
 pub mod Entering
 pub mod Ways
 pub mod Accounting

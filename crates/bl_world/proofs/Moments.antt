@@ -1,7 +1,7 @@
 -- At every moment so far the pages have the laws of the tree.
-use Rattle.std.proofs.Common.{ℕ, ◌≡◌, ◌<◌, ◌≤◌, ◌++◌, zero, suc, List, [], ◌∷◌, length, take, arith, ap, sym, ◌∙◌, refl, subst, inl, inr}
+use Rattle.std.proofs.Common.{ℕ, ◌≡◌, ◌≤◌, ◌++◌, zero, suc, List, [], ◌∷◌, length, take, arith, ap, ◌∙◌, refl, subst, inl, inr}
 use Rattle.std.proofs.lemmas.Bool.{cases_lt}
-use Rattle.bl_model.specs.Map.{Map, empty}
+use Rattle.bl_model.specs.Map.{empty}
 use Rattle.bl_model.specs.History.{final_map}
 use Rattle.bl_page.specs.declared.page.Page.{Page}
 use Rattle.bl_page.specs.Machine.{State}

@@ -1,16 +1,12 @@
 -- The opening index is a world in which nothing has happened.
-use Rattle.std.proofs.Common.{ℕ, ◌≡◌, ◌≢◌, ◌⊎◌, ◌+◌, ◌-◌, ◌==◌, ◌<◌, ◌≤◌, zero, suc, Option, Some, None, List, [], ◌∷◌, length, get_or, replicate, slice_get, slice_set, arith, ap, sym, ◌∙◌, refl, subst, inl, inr}
-use Rattle.std.proofs.lemmas.Bool.{cases_eq, cases_lt}
-use Rattle.std.proofs.lemmas.Option.{get_or_from_slice_get, slice_get-get_or, slice_get_within, slice_get_past}
-use Rattle.std.proofs.lemmas.List.{length-set, get_or-replicate}
-use Rattle.bl_model.specs.Map.{empty}
+use Rattle.std.proofs.Common.{ℕ, ◌≡◌, ◌<◌, ◌≤◌, zero, suc, Some, None, List, [], ◌∷◌, length, get_or, slice_get, arith, ap, sym, ◌∙◌, refl, inl, inr}
+use Rattle.std.proofs.lemmas.Bool.{cases_lt}
+use Rattle.std.proofs.lemmas.Option.{get_or_from_slice_get}
 use Rattle.bl_page.specs.declared.page.Page.{Page}
 use Rattle.bl_page.specs.declared.page.Page.TheVariants.{Anchor, Leaf, Inner, Dead}
-use Rattle.bl_page.specs.Machine.{Name, State, Owner as MachineOwner}
+use Rattle.bl_page.specs.Machine.{State}
 use Rattle.bl_page.specs.Machine.Phase.{Waiting}
-use Rattle.bl_tree.specs.Nodes.{unbounded}
 use Rattle.bl_laws.specs.Pages.{node_of, roots_of}
-use Rattle.bl_steps.specs.Worlds.{Stage}
 use Rattle.bl_starts.specs.Opening.{Opening}
 use Rattle.bl_starts.specs.Blank.{IsBlank}
 use Rattle.bl_starts.proofs.Starts.{opening_world, opening_good}
@@ -19,12 +15,9 @@ use Rattle.bl_proc.specs.declared.kinds.Proc.{Proc}
 use Rattle.bl_proc.specs.declared.kinds.Proc.TheVariants as proc
 use Rattle.bl_proc.specs.declared.searching.FindStage.TheVariants as find
 use Rattle.bl_tables.specs.Knowing.{Run, know}
-use Rattle.bl_world.specs.declared.owners.Owner.{Owner}
 use Rattle.bl_world.specs.declared.owners.Owner.TheVariants as own
 use Rattle.bl_world.specs.Views.{View, owner_of}
-use Rattle.bl_world.specs.Deeds.{AreEmptyLeaves, IsOpening}
-use Rattle.bl_world.specs.Worlds.{HasWorld}
-use Rattle.bl_world.proofs.Arms.{set_here, set_other, stands}
+use Rattle.bl_world.specs.Deeds.{IsOpening}
 use Rattle.bl_world.proofs.Keeping.{Has}
 use Rattle.bl_world.proofs.Moments.{world_moment, moments_first}
 
@@ -83,5 +76,6 @@ opens size v wide o =
       runs = λ n p is. absurd (let e : slice_get {X = Proc} [] n ≡ Some p = rw o.processes at is in cc);
       others = λ q far. (refl, nobody_blank leaf);
       shown = o.events;
+      numbered = λ i m is. absurd (let e : None ≡ Some m = is in cc);
       moments = moments_first now (world_moment (opening_world now size (λ p. nobody leaf)) good refl);
     }

@@ -1,14 +1,15 @@
 -- A process begins once and ends once in a legal step list, so that the points of operations lie as their times do.
-use Rattle.std.proofs.Common.{ℕ, ◌≡◌, ◌≢◌, ◌⊎◌, ◌<◌, ◌≤◌, Option, Some, None, zero, suc, List, [], ◌∷◌, slice_get, arith, ap, sym, ◌∙◌, refl, inl, inr}
+use Rattle.std.proofs.Common.{ℕ, ◌≡◌, ◌≢◌, ◌⊎◌, Option, Some, zero, suc, [], ◌∷◌, arith, ap, sym, ◌∙◌, refl, inl, inr}
 use Rattle.std.proofs.lemmas.Bool.{cases_lt}
 use Rattle.bl_model.specs.declared.operation.Reply.{Reply}
 use Rattle.bl_page.specs.declared.page.Page.{Page}
 use Rattle.bl_page.specs.Machine.{Name, State, Phase, Act, Event, Changes, Steps}
 use Rattle.bl_page.specs.Machine.Act.{Begin, End, Get, Put, Take, Latch, Open, Retire, Look, Release, Miss}
+use Rattle.bl_page.specs.Machine.Owner.{Released}
 use Rattle.bl_page.specs.Machine.Phase.{Waiting, Running, Ended}
 use Rattle.bl_trails.specs.Trails.{Mark, Trail, DoesAt, IsMarked, LeadsOn}
 use Rattle.bl_trails.proofs.Pushes.{name_cases}
-use Rattle.bl_world.specs.Accounts.{IsOrdered}
+use Rattle.bl_world.specs.Accounts.{NoneReleased, IsOrdered}
 
 -- who has begun has begun
 stays_begun : (s s' : State Page) (p q : Name) (a : Act Page Reply) → Changes s p a s' → s.phase q ≢ Waiting → s'.phase q ≢ Waiting
@@ -97,3 +98,14 @@ ended_in s s' (m ∷ ms) q n l e = elim (ended_cases (l.0.phase q)) [
       let r = ended_in l.0 s' ms q h l.3 e in
       (suc r.0, (r.1.0, record { mark = r.1.1.mark; is = r.1.1.is; event = r.1.1.event }))
 ]
+
+-- before a get its page is not released
+get_unreleased : (s s' : State Page) (e : Event Page Reply) (q : Name) (x : ℕ) → Steps s e s' → e ≡ record { process = q; act = Get x } → s.owner x ≢ Released
+get_unreleased s s' e q x t is = (let u : Steps {A = Reply} s (record { process = q; act = Get x }) s' = rw is at t in u.enabled.1)
+
+pub none_released : (s s' : State Page) (trail : Trail) → LeadsOn s trail s' → NoneReleased s trail
+none_released s s' [] l i q x d = absurd (let e = d.is in cc)
+none_released s s' (m ∷ ms) l zero q x d = (s, refl, get_unreleased s l.0 m.event q x l.1 (first_is m d.mark q (Get x) d.is d.event))
+none_released s s' (m ∷ ms) l (suc i) q x d =
+    let r = none_released l.0 s' ms l.3 i q x (record { mark = d.mark; is = d.is; event = d.event }) in
+    (r.0, (l.0, l.1, l.2, r.1), r.2)

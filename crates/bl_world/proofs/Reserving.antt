@@ -1,5 +1,5 @@
 -- A process reserves only for a take, or for a put.
-use Rattle.std.proofs.Common.{ℕ, Option, Some, None, IsSome}
+use Rattle.std.proofs.Common.{IsSome}
 use Rattle.std.proofs.lemmas.Bool.{false≢true}
 use Rattle.bl_ways.specs.declared.acts.Action.{Action}
 use Rattle.bl_ways.specs.declared.acts.Action.TheVariants as act

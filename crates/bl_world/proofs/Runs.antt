@@ -1,5 +1,5 @@
 -- Lists of turns, one turn at a time.
-use Rattle.std.proofs.Common.{ℕ, ◌≡◌, ◌≢◌, ◌⊎◌, ◌+◌, ◌-◌, ◌<◌, ◌≤◌, ◌++◌, zero, suc, Some, None, List, [], ◌∷◌, length, take, drop, get_or, slice_get, slice_set, arith, ap, sym, ◌∙◌, refl, subst, inl, inr}
+use Rattle.std.proofs.Common.{ℕ, ◌≡◌, ◌+◌, ◌++◌, zero, suc, Some, None, List, [], ◌∷◌, length, take, drop, slice_get, arith, ap, sym, ◌∙◌, refl, subst, inl, inr}
 use Rattle.std.proofs.lemmas.List.{length-set}
 use Rattle.bl_ways.specs.declared.acts.Action.{Action}
 use Rattle.bl_ways.specs.declared.acts.Action.TheVariants as act

@@ -1,19 +1,19 @@
 -- One turn on the lists of a world.
-use Rattle.std.proofs.Common.{ℕ, ◌≡◌, ◌≢◌, ◌⊎◌, ◌<◌, ◌++◌, zero, suc, Option, Some, None, List, [], ◌∷◌, length, slice_get, arith, ap, sym, ◌∙◌, refl, subst, inl, inr}
+use Rattle.std.proofs.Common.{ℕ, ◌≡◌, ◌≢◌, ◌<◌, ◌++◌, suc, Some, List, [], ◌∷◌, length, slice_get, arith, ap, sym, ◌∙◌, refl, inl, inr}
 use Rattle.std.proofs.lemmas.Bool.{cases_eq}
 use Rattle.bl_model.specs.declared.operation.Reply.{Reply}
 use Rattle.bl_page.specs.declared.page.Page.{Page}
-use Rattle.bl_page.specs.Machine.{Name, State, Phase, Event as MachineEvent, Act as MachineAct, Changes, IsAt}
+use Rattle.bl_page.specs.Machine.{Name, State, Act as MachineAct, Changes}
 use Rattle.bl_page.specs.Machine.Act.{Begin, End, Get, Put, Take, Latch, Retire, Look, Release, Miss}
 use Rattle.bl_trails.specs.Trails.{Mark, Trail, events_of}
-use Rattle.bl_steps.specs.Worlds.{World as ModelWorld, IsGood}
 use Rattle.bl_proc.specs.declared.kinds.Proc.{Proc}
 use Rattle.bl_tables.specs.Turns.{Turned}
 use Rattle.bl_tables.specs.Knowing.{Run, know}
 use Rattle.bl_world.specs.declared.turns.Event.{Event}
 use Rattle.bl_world.specs.declared.owners.Owner.{Owner}
 use Rattle.bl_world.specs.Views.{name_of, owner_of, act_shown, events_shown}
-use Rattle.bl_world.specs.Worlds.{IsUnknown, HasWorld}
+use Rattle.bl_world.specs.Worlds.{HasWorld}
+use Rattle.bl_world.proofs.Places.{push_cases}
 use Rattle.bl_world.proofs.Moments.{world_moment, moments_on}
 
 -- an event leaves all other processes where they stood
@@ -66,6 +66,10 @@ turned_lists pages pages' owners owners' processes processes' events n a s b h h
             let ne : q ≢ p = unknown n (rw many here) in
             (phase_others old.now next.now p q a e.steps.changes ne ∙ o.0, rw (e.proc.others q ne) o.1);
         shown = ap (λ es. es ++ record { process = suc n; act = act_shown a } ∷ []) h.shown ∙ (sym (shown_push old.trail _) ∙ ap (λ t. events_shown (events_of t)) (sym e.trail));
+        numbered = λ i k is. elim (push_cases old.trail _ i k (ap (λ t. slice_get t i) (sym e.trail) ∙ is)) [
+          | inl is_old ↦ h.numbered i k is_old
+          | inr is_new ↦ ap (λ z. z.event.process.number) is_new.1
+        ];
         moments = moments_on old.start next.start old.trail next.trail _ e.start e.trail h.moments (world_moment next t.good (e.first ∙ h.first));
       },
       (_ ∷ [], e.trail),

@@ -1,5 +1,5 @@
 -- One turn, told by what stood before it, from what was found of the process.
-use Rattle.std.proofs.Common.{ℕ, ◌≡◌, ◌≢◌, ◌-◌, ◌<◌, ◌≤◌, Option, Some, None, List, slice_get, length, refl, arith, ap, sym, ◌∙◌, subst, inl, inr}
+use Rattle.std.proofs.Common.{ℕ, ◌≡◌, ◌≢◌, ◌-◌, ◌<◌, ◌≤◌, Option, Some, None, slice_get, length, arith, ap, sym, ◌∙◌, subst, inl, inr}
 use Rattle.bl_ways.specs.declared.acts.Action.{Action}
 use Rattle.bl_ways.specs.declared.acts.Action.TheVariants as act
 use Rattle.bl_ways.specs.declared.answers.Answer.{Answer}
@@ -8,7 +8,7 @@ use Rattle.bl_proc.specs.Processes.{next_of, answer_of}
 use Rattle.bl_world.specs.declared.turns.Turn.TheVariants as turn
 use Rattle.bl_world.specs.Views.{View}
 use Rattle.bl_world.specs.Turns.{Idles, Carries, StepsTo, TakesTo, RefusesTo, TurnsTo}
-use Rattle.bl_world.proofs.Arms.{stands, stood_is, none_left}
+use Rattle.bl_world.proofs.Arms.{stands}
 
 -- the turn of a process that was started
 module _ (v v' : View) (number : ℕ) (some : 0 < number) (within : number ≤ length v.processes) where

@@ -1,5 +1,5 @@
 -- Deeds, one after the other: each turn is one event, and where there was no room a turn was a refusal.
-use Rattle.std.proofs.Common.{ℕ, ◌≡◌, ◌≢◌, ◌⊎◌, ◌+◌, ◌<◌, ◌≤◌, ◌++◌, zero, suc, Option, Some, None, List, [], ◌∷◌, length, slice_get, slice_set, arith, ap, sym, ◌∙◌, refl, subst, inl, inr}
+use Rattle.std.proofs.Common.{ℕ, ◌≡◌, ◌≢◌, ◌⊎◌, ◌+◌, ◌++◌, Some, List, [], ◌∷◌, length, slice_get, slice_set, arith, ap, sym, ◌∙◌, refl, subst, inl, inr}
 use Rattle.std.proofs.lemmas.Bool.{cases_eq}
 use Rattle.std.proofs.lemmas.Option.{slice_get_within}
 use Rattle.bl_ways.specs.declared.acts.Action.{Action}
@@ -17,7 +17,9 @@ use Rattle.bl_world.specs.Deeds.{IsOpening, Deed, Starts, DoneTo, LeadsTo, turns
 use Rattle.bl_world.specs.Deeds.Deed.{Starting, Turning}
 use Rattle.bl_world.proofs.Arms.{set_here, set_other}
 use Rattle.bl_world.proofs.Places.{push_plus, push_cases}
-use Rattle.bl_world.proofs.Refusals.{IsRefused, takes_refused, begins_free}
+use Rattle.bl_world.proofs.Refusals.{IsRefused}
+use Rattle.bl_world.proofs.RefusedTurns.{takes_refused}
+use Rattle.bl_world.proofs.RefusedAnswers.{begins_free}
 
 -- Ways go on
 

@@ -1,5 +1,5 @@
 -- What may be believed of a world, at every moment so far.
-use Rattle.std.specs.Prelude.{◌≡◌, ℕ, ◌<◌, ◌≤◌, ◌+◌, ◌++◌, Option, Some, None, List, length, take, slice_get}
+use Rattle.std.specs.Prelude.{◌≡◌, ◌≢◌, ℕ, ◌<◌, ◌≤◌, ◌+◌, ◌++◌, Option, Some, None, length, take, slice_get}
 use Rattle.bl_model.specs.Map.{empty}
 use Rattle.bl_model.specs.History.{IsLegalFrom, final_map}
 use Rattle.bl_model.specs.declared.operation.Op.{Op}
@@ -7,8 +7,9 @@ use Rattle.bl_model.specs.declared.operation.Op.TheVariants as op
 use Rattle.bl_model.specs.declared.operation.Reply.{Reply}
 use Rattle.bl_page.specs.declared.page.Page.{Page}
 use Rattle.bl_page.specs.Machine.{Name, State}
-use Rattle.bl_page.specs.Machine.Act.{Begin, End}
-use Rattle.bl_trails.specs.Trails.{Said, Trail, marks_of, events_of, history_of, DoesAt, SaysAt, IsMarked, LeadsOn}
+use Rattle.bl_page.specs.Machine.Act.{Begin, End, Get}
+use Rattle.bl_page.specs.Machine.Owner.{Released}
+use Rattle.bl_trails.specs.Trails.{Said, Mark, Trail, marks_of, events_of, history_of, DoesAt, SaysAt, IsMarked, LeadsOn}
 use Rattle.bl_trails.specs.Moments.{HasLaws}
 use Rattle.bl_starts.specs.Opening.{Opening}
 use Rattle.bl_ways.specs.declared.answers.Answer.{Answer}
@@ -35,6 +36,14 @@ pub record Moment (start : State Page) (trail : Trail) : Type 0 where
 abbrev pub HasMoments : State Page → Trail → Type 0
 HasMoments start trail = (i : ℕ) → i ≤ length trail → Moment start (take i trail)
 
+-- no released page is got: before each get its page is not released
+abbrev pub NoneReleased : State Page → Trail → Type 0
+NoneReleased start trail = (i : ℕ) (q : Name) (x : ℕ) → DoesAt trail i q (Get x) → (before : State Page) × LeadsOn start (take i trail) before × (before.owner x ≢ Released)
+
+-- each event is of a process of this world
+abbrev pub AllNumbered : Trail → Type 0
+AllNumbered trail = (i : ℕ) (m : Mark) → slice_get trail i ≡ Some m → m.event.process.number ≡ 0
+
 -- an operation that ended before another began has its point before the other's
 abbrev pub IsOrdered : Trail → Type 0
 IsOrdered trail = (i j end begin : ℕ) (p q : Name) (said other : Said) (reply : Option Reply) → SaysAt trail i p said → SaysAt trail j q other → DoesAt trail end p (End reply) → DoesAt trail begin q Begin → end < begin → i < j
@@ -45,13 +54,6 @@ op_of (proc.Find p) = Some (op.Find p.key)
 op_of (proc.Insert p) = Some (op.Insert p.key p.value)
 op_of (proc.Delete p) = Some (op.Delete p.key)
 op_of (proc.Post p) = None
-
--- the key that a process is about
-abbrev pub key_in : Proc → ℕ
-key_in (proc.Find p) = p.key
-key_in (proc.Insert p) = p.key
-key_in (proc.Delete p) = p.key
-key_in (proc.Post p) = p.key
 
 -- The operation of p has its point in the trail, with that reply.
 pub record Answers (trail : Trail) (p : Name) (is : Option Op) (answer : Reply) : Type 0 where
@@ -82,6 +84,8 @@ pub record Account (v : View) : Type 0 where
   pub opening : Opening start
   pub now : State Page
   pub leads : LeadsOn start trail now
+  pub numbered : AllNumbered trail
+  pub unreleased : NoneReleased start trail
   pub contents : (x : ℕ) (c : Page) → slice_get v.pages x ≡ Some c → now.contents x ≡ c
   pub owner : (x : ℕ) (o : Owner) → slice_get v.owners x ≡ Some o → now.owner x ≡ owner_of o
   -- the laws of the tree hold with the map after the history, now and at every moment so far

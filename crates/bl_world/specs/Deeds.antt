@@ -1,6 +1,5 @@
 -- What the user of a world does with it, and where that leads.
-use Rattle.std.specs.Prelude.{◌≡◌, ◌≢◌, ℕ, ◌<◌, ◌≤◌, ◌+◌, ◌++◌, Some, None, List, [], ◌∷◌, length, slice_get}
-use Rattle.bl_model.specs.declared.operation.Reply.{Reply}
+use Rattle.std.specs.Prelude.{◌≡◌, ℕ, ◌<◌, ◌+◌, ◌++◌, Some, None, List, [], ◌∷◌, length, slice_get}
 use Rattle.bl_model.specs.declared.operation.Reply.TheVariants as reply
 use Rattle.bl_page.specs.declared.page.Page.{Page}
 use Rattle.bl_tree.specs.Nodes.{unbounded}
@@ -8,16 +7,15 @@ use Rattle.bl_laws.specs.Pages.{node_of}
 use Rattle.bl_ways.specs.declared.acts.Action.TheVariants as act
 use Rattle.bl_ways.specs.declared.answers.Answer.{Answer}
 use Rattle.bl_ways.specs.declared.answers.Answer.TheVariants as answer
-use Rattle.bl_ways.specs.declared.answers.Posted.{Posted}
 use Rattle.bl_ways.specs.declared.answers.Posted.TheVariants as posted
 use Rattle.bl_ways.specs.Growths.{IsAnchor}
 use Rattle.bl_proc.specs.declared.kinds.Proc.{Proc}
-use Rattle.bl_proc.specs.Processes.{next_of, answer_of}
+use Rattle.bl_proc.specs.Processes.{next_of}
 use Rattle.bl_world.specs.declared.turns.Turn.{Turn}
 use Rattle.bl_world.specs.declared.turns.Turn.TheVariants as turn
 use Rattle.bl_world.specs.declared.owners.Owner.{Owner}
 use Rattle.bl_world.specs.declared.owners.Owner.TheVariants as own
-use Rattle.bl_world.specs.Views.{View, name_of, owner_of}
+use Rattle.bl_world.specs.Views.{View}
 use Rattle.bl_world.specs.Turns.{MayRefuse, TurnsTo}
 
 -- a leaf that covers every key and has no row

@@ -1,5 +1,5 @@
 -- The world behind what stands in one: its pages, owners, processes and events are those of a good world.
-use Rattle.std.specs.Prelude.{◌≡◌, ℕ, suc, ◌<◌, ◌≤◌, ◌≢◌, List, [], length, take, Some, slice_get}
+use Rattle.std.specs.Prelude.{◌≡◌, ℕ, suc, ◌<◌, ◌≢◌, List, length, Some, slice_get}
 use Rattle.bl_model.specs.Map.{empty}
 use Rattle.bl_page.specs.declared.page.Page.{Page}
 use Rattle.bl_page.specs.Machine.{Name}
@@ -9,11 +9,19 @@ use Rattle.bl_steps.specs.Worlds.{World as ModelWorld, IsGood}
 use Rattle.bl_starts.specs.Blank.{IsBlank}
 use Rattle.bl_starts.specs.Opening.{Opening}
 use Rattle.bl_proc.specs.declared.kinds.Proc.{Proc}
+use Rattle.bl_proc.specs.declared.kinds.Proc.TheVariants as proc
 use Rattle.bl_tables.specs.Knowing.{Run, know}
 use Rattle.bl_world.specs.declared.turns.Event.{Event}
 use Rattle.bl_world.specs.declared.owners.Owner.{Owner}
 use Rattle.bl_world.specs.Views.{View, name_of, owner_of, events_shown}
-use Rattle.bl_world.specs.Accounts.{HasMoments}
+use Rattle.bl_world.specs.Accounts.{AllNumbered, HasMoments}
+
+-- the key that a process is about
+abbrev pub key_in : Proc → ℕ
+key_in (proc.Find p) = p.key
+key_in (proc.Insert p) = p.key
+key_in (proc.Delete p) = p.key
+key_in (proc.Post p) = p.key
 
 -- none of the processes of that many has this name
 abbrev pub IsUnknown : ℕ → Name → Type 0
@@ -33,6 +41,7 @@ pub record HasWorld (pages : List Page) (owners : List Owner) (processes : List 
   pub runs : (n : ℕ) (p : Proc) → slice_get processes n ≡ Some p → (world.proc (name_of (suc n))).state ≡ p
   pub others : (q : Name) → IsUnknown (length processes) q → (world.now.phase q ≡ Waiting) × IsBlank (know (world.proc q))
   pub shown : events ≡ events_shown (events_of world.trail)
+  pub numbered : AllNumbered world.trail
   pub moments : HasMoments world.start world.trail
 
 -- There is such a world.

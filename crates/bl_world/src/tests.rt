@@ -15,7 +15,12 @@ fn find(world: &mut World, key: u64) -> Result<usize, Fail> {
 }
 
 fn insert(world: &mut World, key: u64, value: u64) -> Result<usize, Fail> {
-    Ok(world.start(Proc::insert(key, value)).ok().ok_or("not started")?)
+    Ok(
+        world
+            .start(Proc::insert(key, value))
+            .ok()
+            .ok_or("not started")?,
+    )
 }
 
 fn delete(world: &mut World, key: u64) -> Result<usize, Fail> {
@@ -26,7 +31,12 @@ fn post(world: &mut World, level: u32, key: u64) -> Result<usize, Fail> {
     if level == 0 || level > 12 {
         return Err("no such level")?;
     }
-    Ok(world.start(Proc::post(level, key)).ok().ok_or("not started")?)
+    Ok(
+        world
+            .start(Proc::post(level, key))
+            .ok()
+            .ok_or("not started")?,
+    )
 }
 
 fn run(world: &mut World, turns: &[Turn]) -> Result<(), Fail> {
@@ -105,7 +115,14 @@ fn operations_alone(rt: HostRuntime) -> Result<(), Fail> {
     let first = find(&mut world, 5)?;
     assert!(rt; first == 1);
     step(&mut world, first, 4)?;
-    assert!(rt; did(rt.alloc(), &world, first, &[Act::Begin, Act::Get(0), Act::Get(1), Act::End])?);
+    assert!(rt;
+        did(
+            rt.alloc(),
+            &world,
+            first,
+            &[Act::Begin, Act::Get(0), Act::Get(1), Act::End]
+        )?
+    );
     assert!(rt; world.answer(first) == plain(Reply::Absent));
 
     let second = insert(&mut world, 5, 50)?;
@@ -194,8 +211,7 @@ fn a_full_leaf_is_split_and_its_page_posted(rt: HostRuntime) -> Result<(), Fail>
         )?
     );
     assert!(rt;
-        world.answer(15)
-            == Some(Answer::Op(Reply::Inserted, Some(Hint::Post { level: 1, key: 9 })))
+        world.answer(15) == Some(Answer::Op(Reply::Inserted, Some(Hint::Post { level: 1, key: 9 })))
     );
     assert!(rt;
         did(
@@ -265,7 +281,14 @@ fn searches_beside_a_split_that_is_half_done(rt: HostRuntime) -> Result<(), Fail
     run(&mut world, &[Turn::Take(15, 2), Turn::Step(15)])?;
     let before = find(&mut world, 15)?;
     step(&mut world, before, 4)?;
-    assert!(rt; did(rt.alloc(), &world, before, &[Act::Begin, Act::Get(0), Act::Get(1), Act::End])?);
+    assert!(rt;
+        did(
+            rt.alloc(),
+            &world,
+            before,
+            &[Act::Begin, Act::Get(0), Act::Get(1), Act::End]
+        )?
+    );
     assert!(rt; world.answer(before) == plain(Reply::Absent));
 
     step(&mut world, 15, 1)?;
@@ -283,8 +306,7 @@ fn searches_beside_a_split_that_is_half_done(rt: HostRuntime) -> Result<(), Fail
     assert!(rt; world.answer(15) == None);
     step(&mut world, 15, 3)?;
     assert!(rt;
-        world.answer(15)
-            == Some(Answer::Op(Reply::Inserted, Some(Hint::Post { level: 1, key: 9 })))
+        world.answer(15) == Some(Answer::Op(Reply::Inserted, Some(Hint::Post { level: 1, key: 9 })))
     );
     Ok(())
 }
@@ -425,7 +447,14 @@ fn a_growth_beside_one_that_is_refused(rt: HostRuntime) -> Result<(), Fail> {
     let other = post(&mut world, 1, 9)?;
     step(&mut world, refused, 4)?;
     step(&mut world, other, 3)?;
-    run(&mut world, &[Turn::Refuse(refused), Turn::Step(refused), Turn::Step(other)])?;
+    run(
+        &mut world,
+        &[
+            Turn::Refuse(refused),
+            Turn::Step(refused),
+            Turn::Step(other),
+        ],
+    )?;
     step(&mut world, refused, 1)?;
     assert!(rt;
         did(
@@ -483,7 +512,10 @@ fn a_growth_beside_one_that_is_refused(rt: HostRuntime) -> Result<(), Fail> {
 fn a_refused_insertion_leaves_all_keys(rt: HostRuntime) -> Result<(), Fail> {
     let mut world = filled(rt.alloc())?;
     step(&mut world, 15, 4)?;
-    run(&mut world, &[Turn::Refuse(15), Turn::Step(15), Turn::Step(15)])?;
+    run(
+        &mut world,
+        &[Turn::Refuse(15), Turn::Step(15), Turn::Step(15)],
+    )?;
     assert!(rt; world.answer(15) == plain(Reply::NoRoom));
     for key in 1..16 {
         let number = find(&mut world, key)?;
@@ -523,8 +555,8 @@ fn turns_that_are_not_fit(rt: HostRuntime) -> Result<(), Fail> {
             Turn::Take(15, 0),
             Turn::Take(15, 1),
             Turn::Take(15, 8),
-            Turn::Take(15, 7)
-        ]
+            Turn::Take(15, 7),
+        ],
     )?;
     // the new page needs no reservation of its own, and an ended process does nothing
     run(&mut world, &[Turn::Refuse(15)])?;
@@ -556,7 +588,13 @@ fn turns_that_are_not_fit(rt: HostRuntime) -> Result<(), Fail> {
             ]
         )?
     );
-    assert!(rt; world.steps().last().copied() == Some(Event { process: 15, act: Act::Miss }));
+    assert!(rt;
+        world.steps().last().copied()
+            == Some(Event {
+                process: 15,
+                act: Act::Miss
+            })
+    );
     Ok(())
 }
 

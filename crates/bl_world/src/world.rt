@@ -3,8 +3,7 @@
 ghost use Rattle.std.specs.Prelude.{◌≡◌, ℕ};
 ghost use Rattle.bl_world.specs.Views.{view_of};
 ghost use Rattle.bl_world.specs.Deeds.{Way};
-ghost use Rattle.bl_world.specs.Worlds.{IsWorld};
-ghost use Rattle.bl_world.specs.Accounts.{key_in};
+ghost use Rattle.bl_world.specs.Worlds.{IsWorld, key_in};
 
 use crate::lists::Lists;
 use crate::opening::opening;

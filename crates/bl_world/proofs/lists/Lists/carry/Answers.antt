@@ -1,4 +1,4 @@
-use Rattle.std.proofs.Common.{◌≡◌, length, arith, sym, ◌∙◌, take}
+use Rattle.std.proofs.Common.{arith, take}
 use Rattle.std.proofs.lemmas.Option.{slice_get-get_or}
 use Rattle.bl_world.specs.Views.{view_of}
 use Rattle.bl_world.specs.declared.turns.Turn.TheVariants as turn

@@ -1,6 +1,6 @@
-use Rattle.std.proofs.Common.{◌≡◌, arith, subst, sym}
+use Rattle.std.proofs.Common.{arith, subst}
 use Rattle.std.proofs.lemmas.Option.{slice_get-get_or}
-use Rattle.bl_world.specs.Views.{view_of, number_in}
+use Rattle.bl_world.specs.Views.{view_of}
 use Rattle.bl_world.specs.Turns.{IsStarted}
 use Rattle.bl_world.specs.declared.turns.Turn.TheVariants as turn
 use Rattle.bl_world.proofs.Runs.{all_further}

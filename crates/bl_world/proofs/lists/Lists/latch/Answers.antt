@@ -1,4 +1,4 @@
-use Rattle.std.proofs.Common.{arith, ◌≡◌, Some, slice_get, inl, inr, sym, ◌∙◌}
+use Rattle.std.proofs.Common.{arith, ◌≡◌, Some, slice_get, inl}
 use Rattle.bl_world.specs.declared.owners.Owner.TheVariants as own
 use Rattle.bl_world.proofs.Arms.{stands, read_at}
 use Rattle.bl_world.proofs.Near.{latch_within}

@@ -1,4 +1,4 @@
-use Rattle.std.proofs.Common.{◌≡◌, ◌-◌, ◌+◌, arith, ap, sym, ◌∙◌, slice_get, subst, Some}
+use Rattle.std.proofs.Common.{◌≡◌, ◌-◌, arith, ap, sym, ◌∙◌, slice_get, subst, Some}
 use Rattle.bl_proc.specs.Processes.{answer_of}
 use Rattle.bl_world.specs.Views.{view_of}
 use Rattle.bl_world.proofs.Arms.{stood_is}

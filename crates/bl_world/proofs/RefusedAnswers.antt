@@ -1,0 +1,138 @@
+-- A process that answers that there was no room goes on without room, and one that is to begin does not.
+use Rattle.std.proofs.Common.{ℕ, ◌≡◌, Some, None, subst}
+use Rattle.bl_ways.specs.declared.acts.Action.TheVariants as act
+use Rattle.bl_ways.specs.declared.changing.Change.{Change}
+use Rattle.bl_ways.specs.declared.changing.Change.TheVariants as change
+use Rattle.bl_ways.specs.declared.growing.Growth.{Growth}
+use Rattle.bl_ways.specs.declared.growing.Growth.TheVariants as growth
+use Rattle.bl_ways.specs.declared.answers.Answer.{Answer}
+use Rattle.bl_ways.specs.Changes.{change_next}
+use Rattle.bl_ways.specs.Growths.{growth_next}
+use Rattle.bl_proc.specs.declared.searching.FindStage.{FindStage}
+use Rattle.bl_proc.specs.declared.searching.FindStage.TheVariants as find
+use Rattle.bl_proc.specs.declared.inserting.InsertStage.{InsertStage}
+use Rattle.bl_proc.specs.declared.inserting.InsertStage.TheVariants as insert
+use Rattle.bl_proc.specs.declared.inserting.InsertReply.TheVariants as inserted
+use Rattle.bl_proc.specs.declared.deleting.DeleteStage.{DeleteStage}
+use Rattle.bl_proc.specs.declared.deleting.DeleteStage.TheVariants as delete
+use Rattle.bl_proc.specs.declared.deleting.DeleteReply.TheVariants as deleted
+use Rattle.bl_proc.specs.declared.posting.PostStage.{PostStage}
+use Rattle.bl_proc.specs.declared.posting.PostStage.TheVariants as post
+use Rattle.bl_proc.specs.declared.posting.PostReply.TheVariants as listed
+use Rattle.bl_proc.specs.declared.kinds.Proc.{Proc}
+use Rattle.bl_proc.specs.declared.kinds.Proc.TheVariants as proc
+use Rattle.bl_proc.specs.Processes.{next_of, answer_of}
+use Rattle.bl_proc.specs.Searches.{find_answer_in}
+use Rattle.bl_proc.specs.Inserts.{insert_next_in, insert_answer_in}
+use Rattle.bl_proc.specs.Deletes.{delete_next_in, delete_answer_in}
+use Rattle.bl_proc.specs.Posts.{post_next_in, post_answer_in}
+use Rattle.bl_world.specs.Deeds.{IsNoRoom}
+use Rattle.bl_world.proofs.Refusals.{InsertRefused, DeleteRefused, PostRefused, IsRefused}
+
+-- An answer
+
+none_answer : {X : Type 0} (a : Answer) → None ≡ Some a → X
+none_answer a e = absurd (let f : None ≡ Some a = e in cc)
+
+no_room : (a b : Answer) → Some a ≡ Some b → IsNoRoom b → IsNoRoom a
+no_room a b e r = (let f : b ≡ a = cc in subst IsNoRoom f r)
+
+find_answers : (a : FindStage) (b : Answer) → find_answer_in a ≡ Some b → IsNoRoom b → ⊥
+find_answers find.New b e r = none_answer b e
+find_answers find.AtAnchor b e r = none_answer b e
+find_answers (find.At x) b e r = none_answer b e
+find_answers (find.Ending v) b e r = none_answer b e
+find_answers (find.Over None) b e r = no_room _ b e r
+find_answers (find.Over (Some v)) b e r = no_room _ b e r
+
+insert_answers : (a : InsertStage) (b : Answer) → insert_answer_in a ≡ Some b → IsNoRoom b → InsertRefused a
+insert_answers insert.New b e r = none_answer b e
+insert_answers (insert.Coming a) b e r = none_answer b e
+insert_answers (insert.Present x v) b e r = none_answer b e
+insert_answers (insert.Changing c) b e r = none_answer b e
+insert_answers (insert.Ending x) b e r = none_answer b e
+insert_answers (insert.Over (inserted.Inserted s)) b e r = no_room _ b e r
+insert_answers (insert.Over (inserted.Present v)) b e r = no_room _ b e r
+insert_answers (insert.Over inserted.NoRoom) b e r = tt
+
+delete_answers : (a : DeleteStage) (b : Answer) → delete_answer_in a ≡ Some b → IsNoRoom b → DeleteRefused a
+delete_answers delete.New b e r = none_answer b e
+delete_answers (delete.Coming a) b e r = none_answer b e
+delete_answers (delete.Absent x) b e r = none_answer b e
+delete_answers (delete.Changing v c) b e r = none_answer b e
+delete_answers (delete.Ending x) b e r = none_answer b e
+delete_answers (delete.Over (deleted.Deleted v)) b e r = no_room _ b e r
+delete_answers (delete.Over deleted.Absent) b e r = no_room _ b e r
+delete_answers (delete.Over deleted.NoRoom) b e r = tt
+
+post_answers : (level : ℕ) (a : PostStage) (b : Answer) → post_answer_in level a ≡ Some b → IsNoRoom b → PostRefused a
+post_answers level post.New b e r = none_answer b e
+post_answers level (post.Coming a) b e r = none_answer b e
+post_answers level (post.Growing g) b e r = none_answer b e
+post_answers level (post.Walking w) b e r = none_answer b e
+post_answers level (post.Changing c) b e r = none_answer b e
+post_answers level (post.Staying x s) b e r = none_answer b e
+post_answers level (post.Ending x) b e r = none_answer b e
+post_answers level (post.Over (listed.Done s)) b e r = no_room _ b e r
+post_answers level (post.Over listed.Already) b e r = no_room _ b e r
+post_answers level (post.Over listed.Stale) b e r = no_room _ b e r
+post_answers level (post.Over listed.NoRoom) b e r = tt
+post_answers level (post.Over listed.TooTall) b e r = no_room _ b e r
+
+pub answers_refused : (p : Proc) (a : Answer) → answer_of p ≡ Some a → IsNoRoom a → IsRefused p
+answers_refused (proc.Find p) a e r = find_answers p.stage a e r
+answers_refused (proc.Insert p) a e r = insert_answers p.stage a e r
+answers_refused (proc.Delete p) a e r = delete_answers p.stage a e r
+answers_refused (proc.Post p) a e r = post_answers p.level p.stage a e r
+
+-- A process that is to begin was not refused.
+
+change_free : (c : Change) → change_next c ≡ act.Begin → ⊥
+change_free (change.Putting x page) e = cc
+change_free (change.Taking full) e = cc
+change_free (change.PuttingNew p) e = cc
+change_free (change.PuttingOld p) e = cc
+change_free (change.OpeningNew x new s) e = cc
+change_free (change.Opening x what) e = cc
+
+growth_free : (g : Growth) → growth_next g ≡ act.Begin → ⊥
+growth_free growth.Latching e = cc
+growth_free growth.Latched e = cc
+growth_free (growth.Taking r) e = cc
+growth_free (growth.PuttingTop r) e = cc
+growth_free (growth.PuttingAnchor r) e = cc
+growth_free (growth.OpeningTop x) e = cc
+growth_free growth.OpeningGrown e = cc
+growth_free growth.OpeningRefused e = cc
+
+insert_free : (a : InsertStage) → insert_next_in a ≡ act.Begin → InsertRefused a → ⊥
+insert_free insert.New e r = r
+insert_free (insert.Coming a) e r = r
+insert_free (insert.Present x v) e r = r
+insert_free (insert.Changing c) e r = change_free c e
+insert_free (insert.Ending x) e r = cc
+insert_free (insert.Over x) e r = cc
+
+delete_free : (a : DeleteStage) → delete_next_in a ≡ act.Begin → DeleteRefused a → ⊥
+delete_free delete.New e r = r
+delete_free (delete.Coming a) e r = r
+delete_free (delete.Absent x) e r = r
+delete_free (delete.Changing v c) e r = change_free c e
+delete_free (delete.Ending x) e r = cc
+delete_free (delete.Over x) e r = cc
+
+post_free : (a : PostStage) → post_next_in a ≡ act.Begin → PostRefused a → ⊥
+post_free post.New e r = r
+post_free (post.Coming a) e r = r
+post_free (post.Growing g) e r = growth_free g e
+post_free (post.Walking w) e r = r
+post_free (post.Changing c) e r = change_free c e
+post_free (post.Staying x s) e r = cc
+post_free (post.Ending x) e r = cc
+post_free (post.Over x) e r = cc
+
+pub begins_free : (p : Proc) → next_of p ≡ act.Begin → IsRefused p → ⊥
+begins_free (proc.Find p) e r = r
+begins_free (proc.Insert p) e r = insert_free p.stage e r
+begins_free (proc.Delete p) e r = delete_free p.stage e r
+begins_free (proc.Post p) e r = post_free p.stage e r
