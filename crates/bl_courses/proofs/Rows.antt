@@ -91,12 +91,13 @@ pub record IsParted (m : ℕ → Option ℕ) (low middle high : ℕ) (xs ys : Li
 
 whole : (m : ℕ → Option ℕ) (low middle high : ℕ) (xs ys : List (ℕ × ℕ)) → IsParted m low middle high xs ys → RisesFrom 0 (xs ++ ys) × ((j : ℕ) → map_of (xs ++ ys) j ≡ m j)
 whole m low middle high xs ys p = (
-    let up = rises_within 0 middle high ys p.upper p.upper_in in
-    (rises_both 0 low middle xs ys p.some p.lower p.lower_in (omega arith) up,
-    λ j. elim (cases_lt j middle) [
-      | inl lt ↦ lower_listed middle j low xs ys up lt ∙ p.below j lt
-      | inr ge ↦ upper_listed middle j low xs ys p.some p.lower_in ge ∙ p.above j ge
-    ]))
+    let up = rises_within 0 middle high ys p.upper p.upper_in in (
+      rises_both 0 low middle xs ys p.some p.lower p.lower_in (omega arith) up,
+      λ j. elim (cases_lt j middle) [
+        | inl lt ↦ lower_listed middle j low xs ys up lt ∙ p.below j lt
+        | inr ge ↦ upper_listed middle j low xs ys p.some p.lower_in ge ∙ p.above j ge
+      ],
+    ))
 
 pub parted_one : (m : ℕ → Option ℕ) (low b c high : ℕ) (xs ys us vs : List (ℕ × ℕ)) → IsParted m low b high xs ys → IsParted m low c high us vs → xs ++ ys ≡ us ++ vs
 parted_one m low b c high xs ys us vs p q = (let a = whole m low b high xs ys p in let d = whole m low c high us vs q in rows_one 0 (xs ++ ys) (us ++ vs) a.0 d.0 (λ j. a.1 j ∙ sym (d.1 j)))

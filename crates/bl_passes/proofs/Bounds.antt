@@ -49,10 +49,13 @@ module _ (s : Pages Mine) (f : Fits s) (n : ℕ) (d : Mine) (at : Stands s n Idl
   kept_proc q ne = (is_put_name next_name b f.world.proc).others q ne
 
   later_in : (k j : ℕ) → (f.world.now.phase (name k j) ≡ machine.Waiting) × IsBlank (know (f.world.proc (name k j))) → (f.world.now.phase (name k j) ≡ machine.Waiting) × IsBlank (know (entered_world.proc (name k j)))
-  later_in k j h = (h.0, elim (name_cases (name k j) next_name) [
-    | inl e ↦ subst (λ (r : Run). IsBlank (know r)) (sym (ap entered_world.proc e ∙ (is_put_name next_name b f.world.proc).at)) blank
-    | inr ne ↦ subst (λ (r : Run). IsBlank (know r)) (sym (kept_proc (name k j) ne)) h.1
-  ])
+  later_in k j h = (
+    h.0,
+    elim (name_cases (name k j) next_name) [
+      | inl e ↦ subst (λ (r : Run). IsBlank (know r)) (sym (ap entered_world.proc e ∙ (is_put_name next_name b f.world.proc).at)) blank
+      | inr ne ↦ subst (λ (r : Run). IsBlank (know r)) (sym (kept_proc (name k j) ne)) h.1
+    ],
+  )
 
   stage_in : (k : ℕ) (st : Stage) (e : Mine) → Stands s k st e → name k e.number ≢ next_name → IsAtStage f.world k st e → IsAtStage entered_world k st e
   stage_in k Idle e at_k ne h = h
@@ -118,13 +121,12 @@ begins_process l n d process next unborn course s g o at =
     let silent : entries_at p (know (w.proc p)).said ≡ [] = ap (entries_at p) (ap (λ (r : Run). (know r).said) here ∙ blank.said) in
     let was : own n w.trail ≡ past ++ entries_at p (know (w.proc p)).said = h.mine ∙ (sym (append-nil past) ∙ ap (λ (z : List Entry). past ++ z) (sym silent)) in
     let e : Mine = next_known s f n m Idle d at Act.Begin s1 b' t true past in
-    let notes : Notes n m Act.Begin d e = next_notes s f n m Idle d at Act.Begin s1 b' t true past in
-    (
+    let notes : Notes n m Act.Begin d e = next_notes s f n m Idle d at Act.Begin s1 b' t true past in (
       e,
       advance s f n m Idle d at Act.Begin s1 b' t true past (told s n (Running s.clock) e) (Running s.clock) refl refl (omega arith) (omega arith)
-      (λ q ne. phase.others q ne) (λ x q ne z. z) g.pages
-      (λ x own_ z. g.owners x own_ z ∙ sym (other_owner s.hands n (Running s.clock, e) own_ (λ is. h.stage.1 x (g.owners x own_ z ∙ (ap (owner_in s.hands) is ∙ held_by s.hands n (Idle, d) at)))))
-      (next_stage s f n m Idle d at Act.Begin s1 b' t true past s.clock refl (λ z. omega arith) phase.at was),
+          (λ q ne. phase.others q ne) (λ x q ne z. z) g.pages
+          (λ x own_ z. g.owners x own_ z ∙ sym (other_owner s.hands n (Running s.clock, e) own_ (λ is. h.stage.1 x (g.owners x own_ z ∙ (ap (owner_in s.hands) is ∙ held_by s.hands n (Idle, d) at)))))
+          (next_stage s f n m Idle d at Act.Begin s1 b' t true past s.clock refl (λ z. omega arith) phase.at was),
       record {
         notes = notes;
         runs = refl;
@@ -160,14 +162,13 @@ module _ (l : Layout) (n : ℕ) (d : Mine) (s : Pages Mine) (since : ℕ) (f : F
       let notes : Notes n d.number (Act.End answer) d e = next_notes s f n d.number (Running since) d at (Act.End answer) s1 b t false d.past in
       let mk = turn_mark w f.good n d.number (Act.End answer) s1 b t in
       let silent : t.said ≡ None = end_silent w.trail mk answer refl (subst IsMarked t.extends.trail t.good.recorded.marked) t.said refl in
-      let kept : own n (trail_of e.trail) ≡ own n (trail_of d.trail) = ap (own n) (trail_back t.next.trail ∙ t.extends.trail) ∙ (own-mine n w.trail mk refl ∙ (ap (λ (z : Option Said). own n w.trail ++ entries_at p z) silent ∙ (append-nil (own n w.trail) ∙ h.mine))) in
-      (
+      let kept : own n (trail_of e.trail) ≡ own n (trail_of d.trail) = ap (own n) (trail_back t.next.trail ∙ t.extends.trail) ∙ (own-mine n w.trail mk refl ∙ (ap (λ (z : Option Said). own n w.trail ++ entries_at p z) silent ∙ (append-nil (own n w.trail) ∙ h.mine))) in (
         λ x z. can.1 x (f.owners x (Held n) z ∙ held_by s.hands n (Running since, d) at),
         e,
         advance s f n d.number (Running since) d at (Act.End answer) s1 b t false d.past (told s n Idle e) Idle refl refl (omega arith) f.clock
-        (λ q ne. phase.others q ne) (λ x q ne z. z) f.pages
-        (λ x own_ z. f.owners x own_ z ∙ sym (same_owner s.hands n (Running since, d) (Idle, e) own_ at refl))
-        (refl, λ x z. can.1 x (ap (λ (y : State Page). y.owner x) (sym t.now) ∙ z)),
+            (λ q ne. phase.others q ne) (λ x q ne z. z) f.pages
+            (λ x own_ z. f.owners x own_ z ∙ sym (same_owner s.hands n (Running since, d) (Idle, e) own_ at refl))
+            (refl, λ x z. can.1 x (ap (λ (y : State Page). y.owner x) (sym t.now) ∙ z)),
         record {
           notes = subst (λ (z : ℕ). Notes z d.number (Act.End answer) d e) (sym named.0) notes;
           runs = refl;

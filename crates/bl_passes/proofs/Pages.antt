@@ -43,16 +43,15 @@ moved : (s : Pages Mine) (f : Fits s) (n since : ℕ) (d : Mine) → Stands s n 
     → (e : Mine) × Fits (told (owned s x o) n (Running since) e) × Goes what d e
 moved s f n since d at what c a next x was o here o' is else said does =
     let s1 : State Page = record f.world.now { owner = put_at x o' f.world.now.owner } in
-    let put = is_put_at x o' f.world.now.owner in
-    (
+    let put = is_put_at x o' f.world.now.owner in (
       then_known s f n since d at what c a next s1 said does,
       then_fits s f n since d at what c a next s1 said does (owned s x o) refl refl f.clock (λ q. refl)
-      (λ y q ne e. ⊎_elim
+          (λ y q ne e. ⊎_elim
           (λ (z : y ≡ x). absurd (else q ne (sym put.at ∙ (ap (put_at x o' f.world.now.owner) (sym z) ∙ e))))
           (λ (z : y ≢ x). sym (put.others y z) ∙ e)
           (either_page y x))
-      f.pages
-      (λ y p e. ⊎_elim
+          f.pages
+          (λ y p e. ⊎_elim
           (λ (z : (y ≡ x) × (o ≡ p)). ap (put_at x o' f.world.now.owner) z.0 ∙ (put.at ∙ (is ∙ ap (owner_in s.hands) z.1)))
           (λ (z : (y ≢ x) × (get_elem? s.owners y ≡ some p)). put.others y z.0 ∙ f.owners y p z.1)
           (at_set s.owners x y o p e)),
@@ -90,69 +89,68 @@ module _ (l : Layout) (n : ℕ) (d : Mine) (runs : d.runs ≡ true) where
   pub puts_page : (x : ℕ) (new : List ℕ) (c : Page) → next_of d.state ≡ act.Put x c → new ≡ words_of c → GoesOn d.state seen.Done → Puts Fits l n d x new puts
   puts_page x new c next is course s st words owner f o at page =
       running (λ sg. (owner ≡ Held n) × (e : Mine) × Fits (told (written s x new) n sg e) × puts d x owner words e) s f n st d runs at (λ since at'.
-          let w = f.world in
-          let p = name n d.number in
-          let s1 : State Page = record w.now { contents = put_at x c w.now.contents } in
-          let put = is_put_at x c w.now.contents in
-          let does : Does w.now p (Act.Put x c) s1 = record { changes = (put, λ z. refl, λ q. refl); on = omega arith } in
-          let t = turned s f n since d at' seen.Done course (act.Put x c) next s1 tt does in
-          let can : w.now.owner x ≡ machine.Held p = t.extends.steps.enabled in
-          (
-            is_held s.hands n d.number owner (sym (f.owners x owner page.1) ∙ can),
-            then_known s f n since d at' seen.Done course (act.Put x c) next s1 tt does,
-            then_fits s f n since d at' seen.Done course (act.Put x c) next s1 tt does (written s x new) refl (length-set s.contents x new) f.clock (λ q. refl) (λ y q ne e. e)
+      let w = f.world in
+      let p = name n d.number in
+      let s1 : State Page = record w.now { contents = put_at x c w.now.contents } in
+      let put = is_put_at x c w.now.contents in
+      let does : Does w.now p (Act.Put x c) s1 = record { changes = (put, λ z. refl, λ q. refl); on = omega arith } in
+      let t = turned s f n since d at' seen.Done course (act.Put x c) next s1 tt does in
+      let can : w.now.owner x ≡ machine.Held p = t.extends.steps.enabled in (
+        is_held s.hands n d.number owner (sym (f.owners x owner page.1) ∙ can),
+        then_known s f n since d at' seen.Done course (act.Put x c) next s1 tt does,
+        then_fits s f n since d at' seen.Done course (act.Put x c) next s1 tt does (written s x new) refl (length-set s.contents x new) f.clock (λ q. refl) (λ y q ne e. e)
             (λ y ws e. ⊎_elim
-                (λ (z : (y ≡ x) × (new ≡ ws)). subst (λ (v : ℕ × List ℕ). Shows v.0 v.1 (s1.contents v.0)) (λ i. (sym z.0 i, z.1 i)) (subst (Shows x new) (sym put.at) (shows_words x new c is)))
-                (λ (z : (y ≢ x) × (get_elem? s.contents y ≡ some ws)). subst (Shows y ws) (sym (put.others y z.0)) (f.pages y ws z.1))
-                (at_set s.contents x y new ws e))
+            (λ (z : (y ≡ x) × (new ≡ ws)). subst (λ (v : ℕ × List ℕ). Shows v.0 v.1 (s1.contents v.0)) (λ i. (sym z.0 i, z.1 i)) (subst (Shows x new) (sym put.at) (shows_words x new c is)))
+            (λ (z : (y ≢ x) × (get_elem? s.contents y ≡ some ws)). subst (Shows y ws) (sym (put.others y z.0)) (f.pages y ws z.1))
+            (at_set s.contents x y new ws e))
             f.owners,
-            then_goes s f n since d at' seen.Done course (act.Put x c) next s1 tt does,
-          ))
+        then_goes s f n since d at' seen.Done course (act.Put x c) next s1 tt does,
+      ))
 
   pub opens_page : (x : ℕ) → next_of d.state ≡ act.Open x → GoesOn d.state seen.Done → Opens Fits l n d x opens
   opens_page x next course s st words owner f o at page =
       running (λ sg. (owner ≡ Held n) × (e : Mine) × Fits (told (owned s x Open) n sg e) × opens d x owner words e) s f n st d runs at (λ since at'.
-          let w = f.world in
-          let p = name n d.number in
-          let does : Does w.now p (Act.Open x) (record w.now { owner = put_at x machine.Owner.Open w.now.owner }) = record { changes = (λ z. refl, is_put_at x machine.Owner.Open w.now.owner, λ q. refl); on = omega arith } in
-          let t = turned s f n since d at' seen.Done course (act.Open x) next (record w.now { owner = put_at x machine.Owner.Open w.now.owner }) tt does in
-          let can : w.now.owner x ≡ machine.Held p = t.extends.steps.enabled in
-          let u = moved s f n since d at' seen.Done course (act.Open x) next x owner Open page.1 machine.Owner.Open refl (λ q ne e. let z : machine.Owner.Open ≡ machine.Held q = e in cc) tt does in
-          (is_held s.hands n d.number owner (sym (f.owners x owner page.1) ∙ can), u.0, u.1, u.2))
+      let w = f.world in
+      let p = name n d.number in
+      let does : Does w.now p (Act.Open x) (record w.now { owner = put_at x machine.Owner.Open w.now.owner }) = record { changes = (λ z. refl, is_put_at x machine.Owner.Open w.now.owner, λ q. refl); on = omega arith } in
+      let t = turned s f n since d at' seen.Done course (act.Open x) next (record w.now { owner = put_at x machine.Owner.Open w.now.owner }) tt does in
+      let can : w.now.owner x ≡ machine.Held p = t.extends.steps.enabled in
+      let u = moved s f n since d at' seen.Done course (act.Open x) next x owner Open page.1 machine.Owner.Open refl (λ q ne e. let z : machine.Owner.Open ≡ machine.Held q = e in cc) tt does in
+      (is_held s.hands n d.number owner (sym (f.owners x owner page.1) ∙ can), u.0, u.1, u.2))
 
   pub latches_page : (x : ℕ) → next_of d.state ≡ act.Latch x → GoesOn d.state seen.Done → Latches Fits l n d x tries
   latches_page x next course s st words f o at page =
       running (λ sg. (e : Mine) × Fits (told (owned s x (Held n)) n sg e) × tries d x Open words e) s f n st d runs at (λ since at'.
-          let w = f.world in
-          let p = name n d.number in
-          let free : w.now.owner x ≡ machine.Owner.Open = f.owners x Open page.1 in
-          let does : Does w.now p (Act.Latch x) (record w.now { owner = put_at x (machine.Held p) w.now.owner }) = record { changes = (λ z. refl, is_put_at x (machine.Held p) w.now.owner, λ q. refl); on = omega arith } in
-          let u = moved s f n since d at' seen.Done course (act.Latch x) next x Open (Held n) page.1 (machine.Held p) (sym (held_by s.hands n (Running since, d) at')) (λ q ne e. let z : p ≡ q = cc in ne (sym z)) free does in
-          (u.0, u.1, ((λ e. u.2), λ ne. absurd (ne refl))))
+      let w = f.world in
+      let p = name n d.number in
+      let free : w.now.owner x ≡ machine.Owner.Open = f.owners x Open page.1 in
+      let does : Does w.now p (Act.Latch x) (record w.now { owner = put_at x (machine.Held p) w.now.owner }) = record { changes = (λ z. refl, is_put_at x (machine.Held p) w.now.owner, λ q. refl); on = omega arith } in
+      let u = moved s f n since d at' seen.Done course (act.Latch x) next x Open (Held n) page.1 (machine.Held p) (sym (held_by s.hands n (Running since, d) at')) (λ q ne e. let z : p ≡ q = cc in ne (sym z)) free does in
+      (u.0, u.1, ((λ e. u.2), λ ne. absurd (ne refl))))
 
   pub misses_page : (x : ℕ) → next_of d.state ≡ act.Latch x → GoesOn d.state seen.Missed → Misses Fits l n d x tries
   misses_page x next course s st words owner f o at page shut =
       running (λ sg. (e : Mine) × Fits (told s n sg e) × tries d x owner words e) s f n st d runs at (λ since at'.
-          let w = f.world in
-          let does : Does w.now (name n d.number) Act.Miss w.now = record { changes = (λ z. refl, λ z. refl, λ q. refl); on = omega arith } in
-          let u = unmoved s f n since d at' seen.Missed course (act.Latch x) next tt does in
-          (u.0, u.1, ((λ e. absurd (shut e)), λ ne. u.2)))
+      let w = f.world in
+      let does : Does w.now (name n d.number) Act.Miss w.now = record { changes = (λ z. refl, λ z. refl, λ q. refl); on = omega arith } in
+      let u = unmoved s f n since d at' seen.Missed course (act.Latch x) next tt does in
+      (u.0, u.1, ((λ e. absurd (shut e)), λ ne. u.2)))
 
   pub takes_page : (x : ℕ) → next_of d.state ≡ act.Take → ((y : ℕ) → IsChild y → GoesOn d.state (seen.Took y)) → Takes Fits l n d x takes
   takes_page x next course s st words f o at page =
       running (λ sg. (e : Mine) × Fits (told (owned s x (Held n)) n sg e) × takes d x Released words e) s f n st d runs at (λ since at'.
-          let w = f.world in
-          let p = name n d.number in
-          let free : w.now.owner x ≡ machine.Released = f.owners x Released page.1 in
-          let low : 0 < x = above x free in
-          let within : x < length s.contents = at_below s.contents x words page.0 in
-          let wide = l.pages_within in
-          let all = o.contents in
-          let child : IsChild x = (low, omega arith) in
-          let sized : x < w.size = rw f.size within in
-          let does : Does w.now p (Act.Take x) (record w.now { owner = put_at x (machine.Held p) w.now.owner }) = record { changes = (λ z. refl, is_put_at x (machine.Held p) w.now.owner, λ q. refl); on = omega arith } in
-          let u = moved s f n since d at' (seen.Took x) (course x child) act.Take next x Released (Held n) page.1 (machine.Held p) (sym (held_by s.hands n (Running since, d) at')) (λ q ne e. let z : p ≡ q = cc in ne (sym z)) (free, sized) does in
-          (u.0, u.1, u.2))
+      let w = f.world in
+      let p = name n d.number in
+      let free : w.now.owner x ≡ machine.Released = f.owners x Released page.1 in
+      let low : 0 < x = above x free in
+      let within : x < length s.contents = at_below s.contents x words page.0 in
+      let wide = l.pages_within in
+      let all = o.contents in
+      let child : IsChild x = (low, omega arith) in
+      let sized : x < w.size = rw f.size within in
+      let does : Does w.now p (Act.Take x) (record w.now { owner = put_at x (machine.Held p) w.now.owner }) = record { changes = (λ z. refl, is_put_at x (machine.Held p) w.now.owner, λ q. refl); on = omega arith } in
+      let u = moved s f n since d at' (seen.Took x) (course x child) act.Take next x Released (Held n) page.1 (machine.Held p) (sym (held_by s.hands n (Running since, d) at')) (λ q ne e. let z : p ≡ q = cc in ne (sym z)) (free, sized) does in
+      (u.0, u.1, u.2))
     where
       above : (x : ℕ) → f.world.now.owner x ≡ machine.Released → 0 < x
       above zero e = absurd (anchor_not_released know f.world f.good e)
@@ -161,15 +159,15 @@ module _ (l : Layout) (n : ℕ) (d : Mine) (runs : d.runs ≡ true) where
   pub refuses_take : next_of d.state ≡ act.Take → GoesOn d.state seen.Refused → Refuses Fits l n d refuses
   refuses_take next course s st f o at =
       running (λ sg. (e : Mine) × Fits (told s n sg e) × refuses d s.clock e) s f n st d runs at (λ since at'.
-          let w = f.world in
-          let does : Does w.now (name n d.number) Act.Miss w.now = record { changes = (λ z. refl, λ z. refl, λ q. refl); on = omega arith } in
-          let u = unmoved s f n since d at' seen.Refused course act.Take next tt does in
-          (u.0, u.1, u.2))
+      let w = f.world in
+      let does : Does w.now (name n d.number) Act.Miss w.now = record { changes = (λ z. refl, λ z. refl, λ q. refl); on = omega arith } in
+      let u = unmoved s f n since d at' seen.Refused course act.Take next tt does in
+      (u.0, u.1, u.2))
 
   pub refuses_put : (x : ℕ) (c : Page) → next_of d.state ≡ act.Put x c → GoesOn d.state seen.Refused → Refuses Fits l n d refuses
   refuses_put x c next course s st f o at =
       running (λ sg. (e : Mine) × Fits (told s n sg e) × refuses d s.clock e) s f n st d runs at (λ since at'.
-          let w = f.world in
-          let does : Does w.now (name n d.number) Act.Miss w.now = record { changes = (λ z. refl, λ z. refl, λ q. refl); on = omega arith } in
-          let u = unmoved s f n since d at' seen.Refused course (act.Put x c) next tt does in
-          (u.0, u.1, u.2))
+      let w = f.world in
+      let does : Does w.now (name n d.number) Act.Miss w.now = record { changes = (λ z. refl, λ z. refl, λ q. refl); on = omega arith } in
+      let u = unmoved s f n since d at' seen.Refused course (act.Put x c) next tt does in
+      (u.0, u.1, u.2))

@@ -67,8 +67,7 @@ module _ (w : World Run) (good : IsGood know w) (n m : ℕ) (a : Act Page Reply)
     stage_else k (Running since) d ne h =
         let p = name k d.number in
         let other : p ≢ name n m = λ e. ne (pass_of _ _ e) in
-        let same = t.extends.proc.others p other in
-        (
+        let same = t.extends.proc.others p other in (
           h.0,
           h.1,
           phase_else p other ∙ h.2,

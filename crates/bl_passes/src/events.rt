@@ -12,7 +12,9 @@ pub trait Launch {
     ghost use Rattle.bl_proc.specs.declared.kinds.Proc.{Proc as Process};
 
     ghost pass: { ℕ };
+
     ghost pages: { ℕ };
+
     ghost process: { Process };
 }
 

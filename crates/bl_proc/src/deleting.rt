@@ -11,11 +11,10 @@ ghost use Rattle.bl_proc.specs.Deletes.{delete_reply, deleted_answer, delete_nex
 
 use bl_model::Reply;
 use bl_page::Page;
-use std::mem;
 use bl_ways::{
-    Action, Answer, Approach, Approached, Change, Changed, Outcome, Process, Seen, dropping,
-    listed,
+    Action, Answer, Approach, Approached, Change, Changed, Outcome, Process, Seen, dropping, listed,
 };
+use std::mem;
 
 /// The deletion of a key with its value.
 #[derive(Drop)]

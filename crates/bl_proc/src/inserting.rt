@@ -15,11 +15,11 @@ ghost use Rattle.bl_ways.specs.declared.onwards.Onward.TheVariants as onward;
 
 use bl_model::Reply;
 use bl_page::Page;
-use std::mem;
 use bl_ways::{
     Action, Answer, Approach, Approached, Change, Changed, Hint, Outcome, Process, Seen, entering,
     listed,
 };
+use std::mem;
 
 /// The insertion of a key with a value.
 #[derive(Drop)]

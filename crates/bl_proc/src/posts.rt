@@ -13,11 +13,11 @@ ghost use Rattle.bl_proc.specs.Posts.{post_reply, posted_answer, post_next_in, p
 use crate::inserting::hint_to_post;
 use crate::posting::{Post, PostReply, PostStage, Walk};
 use bl_page::{Inner, Page, listed_with};
-use std::mem;
 use bl_ways::{
     Action, Answer, Approach, Approached, Change, Changed, Grew, Growth, Onward, Outcome, Posted,
     Process, Seen, entered, entering, levels_of, low_of, way_from,
 };
+use std::mem;
 
 /// What a post answers by what became of its parent.
 fn reply_of(outcome: Outcome) -> PostReply

@@ -131,10 +131,14 @@ row_together old new key child r none = record {
         | inl i ↦ inr (i, same_word child c (sym (subst (λ z. (node_of new).look z ≡ Some child) (sym i) r.here) ∙ subst (λ z. (node_of z).look j ≡ Some c) (sym one) e))
         | inr n ↦ inl (sym (r.rest j n) ∙ subst (λ z. (node_of z).look j ≡ Some c) (sym one) e)
       ];
-  kept = λ j c e. (new, Contains-push [] new, elim (cases_eq j key) [
+  kept = λ j c e. (
+    new,
+    Contains-push [] new,
+    elim (cases_eq j key) [
       | inl i ↦ absurd (let f : (node_of old).look j ≡ None = ap (node_of old).look i ∙ none in let g : Some c ≡ None = sym e ∙ f in cc)
       | inr n ↦ r.rest j n ∙ e
-    ]);
+    ],
+  );
   listed = (new, Contains-push [] new, r.here);
 }
   where

@@ -277,12 +277,12 @@ full_turned w p a s b t logs = record { next = t.next; saw = t.saw; said = t.sai
 pub with_logs : (w : World Run) (p : Name) (a : Run) (new : Proc) (what : Seen) (s : State Page) (did : Act Page Reply) → w.proc p ≡ a → IsGood know w → Takes a.state what new → IsTold w.now w.size (next_of a.state) what → did ≡ event_of (end_of_proc a.state) (next_of a.state) what → Turned bare w p did s (run_next a what new) → Turned know w p did s (run_next a what new)
 with_logs w p a new what s did is g t told same turned =
     full_turned w p did s (run_next a what new) turned (logs_after w p did s (run_next a what new) turned g (λ marks m here mark.
-        let seen_it = subst (λ e. Saw w.now e turned.saw) same turned.extends.saw in
-        log_turn a.state new what marks m t (ap (λ z. z.event.act) mark ∙ same)
-            (λ x c e f. ap (λ z. z.saw) mark ∙ saw_words (end_of_proc a.state) w.now w.size turned.saw (next_of a.state) what told seen_it x c (sym (ap (λ z. z.event.act) mark ∙ same) ∙ e) f)
-            (subst (λ r. proc_log r.state marks) is (subst (proc_log (w.proc p).state) (sym here) (g.sure p).log))))
+    let seen_it = subst (λ e. Saw w.now e turned.saw) same turned.extends.saw in
+    log_turn a.state new what marks m t (ap (λ z. z.event.act) mark ∙ same)
+    (λ x c e f. ap (λ z. z.saw) mark ∙ saw_words (end_of_proc a.state) w.now w.size turned.saw (next_of a.state) what told seen_it x c (sym (ap (λ z. z.event.act) mark ∙ same) ∙ e) f)
+    (subst (λ r. proc_log r.state marks) is (subst (proc_log (w.proc p).state) (sym here) (g.sure p).log))))
 
 pub with_miss : (w : World Run) (p : Name) (s : State Page) → IsGood know w → Turned bare w p Miss s (w.proc p) → Turned know w p Miss s (w.proc p)
 with_miss w p s g turned =
     full_turned w p Miss s (w.proc p) turned (logs_after w p Miss s (w.proc p) turned g (λ marks m here mark.
-        log_stays (w.proc p).state marks m (ap (λ z. z.event.act) mark) (subst (proc_log (w.proc p).state) (sym here) (g.sure p).log)))
+    log_stays (w.proc p).state marks m (ap (λ z. z.event.act) mark) (subst (proc_log (w.proc p).state) (sym here) (g.sure p).log)))
