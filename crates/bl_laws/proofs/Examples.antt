@@ -1,7 +1,7 @@
 -- The laws on a small tree: an anchor, two leaves and their parent, with the keys 1 and 9 in the left leaf and the right.
-use Rattle.std.proofs.Common.{ℕ, ◌≤◌, ◌==◌, if◌then◌else◌, Some, None, [], ◌∷◌, arith, refl, inl}
-use Rattle.bl_tree.specs.Nodes.{Node, unbounded}
-use Rattle.bl_laws.specs.Laws.{HasChain, IsListed}
+use Rattle.std.proofs.Common.{ℕ, ◌≡◌, ◌≤◌, ◌==◌, zero, suc, if◌then◌else◌, Some, None, [], ◌∷◌, arith, ap, refl, inl}
+use Rattle.bl_tree.specs.Nodes.{Node, Look, Covers, unbounded}
+use Rattle.bl_laws.specs.Laws.{Agreement, Overlap, HasChain, IsListed}
 use Rattle.bl_laws.specs.Walks.{IsWalk, NoneTwice}
 use Rattle.bl_laws.specs.Walks.IsWalk.{Ends, Right, Down}
 
@@ -26,6 +26,33 @@ in_tree x = (1 ≤ x) × (x ≤ 3)
 
 abbrev nobody : ℕ → ℕ → Type 0
 nobody x y = ⊥
+
+-- the leaves say what a map with the keys 1 and 9 says, each of the keys that it covers
+abbrev two_rows : Look
+two_rows k = if k == 1 then Some 10 else if k == 9 then Some 90 else None
+
+leaves_agree : Agreement in_tree (pages parent) two_rows
+leaves_agree zero k live leaf covers = absurd (omega (arith, live.0))
+leaves_agree (suc zero) k live leaf covers = grind (arith, covers.1)
+leaves_agree (suc (suc zero)) k live leaf covers = grind (arith, covers.0)
+leaves_agree (suc (suc (suc zero))) k live leaf covers = absurd (omega (arith, leaf))
+leaves_agree (suc (suc (suc (suc n)))) k live leaf covers = absurd (omega (arith, live.1))
+
+-- no key is covered by both leaves
+none_overlap : Overlap in_tree (pages parent) nobody
+none_overlap zero y k live other level covers also = absurd (omega (arith, live.0))
+none_overlap (suc (suc (suc (suc n)))) y k live other level covers also = absurd (omega (arith, live.1))
+none_overlap x zero k live other level covers also = absurd (omega (arith, other.0))
+none_overlap x (suc (suc (suc (suc n)))) k live other level covers also = absurd (omega (arith, other.1))
+none_overlap (suc zero) (suc zero) k live other level covers also = inl refl
+none_overlap (suc (suc zero)) (suc (suc zero)) k live other level covers also = inl refl
+none_overlap (suc (suc (suc zero))) (suc (suc (suc zero))) k live other level covers also = inl refl
+none_overlap (suc zero) (suc (suc zero)) k live other level covers also = absurd (omega (arith, covers.1, also.0))
+none_overlap (suc (suc zero)) (suc zero) k live other level covers also = absurd (omega (arith, also.1, covers.0))
+none_overlap (suc zero) (suc (suc (suc zero))) k live other level covers also = absurd (omega (arith, level))
+none_overlap (suc (suc zero)) (suc (suc (suc zero))) k live other level covers also = absurd (omega (arith, level))
+none_overlap (suc (suc (suc zero))) (suc zero) k live other level covers also = absurd (omega (arith, level))
+none_overlap (suc (suc (suc zero))) (suc (suc zero)) k live other level covers also = absurd (omega (arith, level))
 
 -- the leaves' chain: page 1, then page 2
 leaves_chain : HasChain in_tree (pages parent) (record { levels = 2; leftmost = λ l. if l == 0 then 1 else 3 }) nobody 0
