@@ -155,9 +155,11 @@ module _ (pages : List (Option Page)) (node : ℕ → Node) (roots : Roots) (sam
       let leaf = leaf_there (page_at pages x) a (ap (λ n. n.shape.level) (sym (same x a)) ∙ c.1) in
       let b = alive (live_in pages) y (first_alive (live (start_tree (live_in pages) node roots)) node none 0 y rest c.3) in
       let right : leaf.0.right ≡ y = ap (λ n. n.shape.right) (sym (leaf_node x leaf.0 leaf.1)) ∙ c.2.right in
-      let more = chain_rows y rest c.3 in
-      (leaf.0.rows.items ++ more.0, Next {rest = more.0} leaf.0 leaf.1 (λ e. absurd (false≢true (sym g.anchor ∙ subst (λ z. live_in pages z ≡ true) (sym right ∙ e) b)))
-          (subst (λ z. RowsFrom pages z more.0) (sym right) more.1))
+      let more = chain_rows y rest c.3 in (
+        leaf.0.rows.items ++ more.0,
+        Next {rest = more.0} leaf.0 leaf.1 (λ e. absurd (false≢true (sym g.anchor ∙ subst (λ z. live_in pages z ≡ true) (sym right ∙ e) b)))
+            (subst (λ z. RowsFrom pages z more.0) (sym right) more.1),
+      )
 
   pub some_rows : (rows : List (ℕ × ℕ)) × RowsFrom pages (roots.leftmost 0) rows
   some_rows =

@@ -12,8 +12,7 @@ pub two_same : (a b c d : ℕ) → a < 2 ^ 64 → b < 2 ^ 64 → c < 2 ^ 64 → 
 two_same a b c d small_a small_b small_c small_d e =
     let first = at_middle (two a b) a b refl in
     let other = at_middle (two a b) c d e in
-    let at : length (decimal a) ≡ length (decimal c) = two_none (two a b) (length (decimal a)) c d (λ k lt space. in_two (two a b) a b k small_a refl lt space) (λ lt. first.1) (omega (arith, first.0)) small_c e in
-    (
+    let at : length (decimal a) ≡ length (decimal c) = two_none (two a b) (length (decimal a)) c d (λ k lt space. in_two (two a b) a b k small_a refl lt space) (λ lt. first.1) (omega (arith, first.0)) small_c e in (
       one_same a c small_a small_c (sym first.2 ∙ ap (λ i. take i (two a b)) at ∙ other.2),
       one_same b d small_b small_d (sym first.3 ∙ ap (λ i. drop (i + 1) (two a b)) at ∙ other.3),
     )

@@ -59,8 +59,14 @@ fn each_line_has_its_command(rt: HostRuntime) -> Result<(), Fail> {
         ),
         (b"delete 7", Command::Start(Start::Operation(Op::Delete(7)))),
         (b"part 8", Command::Start(Start::Operation(Op::Part(8)))),
-        (b"post 1 9", Command::Start(Start::Post { level: 1, key: 9 })),
-        (b"post 12 0", Command::Start(Start::Post { level: 12, key: 0 })),
+        (
+            b"post 1 9",
+            Command::Start(Start::Post { level: 1, key: 9 }),
+        ),
+        (
+            b"post 12 0",
+            Command::Start(Start::Post { level: 12, key: 0 }),
+        ),
         (
             b"compress 1 90",
             Command::Start(Start::Compress { level: 1, key: 90 }),
@@ -77,7 +83,9 @@ fn each_line_has_its_command(rt: HostRuntime) -> Result<(), Fail> {
         let mut text = Vec::from_slice(rt.alloc(), b"pages 8\nfind 1\n")?;
         text.extend_from_slice(line)?;
         text.push(b'\n')?;
-        let script = script_of(rt.alloc(), text.as_slice(), ALL).ok().ok_or("bad")?;
+        let script = script_of(rt.alloc(), text.as_slice(), ALL)
+            .ok()
+            .ok_or("bad")?;
         assert_eq!(rt; script.commands.len(), 2);
         assert_eq!(rt; script.commands[1], command);
     }
@@ -86,7 +94,10 @@ fn each_line_has_its_command(rt: HostRuntime) -> Result<(), Fail> {
 
 #[test]
 fn limits_of_the_first_line(rt: HostRuntime) -> Result<(), Fail> {
-    for (text, pages) in [(b"pages 4\n".as_slice(), 4), (b"pages 65536\n".as_slice(), 65536)] {
+    for (text, pages) in [
+        (b"pages 4\n".as_slice(), 4),
+        (b"pages 65536\n".as_slice(), 65536),
+    ] {
         let script = script_of(rt.alloc(), text, FEW).ok().ok_or("bad")?;
         assert_eq!(rt; script.pages, pages);
         assert!(rt; script.commands.is_empty());
@@ -166,7 +177,11 @@ fn a_turn_before_its_process(rt: HostRuntime) {
 
 #[test]
 fn kinds_that_are_not_there(rt: HostRuntime) {
-    for line in [b"part 1\n".as_slice(), b"compress 1 9\n".as_slice(), b"reclaim 1\n".as_slice()] {
+    for line in [
+        b"part 1\n".as_slice(),
+        b"compress 1 9\n".as_slice(),
+        b"reclaim 1\n".as_slice(),
+    ] {
         let mut text = Vec::new(rt.alloc());
         assert!(rt; text.extend_from_slice(b"pages 4\n").is_ok());
         assert!(rt; text.extend_from_slice(line).is_ok());
@@ -219,7 +234,13 @@ impl<'a> Read for Slow<'a> {
 }
 
 /// What is read from such a reader.
-fn slowly(alloc: Global, front: &[u8], count: usize, back: &[u8], fails: bool) -> Result<Script, ScriptFault> {
+fn slowly(
+    alloc: Global,
+    front: &[u8],
+    count: usize,
+    back: &[u8],
+    fails: bool,
+) -> Result<Script, ScriptFault> {
     let mut reader = Watched::new(Slow {
         front,
         byte: b'1',
@@ -258,7 +279,11 @@ fn a_read_that_fails_in_the_middle(rt: HostRuntime) {
 /// Holds whichever allocation is refused: the answer is Memory, or that of ample memory.
 #[test]
 fn memory_or_the_script(rt: HostRuntime) {
-    match script_of(rt.alloc(), b"pages 8\nfind 1\nturn 1\nrefuse 1\nrun 1 2\nturn 1\n", ALL) {
+    match script_of(
+        rt.alloc(),
+        b"pages 8\nfind 1\nturn 1\nrefuse 1\nrun 1 2\nturn 1\n",
+        ALL,
+    ) {
         Ok(script) => assert_eq!(rt; script.commands.len(), 5),
         Err(fault) => assert_eq!(rt; fault, ScriptFault::Memory),
     }
@@ -266,4 +291,9 @@ fn memory_or_the_script(rt: HostRuntime) {
         Ok(_) => assert!(rt; false),
         Err(fault) => assert!(rt; fault == ScriptFault::Memory || fault == ScriptFault::Line(3)),
     }
+}
+
+#[test]
+fn the_law_of_scripts_does_nothing() {
+    has_one_reading();
 }

@@ -12,7 +12,7 @@ returns-in_default-two_numbers c = λ a b low high last e. c.in_default-two_numb
 pub returns-else-least-a : goal.returns-else-least-a
 returns-else-least-a c = λ a b low high last e.
     let same = other_two c.args.line.now c.args.word.now c.in-Some.rest.now c.in-Some-two_numbers.a c.in-Some-two_numbers.b a b c.in-Some.ensures c.in-Some-two_numbers.ensures.found
-        (search rules) (search rules) (omega (arith, c.ranges.most.fits)) (omega (arith, c.ranges.last.fits)) e in
+    (search rules) (search rules) (omega (arith, c.ranges.most.fits)) (omega (arith, c.ranges.last.fits)) e in
     elim c.else-least-a.branch [
       | else-least-a-via-then-least-a+then-a-most+else-b-last w ↦ absurd (omega (arith, same.1, w.if-b-last.false))
       | else-least-a-via-then-least-a+else-a-most w ↦ absurd (omega (arith, same.0, w.if-a-most.false))

@@ -24,12 +24,11 @@ returns-in-Ok-End g c = let i = c.loop-number.invariant in let e = rw c.in-Ok-En
     (i.good ++ [], consumes_next _ _ _ i.good c.loop-number.source e.0 [] i.consumed e.1 e.2.0, (subst (IsScript _ _ _) (sym (append-nil i.good)) i.script, e.2.2))
 
 pub returns-in-Ok-Bad : goal.returns-in-Ok-Bad
-returns-in-Ok-Bad g c = let i = c.loop-number.invariant in let e = rw c.in-Ok-Bad.field-0-is at c.in-Ok-Bad.ensures in
-    (
-      i.good ++ (c.loop-number.source ++ e.0),
-      consumes_next _ _ _ i.good c.loop-number.source e.0 _ i.consumed e.1 refl,
-      later_bad c.args.kinds c.in-Ok-Some.pages c.loop-number.started c.loop-number.number c.loop-number.commands.items i.good _ _ i.script i.started i.number e.2,
-    )
+returns-in-Ok-Bad g c = let i = c.loop-number.invariant in let e = rw c.in-Ok-Bad.field-0-is at c.in-Ok-Bad.ensures in (
+  i.good ++ (c.loop-number.source ++ e.0),
+  consumes_next _ _ _ i.good c.loop-number.source e.0 _ i.consumed e.1 refl,
+  later_bad c.args.kinds c.in-Ok-Some.pages c.loop-number.started c.loop-number.number c.loop-number.commands.items i.good _ _ i.script i.started i.number e.2,
+)
 
 pub returns-in-Err-read_command : goal.returns-in-Err-read_command
 returns-in-Err-read_command g c = let i = c.loop-number.invariant in let e = c.in-Err-read_command.ensures in
