@@ -1,3 +1,6 @@
 pub mod Numbers
 pub mod Endings
 pub mod Steps
+mod Plain
+mod Same
+pub mod Readings

@@ -48,7 +48,7 @@ IsPageCount pages = (4 ≤ pages) × (pages ≤ 65536)
 
 -- a process that has been started
 abbrev pub IsStarted : ℕ → ℕ → Type 0
-IsStarted started process = (1 ≤ process) × (process ≤ started)
+IsStarted started process = (1 ≤ process) × (process ≤ started) × Fits process
 
 -- The process may be started: its kind is there, its level is one of 1 to 12, its page one of the script's.
 abbrev pub MayStart : Kinds → ℕ → Start → Type 0

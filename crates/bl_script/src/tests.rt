@@ -292,3 +292,8 @@ fn memory_or_the_script(rt: HostRuntime) {
         Err(fault) => assert!(rt; fault == ScriptFault::Memory || fault == ScriptFault::Line(3)),
     }
 }
+
+#[test]
+fn the_law_of_scripts_does_nothing() {
+    has_one_reading();
+}
