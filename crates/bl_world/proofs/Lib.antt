@@ -19,3 +19,4 @@ pub mod Accounting
 pub mod Going
 pub mod Openings
 pub mod Laying
+pub mod Examples

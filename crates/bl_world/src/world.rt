@@ -12,7 +12,8 @@ use bl_proc::{Answer, Proc, Process};
 use std::alloc::Global;
 
 /// An index of plain pages, with the processes that were started on it. Whoever has a world gives the turns: at each
-/// moment any process may be the next.
+/// moment any process may be the next. What a list of turns does is `RunsTo` of `specs/Turns.antt`; what may be believed of
+/// any world, at every moment so far, is its `Account` of `specs/Accounts.antt`.
 #[derive(Drop)]
 pub struct World {
     lists: Lists,
