@@ -1,1 +1,2 @@
 pub mod Courses
+pub mod One
