@@ -7,3 +7,4 @@ pub mod Changes
 pub mod Leaves
 pub mod Insertions
 pub mod Deletions
+pub mod Following

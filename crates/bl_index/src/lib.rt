@@ -14,6 +14,7 @@ mod index;
 mod kinds;
 mod opening;
 mod running;
+mod stepping;
 
 pub use config::{Config, OpenFault, OutOfTurns};
 pub use index::{Index, Pass};
