@@ -1,5 +1,5 @@
 -- A pass that runs a process, from its begin on.
-use Rattle.std.specs.Prelude.{◌≡◌, ℕ, ◌+◌, ◌++◌, true, List, Option, Some, None}
+use Rattle.std.specs.Prelude.{◌≡◌, ◌≢◌, ℕ, ◌+◌, ◌++◌, true, List, Option, Some, None}
 use Rattle.atomic_table.specs.declared.shared.Seat.{Seat}
 use Rattle.bl_store.specs.declared.view.View.{View}
 use Rattle.bl_store.specs.declared.stock.Stock.{Stock}
@@ -7,7 +7,11 @@ use Rattle.bl_store.specs.Hands.{HasNoStock, IsStockOf}
 use Rattle.bl_ways.specs.declared.acts.Action.TheVariants as act
 use Rattle.bl_ways.specs.declared.acts.Seen.TheVariants as seen
 use Rattle.bl_tables.specs.Knowing.{end_of_proc}
-use Rattle.bl_courses.specs.Frames.{op_of}
+use Rattle.bl_courses.specs.Frames.{op_of, frames_of, Follows}
+use Rattle.bl_store.specs.Hands.{known}
+use Rattle.bl_ways.specs.declared.acts.Seen.{Seen}
+use Rattle.bl_index.specs.declared.stepping.Stepped.{Stepped}
+use Rattle.bl_index.specs.declared.stepping.Stepped.TheVariants.{On, AtEnd}
 use Rattle.bl_page.specs.Machine.{Act}
 use Rattle.bl_page.specs.Machine.Act.{Begin}
 use Rattle.bl_trails.specs.Trails.{Trail, DoesAt}
@@ -56,3 +60,8 @@ pub record IsDone (pass : ℕ) (old e : Mine) (first last : Proc) : Type 0 where
   pub told : Finishes (end_of_proc before) d e
   pub takes : Takes before seen.Done last
   pub op : op_of before ≡ op_of first
+
+-- After a step of the process p, which is then q: it has gone on by one event; or it is to end, and nothing has happened.
+abbrev pub IsAfter : ℕ → Seat (Unit {0}) (View Mine) → Seat (Unit {0}) (View Mine) → Proc → Proc → Stepped → Type 0
+IsAfter many h h' p q (On held) = IsOn many (known h') q × Moves (known h) (known h') × HasFrames h' held (frames_of q) × ((what : Seen) × Follows p what q) × (next_of p ≢ act.End)
+IsAfter many h h' p q AtEnd = (next_of p ≡ act.End) × (q ≡ p) × (known h' ≡ known h) × HasNoStock h'

@@ -8,6 +8,7 @@
 //! one of this pass.
 #![tactic(auto)]
 
+mod changing;
 mod config;
 mod finding;
 mod index;

@@ -5,8 +5,8 @@ ghost use Rattle.bl_ways.specs.declared.acts.Action.TheVariants as act;
 ghost use Rattle.bl_ways.specs.declared.acts.Seen.{Seen as SeenIs};
 ghost use Rattle.bl_ways.specs.declared.acts.Seen.TheVariants as seen;
 ghost use Rattle.bl_store.specs.Hands.{known, IsOf, IsRunning, IsSameHand, IsSameStage, IsSameStock, HasNoStock, IsStockOf};
-ghost use Rattle.bl_courses.specs.Frames.{frames_of, Follows};
-ghost use Rattle.bl_index.specs.Runs.{IsOn, Moves, HasFrames};
+ghost use Rattle.bl_courses.specs.Frames.{frames_of};
+ghost use Rattle.bl_index.specs.Runs.{IsOn, Moves, HasFrames, IsAfter};
 
 use crate::index::Index;
 use crate::kinds::Kind;
@@ -150,6 +150,73 @@ impl Index {
                 process.took(Seen::Refused);
                 None
             }
+        }
+    }
+
+    /// The process puts the page, with what it has reserved or reserves now.
+    fn put<P: Kind>(
+        &self,
+        hand: &mut Hand<Mine>,
+        process: &mut P,
+        page: u32,
+        contents: &Page,
+        held: Option<Stock>,
+    ) -> Option<Stock>
+        requires own { IsOf self.now.store.table.shared.table_id self.now.store.layout hand.old.seat }
+        requires running { IsRunning hand.old.seat }
+        requires process { IsOn self.now.store.layout.pages (known hand.old.seat) (P.proc_of process.old) }
+        requires next { (P.answer_of process.old ≡ None) × (P.next_of process.old ≡ act.Put page contents.now) }
+        requires stock { HasFrames hand.old.seat held (frames_of (P.proc_of process.old)) }
+        ensures same { IsSameHand hand.old.seat hand.new.seat × IsSameStage hand.old.seat hand.new.seat }
+        ensures process { IsOn self.now.store.layout.pages (known hand.new.seat) (P.proc_of process.new) }
+        ensures moves { Moves (known hand.old.seat) (known hand.new.seat) }
+        ensures takes { (what : SeenIs) × P.Takes process.old what process.new }
+        ensures stock { HasFrames hand.new.seat result (frames_of (P.proc_of process.new)) }
+    {
+        if process.needs().is_some() {
+            return self.put_first(hand, process, page, contents);
+        }
+        match held {
+            Some(stock) => Some(self.put_with(hand, process, page, contents, stock)),
+            None => unreachable!(),
+        }
+    }
+
+    /// The next action of the process, one event, unless it is to end. It waits for nothing.
+    pub(crate) fn step<P: Kind>(
+        &self,
+        hand: &mut Hand<Mine>,
+        process: &mut P,
+        held: Option<Stock>,
+        backoff: &Backoff,
+    ) -> Stepped
+        requires own { IsOf self.now.store.table.shared.table_id self.now.store.layout hand.old.seat }
+        requires running { IsRunning hand.old.seat }
+        requires process { IsOn self.now.store.layout.pages (known hand.old.seat) (P.proc_of process.old) }
+        requires going { (P.answer_of process.old ≡ None) × (P.next_of process.old ≢ act.Begin) }
+        requires stock { HasFrames hand.old.seat held (frames_of (P.proc_of process.old)) }
+        ensures same { IsSameHand hand.old.seat hand.new.seat × IsSameStage hand.old.seat hand.new.seat }
+        ensures after { IsAfter self.now.store.layout.pages hand.old.seat hand.new.seat (P.proc_of process.old) (P.proc_of process.new) result }
+    {
+        match process.next() {
+            Action::Get(page) => {
+                self.read(hand, process, page);
+                Stepped::On(held)
+            }
+            Action::Latch(page) => {
+                self.latch(hand, process, page, backoff);
+                Stepped::On(held)
+            }
+            Action::Open(page) => {
+                self.open_page(hand, process, page);
+                Stepped::On(held)
+            }
+            Action::Put(page, contents) => {
+                Stepped::On(self.put(hand, process, page, &contents, held))
+            }
+            Action::Take => Stepped::On(self.take(hand, process)),
+            Action::End => Stepped::AtEnd,
+            _ => unreachable!(),
         }
     }
 }
