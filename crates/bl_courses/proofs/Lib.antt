@@ -1,3 +1,10 @@
 pub mod Onwards
 pub mod Searches
 pub mod Rows
+pub mod Pages
+pub mod Ways
+pub mod Changes
+pub mod Leaves
+pub mod Insertions
+pub mod Deletions
+pub mod Following

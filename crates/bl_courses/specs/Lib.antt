@@ -1,1 +1,3 @@
 pub mod Courses
+pub mod One
+pub mod Frames

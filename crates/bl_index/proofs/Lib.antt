@@ -3,3 +3,5 @@ pub mod Hands
 pub mod Searches
 pub mod Firsts
 pub mod Taken
+pub mod Stocks
+pub mod Ends

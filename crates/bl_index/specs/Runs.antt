@@ -1,15 +1,27 @@
 -- A pass that runs a process, from its begin on.
-use Rattle.std.specs.Prelude.{◌≡◌, ℕ, ◌+◌, ◌++◌, true, List}
+use Rattle.std.specs.Prelude.{◌≡◌, ◌≢◌, ℕ, ◌+◌, ◌++◌, true, List, Option, Some, None}
+use Rattle.atomic_table.specs.declared.shared.Seat.{Seat}
+use Rattle.bl_store.specs.declared.view.View.{View}
+use Rattle.bl_store.specs.declared.stock.Stock.{Stock}
+use Rattle.bl_store.specs.Hands.{HasNoStock, IsStockOf}
+use Rattle.bl_ways.specs.declared.acts.Action.TheVariants as act
+use Rattle.bl_ways.specs.declared.acts.Seen.TheVariants as seen
+use Rattle.bl_tables.specs.Knowing.{end_of_proc}
+use Rattle.bl_courses.specs.Frames.{op_of, frames_of, Follows}
+use Rattle.bl_store.specs.Hands.{known}
+use Rattle.bl_ways.specs.declared.acts.Seen.{Seen}
+use Rattle.bl_index.specs.declared.stepping.Stepped.{Stepped}
+use Rattle.bl_index.specs.declared.stepping.Stepped.TheVariants.{On, AtEnd}
 use Rattle.bl_page.specs.Machine.{Act}
 use Rattle.bl_page.specs.Machine.Act.{Begin}
 use Rattle.bl_trails.specs.Trails.{Trail, DoesAt}
 use Rattle.bl_proc.specs.declared.kinds.Proc.{Proc}
-use Rattle.bl_proc.specs.Processes.{next_of}
+use Rattle.bl_proc.specs.Processes.{next_of, Takes}
 use Rattle.bl_passes.specs.declared.known.Mine.{Mine}
 use Rattle.bl_passes.specs.Noting.{trail_of}
 use Rattle.bl_passes.specs.Seeing.{own}
 use Rattle.bl_passes.specs.Fitting.{name}
-use Rattle.bl_passes.specs.Told.{IsNear, HasOwn, Steps}
+use Rattle.bl_passes.specs.Told.{IsNear, HasOwn, Steps, Finishes}
 
 -- the pass runs this process, in an index of so many pages
 pub record IsOn (many : ℕ) (d : Mine) (process : Proc) : Type 0 where
@@ -32,3 +44,24 @@ pub record IsSince (pass : ℕ) (old d : Mine) : Type 0 where
 -- one event of the process
 abbrev pub Moves : Mine → Mine → Type 0
 Moves d e = (act : Act _ _) × Steps act d e
+
+-- the hand has so many frames left, in that stock if it has one
+abbrev pub HasFrames : Seat (Unit {0}) (View Mine) → Option Stock → ℕ → Type 0
+HasFrames h None many = (many ≡ 0) × HasNoStock h
+HasFrames h (Some stock) many = IsStockOf h stock × (stock.count ≡ many)
+
+-- The process that was begun as first has ended as last.
+pub record IsDone (pass : ℕ) (old e : Mine) (first last : Proc) : Type 0 where
+  pub d : Mine
+  pub before : Proc
+  pub since : IsSince pass old d
+  pub state : d.state ≡ before
+  pub at_end : next_of before ≡ act.End
+  pub told : Finishes (end_of_proc before) d e
+  pub takes : Takes before seen.Done last
+  pub op : op_of before ≡ op_of first
+
+-- After a step of the process p, which is then q: it has gone on by one event; or it is to end, and nothing has happened.
+abbrev pub IsAfter : ℕ → Seat (Unit {0}) (View Mine) → Seat (Unit {0}) (View Mine) → Proc → Proc → Stepped → Type 0
+IsAfter many h h' p q (On held) = IsOn many (known h') q × Moves (known h) (known h') × HasFrames h' held (frames_of q) × ((what : Seen) × Follows p what q) × (next_of p ≢ act.End)
+IsAfter many h h' p q AtEnd = (next_of p ≡ act.End) × (q ≡ p) × (known h' ≡ known h) × HasNoStock h'

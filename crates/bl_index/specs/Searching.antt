@@ -1,4 +1,7 @@
--- A search that goes on.
+-- A search that goes on, and the answer of an operation.
+use Rattle.std.specs.Prelude.{Option, None, Some}
+use Rattle.bl_ways.specs.declared.answers.Answer.{Answer}
+use Rattle.bl_ways.specs.declared.answers.Answer.TheVariants.{Op, Post}
 use Rattle.bl_proc.specs.declared.searching.FindStage.{FindStage}
 use Rattle.bl_proc.specs.declared.searching.FindStage.TheVariants.{New, AtAnchor, At, Ending, Over}
 
@@ -8,3 +11,9 @@ IsSearching AtAnchor = Unit {0}
 IsSearching (At x) = Unit {0}
 IsSearching (Ending v) = ⊥
 IsSearching (Over v) = ⊥
+
+-- the answer of an operation
+abbrev pub IsOpAnswer : Option Answer → Type 0
+IsOpAnswer None = ⊥
+IsOpAnswer (Some (Op reply hint)) = Unit {0}
+IsOpAnswer (Some (Post what hint)) = ⊥

@@ -1,6 +1,6 @@
 //! Kinds of processes, each by its own type.
 
-use bl_proc::{Find, Process};
+use bl_proc::{Delete, Find, Insert, Process};
 
 /// A kind of process that the index carries out: each is one of the kinds that the world of processes knows, and goes on
 /// in one way.
@@ -9,29 +9,93 @@ pub(crate) trait Kind: Process {
     ghost use Rattle.bl_ways.specs.declared.acts.Seen.{Seen};
     ghost use Rattle.bl_ways.specs.Given.{Gives};
     ghost use Rattle.bl_proc.specs.declared.kinds.Proc.{Proc};
-    ghost use Rattle.bl_proc.specs.Processes.{next_of as next_in, Takes as TakesIn};
+    ghost use Rattle.bl_proc.specs.Processes.{next_of as next_in, needs_of as needs_in, answer_of as answer_in, Takes as TakesIn};
     ghost use Rattle.bl_courses.specs.Courses.{GoesOn};
+    ghost use Rattle.bl_courses.specs.Frames.{frames_of, Wants, Follows};
 
     // The same process as one of any kind.
     ghost proc_of: { Self → Proc };
 
     ghost acts: { (p : Self) → next_in (proc_of p) ≡ Self.Process.next_of p };
 
+    ghost asks: { (p : Self) → needs_in (proc_of p) ≡ Self.Process.needs_of p };
+
+    ghost answers: { (p : Self) → answer_in (proc_of p) ≡ Self.Process.answer_of p };
+
     ghost goes: { (p q : Self) (what : Seen) → Self.Process.Takes p what q → TakesIn (proc_of p) what (proc_of q) };
 
     ghost courses: { (p : Self) (what : Seen) → Self.Process.answer_of p ≡ None → Gives (Self.Process.next_of p) (Self.Process.needs_of p) what → GoesOn (proc_of p) what };
+
+    ghost wants: { (p : Self) → Wants (next_in (proc_of p)) (needs_in (proc_of p)) (frames_of (proc_of p)) };
+
+    ghost follows: { (p q : Self) (what : Seen) → Self.Process.Takes p what q → Follows (proc_of p) what (proc_of q) };
 }
 
 impl Kind for Find {
     ghost use Rattle.std.specs.Prelude.{refl};
     ghost use Rattle.bl_proc.specs.declared.kinds.Proc.TheVariants as proc;
     ghost use Rattle.bl_courses.proofs.Searches.{find_goes};
+    ghost use Rattle.bl_courses.proofs.Following.{find_wants, find_follows};
 
     ghost proc_of = { λ p. proc.Find p };
 
     ghost acts = { λ p. refl };
 
+    ghost asks = { λ p. refl };
+
+    ghost answers = { λ p. refl };
+
     ghost goes = { λ p q what t. t };
 
-    ghost courses = { λ p what a g. find_goes p what a g };
+    ghost courses = { find_goes };
+
+    ghost wants = { find_wants };
+
+    ghost follows = { find_follows };
+}
+
+impl Kind for Insert {
+    ghost use Rattle.std.specs.Prelude.{refl};
+    ghost use Rattle.bl_proc.specs.declared.kinds.Proc.TheVariants as proc;
+    ghost use Rattle.bl_courses.proofs.Insertions.{insert_goes};
+    ghost use Rattle.bl_courses.proofs.Following.{insert_wants, insert_follows};
+
+    ghost proc_of = { λ p. proc.Insert p };
+
+    ghost acts = { λ p. refl };
+
+    ghost asks = { λ p. refl };
+
+    ghost answers = { λ p. refl };
+
+    ghost goes = { λ p q what t. t };
+
+    ghost courses = { insert_goes };
+
+    ghost wants = { insert_wants };
+
+    ghost follows = { insert_follows };
+}
+
+impl Kind for Delete {
+    ghost use Rattle.std.specs.Prelude.{refl};
+    ghost use Rattle.bl_proc.specs.declared.kinds.Proc.TheVariants as proc;
+    ghost use Rattle.bl_courses.proofs.Deletions.{delete_goes};
+    ghost use Rattle.bl_courses.proofs.Following.{delete_wants, delete_follows};
+
+    ghost proc_of = { λ p. proc.Delete p };
+
+    ghost acts = { λ p. refl };
+
+    ghost asks = { λ p. refl };
+
+    ghost answers = { λ p. refl };
+
+    ghost goes = { λ p q what t. t };
+
+    ghost courses = { delete_goes };
+
+    ghost wants = { delete_wants };
+
+    ghost follows = { delete_follows };
 }

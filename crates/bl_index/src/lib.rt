@@ -8,12 +8,14 @@
 //! one of this pass.
 #![tactic(auto)]
 
+mod changing;
 mod config;
 mod finding;
 mod index;
 mod kinds;
 mod opening;
 mod running;
+mod stepping;
 
 pub use config::{Config, OpenFault, OutOfTurns};
 pub use index::{Index, Pass};

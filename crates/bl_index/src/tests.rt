@@ -1,9 +1,11 @@
-ghost use Rattle.std.specs.Prelude.{IfSome};
+ghost use Rattle.std.specs.Prelude.{IfSome, ◌<◌};
 ghost use Rattle.bl_index.specs.Calls.{IsPassOf};
 
 use crate::{Config, Index, OpenFault, OutOfTurns, Pass};
 use bl_model::Reply;
+use bl_proc::Hint;
 use std::alloc::Global;
+use std::sync::Wait;
 use std::test::Fail;
 use std::thread::join;
 
@@ -75,6 +77,99 @@ fn searches_run_out_of_turns(rt: HostRuntime) -> Result<(), Fail> {
     assert!(rt; matches!(few, Err(OutOfTurns)));
     let enough = index.find(&mut pass, 5, 2);
     assert!(rt; matches!(enough, Ok(Reply::Absent)));
+    Ok(())
+}
+
+// The rows of an insertion, a second one of the same key, and a deletion.
+#[test]
+fn one_thread_changes_a_key(rt: HostRuntime) -> Result<(), Fail> {
+    let Some((index, mut pass)) = one_pass(rt.alloc(), 8) else {
+        assert!(rt; false);
+        return Ok(());
+    };
+    let first = index.insert(&rt, &mut pass, 5, 50);
+    assert!(rt; matches!(first, (Reply::Inserted, None)));
+    let second = index.insert(&rt, &mut pass, 5, 51);
+    assert!(rt; matches!(second, (Reply::Present(50), None)));
+    let found = index.find(&mut pass, 5, 2);
+    assert!(rt; matches!(found, Ok(Reply::Found(50))));
+    let gone = index.delete(&rt, &mut pass, 5);
+    assert!(rt; matches!(gone, (Reply::Deleted(50), None)));
+    let again = index.delete(&rt, &mut pass, 5);
+    assert!(rt; matches!(again, (Reply::Absent, None)));
+    Ok(())
+}
+
+// Keys 1 to 14 fill the leaf, and the fifteenth parts it: a search goes on by the link.
+#[test]
+fn full_leaves_are_parted(rt: HostRuntime) -> Result<(), Fail> {
+    let Some((index, mut pass)) = one_pass(rt.alloc(), 8) else {
+        assert!(rt; false);
+        return Ok(());
+    };
+    for key in 1..15 {
+        let reply = index.insert(&rt, &mut pass, key, 10 * key);
+        assert!(rt; matches!(reply, (Reply::Inserted, None)));
+    }
+    let last = index.insert(&rt, &mut pass, 15, 150);
+    assert!(rt; matches!(last, (Reply::Inserted, Some(Hint::Post { level: 1, key: 9 }))));
+    let few = index.find(&mut pass, 12, 2);
+    assert!(rt; matches!(few, Err(OutOfTurns)));
+    let found = index.find(&mut pass, 12, 3);
+    assert!(rt; matches!(found, Ok(Reply::Found(120))));
+    Ok(())
+}
+
+// Of 24 frames two are in use, and nothing is swept: after 22 changes there is none left.
+#[test]
+fn frames_run_out(rt: HostRuntime) -> Result<(), Fail> {
+    let Some((index, mut pass)) = one_pass(rt.alloc(), 8) else {
+        assert!(rt; false);
+        return Ok(());
+    };
+    for _round in 0..11 {
+        let inserted = index.insert(&rt, &mut pass, 1, 10);
+        assert!(rt; matches!(inserted, (Reply::Inserted, None)));
+        let deleted = index.delete(&rt, &mut pass, 1);
+        assert!(rt; matches!(deleted, (Reply::Deleted(10), None)));
+    }
+    let refused = index.insert(&rt, &mut pass, 1, 10);
+    assert!(rt; matches!(refused, (Reply::NoRoom, None)));
+    let absent = index.find(&mut pass, 1, 2);
+    assert!(rt; matches!(absent, Ok(Reply::Absent)));
+    Ok(())
+}
+
+fn insert_some<R: Wait>(rt: &R, index: &Index, pass: Pass, first: u64) -> u64
+    requires { (IsPassOf index.now pass) × (first < 100) }
+{
+    let mut pass = pass;
+    let mut inserted = 0u64;
+    for key in first..first + 7 {
+        if matches!(index.insert(rt, &mut pass, key, key), (Reply::Inserted, None)) {
+            inserted += 1;
+        }
+    }
+    inserted
+}
+
+// Two threads insert other keys at once, and each is inserted.
+#[test]
+fn two_threads_insert(rt: HostRuntime) -> Result<(), Fail> {
+    let Some((index, one, two)) = two_passes(rt.alloc(), 8) else {
+        assert!(rt; false);
+        return Ok(());
+    };
+    let (x, y) = join(
+        &rt,
+        || -> u64
+            requires { IsPassOf index one }
+        { insert_some(&rt, &index, one, 0) },
+        || -> u64
+            requires { IsPassOf index two }
+        { insert_some(&rt, &index, two, 50) },
+    );
+    assert!(rt; x == 7 && y == 7);
     Ok(())
 }
 

@@ -1,0 +1,163 @@
+-- A change goes on, and in one way.
+use Rattle.std.proofs.Common.{ℕ, ◌≡◌, ◌≢◌, ◌+◌, ◌<◌, ◌≤◌, Option, Some, None, length, refl, sym, ap, ◌∙◌, subst, inl, inr, arith}
+use Rattle.std.specs.Coded.{le_prop}
+use Rattle.std.proofs.Props.{props}
+use Rattle.std.proofs.lemmas.Bool.{cases_lt, false≢true}
+use mathlib.Core.HLevel.{is_prop→PathP}
+use Rattle.bl_page.specs.declared.page.Page.{Page}
+use Rattle.bl_page.specs.Pages.{Covers}
+use Rattle.bl_page.specs.Pairs.{IsChild}
+use Rattle.bl_model.specs.Rows.{map_of}
+use Rattle.bl_rearrange.specs.declared.fitted.Fitted.TheVariants.{Fits, Split}
+use Rattle.bl_rearrange.specs.Rearranged.{pairs_of, MayHold, MayLose, IsFitted, IsWithout}
+use Rattle.bl_ways.specs.Props.{Covers-prop, MayHold-prop}
+use Rattle.bl_ways.specs.declared.acts.Seen.{Seen}
+use Rattle.bl_ways.specs.declared.acts.Seen.TheVariants as seen
+use Rattle.bl_ways.specs.declared.changing.Full.{Full}
+use Rattle.bl_ways.specs.declared.changing.Parting.{Parting}
+use Rattle.bl_ways.specs.declared.changing.Outcome.{Outcome}
+use Rattle.bl_ways.specs.declared.changing.Outcome.TheVariants as outcome
+use Rattle.bl_ways.specs.declared.changing.Change.{Change}
+use Rattle.bl_ways.specs.declared.changing.Change.TheVariants.{Putting, Taking, PuttingNew, PuttingOld, OpeningNew, Opening}
+use Rattle.bl_ways.specs.declared.changing.Changed.{Changed}
+use Rattle.bl_ways.specs.declared.changing.Changed.TheVariants.{On, Over}
+use Rattle.bl_ways.specs.Given.{Gives}
+use Rattle.bl_ways.specs.Changes.{change_next, change_needs, EntersPair, DropsPair, Changes}
+use Rattle.bl_courses.specs.One.{One}
+use Rattle.bl_courses.proofs.Pages.{fits_one, fits_some, split_one, split_some, without_one, without_some}
+
+full_same : (a b : Full) → a.at ≡ b.at → a.key ≡ b.key → a.word ≡ b.word → a.page ≡ b.page → a ≡ b
+full_same a b at key word page = λ i. record {
+  at = at i;
+  key = key i;
+  word = word i;
+  page = page i;
+  covers = is_prop→PathP (λ i. Covers (page i) (key i)) (λ i. Covers-prop (page i) (key i)) a.covers b.covers i;
+  absent = is_prop→PathP (λ i. map_of (pairs_of (page i)) (key i) ≡ None) (λ i. hlevel props) a.absent b.absent i;
+  fits = is_prop→PathP (λ i. MayHold (page i) (word i)) (λ i. MayHold-prop (page i) (word i)) a.fits b.fits i;
+  full = is_prop→PathP (λ i. 14 ≤ length (pairs_of (page i))) (λ i. le_prop) a.full b.full i;
+}
+
+-- A pair is to enter a page.
+module _ (x : ℕ) (c : Page) (key word : ℕ) (in_it : Covers c key) (absent : map_of (pairs_of c) key ≡ None) (may : MayHold c word) where
+  put_only : (p : Page) → length (pairs_of c) < 14 → IsFitted c key word 0 (Fits p) → (other : Change) → EntersPair x c key word other → other ≡ Putting x p
+  put_only p room f (Putting u v) t = (let e = fits_one c key word 0 v p t.1 f in λ i. Putting (t.0 i) (e i))
+  put_only p room f (Taking u) t = (let full : 14 ≤ length (pairs_of c) = subst (λ (z : Page). 14 ≤ length (pairs_of z)) t.3 u.full in absurd (omega arith))
+  put_only p room f (PuttingNew u) t = absurd t
+  put_only p room f (PuttingOld u) t = absurd t
+  put_only p room f (OpeningNew u v s) t = absurd t
+  put_only p room f (Opening u v) t = absurd t
+
+  take_only : (f : Full) → 14 ≤ length (pairs_of c) → f.at ≡ x → f.key ≡ key → f.word ≡ word → f.page ≡ c → (other : Change) → EntersPair x c key word other → other ≡ Taking f
+  take_only f full e1 e2 e3 e4 (Putting u v) t = (let room = t.1.0 in absurd (omega arith))
+  take_only f full e1 e2 e3 e4 (Taking u) t = ap Taking (full_same u f (t.0 ∙ sym e1) (t.1 ∙ sym e2) (t.2 ∙ sym e3) (t.3 ∙ sym e4))
+  take_only f full e1 e2 e3 e4 (PuttingNew u) t = absurd t
+  take_only f full e1 e2 e3 e4 (PuttingOld u) t = absurd t
+  take_only f full e1 e2 e3 e4 (OpeningNew u v s) t = absurd t
+  take_only f full e1 e2 e3 e4 (Opening u v) t = absurd t
+
+  pub enter_one : One (EntersPair x c key word)
+  enter_one = elim (cases_lt (length (pairs_of c)) 14) [
+    | inl room ↦ (let p = fits_some c key word 0 in_it absent may room in record { new = Putting x p.0; goes = (refl, p.1); only = put_only p.0 room p.1 })
+    | inr full ↦ (let f : Full = record { at = x; key = key; word = word; page = c; covers = in_it; absent = absent; fits = may; full = full } in record { new = Taking f; goes = (refl, refl, refl, refl); only = take_only f full refl refl refl refl })
+  ]
+
+-- A pair is to leave a page.
+module _ (x : ℕ) (c : Page) (key : ℕ) (in_it : Covers c key) (may : MayLose c key) where
+  drop_only : (p : Page) → IsWithout c key p → (other : Change) → DropsPair x c key other → other ≡ Putting x p
+  drop_only p f (Putting u v) t = (let e = without_one c key v p t.1 f in λ i. Putting (t.0 i) (e i))
+  drop_only p f (Taking u) t = absurd t
+  drop_only p f (PuttingNew u) t = absurd t
+  drop_only p f (PuttingOld u) t = absurd t
+  drop_only p f (OpeningNew u v s) t = absurd t
+  drop_only p f (Opening u v) t = absurd t
+
+  pub drop_one : One (DropsPair x c key)
+  drop_one = (let p = without_some c key in_it may in record { new = Putting x p.0; goes = (refl, p.1); only = drop_only p.0 p.1 })
+
+put_done : (x : ℕ) (page : Page) (other : Changed) → Changes (Putting x page) seen.Done other → other ≡ On (Opening x outcome.Changed)
+put_done x page (On n) t = ap On t
+put_done x page (Over o) t = absurd t
+
+put_refused : (x : ℕ) (page : Page) (other : Changed) → Changes (Putting x page) seen.Refused other → other ≡ On (Opening x outcome.Refused)
+put_refused x page (On n) t = ap On t
+put_refused x page (Over o) t = absurd t
+
+take_refused : (full : Full) (other : Changed) → Changes (Taking full) seen.Refused other → other ≡ On (Opening full.at outcome.Refused)
+take_refused full (On n) t = ap On t
+take_refused full (Over o) t = absurd t
+
+new_done : (p : Parting) (other : Changed) → Changes (PuttingNew p) seen.Done other → other ≡ On (PuttingOld p)
+new_done p (On n) t = ap On t
+new_done p (Over o) t = absurd t
+
+old_done : (p : Parting) (other : Changed) → Changes (PuttingOld p) seen.Done other → other ≡ On (OpeningNew p.at p.new p.separator)
+old_done p (On n) t = ap On t
+old_done p (Over o) t = absurd t
+
+opened_new : (x y s : ℕ) (other : Changed) → Changes (OpeningNew x y s) seen.Done other → other ≡ On (Opening x (outcome.Parted s))
+opened_new x y s (On n) t = ap On t
+opened_new x y s (Over o) t = absurd t
+
+opened : (x : ℕ) (what : Outcome) (other : Changed) → Changes (Opening x what) seen.Done other → other ≡ Over what
+opened x what (On n) t = absurd t
+opened x what (Over o) t = ap Over t
+
+taken_only : (full : Full) (y : ℕ) (p : Parting) → Changes (Taking full) (seen.Took y) (On (PuttingNew p)) → (other : Changed) → Changes (Taking full) (seen.Took y) other → other ≡ On (PuttingNew p)
+taken_only full y p f (On (PuttingNew u)) t = (let s = split_one full.page full.key full.word y u.left u.right u.separator p.left p.right p.separator t.2 f.2 in λ i. On (PuttingNew (record { at = (t.0 ∙ sym f.0) i; new = (t.1 ∙ sym f.1) i; left = s.left_one i; right = s.right_one i; separator = s.separator_one i })))
+taken_only full y p f (On (Putting u v)) t = absurd t
+taken_only full y p f (On (Taking u)) t = absurd t
+taken_only full y p f (On (PuttingOld u)) t = absurd t
+taken_only full y p f (On (OpeningNew u v s)) t = absurd t
+taken_only full y p f (On (Opening u v)) t = absurd t
+taken_only full y p f (Over o) t = absurd t
+
+taken : (full : Full) (y : ℕ) → IsChild y → One (Changes (Taking full) (seen.Took y))
+taken full y child =
+    let s = split_some full.page full.key full.word y full.covers full.absent full.fits child full.full in
+    let p : Parting = record { at = full.at; new = y; left = s.left; right = s.right; separator = s.separator } in
+    record { new = On (PuttingNew p); goes = (refl, refl, s.is); only = taken_only full y p (refl, refl, s.is) }
+
+pub change_one : (c : Change) (what : Seen) → Gives (change_next c) (change_needs c) what → One (Changes c what)
+change_one (Putting u v) seen.Done g = record { new = On (Opening u outcome.Changed); goes = refl; only = put_done u v }
+change_one (Putting u v) (seen.Words c) g = absurd g
+change_one (Putting u v) (seen.Took y) g = absurd g
+change_one (Putting u v) (seen.Owner retired started own) g = absurd g
+change_one (Putting u v) (seen.Blocks b) g = absurd g
+change_one (Putting u v) seen.Missed g = absurd g
+change_one (Putting u v) seen.Refused g = record { new = On (Opening u outcome.Refused); goes = refl; only = put_refused u v }
+change_one (Taking u) seen.Done g = absurd g
+change_one (Taking u) (seen.Words c) g = absurd g
+change_one (Taking u) (seen.Took y) g = taken u y g
+change_one (Taking u) (seen.Owner retired started own) g = absurd g
+change_one (Taking u) (seen.Blocks b) g = absurd g
+change_one (Taking u) seen.Missed g = absurd g
+change_one (Taking u) seen.Refused g = record { new = On (Opening u.at outcome.Refused); goes = refl; only = take_refused u }
+change_one (PuttingNew u) seen.Done g = record { new = On (PuttingOld u); goes = refl; only = new_done u }
+change_one (PuttingNew u) (seen.Words c) g = absurd g
+change_one (PuttingNew u) (seen.Took y) g = absurd g
+change_one (PuttingNew u) (seen.Owner retired started own) g = absurd g
+change_one (PuttingNew u) (seen.Blocks b) g = absurd g
+change_one (PuttingNew u) seen.Missed g = absurd g
+change_one (PuttingNew u) seen.Refused g = absurd (false≢true g)
+change_one (PuttingOld u) seen.Done g = record { new = On (OpeningNew u.at u.new u.separator); goes = refl; only = old_done u }
+change_one (PuttingOld u) (seen.Words c) g = absurd g
+change_one (PuttingOld u) (seen.Took y) g = absurd g
+change_one (PuttingOld u) (seen.Owner retired started own) g = absurd g
+change_one (PuttingOld u) (seen.Blocks b) g = absurd g
+change_one (PuttingOld u) seen.Missed g = absurd g
+change_one (PuttingOld u) seen.Refused g = absurd (false≢true g)
+change_one (OpeningNew u v s) seen.Done g = record { new = On (Opening u (outcome.Parted s)); goes = refl; only = opened_new u v s }
+change_one (OpeningNew u v s) (seen.Words c) g = absurd g
+change_one (OpeningNew u v s) (seen.Took y) g = absurd g
+change_one (OpeningNew u v s) (seen.Owner retired started own) g = absurd g
+change_one (OpeningNew u v s) (seen.Blocks b) g = absurd g
+change_one (OpeningNew u v s) seen.Missed g = absurd g
+change_one (OpeningNew u v s) seen.Refused g = absurd g
+change_one (Opening u v) seen.Done g = record { new = Over v; goes = refl; only = opened u v }
+change_one (Opening u v) (seen.Words c) g = absurd g
+change_one (Opening u v) (seen.Took y) g = absurd g
+change_one (Opening u v) (seen.Owner retired started own) g = absurd g
+change_one (Opening u v) (seen.Blocks b) g = absurd g
+change_one (Opening u v) seen.Missed g = absurd g
+change_one (Opening u v) seen.Refused g = absurd g

@@ -1,0 +1,190 @@
+-- A deletion goes on, and in one way.
+use Rattle.std.proofs.Common.{ℕ, ◌≡◌, ◌<◌, Option, Some, None, refl, sym, ap, ◌∙◌, subst}
+use Rattle.bl_page.specs.declared.page.Page.{Page}
+use Rattle.bl_laws.specs.Pages.{node_of}
+use Rattle.bl_ways.specs.declared.acts.Seen.{Seen}
+use Rattle.bl_ways.specs.declared.acts.Seen.TheVariants as seen
+use Rattle.bl_ways.specs.declared.onwards.Onward.TheVariants.{Here}
+use Rattle.bl_ways.specs.declared.approaching.Approach.{Approach}
+use Rattle.bl_ways.specs.declared.approaching.Approach.TheVariants.{Start}
+use Rattle.bl_ways.specs.declared.approaching.Approached.{Approached}
+use Rattle.bl_ways.specs.declared.approaching.Approached.TheVariants as came
+use Rattle.bl_ways.specs.declared.changing.Change.{Change}
+use Rattle.bl_ways.specs.declared.changing.Changed.{Changed}
+use Rattle.bl_ways.specs.declared.changing.Changed.TheVariants as change
+use Rattle.bl_ways.specs.declared.changing.Outcome.{Outcome}
+use Rattle.bl_ways.specs.Given.{Gives}
+use Rattle.bl_ways.specs.Onwards.{Leads}
+use Rattle.bl_ways.specs.Approaches.{Approaches}
+use Rattle.bl_ways.specs.Changes.{DropsPair, Changes}
+use Rattle.bl_proc.specs.declared.kinds.Proc.{Proc}
+use Rattle.bl_proc.specs.declared.kinds.Proc.TheVariants as proc
+use Rattle.bl_proc.specs.Processes.{Takes}
+use Rattle.bl_courses.specs.Courses.{GoesOn}
+use Rattle.bl_courses.specs.One.{One}
+use Rattle.bl_courses.proofs.Ways.{approach_one, here_leads}
+use Rattle.bl_courses.proofs.Changes.{enter_one, drop_one, change_one}
+use Rattle.bl_courses.proofs.Leaves.{leaf_covers, leaf_lists, leaf_holds, leaf_loses}
+use Rattle.bl_proc.specs.declared.deleting.Delete.{Delete}
+use Rattle.bl_proc.specs.declared.deleting.DeleteStage.{DeleteStage}
+use Rattle.bl_proc.specs.declared.deleting.DeleteStage.TheVariants.{New, Coming, Absent, Changing, Ending, Over}
+use Rattle.bl_proc.specs.declared.deleting.DeleteReply.{DeleteReply}
+use Rattle.bl_proc.specs.declared.deleting.DeleteReply.TheVariants as reply
+use Rattle.bl_proc.specs.Deletes.{delete_reply, delete_next_in, delete_needs_in, delete_answer_in, DeleteArrives, DeleteGoes}
+
+came_on : (a b : Approach) → came.On a ≡ came.On b → a ≡ b
+came_on a b e = cc
+
+came_at : (x y : ℕ) (c d : Page) → came.Here x c ≡ came.Here y d → x ≡ y
+came_at x y c d e = cc
+
+came_as : (x y : ℕ) (c d : Page) → came.Here x c ≡ came.Here y d → c ≡ d
+came_as x y c d e = cc
+
+not_both : (a : Approach) (x : ℕ) (c : Page) → came.On a ≡ came.Here x c → ⊥
+not_both a x c e = cc
+
+on_one : (a b : Change) → change.On a ≡ change.On b → a ≡ b
+on_one a b e = cc
+
+over_one : (o p : Outcome) → change.Over o ≡ change.Over p → o ≡ p
+over_one o p e = cc
+
+not_over : (a : Change) (o : Outcome) → change.On a ≡ change.Over o → ⊥
+not_over a o e = cc
+
+module _ (key : ℕ) (x : ℕ) (c : Page) where
+  absent_only : (node_of c).look key ≡ None → (other : DeleteStage) → DeleteArrives key x c other → other ≡ Absent x
+  absent_only e New t = absurd t
+  absent_only e (Coming b) t = absurd t
+  absent_only e (Absent m) t = ap Absent t.0
+  absent_only e (Changing v d) t = (let z : None ≡ Some v = sym e ∙ t.0 in cc)
+  absent_only e (Ending r) t = absurd t
+  absent_only e (Over r) t = absurd t
+
+  changing_only : (w : ℕ) (d : Change) → (node_of c).look key ≡ Some w → ((f : Change) → DropsPair x c key f → f ≡ d) → (other : DeleteStage) → DeleteArrives key x c other → other ≡ Changing w d
+  changing_only w d e one New t = absurd t
+  changing_only w d e one (Coming b) t = absurd t
+  changing_only w d e one (Absent m) t = (let z : None ≡ Some w = sym t.1 ∙ e in cc)
+  changing_only w d e one (Changing v f) t = (let same : Some v ≡ Some w = sym t.0 ∙ e in let s : v ≡ w = cc in let f_is = one f t.1 in λ i. Changing (s i) (f_is i))
+  changing_only w d e one (Ending r) t = absurd t
+  changing_only w d e one (Over r) t = absurd t
+
+  arrive_by : Leads c key 0 Here → (look : Option ℕ) → (node_of c).look key ≡ look → One (DeleteArrives key x c)
+  arrive_by h None e = record { new = Absent x; goes = (refl, e); only = absent_only e }
+  arrive_by h (Some w) e = (let p = drop_one x c key (leaf_covers c key 0 h) (leaf_loses c key h) in record { new = Changing w p.new; goes = (e, p.goes); only = changing_only w p.new e p.only })
+
+  arrive_one : Leads c key 0 Here → One (DeleteArrives key x c)
+  arrive_one h = arrive_by h ((node_of c).look key) refl
+
+module _ (key : ℕ) (a : Approach) (what : Seen) where
+  on_only : (b : Approach) → ((o : Approached) → Approaches 0 key a what o → o ≡ came.On b) → (other : DeleteStage) → DeleteGoes key (Coming a) what other → other ≡ Coming b
+  on_only b is New t = absurd (not_both b t.0 t.1 (sym (is (came.Here t.0 t.1) t.2)))
+  on_only b is (Coming c) t = ap Coming (came_on c b (is (came.On c) t))
+  on_only b is (Absent m) t = absurd (not_both b t.0 t.1 (sym (is (came.Here t.0 t.1) t.2)))
+  on_only b is (Changing v d) t = absurd (not_both b t.0 t.1 (sym (is (came.Here t.0 t.1) t.2)))
+  on_only b is (Ending r) t = absurd (not_both b t.0 t.1 (sym (is (came.Here t.0 t.1) t.2)))
+  on_only b is (Over r) t = absurd (not_both b t.0 t.1 (sym (is (came.Here t.0 t.1) t.2)))
+
+  here_only : (x : ℕ) (c : Page) → ((o : Approached) → Approaches 0 key a what o → o ≡ came.Here x c) → (one : One (DeleteArrives key x c)) → (other : DeleteStage) → DeleteGoes key (Coming a) what other → other ≡ one.new
+  here_only x c is one New t = (let e = is (came.Here t.0 t.1) t.2 in one.only New (subst (λ (z : ℕ × Page). DeleteArrives key z.0 z.1 New) (λ i. (came_at t.0 x t.1 c e i, came_as t.0 x t.1 c e i)) t.3))
+  here_only x c is one (Coming b) t = absurd (not_both b x c (is (came.On b) t))
+  here_only x c is one (Absent m) t = (let e = is (came.Here t.0 t.1) t.2 in one.only (Absent m) (subst (λ (z : ℕ × Page). DeleteArrives key z.0 z.1 (Absent m)) (λ i. (came_at t.0 x t.1 c e i, came_as t.0 x t.1 c e i)) t.3))
+  here_only x c is one (Changing v d) t = (let e = is (came.Here t.0 t.1) t.2 in one.only (Changing v d) (subst (λ (z : ℕ × Page). DeleteArrives key z.0 z.1 (Changing v d)) (λ i. (came_at t.0 x t.1 c e i, came_as t.0 x t.1 c e i)) t.3))
+  here_only x c is one (Ending r) t = (let e = is (came.Here t.0 t.1) t.2 in one.only (Ending r) (subst (λ (z : ℕ × Page). DeleteArrives key z.0 z.1 (Ending r)) (λ i. (came_at t.0 x t.1 c e i, came_as t.0 x t.1 c e i)) t.3))
+  here_only x c is one (Over r) t = (let e = is (came.Here t.0 t.1) t.2 in one.only (Over r) (subst (λ (z : ℕ × Page). DeleteArrives key z.0 z.1 (Over r)) (λ i. (came_at t.0 x t.1 c e i, came_as t.0 x t.1 c e i)) t.3))
+
+  here_goes : (x : ℕ) (c : Page) → Approaches 0 key a what (came.Here x c) → (new : DeleteStage) → DeleteArrives key x c new → DeleteGoes key (Coming a) what new
+  here_goes x c h New u = (x, c, h, u)
+  here_goes x c h (Coming b) u = absurd u
+  here_goes x c h (Absent m) u = (x, c, h, u)
+  here_goes x c h (Changing v d) u = (x, c, h, u)
+  here_goes x c h (Ending r) u = (x, c, h, u)
+  here_goes x c h (Over r) u = (x, c, h, u)
+
+  coming_by : (came_to : Approached) → Approaches 0 key a what came_to → ((o : Approached) → Approaches 0 key a what o → o ≡ came_to) → One (DeleteGoes key (Coming a) what)
+  coming_by (came.On b) h only = record { new = Coming b; goes = h; only = on_only b only }
+  coming_by (came.Here x c) h only = (let one = arrive_one key x c (here_leads 0 key a what x c h) in record { new = one.new; goes = here_goes x c h one.new one.goes; only = here_only x c only one })
+
+module _ (key : ℕ) (value : ℕ) (d : Change) (what : Seen) where
+  more_only : (e : Change) → ((o : Changed) → Changes d what o → o ≡ change.On e) → (other : DeleteStage) → DeleteGoes key (Changing value d) what other → other ≡ Changing value e
+  more_only e is New t = absurd t
+  more_only e is (Coming b) t = absurd t
+  more_only e is (Absent m) t = absurd t
+  more_only e is (Changing v f) t = (let f_is = on_one f e (is (change.On f) t.1) in λ i. Changing (t.0 i) (f_is i))
+  more_only e is (Ending r) t = absurd (not_over e t.0 (sym (is (change.Over t.0) t.1)))
+  more_only e is (Over r) t = absurd t
+
+  over_only : (o : Outcome) → ((z : Changed) → Changes d what z → z ≡ change.Over o) → (other : DeleteStage) → DeleteGoes key (Changing value d) what other → other ≡ Ending (delete_reply value o)
+  over_only o is New t = absurd t
+  over_only o is (Coming b) t = absurd t
+  over_only o is (Absent m) t = absurd t
+  over_only o is (Changing v f) t = absurd (not_over f o (is (change.On f) t.1))
+  over_only o is (Ending r) t = ap Ending (t.2 ∙ ap (delete_reply value) (over_one t.0 o (is (change.Over t.0) t.1)))
+  over_only o is (Over r) t = absurd t
+
+  changing_by : (n : Changed) → Changes d what n → ((z : Changed) → Changes d what z → z ≡ n) → One (DeleteGoes key (Changing value d) what)
+  changing_by (change.On e) h only = record { new = Changing value e; goes = (refl, h); only = more_only e only }
+  changing_by (change.Over o) h only = record { new = Ending (delete_reply value o); goes = (o, h, refl); only = over_only o only }
+
+module _ (key : ℕ) where
+  begun_only : (other : DeleteStage) → DeleteGoes key New seen.Done other → other ≡ Coming Start
+  begun_only New t = absurd t
+  begun_only (Coming b) t = ap Coming t
+  begun_only (Absent m) t = absurd t
+  begun_only (Changing v d) t = absurd t
+  begun_only (Ending r) t = absurd t
+  begun_only (Over r) t = absurd t
+
+  stays_only : (x : ℕ) → (other : DeleteStage) → DeleteGoes key (Absent x) seen.Done other → other ≡ Ending reply.Absent
+  stays_only x New t = absurd t
+  stays_only x (Coming b) t = absurd t
+  stays_only x (Absent m) t = absurd t
+  stays_only x (Changing v d) t = absurd t
+  stays_only x (Ending r) t = ap Ending t
+  stays_only x (Over r) t = absurd t
+
+  ended_only : (q : DeleteReply) → (other : DeleteStage) → DeleteGoes key (Ending q) seen.Done other → other ≡ Over q
+  ended_only q New t = absurd t
+  ended_only q (Coming b) t = absurd t
+  ended_only q (Absent m) t = absurd t
+  ended_only q (Changing v d) t = absurd t
+  ended_only q (Ending r) t = absurd t
+  ended_only q (Over r) t = ap Over t
+
+  stage_one : (a : DeleteStage) (what : Seen) → delete_answer_in a ≡ None → Gives (delete_next_in a) (delete_needs_in a) what → One (DeleteGoes key a what)
+  stage_one (Coming a) what r g = (let h = approach_one 0 key a what g in coming_by key a what h.new h.goes h.only)
+  stage_one (Changing v d) what r g = (let h = change_one d what g in changing_by key v d what h.new h.goes h.only)
+  stage_one New seen.Done r g = record { new = Coming Start; goes = refl; only = begun_only }
+  stage_one New (seen.Words d) r g = absurd g
+  stage_one New (seen.Took y) r g = absurd g
+  stage_one New (seen.Owner retired started own) r g = absurd g
+  stage_one New (seen.Blocks b) r g = absurd g
+  stage_one New seen.Missed r g = absurd g
+  stage_one New seen.Refused r g = absurd g
+  stage_one (Absent x) seen.Done r g = record { new = Ending reply.Absent; goes = refl; only = stays_only x }
+  stage_one (Absent x) (seen.Words d) r g = absurd g
+  stage_one (Absent x) (seen.Took y) r g = absurd g
+  stage_one (Absent x) (seen.Owner retired started own) r g = absurd g
+  stage_one (Absent x) (seen.Blocks b) r g = absurd g
+  stage_one (Absent x) seen.Missed r g = absurd g
+  stage_one (Absent x) seen.Refused r g = absurd g
+  stage_one (Ending q) seen.Done r g = record { new = Over q; goes = refl; only = ended_only q }
+  stage_one (Ending q) (seen.Words d) r g = absurd g
+  stage_one (Ending q) (seen.Took y) r g = absurd g
+  stage_one (Ending q) (seen.Owner retired started own) r g = absurd g
+  stage_one (Ending q) (seen.Blocks b) r g = absurd g
+  stage_one (Ending q) seen.Missed r g = absurd g
+  stage_one (Ending q) seen.Refused r g = absurd g
+  stage_one (Over q) what r g = (let z : Some _ ≡ None = r in cc)
+
+delete_only : (old : Delete) (what : Seen) (g : One (DeleteGoes old.key old.stage what)) (other : Proc) → Takes (proc.Delete old) what other → other ≡ proc.Delete (record { key = old.key; stage = g.new })
+delete_only old what g (proc.Find f) t = absurd t
+delete_only old what g (proc.Insert f) t = absurd t
+delete_only old what g (proc.Delete f) t = (let e = g.only f.stage t.1 in λ i. proc.Delete (record { key = t.0 i; stage = e i }))
+delete_only old what g (proc.Post f) t = absurd t
+
+pub delete_goes : (old : Delete) (what : Seen) → delete_answer_in old.stage ≡ None → Gives (delete_next_in old.stage) (delete_needs_in old.stage) what → GoesOn (proc.Delete old) what
+delete_goes old what running given =
+    let g = stage_one old.key old.stage what running given in
+    record { new = proc.Delete (record { key = old.key; stage = g.new }); takes = (refl, g.goes); only = delete_only old what g }

@@ -1,0 +1,229 @@
+-- What is said at the end of an operation.
+use Rattle.std.proofs.Common.{ℕ, ◌≡◌, ◌≢◌, ◌+◌, ◌++◌, Option, Some, None, [], ◌∷◌, refl, sym, ap, ◌∙◌, subst}
+use Rattle.bl_model.specs.declared.operation.Op.{Op as Operation}
+use Rattle.bl_model.specs.declared.operation.Op.TheVariants as op
+use Rattle.bl_model.specs.declared.operation.Reply.{Reply}
+use Rattle.bl_page.specs.declared.page.Page.{Page}
+use Rattle.bl_trails.specs.Trails.{Said}
+use Rattle.bl_ways.specs.declared.acts.Action.TheVariants as act
+use Rattle.bl_ways.specs.declared.acts.Seen.TheVariants as seen
+use Rattle.bl_ways.specs.declared.answers.Hint.{Hint}
+use Rattle.bl_ways.specs.declared.answers.Answer.{Answer}
+use Rattle.bl_ways.specs.declared.answers.Answer.TheVariants.{Op}
+use Rattle.bl_ways.specs.declared.approaching.Approach.{Approach}
+use Rattle.bl_ways.specs.declared.approaching.Approach.TheVariants as way
+use Rattle.bl_ways.specs.declared.changing.Change.{Change}
+use Rattle.bl_ways.specs.declared.changing.Change.TheVariants as change
+use Rattle.bl_ways.specs.Approaches.{approach_next}
+use Rattle.bl_ways.specs.Changes.{change_next}
+use Rattle.bl_proc.specs.declared.inserting.InsertStage.{InsertStage}
+use Rattle.bl_proc.specs.declared.inserting.InsertStage.TheVariants as insert
+use Rattle.bl_proc.specs.declared.inserting.InsertReply.{InsertReply}
+use Rattle.bl_proc.specs.declared.inserting.InsertReply.TheVariants as inserted
+use Rattle.bl_proc.specs.declared.deleting.DeleteStage.{DeleteStage}
+use Rattle.bl_proc.specs.declared.deleting.DeleteStage.TheVariants as delete
+use Rattle.bl_proc.specs.declared.deleting.DeleteReply.{DeleteReply}
+use Rattle.bl_proc.specs.declared.deleting.DeleteReply.TheVariants as deleted
+use Rattle.bl_proc.specs.declared.searching.FindStage.{FindStage}
+use Rattle.bl_proc.specs.declared.searching.FindStage.TheVariants as find
+use Rattle.bl_proc.specs.declared.kinds.Proc.{Proc}
+use Rattle.bl_proc.specs.declared.kinds.Proc.TheVariants as proc
+use Rattle.bl_proc.specs.Inserts.{inserted_answer, insert_next_in, insert_answer_in, InsertGoes}
+use Rattle.bl_proc.specs.Deletes.{deleted_answer, delete_next_in, delete_answer_in, DeleteGoes}
+use Rattle.bl_proc.specs.Searches.{found_answer, find_next_in, find_answer_in, FindGoes}
+use Rattle.bl_proc.specs.Processes.{next_of, answer_of, Takes}
+use Rattle.bl_tables.specs.Knowing.{Run, bare as know, know_of, inserted_reply, deleted_reply, found_reply, know_find, know_insert, know_delete, find_end, insert_end, delete_end, end_of_proc}
+use Rattle.bl_courses.specs.Frames.{op_of}
+use Rattle.bl_passes.specs.declared.known.Mine.{Mine}
+use Rattle.bl_passes.specs.Noting.{trail_of}
+use Rattle.bl_passes.specs.Seeing.{own, Holds}
+use Rattle.bl_passes.specs.Fitting.{name}
+use Rattle.bl_index.specs.Calls.{Answers}
+use Rattle.bl_index.specs.Runs.{IsDone}
+use Rattle.bl_index.specs.Searching.{IsOpAnswer}
+use Rattle.bl_index.proofs.Calls.{since_end, since_said}
+
+some_one : {a b : Answer} → Some a ≡ Some b → a ≡ b
+some_one e = cc
+
+not_end_way : (a : Approach) → approach_next a ≢ act.End
+not_end_way way.Start e = cc
+not_end_way (way.At x) e = cc
+not_end_way (way.Latching x) e = cc
+not_end_way (way.Latched x) e = cc
+not_end_way (way.Leaving x to) e = cc
+
+not_end : (c : Change) → change_next c ≢ act.End
+not_end (change.Putting x page) e = cc
+not_end (change.Taking full) e = cc
+not_end (change.PuttingNew p) e = cc
+not_end (change.PuttingOld p) e = cc
+not_end (change.OpeningNew x new s) e = cc
+not_end (change.Opening x what) e = cc
+
+
+insert_reply_said : (q : InsertReply) (reply : Reply) (hint : Option Hint) → inserted_answer q ≡ Op reply hint → inserted_reply q ≡ reply
+insert_reply_said (inserted.Inserted s) reply hint e = cc
+insert_reply_said (inserted.Present v) reply hint e = cc
+insert_reply_said inserted.NoRoom reply hint e = cc
+
+insert_ends : (key value : ℕ) (a b : InsertStage) (reply : Reply) (hint : Option Hint) → insert_next_in a ≡ act.End → InsertGoes key value a seen.Done b → insert_answer_in b ≡ Some (Op reply hint) → (insert_end a ≡ Some reply) × ((got : ℕ → Page) → (know_insert key value got a).said ≡ Some (record { op = op.Insert key value; reply = reply }))
+insert_ends key value insert.New b reply hint e t h = cc
+insert_ends key value (insert.Coming w) b reply hint e t h = absurd (not_end_way w e)
+insert_ends key value (insert.Present x there) b reply hint e t h = cc
+insert_ends key value (insert.Changing c) b reply hint e t h = absurd (not_end c e)
+insert_ends key value (insert.Over r) b reply hint e t h = absurd t
+insert_ends key value (insert.Ending r) insert.New reply hint e t h = absurd t
+insert_ends key value (insert.Ending r) (insert.Coming w) reply hint e t h = absurd t
+insert_ends key value (insert.Ending r) (insert.Present y z) reply hint e t h = absurd t
+insert_ends key value (insert.Ending r) (insert.Changing c) reply hint e t h = absurd t
+insert_ends key value (insert.Ending r) (insert.Ending q) reply hint e t h = absurd t
+insert_ends key value (insert.Ending r) (insert.Over q) reply hint e t h =
+    let some : inserted_answer q ≡ Op reply hint = some_one h in
+    let is : inserted_reply r ≡ reply = ap inserted_reply (sym t) ∙ insert_reply_said q reply hint some in
+    (ap (λ (z : Reply). Some z) is, λ got. ap (λ (z : Reply). Some (record { op = op.Insert key value; reply = z })) is)
+
+delete_reply_said : (q : DeleteReply) (reply : Reply) (hint : Option Hint) → deleted_answer q ≡ Op reply hint → deleted_reply q ≡ reply
+delete_reply_said (deleted.Deleted v) reply hint e = cc
+delete_reply_said deleted.Absent reply hint e = cc
+delete_reply_said deleted.NoRoom reply hint e = cc
+
+delete_ends : (key : ℕ) (a b : DeleteStage) (reply : Reply) (hint : Option Hint) → delete_next_in a ≡ act.End → DeleteGoes key a seen.Done b → delete_answer_in b ≡ Some (Op reply hint) → (delete_end a ≡ Some reply) × ((got : ℕ → Page) → (know_delete key got a).said ≡ Some (record { op = op.Delete key; reply = reply }))
+delete_ends key delete.New b reply hint e t h = cc
+delete_ends key (delete.Coming w) b reply hint e t h = absurd (not_end_way w e)
+delete_ends key (delete.Absent x) b reply hint e t h = cc
+delete_ends key (delete.Changing v c) b reply hint e t h = absurd (not_end c e)
+delete_ends key (delete.Over r) b reply hint e t h = absurd t
+delete_ends key (delete.Ending r) delete.New reply hint e t h = absurd t
+delete_ends key (delete.Ending r) (delete.Coming w) reply hint e t h = absurd t
+delete_ends key (delete.Ending r) (delete.Absent y) reply hint e t h = absurd t
+delete_ends key (delete.Ending r) (delete.Changing v c) reply hint e t h = absurd t
+delete_ends key (delete.Ending r) (delete.Ending q) reply hint e t h = absurd t
+delete_ends key (delete.Ending r) (delete.Over q) reply hint e t h =
+    let some : deleted_answer q ≡ Op reply hint = some_one h in
+    let is : deleted_reply r ≡ reply = ap deleted_reply (sym t) ∙ delete_reply_said q reply hint some in
+    (ap (λ (z : Reply). Some z) is, λ got. ap (λ (z : Reply). Some (record { op = op.Delete key; reply = z })) is)
+
+find_reply_said : (v : Option ℕ) (reply : Reply) (hint : Option Hint) → found_answer v ≡ Op reply hint → found_reply v ≡ reply
+find_reply_said (Some v) reply hint e = cc
+find_reply_said None reply hint e = cc
+
+find_ends : (key : ℕ) (a b : FindStage) (reply : Reply) (hint : Option Hint) → find_next_in a ≡ act.End → FindGoes key a seen.Done b → find_answer_in b ≡ Some (Op reply hint) → (find_end a ≡ Some reply) × ((know_find key a).said ≡ Some (record { op = op.Find key; reply = reply }))
+find_ends key find.New b reply hint e t h = cc
+find_ends key find.AtAnchor b reply hint e t h = cc
+find_ends key (find.At x) b reply hint e t h = cc
+find_ends key (find.Over v) b reply hint e t h = absurd t
+find_ends key (find.Ending v) find.New reply hint e t h = absurd t
+find_ends key (find.Ending v) find.AtAnchor reply hint e t h = absurd t
+find_ends key (find.Ending v) (find.At x) reply hint e t h = absurd t
+find_ends key (find.Ending v) (find.Ending u) reply hint e t h = absurd t
+find_ends key (find.Ending v) (find.Over u) reply hint e t h =
+    let some : found_answer u ≡ Op reply hint = some_one h in
+    let is : found_reply v ≡ reply = ap found_reply (sym t) ∙ find_reply_said u reply hint some in
+    (ap (λ (z : Reply). Some z) is, ap (λ (z : Reply). Some (record { op = op.Find key; reply = z })) is)
+
+-- what a process that ended with this answer had said
+pub record Says (before : Proc) (o : Operation) (reply : Reply) : Type 0 where
+  pub end : end_of_proc before ≡ Some reply
+  pub said : (r : Run) → r.state ≡ before → (know r).said ≡ Some (record { op = o; reply = reply })
+
+op_one : {a b : Operation} → Some a ≡ Some b → a ≡ b
+op_one e = cc
+
+says_of : (before : Proc) (o o' : Operation) (reply : Reply) → end_of_proc before ≡ Some reply → ((got : ℕ → Page) (child : ℕ) → (know_of got child before).said ≡ Some (record { op = o'; reply = reply })) → Some o' ≡ Some o → Says before o reply
+says_of before o o' reply end said e = record {
+  end = end;
+  said = λ r h. ap (λ (z : Proc). (know_of r.got r.child z).said) h ∙ (said r.got r.child ∙ ap (λ (z : Operation). Some (record { op = z; reply = reply })) (op_one e));
+}
+
+end_says : (before last : Proc) (o : Operation) (reply : Reply) (hint : Option Hint) → op_of before ≡ Some o → next_of before ≡ act.End → Takes before seen.Done last → answer_of last ≡ Some (Op reply hint) → Says before o reply
+end_says (proc.Find p) (proc.Find q) o reply hint i e t h = (let s = find_ends p.key p.stage q.stage reply hint e t.1 h in says_of (proc.Find p) o (op.Find p.key) reply s.0 (λ got child. s.1) i)
+end_says (proc.Find p) (proc.Insert q) o reply hint i e t h = absurd t
+end_says (proc.Find p) (proc.Delete q) o reply hint i e t h = absurd t
+end_says (proc.Find p) (proc.Post q) o reply hint i e t h = absurd t
+end_says (proc.Insert p) (proc.Find q) o reply hint i e t h = absurd t
+end_says (proc.Insert p) (proc.Insert q) o reply hint i e t h = (let s = insert_ends p.key p.value p.stage q.stage reply hint e t.2 h in says_of (proc.Insert p) o (op.Insert p.key p.value) reply s.0 (λ got child. s.1 got) i)
+end_says (proc.Insert p) (proc.Delete q) o reply hint i e t h = absurd t
+end_says (proc.Insert p) (proc.Post q) o reply hint i e t h = absurd t
+end_says (proc.Delete p) (proc.Find q) o reply hint i e t h = absurd t
+end_says (proc.Delete p) (proc.Insert q) o reply hint i e t h = absurd t
+end_says (proc.Delete p) (proc.Delete q) o reply hint i e t h = (let s = delete_ends p.key p.stage q.stage reply hint e t.1 h in says_of (proc.Delete p) o (op.Delete p.key) reply s.0 (λ got child. s.1 got) i)
+end_says (proc.Delete p) (proc.Post q) o reply hint i e t h = absurd t
+end_says (proc.Post p) (proc.Find q) o reply hint i e t h = absurd t
+end_says (proc.Post p) (proc.Insert q) o reply hint i e t h = absurd t
+end_says (proc.Post p) (proc.Delete q) o reply hint i e t h = absurd t
+end_says (proc.Post p) (proc.Post q) o reply hint i e t h = cc
+
+pub op_answered : (pass : ℕ) (old e : Mine) (first last : Proc) (o : Operation) (reply : Reply) (hint : Option Hint) → IsDone pass old e first last → op_of first ≡ Some o → answer_of last ≡ Some (Op reply hint) → Answers pass o reply (trail_of old.trail) (trail_of e.trail)
+op_answered pass old e first last o reply hint d is answer =
+    let s = end_says d.before last o reply hint (d.op ∙ is) d.at_end d.takes answer in
+    record {
+      number = old.number + 1;
+      holds = subst (λ (z : Option Reply). Holds (name pass (old.number + 1)) z (trail_of old.trail) (trail_of e.trail)) s.end (since_end pass (end_of_proc d.before) old d.d e d.since d.told);
+      seen = d.told.notes.seen;
+      once = since_said pass (end_of_proc d.before) old d.d e (Some (record { op = o; reply = reply })) d.since d.told (λ r h. s.said r (h ∙ d.state));
+    }
+
+-- an operation that has ended has an answer
+insert_has : (key value : ℕ) (a b : InsertStage) → insert_next_in a ≡ act.End → InsertGoes key value a seen.Done b → IsOpAnswer (insert_answer_in b)
+insert_has key value insert.New b e t = cc
+insert_has key value (insert.Coming w) b e t = absurd (not_end_way w e)
+insert_has key value (insert.Present x there) b e t = cc
+insert_has key value (insert.Changing c) b e t = absurd (not_end c e)
+insert_has key value (insert.Over r) b e t = absurd t
+insert_has key value (insert.Ending r) insert.New e t = absurd t
+insert_has key value (insert.Ending r) (insert.Coming w) e t = absurd t
+insert_has key value (insert.Ending r) (insert.Present y z) e t = absurd t
+insert_has key value (insert.Ending r) (insert.Changing c) e t = absurd t
+insert_has key value (insert.Ending r) (insert.Ending q) e t = absurd t
+insert_has key value (insert.Ending r) (insert.Over (inserted.Inserted s)) e t = tt
+insert_has key value (insert.Ending r) (insert.Over (inserted.Present v)) e t = tt
+insert_has key value (insert.Ending r) (insert.Over inserted.NoRoom) e t = tt
+
+delete_has : (key : ℕ) (a b : DeleteStage) → delete_next_in a ≡ act.End → DeleteGoes key a seen.Done b → IsOpAnswer (delete_answer_in b)
+delete_has key delete.New b e t = cc
+delete_has key (delete.Coming w) b e t = absurd (not_end_way w e)
+delete_has key (delete.Absent x) b e t = cc
+delete_has key (delete.Changing v c) b e t = absurd (not_end c e)
+delete_has key (delete.Over r) b e t = absurd t
+delete_has key (delete.Ending r) delete.New e t = absurd t
+delete_has key (delete.Ending r) (delete.Coming w) e t = absurd t
+delete_has key (delete.Ending r) (delete.Absent y) e t = absurd t
+delete_has key (delete.Ending r) (delete.Changing v c) e t = absurd t
+delete_has key (delete.Ending r) (delete.Ending q) e t = absurd t
+delete_has key (delete.Ending r) (delete.Over (deleted.Deleted v)) e t = tt
+delete_has key (delete.Ending r) (delete.Over deleted.Absent) e t = tt
+delete_has key (delete.Ending r) (delete.Over deleted.NoRoom) e t = tt
+
+find_has : (key : ℕ) (a b : FindStage) → find_next_in a ≡ act.End → FindGoes key a seen.Done b → IsOpAnswer (find_answer_in b)
+find_has key find.New b e t = cc
+find_has key find.AtAnchor b e t = cc
+find_has key (find.At x) b e t = cc
+find_has key (find.Over v) b e t = absurd t
+find_has key (find.Ending v) find.New e t = absurd t
+find_has key (find.Ending v) find.AtAnchor e t = absurd t
+find_has key (find.Ending v) (find.At x) e t = absurd t
+find_has key (find.Ending v) (find.Ending u) e t = absurd t
+find_has key (find.Ending v) (find.Over (Some u)) e t = tt
+find_has key (find.Ending v) (find.Over None) e t = tt
+
+end_has : (before last : Proc) (o : Operation) → op_of before ≡ Some o → next_of before ≡ act.End → Takes before seen.Done last → IsOpAnswer (answer_of last)
+end_has (proc.Find p) (proc.Find q) o i e t = find_has p.key p.stage q.stage e t.1
+end_has (proc.Find p) (proc.Insert q) o i e t = absurd t
+end_has (proc.Find p) (proc.Delete q) o i e t = absurd t
+end_has (proc.Find p) (proc.Post q) o i e t = absurd t
+end_has (proc.Insert p) (proc.Find q) o i e t = absurd t
+end_has (proc.Insert p) (proc.Insert q) o i e t = insert_has p.key p.value p.stage q.stage e t.2
+end_has (proc.Insert p) (proc.Delete q) o i e t = absurd t
+end_has (proc.Insert p) (proc.Post q) o i e t = absurd t
+end_has (proc.Delete p) (proc.Find q) o i e t = absurd t
+end_has (proc.Delete p) (proc.Insert q) o i e t = absurd t
+end_has (proc.Delete p) (proc.Delete q) o i e t = delete_has p.key p.stage q.stage e t.1
+end_has (proc.Delete p) (proc.Post q) o i e t = absurd t
+end_has (proc.Post p) (proc.Find q) o i e t = absurd t
+end_has (proc.Post p) (proc.Insert q) o i e t = absurd t
+end_has (proc.Post p) (proc.Delete q) o i e t = absurd t
+end_has (proc.Post p) (proc.Post q) o i e t = cc
+
+pub op_has_answer : (pass : ℕ) (old e : Mine) (first last : Proc) (o : Operation) → IsDone pass old e first last → op_of first ≡ Some o → (answer : Option Answer) → answer ≡ answer_of last → IsOpAnswer answer
+op_has_answer pass old e first last o d is answer a = subst IsOpAnswer (sym a) (end_has d.before last o (d.op ∙ is) d.at_end d.takes)

@@ -1,0 +1,14 @@
+use Rattle.std.proofs.Common.{◌≡◌, ℕ, refl, ap, sym, ◌∙◌, subst}
+use Rattle.bl_ways.specs.declared.acts.Seen.TheVariants as seen
+use Rattle.bl_proc.specs.declared.kinds.Proc.{Proc}
+use Rattle.bl_proc.specs.Processes.{next_of}
+use Rattle.bl_courses.specs.Courses.{GoesOn}
+use Rattle.bl_store.specs.Hands.{known}
+use Rattle.bl_passes.proofs.Pages.{latches_page, misses_page}
+use Rattle.bl_index.proofs.index.Index.latch.Goals as goal
+
+pub try_latch-requires-clause-latches : goal.try_latch-requires-clause-latches
+try_latch-requires-clause-latches g c = let laws = g.met.P.Kind in latches_page _ _ (known c.args.hand.now.seat) c.requires.process.runs _ (ap next_of c.requires.process.state ∙ (laws.acts c.args.process.now ∙ c.requires.next.1)) (subst (λ (z : Proc). GoesOn z seen.Done) (sym c.requires.process.state) (laws.courses c.args.process.now seen.Done c.requires.next.0 (rw c.requires.next.1 tt)))
+
+pub try_latch-requires-clause-misses : goal.try_latch-requires-clause-misses
+try_latch-requires-clause-misses g c = let laws = g.met.P.Kind in misses_page _ _ (known c.args.hand.now.seat) c.requires.process.runs _ (ap next_of c.requires.process.state ∙ (laws.acts c.args.process.now ∙ c.requires.next.1)) (subst (λ (z : Proc). GoesOn z seen.Missed) (sym c.requires.process.state) (laws.courses c.args.process.now seen.Missed c.requires.next.0 (rw c.requires.next.1 tt)))

@@ -1,0 +1,86 @@
+//! Insertions and deletions.
+
+ghost use Rattle.std.specs.Prelude.{◌≡◌, None, Some};
+ghost use Rattle.bl_model.specs.declared.operation.Op.TheVariants as op;
+ghost use Rattle.bl_ways.specs.declared.acts.Action.TheVariants as act;
+ghost use Rattle.bl_ways.specs.declared.answers.Answer.TheVariants as answers;
+ghost use Rattle.bl_index.specs.Searching.{IsOpAnswer};
+ghost use Rattle.bl_store.specs.Hands.{known, IsOf, IsIdle, IsSameHand, HasNoStock};
+ghost use Rattle.bl_passes.specs.Told.{IsUnborn};
+ghost use Rattle.bl_index.specs.Runs.{IsDone};
+
+use crate::index::{Index, Pass};
+use crate::kinds::Kind;
+use crate::stepping::Stepped;
+use bl_model::Reply;
+use bl_passes::Mine;
+use bl_proc::{Answer, Delete, Hint, Insert, Process};
+use bl_store::{Hand, Stock};
+use crossbeam_utils::Backoff;
+use std::sync::Wait;
+
+/// The reply of an operation, and its hint.
+fn answered(answer: Option<Answer>) -> (Reply, Option<Hint>)
+    requires { IsOpAnswer answer }
+    ensures { answer ≡ Some (answers.Op result.0 result.1) }
+{
+    match answer {
+        Some(Answer::Op(reply, hint)) => (reply, hint),
+        _ => unreachable!(),
+    }
+}
+
+impl Index {
+    ghost use Rattle.bl_index.specs.Calls.{IsPassOf, IsSamePass, number_of, trail, Answers};
+
+    /// Puts the value at the key, where the key has none. Where a page was parted, there is a hint to post.
+    pub fn insert<R: Wait>(
+        &self,
+        rt: &R,
+        pass: &mut Pass,
+        key: u64,
+        value: u64,
+    ) -> (Reply, Option<Hint>)
+        requires { IsPassOf self.now pass.old }
+        ensures same { IsSamePass pass.old pass.new }
+        ensures answers { Answers (number_of pass.old) (op.Insert key value) result.0 (trail pass.old) (trail pass.new) }
+    {
+        let process = self.carry_out(rt, &mut pass.hand, Insert::new(key, value));
+        answered(process.answer())
+    }
+
+    /// Takes the key and its value away.
+    pub fn delete<R: Wait>(&self, rt: &R, pass: &mut Pass, key: u64) -> (Reply, Option<Hint>)
+        requires { IsPassOf self.now pass.old }
+        ensures same { IsSamePass pass.old pass.new }
+        ensures answers { Answers (number_of pass.old) (op.Delete key) result.0 (trail pass.old) (trail pass.new) }
+    {
+        let process = self.carry_out(rt, &mut pass.hand, Delete::new(key));
+        answered(process.answer())
+    }
+
+    /// Carries the process out, from its begin to its end.
+    fn carry_out<P: Kind, R: Wait>(&self, rt: &R, hand: &mut Hand<Mine>, process: P) -> P
+        requires own { IsOf self.now.store.table.shared.table_id self.now.store.layout hand.old.seat }
+        requires idle { IsIdle hand.old.seat × HasNoStock hand.old.seat }
+        requires new { (P.answer_of process ≡ None) × (P.next_of process ≡ act.Begin) × IsUnborn (P.proc_of process) }
+        ensures same { IsSameHand hand.old.seat hand.new.seat }
+        ensures idle { IsIdle hand.new.seat × HasNoStock hand.new.seat }
+        ensures done { IsDone hand.old.number (known hand.old.seat) (known hand.new.seat) (P.proc_of process) (P.proc_of result) }
+    {
+        let backoff = Backoff::new();
+        let mut process = process;
+        self.begin(hand, &mut process);
+        let mut held: Option<Stock> = None;
+        for _ in rt.forever() {
+            match self.step(hand, &mut process, held, &backoff) {
+                Stepped::On(next) => held = next,
+                Stepped::AtEnd => {
+                    self.finish(hand, &mut process);
+                    return process;
+                }
+            }
+        }
+        unreachable!()
+    }
+}

@@ -1,0 +1,222 @@
+//! Steps of a writer: it latches, puts, takes and opens pages.
+
+ghost use Rattle.std.specs.Prelude.{◌≡◌, ◌≢◌, ◌+◌, ◌<◌, None, Some};
+ghost use Rattle.bl_ways.specs.declared.acts.Action.TheVariants as act;
+ghost use Rattle.bl_ways.specs.declared.acts.Seen.{Seen as SeenIs};
+ghost use Rattle.bl_ways.specs.declared.acts.Seen.TheVariants as seen;
+ghost use Rattle.bl_store.specs.Hands.{known, IsOf, IsRunning, IsSameHand, IsSameStage, IsSameStock, HasNoStock, IsStockOf};
+ghost use Rattle.bl_courses.specs.Frames.{frames_of};
+ghost use Rattle.bl_index.specs.Runs.{IsOn, Moves, HasFrames, IsAfter};
+
+use crate::index::Index;
+use crate::kinds::Kind;
+use bl_page::Page;
+use bl_passes::{Mine, Opened, Put, Refused, Took, Tried};
+use bl_proc::{Action, Seen};
+use bl_store::{Hand, Stock};
+use crossbeam_utils::Backoff;
+
+/// What a step came to.
+pub(crate) enum Stepped {
+    /// The process goes on, with what it has reserved.
+    On(Option<Stock>),
+    /// It is to end.
+    AtEnd,
+}
+
+impl Index {
+    /// The process tries to latch the page. After a miss the thread pauses.
+    fn latch<P: Kind>(
+        &self,
+        hand: &mut Hand<Mine>,
+        process: &mut P,
+        page: u32,
+        backoff: &Backoff,
+    )
+        requires own { IsOf self.now.store.table.shared.table_id self.now.store.layout hand.old.seat }
+        requires running { IsRunning hand.old.seat }
+        requires process { IsOn self.now.store.layout.pages (known hand.old.seat) (P.proc_of process.old) }
+        requires next { (P.answer_of process.old ≡ None) × (P.next_of process.old ≡ act.Latch page) }
+        ensures same { IsSameHand hand.old.seat hand.new.seat × IsSameStage hand.old.seat hand.new.seat }
+        ensures process { IsOn self.now.store.layout.pages (known hand.new.seat) (P.proc_of process.new) }
+        ensures moves { Moves (known hand.old.seat) (known hand.new.seat) }
+        ensures takes { (what : SeenIs) × P.Takes process.old what process.new }
+        ensures stock { IsSameStock hand.old.seat hand.new.seat }
+    {
+        if self.store.try_latch::<Tried>(hand, page) {
+            backoff.reset();
+            process.took(Seen::Done);
+        } else {
+            backoff.snooze();
+            process.took(Seen::Missed);
+        }
+    }
+
+    /// The process opens the page.
+    fn open_page<P: Kind>(&self, hand: &mut Hand<Mine>, process: &mut P, page: u32)
+        requires own { IsOf self.now.store.table.shared.table_id self.now.store.layout hand.old.seat }
+        requires running { IsRunning hand.old.seat }
+        requires process { IsOn self.now.store.layout.pages (known hand.old.seat) (P.proc_of process.old) }
+        requires next { (P.answer_of process.old ≡ None) × (P.next_of process.old ≡ act.Open page) }
+        ensures same { IsSameHand hand.old.seat hand.new.seat × IsSameStage hand.old.seat hand.new.seat }
+        ensures process { IsOn self.now.store.layout.pages (known hand.new.seat) (P.proc_of process.new) }
+        ensures moves { Moves (known hand.old.seat) (known hand.new.seat) }
+        ensures takes { (what : SeenIs) × P.Takes process.old what process.new }
+        ensures stock { IsSameStock hand.old.seat hand.new.seat }
+    {
+        self.store.open::<Opened>(hand, page);
+        process.took(Seen::Done);
+    }
+
+    /// The process puts the page, with a frame of the stock.
+    fn put_with<P: Kind>(
+        &self,
+        hand: &mut Hand<Mine>,
+        process: &mut P,
+        page: u32,
+        contents: &Page,
+        stock: Stock,
+    ) -> Stock
+        requires own { IsOf self.now.store.table.shared.table_id self.now.store.layout hand.old.seat }
+        requires running { IsRunning hand.old.seat }
+        requires process { IsOn self.now.store.layout.pages (known hand.old.seat) (P.proc_of process.old) }
+        requires next { (P.answer_of process.old ≡ None) × (P.next_of process.old ≡ act.Put page contents.now) }
+        requires stock { IsStockOf hand.old.seat stock × (0 < stock.count) }
+        ensures same { IsSameHand hand.old.seat hand.new.seat × IsSameStage hand.old.seat hand.new.seat }
+        ensures process { IsOn self.now.store.layout.pages (known hand.new.seat) (P.proc_of process.new) }
+        ensures moves { Moves (known hand.old.seat) (known hand.new.seat) }
+        ensures takes { P.Takes process.old seen.Done process.new }
+        ensures stock { IsStockOf hand.new.seat result × (result.count + 1 ≡ stock.count) }
+    {
+        let mut stock = stock;
+        self.store
+            .put::<Put>(hand, page, &contents.to_words(), &mut stock);
+        process.took(Seen::Done);
+        stock
+    }
+
+    /// The process reserves a frame and puts the page, or is refused.
+    fn put_first<P: Kind>(
+        &self,
+        hand: &mut Hand<Mine>,
+        process: &mut P,
+        page: u32,
+        contents: &Page,
+    ) -> Option<Stock>
+        requires own { IsOf self.now.store.table.shared.table_id self.now.store.layout hand.old.seat }
+        requires running { IsRunning hand.old.seat }
+        requires process { IsOn self.now.store.layout.pages (known hand.old.seat) (P.proc_of process.old) }
+        requires next { (P.answer_of process.old ≡ None) × (P.next_of process.old ≡ act.Put page contents.now) }
+        requires needs { P.needs_of process.old ≡ Some (0, 1) }
+        requires empty { HasNoStock hand.old.seat }
+        ensures same { IsSameHand hand.old.seat hand.new.seat × IsSameStage hand.old.seat hand.new.seat }
+        ensures process { IsOn self.now.store.layout.pages (known hand.new.seat) (P.proc_of process.new) }
+        ensures moves { Moves (known hand.old.seat) (known hand.new.seat) }
+        ensures takes { (what : SeenIs) × P.Takes process.old what process.new }
+        ensures stock { HasFrames hand.new.seat result 0 }
+    {
+        match self.store.reserve::<Took, Refused>(hand, 0, 1) {
+            Ok(stock) => Some(self.put_with(hand, process, page, contents, stock)),
+            Err(_) => {
+                process.took(Seen::Refused);
+                None
+            }
+        }
+    }
+
+    /// The process reserves a page and two frames, or is refused.
+    fn take<P: Kind>(&self, hand: &mut Hand<Mine>, process: &mut P) -> Option<Stock>
+        requires own { IsOf self.now.store.table.shared.table_id self.now.store.layout hand.old.seat }
+        requires running { IsRunning hand.old.seat }
+        requires process { IsOn self.now.store.layout.pages (known hand.old.seat) (P.proc_of process.old) }
+        requires next { (P.answer_of process.old ≡ None) × (P.next_of process.old ≡ act.Take) }
+        requires needs { P.needs_of process.old ≡ Some (1, 2) }
+        requires empty { HasNoStock hand.old.seat }
+        ensures same { IsSameHand hand.old.seat hand.new.seat × IsSameStage hand.old.seat hand.new.seat }
+        ensures process { IsOn self.now.store.layout.pages (known hand.new.seat) (P.proc_of process.new) }
+        ensures moves { Moves (known hand.old.seat) (known hand.new.seat) }
+        ensures takes { (what : SeenIs) × P.Takes process.old what process.new }
+        ensures stock { HasFrames hand.new.seat result (frames_of (P.proc_of process.new)) }
+    {
+        match self.store.reserve::<Took, Refused>(hand, 1, 2) {
+            Ok(stock) => match stock.page() {
+                Some(page) => {
+                    process.took(Seen::Took(page));
+                    Some(stock)
+                }
+                None => unreachable!(),
+            },
+            Err(_) => {
+                process.took(Seen::Refused);
+                None
+            }
+        }
+    }
+
+    /// The process puts the page, with what it has reserved or reserves now.
+    fn put<P: Kind>(
+        &self,
+        hand: &mut Hand<Mine>,
+        process: &mut P,
+        page: u32,
+        contents: &Page,
+        held: Option<Stock>,
+    ) -> Option<Stock>
+        requires own { IsOf self.now.store.table.shared.table_id self.now.store.layout hand.old.seat }
+        requires running { IsRunning hand.old.seat }
+        requires process { IsOn self.now.store.layout.pages (known hand.old.seat) (P.proc_of process.old) }
+        requires next { (P.answer_of process.old ≡ None) × (P.next_of process.old ≡ act.Put page contents.now) }
+        requires stock { HasFrames hand.old.seat held (frames_of (P.proc_of process.old)) }
+        ensures same { IsSameHand hand.old.seat hand.new.seat × IsSameStage hand.old.seat hand.new.seat }
+        ensures process { IsOn self.now.store.layout.pages (known hand.new.seat) (P.proc_of process.new) }
+        ensures moves { Moves (known hand.old.seat) (known hand.new.seat) }
+        ensures takes { (what : SeenIs) × P.Takes process.old what process.new }
+        ensures stock { HasFrames hand.new.seat result (frames_of (P.proc_of process.new)) }
+    {
+        if process.needs().is_some() {
+            return self.put_first(hand, process, page, contents);
+        }
+        match held {
+            Some(stock) => Some(self.put_with(hand, process, page, contents, stock)),
+            None => unreachable!(),
+        }
+    }
+
+    /// The next action of the process, one event, unless it is to end. It waits for nothing.
+    pub(crate) fn step<P: Kind>(
+        &self,
+        hand: &mut Hand<Mine>,
+        process: &mut P,
+        held: Option<Stock>,
+        backoff: &Backoff,
+    ) -> Stepped
+        requires own { IsOf self.now.store.table.shared.table_id self.now.store.layout hand.old.seat }
+        requires running { IsRunning hand.old.seat }
+        requires process { IsOn self.now.store.layout.pages (known hand.old.seat) (P.proc_of process.old) }
+        requires going { (P.answer_of process.old ≡ None) × (P.next_of process.old ≢ act.Begin) }
+        requires stock { HasFrames hand.old.seat held (frames_of (P.proc_of process.old)) }
+        ensures same { IsSameHand hand.old.seat hand.new.seat × IsSameStage hand.old.seat hand.new.seat }
+        ensures after { IsAfter self.now.store.layout.pages hand.old.seat hand.new.seat (P.proc_of process.old) (P.proc_of process.new) result }
+    {
+        match process.next() {
+            Action::Get(page) => {
+                self.read(hand, process, page);
+                Stepped::On(held)
+            }
+            Action::Latch(page) => {
+                self.latch(hand, process, page, backoff);
+                Stepped::On(held)
+            }
+            Action::Open(page) => {
+                self.open_page(hand, process, page);
+                Stepped::On(held)
+            }
+            Action::Put(page, contents) => {
+                Stepped::On(self.put(hand, process, page, &contents, held))
+            }
+            Action::Take => Stepped::On(self.take(hand, process)),
+            Action::End => Stepped::AtEnd,
+            _ => unreachable!(),
+        }
+    }
+}
