@@ -78,15 +78,13 @@ pub fits_some : (c : Page) (key word new : ℕ) → Covers c key → map_of (pai
 fits_some (Anchor a) key word new in_it absent may room = absurd in_it
 fits_some (Leaf l) key word new in_it absent may room =
     let is = entered_is l.low l.high key word l.rows.items l.order l.cover in_it absent in
-    let count = is.count in
-    (
+    let count = is.count in (
       Leaf (record { low = l.low; high = l.high; right = l.right; rows = record { items = entered key word l.rows.items }; bounds = l.bounds; link = l.link; few = omega arith; order = is.rising; cover = is.within }),
       (room, (refl, refl, refl), is.map),
     )
 fits_some (Inner i) key word new in_it absent may room =
     let is = entered_is i.low i.high key word i.children.items i.order i.cover in_it absent in
-    let count = is.count in
-    (
+    let count = is.count in (
       Inner (record {
         level = i.level;
         low = i.low;
@@ -198,16 +196,14 @@ without_some (Anchor a) key in_it may = absurd in_it
 without_some (Leaf l) key in_it may =
     let is = dropped_is l.low l.high key l.rows.items l.order l.cover in
     let count = is.count in
-    let few = l.few in
-    (
+    let few = l.few in (
       Leaf (record { low = l.low; high = l.high; right = l.right; rows = record { items = dropped key l.rows.items }; bounds = l.bounds; link = l.link; few = omega arith; order = is.rising; cover = is.within }),
       record { frame = (refl, refl, refl); count = is.one_less; pairs = is.map },
     )
 without_some (Inner i) key in_it may =
     let is = dropped_is i.low i.high key i.children.items i.order i.cover in
     let count = is.count in
-    let few = i.few in
-    (
+    let few = i.few in (
       Inner (record {
         level = i.level;
         low = i.low;

@@ -61,7 +61,6 @@ not_end (change.PuttingOld p) e = cc
 not_end (change.OpeningNew x new s) e = cc
 not_end (change.Opening x what) e = cc
 
-
 insert_reply_said : (q : InsertReply) (reply : Reply) (hint : Option Hint) → inserted_answer q ≡ Op reply hint → inserted_reply q ≡ reply
 insert_reply_said (inserted.Inserted s) reply hint e = cc
 insert_reply_said (inserted.Present v) reply hint e = cc

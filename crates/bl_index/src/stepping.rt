@@ -26,13 +26,7 @@ pub(crate) enum Stepped {
 
 impl Index {
     /// The process tries to latch the page. After a miss the thread pauses.
-    fn latch<P: Kind>(
-        &self,
-        hand: &mut Hand<Mine>,
-        process: &mut P,
-        page: u32,
-        backoff: &Backoff,
-    )
+    fn latch<P: Kind>(&self, hand: &mut Hand<Mine>, process: &mut P, page: u32, backoff: &Backoff)
         requires own { IsOf self.now.store.table.shared.table_id self.now.store.layout hand.old.seat }
         requires running { IsRunning hand.old.seat }
         requires process { IsOn self.now.store.layout.pages (known hand.old.seat) (P.proc_of process.old) }

@@ -112,7 +112,12 @@ fn full_leaves_are_parted(rt: HostRuntime) -> Result<(), Fail> {
         assert!(rt; matches!(reply, (Reply::Inserted, None)));
     }
     let last = index.insert(&rt, &mut pass, 15, 150);
-    assert!(rt; matches!(last, (Reply::Inserted, Some(Hint::Post { level: 1, key: 9 }))));
+    assert!(rt;
+        matches!(
+            last,
+            (Reply::Inserted, Some(Hint::Post { level: 1, key: 9 }))
+        )
+    );
     let few = index.find(&mut pass, 12, 2);
     assert!(rt; matches!(few, Err(OutOfTurns)));
     let found = index.find(&mut pass, 12, 3);
@@ -146,7 +151,10 @@ fn insert_some<R: Wait>(rt: &R, index: &Index, pass: Pass, first: u64) -> u64
     let mut pass = pass;
     let mut inserted = 0u64;
     for key in first..first + 7 {
-        if matches!(index.insert(rt, &mut pass, key, key), (Reply::Inserted, None)) {
+        if matches!(
+            index.insert(rt, &mut pass, key, key),
+            (Reply::Inserted, None)
+        ) {
             inserted += 1;
         }
     }
