@@ -15,6 +15,9 @@ use Rattle.bl_index.specs.declared.index.Pass.{Pass}
 abbrev pub pages_of : Index → ℕ
 pages_of index = index.store.layout.pages
 
+abbrev pub passes_of : Index → ℕ
+passes_of index = index.store.layout.passes
+
 -- the pass is of this index
 abbrev pub IsPassOf : Index → Pass → Type 0
 IsPassOf index pass = IsOf index.store.table.shared.table_id index.store.layout pass.hand.seat

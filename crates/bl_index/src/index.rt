@@ -2,6 +2,7 @@
 
 ghost use Rattle.std.specs.Prelude.{◌≡◌};
 ghost use Rattle.bl_store.specs.Hands.{IsIdle, HasNoStock};
+ghost use Rattle.bl_index.specs.Runs.{IsWithin};
 
 use bl_passes::{Mine, Passes};
 use bl_store::{Hand, Store};
@@ -20,6 +21,7 @@ pub struct Pass {
     pub(crate) hand: Hand<Mine>,
     pub ghost idle: { IsIdle hand.seat },
     pub ghost empty: { HasNoStock hand.seat },
+    pub ghost within: { IsWithin hand.seat },
 }
 
 impl Index {

@@ -91,6 +91,8 @@ module _ (s : Pages Mine) (f : Fits s) (n : ℕ) (d : Mine) (at : Stands s n Idl
       begins = h.begins;
       mine = h.mine;
     };
+    within = f.within;
+    counts = f.counts;
   }
 
 -- the anchor of a tree whose one page is page 1
@@ -101,7 +103,7 @@ first_anchor = Anchor (record { leftmost = record { items = 1 ∷ [] }; some = o
 abbrev pub fresh_run : Proc → Run
 fresh_run process = record { state = process; got = λ x. first_anchor; child = 0 }
 
-pub begins_process : (l : Layout) (n : ℕ) (d : Mine) (process : Proc) → next_of process ≡ act.Begin → IsUnborn process → GoesOn process seen.Done → BeginsIn Fits l n d (begins n l.pages process)
+pub begins_process : (l : Layout) (n : ℕ) (d : Mine) (process : Proc) → next_of process ≡ act.Begin → IsUnborn process → GoesOn process seen.Done → BeginsIn Fits l n d (begins n l.pages l.passes process)
 unfolding entered
 begins_process l n d process next unborn course s g o at =
     let b = fresh_run process in
@@ -131,6 +133,7 @@ begins_process l n d process next unborn course s g o at =
         notes = notes;
         runs = refl;
         pages = g.size ∙ o.contents;
+        passes = o.hands;
         past = refl;
         own = next_own s f n m Idle d at Act.Begin s1 b' t true past was;
         near = next_near s f n m Idle d at Act.Begin s1 b' t true past;
@@ -173,6 +176,7 @@ module _ (l : Layout) (n : ℕ) (d : Mine) (s : Pages Mine) (since : ℕ) (f : F
           notes = subst (λ (z : ℕ). Notes z d.number (Act.End answer) d e) (sym named.0) notes;
           runs = refl;
           pages = sym named.1;
+          passes = sym (f.counts n (Running since) d at (standing s f n since d at).1);
           own = subst (λ (z : ℕ). own z (trail_of e.trail) ≡ own z (trail_of d.trail)) (sym named.0) kept;
         },
       )

@@ -58,6 +58,7 @@ module _ (s : Pages Mine) (f : Fits s) (n since : ℕ) (d : Mine) (at : Stands s
           notes = subst (λ (z : ℕ). Notes z d.number act d then_known) (sym is_named.0) notes;
           runs = refl;
           pages = sym is_named.1;
+          passes = sym (f.counts n (Running since) d at standing.1);
           past = refl;
           own = next_own s f n d.number (Running since) d at act s1 b turned true d.past standing.4;
           near = next_near s f n d.number (Running since) d at act s1 b turned true d.past;

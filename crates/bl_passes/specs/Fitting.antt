@@ -19,7 +19,7 @@ use Rattle.bl_tables.specs.Knowing.{Run, bare as know}
 use Rattle.bl_store.specs.Pages.{Owner, Released, Open, Held, Retired, Stage, Idle, Running, Pages, Stands}
 use Rattle.bl_passes.specs.declared.known.Mine.{Mine}
 use Rattle.bl_passes.specs.Noting.{trail_of}
-use Rattle.bl_passes.specs.Seeing.{own}
+use Rattle.bl_passes.specs.Seeing.{own, AreWithin}
 
 abbrev pub name : ℕ → ℕ → Name
 name pass number = record { pass = pass; number = number }
@@ -30,7 +30,7 @@ unborn = Find (record { key = 0; stage = find.New })
 
 -- what a pass knows that has begun no process
 abbrev pub newcomer : Mine
-newcomer = record { pass = 0; pages = 0; number = 0; runs = false; state = unborn; past = []; trail = [] }
+newcomer = record { pass = 0; pages = 0; passes = 0; number = 0; runs = false; state = unborn; past = []; trail = [] }
 
 abbrev pub IsAnchor : Page → Type 0
 IsAnchor (Anchor a) = Unit {0}
@@ -80,3 +80,5 @@ pub record Fits (s : Pages Mine) : Type 0 where
   pub pages : (x : ℕ) (words : List ℕ) → get_elem? s.contents x ≡ some words → Shows x words (world.now.contents x)
   pub owners : (x : ℕ) (o : Owner) → get_elem? s.owners x ≡ some o → world.now.owner x ≡ owner_in s.hands o
   pub hands : (n : ℕ) (st : Stage) (d : Mine) → Stands s n st d → IsHand world n st d
+  pub within : AreWithin (length s.hands) world.trail
+  pub counts : (n : ℕ) (st : Stage) (d : Mine) → Stands s n st d → d.number ≢ 0 → d.passes ≡ length s.hands

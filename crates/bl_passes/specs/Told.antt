@@ -19,7 +19,7 @@ use Rattle.bl_courses.specs.Courses.{GoesOn}
 use Rattle.bl_store.specs.Pages.{Owner, Open}
 use Rattle.bl_passes.specs.declared.known.Mine.{Mine}
 use Rattle.bl_passes.specs.Noting.{trail_of}
-use Rattle.bl_passes.specs.Seeing.{IsSeen, own}
+use Rattle.bl_passes.specs.Seeing.{IsSeen, AreWithin, own}
 use Rattle.bl_passes.specs.Fitting.{name}
 
 -- the page that a process is to get, latch, put or open is one of so many
@@ -49,6 +49,7 @@ pub record Notes (by count : ℕ) (act : Act Page Reply) (d e : Mine) : Type 0 w
   pub trail : trail_of e.trail ≡ trail_of d.trail ++ (between ++ last ∷ [])
   pub event : last.event ≡ record { process = name by count; act = act }
   pub seen : IsSeen (trail_of e.trail)
+  pub within : AreWithin e.passes (trail_of e.trail)
   pub pass : e.pass ≡ by
   pub number : e.number ≡ count
 
@@ -57,6 +58,7 @@ pub record Steps (act : Act Page Reply) (d e : Mine) : Type 0 where
   pub notes : Notes d.pass d.number act d e
   pub runs : e.runs ≡ true
   pub pages : e.pages ≡ d.pages
+  pub passes : e.passes ≡ d.passes
   pub past : e.past ≡ d.past
   pub own : HasOwn e
   pub near : IsNear e.pages (next_of e.state)
@@ -86,24 +88,26 @@ abbrev pub refuses : Mine → ℕ → Mine → Type 0
 refuses d now e = Goes seen.Refused d e
 
 -- a process begins, the next of its pass
-pub record Begins (by many : ℕ) (process : Proc) (d e : Mine) : Type 0 where
+pub record Begins (by many among : ℕ) (process : Proc) (d e : Mine) : Type 0 where
   pub notes : Notes by (d.number + 1) Act.Begin d e
   pub runs : e.runs ≡ true
   pub pages : e.pages ≡ many
+  pub passes : e.passes ≡ among
   pub past : e.past ≡ own by (trail_of d.trail)
   pub own : HasOwn e
   pub near : IsNear e.pages (next_of e.state)
   pub course : GoesOn process seen.Done
   pub state : e.state ≡ course.new
 
-abbrev pub begins : ℕ → ℕ → Proc → Mine → ℕ → Mine → Type 0
-begins pass pages process d now e = Begins pass pages process d e
+abbrev pub begins : ℕ → ℕ → ℕ → Proc → Mine → ℕ → Mine → Type 0
+begins pass pages passes process d now e = Begins pass pages passes process d e
 
 -- the process has ended, and the entries of its pass are those of before
 pub record Finishes (answer : Option Reply) (d e : Mine) : Type 0 where
   pub notes : Notes d.pass d.number (Act.End answer) d e
   pub runs : e.runs ≡ false
   pub pages : e.pages ≡ d.pages
+  pub passes : e.passes ≡ d.passes
   pub own : own d.pass (trail_of e.trail) ≡ own d.pass (trail_of d.trail)
 
 abbrev pub ends : Mine → ℕ → Mine → Type 0

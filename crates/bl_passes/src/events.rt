@@ -7,13 +7,15 @@ use crate::known::Mine;
 use bl_store::{PagePlay, SweepPlay, TimePlay};
 use std::marker::{Brand, PhantomData};
 
-/// Which pass begins a process, in a store of how many pages, and which process.
+/// Which pass begins a process, in a store of how many pages and passes, and which process.
 pub trait Launch {
     ghost use Rattle.bl_proc.specs.declared.kinds.Proc.{Proc as Process};
 
     ghost pass: { ℕ };
 
     ghost pages: { ℕ };
+
+    ghost passes: { ℕ };
 
     ghost process: { Process };
 }
@@ -25,6 +27,8 @@ impl Launch for Brand {
 
     ghost pages = { 0 };
 
+    ghost passes = { 0 };
+
     ghost process = { unborn };
 }
 
@@ -34,7 +38,7 @@ pub struct Began<J> {
 }
 
 impl<J: Launch> TimePlay<Mine> for Began<J> {
-    ghost then = { begins J.pass J.pages J.process };
+    ghost then = { begins J.pass J.pages J.passes J.process };
 }
 
 /// The process ends, and has answered.
