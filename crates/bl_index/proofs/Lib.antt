@@ -6,3 +6,4 @@ pub mod Taken
 pub mod Stocks
 pub mod Ends
 pub mod Withins
+pub mod Alone

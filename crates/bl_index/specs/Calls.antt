@@ -1,9 +1,11 @@
 -- What a call tells the pass that makes it.
 use Rattle.std.specs.Prelude.{◌≡◌, ℕ, ◌++◌, Some, None, List, [], ◌∷◌, Result, IfOk, IfErr}
+use Rattle.bl_model.specs.Map.{Map, empty}
+use Rattle.bl_model.specs.History.{final_map}
 use Rattle.bl_model.specs.declared.operation.Op.{Op}
 use Rattle.bl_model.specs.declared.operation.Reply.{Reply}
 use Rattle.bl_page.specs.Machine.{Name}
-use Rattle.bl_trails.specs.Trails.{Trail}
+use Rattle.bl_trails.specs.Trails.{Trail, history_of}
 use Rattle.bl_store.specs.Hands.{known, IsOf}
 use Rattle.bl_passes.specs.Noting.{trail_of}
 use Rattle.bl_passes.specs.Seeing.{IsSeen, own, Holds}
@@ -28,6 +30,10 @@ number_of pass = pass.hand.number
 -- all that has happened in the index, up to the pass's own last event
 abbrev pub trail : Pass → Trail
 trail pass = trail_of (known pass.hand.seat).trail
+
+-- the map after all that a trail tells
+abbrev pub map_of : Trail → Map
+map_of trail = final_map empty (history_of trail)
 
 -- The same pass of the same index
 abbrev pub IsSamePass : Pass → Pass → Type 0

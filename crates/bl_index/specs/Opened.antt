@@ -29,7 +29,7 @@ IsRefusal config Memory = ((4 ≤ config.pages) × (config.pages ≤ 65536)) × 
 -- stands at the opening index.
 pub record IsOpened (config : Config) (index : Index) (passes : List Pass) : Type 0 where
   pub pages : pages_of index ≡ config.pages
-  pub passes : passes_of index ≡ config.passes
+  pub passes_are : passes_of index ≡ config.passes
   pub count : length passes ≡ config.passes
   pub each : (n : ℕ) (pass : Pass) → get_elem? passes n ≡ some pass → IsPassOf index pass × (number_of pass ≡ n) × (trail pass ≡ [])
   pub seen : IsSeen []
