@@ -106,7 +106,8 @@ module _ (contents : List (List ℕ)) (o : AreOpening contents) where
     named = λ begun. absurd (begun refl);
     stage = (refl, λ x. none_held x (name n 0));
     later = λ m l. (refl, blank_is);
-    begins = ([], refl);
+    begins = ([], refl, tt);
+    counted = tt;
     mine = refl;
   }
 
@@ -121,4 +122,5 @@ module _ (contents : List (List ℕ)) (o : AreOpening contents) where
     pages = words_at;
     owners = λ x own e. (let is = of_map first_owner contents x own e in owner_at (replicate passes (Idle, newcomer)) x is.0 is.1 ∙ ap (owner_in (replicate passes (Idle, newcomer))) is.2);
     hands = λ n st d e. subst (λ (z : Stage × Mine). IsHand (first_world (length contents)) n z.0 z.1) (of_all passes (Idle, newcomer) n (st, d) e) (hand_at n);
+    busy = λ p since e. absurd (let both : machine.Waiting ≡ machine.Running since = e in cc);
   }

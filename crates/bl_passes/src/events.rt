@@ -93,9 +93,24 @@ impl TimePlay<Mine> for Refused {
     ghost then = { refuses };
 }
 
-/// Pages were released.
-pub struct Swept;
+/// Which pass sweeps, and by its process of which number.
+pub trait Sweeper {
+    ghost pass: { ℕ };
 
-impl SweepPlay<Mine> for Swept {
-    ghost then = { sweeps };
+    ghost number: { ℕ };
+}
+
+impl Sweeper for Brand {
+    ghost pass = { 0 };
+
+    ghost number = { 0 };
+}
+
+/// Pages were released.
+pub struct Swept<J> {
+    sweeper: PhantomData<J>,
+}
+
+impl<J: Sweeper> SweepPlay<Mine> for Swept<J> {
+    ghost then = { sweeps J.pass J.number };
 }
