@@ -20,13 +20,14 @@ use Rattle.bl_store.specs.Pages.{Owner, Stage, Idle, Running, Pages, Stands}
 use Rattle.bl_passes.specs.declared.known.Mine.{Mine}
 use Rattle.bl_passes.specs.Noting.{trail_of, all_noted}
 use Rattle.bl_passes.specs.Seeing.{IsSeen, AreWithin, own}
-use Rattle.bl_passes.specs.Fitting.{name, Shows, owner_in, IsAtStage, IsHand, Fits}
+use Rattle.bl_passes.specs.Fitting.{name, Shows, owner_in, IsAtStage, IsHand, IsRun, Fits}
 use Rattle.bl_passes.specs.Told.{IsNear, HasOwn, Notes}
 use Rattle.bl_passes.proofs.Notings.{trail_back}
 use Rattle.bl_passes.proofs.Stages.{turn_mark, after, own_after, hand_self, hand_else}
 use Rattle.bl_passes.proofs.Sights.{world_seen, near_pages}
 use Rattle.bl_passes.proofs.Shown.{at_below}
 use Rattle.bl_passes.proofs.Within.{within_push}
+use Rattle.bl_passes.proofs.Runners.{runs_after}
 
 module _ (s : Pages Mine) (f : Fits s) (n m : ℕ) (st : Stage) (d : Mine) (at : Stands s n st d) (a : Act Page Reply) (s1 : State Page) (b : Run) (t : Turned know f.world (name n m) a s1 b) (runs : Bool) (past : List Entry) where
   abbrev pub next_known : Mine
@@ -45,8 +46,10 @@ module _ (s : Pages Mine) (f : Fits s) (n m : ℕ) (st : Stage) (d : Mine) (at :
       → ((x : ℕ) (words : List ℕ) → get_elem? s'.contents x ≡ some words → Shows x words (s1.contents x))
       → ((x : ℕ) (o : Owner) → get_elem? s'.owners x ≡ some o → s1.owner x ≡ owner_in s'.hands o)
       → IsAtStage t.next n st' next_known
+      → ((since : ℕ) → st ≡ Running since → m ≡ d.number)
+      → ((since : ℕ) → s1.phase (name n m) ≡ machine.Running since → st' ≡ Running since)
       → Fits s'
-  advance s' st' hands size le clock others kept pages owners stage = record {
+  advance s' st' hands size le clock others kept pages owners stage current on = record {
     world = t.next;
     good = t.good;
     opening = subst Opening (sym t.extends.start) f.opening;
@@ -64,6 +67,7 @@ module _ (s : Pages Mine) (f : Fits s) (n m : ℕ) (st : Stage) (d : Mine) (at :
         (λ (z : (k ≡ n) × ((st', next_known) ≡ (sg, g))). ap (λ (u : Stage × Mine). u.1.passes) (sym z.1) ∙ sym (hands_same s' st' hands))
         (λ (z : (k ≢ n) × (get_elem? s.hands k ≡ some (sg, g))). f.counts k sg g z.1 begun ∙ sym (hands_same s' st' hands))
         (at_set s.hands n k (st', next_known) (sg, g) (ap (λ (z : List (Stage × Mine)). get_elem? z k) (sym hands) ∙ at_k));
+    busy = λ p since runs. subst (λ (z : List (Stage × Mine)). IsRun z p since) (sym hands) (runs_after s.hands n m st st' d next_known at refl f.world.now.phase s1.phase others f.busy current on p since (ap (λ (z : State Page). z.phase p) (sym t.now) ∙ runs));
   }
 
   pub next_seen : IsSeen (trail_of next_known.trail)

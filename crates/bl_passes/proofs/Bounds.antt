@@ -89,10 +89,12 @@ module _ (s : Pages Mine) (f : Fits s) (n : ℕ) (d : Mine) (at : Stands s n Idl
       stage = stage_in k st e at_k (not_now k st e at_k h) h.stage;
       later = λ j l. later_in k j (h.later j l);
       begins = h.begins;
+      counted = h.counted;
       mine = h.mine;
     };
     within = f.within;
     counts = f.counts;
+    busy = f.busy;
   }
 
 -- the anchor of a tree whose one page is page 1
@@ -128,7 +130,9 @@ begins_process l n d process next unborn course s g o at =
       advance s f n m Idle d at Act.Begin s1 b' t true past (told s n (Running s.clock) e) (Running s.clock) refl refl (omega arith) (omega arith)
           (λ q ne. phase.others q ne) (λ x q ne z. z) g.pages
           (λ x own_ z. g.owners x own_ z ∙ sym (other_owner s.hands n (Running s.clock, e) own_ (λ is. h.stage.1 x (g.owners x own_ z ∙ (ap (owner_in s.hands) is ∙ held_by s.hands n (Idle, d) at)))))
-          (next_stage s f n m Idle d at Act.Begin s1 b' t true past s.clock refl (λ z. omega arith) phase.at was),
+          (next_stage s f n m Idle d at Act.Begin s1 b' t true past s.clock refl (λ z. omega arith) phase.at was)
+          (λ z i. absurd (let both : Idle ≡ Running z = i in cc))
+          (λ z i. (let both : machine.Running s.clock ≡ machine.Running z = sym phase.at ∙ i in let same : s.clock ≡ z = cc in ap Running same)),
       record {
         notes = notes;
         runs = refl;
@@ -171,7 +175,9 @@ module _ (l : Layout) (n : ℕ) (d : Mine) (s : Pages Mine) (since : ℕ) (f : F
         advance s f n d.number (Running since) d at (Act.End answer) s1 b t false d.past (told s n Idle e) Idle refl refl (omega arith) f.clock
             (λ q ne. phase.others q ne) (λ x q ne z. z) f.pages
             (λ x own_ z. f.owners x own_ z ∙ sym (same_owner s.hands n (Running since, d) (Idle, e) own_ at refl))
-            (refl, λ x z. can.1 x (ap (λ (y : State Page). y.owner x) (sym t.now) ∙ z)),
+            (refl, λ x z. can.1 x (ap (λ (y : State Page). y.owner x) (sym t.now) ∙ z))
+            (λ z i. refl)
+            (λ z i. absurd (let both : machine.Ended ≡ machine.Running z = sym phase.at ∙ i in cc)),
         record {
           notes = subst (λ (z : ℕ). Notes z d.number (Act.End answer) d e) (sym named.0) notes;
           runs = refl;

@@ -107,7 +107,8 @@ module _ (contents : List (List ℕ)) (o : AreOpening contents) where
     named = λ begun. absurd (begun refl);
     stage = (refl, λ x. none_held x (name n 0));
     later = λ m l. (refl, blank_is);
-    begins = ([], refl);
+    begins = ([], refl, tt);
+    counted = tt;
     mine = refl;
   }
 
@@ -124,4 +125,5 @@ module _ (contents : List (List ℕ)) (o : AreOpening contents) where
     hands = λ n st d e. subst (λ (z : Stage × Mine). IsHand (first_world (length contents)) n z.0 z.1) (of_all passes (Idle, newcomer) n (st, d) e) (hand_at n);
     within = none_within (length (replicate passes (Idle, newcomer)));
     counts = λ n st d e begun. absurd (begun (ap (λ (z : Stage × Mine). z.1.number) (sym (of_all passes (Idle, newcomer) n (st, d) e))));
+    busy = λ p since e. absurd (let both : machine.Waiting ≡ machine.Running since = e in cc);
   }

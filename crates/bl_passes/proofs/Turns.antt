@@ -83,6 +83,8 @@ module _ (s : Pages Mine) (f : Fits s) (n since : ℕ) (d : Mine) (at : Stands s
         advance s f n d.number (Running since) d at act s1 b turned true d.past (told s2 n (Running since) then_known) (Running since) set_is size (omega arith) clock (λ q ne. phases q) kept pages
         (λ x o e. owners x o e ∙ sym (ap (λ (z : List (Stage × Mine)). owner_in z o) set_is ∙ same_owner s.hands n (Running since, d) (Running since, then_known) o at refl))
         (next_stage s f n d.number (Running since) d at act s1 b turned true d.past since refl standing.1 (phases mine ∙ standing.2) standing.4)
+        (λ z e. refl)
+        (λ z e. (let both : machine.Running since ≡ machine.Running z = sym (phases mine ∙ standing.2) ∙ e in let same : since ≡ z = cc in ap Running same))
 
 -- a hand that knows that it runs a process
 pub runs_on : (s : Pages Mine) (f : Fits s) (n : ℕ) (st : Stage) (d : Mine) → Stands s n st d → d.runs ≡ true → (since : ℕ) × (st ≡ Running since)

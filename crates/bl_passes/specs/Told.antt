@@ -1,9 +1,9 @@
 -- What each event tells the pass that makes it.
-use Rattle.std.specs.Prelude.{true, false, ◌≡◌, ◌≢◌, ℕ, ◌+◌, ◌<◌, ◌++◌, Option, None, Some, List, [], ◌∷◌}
+use Rattle.std.specs.Prelude.{true, false, ◌≡◌, ◌≢◌, ◌⊎◌, ℕ, ◌+◌, ◌<◌, ◌++◌, Option, None, Some, List, [], ◌∷◌}
 use Rattle.bl_model.specs.declared.operation.Reply.{Reply}
 use Rattle.bl_page.specs.declared.page.Page.{Page}
 use Rattle.bl_page.specs.Words.{words_of}
-use Rattle.bl_page.specs.Machine.{Act}
+use Rattle.bl_page.specs.Machine.{Name, Act}
 use Rattle.bl_trails.specs.Trails.{Mark, Trail, entries_at}
 use Rattle.bl_ways.specs.declared.acts.Action.{Action}
 use Rattle.bl_ways.specs.declared.acts.Action.TheVariants as action
@@ -13,7 +13,7 @@ use Rattle.bl_proc.specs.declared.kinds.Proc.{Proc}
 use Rattle.bl_proc.specs.Processes.{next_of}
 use Rattle.bl_tables.specs.Turns.{event_of}
 use Rattle.bl_tables.specs.Knowing.{Run, bare as know, end_of_proc}
-use Rattle.bl_steps.specs.Worlds.{Stage}
+use Rattle.bl_steps.specs.Worlds.{Stage, Each}
 use Rattle.bl_starts.specs.Blank.{IsBlank}
 use Rattle.bl_courses.specs.Courses.{GoesOn}
 use Rattle.bl_store.specs.Pages.{Owner, Open}
@@ -116,12 +116,26 @@ ends d now e = Finishes (end_of_proc d.state) d e
 abbrev pub gives_up : Mine → ℕ → Mine → Type 0
 gives_up d now e = Finishes None d e
 
--- The releases of a sweep: events of the pass that say nothing.
-pub record Sweeps (d e : Mine) : Type 0 where
-  pub pass : e.pass ≡ d.pass
+-- p released a page there, and said nothing
+abbrev pub IsRelease : Name → Mark → Type 0
+IsRelease p m = (x : ℕ) × (m.event ≡ record { process = p; act = Act.Release x }) × (m.said ≡ None)
 
-abbrev pub sweeps : Mine → Mine → Type 0
-sweeps d e = e ≡ d
+-- Of so many passes, pages were released by this one's process of that count, which is a process of its own: before its first release the pass
+-- had none of it, and all that the pass does meanwhile is to release pages.
+pub record Sweeps (by count among : ℕ) (d e : Mine) : Type 0 where
+  pub more : Trail
+  pub trail : trail_of e.trail ≡ trail_of d.trail ++ more
+  pub mine : Each (λ (m : Mark). m.event.process.pass ≡ by → IsRelease (name by count) m) more
+  pub fresh : d.number < count → Each (λ (m : Mark). m.event.process ≢ name by count) (trail_of d.trail)
+  pub seen : IsSeen (trail_of e.trail)
+  pub within : AreWithin among (trail_of e.trail)
+  pub own : own by (trail_of e.trail) ≡ own by (trail_of d.trail)
+  pub number : e.number ≡ count
+  pub runs : e.runs ≡ false
+
+-- or no page was released
+abbrev pub sweeps : ℕ → ℕ → ℕ → Mine → Mine → Type 0
+sweeps by count among d e = (e ≡ d) ⊎ Sweeps by count among d e
 
 -- a process that may end at once: it runs, has said nothing, and holds nothing
 pub record MayGiveUp (state : Proc) : Type 0 where

@@ -97,9 +97,28 @@ impl TimePlay<Mine> for Refused {
     ghost then = { refuses };
 }
 
-/// Pages were released.
-pub struct Swept;
+/// Which pass sweeps, by its process of which number, and how many passes there are.
+pub trait Sweeper {
+    ghost pass: { ℕ };
 
-impl SweepPlay<Mine> for Swept {
-    ghost then = { sweeps };
+    ghost number: { ℕ };
+
+    ghost passes: { ℕ };
+}
+
+impl Sweeper for Brand {
+    ghost pass = { 0 };
+
+    ghost number = { 0 };
+
+    ghost passes = { 0 };
+}
+
+/// Pages were released.
+pub struct Swept<J> {
+    sweeper: PhantomData<J>,
+}
+
+impl<J: Sweeper> SweepPlay<Mine> for Swept<J> {
+    ghost then = { sweeps J.pass J.number J.passes };
 }
