@@ -1,5 +1,6 @@
 pub mod Notings
 pub mod Entries
+pub mod Doings
 pub mod Stages
 pub mod Sights
 pub mod Advance
