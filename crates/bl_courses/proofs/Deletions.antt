@@ -22,6 +22,7 @@ use Rattle.bl_proc.specs.declared.kinds.Proc.TheVariants as proc
 use Rattle.bl_proc.specs.Processes.{Takes}
 use Rattle.bl_courses.specs.Courses.{GoesOn}
 use Rattle.bl_courses.specs.One.{One}
+use Rattle.bl_courses.proofs.Cases.{came_on, came_at, came_as, not_both, on_one, over_one, not_over}
 use Rattle.bl_courses.proofs.Ways.{approach_one, here_leads}
 use Rattle.bl_courses.proofs.Changes.{enter_one, drop_one, change_one}
 use Rattle.bl_courses.proofs.Leaves.{leaf_covers, leaf_lists, leaf_holds, leaf_loses}
@@ -31,27 +32,6 @@ use Rattle.bl_proc.specs.declared.deleting.DeleteStage.TheVariants.{New, Coming,
 use Rattle.bl_proc.specs.declared.deleting.DeleteReply.{DeleteReply}
 use Rattle.bl_proc.specs.declared.deleting.DeleteReply.TheVariants as reply
 use Rattle.bl_proc.specs.Deletes.{delete_reply, delete_next_in, delete_needs_in, delete_answer_in, DeleteArrives, DeleteGoes}
-
-came_on : (a b : Approach) → came.On a ≡ came.On b → a ≡ b
-came_on a b e = cc
-
-came_at : (x y : ℕ) (c d : Page) → came.Here x c ≡ came.Here y d → x ≡ y
-came_at x y c d e = cc
-
-came_as : (x y : ℕ) (c d : Page) → came.Here x c ≡ came.Here y d → c ≡ d
-came_as x y c d e = cc
-
-not_both : (a : Approach) (x : ℕ) (c : Page) → came.On a ≡ came.Here x c → ⊥
-not_both a x c e = cc
-
-on_one : (a b : Change) → change.On a ≡ change.On b → a ≡ b
-on_one a b e = cc
-
-over_one : (o p : Outcome) → change.Over o ≡ change.Over p → o ≡ p
-over_one o p e = cc
-
-not_over : (a : Change) (o : Outcome) → change.On a ≡ change.Over o → ⊥
-not_over a o e = cc
 
 module _ (key : ℕ) (x : ℕ) (c : Page) where
   absent_only : (node_of c).look key ≡ None → (other : DeleteStage) → DeleteArrives key x c other → other ≡ Absent x

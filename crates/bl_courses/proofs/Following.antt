@@ -31,14 +31,14 @@ use Rattle.bl_proc.specs.Deletes.{delete_next_in, delete_needs_in, delete_answer
 use Rattle.bl_proc.specs.Processes.{next_of, needs_of, Takes}
 use Rattle.bl_courses.specs.Frames.{change_frames, insert_frames, delete_frames, Wants, Leaves, Follows}
 
-approach_wants : (a : Approach) (needs : Option (ℕ × ℕ)) → Wants (approach_next a) needs 0
+pub approach_wants : (a : Approach) (needs : Option (ℕ × ℕ)) → Wants (approach_next a) needs 0
 approach_wants way.Start needs = refl
 approach_wants (way.At x) needs = refl
 approach_wants (way.Latching x) needs = refl
 approach_wants (way.Latched x) needs = refl
 approach_wants (way.Leaving x to) needs = refl
 
-change_wants : (c : Change) → Wants (change_next c) (change_needs c) (change_frames c)
+pub change_wants : (c : Change) → Wants (change_next c) (change_needs c) (change_frames c)
 change_wants (change.Putting u v) = (refl, refl, refl)
 change_wants (change.Taking u) = (refl, refl, refl)
 change_wants (change.PuttingNew u) = (λ e. omega arith)
@@ -79,7 +79,7 @@ delete_wants p = wants p.stage
     wants (delete.Over r) = refl
 
 -- a change that goes on, and one that is over
-change_leaves : (c d : Change) (what : Seen) → Changes c what (changed.On d) → Leaves (change_next c) (change_needs c) what (change_frames c) (change_frames d)
+pub change_leaves : (c d : Change) (what : Seen) → Changes c what (changed.On d) → Leaves (change_next c) (change_needs c) what (change_frames c) (change_frames d)
 change_leaves (change.Putting u v) d' seen.Done t = ap change_frames t
 change_leaves (change.Putting u v) d' (seen.Words q) t = absurd t
 change_leaves (change.Putting u v) d' (seen.Took y) t = absurd t
@@ -128,7 +128,7 @@ change_leaves (change.Opening u v) d' (seen.Blocks b) t = absurd t
 change_leaves (change.Opening u v) d' seen.Missed t = absurd t
 change_leaves (change.Opening u v) d' seen.Refused t = absurd t
 
-change_over : (c : Change) (o : Outcome) (what : Seen) → Changes c what (changed.Over o) → Leaves (change_next c) (change_needs c) what (change_frames c) 0
+pub change_over : (c : Change) (o : Outcome) (what : Seen) → Changes c what (changed.Over o) → Leaves (change_next c) (change_needs c) what (change_frames c) 0
 change_over (change.Putting u v) o seen.Done t = absurd t
 change_over (change.Putting u v) o (seen.Words d) t = absurd t
 change_over (change.Putting u v) o (seen.Took y) t = absurd t
@@ -172,21 +172,21 @@ change_over (change.Opening u v) o (seen.Blocks b) t = absurd t
 change_over (change.Opening u v) o seen.Missed t = absurd t
 change_over (change.Opening u v) o seen.Refused t = absurd t
 
-approach_leaves : (a : Approach) (what : Seen) → Leaves (approach_next a) None what 0 0
+pub approach_leaves : (a : Approach) (what : Seen) → Leaves (approach_next a) None what 0 0
 approach_leaves way.Start what = refl
 approach_leaves (way.At x) what = refl
 approach_leaves (way.Latching x) what = refl
 approach_leaves (way.Latched x) what = refl
 approach_leaves (way.Leaving x to) what = refl
 
-not_begin_way : (a : Approach) → approach_next a ≢ act.Begin
+pub not_begin_way : (a : Approach) → approach_next a ≢ act.Begin
 not_begin_way way.Start e = cc
 not_begin_way (way.At x) e = cc
 not_begin_way (way.Latching x) e = cc
 not_begin_way (way.Latched x) e = cc
 not_begin_way (way.Leaving x to) e = cc
 
-not_begin : (c : Change) → change_next c ≢ act.Begin
+pub not_begin : (c : Change) → change_next c ≢ act.Begin
 not_begin (change.Putting u v) e = cc
 not_begin (change.Taking u) e = cc
 not_begin (change.PuttingNew u) e = cc
@@ -194,7 +194,7 @@ not_begin (change.PuttingOld u) e = cc
 not_begin (change.OpeningNew u v s) e = cc
 not_begin (change.Opening u v) e = cc
 
-came_frames_insert : (x key value : ℕ) (c : Page) (e : Change) → EntersPair x c key value e → change_frames e ≡ 0
+pub came_frames_insert : (x key value : ℕ) (c : Page) (e : Change) → EntersPair x c key value e → change_frames e ≡ 0
 came_frames_insert x key value c (change.Putting u v) t = refl
 came_frames_insert x key value c (change.Taking u) t = refl
 came_frames_insert x key value c (change.PuttingNew u) t = absurd t

@@ -1,10 +1,14 @@
 pub mod Onwards
+pub mod Cases
 pub mod Searches
 pub mod Rows
 pub mod Pages
 pub mod Ways
 pub mod Changes
+pub mod Growths
 pub mod Leaves
 pub mod Insertions
 pub mod Deletions
+pub mod Posts
 pub mod Following
+pub mod PostsFollowing

@@ -1,5 +1,5 @@
 -- A page leads somewhere, and to one place alone.
-use Rattle.std.proofs.Common.{ℕ, ◌≡◌, ◌<◌, ◌≤◌, ◌⊎◌, Some, None, arith, ap, sym, ◌∙◌, refl, inl, inr}
+use Rattle.std.proofs.Common.{ℕ, ◌≡◌, ◌<◌, ◌≤◌, ◌^◌, ◌⊎◌, Some, None, arith, ap, sym, ◌∙◌, refl, inl, inr}
 use Rattle.std.proofs.lemmas.Bool.{cases_lt, cases_eq}
 use Rattle.bl_page.specs.declared.page.Page.{Page}
 use Rattle.bl_page.specs.declared.page.Inner.{Inner as InnerPage}
@@ -29,7 +29,7 @@ low_below (Inner i) t = i.bounds
 low_below (Dead e) t = absurd t
 
 -- the greatest listed key not above a key has one child
-child_one : (look : Look) (k x y : ℕ) → IsChildOf look k x → IsChildOf look k y → x ≡ y
+pub child_one : (look : Look) (k x y : ℕ) → IsChildOf look k x → IsChildOf look k y → x ≡ y
 child_one look k x y a b =
     let up = a.greatest b.key y b.listed b.reached in
     let down = b.greatest a.key x a.listed a.reached in
@@ -74,7 +74,7 @@ module _ (c : Page) (key level : ℕ) where
   leads_one Here (Down y) a b = absurd (down_here y b a)
   leads_one Here Here a b = refl
 
-child_of : (i : InnerPage) (key : ℕ) → IsWithin i.low i.high key → (x : ℕ) × IsChildOf (map_of i.children.items) key x
+pub child_of : (i : InnerPage) (key : ℕ) → IsWithin i.low i.high key → (x : ℕ) × IsChildOf (map_of i.children.items) key x
 child_of i key in_it =
     let some = place-some i.low key i.children.items i.first in_it.0 in
     let is : IsChildFor i.children.items key (child_before (place key i.children.items) i.children.items) = child_at_place 0 key i.children.items i.order some in
@@ -106,3 +106,10 @@ leads_some (Inner i) key level = elim (cases_lt key i.low) [
   ]
 ]
 leads_some (Dead d) key level = (Right d.right, (refl, inl tt))
+
+-- a link to the right is a page's number, or 0
+pub right_small : (c : Page) (key level y : ℕ) → Leads c key level (Right y) → y < 2 ^ 16
+right_small (Anchor a) key level y h = elim h.1 [ inl d ↦ absurd d | inr t ↦ absurd t.0 ]
+right_small (Leaf l) key level y h = (let e = h.0 in let link = l.link in omega arith)
+right_small (Inner i) key level y h = (let e = h.0 in let link = i.link in omega arith)
+right_small (Dead d) key level y h = (let e = h.0 in let link = d.link in omega arith)

@@ -19,7 +19,7 @@ use Rattle.bl_rearrange.proofs.EnteredLemmas.{length-entered}
 use Rattle.bl_rearrange.proofs.Parts.{entered_is, halves_are, dropped_is}
 use Rattle.bl_courses.proofs.Rows.{rows_one, front_one, back_one, IsParted, parted_one}
 
-vec_one : {A : Type 0} (v w : ArrayVec A) → v.items ≡ w.items → v ≡ w
+pub vec_one : {A : Type 0} (v w : ArrayVec A) → v.items ≡ w.items → v ≡ w
 vec_one v w e = ap (λ xs. record { items = xs }) e
 
 pub rising : (c : Page) → RisesFrom 0 (pairs_of c)

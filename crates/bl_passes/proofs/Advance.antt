@@ -9,10 +9,11 @@ use Rattle.bl_model.specs.declared.operation.Reply.{Reply}
 use Rattle.bl_page.specs.declared.page.Page.{Page}
 use Rattle.bl_page.specs.Machine.{Name, State, Act}
 use Rattle.bl_page.specs.Machine as machine
-use Rattle.bl_trails.specs.Trails.{Mark, Trail, entries_at}
+use Rattle.bl_trails.specs.Trails.{Mark, Trail, entries_at, marks_of}
 use Rattle.bl_steps.specs.Worlds.{World, IsGood}
 use Rattle.bl_starts.specs.Opening.{Opening}
 use Rattle.bl_proc.specs.Processes.{next_of}
+use Rattle.bl_tables.specs.Logs.{proc_log}
 use Rattle.bl_tables.specs.Turns.{Turned}
 use Rattle.bl_tables.specs.Knowing.{Run, bare as know}
 use Rattle.bl_tables.proofs.Near.{bare_near as near}
@@ -103,11 +104,12 @@ module _ (s : Pages Mine) (f : Fits s) (n m : ℕ) (st : Stage) (d : Mine) (at :
   }
 
   -- where it runs on
-  pub next_stage : (since : ℕ) → runs ≡ true → m ≢ 0 → s1.phase (name n m) ≡ machine.Running since → own n f.world.trail ≡ past ++ entries_at (name n m) (know (f.world.proc (name n m))).said → IsAtStage t.next n (Running since) next_known
-  next_stage since on begun phase was = (
+  pub next_stage : (since : ℕ) → runs ≡ true → m ≢ 0 → s1.phase (name n m) ≡ machine.Running since → own n f.world.trail ≡ past ++ entries_at (name n m) (know (f.world.proc (name n m))).said → proc_log b.state (marks_of (name n m) t.next.trail) → IsAtStage t.next n (Running since) next_known
+  next_stage since on begun phase was log = (
     on,
     begun,
     ap (λ (z : State Page). z.phase (name n m)) t.now ∙ phase,
     ap (λ (r : Run). r.state) t.extends.proc.at,
     own_after f.world f.good n m a s1 b t past was,
+    log,
   )

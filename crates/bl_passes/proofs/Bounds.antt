@@ -9,7 +9,7 @@ use Rattle.bl_page.specs.declared.page.Page.{Page}
 use Rattle.bl_page.specs.declared.page.Page.TheVariants.{Anchor}
 use Rattle.bl_page.specs.Machine.{Name, State, Act}
 use Rattle.bl_page.specs.Machine as machine
-use Rattle.bl_trails.specs.Trails.{Said, Mark, Trail, entries_at, IsMarked}
+use Rattle.bl_trails.specs.Trails.{Said, Mark, Trail, entries_at, marks_of, IsMarked}
 use Rattle.bl_trails.proofs.Pushes.{name_cases, SaysAt-last, DoesAt-last}
 use Rattle.bl_steps.specs.Worlds.{World, IsGood}
 use Rattle.bl_steps.proofs.After.{put_name, is_put_name}
@@ -18,9 +18,11 @@ use Rattle.bl_ways.specs.declared.acts.Action.TheVariants as act
 use Rattle.bl_ways.specs.declared.acts.Seen.TheVariants as seen
 use Rattle.bl_proc.specs.declared.kinds.Proc.{Proc}
 use Rattle.bl_proc.specs.Processes.{next_of}
+use Rattle.bl_tables.specs.Logs.{proc_log}
 use Rattle.bl_tables.specs.Turns.{Does, Turned}
 use Rattle.bl_tables.specs.Knowing.{Run, bare as know, know_of, end_of_proc, run_next}
 use Rattle.bl_tables.proofs.Starting.{with_proc, bare_enters_good as enters_good}
+use Rattle.bl_tables.proofs.Logged.{early_log}
 use Rattle.bl_tables.proofs.GivingUp.{given_up, give_up}
 use Rattle.bl_courses.specs.Courses.{GoesOn}
 use Rattle.bl_layout.specs.declared.layout.Layout.{Layout}
@@ -33,9 +35,10 @@ use Rattle.bl_passes.specs.Told.{MayGiveUp, IsUnborn, Notes, Begins, Finishes, b
 use Rattle.bl_passes.proofs.Notings.{trail_back}
 use Rattle.bl_passes.proofs.Entries.{own-mine}
 use Rattle.bl_passes.proofs.Stages.{pass_of, number_of, turn_mark}
+use Rattle.bl_passes.proofs.Doings.{log_after}
 use Rattle.bl_passes.proofs.Shown.{same_owner, other_owner, held_by}
 use Rattle.bl_passes.proofs.Advance.{next_known, advance, next_notes, next_near, next_own, next_stage}
-use Rattle.bl_passes.proofs.Turns.{turn_of, standing, is_named, turned}
+use Rattle.bl_passes.proofs.Turns.{turn_of, standing, is_named, turned, then_log}
 
 -- Before a process begins, it stands in the world as one that has done nothing.
 module _ (s : Pages Mine) (f : Fits s) (n : ℕ) (d : Mine) (at : Stands s n Idle d) (b : Run) (blank : IsBlank (know b)) where
@@ -61,7 +64,7 @@ module _ (s : Pages Mine) (f : Fits s) (n : ℕ) (d : Mine) (at : Stands s n Idl
   stage_in k Idle e at_k ne h = h
   stage_in k (Running since) e at_k ne h =
       let same = kept_proc (name k e.number) ne in
-      (h.0, h.1, h.2, ap (λ (r : Run). r.state) same ∙ h.3, h.4 ∙ ap (λ (r : Run). e.past ++ entries_at (name k e.number) (know r).said) (sym same))
+      (h.0, h.1, h.2, ap (λ (r : Run). r.state) same ∙ h.3, h.4 ∙ ap (λ (r : Run). e.past ++ entries_at (name k e.number) (know r).said) (sym same), h.5)
 
   -- the process to come is none that a hand runs
   not_now : (k : ℕ) (st : Stage) (e : Mine) → Stands s k st e → IsHand f.world k st e → name k e.number ≢ next_name
@@ -121,6 +124,8 @@ begins_process l n d process next unborn course s g o at =
     let t : Turned know w p Act.Begin s1 (run_next (w.proc p) seen.Done course.new) = turn_of w p process seen.Done s1 f.good (ap (λ (r : Run). r.state) here) course act.Begin next tt does in
     let b' = run_next (w.proc p) seen.Done course.new in
     let h = g.hands n Idle d at in
+    let early : proc_log process (marks_of p w.trail) = early_log b blank.stage (marks_of p w.trail) in
+    let log : proc_log course.new (marks_of p t.next.trail) = log_after w p process seen.Done course act.Begin s1 b' t next tt early in
     let past : List Entry = own n (trail_of d.trail) in
     let silent : entries_at p (know (w.proc p)).said ≡ [] = ap (entries_at p) (ap (λ (r : Run). (know r).said) here ∙ blank.said) in
     let was : own n w.trail ≡ past ++ entries_at p (know (w.proc p)).said = h.mine ∙ (sym (append-nil past) ∙ ap (λ (z : List Entry). past ++ z) (sym silent)) in
@@ -130,7 +135,7 @@ begins_process l n d process next unborn course s g o at =
       advance s f n m Idle d at Act.Begin s1 b' t true past (told s n (Running s.clock) e) (Running s.clock) refl refl (omega arith) (omega arith)
           (λ q ne. phase.others q ne) (λ x q ne z. z) g.pages
           (λ x own_ z. g.owners x own_ z ∙ sym (other_owner s.hands n (Running s.clock, e) own_ (λ is. h.stage.1 x (g.owners x own_ z ∙ (ap (owner_in s.hands) is ∙ held_by s.hands n (Idle, d) at)))))
-          (next_stage s f n m Idle d at Act.Begin s1 b' t true past s.clock refl (λ z. omega arith) phase.at was)
+          (next_stage s f n m Idle d at Act.Begin s1 b' t true past s.clock refl (λ z. omega arith) phase.at was log)
           (λ z i. absurd (let both : Idle ≡ Running z = i in cc))
           (λ z i. (let both : machine.Running s.clock ≡ machine.Running z = sym phase.at ∙ i in let same : s.clock ≡ z = cc in ap Running same)),
       record {
@@ -156,7 +161,7 @@ end_silent trail m answer is marked (Some said) e = (
 
 module _ (l : Layout) (n : ℕ) (d : Mine) (s : Pages Mine) (since : ℕ) (f : Fits s) (o : IsOrderly l s) (at : Stands s n (Running since) d) (answer : Option Reply) (b : Run)
     (t : Turned know f.world (name n d.number) (Act.End answer) (record f.world.now { phase = put_name (name n d.number) machine.Ended f.world.now.phase }) b) where
-  pub finishes : HoldsNone s n × (e : Mine) × Fits (told s n Idle e) × Finishes answer d e
+  pub finishes : HoldsNone s n × (e : Mine) × Fits (told s n Idle e) × Finishes answer d e × (trail_of e.trail ≡ t.next.trail)
   finishes =
       let w = f.world in
       let p = name n d.number in
@@ -185,6 +190,7 @@ module _ (l : Layout) (n : ℕ) (d : Mine) (s : Pages Mine) (since : ℕ) (f : F
           passes = sym (f.counts n (Running since) d at (standing s f n since d at).1);
           own = subst (λ (z : ℕ). own z (trail_of e.trail) ≡ own z (trail_of d.trail)) (sym named.0) kept;
         },
+        trail_back t.next.trail,
       )
 
 pub ends_process : (l : Layout) (n : ℕ) (d : Mine) → next_of d.state ≡ act.End → GoesOn d.state seen.Done → Ends Fits l n d ends
@@ -193,7 +199,14 @@ ends_process l n d next course s since f o at =
     let p = name n d.number in
     let s1 : State Page = record w.now { phase = put_name p machine.Ended w.now.phase } in
     let does : Does w.now p (Act.End (end_of_proc d.state)) s1 = record { changes = (λ x. refl, λ x. refl, is_put_name p machine.Ended w.now.phase); on = omega arith } in
-    finishes l n d s since f o at (end_of_proc d.state) _ (turned s f n since d at seen.Done course act.End next s1 tt does)
+    let z = finishes l n d s since f o at (end_of_proc d.state) _ (turned s f n since d at seen.Done course act.End next s1 tt does) in
+    let named = is_named s f n since d at in
+    let log = then_log s f n since d at seen.Done course act.End next s1 tt does in (
+      z.0,
+      z.1,
+      z.2,
+      (z.3, record { course = course; log = subst (proc_log course.new) (λ i. marks_of (name (sym named.0 i) d.number) (sym z.4 i)) log }),
+    )
 
 pub gives_up_process : (l : Layout) (n : ℕ) (d : Mine) → MayGiveUp d.state → Ends Fits l n d gives_up
 gives_up_process l n d may s since f o at =
@@ -203,4 +216,5 @@ gives_up_process l n d may s since f o at =
     let r = w.proc p in
     let s1 : State Page = record w.now { phase = put_name p machine.Ended w.now.phase } in
     let does : Does w.now p (Act.End None) s1 = record { changes = (λ x. refl, λ x. refl, is_put_name p machine.Ended w.now.phase); on = omega arith } in
-    finishes l n d s since f o at None _ (give_up w p s1 f.good (may.busy r is) (may.silent r is) (may.empty r is) (may.no_middle r is) does)
+    let z = finishes l n d s since f o at None _ (give_up w p s1 f.good (may.busy r is) (may.silent r is) (may.empty r is) (may.no_middle r is) does) in
+    (z.0, z.1, z.2, z.3)

@@ -2,6 +2,7 @@ pub mod Notings
 pub mod Entries
 pub mod Within
 pub mod Marks
+pub mod Doings
 pub mod Stages
 pub mod Sights
 pub mod Advance

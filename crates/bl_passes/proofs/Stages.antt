@@ -16,6 +16,7 @@ use Rattle.bl_passes.specs.Noting.{trail_of, all_noted}
 use Rattle.bl_passes.specs.Seeing.{own}
 use Rattle.bl_passes.specs.Fitting.{name, IsAtStage, AreUpTo, IsHand}
 use Rattle.bl_passes.proofs.Notings.{trail_back}
+use Rattle.bl_passes.proofs.Doings.{log_else}
 use Rattle.bl_passes.proofs.Entries.{own-other, own-mine, said_grows}
 use Rattle.bl_passes.proofs.Marks.{each_append, up_to_on}
 
@@ -75,6 +76,7 @@ module _ (w : World Run) (good : IsGood know w) (n m : ℕ) (a : Act Page Reply)
           phase_else p other ∙ h.2,
           ap (λ (r : Run). r.state) same ∙ h.3,
           own_else k ne ∙ (h.4 ∙ ap (λ (r : Run). d.past ++ entries_at p (know r).said) (sym same)),
+          log_else w (name n m) p a s b t other d.state h.5,
         )
 
     pub hand_else : (k : ℕ) (st : Stage) (d : Mine) → k ≢ n → IsHand w k st d → IsHand t.next k st d

@@ -12,6 +12,8 @@ use Rattle.bl_ways.specs.declared.acts.Action.{Action}
 use Rattle.bl_ways.specs.declared.acts.Seen.{Seen}
 use Rattle.bl_proc.specs.declared.kinds.Proc.{Proc}
 use Rattle.bl_proc.specs.Processes.{next_of, Takes}
+use Rattle.bl_trails.specs.Trails.{marks_of}
+use Rattle.bl_tables.specs.Logs.{proc_log}
 use Rattle.bl_tables.specs.Turns.{event_of, IsTold, Does, Turned}
 use Rattle.bl_tables.specs.Knowing.{Run, bare as know, end_of_proc, run_next}
 use Rattle.bl_tables.proofs.Turning.{bare_turn as turn}
@@ -20,6 +22,7 @@ use Rattle.bl_store.specs.Pages.{Owner, Stage, Idle, Running, Pages, Stands, tol
 use Rattle.bl_passes.specs.declared.known.Mine.{Mine}
 use Rattle.bl_passes.specs.Fitting.{name, Shows, owner_in, IsAtStage, Fits}
 use Rattle.bl_passes.specs.Told.{Notes, Steps, Goes}
+use Rattle.bl_passes.proofs.Doings.{log_after}
 use Rattle.bl_passes.proofs.Shown.{same_owner}
 use Rattle.bl_passes.proofs.Advance.{next_known, advance, next_notes, next_near, next_own, next_stage}
 
@@ -45,6 +48,10 @@ module _ (s : Pages Mine) (f : Fits s) (n since : ℕ) (d : Mine) (at : Stands s
   module _ (what : Seen) (course : GoesOn d.state what) (a : Action) (next : next_of d.state ≡ a) (s1 : State Page) (said : IsTold f.world.now f.world.size a what) (does : Does f.world.now mine (event_of (end_of_proc d.state) a what) s1) where
     abbrev pub turned : Turned know f.world mine (event_of (end_of_proc d.state) a what) s1 (run_next (f.world.proc mine) what course.new)
     turned = turn_of f.world mine d.state what s1 f.good standing.3 course a next said does
+
+    -- what it has done by then
+    pub then_log : proc_log course.new (marks_of mine turned.next.trail)
+    then_log = log_after f.world mine d.state what course a s1 (run_next (f.world.proc mine) what course.new) turned next said standing.5
 
     abbrev pub then_known : Mine
     then_known = next_known s f n d.number (Running since) d at (event_of (end_of_proc d.state) a what) s1 (run_next (f.world.proc mine) what course.new) turned true d.past
@@ -82,7 +89,7 @@ module _ (s : Pages Mine) (f : Fits s) (n since : ℕ) (d : Mine) (at : Stands s
         let set_is : set s2.hands n (Running since, then_known) ≡ set s.hands n (Running since, then_known) = ap (λ (z : List (Stage × Mine)). set z n (Running since, then_known)) hands in
         advance s f n d.number (Running since) d at act s1 b turned true d.past (told s2 n (Running since) then_known) (Running since) set_is size (omega arith) clock (λ q ne. phases q) kept pages
         (λ x o e. owners x o e ∙ sym (ap (λ (z : List (Stage × Mine)). owner_in z o) set_is ∙ same_owner s.hands n (Running since, d) (Running since, then_known) o at refl))
-        (next_stage s f n d.number (Running since) d at act s1 b turned true d.past since refl standing.1 (phases mine ∙ standing.2) standing.4)
+        (next_stage s f n d.number (Running since) d at act s1 b turned true d.past since refl standing.1 (phases mine ∙ standing.2) standing.4 then_log)
         (λ z e. refl)
         (λ z e. (let both : machine.Running since ≡ machine.Running z = sym (phases mine ∙ standing.2) ∙ e in let same : since ≡ z = cc in ap Running same))
 

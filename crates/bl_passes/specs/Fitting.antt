@@ -8,7 +8,7 @@ use Rattle.bl_page.specs.declared.page.Page.TheVariants.{Anchor, Leaf, Inner, De
 use Rattle.bl_page.specs.Words.{words_of}
 use Rattle.bl_page.specs.Machine.{Name}
 use Rattle.bl_page.specs.Machine as machine
-use Rattle.bl_trails.specs.Trails.{Mark, Trail, history_of, entries_at}
+use Rattle.bl_trails.specs.Trails.{Mark, Trail, history_of, entries_at, marks_of}
 use Rattle.bl_steps.specs.Worlds.{World, Each, IsGood}
 use Rattle.bl_starts.specs.Blank.{IsBlank}
 use Rattle.bl_starts.specs.Opening.{Opening}
@@ -16,6 +16,7 @@ use Rattle.bl_proc.specs.declared.kinds.Proc.{Proc}
 use Rattle.bl_proc.specs.declared.kinds.Proc.TheVariants.{Find}
 use Rattle.bl_proc.specs.declared.searching.FindStage.TheVariants as find
 use Rattle.bl_tables.specs.Knowing.{Run, bare as know}
+use Rattle.bl_tables.specs.Logs.{proc_log}
 use Rattle.bl_store.specs.Pages.{Owner, Released, Open, Held, Retired, Stage, Idle, Running, Pages, Stands}
 use Rattle.bl_passes.specs.declared.known.Mine.{Mine}
 use Rattle.bl_passes.specs.Noting.{trail_of}
@@ -55,11 +56,12 @@ owner_in hands Open = machine.Owner.Open
 owner_in hands (Held n) = machine.Held (name n (number_in (get_elem? hands n)))
 owner_in hands (Retired time) = machine.Retired time
 
--- Where a hand runs a process, it is the last that it has begun, which stands as the pass knows, and what it has said is
--- all that the pass has said since the entries of before. Where it runs none, the last one holds no page any more.
+-- Where a hand runs a process, it is the last that it has begun, which stands as the pass knows and has done what it needs
+-- to mean what it will answer, and what it has said is all that the pass has said since the entries of before. Where it runs
+-- none, the last one holds no page any more.
 abbrev pub IsAtStage : World Run → ℕ → Stage → Mine → Type 0
 IsAtStage w n Idle d = (d.runs ≡ false) × ((x : ℕ) → w.now.owner x ≢ machine.Held (name n d.number))
-IsAtStage w n (Running since) d = (d.runs ≡ true) × (d.number ≢ 0) × (w.now.phase (name n d.number) ≡ machine.Running since) × ((w.proc (name n d.number)).state ≡ d.state) × (own n w.trail ≡ d.past ++ entries_at (name n d.number) (know (w.proc (name n d.number))).said)
+IsAtStage w n (Running since) d = (d.runs ≡ true) × (d.number ≢ 0) × (w.now.phase (name n d.number) ≡ machine.Running since) × ((w.proc (name n d.number)).state ≡ d.state) × (own n w.trail ≡ d.past ++ entries_at (name n d.number) (know (w.proc (name n d.number))).said) × proc_log d.state (marks_of (name n d.number) w.trail)
 
 -- none of these events is of that pass
 abbrev pub AreElse : ℕ → Trail → Type 0

@@ -4,13 +4,14 @@ use Rattle.bl_model.specs.declared.operation.Reply.{Reply}
 use Rattle.bl_page.specs.declared.page.Page.{Page}
 use Rattle.bl_page.specs.Words.{words_of}
 use Rattle.bl_page.specs.Machine.{Name, Act}
-use Rattle.bl_trails.specs.Trails.{Mark, Trail, entries_at}
+use Rattle.bl_trails.specs.Trails.{Mark, Trail, entries_at, marks_of}
 use Rattle.bl_ways.specs.declared.acts.Action.{Action}
 use Rattle.bl_ways.specs.declared.acts.Action.TheVariants as action
 use Rattle.bl_ways.specs.declared.acts.Seen.{Seen}
 use Rattle.bl_ways.specs.declared.acts.Seen.TheVariants as seen
 use Rattle.bl_proc.specs.declared.kinds.Proc.{Proc}
 use Rattle.bl_proc.specs.Processes.{next_of}
+use Rattle.bl_tables.specs.Logs.{proc_log}
 use Rattle.bl_tables.specs.Turns.{event_of}
 use Rattle.bl_tables.specs.Knowing.{Run, bare as know, end_of_proc}
 use Rattle.bl_steps.specs.Worlds.{Stage, Each}
@@ -110,8 +111,13 @@ pub record Finishes (answer : Option Reply) (d e : Mine) : Type 0 where
   pub passes : e.passes ≡ d.passes
   pub own : own d.pass (trail_of e.trail) ≡ own d.pass (trail_of d.trail)
 
+-- it has answered, and has done what its answer means
+pub record HasDone (d e : Mine) : Type 0 where
+  pub course : GoesOn d.state seen.Done
+  pub log : proc_log course.new (marks_of (name d.pass d.number) (trail_of e.trail))
+
 abbrev pub ends : Mine → ℕ → Mine → Type 0
-ends d now e = Finishes (end_of_proc d.state) d e
+ends d now e = Finishes (end_of_proc d.state) d e × HasDone d e
 
 abbrev pub gives_up : Mine → ℕ → Mine → Type 0
 gives_up d now e = Finishes None d e

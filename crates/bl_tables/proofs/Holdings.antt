@@ -1,5 +1,5 @@
 -- What a post knows of the page that it holds, and one mark more.
-use Rattle.std.proofs.Common.{ℕ, ◌≡◌, ◌≢◌, ◌⊎◌, ◌<◌, ◌≤◌, ◌+◌, ◌++◌, List, [], ◌∷◌, None, Some, arith, ap, sym, ◌∙◌, refl, subst, inl, inr, append_assoc, append-nil}
+use Rattle.std.proofs.Common.{ℕ, ◌≡◌, ◌≢◌, ◌⊎◌, ◌<◌, ◌≤◌, ◌+◌, ◌++◌, List, [], ◌∷◌, Option, None, Some, arith, ap, sym, ◌∙◌, refl, subst, inl, inr, append_assoc, append-nil}
 use Rattle.std.specs.Prelude.{Contains}
 use Rattle.std.proofs.lemmas.Bool.{cases_eq, cases_lt}
 use Rattle.std.proofs.lemmas.List.Elements.{Contains-push, Contains-push_cases}
@@ -7,12 +7,14 @@ use Rattle.bl_page.specs.declared.page.Page.{Page}
 use Rattle.bl_page.specs.declared.page.Page.TheVariants.{Anchor, Leaf, Inner, Dead}
 use Rattle.bl_page.specs.Machine.{Act}
 use Rattle.bl_page.specs.Machine.Act.{Get, Latch, Miss}
+use Rattle.bl_rearrange.specs.declared.fitted.Fitted.TheVariants.{Split}
+use Rattle.bl_rearrange.specs.Rearranged.{IsFitted}
 use Rattle.bl_tree.specs.Nodes.{Covers}
 use Rattle.bl_tree.specs.Moves.{IsRow, IsCut}
 use Rattle.bl_laws.specs.Pages.{node_of}
 use Rattle.bl_laws.proofs.SoundPages.{sound_node}
 use Rattle.bl_trails.specs.Trails.{Mark, Trail}
-use Rattle.bl_trails.specs.Meanings.{HasGot, put_in, puts_of, UnderLatch, ListTogether, MeansDone, MeansNoRoom}
+use Rattle.bl_trails.specs.Meanings.{HasGot, put_in, puts_of, UnderLatch, ListTogether, MeansDone, ArePartedAt, MeansParted, MeansNoRoom}
 use Rattle.bl_trails.proofs.Meant.{puts_of-push, got_on, got_last}
 use Rattle.bl_tables.specs.Logs.{Holding, HoldsParent, HoldsBoth, IsToPut}
 
@@ -103,7 +105,7 @@ under h = record {
 }
 
 -- all that was to be put has been put
-pub is_done : {level key x : ℕ} {ms : Trail} (puts : List Page) (p : IsToPut level key ms x puts puts) → MeansDone level key ms
+abbrev pub is_done : {level key x : ℕ} {ms : Trail} (puts : List Page) (p : IsToPut level key ms x puts puts) → MeansDone level key ms
 is_done {level} {key} {x} {ms} puts p =
     let a = p.both.above in
     record {
@@ -112,6 +114,22 @@ is_done {level} {key} {x} {ms} puts p =
       low = p.both.low;
       puts = subst (λ z. ListTogether z p.parent key p.child) (sym a.holding.puts_are) p.together;
     }
+
+pub is_parted : {level key x : ℕ} {ms : Trail} (parted : Option ℕ) (puts : List Page) (p : IsToPut level key ms x puts puts) → ArePartedAt parted puts → MeansParted level key parted ms
+is_parted parted puts p is = record { done = is_done puts p; puts = subst (ArePartedAt parted) (sym p.both.above.holding.puts_are) is }
+
+-- the low of the upper part
+pub cut_low : (c left right : Page) (key word new separator : ℕ) → IsFitted c key word new (Split left right separator) → (node_of right).shape.low ≡ separator
+cut_low (Leaf c) left (Leaf p) key word new separator f = f.4.0
+cut_low (Inner c) left (Inner p) key word new separator f = f.4.1
+cut_low (Leaf c) left (Anchor p) key word new separator f = absurd f.4
+cut_low (Leaf c) left (Inner p) key word new separator f = absurd f.4
+cut_low (Leaf c) left (Dead p) key word new separator f = absurd f.4
+cut_low (Inner c) left (Anchor p) key word new separator f = absurd f.4
+cut_low (Inner c) left (Leaf p) key word new separator f = absurd f.4
+cut_low (Inner c) left (Dead p) key word new separator f = absurd f.4
+cut_low (Anchor c) left right key word new separator f = absurd f.4
+cut_low (Dead c) left right key word new separator f = absurd f.4
 
 -- what a page lists it covers
 covered_in : (c : Page) (j v : ℕ) → (node_of c).look j ≡ Some v → Covers (node_of c).shape j

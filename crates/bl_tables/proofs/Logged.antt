@@ -153,7 +153,7 @@ same_words : (c d : Page) → seen.Words c ≡ seen.Words d → c ≡ d
 same_words c d e = cc
 
 -- what a process was told of a page is what the event saw
-saw_words : (reply : Option Reply) (s : State Page) (size : ℕ) (saw : Option Page) (action : Action) (what : Seen) → IsTold s size action what → Saw s (event_of reply action what) saw → (y : ℕ) (d : Page) → event_of reply action what ≡ Get y → what ≡ seen.Words d → saw ≡ Some d
+pub saw_words : (reply : Option Reply) (s : State Page) (size : ℕ) (saw : Option Page) (action : Action) (what : Seen) → IsTold s size action what → Saw s (event_of reply action what) saw → (y : ℕ) (d : Page) → event_of reply action what ≡ Get y → what ≡ seen.Words d → saw ≡ Some d
 saw_words reply s size saw act.Begin seen.Done told is y d e f = absurd (let g = f in cc)
 saw_words reply s size saw act.Begin (seen.Words c) told is y d e f = absurd (let g = e in cc)
 saw_words reply s size saw act.Begin (seen.Took n') told is y d e f = absurd (let g = f in cc)
@@ -232,7 +232,7 @@ saw_words reply s size saw (act.Release x) (seen.Blocks it) told is y d e f = ab
 saw_words reply s size saw (act.Release x) seen.Missed told is y d e f = absurd (let g = f in cc)
 saw_words reply s size saw (act.Release x) seen.Refused told is y d e f = absurd (let g = f in cc)
 
-log_turn : (old new : Proc) (what : Seen) (marks : Trail) (m : Mark) → Takes old what new → m.event.act ≡ event_of (end_of_proc old) (next_of old) what → ((x : ℕ) (c : Page) → m.event.act ≡ Get x → what ≡ seen.Words c → m.saw ≡ Some c) → proc_log old marks → proc_log new (marks ++ m ∷ [])
+pub log_turn : (old new : Proc) (what : Seen) (marks : Trail) (m : Mark) → Takes old what new → m.event.act ≡ event_of (end_of_proc old) (next_of old) what → ((x : ℕ) (c : Page) → m.event.act ≡ Get x → what ≡ seen.Words c → m.saw ≡ Some c) → proc_log old marks → proc_log new (marks ++ m ∷ [])
 log_turn (Post a) (Post c) what marks m t did saw h =
     subst (λ l. post_log l c.key c.stage (marks ++ m ∷ [])) (sym t.0) (subst (λ k. post_log a.level k c.stage (marks ++ m ∷ [])) (sym t.1) (post_on marks m a.level a.key a.least a.stage c.stage what t.2 did saw h))
 log_turn (Find a) (Post c) what marks m t did saw h = absurd t

@@ -6,8 +6,8 @@ use Rattle.bl_page.specs.Machine.{Act}
 use Rattle.bl_page.specs.Machine.Act.{Get, Put, Latch, Miss}
 use Rattle.bl_laws.specs.Pages.{node_of, roots_of}
 use Rattle.bl_trails.specs.Trails.{Mark, Trail}
-use Rattle.bl_trails.specs.Meanings.{put_in, MeansDone}
-use Rattle.bl_trails.proofs.Meant.{got_on, got_last, done_on, already_on, stale_on, tall_on, no_room_on}
+use Rattle.bl_trails.specs.Meanings.{put_in}
+use Rattle.bl_trails.proofs.Meant.{got_on, got_last, parted_on, already_on, stale_on, tall_on, no_room_on}
 use Rattle.bl_puts.proofs.Fitted.{fits_row, split_cut}
 use Rattle.bl_rearrange.specs.declared.fitted.Fitted.TheVariants.{Split}
 use Rattle.bl_rearrange.specs.Rearranged.{IsFitted}
@@ -39,7 +39,7 @@ use Rattle.bl_ways.specs.Growths.{growth_next, Grows}
 use Rattle.bl_proc.specs.Posts.{post_reply, post_next_in, PostStarts, PostArrives, PostWalks, PostNears, PostComes, PostGoes}
 use Rattle.bl_tables.specs.Turns.{event_of}
 use Rattle.bl_tables.specs.Logs.{Holding, HoldsParent, HoldsBoth, IsToPut, approach_log, outcome_log, change_log, growth_log, reply_log, post_log}
-use Rattle.bl_tables.proofs.Holdings.{held_now, held_on, parent_held_on, both_held_on, child_got, parent_got, refused_while, under, is_done, row_together, cut_together}
+use Rattle.bl_tables.proofs.Holdings.{held_now, held_on, parent_held_on, both_held_on, child_got, parent_got, refused_while, under, is_parted, cut_low, row_together, cut_together}
 
 no_latched : (level x : ℕ) (c : Page) (o : Onward) (y : ℕ) → Turns level x c o (way.Latched y) → ⊥
 no_latched level x c Again y h = h
@@ -56,15 +56,15 @@ module _ (marks : Trail) (m : Mark) (level key : ℕ) (least : 0 < level) where
 
   -- an answer goes on meaning what it meant
   pub reply_on : (r : PostReply) → reply_log level key r marks → reply_log level key r more
-  reply_on (reply.Done s) h = done_on marks m h
+  reply_on (reply.Done s) h = parted_on marks m h
   reply_on reply.Already h = already_on marks m h
   reply_on reply.Stale h = stale_on marks m h
   reply_on reply.NoRoom h = no_room_on marks m h
   reply_on reply.TooTall h = tall_on marks m h
 
   outcome_on : (o : Outcome) → outcome_log level key o marks → outcome_log level key o more
-  outcome_on outcome.Changed h = done_on marks m h
-  outcome_on (outcome.Parted s) h = done_on marks m h
+  outcome_on outcome.Changed h = parted_on marks m h
+  outcome_on (outcome.Parted s) h = parted_on marks m h
   outcome_on outcome.Refused h = no_room_on marks m h
 
   outcome_reply : (o : Outcome) → outcome_log level key o more → reply_log level key (post_reply o) more
@@ -529,7 +529,7 @@ module _ (marks : Trail) (m : Mark) (level key : ℕ) (least : 0 < level) where
   change_on (change.Putting x page) d seen.Done t did h =
       let both : HoldsBoth level key more x h.parent h.child (page ∷ []) = both_held_on marks m (page ∷ []) (λ o. (let e = sym did ∙ o in cc)) (ap put_in did) h.both in
       let put : IsToPut level key more x (page ∷ []) (page ∷ []) = record { parent = h.parent; child = h.child; both = both; together = h.together } in
-      subst (λ z. change_log level key z more) (sym t) (is_done (page ∷ []) put)
+      subst (λ z. change_log level key z more) (sym t) (is_parted None (page ∷ []) put (page, refl))
   change_on (change.Putting x page) d (seen.Words c) t did h = absurd t
   change_on (change.Putting x page) d (seen.Took n) t did h = absurd t
   change_on (change.Putting x page) d (seen.Owner retired started own) t did h = absurd t
@@ -542,7 +542,8 @@ module _ (marks : Trail) (m : Mark) (level key : ℕ) (least : 0 < level) where
   change_on (change.Taking full) (change.PuttingNew q) (seen.Took n) t did h =
       let both : HoldsBoth level key more full.at full.page full.word [] = both_held_on marks m [] (λ o. (let e = sym did ∙ o in cc)) (ap put_in did) h.0 in
       let cut = split_cut full.page q.left q.right key full.word n q.separator (subst (λ z. IsFitted full.page z full.word n (Split q.left q.right q.separator)) h.1 t.2) both.above.covers in
-      subst (λ z. IsToPut level key more z [] (q.right ∷ q.left ∷ [])) (sym t.0) (record { parent = full.page; child = full.word; both = both; together = cut_together full.page q.left q.right n key full.word cut both.above.unlisted })
+      let put = subst (λ z. IsToPut level key more z [] (q.right ∷ q.left ∷ [])) (sym t.0) (record { parent = full.page; child = full.word; both = both; together = cut_together full.page q.left q.right n key full.word cut both.above.unlisted }) in
+      (put, cut_low full.page q.left q.right full.key full.word n q.separator t.2)
   change_on (change.Taking full) (change.Putting y page) (seen.Took n) t did h = absurd t
   change_on (change.Taking full) (change.Taking q) (seen.Took n) t did h = absurd t
   change_on (change.Taking full) (change.PuttingOld q) (seen.Took n) t did h = absurd t
@@ -554,8 +555,9 @@ module _ (marks : Trail) (m : Mark) (level key : ℕ) (least : 0 < level) where
   change_on (change.Taking full) d seen.Refused t did h =
       subst (λ z. change_log level key z more) (sym t) (refused_while marks m did h.0.above.holding)
   change_on (change.PuttingNew p) d seen.Done t did h =
-      let both : HoldsBoth level key more p.at h.parent h.child (p.right ∷ []) = both_held_on marks m (p.right ∷ []) (λ o. (let e = sym did ∙ o in cc)) (ap put_in did) h.both in
-      subst (λ z. change_log level key z more) (sym t) (record { parent = h.parent; child = h.child; both = both; together = h.together })
+      let put = h.0 in
+      let both : HoldsBoth level key more p.at put.parent put.child (p.right ∷ []) = both_held_on marks m (p.right ∷ []) (λ o. (let e = sym did ∙ o in cc)) (ap put_in did) put.both in
+      subst (λ z. change_log level key z more) (sym t) (record { parent = put.parent; child = put.child; both = both; together = put.together }, h.1)
   change_on (change.PuttingNew p) d (seen.Words c) t did h = absurd t
   change_on (change.PuttingNew p) d (seen.Took n) t did h = absurd t
   change_on (change.PuttingNew p) d (seen.Owner retired started own) t did h = absurd t
@@ -563,9 +565,10 @@ module _ (marks : Trail) (m : Mark) (level key : ℕ) (least : 0 < level) where
   change_on (change.PuttingNew p) d seen.Missed t did h = absurd t
   change_on (change.PuttingNew p) d seen.Refused t did h = absurd t
   change_on (change.PuttingOld p) d seen.Done t did h =
-      let both : HoldsBoth level key more p.at h.parent h.child (p.right ∷ p.left ∷ []) = both_held_on marks m (p.left ∷ []) (λ o. (let e = sym did ∙ o in cc)) (ap put_in did) h.both in
-      let put : IsToPut level key more p.at (p.right ∷ p.left ∷ []) (p.right ∷ p.left ∷ []) = record { parent = h.parent; child = h.child; both = both; together = h.together } in
-      subst (λ z. change_log level key z more) (sym t) (is_done (p.right ∷ p.left ∷ []) put)
+      let was = h.0 in
+      let both : HoldsBoth level key more p.at was.parent was.child (p.right ∷ p.left ∷ []) = both_held_on marks m (p.left ∷ []) (λ o. (let e = sym did ∙ o in cc)) (ap put_in did) was.both in
+      let put : IsToPut level key more p.at (p.right ∷ p.left ∷ []) (p.right ∷ p.left ∷ []) = record { parent = was.parent; child = was.child; both = both; together = was.together } in
+      subst (λ z. change_log level key z more) (sym t) (is_parted (Some p.separator) (p.right ∷ p.left ∷ []) put (p.right, p.left, refl, h.1))
   change_on (change.PuttingOld p) d (seen.Words c) t did h = absurd t
   change_on (change.PuttingOld p) d (seen.Took n) t did h = absurd t
   change_on (change.PuttingOld p) d (seen.Owner retired started own) t did h = absurd t
@@ -573,7 +576,7 @@ module _ (marks : Trail) (m : Mark) (level key : ℕ) (least : 0 < level) where
   change_on (change.PuttingOld p) d seen.Missed t did h = absurd t
   change_on (change.PuttingOld p) d seen.Refused t did h = absurd t
   change_on (change.OpeningNew x new separator) d seen.Done t did h =
-      subst (λ z. change_log level key z more) (sym t) (done_on marks m h)
+      subst (λ z. change_log level key z more) (sym t) (parted_on marks m h)
   change_on (change.OpeningNew x new separator) d (seen.Words c) t did h = absurd t
   change_on (change.OpeningNew x new separator) d (seen.Took n) t did h = absurd t
   change_on (change.OpeningNew x new separator) d (seen.Owner retired started own) t did h = absurd t
@@ -743,9 +746,9 @@ module _ (marks : Trail) (m : Mark) (level key : ℕ) (least : 0 < level) where
     change_stays : (c : Change) → change_log level key c marks → change_log level key c more
     change_stays (change.Putting x page) h = to_put_stays [] (page ∷ []) h
     change_stays (change.Taking full) h = (both_stay [] h.0, h.1)
-    change_stays (change.PuttingNew p) h = to_put_stays [] (p.right ∷ p.left ∷ []) h
-    change_stays (change.PuttingOld p) h = to_put_stays (p.right ∷ []) (p.right ∷ p.left ∷ []) h
-    change_stays (change.OpeningNew x new separator) h = done_on marks m h
+    change_stays (change.PuttingNew p) h = (to_put_stays [] (p.right ∷ p.left ∷ []) h.0, h.1)
+    change_stays (change.PuttingOld p) h = (to_put_stays (p.right ∷ []) (p.right ∷ p.left ∷ []) h.0, h.1)
+    change_stays (change.OpeningNew x new separator) h = parted_on marks m h
     change_stays (change.Opening x o) h = outcome_on o h
 
     pub post_stays : (old : PostStage) → post_log level key old marks → post_log level key old more

@@ -7,7 +7,7 @@ use Rattle.bl_page.specs.Machine.Act.{Latch}
 use Rattle.bl_tree.specs.Nodes.{Covers}
 use Rattle.bl_laws.specs.Pages.{node_of}
 use Rattle.bl_trails.specs.Trails.{Mark, Trail}
-use Rattle.bl_trails.specs.Meanings.{HasGot, puts_of, ListTogether, MeansDone, MeansAlready, MeansStale, MeansTooTall, MeansNoRoom}
+use Rattle.bl_trails.specs.Meanings.{HasGot, puts_of, ListTogether, MeansParted, MeansAlready, MeansStale, MeansTooTall, MeansNoRoom}
 use Rattle.bl_ways.specs.declared.approaching.Approach.{Approach}
 use Rattle.bl_ways.specs.declared.approaching.Approach.TheVariants as way
 use Rattle.bl_ways.specs.declared.changing.Outcome.{Outcome}
@@ -65,16 +65,16 @@ pub record IsToPut (level key : ℕ) (marks : Trail) (x : ℕ) (puts pages : Lis
   pub together : ListTogether pages parent key child
 
 abbrev pub outcome_log : ℕ → ℕ → Outcome → Trail → Type 0
-outcome_log level key outcome.Changed marks = MeansDone level key marks
-outcome_log level key (outcome.Parted separator) marks = MeansDone level key marks
+outcome_log level key outcome.Changed marks = MeansParted level key None marks
+outcome_log level key (outcome.Parted separator) marks = MeansParted level key (Some separator) marks
 outcome_log level key outcome.Refused marks = MeansNoRoom marks
 
 abbrev pub change_log : ℕ → ℕ → Change → Trail → Type 0
 change_log level key (change.Putting x page) marks = IsToPut level key marks x [] (page ∷ [])
 change_log level key (change.Taking full) marks = HoldsBoth level key marks full.at full.page full.word [] × (full.key ≡ key)
-change_log level key (change.PuttingNew p) marks = IsToPut level key marks p.at [] (p.right ∷ p.left ∷ [])
-change_log level key (change.PuttingOld p) marks = IsToPut level key marks p.at (p.right ∷ []) (p.right ∷ p.left ∷ [])
-change_log level key (change.OpeningNew x new separator) marks = MeansDone level key marks
+change_log level key (change.PuttingNew p) marks = IsToPut level key marks p.at [] (p.right ∷ p.left ∷ []) × ((node_of p.right).shape.low ≡ p.separator)
+change_log level key (change.PuttingOld p) marks = IsToPut level key marks p.at (p.right ∷ []) (p.right ∷ p.left ∷ []) × ((node_of p.right).shape.low ≡ p.separator)
+change_log level key (change.OpeningNew x new separator) marks = MeansParted level key (Some separator) marks
 change_log level key (change.Opening x o) marks = outcome_log level key o marks
 
 abbrev pub growth_log : Growth → Trail → Type 0
@@ -89,7 +89,7 @@ growth_log growth.OpeningRefused marks = MeansNoRoom marks
 
 -- What the answer of a post means.
 abbrev pub reply_log : ℕ → ℕ → PostReply → Trail → Type 0
-reply_log level key (reply.Done separator) marks = MeansDone level key marks
+reply_log level key (reply.Done separator) marks = MeansParted level key separator marks
 reply_log level key reply.Already marks = MeansAlready level key marks
 reply_log level key reply.Stale marks = MeansStale level key marks
 reply_log level key reply.NoRoom marks = MeansNoRoom marks

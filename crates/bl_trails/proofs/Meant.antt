@@ -1,12 +1,12 @@
 -- What a process has done stays done: what an answer means is not undone by one mark more.
-use Rattle.std.proofs.Common.{ℕ, ◌≡◌, ◌++◌, List, [], ◌∷◌, Some, ap, sym, ◌∙◌, refl, inl, inr, append_assoc}
+use Rattle.std.proofs.Common.{ℕ, ◌≡◌, ◌++◌, List, [], ◌∷◌, Option, Some, ap, sym, ◌∙◌, refl, inl, inr, append_assoc}
 use Rattle.std.specs.Prelude.{Contains}
 use Rattle.std.proofs.lemmas.List.Elements.{Contains-push, Contains-append_left}
 use Rattle.bl_page.specs.declared.page.Page.{Page}
 use Rattle.bl_page.specs.Machine.{Act}
 use Rattle.bl_page.specs.Machine.Act.{Get}
 use Rattle.bl_trails.specs.Trails.{Mark, Trail}
-use Rattle.bl_trails.specs.Meanings.{HasGot, put_in, puts_of, UnderLatch, AtParent, HasOtherLow, MeansDone, MeansAlready, MeansStale, MeansTooTall, MeansNoRoom}
+use Rattle.bl_trails.specs.Meanings.{HasGot, put_in, puts_of, UnderLatch, AtParent, HasOtherLow, MeansDone, MeansParted, MeansAlready, MeansStale, MeansTooTall, MeansNoRoom}
 
 pub puts_of-push : (ms : Trail) (m : Mark) → puts_of (ms ++ m ∷ []) ≡ puts_of ms ++ put_in m.event.act
 puts_of-push [] m = append_nil (put_in m.event.act)
@@ -38,8 +38,12 @@ module _ (ms : Trail) (m : Mark) where
   abbrev pub parent_on : {level key : ℕ} → AtParent level key ms → AtParent level key (ms ++ m ∷ [])
   parent_on a = record { at = a.at; under = under_on a.under; parent = a.parent; got = a.got; level_is = a.level_is; covers = a.covers }
 
-  pub done_on : {level key : ℕ} → MeansDone level key ms → MeansDone level key (ms ++ m ∷ [])
+  abbrev pub done_on : {level key : ℕ} → MeansDone level key ms → MeansDone level key (ms ++ m ∷ [])
   done_on d = record { parent = parent_on d.parent; child = d.child; low = d.low; puts = d.puts }
+
+  -- and so does how the parent was put
+  pub parted_on : {level key : ℕ} {parted : Option ℕ} → MeansParted level key parted ms → MeansParted level key parted (ms ++ m ∷ [])
+  parted_on p = record { done = done_on p.done; puts = p.puts }
 
   pub already_on : {level key : ℕ} → MeansAlready level key ms → MeansAlready level key (ms ++ m ∷ [])
   already_on a = record { parent = parent_on a.parent; child = a.child; listed = a.listed }

@@ -1,5 +1,5 @@
 -- What the answers of a post mean, told of what its process has done: what it latched, what it got, and what it put.
-use Rattle.std.specs.Prelude.{◌≡◌, ◌≢◌, ◌⊎◌, ◌↔◌, ℕ, suc, ◌<◌, ◌++◌, Some, List, [], ◌∷◌, Contains}
+use Rattle.std.specs.Prelude.{◌≡◌, ◌≢◌, ◌⊎◌, ◌↔◌, ℕ, suc, ◌<◌, ◌++◌, Option, None, Some, List, [], ◌∷◌, Contains}
 use Rattle.bl_model.specs.declared.operation.Reply.{Reply}
 use Rattle.bl_page.specs.declared.page.Page.{Page}
 use Rattle.bl_page.specs.Machine.{Act}
@@ -73,6 +73,16 @@ pub record MeansDone (level key : ℕ) (marks : Trail) : Type 0 where
   pub child : AtChild level key parent.under.during
   pub low : (node_of child.child).shape.low ≡ key
   pub puts : ListTogether (puts_of parent.under.during) parent.parent key child.at
+
+-- The parent was put whole, or in two parts, the upper one first; the separator is the low of the upper part.
+abbrev pub ArePartedAt : Option ℕ → List Page → Type 0
+ArePartedAt None puts = (whole : Page) × (puts ≡ whole ∷ [])
+ArePartedAt (Some separator) puts = (upper : Page) × (lower : Page) × (puts ≡ upper ∷ lower ∷ []) × ((node_of upper).shape.low ≡ separator)
+
+-- Done, and whether the parent was parted, and where.
+pub record MeansParted (level key : ℕ) (parted : Option ℕ) (marks : Trail) : Type 0 where
+  pub done : MeansDone level key marks
+  pub puts : ArePartedAt parted (puts_of done.parent.under.during)
 
 -- Already: the parent listed the key.
 pub record MeansAlready (level key : ℕ) (marks : Trail) : Type 0 where
