@@ -2,19 +2,14 @@
 
 ghost use Rattle.std.specs.Prelude.{◌≡◌, ◌≤◌, IfOk};
 ghost use Rattle.bl_model.specs.Map.{empty};
-ghost use Rattle.bl_model.specs.declared.operation.Op.TheVariants as op;
 ghost use Rattle.bl_index.specs.Calls.{IsPassOf, passes_of, number_of, trail, map_of};
-ghost use Rattle.bl_cli.specs.Working.{IsStep, IsKept};
 
 use bl_index::{Config, Index, OpenFault, Pass};
 use bl_lines::Answers;
 use bl_model::{Op, Reply};
-use bl_proc::{Hint, Posted};
+use bl_worker::{delete, find, insert};
 use std::alloc::{AllocError, Global};
 use std::sync::Wait;
-
-/// How many levels a tree may have, so that a split is followed by no more posts than these.
-const LEVELS: u32 = 12;
 
 /// An index, and its only pass.
 #[derive(Drop)]
@@ -42,65 +37,18 @@ impl<'a, R: Wait> Worker<'a, R> {
             Err(_) => unreachable!(),
         }
     }
-
-    /// Searches, and again where the search ran out of turns.
-    fn find(&mut self, key: u64) -> Reply
-        ensures { IsStep (op.Find key) result (trail self.old.pass) (trail self.new.pass) }
-    {
-        let turns = self.index.patience();
-        for _ in self.rt.forever() {
-            if let Ok(reply) = self.index.find(&mut self.pass, key, turns) {
-                return reply;
-            }
-        }
-        unreachable!()
-    }
-
-    /// Inserts, and posts at once where a page was parted.
-    fn insert(&mut self, key: u64, value: u64) -> Reply
-        ensures { IsStep (op.Insert key value) result (trail self.old.pass) (trail self.new.pass) }
-    {
-        let (reply, hint) = self.index.insert(self.rt, &mut self.pass, key, value);
-        self.post(hint);
-        reply
-    }
-
-    fn delete(&mut self, key: u64) -> Reply
-        ensures { IsStep (op.Delete key) result (trail self.old.pass) (trail self.new.pass) }
-    {
-        let (reply, _) = self.index.delete(self.rt, &mut self.pass, key);
-        reply
-    }
-
-    /// Posts, and goes on with the hints that posting gives. A post that met no room leaves its page to the links.
-    fn post(&mut self, hint: Option<Hint>)
-        ensures { IsKept (trail self.old.pass) (trail self.new.pass) }
-    {
-        let mut hint = hint;
-        for _level in 0..LEVELS {
-            let Some(next) = hint else {
-                return;
-            };
-            match self.index.post(self.rt, &mut self.pass, next) {
-                (Posted::Done, more) => hint = more,
-                _ => return,
-            }
-        }
-    }
 }
 
-/// It answers what its pass does, and sweeps after each request.
+/// It answers what its pass does.
 impl<'a, R: Wait> Answers for Worker<'a, R> {
     ghost map = { λ worker. map_of (trail worker.pass) };
 
     fn answer(&mut self, op: Op) -> Reply {
-        let reply = match op {
-            Op::Find(key) => self.find(key),
-            Op::Insert(key, value) => self.insert(key, value),
-            Op::Delete(key) => self.delete(key),
+        match op {
+            Op::Find(key) => find(self.rt, &self.index, &mut self.pass, key),
+            Op::Insert(key, value) => insert(self.rt, &self.index, &mut self.pass, key, value),
+            Op::Delete(key) => delete(self.rt, &self.index, &mut self.pass, key),
             Op::Part(_) => unreachable!(),
-        };
-        self.index.sweep(&mut self.pass);
-        reply
+        }
     }
 }

@@ -2,6 +2,7 @@
 use Rattle.std.proofs.Common.{ℕ, ◌≡◌, ◌<◌, ◌++◌, suc, Option, Some, None, List, [], ◌∷◌, All, refl, sym, ap, ◌∙◌, subst, arith}
 use Rattle.std.specs.Prelude.{Contains}
 use Rattle.std.proofs.lemmas.List.Elements.{All-nil, All-cons}
+use Rattle.bl_layout.specs.declared.layout.Layout.{Layout}
 use Rattle.bl_model.specs.declared.operation.Op.{Op}
 use Rattle.bl_model.specs.declared.operation.Reply.{Reply}
 use Rattle.bl_model.specs.declared.operation.Entry.{Entry}
@@ -10,8 +11,10 @@ use Rattle.bl_model.specs.History.{IsLegalFrom, final_map}
 use Rattle.bl_model.proofs.Histories.{final_map-push, legal_rest, entries_of_pass-own}
 use Rattle.bl_page.specs.Machine.{Name}
 use Rattle.bl_trails.specs.Trails.{Said, Mark, Trail, entries_at, history_of}
-use Rattle.bl_passes.specs.Seeing.{own, AreWithin}
-use Rattle.bl_index.specs.Calls.{map_of, Answers}
+use Rattle.bl_passes.specs.Seeing.{IsSeen, own, AreWithin}
+use Rattle.bl_index.specs.declared.index.Index.{Index}
+use Rattle.bl_index.specs.declared.index.Pass.{Pass}
+use Rattle.bl_index.specs.Calls.{map_of, passes_of, trail, IsPassOf}
 
 abbrev OfFirst : Entry → Type 0
 OfFirst e = e.pass ≡ 0
@@ -31,14 +34,18 @@ whole_own trail w = entries_of_pass-own 0 (history_of trail) (all_first trail w)
 pub alone_keeps : (old new : Trail) → AreWithin 1 old → AreWithin 1 new → own 0 new ≡ own 0 old → map_of new ≡ map_of old
 alone_keeps old new w v same = ap (final_map empty) (sym (whole_own new v) ∙ (same ∙ whole_own old w))
 
--- an answered call is a step of it
-pub alone_answers : (op : Op) (reply : Reply) (old new : Trail) → AreWithin 1 old → AreWithin 1 new → Answers 0 op reply old new → IsMapStep (map_of old) op reply (map_of new)
-alone_answers op reply old new w v a =
+-- and one that adds an entry is a step of it
+pub alone_answers : (op : Op) (reply : Reply) (old new : Trail) → AreWithin 1 old → AreWithin 1 new → IsSeen new → own 0 new ≡ own 0 old ++ record { pass = 0; op = op; reply = reply } ∷ [] → IsMapStep (map_of old) op reply (map_of new)
+alone_answers op reply old new w v seen once =
     let e : Entry = record { pass = 0; op = op; reply = reply } in
-    let grown : history_of new ≡ history_of old ++ e ∷ [] = sym (whole_own new v) ∙ (a.once ∙ ap (λ (z : List Entry). z ++ e ∷ []) (whole_own old w)) in
-    let legal : IsLegalFrom empty (history_of old ++ e ∷ []) = subst (IsLegalFrom empty) grown a.seen.legal in
+    let grown : history_of new ≡ history_of old ++ e ∷ [] = sym (whole_own new v) ∙ (once ∙ ap (λ (z : List Entry). z ++ e ∷ []) (whole_own old w)) in
+    let legal : IsLegalFrom empty (history_of old ++ e ∷ []) = subst (IsLegalFrom empty) grown seen.legal in
     let last = legal_rest empty (history_of old) (e ∷ []) legal in
     record {
       answer = last.0;
       after = λ key. ap (λ (m : Map). m key) (ap (final_map empty) grown ∙ final_map-push empty (history_of old) e);
     }
+
+-- what a pass has seen was done by the passes of its index
+pub pass_within : (index : Index) (pass : Pass) → IsPassOf index pass → AreWithin (passes_of index) (trail pass)
+pass_within index pass of = subst (λ (z : Layout). AreWithin z.passes (trail pass)) of.1 pass.within
