@@ -1,0 +1,11 @@
+use Rattle.std.proofs.Common.{◌≡◌, ℕ, subst}
+use Rattle.bl_store.specs.Hands.{known}
+use Rattle.bl_store.specs.Pages.{Sweeps}
+use Rattle.bl_passes.specs.Fitting.{Fits}
+use Rattle.bl_passes.specs.Told.{sweeps}
+use Rattle.bl_passes.proofs.Releasing.{sweeps_pages}
+use Rattle.bl_index.proofs.index.Index.release.Goals as goal
+
+pub sweep-requires-clause-rule : goal.sweep-requires-clause-rule
+sweep-requires-clause-rule g c = subst (λ (z : ℕ). Sweeps Fits c.args.self.now.store.layout c.args.hand.now.number (known c.args.hand.now.seat) (sweeps z g.J.Sweeper.number)) c.requires.names.0
+    (sweeps_pages c.args.self.now.store.layout c.args.hand.now.number g.J.Sweeper.number (known c.args.hand.now.seat) c.requires.rests c.requires.names.1)
