@@ -7,3 +7,4 @@ pub mod Stocks
 pub mod Ends
 pub mod Withins
 pub mod Alone
+pub mod Released

@@ -1,15 +1,17 @@
 -- What a call tells the pass that makes it.
-use Rattle.std.specs.Prelude.{◌≡◌, ℕ, ◌++◌, Some, None, List, [], ◌∷◌, Result, IfOk, IfErr}
+use Rattle.std.specs.Prelude.{◌≡◌, ◌≢◌, ℕ, ◌++◌, Some, None, List, [], ◌∷◌, Result, IfOk, IfErr}
 use Rattle.bl_model.specs.Map.{Map, empty}
 use Rattle.bl_model.specs.History.{final_map}
 use Rattle.bl_model.specs.declared.operation.Op.{Op}
 use Rattle.bl_model.specs.declared.operation.Reply.{Reply}
 use Rattle.bl_page.specs.Machine.{Name}
-use Rattle.bl_trails.specs.Trails.{Trail, history_of}
+use Rattle.bl_trails.specs.Trails.{Mark, Trail, history_of}
+use Rattle.bl_steps.specs.Worlds.{Each}
 use Rattle.bl_store.specs.Hands.{known, IsOf}
 use Rattle.bl_passes.specs.Noting.{trail_of}
 use Rattle.bl_passes.specs.Seeing.{IsSeen, own, Holds}
 use Rattle.bl_passes.specs.Fitting.{name}
+use Rattle.bl_passes.specs.Told.{IsRelease}
 use Rattle.bl_index.specs.declared.config.OutOfTurns.{OutOfTurns}
 use Rattle.bl_index.specs.declared.index.Index.{Index}
 use Rattle.bl_index.specs.declared.index.Pass.{Pass}
@@ -35,6 +37,10 @@ trail pass = trail_of (known pass.hand.seat).trail
 abbrev pub map_of : Trail → Map
 map_of trail = final_map empty (history_of trail)
 
+-- how many pages and frames the pass has released
+abbrev pub released_by : Pass → ℕ
+released_by pass = pass.hand.seat.me.0.releases
+
 -- The same pass of the same index
 abbrev pub IsSamePass : Pass → Pass → Type 0
 IsSamePass old new = (new.hand.seat.table_id ≡ old.hand.seat.table_id) × (new.hand.seat.me.0.layout ≡ old.hand.seat.me.0.layout) × (new.hand.number ≡ old.hand.number)
@@ -52,6 +58,18 @@ pub record Adds (pass : ℕ) (old new : Trail) : Type 0 where
   pub number : ℕ
   pub holds : Holds (name pass number) None old new
   pub seen : IsSeen new
+  pub none : own pass new ≡ own pass old
+
+-- A sweep of the pass. Its events are releases of pages, all of them by one process of its own, which had done nothing before
+-- and does not begin. The entries of the pass are those of before, and if what the pass had seen was a trail that an index
+-- may have, then so is what it has seen now.
+pub record Sweeps (pass : ℕ) (old new : Trail) : Type 0 where
+  pub number : ℕ
+  pub fresh : Each (λ (m : Mark). m.event.process ≢ name pass number) old
+  pub more : Trail
+  pub begins : new ≡ old ++ more
+  pub mine : Each (λ (m : Mark). m.event.process.pass ≡ pass → IsRelease (name pass number) m) more
+  pub seen : IsSeen old → IsSeen new
   pub none : own pass new ≡ own pass old
 
 -- A search is answered, or runs out of turns and says nothing.

@@ -16,6 +16,7 @@ mod kinds;
 mod opening;
 mod running;
 mod stepping;
+mod sweeping;
 
 pub use config::{Config, OpenFault, OutOfTurns};
 pub use index::{Index, Pass};
