@@ -5,3 +5,4 @@ pub mod Firsts
 pub mod Taken
 pub mod Stocks
 pub mod Ends
+pub mod Posted

@@ -60,7 +60,7 @@ impl Index {
     }
 
     /// Carries the process out, from its begin to its end.
-    fn carry_out<P: Kind, R: Wait>(&self, rt: &R, hand: &mut Hand<Mine>, process: P) -> P
+    pub(crate) fn carry_out<P: Kind, R: Wait>(&self, rt: &R, hand: &mut Hand<Mine>, process: P) -> P
         requires own { IsOf self.now.store.table.shared.table_id self.now.store.layout hand.old.seat }
         requires idle { IsIdle hand.old.seat × HasNoStock hand.old.seat }
         requires new { (P.answer_of process ≡ None) × (P.next_of process ≡ act.Begin) × IsUnborn (P.proc_of process) }
