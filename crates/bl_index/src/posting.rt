@@ -1,6 +1,6 @@
 //! Posts.
 
-ghost use Rattle.std.specs.Prelude.{◌≡◌, Some};
+ghost use Rattle.std.specs.Prelude.{◌≡◌, Some, IfSome};
 ghost use Rattle.bl_ways.specs.declared.answers.Answer.TheVariants as answers;
 ghost use Rattle.bl_index.specs.Searching.{IsPostAnswer};
 ghost use Rattle.bl_index.specs.Calls.{level_of, key_of};
@@ -41,6 +41,7 @@ impl Index {
         requires level { IsHint hint }
         ensures same { IsSamePass pass.old pass.new }
         ensures posts { Posts (number_of pass.old) (level_of hint) (key_of hint) result.0 result.1 (trail pass.old) (trail pass.new) }
+        ensures hint { IfSome result.1 IsHint }
     {
         let (level, key) = work_of(hint);
         let process = self.carry_out(rt, &mut pass.hand, Post::new(level, key));
