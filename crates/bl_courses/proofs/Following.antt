@@ -536,6 +536,7 @@ find_follows p q what t = record {
   frames = find_leaves p.stage what;
   begun = find_begun p.key p.stage q.stage what t.1;
   op = ap (λ (k : ℕ). Some (op.Find k)) t.0;
+  work = refl;
   running = find_running p.key p.stage q.stage what t.1;
 }
 
@@ -544,6 +545,7 @@ insert_follows p q what t = record {
   frames = insert_leaves p.key p.value p.stage q.stage what t.2;
   begun = insert_begun p.key p.value p.stage q.stage what t.2;
   op = λ i. Some (op.Insert (t.0 i) (t.1 i));
+  work = refl;
   running = insert_running p.key p.value p.stage q.stage what t.2;
 }
 
@@ -552,5 +554,6 @@ delete_follows p q what t = record {
   frames = delete_leaves p.key p.stage q.stage what t.1;
   begun = delete_begun p.key p.stage q.stage what t.1;
   op = ap (λ (k : ℕ). Some (op.Delete k)) t.0;
+  work = refl;
   running = delete_running p.key p.stage q.stage what t.1;
 }

@@ -469,5 +469,6 @@ post_follows p q what t = record {
   frames = post_leaves p.level p.key p.stage q.stage what t.2;
   begun = post_begun p.level p.key p.stage q.stage what t.2;
   op = refl;
+  work = λ i. Some (t.0 i, t.1 i);
   running = λ ne. ap (λ (z : ℕ). post_answer_in z q.stage) t.0 ∙ post_running p.level p.key p.stage q.stage what t.2 ne;
 }

@@ -79,6 +79,13 @@ op_of (proc.Insert p) = Some (op.Insert p.key p.value)
 op_of (proc.Delete p) = Some (op.Delete p.key)
 op_of (proc.Post p) = None
 
+-- the level and the key of a post
+abbrev pub work_of : Proc → Option (ℕ × ℕ)
+work_of (proc.Find p) = None
+work_of (proc.Insert p) = None
+work_of (proc.Delete p) = None
+work_of (proc.Post p) = Some (p.level, p.key)
+
 -- A process that has so many frames: a put asks for one where it has none, and a take for a page and two frames. No kind
 -- retires, looks or releases.
 abbrev pub Wants : Action → Option (ℕ × ℕ) → ℕ → Type 0
@@ -117,4 +124,5 @@ pub record Follows (old : Proc) (what : Seen) (new : Proc) : Type 0 where
   pub frames : Leaves (next_of old) (needs_of old) what (frames_of old) (frames_of new)
   pub begun : next_of new ≢ act.Begin
   pub op : op_of new ≡ op_of old
+  pub work : work_of new ≡ work_of old
   pub running : next_of old ≢ act.End → answer_of new ≡ None

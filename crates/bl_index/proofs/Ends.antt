@@ -46,14 +46,14 @@ use Rattle.bl_index.proofs.Calls.{since_end, since_said}
 some_one : {a b : Answer} → Some a ≡ Some b → a ≡ b
 some_one e = cc
 
-not_end_way : (a : Approach) → approach_next a ≢ act.End
+pub not_end_way : (a : Approach) → approach_next a ≢ act.End
 not_end_way way.Start e = cc
 not_end_way (way.At x) e = cc
 not_end_way (way.Latching x) e = cc
 not_end_way (way.Latched x) e = cc
 not_end_way (way.Leaving x to) e = cc
 
-not_end : (c : Change) → change_next c ≢ act.End
+pub not_end : (c : Change) → change_next c ≢ act.End
 not_end (change.Putting x page) e = cc
 not_end (change.Taking full) e = cc
 not_end (change.PuttingNew p) e = cc

@@ -8,3 +8,4 @@ pub mod Ends
 pub mod Withins
 pub mod Alone
 pub mod Released
+pub mod Posted

@@ -8,14 +8,15 @@ use Rattle.bl_store.specs.Hands.{HasNoStock, IsStockOf}
 use Rattle.bl_ways.specs.declared.acts.Action.TheVariants as act
 use Rattle.bl_ways.specs.declared.acts.Seen.TheVariants as seen
 use Rattle.bl_tables.specs.Knowing.{end_of_proc}
-use Rattle.bl_courses.specs.Frames.{op_of, frames_of, Follows}
+use Rattle.bl_tables.specs.Logs.{proc_log}
+use Rattle.bl_courses.specs.Frames.{op_of, work_of, frames_of, Follows}
 use Rattle.bl_store.specs.Hands.{known}
 use Rattle.bl_ways.specs.declared.acts.Seen.{Seen}
 use Rattle.bl_index.specs.declared.stepping.Stepped.{Stepped}
 use Rattle.bl_index.specs.declared.stepping.Stepped.TheVariants.{On, AtEnd}
 use Rattle.bl_page.specs.Machine.{Act}
 use Rattle.bl_page.specs.Machine.Act.{Begin}
-use Rattle.bl_trails.specs.Trails.{Trail, DoesAt}
+use Rattle.bl_trails.specs.Trails.{Trail, DoesAt, marks_of}
 use Rattle.bl_proc.specs.declared.kinds.Proc.{Proc}
 use Rattle.bl_proc.specs.Processes.{next_of, Takes}
 use Rattle.bl_passes.specs.declared.known.Mine.{Mine}
@@ -56,7 +57,7 @@ abbrev pub HasFrames : Seat (Unit {0}) (View Mine) → Option Stock → ℕ → 
 HasFrames h None many = (many ≡ 0) × HasNoStock h
 HasFrames h (Some stock) many = IsStockOf h stock × (stock.count ≡ many)
 
--- The process that was begun as first has ended as last.
+-- The process that was begun as first has ended as last, and has done what its answer means.
 pub record IsDone (pass : ℕ) (old e : Mine) (first last : Proc) : Type 0 where
   pub d : Mine
   pub before : Proc
@@ -66,6 +67,8 @@ pub record IsDone (pass : ℕ) (old e : Mine) (first last : Proc) : Type 0 where
   pub told : Finishes (end_of_proc before) d e
   pub takes : Takes before seen.Done last
   pub op : op_of before ≡ op_of first
+  pub work : work_of before ≡ work_of first
+  pub log : proc_log last (marks_of (name pass (old.number + 1)) (trail_of e.trail))
 
 -- After a step of the process p, which is then q: it has gone on by one event; or it is to end, and nothing has happened.
 abbrev pub IsAfter : Layout → Seat (Unit {0}) (View Mine) → Seat (Unit {0}) (View Mine) → Proc → Proc → Stepped → Type 0

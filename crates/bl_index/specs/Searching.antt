@@ -1,4 +1,4 @@
--- A search that goes on, and the answer of an operation.
+-- A search that goes on, and the answers of an operation and of a post.
 use Rattle.std.specs.Prelude.{Option, None, Some}
 use Rattle.bl_ways.specs.declared.answers.Answer.{Answer}
 use Rattle.bl_ways.specs.declared.answers.Answer.TheVariants.{Op, Post}
@@ -17,3 +17,9 @@ abbrev pub IsOpAnswer : Option Answer → Type 0
 IsOpAnswer None = ⊥
 IsOpAnswer (Some (Op reply hint)) = Unit {0}
 IsOpAnswer (Some (Post what hint)) = ⊥
+
+-- the answer of a post
+abbrev pub IsPostAnswer : Option Answer → Type 0
+IsPostAnswer None = ⊥
+IsPostAnswer (Some (Op reply hint)) = ⊥
+IsPostAnswer (Some (Post what hint)) = Unit {0}

@@ -1,6 +1,6 @@
 //! Insertions and deletions.
 
-ghost use Rattle.std.specs.Prelude.{◌≡◌, None, Some, false};
+ghost use Rattle.std.specs.Prelude.{◌≡◌, None, Some, IfSome, false};
 ghost use Rattle.bl_model.specs.declared.operation.Op.TheVariants as op;
 ghost use Rattle.bl_ways.specs.declared.acts.Action.TheVariants as act;
 ghost use Rattle.bl_ways.specs.declared.answers.Answer.TheVariants as answers;
@@ -33,7 +33,7 @@ fn answered(answer: Option<Answer>) -> (Reply, Option<Hint>)
 }
 
 impl Index {
-    ghost use Rattle.bl_index.specs.Calls.{IsPassOf, IsSamePass, number_of, trail, Answers};
+    ghost use Rattle.bl_index.specs.Calls.{IsPassOf, IsSamePass, number_of, trail, IsHint, Answers};
 
     /// Puts the value at the key, where the key has none. Where a page was parted, there is a hint to post.
     pub fn insert<R: Wait>(
@@ -46,6 +46,7 @@ impl Index {
         requires { IsPassOf self.now pass.old }
         ensures same { IsSamePass pass.old pass.new }
         ensures answers { Answers (number_of pass.old) (op.Insert key value) result.0 (trail pass.old) (trail pass.new) }
+        ensures hint { IfSome result.1 IsHint }
     {
         let process = self.carry_out(rt, &mut pass.hand, Insert::new(key, value));
         answered(process.answer())
@@ -62,7 +63,7 @@ impl Index {
     }
 
     /// Carries the process out, from its begin to its end.
-    fn carry_out<P: Kind, R: Wait>(&self, rt: &R, hand: &mut Hand<Mine>, process: P) -> P
+    pub(crate) fn carry_out<P: Kind, R: Wait>(&self, rt: &R, hand: &mut Hand<Mine>, process: P) -> P
         requires own { IsOf self.now.store.table.shared.table_id self.now.store.layout hand.old.seat }
         requires idle { IsIdle hand.old.seat × HasNoStock hand.old.seat }
         requires new { (P.answer_of process ≡ None) × (P.next_of process ≡ act.Begin) × IsUnborn (P.proc_of process) }

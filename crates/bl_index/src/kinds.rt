@@ -1,6 +1,6 @@
 //! Kinds of processes, each by its own type.
 
-use bl_proc::{Delete, Find, Insert, Process};
+use bl_proc::{Delete, Find, Insert, Post, Process};
 
 /// A kind of process that the index carries out: each is one of the kinds that the world of processes knows, and goes on
 /// in one way.
@@ -98,4 +98,27 @@ impl Kind for Delete {
     ghost wants = { delete_wants };
 
     ghost follows = { delete_follows };
+}
+
+impl Kind for Post {
+    ghost use Rattle.std.specs.Prelude.{refl};
+    ghost use Rattle.bl_proc.specs.declared.kinds.Proc.TheVariants as proc;
+    ghost use Rattle.bl_courses.proofs.Posts.{post_goes};
+    ghost use Rattle.bl_courses.proofs.PostsFollowing.{post_wants, post_follows};
+
+    ghost proc_of = { λ p. proc.Post p };
+
+    ghost acts = { λ p. refl };
+
+    ghost asks = { λ p. refl };
+
+    ghost answers = { λ p. refl };
+
+    ghost goes = { λ p q what t. t };
+
+    ghost courses = { post_goes };
+
+    ghost wants = { post_wants };
+
+    ghost follows = { post_follows };
 }

@@ -14,6 +14,7 @@ mod finding;
 mod index;
 mod kinds;
 mod opening;
+mod posting;
 mod running;
 mod stepping;
 mod sweeping;

@@ -7,6 +7,10 @@ ghost use Rattle.bl_page.specs.declared.page.Page.{Page as PageIs};
 ghost use Rattle.bl_proc.specs.Processes.{next_of};
 ghost use Rattle.bl_courses.specs.Courses.{GoesOn};
 ghost use Rattle.bl_tables.specs.Knowing.{end_of_proc};
+ghost use Rattle.bl_tables.specs.Logs.{proc_log};
+ghost use Rattle.bl_trails.specs.Trails.{marks_of};
+ghost use Rattle.bl_passes.specs.Noting.{trail_of};
+ghost use Rattle.bl_passes.specs.Fitting.{name};
 ghost use Rattle.bl_store.specs.Hands.{known, IsOf, IsIdle, IsRunning, IsSameHand, IsSameStage, IsSameStock};
 ghost use Rattle.bl_passes.specs.Told.{Begins, Finishes, IsUnborn, MayGiveUp};
 ghost use Rattle.bl_index.specs.Runs.{IsOn, IsSince, IsWithin, Moves};
@@ -77,6 +81,7 @@ impl Index {
         ensures same { IsSameHand hand.old.seat hand.new.seat × IsSameStock hand.old.seat hand.new.seat }
         ensures idle { IsIdle hand.new.seat }
         ensures told { Finishes (end_of_proc (P.proc_of process.old)) (known hand.old.seat) (known hand.new.seat) }
+        ensures log { proc_log (P.proc_of process.new) (marks_of (name (known hand.old.seat).pass (known hand.old.seat).number) (trail_of (known hand.new.seat).trail)) }
         ensures takes { P.Takes process.old seen.Done process.new }
         ensures within { IsWithin hand.new.seat }
     {

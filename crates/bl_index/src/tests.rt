@@ -3,7 +3,7 @@ ghost use Rattle.bl_index.specs.Calls.{IsPassOf};
 
 use crate::{Config, Index, OpenFault, OutOfTurns, Pass};
 use bl_model::Reply;
-use bl_proc::{Find, Hint};
+use bl_proc::{Find, Hint, Posted};
 use std::alloc::Global;
 use std::sync::Wait;
 use std::test::Fail;
@@ -250,5 +250,71 @@ fn sizes_out_of_range_are_refused(rt: HostRuntime) -> Result<(), Fail> {
     assert!(rt; matches!(none, Err(OpenFault::Passes)));
     let all = Index::open(rt.alloc(), config(4, 65));
     assert!(rt; matches!(all, Err(OpenFault::Passes)));
+    Ok(())
+}
+
+// Keys 1 to 15 part the leaf, and the post of the upper part grows the tree: a search goes down to it.
+#[test]
+fn posts_grow_the_tree(rt: HostRuntime) -> Result<(), Fail> {
+    let Some((index, mut one, mut two)) = two_passes(rt.alloc(), 8) else {
+        assert!(rt; false);
+        return Ok(());
+    };
+    for key in 1..15 {
+        let reply = index.insert(&rt, &mut one, key, 10 * key);
+        assert!(rt; matches!(reply, (Reply::Inserted, None)));
+    }
+    let last = index.insert(&rt, &mut one, 15, 150);
+    let (Reply::Inserted, Some(hint)) = last else {
+        assert!(rt; false);
+        return Ok(());
+    };
+    assert!(rt; matches!(hint, Hint::Post { level: 1, key: 9 }));
+    let done = index.post(&rt, &mut one, hint);
+    assert!(rt; matches!(done, (Posted::Done, None)));
+    let again = index.post(&rt, &mut two, hint);
+    assert!(rt; matches!(again, (Posted::Already, None)));
+    let found = index.find(&mut two, 12, 3);
+    assert!(rt; matches!(found, Ok(Reply::Found(120))));
+    Ok(())
+}
+
+// An opening index has no page that begins at a key, and the tree grows only as far as it is asked.
+#[test]
+fn posts_of_nothing_are_stale(rt: HostRuntime) -> Result<(), Fail> {
+    let Some((index, mut pass)) = one_pass(rt.alloc(), 8) else {
+        assert!(rt; false);
+        return Ok(());
+    };
+    let high = index.post(&rt, &mut pass, Hint::Post { level: 12, key: 9 });
+    assert!(rt; matches!(high, (Posted::Stale, None)));
+    let two = index.post(&rt, &mut pass, Hint::Post { level: 2, key: 9 });
+    assert!(rt; matches!(two, (Posted::Stale, None)));
+    let few = index.find(&mut pass, 5, 2);
+    assert!(rt; matches!(few, Ok(Reply::Absent)));
+    let one = index.post(&rt, &mut pass, Hint::Thin { level: 1, key: 9 });
+    assert!(rt; matches!(one, (Posted::Stale, None)));
+    let grown = index.find(&mut pass, 5, 2);
+    assert!(rt; matches!(grown, Err(OutOfTurns)));
+    let first = index.post(&rt, &mut pass, Hint::Post { level: 1, key: 0 });
+    assert!(rt; matches!(first, (Posted::Already, None)));
+    Ok(())
+}
+
+// Of 16 frames two are in use, and fourteen rows take the others: there is none for a new level, and the tree stays as it is.
+#[test]
+fn posts_meet_want_of_frames(rt: HostRuntime) -> Result<(), Fail> {
+    let Some((index, mut pass)) = one_pass(rt.alloc(), 4) else {
+        assert!(rt; false);
+        return Ok(());
+    };
+    for key in 1..15 {
+        let reply = index.insert(&rt, &mut pass, key, 10 * key);
+        assert!(rt; matches!(reply, (Reply::Inserted, None)));
+    }
+    let refused = index.post(&rt, &mut pass, Hint::Post { level: 1, key: 9 });
+    assert!(rt; matches!(refused, (Posted::NoRoom, None)));
+    let found = index.find(&mut pass, 12, 2);
+    assert!(rt; matches!(found, Ok(Reply::Found(120))));
     Ok(())
 }

@@ -17,5 +17,6 @@ loop-preserved g c =
       since = since_step _ _ _ _ _ inv.since after.1.1;
       going = (sym (laws.answers c.step.new.process) ∙ follows.running after.4, λ e. follows.begun (laws.acts c.step.new.process ∙ e));
       op = follows.op ∙ inv.op;
+      work = follows.work ∙ inv.work;
       frames = after.2;
     }

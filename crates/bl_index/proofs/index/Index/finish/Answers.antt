@@ -15,4 +15,4 @@ end-requires-clause-rule g c =
     (subst (λ (z : Proc). GoesOn z seen.Done) (sym c.requires.process.state) (laws.courses c.args.process.now seen.Done c.requires.next.0 (rw c.requires.next.1 tt)))
 
 pub returns-clause-within : goal.returns-clause-within
-returns-clause-within g c = ends_within c.args.self.now.store.layout c.args.hand.now.seat c.end.new.hand.seat _ c.requires.own.1 c.end.ensures.same.0.1 c.requires.process.passes c.end.ensures.told.1
+returns-clause-within g c = ends_within c.args.self.now.store.layout c.args.hand.now.seat c.end.new.hand.seat _ c.requires.own.1 c.end.ensures.same.0.1 c.requires.process.passes c.end.ensures.told.1.0

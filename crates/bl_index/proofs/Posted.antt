@@ -1,0 +1,175 @@
+-- What a post tells its caller.
+use Rattle.std.proofs.Common.{ℕ, ◌≡◌, ◌≢◌, ◌+◌, ◌<◌, ◌++◌, Option, Some, None, [], ◌∷◌, refl, sym, ap, ◌∙◌, subst, append-nil, arith}
+use Rattle.std.specs.Prelude.{IfSome}
+use Rattle.bl_page.specs.declared.page.Page.{Page}
+use Rattle.bl_page.specs.declared.page.Page.TheVariants.{Anchor, Leaf, Inner, Dead}
+use Rattle.bl_laws.specs.Pages.{node_of}
+use Rattle.bl_model.specs.declared.operation.Reply.{Reply}
+use Rattle.bl_trails.specs.Trails.{Trail, marks_of}
+use Rattle.bl_ways.specs.declared.acts.Action.TheVariants as act
+use Rattle.bl_ways.specs.declared.acts.Seen.TheVariants as seen
+use Rattle.bl_ways.specs.declared.answers.Hint.{Hint}
+use Rattle.bl_ways.specs.declared.answers.Hint.TheVariants as hint
+use Rattle.bl_ways.specs.declared.answers.Posted.{Posted}
+use Rattle.bl_ways.specs.declared.answers.Posted.TheVariants as posted
+use Rattle.bl_ways.specs.declared.answers.Answer.{Answer}
+use Rattle.bl_ways.specs.declared.answers.Answer.TheVariants as answer
+use Rattle.bl_ways.specs.declared.growing.Growth.{Growth}
+use Rattle.bl_ways.specs.declared.growing.Growth.TheVariants as growth
+use Rattle.bl_ways.specs.Growths.{growth_next}
+use Rattle.bl_proc.specs.declared.inserting.InsertStage.{InsertStage}
+use Rattle.bl_proc.specs.declared.inserting.InsertStage.TheVariants as insert
+use Rattle.bl_proc.specs.declared.inserting.InsertReply.TheVariants as inserted
+use Rattle.bl_proc.specs.Inserts.{post_hint, insert_answer_in}
+use Rattle.bl_proc.specs.declared.posting.Post.{Post}
+use Rattle.bl_proc.specs.declared.posting.PostReply.TheVariants as reply
+use Rattle.bl_proc.specs.declared.posting.PostStage.{PostStage}
+use Rattle.bl_proc.specs.declared.posting.PostStage.TheVariants as post
+use Rattle.bl_proc.specs.declared.kinds.Proc.{Proc}
+use Rattle.bl_proc.specs.declared.kinds.Proc.TheVariants as proc
+use Rattle.bl_proc.specs.Posts.{post_next_in, post_answer_in, PostGoes}
+use Rattle.bl_proc.specs.Processes.{next_of, answer_of, Takes}
+use Rattle.bl_trails.specs.Meanings.{MeansParted}
+use Rattle.bl_tables.specs.Answers.{MeansPosted, MeansHint}
+use Rattle.bl_tables.specs.Logs.{post_log, proc_log}
+use Rattle.bl_tables.specs.Knowing.{Run, bare as know, know_of, know_post, end_of_proc}
+use Rattle.bl_tables.proofs.Answered.{stage_means, stage_hints}
+use Rattle.bl_courses.specs.Frames.{work_of}
+use Rattle.bl_passes.specs.declared.known.Mine.{Mine}
+use Rattle.bl_passes.specs.Noting.{trail_of}
+use Rattle.bl_passes.specs.Seeing.{own}
+use Rattle.bl_passes.specs.Fitting.{name}
+use Rattle.bl_passes.specs.Told.{Finishes}
+use Rattle.bl_index.specs.Calls.{IsHint, Adds, Posts}
+use Rattle.bl_index.specs.Runs.{IsSince, IsDone}
+use Rattle.bl_index.specs.Searching.{IsPostAnswer}
+use Rattle.bl_index.proofs.Calls.{since_end, since_said}
+use Rattle.bl_index.proofs.Ends.{not_end_way, not_end}
+
+not_end_growth : (g : Growth) → growth_next g ≢ act.End
+not_end_growth growth.Latching e = cc
+not_end_growth growth.Latched e = cc
+not_end_growth (growth.Taking rise) e = cc
+not_end_growth (growth.PuttingTop r) e = cc
+not_end_growth (growth.PuttingAnchor r) e = cc
+not_end_growth (growth.OpeningTop x) e = cc
+not_end_growth growth.OpeningGrown e = cc
+not_end_growth growth.OpeningRefused e = cc
+
+silent_at_end : (level key : ℕ) (got : ℕ → Page) (child : ℕ) (a : PostStage) → post_next_in a ≡ act.End → (know_post level key got child a).said ≡ None
+silent_at_end level key got child post.New e = cc
+silent_at_end level key got child (post.Coming a) e = absurd (not_end_way a e)
+silent_at_end level key got child (post.Growing g) e = absurd (not_end_growth g e)
+silent_at_end level key got child (post.Walking w) e = cc
+silent_at_end level key got child (post.Changing c) e = absurd (not_end c e)
+silent_at_end level key got child (post.Staying x r) e = cc
+silent_at_end level key got child (post.Ending r) e = refl
+silent_at_end level key got child (post.Over r) e = refl
+
+answers_at_end : (at level key : ℕ) (a b : PostStage) → post_next_in a ≡ act.End → PostGoes level key a seen.Done b → IsPostAnswer (post_answer_in at b)
+answers_at_end at level key post.New b e t = cc
+answers_at_end at level key (post.Coming a) b e t = absurd (not_end_way a e)
+answers_at_end at level key (post.Growing g) b e t = absurd (not_end_growth g e)
+answers_at_end at level key (post.Walking w) b e t = cc
+answers_at_end at level key (post.Changing c) b e t = absurd (not_end c e)
+answers_at_end at level key (post.Staying x r) b e t = cc
+answers_at_end at level key (post.Over r) b e t = absurd t
+answers_at_end at level key (post.Ending r) post.New e t = absurd t
+answers_at_end at level key (post.Ending r) (post.Coming a) e t = absurd t
+answers_at_end at level key (post.Ending r) (post.Growing g) e t = absurd t
+answers_at_end at level key (post.Ending r) (post.Walking w) e t = absurd t
+answers_at_end at level key (post.Ending r) (post.Changing c) e t = absurd t
+answers_at_end at level key (post.Ending r) (post.Staying x q) e t = absurd t
+answers_at_end at level key (post.Ending r) (post.Ending q) e t = absurd t
+answers_at_end at level key (post.Ending r) (post.Over (reply.Done s)) e t = tt
+answers_at_end at level key (post.Ending r) (post.Over reply.Already) e t = tt
+answers_at_end at level key (post.Ending r) (post.Over reply.Stale) e t = tt
+answers_at_end at level key (post.Ending r) (post.Over reply.NoRoom) e t = tt
+answers_at_end at level key (post.Ending r) (post.Over reply.TooTall) e t = tt
+
+-- a post that ends at its next action, and is then q
+pub record IsPosting (before last : Proc) (level key : ℕ) : Type 0 where
+  pub old : Post
+  pub new : Post
+  pub before_is : before ≡ proc.Post old
+  pub last_is : last ≡ proc.Post new
+  pub level_is : new.level ≡ level
+  pub key_is : new.key ≡ key
+  pub at_end : post_next_in old.stage ≡ act.End
+  pub goes : PostGoes old.level old.key old.stage seen.Done new.stage
+
+first_of : {a b c d : ℕ} → ◌≡◌ {A = Option (ℕ × ℕ)} (Some (a, b)) (Some (c, d)) → a ≡ c
+first_of {a} {b} {c} {d} e = (let both : ◌≡◌ {A = ℕ × ℕ} (a, b) (c, d) = cc in ap (λ (z : ℕ × ℕ). z.0) both)
+
+second_of : {a b c d : ℕ} → ◌≡◌ {A = Option (ℕ × ℕ)} (Some (a, b)) (Some (c, d)) → b ≡ d
+second_of {a} {b} {c} {d} e = (let both : ◌≡◌ {A = ℕ × ℕ} (a, b) (c, d) = cc in ap (λ (z : ℕ × ℕ). z.1) both)
+
+posting : (before last : Proc) (level key : ℕ) → work_of before ≡ Some (level, key) → next_of before ≡ act.End → Takes before seen.Done last → IsPosting before last level key
+posting (proc.Post p) (proc.Post q) level key is e t = record { old = p; new = q; before_is = refl; last_is = refl; level_is = t.0 ∙ first_of is; key_is = t.1 ∙ second_of is; at_end = e; goes = t.2 }
+posting (proc.Post p) (proc.Find q) level key is e t = absurd t
+posting (proc.Post p) (proc.Insert q) level key is e t = absurd t
+posting (proc.Post p) (proc.Delete q) level key is e t = absurd t
+posting (proc.Find p) last level key is e t = absurd (let z = is in cc)
+posting (proc.Insert p) last level key is e t = absurd (let z = is in cc)
+posting (proc.Delete p) last level key is e t = absurd (let z = is in cc)
+
+pub post_has_answer : (pass : ℕ) (old e : Mine) (first last : Proc) (level key : ℕ) → IsDone pass old e first last → work_of first ≡ Some (level, key) → (what : Option Answer) → what ≡ answer_of last → IsPostAnswer what
+post_has_answer pass old e first last level key d is what a =
+    let p = posting d.before last level key (d.work ∙ is) d.at_end d.takes in
+    subst IsPostAnswer (sym (a ∙ ap answer_of p.last_is)) (answers_at_end p.new.level p.old.level p.old.key p.old.stage p.new.stage p.at_end p.goes)
+
+pub post_answered : (pass : ℕ) (old e : Mine) (first last : Proc) (level key : ℕ) (what : Posted) (next : Option Hint) → IsDone pass old e first last → work_of first ≡ Some (level, key) → answer_of last ≡ Some (answer.Post what next) → Posts pass level key what next (trail_of old.trail) (trail_of e.trail)
+post_answered pass old e first last level key what next d is a =
+    let p = posting d.before last level key (d.work ∙ is) d.at_end d.takes in
+    let q = p.new in
+    let state = d.state ∙ p.before_is in
+    let told : Finishes None d.d e = subst (λ (z : Proc). Finishes (end_of_proc z) d.d e) p.before_is d.told in
+    let says : (r : Run) → r.state ≡ d.d.state → (know r).said ≡ None = λ r h. ap (λ (z : Proc). (know_of r.got r.child z).said) (h ∙ state) ∙ silent_at_end p.old.level p.old.key r.got r.child p.old.stage p.at_end in
+    let marks : Trail = marks_of (name pass (old.number + 1)) (trail_of e.trail) in
+    let log : post_log q.level q.key q.stage marks = subst (λ (z : Proc). proc_log z marks) p.last_is d.log in
+    let answered : post_answer_in q.level q.stage ≡ Some (answer.Post what next) = sym (ap answer_of p.last_is) ∙ a in
+    record {
+      adds = record {
+        number = old.number + 1;
+        holds = since_end pass None old d.d e d.since told;
+        seen = d.told.notes.seen;
+        none = since_said pass None old d.d e None d.since told says ∙ append-nil (own pass (trail_of old.trail));
+      };
+      means = subst (λ (z : ℕ × ℕ). MeansPosted z.0 z.1 what marks) (λ i. (p.level_is i, p.key_is i)) (stage_means q.level q.key q.stage what next marks answered log);
+      hint = subst (λ (z : ℕ × ℕ). MeansHint z.0 z.1 what next marks) (λ i. (p.level_is i, p.key_is i)) (stage_hints q.level q.key q.stage what next marks answered log);
+    }
+
+below_limit : (c : Page) → (node_of c).shape.level < 12
+below_limit (Anchor a) = omega arith
+below_limit (Leaf l) = omega arith
+below_limit (Inner i) = i.below_limit
+below_limit (Dead d) = d.below_limit
+
+parted_fits : (level key : ℕ) (parted : Option ℕ) (marks : Trail) → MeansParted level key parted marks → IfSome (post_hint (level + 1) parted) IsHint
+parted_fits level key None marks m = tt
+parted_fits level key (Some s) marks m = (let low = below_limit m.done.parent.parent in let is = m.done.parent.level_is in (omega arith, omega arith))
+
+none_fits : (next : Option Hint) → next ≡ None → IfSome next IsHint
+none_fits next e = subst (λ (z : Option Hint). IfSome z IsHint) (sym e) tt
+
+-- the hint beside an answer is one that may be posted
+pub hint_fits : (level key : ℕ) (what : Posted) (next : Option Hint) (marks : Trail) → MeansHint level key what next marks → IfSome next IsHint
+hint_fits level key posted.Done next marks h = subst (λ (z : Option Hint). IfSome z IsHint) (sym h.2) (parted_fits level key h.0 marks h.1)
+hint_fits level key posted.Already next marks h = none_fits next h
+hint_fits level key posted.Stale next marks h = none_fits next h
+hint_fits level key posted.NoRoom next marks h = none_fits next h
+hint_fits level key posted.TooTall next marks h = none_fits next h
+
+some_op : (r s : Reply) (h i : Option Hint) → Some (answer.Op r h) ≡ Some (answer.Op s i) → i ≡ h
+some_op r s h i e = cc
+
+pub insert_fits : (a : InsertStage) (reply : Reply) (next : Option Hint) → insert_answer_in a ≡ Some (answer.Op reply next) → IfSome next IsHint
+insert_fits (insert.Over (inserted.Inserted None)) reply next e = none_fits next (some_op _ _ _ _ e)
+insert_fits (insert.Over (inserted.Inserted (Some s))) reply next e = subst (λ (z : Option Hint). IfSome z IsHint) (sym (some_op _ _ _ _ e)) (omega arith, omega arith)
+insert_fits (insert.Over (inserted.Present v)) reply next e = none_fits next (some_op _ _ _ _ e)
+insert_fits (insert.Over inserted.NoRoom) reply next e = none_fits next (some_op _ _ _ _ e)
+insert_fits insert.New reply next e = absurd (let z = e in cc)
+insert_fits (insert.Coming a) reply next e = absurd (let z = e in cc)
+insert_fits (insert.Present x v) reply next e = absurd (let z = e in cc)
+insert_fits (insert.Changing c) reply next e = absurd (let z = e in cc)
+insert_fits (insert.Ending r) reply next e = absurd (let z = e in cc)
