@@ -2,24 +2,24 @@
 
 use crate::command::{Invocation, ServeOptions, read_words};
 use crate::fault::CommandFault;
-use crate::leaf::OneLeaf;
-use crate::serve::serve_leaf;
-use bl_lines::{Answers, ServeFault, Totals};
-use bl_model::{Next, Op, Reply, Watched};
+use crate::serve::serve_index;
+use bl_lines::{ServeFault, Totals};
+use bl_model::Watched;
 use std::alloc::Global;
 use std::test::Fail;
 
-/// What `serve` writes for these bytes, and what it counts.
-fn served(alloc: Global, input: &[u8]) -> Result<(Vec<u8>, Totals), ServeFault> {
+/// What `serve` writes for these bytes over an index of 8 pages, and what it counts.
+fn served(rt: &HostRuntime, input: &[u8]) -> Result<(Vec<u8>, Totals), ServeFault> {
+    let alloc = rt.alloc();
     let mut reader = Watched::new(input);
     let mut writer = Watched::new(Vec::new(alloc));
-    let totals = serve_leaf(alloc, &mut reader, &mut writer)?;
+    let totals = serve_index(rt, alloc, 8, &mut reader, &mut writer)?;
     Ok((writer.into_inner(), totals))
 }
 
 /// `serve` writes these lines for those.
 fn answers(rt: &HostRuntime, input: &[u8], output: &[u8]) -> bool {
-    match served(rt.alloc(), input) {
+    match served(rt, input) {
         Ok((text, _)) => text.as_slice() == output,
         Err(_) => false,
     }
@@ -49,7 +49,7 @@ fn single_requests(rt: HostRuntime) {
 
 #[test]
 fn a_section_and_its_totals(rt: HostRuntime) -> Result<(), Fail> {
-    let (text, totals) = served(rt.alloc(), b"insert 1 10\nfind 1\nsync\ndelete 1\nx\n")?;
+    let (text, totals) = served(&rt, b"insert 1 10\nfind 1\nsync\ndelete 1\nx\n")?;
     assert!(rt;
         text.as_slice()
             == b"1 inserted\n2 found 10\n3 synced\n4 deleted 10\n5 malformed\n".as_slice()
@@ -65,30 +65,42 @@ fn a_section_and_its_totals(rt: HostRuntime) -> Result<(), Fail> {
     Ok(())
 }
 
-#[test]
-fn a_leaf_of_fourteen_rows(rt: HostRuntime) {
-    let mut leaf = OneLeaf::new();
-    for key in 1..15u64 {
-        assert!(rt; matches!(leaf.answer(Op::Insert(key, key * 10)), Reply::Inserted));
+/// Lines that the stream of bytes spells, from one number to another.
+fn inserts(alloc: Global, first: u64, last: u64) -> Result<Vec<u8>, Fail> {
+    let mut text = String::new(alloc);
+    for key in first..last {
+        write!(text, "insert {key} {key}0\n")?;
     }
-    assert!(rt; matches!(leaf.answer(Op::Insert(15, 150)), Reply::NoRoom));
-    assert!(rt; matches!(leaf.answer(Op::Insert(14, 1)), Reply::Present(140)));
-    assert!(rt; matches!(leaf.answer(Op::Find(15)), Reply::Absent));
-    assert!(rt; matches!(leaf.answer(Op::Delete(1)), Reply::Deleted(10)));
-    assert!(rt; matches!(leaf.answer(Op::Insert(15, 150)), Reply::Inserted));
-    assert!(rt; matches!(leaf.answer(Op::Find(15)), Reply::Found(150)));
+    Ok(text.into_bytes())
 }
 
+// The fifteenth row parts the leaf, and its post grows the tree: the row behind the new bound is found.
 #[test]
-fn a_part_of_a_leaf(rt: HostRuntime) -> Result<(), Fail> {
-    let mut leaf = OneLeaf::new();
-    let _ = leaf.answer(Op::Insert(18446744073709551615, 1));
-    let _ = leaf.answer(Op::Insert(7, 70));
-    let Reply::Rows(rows, next) = leaf.answer(Op::Part(8)) else {
-        return Err("no rows".into());
-    };
-    assert!(rt; rows.as_slice() == [(18446744073709551615, 1)].as_slice());
-    assert!(rt; matches!(next, Next::End));
+fn fifteen_rows(rt: HostRuntime) -> Result<(), Fail> {
+    let mut input = inserts(rt.alloc(), 1, 16)?;
+    input.extend_from_slice(b"find 12\n")?;
+    let (text, totals) = served(&rt, input.as_slice())?;
+    let last: &[u8] = b"15 inserted\n16 found 120\n";
+    assert!(rt; text.as_slice().ends_with(last));
+    assert_eq!(rt; totals.requests, 16);
+    Ok(())
+}
+
+// Each change leaves a frame behind, and the sweeps after the requests give all of them back.
+#[test]
+fn a_thousand_changes_of_one_key(rt: HostRuntime) -> Result<(), Fail> {
+    let mut input = Vec::new(rt.alloc());
+    for _round in 0..500 {
+        input.extend_from_slice(b"insert 1 10\ndelete 1\n")?;
+    }
+    let (text, totals) = served(&rt, input.as_slice())?;
+    assert_eq!(rt; totals.requests, 1000);
+    let refused = text
+        .as_slice()
+        .split(|byte| *byte == b'\n')
+        .filter(|line| line.ends_with(b"noroom"))
+        .count();
+    assert_eq!(rt; refused, 0);
     Ok(())
 }
 

@@ -5,7 +5,7 @@ use Rattle.bl_lines.specs.declared.serving.Totals.{Totals}
 use Rattle.bl_lines.specs.declared.serving.ServeFault.{ServeFault}
 use Rattle.bl_lines.specs.Served.{Served, Serves, Stops}
 use Rattle.bl_lines.specs.Streams.{EndsRead}
-use Rattle.bl_cli.proofs.serve.serve_leaf.Goals as goal
+use Rattle.bl_cli.proofs.serve.serve_index.Goals as goal
 
 -- what the server promises, without the map that it leaves
 without_map : (start after : Map) (input ahead output : List ℕ) (at_end reader_failed writer_failed : Type 0) (r : Result Totals ServeFault) → start ≡ empty

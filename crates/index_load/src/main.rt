@@ -1,0 +1,187 @@
+//! A load on an index, for `bench/index`: so many threads insert so many rows in an order that looks random, and then each
+//! does so many searches, or so many operations of which half are searches. It prints how many replies were as they should
+//! be, and measures nothing itself.
+#![tactic(auto)]
+
+ghost use Rattle.std.specs.Prelude.{◌≡◌, ◌≤◌, ◌<◌, All, IfSome};
+ghost use Rattle.bl_index.specs.Calls.{IsPassOf};
+
+use bl_index::{Config, Index, Pass};
+use bl_model::Reply;
+use bl_worker::{delete, find, insert};
+use std::alloc::Global;
+use std::sync::Wait;
+use std::sync::atomic::{AtomicU64, Ordering};
+use std::thread;
+use std::thread::Threads;
+
+/// How large the index is, and what each thread does.
+#[derive(Clone, Copy)]
+struct Load {
+    rows: u64,
+    threads: u32,
+    finds: u64,
+    mixed: u64,
+    ghost threads_within: { (1 ≤ threads) × (threads ≤ 4) },
+}
+
+/// The parts of a load, one after another.
+#[derive(Clone, Copy)]
+enum Part {
+    Rows,
+    Finds,
+    Mixed,
+}
+
+impl Load {
+    fn read(words: &[String]) -> Option<Load> {
+        let [_, rows, threads, finds, mixed] = words else {
+            return None;
+        };
+        let rows = rows.parse::<u64>().ok()?;
+        let threads = threads.parse::<u32>().ok()?;
+        let finds = finds.parse::<u64>().ok()?;
+        let mixed = mixed.parse::<u64>().ok()?;
+        if threads < 1 || threads > 4 {
+            return None;
+        }
+        Some(Load {
+            rows,
+            threads,
+            finds,
+            mixed,
+        })
+    }
+}
+
+// The key of a row. Rows that follow each other have keys far apart.
+fn key_of(row: u64) -> u64 {
+    row.wrapping_mul(0x9e37_79b9_7f4a_7c15)
+}
+
+// The next of a list of numbers that looks random.
+fn after(seed: u64) -> u64 {
+    seed.wrapping_mul(6_364_136_223_846_793_005)
+        .wrapping_add(1_442_695_040_888_963_407)
+}
+
+// One of the rows, or row 0 where there are none.
+fn row_of(seed: u64, rows: u64) -> u64 {
+    if rows == 0 { 0 } else { (seed >> 24) % rows }
+}
+
+// Inserts the thread's share of the rows: every so many-th is its own. Returns how many were inserted.
+fn fill<R: Wait>(rt: &R, index: &Index, pass: &mut Pass, place: u64, load: Load) -> u64
+    requires { IsPassOf index.now pass.old }
+    ensures { IsPassOf index.now pass.new }
+{
+    let mut done = 0u64;
+    for row in 0..load.rows {
+        if row % load.threads as u64 == place {
+            if let Reply::Inserted = insert(rt, index, pass, key_of(row), row) {
+                done = done.wrapping_add(1);
+            }
+        }
+    }
+    done
+}
+
+// Searches for rows. Returns how many were found.
+fn search<R: Wait>(rt: &R, index: &Index, pass: &mut Pass, place: u64, load: Load) -> u64
+    requires { IsPassOf index.now pass.old }
+    ensures { IsPassOf index.now pass.new }
+{
+    let mut done = 0u64;
+    let mut seed = place;
+    for _round in 0..load.finds {
+        seed = after(seed);
+        if let Reply::Found(_) = find(rt, index, pass, key_of(row_of(seed, load.rows))) {
+            done = done.wrapping_add(1);
+        }
+    }
+    done
+}
+
+// Searches, and after every two searches deletes a row and inserts it again. Returns how many had room.
+fn mix<R: Wait>(rt: &R, index: &Index, pass: &mut Pass, place: u64, load: Load) -> u64
+    requires { IsPassOf index.now pass.old }
+    ensures { IsPassOf index.now pass.new }
+{
+    let mut done = 0u64;
+    let mut seed = place;
+    for round in 0..load.mixed {
+        if round % 4 != 3 {
+            seed = after(seed);
+        }
+        let row = row_of(seed, load.rows);
+        let reply = match round % 4 {
+            2 => delete(rt, index, pass, key_of(row)),
+            3 => insert(rt, index, pass, key_of(row), row),
+            _ => find(rt, index, pass, key_of(row)),
+        };
+        if !matches!(reply, Reply::NoRoom) {
+            done = done.wrapping_add(1);
+        }
+    }
+    done
+}
+
+// Each pass works in a thread of its own. Returns how many replies were as they should be.
+fn run<R: Threads + Wait + Sync>(
+    rt: &R,
+    index: &Index,
+    passes: &mut [Pass],
+    load: Load,
+    part: Part,
+) -> u64
+    requires { All (IsPassOf index.now) passes.old }
+    ensures { All (IsPassOf index.now) passes.new }
+{
+    let done = AtomicU64::new(0);
+    thread::for_each_mut(
+        rt,
+        passes,
+        4,
+        &|place, pass| {
+            let place = place as u64;
+            let mine = match part {
+                Part::Rows => fill(rt, index, pass, place, load),
+                Part::Finds => search(rt, index, pass, place, load),
+                Part::Mixed => mix(rt, index, pass, place, load),
+            };
+            done.fetch_add(mine, Ordering::SeqCst);
+        },
+    );
+    done.load(Ordering::SeqCst)
+}
+
+// The largest index, with a pass for each thread.
+fn opened(alloc: Global, threads: u32) -> Option<(Index, Vec<Pass>)>
+    ensures { IfSome result (λ t. All (IsPassOf t.0) t.1.items) }
+{
+    Index::open(
+        alloc,
+        Config {
+            pages: 65_536,
+            passes: threads,
+        },
+    )
+    .ok()
+}
+
+fn main(rt: HostRuntime) -> anyhow::Result<()> {
+    let words: Vec<String> = std::env::args(&rt)?.collect(rt.alloc())?;
+    let Some(load) = Load::read(words.as_slice()) else {
+        eprintln!(&rt; "usage: index_load ROWS THREADS FINDS MIXED")?;
+        return Ok(());
+    };
+    let Some((index, mut passes)) = opened(rt.alloc(), load.threads) else {
+        eprintln!(&rt; "out of memory")?;
+        return Ok(());
+    };
+    let rows = run(&rt, &index, passes.as_mut_slice(), load, Part::Rows);
+    let finds = run(&rt, &index, passes.as_mut_slice(), load, Part::Finds);
+    let mixed = run(&rt, &index, passes.as_mut_slice(), load, Part::Mixed);
+    println!(rt; "rows {rows}, found {finds}, mixed {mixed}")?;
+    Ok(())
+}

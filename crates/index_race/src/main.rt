@@ -1,0 +1,159 @@
+//! Four threads with a pass each share an index. They insert keys of their own, and each key is found; then all four delete
+//! each key and search for it, and their replies are counted against what any order allows. What it prints is the same
+//! whatever the schedule.
+//!
+//! No order can answer otherwise, by the contracts of the calls: the run shows that the compiled code keeps them.
+#![tactic(auto)]
+
+ghost use Rattle.std.specs.Prelude.{◌≡◌, All, length, IfSome};
+ghost use Rattle.bl_index.specs.Calls.{IsPassOf};
+
+use bl_index::{Config, Index, Pass};
+use bl_model::Reply;
+use bl_worker::{delete, find, insert};
+use std::alloc::Global;
+use std::sync::Wait;
+use std::sync::atomic::{AtomicU64, Ordering};
+use std::thread;
+use std::thread::Threads;
+
+/// How many keys each thread inserts.
+const ROWS: u64 = 20_000;
+
+/// How many threads there are.
+const THREADS: u64 = 4;
+
+/// What the threads have been answered.
+#[derive(Drop)]
+struct Counts {
+    inserted: AtomicU64,
+    deleted: AtomicU64,
+    absent: AtomicU64,
+    // Replies that no order allows.
+    wrong: AtomicU64,
+}
+
+fn count(counter: &AtomicU64) {
+    counter.fetch_add(1, Ordering::SeqCst);
+}
+
+// The keys of the threads lie between each other: every fourth key is of one of them.
+fn fill<R: Wait>(rt: &R, index: &Index, pass: &mut Pass, place: usize, counts: &Counts)
+    requires { IsPassOf index.now pass.old }
+    ensures { IsPassOf index.now pass.new }
+{
+    let first = place as u64 % THREADS;
+    for row in 0..ROWS {
+        let key = THREADS * row + first;
+        match insert(rt, index, pass, key, key + 1) {
+            Reply::Inserted => count(&counts.inserted),
+            _ => count(&counts.wrong),
+        }
+    }
+}
+
+// Deletes each key and searches for it. Nobody inserts any more, so that it is absent then.
+fn clear<R: Wait>(rt: &R, index: &Index, pass: &mut Pass, counts: &Counts)
+    requires { IsPassOf index.now pass.old }
+    ensures { IsPassOf index.now pass.new }
+{
+    for key in 0..THREADS * ROWS {
+        match delete(rt, index, pass, key) {
+            Reply::Deleted(value) if value == key + 1 => count(&counts.deleted),
+            Reply::Absent => count(&counts.absent),
+            _ => count(&counts.wrong),
+        }
+        match find(rt, index, pass, key) {
+            Reply::Absent => {}
+            _ => count(&counts.wrong),
+        }
+    }
+}
+
+// How many keys are found with the value that was inserted.
+fn found<R: Wait>(rt: &R, index: &Index, pass: &mut Pass) -> u64
+    requires { IsPassOf index.now pass.old }
+    ensures { IsPassOf index.now pass.new }
+{
+    let found = AtomicU64::new(0);
+    for key in 0..THREADS * ROWS {
+        match find(rt, index, pass, key) {
+            Reply::Found(value) if value == key + 1 => count(&found),
+            _ => {}
+        }
+    }
+    found.load(Ordering::SeqCst)
+}
+
+// What the threads do.
+#[derive(Clone, Copy)]
+enum Work {
+    Fill,
+    Clear,
+}
+
+// Each pass works in a thread of its own.
+fn race<R: Threads + Wait + Sync>(
+    rt: &R,
+    index: &Index,
+    passes: &mut [Pass],
+    work: Work,
+    counts: &Counts,
+)
+    requires { All (IsPassOf index.now) passes.old }
+    ensures { All (IsPassOf index.now) passes.new }
+{
+    thread::for_each_mut(
+        rt,
+        passes,
+        4,
+        &|place, pass| {
+            match work {
+                Work::Fill => fill(rt, index, pass, place, counts),
+                Work::Clear => clear(rt, index, pass, counts),
+            }
+        },
+    );
+}
+
+// An index with a pass for each thread, and one more.
+fn opened(alloc: Global) -> Option<(Index, Vec<Pass>, Pass)>
+    ensures { IfSome result (λ t. All (IsPassOf t.0) t.1.items × IsPassOf t.0 t.2) }
+{
+    let config = Config {
+        pages: 65_536,
+        passes: 5,
+    };
+    match Index::open(alloc, config) {
+        Ok((index, mut passes)) => {
+            let last = passes.pop()?;
+            Some((index, passes, last))
+        }
+        Err(_) => None,
+    }
+}
+
+fn main(rt: HostRuntime) -> anyhow::Result<()> {
+    let Some((index, mut passes, mut last)) = opened(rt.alloc()) else {
+        eprintln!(&rt; "out of memory")?;
+        return Ok(());
+    };
+    let counts = Counts {
+        inserted: AtomicU64::new(0),
+        deleted: AtomicU64::new(0),
+        absent: AtomicU64::new(0),
+        wrong: AtomicU64::new(0),
+    };
+    race(&rt, &index, passes.as_mut_slice(), Work::Fill, &counts);
+    let inserted = counts.inserted.load(Ordering::SeqCst);
+    let there = found(&rt, &index, &mut last);
+    println!(rt; "inserted {inserted}, found {there}")?;
+    race(&rt, &index, passes.as_mut_slice(), Work::Clear, &counts);
+    let deleted = counts.deleted.load(Ordering::SeqCst);
+    let absent = counts.absent.load(Ordering::SeqCst);
+    let left = found(&rt, &index, &mut last);
+    println!(rt; "deleted {deleted}, absent {absent}, found {left}")?;
+    let wrong = counts.wrong.load(Ordering::SeqCst);
+    println!(rt; "wrong {wrong}")?;
+    Ok(())
+}
