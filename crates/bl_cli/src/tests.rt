@@ -65,19 +65,20 @@ fn a_section_and_its_totals(rt: HostRuntime) -> Result<(), Fail> {
     Ok(())
 }
 
-/// Lines that the stream of bytes spells, from one number to another.
-fn inserts(alloc: Global, first: u64, last: u64) -> Result<Vec<u8>, Fail> {
-    let mut text = String::new(alloc);
-    for key in first..last {
-        write!(text, "insert {key} {key}0\n")?;
+/// Lines that insert the keys from 1 up to the last one, each with its tenfold.
+fn inserts(alloc: Global, last: u64) -> Result<Vec<u8>, Fail> {
+    let mut lines = Vec::new(alloc);
+    for key in 1..=last {
+        let line = format!(in alloc; "insert {key} {key}0\n")?;
+        lines.extend_from_slice(line.as_bytes())?;
     }
-    Ok(text.into_bytes())
+    Ok(lines)
 }
 
 // The fifteenth row parts the leaf, and its post grows the tree: the row behind the new bound is found.
 #[test]
 fn fifteen_rows(rt: HostRuntime) -> Result<(), Fail> {
-    let mut input = inserts(rt.alloc(), 1, 16)?;
+    let mut input = inserts(rt.alloc(), 15)?;
     input.extend_from_slice(b"find 12\n")?;
     let (text, totals) = served(&rt, input.as_slice())?;
     let last: &[u8] = b"15 inserted\n16 found 120\n";

@@ -43,18 +43,19 @@ fn one_key(rt: HostRuntime) -> Result<(), Fail> {
     Ok(())
 }
 
-// The fifteenth key parts the leaf, and the insertion posts the new one: two gets below the anchor find the key.
+// Keys 15 and 23 part a leaf, and the insertions post the new ones: two gets below the anchor find a key of the third leaf,
+// which by links alone would take three.
 #[test]
 fn an_insertion_posts_what_it_parted(rt: HostRuntime) -> Result<(), Fail> {
     let Some((index, mut pass)) = opened(rt.alloc()) else {
         assert!(rt; false);
         return Ok(());
     };
-    for key in 1..16 {
+    for key in 1..24 {
         let reply = insert(&rt, &index, &mut pass, key, 10 * key);
         assert!(rt; matches!(reply, Reply::Inserted));
     }
-    let by_root = index.find(&mut pass, 12, 3);
-    assert!(rt; matches!(by_root, Ok(Reply::Found(120))));
+    let by_root = index.find(&mut pass, 20, 3);
+    assert!(rt; matches!(by_root, Ok(Reply::Found(200))));
     Ok(())
 }
