@@ -64,3 +64,7 @@ stage_hints level key (post.Ending r) p h marks e log = absurd (let f = e in cc)
 -- In every good world, what a post has answered means what it says.
 pub post_means : (w : World Run) (n : Name) (a : Post) (p : Posted) (h : Option Hint) → IsGood know w → (w.proc n).state ≡ proc.Post a → post_answer_in a.level a.stage ≡ Some (answer.Post p h) → MeansPosted a.level a.key p (marks_of n w.trail)
 post_means w n a p h g is e = stage_means a.level a.key a.stage p h (marks_of n w.trail) e (subst (λ s. proc_log s (marks_of n w.trail)) is (g.sure n).log)
+
+-- And so does its hint.
+pub post_hints : (w : World Run) (n : Name) (a : Post) (p : Posted) (h : Option Hint) → IsGood know w → (w.proc n).state ≡ proc.Post a → post_answer_in a.level a.stage ≡ Some (answer.Post p h) → MeansHint a.level a.key p h (marks_of n w.trail)
+post_hints w n a p h g is e = stage_hints a.level a.key a.stage p h (marks_of n w.trail) e (subst (λ s. proc_log s (marks_of n w.trail)) is (g.sure n).log)

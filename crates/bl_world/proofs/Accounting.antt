@@ -19,9 +19,9 @@ use Rattle.bl_proc.specs.declared.kinds.Proc.TheVariants as proc
 use Rattle.bl_proc.specs.declared.kinds.Proc.{Proc}
 use Rattle.bl_proc.specs.Processes.{answer_of}
 use Rattle.bl_tables.specs.Knowing.{Run, know_of, know}
-use Rattle.bl_tables.specs.Answers.{MeansPosted}
+use Rattle.bl_tables.specs.Answers.{MeansPosted, MeansHint}
 use Rattle.bl_tables.proofs.Logged.{bare_good}
-use Rattle.bl_tables.proofs.Answered.{post_means}
+use Rattle.bl_tables.proofs.Answered.{post_means, post_hints}
 use Rattle.bl_tables.proofs.Starting.{run_laws}
 use Rattle.bl_world.specs.Views.{View, name_of}
 use Rattle.bl_world.specs.Deeds.{Way}
@@ -98,6 +98,9 @@ module _ (v : View) (h : Has v) where
   posted : (n : ℕ) (p : Post) (a : Posted) (hint : Option Hint) → slice_get v.processes n ≡ Some (proc.Post p) → answer_of (proc.Post p) ≡ Some (answer.Post a hint) → MeansPosted p.level p.key a (marks_of (name_of (n + 1)) h.world.trail)
   posted n p a hint stood e = subst (λ k. MeansPosted p.level p.key a (marks_of (name_of k) h.world.trail)) (sym (one_more n)) (post_means h.world (name_of (suc n)) p a hint h.good (h.runs n (proc.Post p) stood) e)
 
+  hinted : (n : ℕ) (p : Post) (a : Posted) (hint : Option Hint) → slice_get v.processes n ≡ Some (proc.Post p) → answer_of (proc.Post p) ≡ Some (answer.Post a hint) → MeansHint p.level p.key a hint (marks_of (name_of (n + 1)) h.world.trail)
+  hinted n p a hint stood e = subst (λ k. MeansHint p.level p.key a hint (marks_of (name_of k) h.world.trail)) (sym (one_more n)) (post_hints h.world (name_of (suc n)) p a hint h.good (h.runs n (proc.Post p) stood) e)
+
   pub account : Way v → Account v
   account way =
       let w = h.world in
@@ -123,6 +126,7 @@ module _ (v : View) (h : Has v) where
         own = own;
         answers = answers;
         posted = posted;
+        hinted = hinted;
         ended = λ n p a stood e. (let x = ended n p a stood e in (x.0, x.1.0, x.1.1));
         refused = λ way n p a stood e no. first_refused way.size way.opened v way.deeds n way.opening way.led (record { process = p; stood = stood; refused = answers_refused p a e no });
       }

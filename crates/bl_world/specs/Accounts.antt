@@ -20,7 +20,7 @@ use Rattle.bl_proc.specs.declared.posting.Post.{Post}
 use Rattle.bl_proc.specs.declared.kinds.Proc.{Proc}
 use Rattle.bl_proc.specs.declared.kinds.Proc.TheVariants as proc
 use Rattle.bl_proc.specs.Processes.{answer_of}
-use Rattle.bl_tables.specs.Answers.{MeansPosted}
+use Rattle.bl_tables.specs.Answers.{MeansPosted, MeansHint}
 use Rattle.bl_world.specs.declared.owners.Owner.{Owner}
 use Rattle.bl_world.specs.Views.{View, name_of, owner_of, events_shown}
 use Rattle.bl_world.specs.Deeds.{Way, turns_in, IsNoRoom, WasRefused}
@@ -100,8 +100,9 @@ pub record Account (v : View) : Type 0 where
   pub own : (i : ℕ) (q : Name) (said : Said) → SaysAt trail i q said → IsOwn v q said
   pub answers : (n : ℕ) (p : Proc) (reply : Reply) (hint : Option Hint) → slice_get v.processes n ≡ Some p → answer_of p ≡ Some (answer.Op reply hint) → Answers trail (name_of (n + 1)) (op_of p) reply
   pub ended : (n : ℕ) (p : Proc) (a : Answer) → slice_get v.processes n ≡ Some p → answer_of p ≡ Some a → (i : ℕ) × (reply : Option Reply) × DoesAt trail i (name_of (n + 1)) (End reply)
-  -- what a post answered means what it says, by what its process has done
+  -- what a post answered means what it says, and so does its hint, by what its process has done
   pub posted : (n : ℕ) (p : Post) (a : Posted) (hint : Option Hint) → slice_get v.processes n ≡ Some (proc.Post p) → answer_of (proc.Post p) ≡ Some (answer.Post a hint) → MeansPosted p.level p.key a (marks_of (name_of (n + 1)) trail)
+  pub hinted : (n : ℕ) (p : Post) (a : Posted) (hint : Option Hint) → slice_get v.processes n ≡ Some (proc.Post p) → answer_of (proc.Post p) ≡ Some (answer.Post a hint) → MeansHint p.level p.key a hint (marks_of (name_of (n + 1)) trail)
   -- whichever the turns were: a process answers that there was no room only where one of them was a fit refusal of it
   pub refused : (way : Way v) (n : ℕ) (p : Proc) (a : Answer) → slice_get v.processes n ≡ Some p → answer_of p ≡ Some a → IsNoRoom a → WasRefused way.opened way.deeds n
 
