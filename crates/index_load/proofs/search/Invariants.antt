@@ -1,5 +1,5 @@
 use Rattle.bl_index.specs.Calls.{IsPassOf}
 use Rattle.index_load.proofs.search.Given as goal
 
-abbrev pub invariant-loop-_round : goal.invariant-loop-_round
-invariant-loop-_round g l = IsPassOf l.index l.pass
+abbrev pub invariant-loop-round : goal.invariant-loop-round
+invariant-loop-round g l = IsPassOf l.index l.pass

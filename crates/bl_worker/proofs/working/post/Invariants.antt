@@ -3,8 +3,8 @@ use Rattle.bl_index.specs.Calls.{IsSamePass, IsHint, number_of, trail}
 use Rattle.bl_worker.specs.Works.{Adds}
 use Rattle.bl_worker.proofs.working.post.Given as goal
 
-abbrev pub invariant-loop-_level : goal.invariant-loop-_level
-invariant-loop-_level g l = record {
+abbrev pub invariant-loop-level : goal.invariant-loop-level
+invariant-loop-level g l = record {
   same : IsSamePass l.fn.pass l.pass;
   adds : Adds (number_of l.fn.pass) (trail l.fn.pass) (trail l.pass);
   hint : IfSome l.hint IsHint;
