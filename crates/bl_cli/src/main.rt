@@ -22,9 +22,10 @@ use fault::CommandFault;
 use serve::serve_index;
 use std::io;
 use std::process::ExitCode;
+use std::sync::Wait;
 
 fn main(rt: HostRuntime) -> anyhow::Result<ExitCode> {
-    match carry_out(&rt) {
+    match carry_out(&rt, &rt) {
         Ok(code) => Ok(code),
         Err(fault) => {
             // Where standard error fails too, the status still tells the fault.
@@ -34,15 +35,15 @@ fn main(rt: HostRuntime) -> anyhow::Result<ExitCode> {
     }
 }
 
-/// Carries out what the command line asks for.
-fn carry_out(rt: &HostRuntime) -> Result<ExitCode, CommandFault> {
+/// Carries out what the command line asks for. Where it waits, it waits by the second handle.
+fn carry_out<W: Wait>(rt: &HostRuntime, wait: &W) -> Result<ExitCode, CommandFault> {
     let alloc = rt.alloc();
     let words: Vec<String> = std::env::args(rt)?.collect(alloc)?;
     match command::read_words(alloc, words.as_slice()) {
         Ok(Invocation::Serve(options)) => {
             let mut reader = Watched::new(rt.stdin());
             let mut writer = Watched::new(io::writer(rt));
-            serve_index(rt, alloc, options.pages, &mut reader, &mut writer)?;
+            serve_index(wait, alloc, options.pages, &mut reader, &mut writer)?;
             Ok(ExitCode::SUCCESS)
         }
         Ok(Invocation::Check(file)) => {

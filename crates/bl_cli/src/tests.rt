@@ -6,11 +6,11 @@ use crate::serve::serve_index;
 use bl_lines::{ServeFault, Totals};
 use bl_model::Watched;
 use std::alloc::Global;
+use std::sync::Wait;
 use std::test::Fail;
 
 /// What `serve` writes for these bytes over an index of 8 pages, and what it counts.
-fn served(rt: &HostRuntime, input: &[u8]) -> Result<(Vec<u8>, Totals), ServeFault> {
-    let alloc = rt.alloc();
+fn served<R: Wait>(rt: &R, alloc: Global, input: &[u8]) -> Result<(Vec<u8>, Totals), ServeFault> {
     let mut reader = Watched::new(input);
     let mut writer = Watched::new(Vec::new(alloc));
     let totals = serve_index(rt, alloc, 8, &mut reader, &mut writer)?;
@@ -18,8 +18,8 @@ fn served(rt: &HostRuntime, input: &[u8]) -> Result<(Vec<u8>, Totals), ServeFaul
 }
 
 /// `serve` writes these lines for those.
-fn answers(rt: &HostRuntime, input: &[u8], output: &[u8]) -> bool {
-    match served(rt, input) {
+fn answers<R: Wait>(rt: &R, alloc: Global, input: &[u8], output: &[u8]) -> bool {
+    match served(rt, alloc, input) {
         Ok((text, _)) => text.as_slice() == output,
         Err(_) => false,
     }
@@ -27,11 +27,19 @@ fn answers(rt: &HostRuntime, input: &[u8], output: &[u8]) -> bool {
 
 #[test]
 fn single_requests(rt: HostRuntime) {
-    assert!(rt; answers(&rt, b"find 5\n", b"1 absent\n"));
-    assert!(rt; answers(&rt, b"insert 5 50\nfind 5\n", b"1 inserted\n2 found 50\n"));
+    assert!(rt; answers(&rt, rt.alloc(), b"find 5\n", b"1 absent\n"));
     assert!(rt;
         answers(
             &rt,
+            rt.alloc(),
+            b"insert 5 50\nfind 5\n",
+            b"1 inserted\n2 found 50\n"
+        )
+    );
+    assert!(rt;
+        answers(
+            &rt,
+            rt.alloc(),
             b"insert 5 50\ninsert 5 51\n",
             b"1 inserted\n2 present 50\n"
         )
@@ -39,17 +47,18 @@ fn single_requests(rt: HostRuntime) {
     assert!(rt;
         answers(
             &rt,
+            rt.alloc(),
             b"insert 18446744073709551615 1\nfind 18446744073709551615\n",
             b"1 inserted\n2 found 1\n"
         )
     );
-    assert!(rt; answers(&rt, b"", b""));
-    assert!(rt; answers(&rt, b"find 1", b"1 malformed\n"));
+    assert!(rt; answers(&rt, rt.alloc(), b"", b""));
+    assert!(rt; answers(&rt, rt.alloc(), b"find 1", b"1 malformed\n"));
 }
 
 #[test]
 fn a_section_and_its_totals(rt: HostRuntime) -> Result<(), Fail> {
-    let (text, totals) = served(&rt, b"insert 1 10\nfind 1\nsync\ndelete 1\nx\n")?;
+    let (text, totals) = served(&rt, rt.alloc(), b"insert 1 10\nfind 1\nsync\ndelete 1\nx\n")?;
     assert!(rt;
         text.as_slice()
             == b"1 inserted\n2 found 10\n3 synced\n4 deleted 10\n5 malformed\n".as_slice()
@@ -80,7 +89,7 @@ fn inserts(alloc: Global, last: u64) -> Result<Vec<u8>, Fail> {
 fn fifteen_rows(rt: HostRuntime) -> Result<(), Fail> {
     let mut input = inserts(rt.alloc(), 15)?;
     input.extend_from_slice(b"find 12\n")?;
-    let (text, totals) = served(&rt, input.as_slice())?;
+    let (text, totals) = served(&rt, rt.alloc(), input.as_slice())?;
     let last: &[u8] = b"15 inserted\n16 found 120\n";
     assert!(rt; text.as_slice().ends_with(last));
     assert_eq!(rt; totals.requests, 16);
@@ -94,7 +103,7 @@ fn a_thousand_changes_of_one_key(rt: HostRuntime) -> Result<(), Fail> {
     for _round in 0..500 {
         input.extend_from_slice(b"insert 1 10\ndelete 1\n")?;
     }
-    let (text, totals) = served(&rt, input.as_slice())?;
+    let (text, totals) = served(&rt, rt.alloc(), input.as_slice())?;
     assert_eq!(rt; totals.requests, 1000);
     let refused = text
         .as_slice()

@@ -4,4 +4,4 @@ pub mod Examples
 pub mod Known
 mod Cuts
 mod Sections
-mod Progress
+pub mod Progress
