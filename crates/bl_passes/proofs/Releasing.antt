@@ -1,5 +1,5 @@
 -- Pages are released by a process of a pass that runs none: this keeps the rule, and the pass knows it.
-use Rattle.std.proofs.Common.{ℕ, ◌≡◌, ◌≢◌, ◌⊎◌, ◌+◌, ◌<◌, ◌≤◌, ◌++◌, Bool, true, false, Option, Some, None, List, [], ◌∷◌, length, set, refl, sym, ap, ◌∙◌, subst, ⊎_elim, inl, inr, arith, append-nil, append_assoc}
+use Rattle.std.proofs.Common.{ℕ, ◌≡◌, ◌≢◌, ◌⊎◌, ◌+◌, ◌≤◌, ◌++◌, false, Option, None, List, [], ◌∷◌, set, refl, sym, ap, ◌∙◌, subst, ⊎_elim, inl, inr, arith, append-nil, append_assoc}
 use Rattle.std.proofs.lemmas.Bool.{cases_eq, false≢true}
 use mathlib.Core.Option.{some}
 use lib.ListN.{get_elem?}
@@ -8,19 +8,19 @@ use Rattle.bl_page.specs.declared.page.Page.{Page}
 use Rattle.bl_page.specs.Machine.{Name, State, Act, AllBeganAfter as AllBeganAfterIn}
 use Rattle.bl_page.specs.Machine as machine
 use Rattle.bl_trails.specs.Trails.{Said, Mark, Trail, entries_at}
-use Rattle.bl_steps.specs.Worlds.{World, Each, Holds}
+use Rattle.bl_steps.specs.Worlds.{Holds}
 use Rattle.bl_steps.proofs.Frames.{Each-map}
 use Rattle.bl_steps.proofs.After.{put_at, is_put_at}
 use Rattle.bl_tables.specs.Turns.{Does, Turned}
-use Rattle.bl_tables.specs.Knowing.{Run, bare as know}
+use Rattle.bl_tables.specs.Knowing.{bare as know}
 use Rattle.bl_tables.proofs.Releasing.{release}
 use Rattle.bl_layout.specs.declared.layout.Layout.{Layout}
-use Rattle.bl_store.specs.Pages.{Owner, Released, Held, Retired, Stage, Idle, Running, Pages, Stands, IsPage, IsOrderly, AllBeganAfter, told, owned, Releases, Sweeps as SweepsIn}
+use Rattle.bl_store.specs.Pages.{Owner, Released, Held, Retired, Stage, Idle, Running, Pages, Stands, IsPage, AllBeganAfter, told, owned, Releases, Sweeps as SweepsIn}
 use Rattle.bl_passes.specs.declared.known.Mine.{Mine}
 use Rattle.bl_passes.specs.Noting.{trail_of}
 use Rattle.bl_passes.specs.Seeing.{own}
 use Rattle.bl_passes.specs.Fitting.{name, owner_in, Fits}
-use Rattle.bl_passes.specs.Told.{IsRelease, Sweeps, sweeps}
+use Rattle.bl_passes.specs.Told.{Sweeps, sweeps}
 use Rattle.bl_passes.proofs.Notings.{trail_back}
 use Rattle.bl_passes.proofs.Entries.{own-mine}
 use Rattle.bl_passes.proofs.Marks.{each_append}

@@ -71,7 +71,7 @@ AreElse pass marks = Each (λ (k : Mark). k.event.process.pass ≢ pass) marks
 abbrev pub AreUpTo : ℕ → ℕ → Trail → Type 0
 AreUpTo pass number marks = Each (λ (k : Mark). k.event.process.pass ≡ pass → k.event.process.number ≤ number) marks
 
--- the world knows the hand n, which stands there and knows d
+-- The world knows the hand n, which stands there and knows d: all events of its pass, and the number of its last process.
 pub record IsHand (w : World Run) (n : ℕ) (st : Stage) (d : Mine) : Type 0 where
   pub named : d.number ≢ 0 → (d.pass ≡ n) × (d.pages ≡ w.size)
   pub stage : IsAtStage w n st d
@@ -84,7 +84,8 @@ pub record IsHand (w : World Run) (n : ℕ) (st : Stage) (d : Mine) : Type 0 whe
 abbrev pub IsRun : List (Stage × Mine) → Name → ℕ → Type 0
 IsRun hands p since = (d : Mine) × (get_elem? hands p.pass ≡ some (Running since, d)) × (p.number ≡ d.number)
 
--- One good world that began with the opening index has the pages and owners of the store, and knows each hand.
+-- One good world that began with the opening index has the pages and owners of the store, and knows each hand. No process
+-- runs there but those that hands run.
 pub record Fits (s : Pages Mine) : Type 0 where
   pub world : World Run
   pub good : IsGood know world
