@@ -10,7 +10,7 @@ use std::alloc::Global;
 /// The options of `serve`.
 #[derive(Clone, Copy, Debug, PartialEq, Eq)]
 pub struct ServeOptions {
-    /// Pages of the index, 4 to 65,536. The index of one leaf has no use for them yet.
+    /// Pages of the index, 4 to 65,536.
     pub pages: u32,
     /// Threads that serve. One, so far.
     pub workers: u32,

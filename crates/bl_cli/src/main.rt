@@ -1,7 +1,6 @@
 //! The program `blink`: its command line, its commands over readers and writers, and its words on standard error.
 //!
-//! Promised to whoever runs it: `serve` writes what is served for what it reads. The leaf that it serves from is private
-//! to this crate.
+//! Promised to whoever runs it: `serve` writes what is served for what it reads, over an index with one pass.
 #![tactic(auto)]
 
 mod check;
@@ -9,10 +8,10 @@ mod check;
 mod check_tests;
 mod command;
 mod fault;
-mod leaf;
 mod serve;
 #[cfg(test)]
 mod tests;
+mod worker;
 
 use bl_model::Watched;
 use check::check_file;
@@ -20,7 +19,7 @@ use clap::Error;
 use clap::error::ErrorKind;
 use command::Invocation;
 use fault::CommandFault;
-use serve::serve_leaf;
+use serve::serve_index;
 use std::io;
 use std::process::ExitCode;
 
@@ -40,10 +39,10 @@ fn carry_out(rt: &HostRuntime) -> Result<ExitCode, CommandFault> {
     let alloc = rt.alloc();
     let words: Vec<String> = std::env::args(rt)?.collect(alloc)?;
     match command::read_words(alloc, words.as_slice()) {
-        Ok(Invocation::Serve(_options)) => {
+        Ok(Invocation::Serve(options)) => {
             let mut reader = Watched::new(rt.stdin());
             let mut writer = Watched::new(io::writer(rt));
-            serve_leaf(alloc, &mut reader, &mut writer)?;
+            serve_index(rt, alloc, options.pages, &mut reader, &mut writer)?;
             Ok(ExitCode::SUCCESS)
         }
         Ok(Invocation::Check(file)) => {

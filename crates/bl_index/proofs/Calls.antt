@@ -32,8 +32,8 @@ does_on xs (y ∷ ys) i p a h =
 last_does : (xs : Trail) (m : Mark) (p : Name) (a : Act Page Reply) → m.event ≡ record { process = p; act = a } → (i : ℕ) × DoesAt (xs ++ m ∷ []) i p a
 last_does xs m p a e = (let h = DoesAt-last xs m in (_, record { mark = h.mark; is = h.is; event = h.event ∙ e }))
 
-pub since_begin : (pass pages : ℕ) (process : Proc) (old d : Mine) → Begins pass pages process old d → IsSince pass old d
-since_begin pass pages process old d b =
+pub since_begin : (pass pages passes : ℕ) (process : Proc) (old d : Mine) → Begins pass pages passes process old d → IsSince pass old d
+since_begin pass pages passes process old d b =
     let more : Trail = b.notes.between ++ b.notes.last ∷ [] in
     let begun = last_does b.notes.between b.notes.last (name pass (old.number + 1)) Begin b.notes.event in
     record {

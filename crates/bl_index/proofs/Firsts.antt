@@ -59,9 +59,10 @@ opens many contents four f passes =
 pub dealt_new : (index : Index) (passes : ℕ) (hands : List (Hand Mine)) → IsDealt index.store.table.shared.table_id index.store.layout newcomer passes hands → AreNew index.store.table.shared.table_id index.store.layout 0 hands
 dealt_new index passes hands dealt j hand at = (let is = dealt.each j hand at in let same : j ≡ 0 + j = omega arith in subst (λ (z : ℕ). (hand.number ≡ z) × (hand.seat.table_id ≡ index.store.table.shared.table_id) × (hand.seat.me.0 ≡ share index.store.layout newcomer z (z + 1))) same is)
 
-pub is_opened : (config : Config) (index : Index) (hands : List (Hand Mine)) (passes : List Pass) → index.store.layout.pages ≡ config.pages → IsDealt index.store.table.shared.table_id index.store.layout newcomer config.passes hands → ArePasses index.store.table.shared.table_id index.store.layout (length hands) passes → IsOpened config index passes
-is_opened config index hands passes pages dealt are = record {
+pub is_opened : (config : Config) (index : Index) (hands : List (Hand Mine)) (passes : List Pass) → index.store.layout.pages ≡ config.pages → index.store.layout.passes ≡ config.passes → IsDealt index.store.table.shared.table_id index.store.layout newcomer config.passes hands → ArePasses index.store.table.shared.table_id index.store.layout (length hands) passes → IsOpened config index passes
+is_opened config index hands passes pages among dealt are = record {
   pages = pages;
+  passes_are = among;
   count = are.count ∙ dealt.count;
   each = λ n pass at. (let is = are.each n pass at in ((is.1, ap (λ (v : View Mine). v.layout) is.2), is.0, ap (λ (v : View Mine). trail_of v.known.trail) is.2));
   seen = newcomer_seen;

@@ -5,4 +5,7 @@ pub mod Firsts
 pub mod Taken
 pub mod Stocks
 pub mod Ends
+pub mod Withins
+pub mod Alone
+pub mod Released
 pub mod Posted

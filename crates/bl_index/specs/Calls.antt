@@ -1,9 +1,12 @@
 -- What a call tells the pass that makes it.
-use Rattle.std.specs.Prelude.{◌≡◌, ℕ, ◌<◌, ◌≤◌, ◌++◌, Option, Some, None, List, [], ◌∷◌, Result, IfOk, IfErr}
+use Rattle.std.specs.Prelude.{◌≡◌, ◌≢◌, ℕ, ◌<◌, ◌≤◌, ◌++◌, Option, Some, None, List, [], ◌∷◌, Result, IfOk, IfErr}
+use Rattle.bl_model.specs.Map.{Map, empty}
+use Rattle.bl_model.specs.History.{final_map}
 use Rattle.bl_model.specs.declared.operation.Op.{Op}
 use Rattle.bl_model.specs.declared.operation.Reply.{Reply}
 use Rattle.bl_page.specs.Machine.{Name}
-use Rattle.bl_trails.specs.Trails.{Trail, marks_of}
+use Rattle.bl_trails.specs.Trails.{Mark, Trail, history_of, marks_of}
+use Rattle.bl_steps.specs.Worlds.{Each}
 use Rattle.bl_ways.specs.declared.answers.Hint.{Hint}
 use Rattle.bl_ways.specs.declared.answers.Hint.TheVariants as hint
 use Rattle.bl_ways.specs.declared.answers.Posted.{Posted}
@@ -12,12 +15,16 @@ use Rattle.bl_store.specs.Hands.{known, IsOf}
 use Rattle.bl_passes.specs.Noting.{trail_of}
 use Rattle.bl_passes.specs.Seeing.{IsSeen, own, Holds}
 use Rattle.bl_passes.specs.Fitting.{name}
+use Rattle.bl_passes.specs.Told.{IsRelease}
 use Rattle.bl_index.specs.declared.config.OutOfTurns.{OutOfTurns}
 use Rattle.bl_index.specs.declared.index.Index.{Index}
 use Rattle.bl_index.specs.declared.index.Pass.{Pass}
 
 abbrev pub pages_of : Index → ℕ
 pages_of index = index.store.layout.pages
+
+abbrev pub passes_of : Index → ℕ
+passes_of index = index.store.layout.passes
 
 -- the pass is of this index
 abbrev pub IsPassOf : Index → Pass → Type 0
@@ -29,6 +36,14 @@ number_of pass = pass.hand.number
 -- all that has happened in the index, up to the pass's own last event
 abbrev pub trail : Pass → Trail
 trail pass = trail_of (known pass.hand.seat).trail
+
+-- the map after all that a trail tells
+abbrev pub map_of : Trail → Map
+map_of trail = final_map empty (history_of trail)
+
+-- how many pages and frames the pass has released
+abbrev pub released_by : Pass → ℕ
+released_by pass = pass.hand.seat.me.0.releases
 
 -- The same pass of the same index
 abbrev pub IsSamePass : Pass → Pass → Type 0
@@ -47,6 +62,18 @@ pub record Adds (pass : ℕ) (old new : Trail) : Type 0 where
   pub number : ℕ
   pub holds : Holds (name pass number) None old new
   pub seen : IsSeen new
+  pub none : own pass new ≡ own pass old
+
+-- A sweep of the pass. Its events are releases of pages, all of them by one process of its own, which had done nothing before
+-- and does not begin. The entries of the pass are those of before, and if what the pass had seen was a trail that an index
+-- may have, then so is what it has seen now.
+pub record Sweeps (pass : ℕ) (old new : Trail) : Type 0 where
+  pub number : ℕ
+  pub fresh : Each (λ (m : Mark). m.event.process ≢ name pass number) old
+  pub more : Trail
+  pub begins : new ≡ old ++ more
+  pub mine : Each (λ (m : Mark). m.event.process.pass ≡ pass → IsRelease (name pass number) m) more
+  pub seen : IsSeen old → IsSeen new
   pub none : own pass new ≡ own pass old
 
 -- A search is answered, or runs out of turns and says nothing.

@@ -17,7 +17,7 @@ use Rattle.bl_index.specs.declared.config.OpenFault.{OpenFault}
 use Rattle.bl_index.specs.declared.config.OpenFault.TheVariants.{Pages, Passes, Memory}
 use Rattle.bl_index.specs.declared.index.Index.{Index}
 use Rattle.bl_index.specs.declared.index.Pass.{Pass}
-use Rattle.bl_index.specs.Calls.{pages_of, IsPassOf, number_of, trail}
+use Rattle.bl_index.specs.Calls.{pages_of, passes_of, IsPassOf, number_of, trail}
 
 -- why an index of that size was refused: it breaks a limit, or it is within them and there was no memory
 abbrev pub IsRefusal : Config → OpenFault → Type 0
@@ -29,6 +29,7 @@ IsRefusal config Memory = ((4 ≤ config.pages) × (config.pages ≤ 65536)) × 
 -- stands at the opening index.
 pub record IsOpened (config : Config) (index : Index) (passes : List Pass) : Type 0 where
   pub pages : pages_of index ≡ config.pages
+  pub passes_are : passes_of index ≡ config.passes
   pub count : length passes ≡ config.passes
   pub each : (n : ℕ) (pass : Pass) → get_elem? passes n ≡ some pass → IsPassOf index pass × (number_of pass ≡ n) × (trail pass ≡ [])
   pub seen : IsSeen []

@@ -1,6 +1,7 @@
 -- A pass that runs a process, from its begin on.
 use Rattle.std.specs.Prelude.{◌≡◌, ◌≢◌, ℕ, ◌+◌, ◌++◌, true, List, Option, Some, None}
 use Rattle.atomic_table.specs.declared.shared.Seat.{Seat}
+use Rattle.bl_layout.specs.declared.layout.Layout.{Layout}
 use Rattle.bl_store.specs.declared.view.View.{View}
 use Rattle.bl_store.specs.declared.stock.Stock.{Stock}
 use Rattle.bl_store.specs.Hands.{HasNoStock, IsStockOf}
@@ -20,15 +21,16 @@ use Rattle.bl_proc.specs.declared.kinds.Proc.{Proc}
 use Rattle.bl_proc.specs.Processes.{next_of, Takes}
 use Rattle.bl_passes.specs.declared.known.Mine.{Mine}
 use Rattle.bl_passes.specs.Noting.{trail_of}
-use Rattle.bl_passes.specs.Seeing.{own}
+use Rattle.bl_passes.specs.Seeing.{own, AreWithin}
 use Rattle.bl_passes.specs.Fitting.{name}
 use Rattle.bl_passes.specs.Told.{IsNear, HasOwn, Steps, Finishes}
 
--- the pass runs this process, in an index of so many pages
-pub record IsOn (many : ℕ) (d : Mine) (process : Proc) : Type 0 where
+-- the pass runs this process, in an index of that layout
+pub record IsOn (l : Layout) (d : Mine) (process : Proc) : Type 0 where
   pub runs : d.runs ≡ true
   pub state : d.state ≡ process
-  pub pages : d.pages ≡ many
+  pub pages : d.pages ≡ l.pages
+  pub passes : d.passes ≡ l.passes
   pub near : IsNear d.pages (next_of d.state)
 
 -- The pass, of that number, knew old when the process began that it runs.
@@ -41,6 +43,10 @@ pub record IsSince (pass : ℕ) (old d : Mine) : Type 0 where
   pub begins : trail_of d.trail ≡ trail_of old.trail ++ more
   pub place : ℕ
   pub begun : DoesAt more place (name pass (old.number + 1)) Begin
+
+-- all that its pass has seen was done by the passes of its layout
+abbrev pub IsWithin : Seat (Unit {0}) (View Mine) → Type 0
+IsWithin h = AreWithin h.me.0.layout.passes (trail_of (known h).trail)
 
 -- one event of the process
 abbrev pub Moves : Mine → Mine → Type 0
@@ -65,6 +71,6 @@ pub record IsDone (pass : ℕ) (old e : Mine) (first last : Proc) : Type 0 where
   pub log : proc_log last (marks_of (name pass (old.number + 1)) (trail_of e.trail))
 
 -- After a step of the process p, which is then q: it has gone on by one event; or it is to end, and nothing has happened.
-abbrev pub IsAfter : ℕ → Seat (Unit {0}) (View Mine) → Seat (Unit {0}) (View Mine) → Proc → Proc → Stepped → Type 0
-IsAfter many h h' p q (On held) = IsOn many (known h') q × Moves (known h) (known h') × HasFrames h' held (frames_of q) × ((what : Seen) × Follows p what q) × (next_of p ≢ act.End)
-IsAfter many h h' p q AtEnd = (next_of p ≡ act.End) × (q ≡ p) × (known h' ≡ known h) × HasNoStock h'
+abbrev pub IsAfter : Layout → Seat (Unit {0}) (View Mine) → Seat (Unit {0}) (View Mine) → Proc → Proc → Stepped → Type 0
+IsAfter l h h' p q (On held) = IsOn l (known h') q × Moves (known h) (known h') × HasFrames h' held (frames_of q) × ((what : Seen) × Follows p what q) × (next_of p ≢ act.End)
+IsAfter l h h' p q AtEnd = (next_of p ≡ act.End) × (q ≡ p) × (known h' ≡ known h) × HasNoStock h'

@@ -1,13 +1,15 @@
 //! Insertions and deletions.
 
-ghost use Rattle.std.specs.Prelude.{◌≡◌, None, Some, IfSome};
+ghost use Rattle.std.specs.Prelude.{◌≡◌, None, Some, IfSome, false};
 ghost use Rattle.bl_model.specs.declared.operation.Op.TheVariants as op;
 ghost use Rattle.bl_ways.specs.declared.acts.Action.TheVariants as act;
 ghost use Rattle.bl_ways.specs.declared.answers.Answer.TheVariants as answers;
 ghost use Rattle.bl_index.specs.Searching.{IsOpAnswer};
 ghost use Rattle.bl_store.specs.Hands.{known, IsOf, IsIdle, IsSameHand, HasNoStock};
+ghost use Rattle.bl_passes.specs.Noting.{trail_of};
+ghost use Rattle.bl_passes.specs.Seeing.{IsSeen};
 ghost use Rattle.bl_passes.specs.Told.{IsUnborn};
-ghost use Rattle.bl_index.specs.Runs.{IsDone};
+ghost use Rattle.bl_index.specs.Runs.{IsDone, IsWithin};
 
 use crate::index::{Index, Pass};
 use crate::kinds::Kind;
@@ -67,6 +69,9 @@ impl Index {
         requires new { (P.answer_of process ≡ None) × (P.next_of process ≡ act.Begin) × IsUnborn (P.proc_of process) }
         ensures same { IsSameHand hand.old.seat hand.new.seat }
         ensures idle { IsIdle hand.new.seat × HasNoStock hand.new.seat }
+        ensures within { IsWithin hand.new.seat }
+        ensures rests { (known hand.new.seat).runs ≡ false }
+        ensures seen { IsSeen (trail_of (known hand.new.seat).trail) }
         ensures done { IsDone hand.old.number (known hand.old.seat) (known hand.new.seat) (P.proc_of process) (P.proc_of result) }
     {
         let backoff = Backoff::new();

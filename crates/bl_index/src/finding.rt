@@ -1,12 +1,14 @@
 //! Searches.
 
-ghost use Rattle.std.specs.Prelude.{◌≡◌, None};
+ghost use Rattle.std.specs.Prelude.{◌≡◌, None, false};
 ghost use Rattle.bl_model.specs.declared.operation.Op.TheVariants as op;
 ghost use Rattle.bl_tables.specs.Knowing.{found_reply};
 ghost use Rattle.bl_store.specs.Hands.{known, IsOf, IsIdle, IsSameHand, IsSameStock};
 ghost use Rattle.bl_passes.specs.Noting.{trail_of};
+ghost use Rattle.bl_passes.specs.Seeing.{IsSeen};
 ghost use Rattle.bl_ways.specs.declared.acts.Action.TheVariants as act;
 ghost use Rattle.bl_proc.specs.Searches.{find_next_in};
+ghost use Rattle.bl_index.specs.Runs.{IsWithin};
 ghost use Rattle.bl_index.specs.Searching.{IsSearching};
 
 use crate::config::OutOfTurns;
@@ -55,6 +57,9 @@ impl Index {
         requires idle { IsIdle hand.old.seat }
         ensures same { IsSameHand hand.old.seat hand.new.seat × IsSameStock hand.old.seat hand.new.seat }
         ensures idle { IsIdle hand.new.seat }
+        ensures within { IsWithin hand.new.seat }
+        ensures rests { (known hand.new.seat).runs ≡ false }
+        ensures seen { IsSeen (trail_of (known hand.new.seat).trail) }
         ensures answers { MayAnswer hand.old.number (op.Find key) result (trail_of (known hand.old.seat).trail) (trail_of (known hand.new.seat).trail) }
     {
         let mut process = Find::new(key);

@@ -1,7 +1,10 @@
 //! The index, and who works with it.
 
-ghost use Rattle.std.specs.Prelude.{◌≡◌};
-ghost use Rattle.bl_store.specs.Hands.{IsIdle, HasNoStock};
+ghost use Rattle.std.specs.Prelude.{◌≡◌, false};
+ghost use Rattle.bl_store.specs.Hands.{known, IsIdle, HasNoStock};
+ghost use Rattle.bl_passes.specs.Noting.{trail_of};
+ghost use Rattle.bl_passes.specs.Seeing.{IsSeen};
+ghost use Rattle.bl_index.specs.Runs.{IsWithin};
 
 use bl_passes::{Mine, Passes};
 use bl_store::{Hand, Store};
@@ -14,12 +17,16 @@ pub struct Index {
     pub ghost sized: { pages ≡ store.layout.pages },
 }
 
-/// One who works with an index. Each thread has a pass of its own, and between two calls it runs no process.
+/// One who works with an index. Each thread has a pass of its own, and between two calls it runs no process. What it has
+/// seen is always a trail that an index may have, of the passes that there are.
 #[derive(Drop)]
 pub struct Pass {
     pub(crate) hand: Hand<Mine>,
     pub ghost idle: { IsIdle hand.seat },
     pub ghost empty: { HasNoStock hand.seat },
+    pub ghost within: { IsWithin hand.seat },
+    pub ghost rests: { (known hand.seat).runs ≡ false },
+    pub ghost seen: { ∥ IsSeen (trail_of (known hand.seat).trail) ∥₁ },
 }
 
 impl Index {

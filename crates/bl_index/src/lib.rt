@@ -17,6 +17,7 @@ mod opening;
 mod posting;
 mod running;
 mod stepping;
+mod sweeping;
 
 pub use config::{Config, OpenFault, OutOfTurns};
 pub use index::{Index, Pass};

@@ -13,7 +13,7 @@ ghost use Rattle.bl_passes.specs.Noting.{trail_of};
 ghost use Rattle.bl_passes.specs.Fitting.{name};
 ghost use Rattle.bl_store.specs.Hands.{known, IsOf, IsIdle, IsRunning, IsSameHand, IsSameStage, IsSameStock};
 ghost use Rattle.bl_passes.specs.Told.{Begins, Finishes, IsUnborn, MayGiveUp};
-ghost use Rattle.bl_index.specs.Runs.{IsOn, IsSince, Moves};
+ghost use Rattle.bl_index.specs.Runs.{IsOn, IsSince, IsWithin, Moves};
 
 use crate::index::Index;
 use crate::kinds::Kind;
@@ -28,13 +28,13 @@ impl Index {
     fn launch<J: Launch, P: Kind>(&self, hand: &mut Hand<Mine>, process: &P)
         requires own { IsOf self.now.store.table.shared.table_id self.now.store.layout hand.old.seat }
         requires idle { IsIdle hand.old.seat }
-        requires names { (hand.old.number ≡ J.pass) × (self.now.store.layout.pages ≡ J.pages) × (P.proc_of process.now ≡ J.process) }
+        requires names { (hand.old.number ≡ J.pass) × (self.now.store.layout.pages ≡ J.pages) × (self.now.store.layout.passes ≡ J.passes) × (P.proc_of process.now ≡ J.process) }
         requires next { next_of J.process ≡ act.Begin }
         requires unborn { IsUnborn J.process }
         requires course { GoesOn J.process seen.Done }
         ensures same { IsSameHand hand.old.seat hand.new.seat × IsSameStock hand.old.seat hand.new.seat }
         ensures running { IsRunning hand.new.seat }
-        ensures told { Begins J.pass J.pages J.process (known hand.old.seat) (known hand.new.seat) }
+        ensures told { Begins J.pass J.pages J.passes J.process (known hand.old.seat) (known hand.new.seat) }
     {
         self.store.begin::<Began<J>>(hand);
     }
@@ -46,7 +46,7 @@ impl Index {
         requires new { (P.answer_of process.old ≡ None) × (P.next_of process.old ≡ act.Begin) × IsUnborn (P.proc_of process.old) }
         ensures same { IsSameHand hand.old.seat hand.new.seat × IsSameStock hand.old.seat hand.new.seat }
         ensures running { IsRunning hand.new.seat }
-        ensures process { IsOn self.now.store.layout.pages (known hand.new.seat) (P.proc_of process.new) }
+        ensures process { IsOn self.now.store.layout (known hand.new.seat) (P.proc_of process.new) }
         ensures begun { IsSince hand.old.number (known hand.old.seat) (known hand.new.seat) }
         ensures takes { P.Takes process.old seen.Done process.new }
     {
@@ -58,10 +58,10 @@ impl Index {
     pub(crate) fn read<P: Kind>(&self, hand: &mut Hand<Mine>, process: &mut P, page: u32)
         requires own { IsOf self.now.store.table.shared.table_id self.now.store.layout hand.old.seat }
         requires running { IsRunning hand.old.seat }
-        requires process { IsOn self.now.store.layout.pages (known hand.old.seat) (P.proc_of process.old) }
+        requires process { IsOn self.now.store.layout (known hand.old.seat) (P.proc_of process.old) }
         requires next { (P.answer_of process.old ≡ None) × (P.next_of process.old ≡ act.Get page) }
         ensures same { IsSameHand hand.old.seat hand.new.seat × IsSameStage hand.old.seat hand.new.seat × IsSameStock hand.old.seat hand.new.seat }
-        ensures process { IsOn self.now.store.layout.pages (known hand.new.seat) (P.proc_of process.new) }
+        ensures process { IsOn self.now.store.layout (known hand.new.seat) (P.proc_of process.new) }
         ensures moves { Moves (known hand.old.seat) (known hand.new.seat) }
         ensures takes { (c : PageIs) × P.Takes process.old (seen.Words c) process.new }
     {
@@ -76,13 +76,14 @@ impl Index {
     pub(crate) fn finish<P: Kind>(&self, hand: &mut Hand<Mine>, process: &mut P)
         requires own { IsOf self.now.store.table.shared.table_id self.now.store.layout hand.old.seat }
         requires running { IsRunning hand.old.seat }
-        requires process { IsOn self.now.store.layout.pages (known hand.old.seat) (P.proc_of process.old) }
+        requires process { IsOn self.now.store.layout (known hand.old.seat) (P.proc_of process.old) }
         requires next { (P.answer_of process.old ≡ None) × (P.next_of process.old ≡ act.End) }
         ensures same { IsSameHand hand.old.seat hand.new.seat × IsSameStock hand.old.seat hand.new.seat }
         ensures idle { IsIdle hand.new.seat }
         ensures told { Finishes (end_of_proc (P.proc_of process.old)) (known hand.old.seat) (known hand.new.seat) }
         ensures log { proc_log (P.proc_of process.new) (marks_of (name (known hand.old.seat).pass (known hand.old.seat).number) (trail_of (known hand.new.seat).trail)) }
         ensures takes { P.Takes process.old seen.Done process.new }
+        ensures within { IsWithin hand.new.seat }
     {
         self.store.end::<Ended>(hand);
         process.took(Seen::Done);
@@ -93,9 +94,11 @@ impl Index {
         requires own { IsOf self.now.store.table.shared.table_id self.now.store.layout hand.old.seat }
         requires running { IsRunning hand.old.seat }
         requires may { MayGiveUp (known hand.old.seat).state }
+        requires passes { (known hand.old.seat).passes ≡ self.now.store.layout.passes }
         ensures same { IsSameHand hand.old.seat hand.new.seat × IsSameStock hand.old.seat hand.new.seat }
         ensures idle { IsIdle hand.new.seat }
         ensures told { Finishes None (known hand.old.seat) (known hand.new.seat) }
+        ensures within { IsWithin hand.new.seat }
     {
         self.store.end::<GaveUp>(hand);
     }

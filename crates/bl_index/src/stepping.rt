@@ -29,10 +29,10 @@ impl Index {
     fn latch<P: Kind>(&self, hand: &mut Hand<Mine>, process: &mut P, page: u32, backoff: &Backoff)
         requires own { IsOf self.now.store.table.shared.table_id self.now.store.layout hand.old.seat }
         requires running { IsRunning hand.old.seat }
-        requires process { IsOn self.now.store.layout.pages (known hand.old.seat) (P.proc_of process.old) }
+        requires process { IsOn self.now.store.layout (known hand.old.seat) (P.proc_of process.old) }
         requires next { (P.answer_of process.old ≡ None) × (P.next_of process.old ≡ act.Latch page) }
         ensures same { IsSameHand hand.old.seat hand.new.seat × IsSameStage hand.old.seat hand.new.seat }
-        ensures process { IsOn self.now.store.layout.pages (known hand.new.seat) (P.proc_of process.new) }
+        ensures process { IsOn self.now.store.layout (known hand.new.seat) (P.proc_of process.new) }
         ensures moves { Moves (known hand.old.seat) (known hand.new.seat) }
         ensures takes { (what : SeenIs) × P.Takes process.old what process.new }
         ensures stock { IsSameStock hand.old.seat hand.new.seat }
@@ -50,10 +50,10 @@ impl Index {
     fn open_page<P: Kind>(&self, hand: &mut Hand<Mine>, process: &mut P, page: u32)
         requires own { IsOf self.now.store.table.shared.table_id self.now.store.layout hand.old.seat }
         requires running { IsRunning hand.old.seat }
-        requires process { IsOn self.now.store.layout.pages (known hand.old.seat) (P.proc_of process.old) }
+        requires process { IsOn self.now.store.layout (known hand.old.seat) (P.proc_of process.old) }
         requires next { (P.answer_of process.old ≡ None) × (P.next_of process.old ≡ act.Open page) }
         ensures same { IsSameHand hand.old.seat hand.new.seat × IsSameStage hand.old.seat hand.new.seat }
-        ensures process { IsOn self.now.store.layout.pages (known hand.new.seat) (P.proc_of process.new) }
+        ensures process { IsOn self.now.store.layout (known hand.new.seat) (P.proc_of process.new) }
         ensures moves { Moves (known hand.old.seat) (known hand.new.seat) }
         ensures takes { (what : SeenIs) × P.Takes process.old what process.new }
         ensures stock { IsSameStock hand.old.seat hand.new.seat }
@@ -73,11 +73,11 @@ impl Index {
     ) -> Stock
         requires own { IsOf self.now.store.table.shared.table_id self.now.store.layout hand.old.seat }
         requires running { IsRunning hand.old.seat }
-        requires process { IsOn self.now.store.layout.pages (known hand.old.seat) (P.proc_of process.old) }
+        requires process { IsOn self.now.store.layout (known hand.old.seat) (P.proc_of process.old) }
         requires next { (P.answer_of process.old ≡ None) × (P.next_of process.old ≡ act.Put page contents.now) }
         requires stock { IsStockOf hand.old.seat stock × (0 < stock.count) }
         ensures same { IsSameHand hand.old.seat hand.new.seat × IsSameStage hand.old.seat hand.new.seat }
-        ensures process { IsOn self.now.store.layout.pages (known hand.new.seat) (P.proc_of process.new) }
+        ensures process { IsOn self.now.store.layout (known hand.new.seat) (P.proc_of process.new) }
         ensures moves { Moves (known hand.old.seat) (known hand.new.seat) }
         ensures takes { P.Takes process.old seen.Done process.new }
         ensures stock { IsStockOf hand.new.seat result × (result.count + 1 ≡ stock.count) }
@@ -99,12 +99,12 @@ impl Index {
     ) -> Option<Stock>
         requires own { IsOf self.now.store.table.shared.table_id self.now.store.layout hand.old.seat }
         requires running { IsRunning hand.old.seat }
-        requires process { IsOn self.now.store.layout.pages (known hand.old.seat) (P.proc_of process.old) }
+        requires process { IsOn self.now.store.layout (known hand.old.seat) (P.proc_of process.old) }
         requires next { (P.answer_of process.old ≡ None) × (P.next_of process.old ≡ act.Put page contents.now) }
         requires needs { P.needs_of process.old ≡ Some (0, 1) }
         requires empty { HasNoStock hand.old.seat }
         ensures same { IsSameHand hand.old.seat hand.new.seat × IsSameStage hand.old.seat hand.new.seat }
-        ensures process { IsOn self.now.store.layout.pages (known hand.new.seat) (P.proc_of process.new) }
+        ensures process { IsOn self.now.store.layout (known hand.new.seat) (P.proc_of process.new) }
         ensures moves { Moves (known hand.old.seat) (known hand.new.seat) }
         ensures takes { (what : SeenIs) × P.Takes process.old what process.new }
         ensures stock { HasFrames hand.new.seat result 0 }
@@ -122,12 +122,12 @@ impl Index {
     fn take<P: Kind>(&self, hand: &mut Hand<Mine>, process: &mut P) -> Option<Stock>
         requires own { IsOf self.now.store.table.shared.table_id self.now.store.layout hand.old.seat }
         requires running { IsRunning hand.old.seat }
-        requires process { IsOn self.now.store.layout.pages (known hand.old.seat) (P.proc_of process.old) }
+        requires process { IsOn self.now.store.layout (known hand.old.seat) (P.proc_of process.old) }
         requires next { (P.answer_of process.old ≡ None) × (P.next_of process.old ≡ act.Take) }
         requires needs { P.needs_of process.old ≡ Some (1, 2) }
         requires empty { HasNoStock hand.old.seat }
         ensures same { IsSameHand hand.old.seat hand.new.seat × IsSameStage hand.old.seat hand.new.seat }
-        ensures process { IsOn self.now.store.layout.pages (known hand.new.seat) (P.proc_of process.new) }
+        ensures process { IsOn self.now.store.layout (known hand.new.seat) (P.proc_of process.new) }
         ensures moves { Moves (known hand.old.seat) (known hand.new.seat) }
         ensures takes { (what : SeenIs) × P.Takes process.old what process.new }
         ensures stock { HasFrames hand.new.seat result (frames_of (P.proc_of process.new)) }
@@ -158,11 +158,11 @@ impl Index {
     ) -> Option<Stock>
         requires own { IsOf self.now.store.table.shared.table_id self.now.store.layout hand.old.seat }
         requires running { IsRunning hand.old.seat }
-        requires process { IsOn self.now.store.layout.pages (known hand.old.seat) (P.proc_of process.old) }
+        requires process { IsOn self.now.store.layout (known hand.old.seat) (P.proc_of process.old) }
         requires next { (P.answer_of process.old ≡ None) × (P.next_of process.old ≡ act.Put page contents.now) }
         requires stock { HasFrames hand.old.seat held (frames_of (P.proc_of process.old)) }
         ensures same { IsSameHand hand.old.seat hand.new.seat × IsSameStage hand.old.seat hand.new.seat }
-        ensures process { IsOn self.now.store.layout.pages (known hand.new.seat) (P.proc_of process.new) }
+        ensures process { IsOn self.now.store.layout (known hand.new.seat) (P.proc_of process.new) }
         ensures moves { Moves (known hand.old.seat) (known hand.new.seat) }
         ensures takes { (what : SeenIs) × P.Takes process.old what process.new }
         ensures stock { HasFrames hand.new.seat result (frames_of (P.proc_of process.new)) }
@@ -186,11 +186,11 @@ impl Index {
     ) -> Stepped
         requires own { IsOf self.now.store.table.shared.table_id self.now.store.layout hand.old.seat }
         requires running { IsRunning hand.old.seat }
-        requires process { IsOn self.now.store.layout.pages (known hand.old.seat) (P.proc_of process.old) }
+        requires process { IsOn self.now.store.layout (known hand.old.seat) (P.proc_of process.old) }
         requires going { (P.answer_of process.old ≡ None) × (P.next_of process.old ≢ act.Begin) }
         requires stock { HasFrames hand.old.seat held (frames_of (P.proc_of process.old)) }
         ensures same { IsSameHand hand.old.seat hand.new.seat × IsSameStage hand.old.seat hand.new.seat }
-        ensures after { IsAfter self.now.store.layout.pages hand.old.seat hand.new.seat (P.proc_of process.old) (P.proc_of process.new) result }
+        ensures after { IsAfter self.now.store.layout hand.old.seat hand.new.seat (P.proc_of process.old) (P.proc_of process.new) result }
     {
         match process.next() {
             Action::Get(page) => {

@@ -3,7 +3,7 @@ ghost use Rattle.bl_index.specs.Calls.{IsPassOf};
 
 use crate::{Config, Index, OpenFault, OutOfTurns, Pass};
 use bl_model::Reply;
-use bl_proc::{Hint, Posted};
+use bl_proc::{Find, Hint, Posted};
 use std::alloc::Global;
 use std::sync::Wait;
 use std::test::Fail;
@@ -142,6 +142,65 @@ fn frames_run_out(rt: HostRuntime) -> Result<(), Fail> {
     assert!(rt; matches!(refused, (Reply::NoRoom, None)));
     let absent = index.find(&mut pass, 1, 2);
     assert!(rt; matches!(absent, Ok(Reply::Absent)));
+    Ok(())
+}
+
+// Each change retires a frame, and the sweep after it releases that: so a thousand changes find room in 24 frames.
+#[test]
+fn sweeps_make_room(rt: HostRuntime) -> Result<(), Fail> {
+    let Some((index, mut pass)) = one_pass(rt.alloc(), 8) else {
+        assert!(rt; false);
+        return Ok(());
+    };
+    let first = index.sweep(&mut pass);
+    assert!(rt; first == 0);
+    for _round in 0..500 {
+        let inserted = index.insert(&rt, &mut pass, 1, 10);
+        assert!(rt; matches!(inserted, (Reply::Inserted, None)));
+        let released = index.sweep(&mut pass);
+        assert!(rt; released == 1);
+        let deleted = index.delete(&rt, &mut pass, 1);
+        assert!(rt; matches!(deleted, (Reply::Deleted(10), None)));
+        let released = index.sweep(&mut pass);
+        assert!(rt; released == 1);
+    }
+    let last = index.sweep(&mut pass);
+    assert!(rt; last == 0);
+    let inserted = index.insert(&rt, &mut pass, 1, 10);
+    assert!(rt; matches!(inserted, (Reply::Inserted, None)));
+    let found = index.find(&mut pass, 1, 2);
+    assert!(rt; matches!(found, Ok(Reply::Found(10))));
+    Ok(())
+}
+
+// While a process runs, no sweep releases what was retired since it began: of 32 frames two are in use, and 30 changes take
+// all others. Once it has ended, a sweep releases all 30.
+#[test]
+fn processes_hold_back_sweeps(rt: HostRuntime) -> Result<(), Fail> {
+    let Some((index, one, mut two)) = two_passes(rt.alloc(), 8) else {
+        assert!(rt; false);
+        return Ok(());
+    };
+    let mut hand = one.hand;
+    let mut find = Find::new(1);
+    index.begin(&mut hand, &mut find);
+    for _round in 0..15 {
+        let inserted = index.insert(&rt, &mut two, 1, 10);
+        assert!(rt; matches!(inserted, (Reply::Inserted, None)));
+        let released = index.sweep(&mut two);
+        assert!(rt; released == 0);
+        let deleted = index.delete(&rt, &mut two, 1);
+        assert!(rt; matches!(deleted, (Reply::Deleted(10), None)));
+        let released = index.sweep(&mut two);
+        assert!(rt; released == 0);
+    }
+    let refused = index.insert(&rt, &mut two, 1, 10);
+    assert!(rt; matches!(refused, (Reply::NoRoom, None)));
+    index.give_up(&mut hand);
+    let released = index.sweep(&mut two);
+    assert!(rt; released == 30);
+    let inserted = index.insert(&rt, &mut two, 1, 10);
+    assert!(rt; matches!(inserted, (Reply::Inserted, None)));
     Ok(())
 }
 

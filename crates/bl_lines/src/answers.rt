@@ -2,6 +2,7 @@
 
 ghost use Rattle.bl_model.specs.Map.{Map, IsMapStep};
 ghost use Rattle.bl_model.specs.Rows.{map_of};
+ghost use Rattle.bl_lines.specs.Text.{IsAsked};
 
 use bl_model::{Op, PlainMap, Reply};
 
@@ -10,7 +11,9 @@ pub trait Answers {
     // the map that it stands for
     ghost map: { Self → Map };
 
+    /// Answers an operation for which a line may ask.
     fn answer(&mut self, op: Op) -> Reply
+        requires { IsAsked op }
         ensures { IsMapStep (map self.old) op result (map self.new) };
 }
 

@@ -2,6 +2,7 @@
 use Rattle.std.proofs.Common.{ℕ, Bool, true, false, ◌≡◌, ◌≢◌, ◌⊎◌, ◌+◌, ◌<◌, ◌≤◌, ◌++◌, Option, Some, None, List, [], ◌∷◌, length, set, refl, sym, ap, ◌∙◌, subst, ⊎_elim, arith, append-nil, append_assoc}
 use mathlib.Core.Option.{some}
 use lib.ListN.{get_elem?}
+use Rattle.std.proofs.Math.ListN.{length-set}
 use Rattle.atomic_table.proofs.Lists.{at_set}
 use Rattle.bl_model.specs.declared.operation.Entry.{Entry}
 use Rattle.bl_model.specs.declared.operation.Reply.{Reply}
@@ -19,16 +20,26 @@ use Rattle.bl_tables.proofs.Near.{bare_near as near}
 use Rattle.bl_store.specs.Pages.{Owner, Stage, Idle, Running, Pages, Stands}
 use Rattle.bl_passes.specs.declared.known.Mine.{Mine}
 use Rattle.bl_passes.specs.Noting.{trail_of, all_noted}
-use Rattle.bl_passes.specs.Seeing.{IsSeen, own}
-use Rattle.bl_passes.specs.Fitting.{name, Shows, owner_in, IsAtStage, IsHand, Fits}
+use Rattle.bl_passes.specs.Seeing.{IsSeen, AreWithin, own}
+use Rattle.bl_passes.specs.Fitting.{name, Shows, owner_in, IsAtStage, IsHand, IsRun, Fits}
 use Rattle.bl_passes.specs.Told.{IsNear, HasOwn, Notes}
 use Rattle.bl_passes.proofs.Notings.{trail_back}
 use Rattle.bl_passes.proofs.Stages.{turn_mark, after, own_after, hand_self, hand_else}
 use Rattle.bl_passes.proofs.Sights.{world_seen, near_pages}
+use Rattle.bl_passes.proofs.Shown.{at_below}
+use Rattle.bl_passes.proofs.Within.{within_push}
+use Rattle.bl_passes.proofs.Runners.{runs_after}
 
 module _ (s : Pages Mine) (f : Fits s) (n m : ℕ) (st : Stage) (d : Mine) (at : Stands s n st d) (a : Act Page Reply) (s1 : State Page) (b : Run) (t : Turned know f.world (name n m) a s1 b) (runs : Bool) (past : List Entry) where
   abbrev pub next_known : Mine
-  next_known = after f.world f.good n m a s1 b t runs past
+  next_known = after f.world f.good n m a s1 b t (length s.hands) runs past
+
+  -- the new event is of a pass that there is
+  next_within : AreWithin (length s.hands) t.next.trail
+  next_within = subst (AreWithin (length s.hands)) (sym t.extends.trail) (within_push (length s.hands) f.world.trail (turn_mark f.world f.good n m a s1 b t) f.within (at_below s.hands n (st, d) at))
+
+  hands_same : (s' : Pages Mine) (st' : Stage) → s'.hands ≡ set s.hands n (st', next_known) → length s'.hands ≡ length s.hands
+  hands_same s' st' hands = ap length hands ∙ length-set s.hands n (st', next_known)
 
   pub advance : (s' : Pages Mine) (st' : Stage) → s'.hands ≡ set s.hands n (st', next_known) → length s'.contents ≡ length s.contents → d.number ≤ m → s1.clock ≤ s'.clock
       → ((q : Name) → q ≢ name n m → s1.phase q ≡ f.world.now.phase q)
@@ -36,8 +47,10 @@ module _ (s : Pages Mine) (f : Fits s) (n m : ℕ) (st : Stage) (d : Mine) (at :
       → ((x : ℕ) (words : List ℕ) → get_elem? s'.contents x ≡ some words → Shows x words (s1.contents x))
       → ((x : ℕ) (o : Owner) → get_elem? s'.owners x ≡ some o → s1.owner x ≡ owner_in s'.hands o)
       → IsAtStage t.next n st' next_known
+      → ((since : ℕ) → st ≡ Running since → m ≡ d.number)
+      → ((since : ℕ) → s1.phase (name n m) ≡ machine.Running since → st' ≡ Running since)
       → Fits s'
-  advance s' st' hands size le clock others kept pages owners stage = record {
+  advance s' st' hands size le clock others kept pages owners stage current on = record {
     world = t.next;
     good = t.good;
     opening = subst Opening (sym t.extends.start) f.opening;
@@ -47,9 +60,15 @@ module _ (s : Pages Mine) (f : Fits s) (n m : ℕ) (st : Stage) (d : Mine) (at :
     pages = λ x words e. subst (λ (z : State Page). Shows x words (z.contents x)) (sym t.now) (pages x words e);
     owners = λ x o e. ap (λ (z : State Page). z.owner x) t.now ∙ owners x o e;
     hands = λ k sg g at_k. ⊎_elim
-        (λ (z : (k ≡ n) × ((st', next_known) ≡ (sg, g))). subst (λ (u : ℕ × (Stage × Mine)). IsHand t.next u.0 u.1.0 u.1.1) (λ i. (sym z.0 i, z.1 i)) (hand_self f.world f.good n m a s1 b t others kept st st' d runs past (f.hands n st d at) le stage))
+        (λ (z : (k ≡ n) × ((st', next_known) ≡ (sg, g))). subst (λ (u : ℕ × (Stage × Mine)). IsHand t.next u.0 u.1.0 u.1.1) (λ i. (sym z.0 i, z.1 i)) (hand_self f.world f.good n m a s1 b t others kept st st' d (length s.hands) runs past (f.hands n st d at) le stage))
         (λ (z : (k ≢ n) × (get_elem? s.hands k ≡ some (sg, g))). hand_else f.world f.good n m a s1 b t others kept k sg g z.0 (f.hands k sg g z.1))
         (at_set s.hands n k (st', next_known) (sg, g) (ap (λ (z : List (Stage × Mine)). get_elem? z k) (sym hands) ∙ at_k));
+    within = subst (λ (z : ℕ). AreWithin z t.next.trail) (sym (hands_same s' st' hands)) next_within;
+    counts = λ k sg g at_k begun. ⊎_elim
+        (λ (z : (k ≡ n) × ((st', next_known) ≡ (sg, g))). ap (λ (u : Stage × Mine). u.1.passes) (sym z.1) ∙ sym (hands_same s' st' hands))
+        (λ (z : (k ≢ n) × (get_elem? s.hands k ≡ some (sg, g))). f.counts k sg g z.1 begun ∙ sym (hands_same s' st' hands))
+        (at_set s.hands n k (st', next_known) (sg, g) (ap (λ (z : List (Stage × Mine)). get_elem? z k) (sym hands) ∙ at_k));
+    busy = λ p since runs. subst (λ (z : List (Stage × Mine)). IsRun z p since) (sym hands) (runs_after s.hands n m st st' d next_known at refl f.world.now.phase s1.phase others f.busy current on p since (ap (λ (z : State Page). z.phase p) (sym t.now) ∙ runs));
   }
 
   pub next_seen : IsSeen (trail_of next_known.trail)
@@ -65,6 +84,7 @@ module _ (s : Pages Mine) (f : Fits s) (n m : ℕ) (st : Stage) (d : Mine) (at :
         trail = trail_back t.next.trail ∙ (t.extends.trail ∙ (ap (λ (l : Trail). l ++ mk ∷ []) h.begins.1 ∙ append_assoc (trail_of d.trail) h.begins.0 (mk ∷ [])));
         event = refl;
         seen = next_seen;
+        within = subst (AreWithin (length s.hands)) (sym (trail_back t.next.trail)) next_within;
         pass = refl;
         number = refl;
       }

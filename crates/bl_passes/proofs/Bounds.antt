@@ -92,8 +92,12 @@ module _ (s : Pages Mine) (f : Fits s) (n : ℕ) (d : Mine) (at : Stands s n Idl
       stage = stage_in k st e at_k (not_now k st e at_k h) h.stage;
       later = λ j l. later_in k j (h.later j l);
       begins = h.begins;
+      counted = h.counted;
       mine = h.mine;
     };
+    within = f.within;
+    counts = f.counts;
+    busy = f.busy;
   }
 
 -- the anchor of a tree whose one page is page 1
@@ -104,7 +108,7 @@ first_anchor = Anchor (record { leftmost = record { items = 1 ∷ [] }; some = o
 abbrev pub fresh_run : Proc → Run
 fresh_run process = record { state = process; got = λ x. first_anchor; child = 0 }
 
-pub begins_process : (l : Layout) (n : ℕ) (d : Mine) (process : Proc) → next_of process ≡ act.Begin → IsUnborn process → GoesOn process seen.Done → BeginsIn Fits l n d (begins n l.pages process)
+pub begins_process : (l : Layout) (n : ℕ) (d : Mine) (process : Proc) → next_of process ≡ act.Begin → IsUnborn process → GoesOn process seen.Done → BeginsIn Fits l n d (begins n l.pages l.passes process)
 unfolding entered
 begins_process l n d process next unborn course s g o at =
     let b = fresh_run process in
@@ -131,11 +135,14 @@ begins_process l n d process next unborn course s g o at =
       advance s f n m Idle d at Act.Begin s1 b' t true past (told s n (Running s.clock) e) (Running s.clock) refl refl (omega arith) (omega arith)
           (λ q ne. phase.others q ne) (λ x q ne z. z) g.pages
           (λ x own_ z. g.owners x own_ z ∙ sym (other_owner s.hands n (Running s.clock, e) own_ (λ is. h.stage.1 x (g.owners x own_ z ∙ (ap (owner_in s.hands) is ∙ held_by s.hands n (Idle, d) at)))))
-          (next_stage s f n m Idle d at Act.Begin s1 b' t true past s.clock refl (λ z. omega arith) phase.at was log),
+          (next_stage s f n m Idle d at Act.Begin s1 b' t true past s.clock refl (λ z. omega arith) phase.at was log)
+          (λ z i. absurd (let both : Idle ≡ Running z = i in cc))
+          (λ z i. (let both : machine.Running s.clock ≡ machine.Running z = sym phase.at ∙ i in let same : s.clock ≡ z = cc in ap Running same)),
       record {
         notes = notes;
         runs = refl;
         pages = g.size ∙ o.contents;
+        passes = o.hands;
         past = refl;
         own = next_own s f n m Idle d at Act.Begin s1 b' t true past was;
         near = next_near s f n m Idle d at Act.Begin s1 b' t true past;
@@ -173,11 +180,14 @@ module _ (l : Layout) (n : ℕ) (d : Mine) (s : Pages Mine) (since : ℕ) (f : F
         advance s f n d.number (Running since) d at (Act.End answer) s1 b t false d.past (told s n Idle e) Idle refl refl (omega arith) f.clock
             (λ q ne. phase.others q ne) (λ x q ne z. z) f.pages
             (λ x own_ z. f.owners x own_ z ∙ sym (same_owner s.hands n (Running since, d) (Idle, e) own_ at refl))
-            (refl, λ x z. can.1 x (ap (λ (y : State Page). y.owner x) (sym t.now) ∙ z)),
+            (refl, λ x z. can.1 x (ap (λ (y : State Page). y.owner x) (sym t.now) ∙ z))
+            (λ z i. refl)
+            (λ z i. absurd (let both : machine.Ended ≡ machine.Running z = sym phase.at ∙ i in cc)),
         record {
           notes = subst (λ (z : ℕ). Notes z d.number (Act.End answer) d e) (sym named.0) notes;
           runs = refl;
           pages = sym named.1;
+          passes = sym (f.counts n (Running since) d at (standing s f n since d at).1);
           own = subst (λ (z : ℕ). own z (trail_of e.trail) ≡ own z (trail_of d.trail)) (sym named.0) kept;
         },
         trail_back t.next.trail,

@@ -1,11 +1,15 @@
 pub mod Notings
 pub mod Entries
+pub mod Within
+pub mod Marks
 pub mod Doings
 pub mod Stages
 pub mod Sights
 pub mod Advance
 pub mod Shown
+pub mod Runners
 pub mod Turns
 pub mod Pages
 pub mod Bounds
+pub mod Releasing
 pub mod Starts

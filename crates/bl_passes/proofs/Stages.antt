@@ -1,5 +1,5 @@
 -- Each hand after a turn of one of them.
-use Rattle.std.proofs.Common.{ℕ, Bool, ◌≡◌, ◌≢◌, ◌<◌, ◌≤◌, ◌++◌, Option, Some, None, List, [], ◌∷◌, refl, sym, ap, ◌∙◌, subst, arith, append-nil, append_assoc}
+use Rattle.std.proofs.Common.{ℕ, Bool, ◌≡◌, ◌≢◌, ◌<◌, ◌≤◌, ◌++◌, Option, Some, None, List, [], ◌∷◌, refl, sym, ap, ◌∙◌, subst, arith, append-nil, append_assoc, le_refl}
 use Rattle.bl_model.specs.declared.operation.Entry.{Entry}
 use Rattle.bl_model.specs.declared.operation.Reply.{Reply}
 use Rattle.bl_page.specs.declared.page.Page.{Page}
@@ -14,10 +14,11 @@ use Rattle.bl_store.specs.Pages.{Stage, Idle, Running}
 use Rattle.bl_passes.specs.declared.known.Mine.{Mine}
 use Rattle.bl_passes.specs.Noting.{trail_of, all_noted}
 use Rattle.bl_passes.specs.Seeing.{own}
-use Rattle.bl_passes.specs.Fitting.{name, IsAtStage, IsHand}
+use Rattle.bl_passes.specs.Fitting.{name, IsAtStage, AreUpTo, IsHand}
 use Rattle.bl_passes.proofs.Notings.{trail_back}
 use Rattle.bl_passes.proofs.Doings.{log_else}
 use Rattle.bl_passes.proofs.Entries.{own-other, own-mine, said_grows}
+use Rattle.bl_passes.proofs.Marks.{each_append, up_to_on}
 
 pub pass_of : (p q : Name) → p ≡ q → p.pass ≡ q.pass
 pass_of p q e = ap (λ (z : Name). z.pass) e
@@ -31,8 +32,8 @@ module _ (w : World Run) (good : IsGood know w) (n m : ℕ) (a : Act Page Reply)
   turn_mark = record { event = record { process = name n m; act = a }; saw = t.saw; said = t.said }
 
   -- what the acting hand knows then
-  abbrev pub after : Bool → List Entry → Mine
-  after runs past = record { pass = n; pages = w.size; number = m; runs = runs; state = b.state; past = past; trail = all_noted t.next.trail }
+  abbrev pub after : ℕ → Bool → List Entry → Mine
+  after passes runs past = record { pass = n; pages = w.size; passes = passes; number = m; runs = runs; state = b.state; past = past; trail = all_noted t.next.trail }
 
   -- what it has said by then
   pub own_after : (past : List Entry) → own n w.trail ≡ past ++ entries_at (name n m) (know (w.proc (name n m))).said → own n t.next.trail ≡ past ++ entries_at (name n m) (know (t.next.proc (name n m))).said
@@ -51,12 +52,13 @@ module _ (w : World Run) (good : IsGood know w) (n m : ℕ) (a : Act Page Reply)
     later_on : (k j : ℕ) → name k j ≢ name n m → (w.now.phase (name k j) ≡ machine.Waiting) × IsBlank (know (w.proc (name k j))) → (t.next.now.phase (name k j) ≡ machine.Waiting) × IsBlank (know (t.next.proc (name k j)))
     later_on k j ne h = (phase_else (name k j) ne ∙ h.0, subst (λ (r : Run). IsBlank (know r)) (sym (t.extends.proc.others (name k j) ne)) h.1)
 
-    pub hand_self : (st st' : Stage) (d : Mine) (runs : Bool) (past : List Entry) → IsHand w n st d → d.number ≤ m → IsAtStage t.next n st' (after runs past) → IsHand t.next n st' (after runs past)
-    hand_self st st' d runs past h le stage = record {
+    pub hand_self : (st st' : Stage) (d : Mine) (passes : ℕ) (runs : Bool) (past : List Entry) → IsHand w n st d → d.number ≤ m → IsAtStage t.next n st' (after passes runs past) → IsHand t.next n st' (after passes runs past)
+    hand_self st st' d passes runs past h le stage = record {
       named = λ begun. (refl, sym t.extends.size);
       stage = stage;
       later = λ j l. later_on n j (λ e. let f = number_of _ _ e in absurd (omega arith)) (h.later j (omega arith));
-      begins = ([], sym (append-nil (trail_of (all_noted t.next.trail)) ∙ trail_back t.next.trail));
+      begins = ([], sym (append-nil (trail_of (all_noted t.next.trail)) ∙ trail_back t.next.trail), tt);
+      counted = subst (AreUpTo n m) (sym (trail_back t.next.trail ∙ (t.extends.trail ∙ ap (λ (l : Trail). l ++ turn_mark ∷ []) h.begins.1))) (up_to_on n d.number m (trail_of d.trail) h.begins.0 turn_mark h.counted h.begins.2 le (λ e. le_refl m));
       mine = ap (own n) (sym (trail_back t.next.trail));
     }
 
@@ -82,6 +84,11 @@ module _ (w : World Run) (good : IsGood know w) (n m : ℕ) (a : Act Page Reply)
       named = λ begun. let z = h.named begun in (z.0, z.1 ∙ sym t.extends.size);
       stage = stage_else k st d ne h.stage;
       later = λ j l. later_on k j (λ e. ne (pass_of _ _ e)) (h.later j l);
-      begins = (h.begins.0 ++ turn_mark ∷ [], t.extends.trail ∙ (ap (λ (l : Trail). l ++ turn_mark ∷ []) h.begins.1 ∙ append_assoc (trail_of d.trail) h.begins.0 (turn_mark ∷ [])));
+      begins = (
+        h.begins.0 ++ turn_mark ∷ [],
+        t.extends.trail ∙ (ap (λ (l : Trail). l ++ turn_mark ∷ []) h.begins.1 ∙ append_assoc (trail_of d.trail) h.begins.0 (turn_mark ∷ [])),
+        each_append _ h.begins.0 (turn_mark ∷ []) h.begins.2 ((λ e. ne (sym e)), tt),
+      );
+      counted = h.counted;
       mine = own_else k ne ∙ h.mine;
     }

@@ -19,6 +19,7 @@ use Rattle.bl_passes.specs.declared.known.Mine.{Mine}
 use Rattle.bl_passes.specs.Seeing.{IsSeen}
 use Rattle.bl_passes.specs.Fitting.{name, unborn, newcomer, Shows, owner_in, IsHand, Fits}
 use Rattle.bl_passes.proofs.Shown.{at_below}
+use Rattle.bl_passes.proofs.Within.{none_within}
 use Rattle.bl_passes.proofs.Sights.{world_seen}
 use Rattle.bl_passes.proofs.Bounds.{first_anchor, fresh_run}
 
@@ -106,7 +107,8 @@ module _ (contents : List (List ℕ)) (o : AreOpening contents) where
     named = λ begun. absurd (begun refl);
     stage = (refl, λ x. none_held x (name n 0));
     later = λ m l. (refl, blank_is);
-    begins = ([], refl);
+    begins = ([], refl, tt);
+    counted = tt;
     mine = refl;
   }
 
@@ -121,4 +123,7 @@ module _ (contents : List (List ℕ)) (o : AreOpening contents) where
     pages = words_at;
     owners = λ x own e. (let is = of_map first_owner contents x own e in owner_at (replicate passes (Idle, newcomer)) x is.0 is.1 ∙ ap (owner_in (replicate passes (Idle, newcomer))) is.2);
     hands = λ n st d e. subst (λ (z : Stage × Mine). IsHand (first_world (length contents)) n z.0 z.1) (of_all passes (Idle, newcomer) n (st, d) e) (hand_at n);
+    within = none_within (length (replicate passes (Idle, newcomer)));
+    counts = λ n st d e begun. absurd (begun (ap (λ (z : Stage × Mine). z.1.number) (sym (of_all passes (Idle, newcomer) n (st, d) e))));
+    busy = λ p since e. absurd (let both : machine.Waiting ≡ machine.Running since = e in cc);
   }

@@ -65,6 +65,7 @@ module _ (s : Pages Mine) (f : Fits s) (n since : ℕ) (d : Mine) (at : Stands s
           notes = subst (λ (z : ℕ). Notes z d.number act d then_known) (sym is_named.0) notes;
           runs = refl;
           pages = sym is_named.1;
+          passes = sym (f.counts n (Running since) d at standing.1);
           past = refl;
           own = next_own s f n d.number (Running since) d at act s1 b turned true d.past standing.4;
           near = next_near s f n d.number (Running since) d at act s1 b turned true d.past;
@@ -89,6 +90,8 @@ module _ (s : Pages Mine) (f : Fits s) (n since : ℕ) (d : Mine) (at : Stands s
         advance s f n d.number (Running since) d at act s1 b turned true d.past (told s2 n (Running since) then_known) (Running since) set_is size (omega arith) clock (λ q ne. phases q) kept pages
         (λ x o e. owners x o e ∙ sym (ap (λ (z : List (Stage × Mine)). owner_in z o) set_is ∙ same_owner s.hands n (Running since, d) (Running since, then_known) o at refl))
         (next_stage s f n d.number (Running since) d at act s1 b turned true d.past since refl standing.1 (phases mine ∙ standing.2) standing.4 then_log)
+        (λ z e. refl)
+        (λ z e. (let both : machine.Running since ≡ machine.Running z = sym (phases mine ∙ standing.2) ∙ e in let same : since ≡ z = cc in ap Running same))
 
 -- a hand that knows that it runs a process
 pub runs_on : (s : Pages Mine) (f : Fits s) (n : ℕ) (st : Stage) (d : Mine) → Stands s n st d → d.runs ≡ true → (since : ℕ) × (st ≡ Running since)

@@ -8,8 +8,8 @@ use Rattle.bl_page.specs.declared.page.Page.TheVariants.{Anchor, Leaf, Inner, De
 use Rattle.bl_page.specs.Words.{words_of}
 use Rattle.bl_page.specs.Machine.{Name}
 use Rattle.bl_page.specs.Machine as machine
-use Rattle.bl_trails.specs.Trails.{Trail, history_of, entries_at, marks_of}
-use Rattle.bl_steps.specs.Worlds.{World, IsGood}
+use Rattle.bl_trails.specs.Trails.{Mark, Trail, history_of, entries_at, marks_of}
+use Rattle.bl_steps.specs.Worlds.{World, Each, IsGood}
 use Rattle.bl_starts.specs.Blank.{IsBlank}
 use Rattle.bl_starts.specs.Opening.{Opening}
 use Rattle.bl_proc.specs.declared.kinds.Proc.{Proc}
@@ -20,7 +20,7 @@ use Rattle.bl_tables.specs.Logs.{proc_log}
 use Rattle.bl_store.specs.Pages.{Owner, Released, Open, Held, Retired, Stage, Idle, Running, Pages, Stands}
 use Rattle.bl_passes.specs.declared.known.Mine.{Mine}
 use Rattle.bl_passes.specs.Noting.{trail_of}
-use Rattle.bl_passes.specs.Seeing.{own}
+use Rattle.bl_passes.specs.Seeing.{own, AreWithin}
 
 abbrev pub name : ℕ → ℕ → Name
 name pass number = record { pass = pass; number = number }
@@ -31,7 +31,7 @@ unborn = Find (record { key = 0; stage = find.New })
 
 -- what a pass knows that has begun no process
 abbrev pub newcomer : Mine
-newcomer = record { pass = 0; pages = 0; number = 0; runs = false; state = unborn; past = []; trail = [] }
+newcomer = record { pass = 0; pages = 0; passes = 0; number = 0; runs = false; state = unborn; past = []; trail = [] }
 
 abbrev pub IsAnchor : Page → Type 0
 IsAnchor (Anchor a) = Unit {0}
@@ -63,13 +63,26 @@ abbrev pub IsAtStage : World Run → ℕ → Stage → Mine → Type 0
 IsAtStage w n Idle d = (d.runs ≡ false) × ((x : ℕ) → w.now.owner x ≢ machine.Held (name n d.number))
 IsAtStage w n (Running since) d = (d.runs ≡ true) × (d.number ≢ 0) × (w.now.phase (name n d.number) ≡ machine.Running since) × ((w.proc (name n d.number)).state ≡ d.state) × (own n w.trail ≡ d.past ++ entries_at (name n d.number) (know (w.proc (name n d.number))).said) × proc_log d.state (marks_of (name n d.number) w.trail)
 
+-- none of these events is of that pass
+abbrev pub AreElse : ℕ → Trail → Type 0
+AreElse pass marks = Each (λ (k : Mark). k.event.process.pass ≢ pass) marks
+
+-- the processes of that pass among these events have numbers up to that one
+abbrev pub AreUpTo : ℕ → ℕ → Trail → Type 0
+AreUpTo pass number marks = Each (λ (k : Mark). k.event.process.pass ≡ pass → k.event.process.number ≤ number) marks
+
 -- the world knows the hand n, which stands there and knows d
 pub record IsHand (w : World Run) (n : ℕ) (st : Stage) (d : Mine) : Type 0 where
   pub named : d.number ≢ 0 → (d.pass ≡ n) × (d.pages ≡ w.size)
   pub stage : IsAtStage w n st d
   pub later : (m : ℕ) → d.number < m → (w.now.phase (name n m) ≡ machine.Waiting) × IsBlank (know (w.proc (name n m)))
-  pub begins : (rest : Trail) × (w.trail ≡ trail_of d.trail ++ rest)
+  pub begins : (rest : Trail) × (w.trail ≡ trail_of d.trail ++ rest) × AreElse n rest
+  pub counted : AreUpTo n d.number (trail_of d.trail)
   pub mine : own n w.trail ≡ own n (trail_of d.trail)
+
+-- the hand that the process names runs it, since that time
+abbrev pub IsRun : List (Stage × Mine) → Name → ℕ → Type 0
+IsRun hands p since = (d : Mine) × (get_elem? hands p.pass ≡ some (Running since, d)) × (p.number ≡ d.number)
 
 -- One good world that began with the opening index has the pages and owners of the store, and knows each hand.
 pub record Fits (s : Pages Mine) : Type 0 where
@@ -82,3 +95,6 @@ pub record Fits (s : Pages Mine) : Type 0 where
   pub pages : (x : ℕ) (words : List ℕ) → get_elem? s.contents x ≡ some words → Shows x words (world.now.contents x)
   pub owners : (x : ℕ) (o : Owner) → get_elem? s.owners x ≡ some o → world.now.owner x ≡ owner_in s.hands o
   pub hands : (n : ℕ) (st : Stage) (d : Mine) → Stands s n st d → IsHand world n st d
+  pub within : AreWithin (length s.hands) world.trail
+  pub counts : (n : ℕ) (st : Stage) (d : Mine) → Stands s n st d → d.number ≢ 0 → d.passes ≡ length s.hands
+  pub busy : (p : Name) (since : ℕ) → world.now.phase p ≡ machine.Running since → IsRun s.hands p since

@@ -1,5 +1,5 @@
 -- What a pass has seen: all events up to its own last one, as a trail.
-use Rattle.std.specs.Prelude.{◌≡◌, ℕ, ◌++◌, Option, List, [], ◌∷◌}
+use Rattle.std.specs.Prelude.{◌≡◌, ℕ, ◌<◌, ◌++◌, Option, List, [], ◌∷◌, Contains}
 use Rattle.bl_model.specs.Map.{empty}
 use Rattle.bl_model.specs.History.{IsLegalFrom, final_map, entries_of_pass}
 use Rattle.bl_model.specs.declared.operation.Entry.{Entry}
@@ -25,6 +25,10 @@ pub record IsSeen (trail : Trail) : Type 0 where
 -- the entries of one pass
 abbrev pub own : ℕ → Trail → List Entry
 own pass trail = entries_of_pass pass (history_of trail)
+
+-- its events are of the first so many passes
+abbrev pub AreWithin : ℕ → Trail → Type 0
+AreWithin passes trail = (m : Mark) → Contains trail m → m.event.process.pass < passes
 
 -- new begins with old
 abbrev pub GoesOnFrom : Trail → Trail → Type 0

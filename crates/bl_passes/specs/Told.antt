@@ -1,9 +1,9 @@
 -- What each event tells the pass that makes it.
-use Rattle.std.specs.Prelude.{true, false, ◌≡◌, ◌≢◌, ℕ, ◌+◌, ◌<◌, ◌++◌, Option, None, Some, List, [], ◌∷◌}
+use Rattle.std.specs.Prelude.{true, false, ◌≡◌, ◌≢◌, ◌⊎◌, ℕ, ◌+◌, ◌<◌, ◌++◌, Option, None, Some, List, [], ◌∷◌}
 use Rattle.bl_model.specs.declared.operation.Reply.{Reply}
 use Rattle.bl_page.specs.declared.page.Page.{Page}
 use Rattle.bl_page.specs.Words.{words_of}
-use Rattle.bl_page.specs.Machine.{Act}
+use Rattle.bl_page.specs.Machine.{Name, Act}
 use Rattle.bl_trails.specs.Trails.{Mark, Trail, entries_at, marks_of}
 use Rattle.bl_ways.specs.declared.acts.Action.{Action}
 use Rattle.bl_ways.specs.declared.acts.Action.TheVariants as action
@@ -14,13 +14,13 @@ use Rattle.bl_proc.specs.Processes.{next_of}
 use Rattle.bl_tables.specs.Logs.{proc_log}
 use Rattle.bl_tables.specs.Turns.{event_of}
 use Rattle.bl_tables.specs.Knowing.{Run, bare as know, end_of_proc}
-use Rattle.bl_steps.specs.Worlds.{Stage}
+use Rattle.bl_steps.specs.Worlds.{Stage, Each}
 use Rattle.bl_starts.specs.Blank.{IsBlank}
 use Rattle.bl_courses.specs.Courses.{GoesOn}
 use Rattle.bl_store.specs.Pages.{Owner, Open}
 use Rattle.bl_passes.specs.declared.known.Mine.{Mine}
 use Rattle.bl_passes.specs.Noting.{trail_of}
-use Rattle.bl_passes.specs.Seeing.{IsSeen, own}
+use Rattle.bl_passes.specs.Seeing.{IsSeen, AreWithin, own}
 use Rattle.bl_passes.specs.Fitting.{name}
 
 -- the page that a process is to get, latch, put or open is one of so many
@@ -50,6 +50,7 @@ pub record Notes (by count : ℕ) (act : Act Page Reply) (d e : Mine) : Type 0 w
   pub trail : trail_of e.trail ≡ trail_of d.trail ++ (between ++ last ∷ [])
   pub event : last.event ≡ record { process = name by count; act = act }
   pub seen : IsSeen (trail_of e.trail)
+  pub within : AreWithin e.passes (trail_of e.trail)
   pub pass : e.pass ≡ by
   pub number : e.number ≡ count
 
@@ -58,6 +59,7 @@ pub record Steps (act : Act Page Reply) (d e : Mine) : Type 0 where
   pub notes : Notes d.pass d.number act d e
   pub runs : e.runs ≡ true
   pub pages : e.pages ≡ d.pages
+  pub passes : e.passes ≡ d.passes
   pub past : e.past ≡ d.past
   pub own : HasOwn e
   pub near : IsNear e.pages (next_of e.state)
@@ -87,24 +89,26 @@ abbrev pub refuses : Mine → ℕ → Mine → Type 0
 refuses d now e = Goes seen.Refused d e
 
 -- a process begins, the next of its pass
-pub record Begins (by many : ℕ) (process : Proc) (d e : Mine) : Type 0 where
+pub record Begins (by many among : ℕ) (process : Proc) (d e : Mine) : Type 0 where
   pub notes : Notes by (d.number + 1) Act.Begin d e
   pub runs : e.runs ≡ true
   pub pages : e.pages ≡ many
+  pub passes : e.passes ≡ among
   pub past : e.past ≡ own by (trail_of d.trail)
   pub own : HasOwn e
   pub near : IsNear e.pages (next_of e.state)
   pub course : GoesOn process seen.Done
   pub state : e.state ≡ course.new
 
-abbrev pub begins : ℕ → ℕ → Proc → Mine → ℕ → Mine → Type 0
-begins pass pages process d now e = Begins pass pages process d e
+abbrev pub begins : ℕ → ℕ → ℕ → Proc → Mine → ℕ → Mine → Type 0
+begins pass pages passes process d now e = Begins pass pages passes process d e
 
 -- the process has ended, and the entries of its pass are those of before
 pub record Finishes (answer : Option Reply) (d e : Mine) : Type 0 where
   pub notes : Notes d.pass d.number (Act.End answer) d e
   pub runs : e.runs ≡ false
   pub pages : e.pages ≡ d.pages
+  pub passes : e.passes ≡ d.passes
   pub own : own d.pass (trail_of e.trail) ≡ own d.pass (trail_of d.trail)
 
 -- it has answered, and has done what its answer means
@@ -118,12 +122,26 @@ ends d now e = Finishes (end_of_proc d.state) d e × HasDone d e
 abbrev pub gives_up : Mine → ℕ → Mine → Type 0
 gives_up d now e = Finishes None d e
 
--- The releases of a sweep: events of the pass that say nothing.
-pub record Sweeps (d e : Mine) : Type 0 where
-  pub pass : e.pass ≡ d.pass
+-- p released a page there, and said nothing
+abbrev pub IsRelease : Name → Mark → Type 0
+IsRelease p m = (x : ℕ) × (m.event ≡ record { process = p; act = Act.Release x }) × (m.said ≡ None)
 
-abbrev pub sweeps : Mine → Mine → Type 0
-sweeps d e = e ≡ d
+-- Of so many passes, pages were released by this one's process of that count, which is a process of its own: before its first release the pass
+-- had none of it, and all that the pass does meanwhile is to release pages.
+pub record Sweeps (by count among : ℕ) (d e : Mine) : Type 0 where
+  pub more : Trail
+  pub trail : trail_of e.trail ≡ trail_of d.trail ++ more
+  pub mine : Each (λ (m : Mark). m.event.process.pass ≡ by → IsRelease (name by count) m) more
+  pub fresh : d.number < count → Each (λ (m : Mark). m.event.process ≢ name by count) (trail_of d.trail)
+  pub seen : IsSeen (trail_of e.trail)
+  pub within : AreWithin among (trail_of e.trail)
+  pub own : own by (trail_of e.trail) ≡ own by (trail_of d.trail)
+  pub number : e.number ≡ count
+  pub runs : e.runs ≡ false
+
+-- or no page was released
+abbrev pub sweeps : ℕ → ℕ → ℕ → Mine → Mine → Type 0
+sweeps by count among d e = (e ≡ d) ⊎ Sweeps by count among d e
 
 -- a process that may end at once: it runs, has said nothing, and holds nothing
 pub record MayGiveUp (state : Proc) : Type 0 where

@@ -7,13 +7,15 @@ use crate::known::Mine;
 use bl_store::{PagePlay, SweepPlay, TimePlay};
 use std::marker::{Brand, PhantomData};
 
-/// Which pass begins a process, in a store of how many pages, and which process.
+/// Which pass begins a process, in a store of how many pages and passes, and which process.
 pub trait Launch {
     ghost use Rattle.bl_proc.specs.declared.kinds.Proc.{Proc as Process};
 
     ghost pass: { ℕ };
 
     ghost pages: { ℕ };
+
+    ghost passes: { ℕ };
 
     ghost process: { Process };
 }
@@ -25,6 +27,8 @@ impl Launch for Brand {
 
     ghost pages = { 0 };
 
+    ghost passes = { 0 };
+
     ghost process = { unborn };
 }
 
@@ -34,7 +38,7 @@ pub struct Began<J> {
 }
 
 impl<J: Launch> TimePlay<Mine> for Began<J> {
-    ghost then = { begins J.pass J.pages J.process };
+    ghost then = { begins J.pass J.pages J.passes J.process };
 }
 
 /// The process ends, and has answered.
@@ -93,9 +97,28 @@ impl TimePlay<Mine> for Refused {
     ghost then = { refuses };
 }
 
-/// Pages were released.
-pub struct Swept;
+/// Which pass sweeps, by its process of which number, and how many passes there are.
+pub trait Sweeper {
+    ghost pass: { ℕ };
 
-impl SweepPlay<Mine> for Swept {
-    ghost then = { sweeps };
+    ghost number: { ℕ };
+
+    ghost passes: { ℕ };
+}
+
+impl Sweeper for Brand {
+    ghost pass = { 0 };
+
+    ghost number = { 0 };
+
+    ghost passes = { 0 };
+}
+
+/// Pages were released.
+pub struct Swept<J> {
+    sweeper: PhantomData<J>,
+}
+
+impl<J: Sweeper> SweepPlay<Mine> for Swept<J> {
+    ghost then = { sweeps J.pass J.number J.passes };
 }

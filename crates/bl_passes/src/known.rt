@@ -50,6 +50,8 @@ pub struct Mine {
     pub pass: u32,
     /// How many pages there are, once it has begun a process.
     pub pages: u32,
+    /// How many passes there are, once it has begun a process.
+    pub passes: u32,
     /// How many processes it has begun.
     pub number: u64,
     /// Whether the last of them still runs.

@@ -10,6 +10,8 @@ mod events;
 mod known;
 mod rule;
 
-pub use events::{Began, Ended, GaveUp, Got, Launch, Opened, Put, Refused, Swept, Took, Tried};
+pub use events::{
+    Began, Ended, GaveUp, Got, Launch, Opened, Put, Refused, Sweeper, Swept, Took, Tried,
+};
 pub use known::{Deed, Mine, Noted, Spoken, Who};
 pub use rule::Passes;

@@ -18,3 +18,4 @@ pub mod Starting
 pub mod Answered
 pub mod Gets
 pub mod GivingUp
+pub mod Releasing

@@ -1,7 +1,12 @@
 use Rattle.std.proofs.Common.{◌≡◌, ℕ, ◌+◌, ◌<◌, length, ap, sym, ◌∙◌, subst, arith}
 use Rattle.bl_store.specs.declared.view.View.{View}
+use Rattle.bl_passes.specs.declared.known.Mine.{Mine}
+use Rattle.bl_passes.specs.Noting.{trail_of}
+use Rattle.bl_passes.specs.Seeing.{IsSeen, AreWithin}
+use Rattle.bl_passes.proofs.Starts.{newcomer_seen}
 use Rattle.bl_index.specs.Opened.{AreNew, IsNewHand, ArePasses}
 use Rattle.bl_index.proofs.Hands.{rest_new, first_new, passes_push}
+use Rattle.bl_passes.proofs.Within.{none_within}
 use Rattle.bl_index.proofs.opening.passes_of.Goals as goal
 
 pub remove-requires : goal.remove-requires
@@ -11,7 +16,13 @@ pub invariant_of-push : goal.invariant_of-push
 invariant_of-push c = (
     let left = c.loop-number.invariant.left in
     let is = first_new c.args.store.now.table.shared.table_id c.args.store.now.layout c.loop-number._number c.loop-number.hands.items c.remove.result (omega arith) c.loop-number.invariant.hands c.remove.ensures.value in
-    record { idle = ap (λ (v : View _). v.stamp) is.2; empty = ap (λ (v : View _). v.stock) is.2 })
+    record {
+      idle = ap (λ (v : View _). v.stamp) is.2;
+      empty = ap (λ (v : View _). v.stock) is.2;
+      rests = ap (λ (v : View Mine). v.known.runs) is.2;
+      within = subst (λ (v : View Mine). AreWithin v.layout.passes (trail_of v.known.trail)) (sym is.2) (none_within _);
+      seen = subst (λ (v : View Mine). ∥ IsSeen (trail_of v.known.trail) ∥₁) (sym is.2) ∣ newcomer_seen ∣₁;
+    })
 
 pub loop-number-preserved : goal.loop-number-preserved
 loop-number-preserved c = (

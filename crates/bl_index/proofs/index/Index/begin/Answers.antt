@@ -15,7 +15,7 @@ pub returns-clause-process : goal.returns-clause-process
 returns-clause-process g c =
     let told = c.launch.ensures.told in
     let goes = g.met.P.Kind.goes c.args.process.now c.took.new.self seen.Done c.took.ensures in
-    record { runs = told.runs; state = told.state ∙ sym (told.course.only _ goes); pages = told.pages; near = told.near }
+    record { runs = told.runs; state = told.state ∙ sym (told.course.only _ goes); pages = told.pages; passes = told.passes; near = told.near }
 
 pub returns-clause-begun : goal.returns-clause-begun
-returns-clause-begun g c = since_begin _ _ _ _ _ c.launch.ensures.told
+returns-clause-begun g c = since_begin _ _ _ _ _ _ c.launch.ensures.told

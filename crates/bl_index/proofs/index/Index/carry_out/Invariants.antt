@@ -9,7 +9,7 @@ abbrev pub invariant-loop : goal.invariant-loop
 invariant-loop g l = record {
   same : IsSameHand l.fn.hand.seat l.hand.seat;
   running : IsRunning l.hand.seat;
-  process : IsOn l.self.store.layout.pages (known l.hand.seat) (g.P.Kind.proc_of l.process);
+  process : IsOn l.self.store.layout (known l.hand.seat) (g.P.Kind.proc_of l.process);
   since : IsSince l.fn.hand.number (known l.fn.hand.seat) (known l.hand.seat);
   going : (g.P.Process.answer_of l.process ≡ None) × (g.P.Process.next_of l.process ≢ act.Begin);
   op : op_of (g.P.Kind.proc_of l.process) ≡ op_of (g.P.Kind.proc_of l.fn.process);

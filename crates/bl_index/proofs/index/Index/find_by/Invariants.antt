@@ -9,7 +9,7 @@ abbrev pub invariant-loop : goal.invariant-loop
 invariant-loop l = record {
   same : IsSameHand l.fn.hand.seat l.hand.seat × IsSameStock l.fn.hand.seat l.hand.seat;
   running : IsRunning l.hand.seat;
-  process : IsOn l.self.store.layout.pages (known l.hand.seat) (proc.Find l.process);
+  process : IsOn l.self.store.layout (known l.hand.seat) (proc.Find l.process);
   since : IsSince l.fn.hand.number (known l.fn.hand.seat) (known l.hand.seat);
   key : l.process.key ≡ l.fn.key;
   going : IsSearching l.process.stage;

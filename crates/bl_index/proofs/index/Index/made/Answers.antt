@@ -13,4 +13,4 @@ pub new-requires-clause-rule : goal.new-requires-clause-rule
 new-requires-clause-rule c = subst (λ (z : List (List ℕ)). Fits (first_pages z c.args.config.passes newcomer)) (sym c.as_slice.ensures.value) (opens c.args.config.pages c.in_ok-first.first.items c.requires.pages.0 c.in_ok-first.ensures c.args.config.passes)
 
 pub returns : goal.returns
-returns c = is_opened c.args.config _ _ _ (c.in_ok-store.ensures.layout.0 ∙ (ap length c.as_slice.ensures.value ∙ c.in_ok-first.ensures.count)) c.in_ok-store.ensures.hands c.in_ok-passes.ensures
+returns c = is_opened c.args.config _ _ _ (c.in_ok-store.ensures.layout.0 ∙ (ap length c.as_slice.ensures.value ∙ c.in_ok-first.ensures.count)) c.in_ok-store.ensures.layout.1 c.in_ok-store.ensures.hands c.in_ok-passes.ensures

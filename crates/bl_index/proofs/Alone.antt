@@ -1,0 +1,51 @@
+-- An index of one pass: its history is the pass's own, so that a call is one step of the map.
+use Rattle.std.proofs.Common.{ℕ, ◌≡◌, ◌<◌, ◌++◌, suc, Option, Some, None, List, [], ◌∷◌, All, refl, sym, ap, ◌∙◌, subst, arith}
+use Rattle.std.specs.Prelude.{Contains}
+use Rattle.std.proofs.lemmas.List.Elements.{All-nil, All-cons}
+use Rattle.bl_layout.specs.declared.layout.Layout.{Layout}
+use Rattle.bl_model.specs.declared.operation.Op.{Op}
+use Rattle.bl_model.specs.declared.operation.Reply.{Reply}
+use Rattle.bl_model.specs.declared.operation.Entry.{Entry}
+use Rattle.bl_model.specs.Map.{Map, empty, IsMapStep}
+use Rattle.bl_model.specs.History.{IsLegalFrom, final_map}
+use Rattle.bl_model.proofs.Histories.{final_map-push, legal_rest, entries_of_pass-own}
+use Rattle.bl_page.specs.Machine.{Name}
+use Rattle.bl_trails.specs.Trails.{Said, Mark, Trail, entries_at, history_of}
+use Rattle.bl_passes.specs.Seeing.{IsSeen, own, AreWithin}
+use Rattle.bl_index.specs.declared.index.Index.{Index}
+use Rattle.bl_index.specs.declared.index.Pass.{Pass}
+use Rattle.bl_index.specs.Calls.{map_of, passes_of, trail, IsPassOf}
+
+abbrev OfFirst : Entry → Type 0
+OfFirst e = e.pass ≡ 0
+
+first_entries : (p : Name) (said : Option Said) (es : List Entry) → p.pass < 1 → All OfFirst es → All OfFirst (entries_at p said ++ es)
+first_entries p None es l all = all
+first_entries p (Some s) es l all = All-cons OfFirst (record { pass = p.pass; op = s.op; reply = s.reply }) es (omega arith) all
+
+all_first : (trail : Trail) → AreWithin 1 trail → All OfFirst (history_of trail)
+all_first [] w = All-nil OfFirst
+all_first (m ∷ ms) w = first_entries m.event.process m.said (history_of ms) (w m (0, omega arith, refl)) (all_first ms (λ n c. w n (suc c.0, (let l = c.1 in omega arith), c.2)))
+
+whole_own : (trail : Trail) → AreWithin 1 trail → own 0 trail ≡ history_of trail
+whole_own trail w = entries_of_pass-own 0 (history_of trail) (all_first trail w)
+
+-- a call that adds no entry leaves the map
+pub alone_keeps : (old new : Trail) → AreWithin 1 old → AreWithin 1 new → own 0 new ≡ own 0 old → map_of new ≡ map_of old
+alone_keeps old new w v same = ap (final_map empty) (sym (whole_own new v) ∙ (same ∙ whole_own old w))
+
+-- and one that adds an entry is a step of it
+pub alone_answers : (op : Op) (reply : Reply) (old new : Trail) → AreWithin 1 old → AreWithin 1 new → IsSeen new → own 0 new ≡ own 0 old ++ record { pass = 0; op = op; reply = reply } ∷ [] → IsMapStep (map_of old) op reply (map_of new)
+alone_answers op reply old new w v seen once =
+    let e : Entry = record { pass = 0; op = op; reply = reply } in
+    let grown : history_of new ≡ history_of old ++ e ∷ [] = sym (whole_own new v) ∙ (once ∙ ap (λ (z : List Entry). z ++ e ∷ []) (whole_own old w)) in
+    let legal : IsLegalFrom empty (history_of old ++ e ∷ []) = subst (IsLegalFrom empty) grown seen.legal in
+    let last = legal_rest empty (history_of old) (e ∷ []) legal in
+    record {
+      answer = last.0;
+      after = λ key. ap (λ (m : Map). m key) (ap (final_map empty) grown ∙ final_map-push empty (history_of old) e);
+    }
+
+-- what a pass has seen was done by the passes of its index
+pub pass_within : (index : Index) (pass : Pass) → IsPassOf index pass → AreWithin (passes_of index) (trail pass)
+pass_within index pass of = subst (λ (z : Layout). AreWithin z.passes (trail pass)) of.1 pass.within

@@ -1,0 +1,44 @@
+-- What a sweep tells its caller.
+use Rattle.std.proofs.Common.{ℕ, ◌≡◌, ◌≢◌, ◌⊎◌, ◌+◌, ◌≤◌, ◌++◌, false, List, [], ◌∷◌, inl, inr, refl, sym, ap, ◌∙◌, subst, arith, append-nil, le_refl}
+use Rattle.bl_page.specs.Machine.{Name}
+use Rattle.bl_trails.specs.Trails.{Mark, Trail}
+use Rattle.bl_steps.specs.Worlds.{Each}
+use Rattle.bl_passes.specs.declared.known.Mine.{Mine}
+use Rattle.bl_passes.specs.Noting.{trail_of}
+use Rattle.bl_passes.specs.Seeing.{IsSeen, own}
+use Rattle.bl_passes.specs.Fitting.{name}
+use Rattle.bl_passes.specs.Told.{sweeps}
+use Rattle.bl_index.specs.Calls.{Sweeps}
+
+-- more than the number of each process in a trail
+abbrev above : Trail → ℕ
+above [] = 0
+above (m ∷ ms) = m.event.process.number + above ms + 1
+
+fresh_from : (pass k : ℕ) (trail : Trail) → above trail ≤ k → Each (λ (m : Mark). m.event.process ≢ name pass k) trail
+fresh_from pass k [] le = tt
+fresh_from pass k (m ∷ ms) le =
+    let low : m.event.process.number + above ms + 1 ≤ k = le in (
+      λ e. (let same : m.event.process.number ≡ k = ap (λ (p : Name). p.number) e in omega arith),
+      fresh_from pass k ms (omega arith),
+    )
+
+pub sweep_tells : (pass count among : ℕ) (d e : Mine) → d.number + 1 ≡ count → sweeps pass count among d e → Sweeps pass (trail_of d.trail) (trail_of e.trail)
+sweep_tells pass count among d e next (inl is) = record {
+  number = above (trail_of d.trail);
+  fresh = fresh_from pass (above (trail_of d.trail)) (trail_of d.trail) (le_refl (above (trail_of d.trail)));
+  more = [];
+  begins = ap (λ (z : Mine). trail_of z.trail) is ∙ sym (append-nil (trail_of d.trail));
+  mine = tt;
+  seen = subst (λ (z : Mine). IsSeen (trail_of z.trail)) (sym is);
+  none = ap (λ (z : Mine). own pass (trail_of z.trail)) is;
+}
+sweep_tells pass count among d e next (inr t) = record {
+  number = count;
+  fresh = t.fresh (omega arith);
+  more = t.more;
+  begins = t.trail;
+  mine = t.mine;
+  seen = λ old. t.seen;
+  none = t.own;
+}

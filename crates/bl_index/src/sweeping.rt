@@ -1,0 +1,42 @@
+//! Sweeps.
+
+ghost use Rattle.std.specs.Prelude.{◌≡◌, ◌+◌, false};
+ghost use Rattle.bl_store.specs.Hands.{known, IsOf, IsSameHand, IsSameStage, IsSameStock};
+ghost use Rattle.bl_passes.specs.Told.{sweeps};
+ghost use Rattle.bl_index.specs.Runs.{IsWithin};
+
+use crate::index::{Index, Pass};
+use bl_passes::{Mine, Sweeper, Swept};
+use bl_store::Hand;
+use std::marker::Brand;
+
+impl Index {
+    ghost use Rattle.bl_passes.specs.Seeing.{IsSeen};
+    ghost use Rattle.bl_index.specs.Calls.{IsPassOf, IsSamePass, number_of, trail, released_by, Sweeps};
+
+    /// Releases pages and frames that no process can read any more: each was retired before every process began that still
+    /// runs. Returns how many.
+    pub fn sweep(&self, pass: &mut Pass) -> u32
+        requires { IsPassOf self.now pass.old }
+        ensures same { IsSamePass pass.old pass.new }
+        ensures sweeps { Sweeps (number_of pass.old) (trail pass.old) (trail pass.new) }
+        ensures seen { ∥ IsSeen (trail pass.new) ∥₁ }
+        ensures count { released_by pass.new ≡ released_by pass.old + result }
+    {
+        self.release::<Brand>(&mut pass.hand)
+    }
+
+    // The releases of a sweep, by the process that the bound names beside its pass.
+    fn release<J: Sweeper>(&self, hand: &mut Hand<Mine>) -> u32
+        requires own { IsOf self.now.store.table.shared.table_id self.now.store.layout hand.old.seat }
+        requires rests { (known hand.old.seat).runs ≡ false }
+        requires names { (hand.old.number ≡ J.pass) × ((known hand.old.seat).number + 1 ≡ J.number) × (self.now.store.layout.passes ≡ J.passes) }
+        requires within { IsWithin hand.old.seat }
+        ensures same { IsSameHand hand.old.seat hand.new.seat × IsSameStage hand.old.seat hand.new.seat × IsSameStock hand.old.seat hand.new.seat }
+        ensures told { sweeps J.pass J.number J.passes (known hand.old.seat) (known hand.new.seat) }
+        ensures within { IsWithin hand.new.seat }
+        ensures count { hand.new.seat.me.0.releases ≡ hand.old.seat.me.0.releases + result }
+    {
+        self.store.sweep::<Swept<J>>(hand)
+    }
+}
