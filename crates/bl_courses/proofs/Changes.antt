@@ -1,5 +1,5 @@
 -- A change goes on, and in one way.
-use Rattle.std.proofs.Common.{ℕ, ◌≡◌, ◌≢◌, ◌+◌, ◌<◌, ◌≤◌, Option, Some, None, length, refl, sym, ap, ◌∙◌, subst, inl, inr, arith}
+use Rattle.std.proofs.Common.{ℕ, ◌≡◌, ◌<◌, ◌≤◌, None, length, refl, sym, ap, ◌∙◌, subst, inl, inr, arith}
 use Rattle.std.specs.Coded.{le_prop}
 use Rattle.std.proofs.Props.{props}
 use Rattle.std.proofs.lemmas.Bool.{cases_lt, false≢true}
@@ -8,7 +8,7 @@ use Rattle.bl_page.specs.declared.page.Page.{Page}
 use Rattle.bl_page.specs.Pages.{Covers}
 use Rattle.bl_page.specs.Pairs.{IsChild}
 use Rattle.bl_model.specs.Rows.{map_of}
-use Rattle.bl_rearrange.specs.declared.fitted.Fitted.TheVariants.{Fits, Split}
+use Rattle.bl_rearrange.specs.declared.fitted.Fitted.TheVariants.{Fits}
 use Rattle.bl_rearrange.specs.Rearranged.{pairs_of, MayHold, MayLose, IsFitted, IsWithout}
 use Rattle.bl_ways.specs.Props.{Covers-prop, MayHold-prop}
 use Rattle.bl_ways.specs.declared.acts.Seen.{Seen}

@@ -1,6 +1,5 @@
 -- What each process wants, and what follows.
-use Rattle.std.proofs.Common.{ℕ, zero, suc, ◌≡◌, ◌≢◌, Option, Some, None, refl, sym, ap, ◌∙◌, subst, arith}
-use Rattle.bl_ways.specs.declared.acts.Action.{Action}
+use Rattle.std.proofs.Common.{ℕ, suc, ◌≡◌, ◌≢◌, Option, Some, None, refl, sym, ap, subst, arith}
 use Rattle.bl_ways.specs.declared.acts.Action.TheVariants as act
 use Rattle.bl_ways.specs.declared.acts.Seen.{Seen}
 use Rattle.bl_ways.specs.declared.acts.Seen.TheVariants as seen
@@ -23,12 +22,11 @@ use Rattle.bl_proc.specs.declared.inserting.InsertStage.TheVariants as insert
 use Rattle.bl_proc.specs.declared.deleting.Delete.{Delete}
 use Rattle.bl_proc.specs.declared.deleting.DeleteStage.{DeleteStage}
 use Rattle.bl_proc.specs.declared.deleting.DeleteStage.TheVariants as delete
-use Rattle.bl_proc.specs.declared.kinds.Proc.{Proc}
 use Rattle.bl_proc.specs.declared.kinds.Proc.TheVariants as proc
 use Rattle.bl_proc.specs.Searches.{find_next_in, find_answer_in, FindGoes}
 use Rattle.bl_proc.specs.Inserts.{insert_next_in, insert_needs_in, insert_answer_in, InsertGoes}
 use Rattle.bl_proc.specs.Deletes.{delete_next_in, delete_needs_in, delete_answer_in, DeleteGoes}
-use Rattle.bl_proc.specs.Processes.{next_of, needs_of, Takes}
+use Rattle.bl_proc.specs.Processes.{next_of, Takes}
 use Rattle.bl_courses.specs.Frames.{change_frames, insert_frames, delete_frames, Wants, Leaves, Follows}
 
 pub approach_wants : (a : Approach) (needs : Option (ℕ × ℕ)) → Wants (approach_next a) needs 0

@@ -1,5 +1,5 @@
 -- An insertion goes on, and in one way.
-use Rattle.std.proofs.Common.{ℕ, ◌≡◌, ◌<◌, Option, Some, None, refl, sym, ap, ◌∙◌, subst}
+use Rattle.std.proofs.Common.{ℕ, ◌≡◌, Option, Some, None, refl, sym, ap, ◌∙◌, subst}
 use Rattle.bl_page.specs.declared.page.Page.{Page}
 use Rattle.bl_laws.specs.Pages.{node_of}
 use Rattle.bl_ways.specs.declared.acts.Seen.{Seen}
@@ -24,8 +24,8 @@ use Rattle.bl_courses.specs.Courses.{GoesOn}
 use Rattle.bl_courses.specs.One.{One}
 use Rattle.bl_courses.proofs.Cases.{came_on, came_at, came_as, not_both, on_one, over_one, not_over}
 use Rattle.bl_courses.proofs.Ways.{approach_one, here_leads}
-use Rattle.bl_courses.proofs.Changes.{enter_one, drop_one, change_one}
-use Rattle.bl_courses.proofs.Leaves.{leaf_covers, leaf_lists, leaf_holds, leaf_loses}
+use Rattle.bl_courses.proofs.Changes.{enter_one, change_one}
+use Rattle.bl_courses.proofs.Leaves.{leaf_covers, leaf_lists, leaf_holds}
 use Rattle.bl_proc.specs.declared.inserting.Insert.{Insert}
 use Rattle.bl_proc.specs.declared.inserting.InsertStage.{InsertStage}
 use Rattle.bl_proc.specs.declared.inserting.InsertStage.TheVariants.{New, Coming, Present, Changing, Ending, Over}

@@ -1,20 +1,17 @@
 -- A page with a pair more or less: there is one, and it is the only one.
-use Rattle.std.proofs.Common.{◌≡◌, ◌≢◌, ℕ, zero, suc, ◌+◌, ◌<◌, ◌≤◌, ◌^◌, List, [], ◌∷◌, ◌++◌, length, take, drop, get_or, Option, Some, None, refl, sym, ap, ◌∙◌, subst, inl, inr, arith}
+use Rattle.std.proofs.Common.{◌≡◌, ℕ, zero, suc, ◌<◌, ◌≤◌, List, [], ◌∷◌, length, take, drop, get_or, None, refl, sym, ap, ◌∙◌, subst, arith}
 use Rattle.std.proofs.lemmas.List.{take-append-drop, length-append}
-use Rattle.std.specs.Prelude.{IsSome}
 use Rattle.arrayvec.specs.ArrayVec.{ArrayVec}
-use Rattle.bl_model.specs.Map.{with_pair, without_key, SameMap}
+use Rattle.bl_model.specs.Map.{with_pair}
 use Rattle.bl_model.specs.Rows.{map_of}
 use Rattle.bl_page.specs.declared.page.Page.{Page}
 use Rattle.bl_page.specs.declared.page.Page.TheVariants.{Anchor, Leaf, Inner, Dead}
-use Rattle.bl_page.specs.declared.page.Leaf.{Leaf as LeafPage}
-use Rattle.bl_page.specs.declared.page.Inner.{Inner as InnerPage}
 use Rattle.bl_page.specs.Pages.{Covers}
-use Rattle.bl_page.specs.Pairs.{RisesFrom, AllWithin, BeginsWith, NameChildren, IsChild, IsWithin, end_of}
+use Rattle.bl_page.specs.Pairs.{RisesFrom, AllWithin, BeginsWith, IsChild, IsWithin, end_of}
 use Rattle.bl_page.proofs.Same.{leaf_same, inner_same}
 use Rattle.bl_rearrange.specs.Entered.{entered, dropped, AreHalves}
 use Rattle.bl_rearrange.specs.declared.fitted.Fitted.TheVariants.{Fits, Split}
-use Rattle.bl_rearrange.specs.Rearranged.{pairs_of, IsNow, low_of, high_of, right_of, KeepsFrame, MayHold, MayLose, IsFitted, IsWithout}
+use Rattle.bl_rearrange.specs.Rearranged.{pairs_of, IsNow, low_of, high_of, right_of, MayHold, MayLose, IsFitted, IsWithout}
 use Rattle.bl_rearrange.proofs.EnteredLemmas.{length-entered}
 use Rattle.bl_rearrange.proofs.Parts.{entered_is, halves_are, dropped_is}
 use Rattle.bl_courses.proofs.Rows.{rows_one, front_one, back_one, IsParted, parted_one}

@@ -1,19 +1,13 @@
 -- What a post wants, and what follows.
-use Rattle.std.proofs.Common.{ℕ, zero, suc, ◌≡◌, ◌≢◌, ◌-◌, Option, Some, None, refl, sym, ap, ◌∙◌, subst, arith}
-use Rattle.bl_page.specs.declared.page.Page.{Page}
+use Rattle.std.proofs.Common.{ℕ, suc, ◌≡◌, ◌≢◌, Some, None, refl, sym, ap, ◌∙◌, arith}
 use Rattle.bl_page.specs.declared.page.Page.TheVariants.{Inner}
-use Rattle.bl_ways.specs.declared.acts.Action.{Action}
 use Rattle.bl_ways.specs.declared.acts.Action.TheVariants as act
 use Rattle.bl_ways.specs.declared.acts.Seen.{Seen}
 use Rattle.bl_ways.specs.declared.acts.Seen.TheVariants as seen
-use Rattle.bl_ways.specs.declared.approaching.Approach.{Approach}
 use Rattle.bl_ways.specs.declared.approaching.Approach.TheVariants as way
-use Rattle.bl_ways.specs.declared.changing.Change.{Change}
 use Rattle.bl_ways.specs.declared.growing.Growth.{Growth}
 use Rattle.bl_ways.specs.declared.growing.Growth.TheVariants as growth
-use Rattle.bl_ways.specs.declared.growing.Grew.{Grew}
 use Rattle.bl_ways.specs.declared.growing.Grew.TheVariants as grew
-use Rattle.bl_ways.specs.Approaches.{approach_next}
 use Rattle.bl_ways.specs.Growths.{growth_next, growth_needs, Grows}
 use Rattle.bl_proc.specs.declared.posting.Post.{Post}
 use Rattle.bl_proc.specs.declared.posting.PostStage.{PostStage}

@@ -1,8 +1,8 @@
 -- Pairs that rise are known by what they list.
-use Rattle.std.proofs.Common.{◌≡◌, ◌≢◌, ℕ, zero, suc, ◌+◌, ◌<◌, ◌≤◌, List, [], ◌∷◌, ◌++◌, length, take, drop, Option, Some, None, true, false, refl, sym, ap, ◌∙◌, inl, inr, arith}
+use Rattle.std.proofs.Common.{◌≡◌, ◌≢◌, ℕ, ◌+◌, ◌<◌, ◌≤◌, List, [], ◌∷◌, ◌++◌, length, Option, Some, None, refl, sym, ◌∙◌, inl, inr, arith}
 use Rattle.std.proofs.lemmas.Bool.{cases_lt, cases_eq}
 use Rattle.bl_model.specs.Rows.{map_of}
-use Rattle.bl_page.specs.Pairs.{RisesFrom, AllWithin, end_of}
+use Rattle.bl_page.specs.Pairs.{RisesFrom, AllWithin}
 use Rattle.bl_page.proofs.Lookups.{map_of_below}
 use Rattle.bl_rearrange.proofs.Cuts.{RisesFrom-lower}
 

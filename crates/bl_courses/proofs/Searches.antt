@@ -1,5 +1,5 @@
 -- A search goes on, and in one way.
-use Rattle.std.proofs.Common.{ℕ, ◌≡◌, Option, Some, None, ap, sym, ◌∙◌, refl, inl, inr, ⊎_elim, subst}
+use Rattle.std.proofs.Common.{ℕ, ◌≡◌, Option, None, ap, refl, inl, inr, subst}
 use Rattle.bl_page.specs.declared.page.Page.{Page}
 use Rattle.bl_laws.specs.Pages.{node_of, roots_of}
 use Rattle.bl_ways.specs.declared.acts.Seen.{Seen}

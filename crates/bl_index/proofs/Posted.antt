@@ -1,5 +1,5 @@
 -- What a post tells its caller.
-use Rattle.std.proofs.Common.{ℕ, ◌≡◌, ◌≢◌, ◌+◌, ◌<◌, ◌++◌, Option, Some, None, [], ◌∷◌, refl, sym, ap, ◌∙◌, subst, append-nil, arith}
+use Rattle.std.proofs.Common.{ℕ, ◌≡◌, ◌≢◌, ◌+◌, ◌<◌, Option, Some, None, refl, sym, ap, ◌∙◌, subst, append-nil, arith}
 use Rattle.std.specs.Prelude.{IfSome}
 use Rattle.bl_page.specs.declared.page.Page.{Page}
 use Rattle.bl_page.specs.declared.page.Page.TheVariants.{Anchor, Leaf, Inner, Dead}
@@ -9,7 +9,6 @@ use Rattle.bl_trails.specs.Trails.{Trail, marks_of}
 use Rattle.bl_ways.specs.declared.acts.Action.TheVariants as act
 use Rattle.bl_ways.specs.declared.acts.Seen.TheVariants as seen
 use Rattle.bl_ways.specs.declared.answers.Hint.{Hint}
-use Rattle.bl_ways.specs.declared.answers.Hint.TheVariants as hint
 use Rattle.bl_ways.specs.declared.answers.Posted.{Posted}
 use Rattle.bl_ways.specs.declared.answers.Posted.TheVariants as posted
 use Rattle.bl_ways.specs.declared.answers.Answer.{Answer}
@@ -40,8 +39,8 @@ use Rattle.bl_passes.specs.Noting.{trail_of}
 use Rattle.bl_passes.specs.Seeing.{own}
 use Rattle.bl_passes.specs.Fitting.{name}
 use Rattle.bl_passes.specs.Told.{Finishes}
-use Rattle.bl_index.specs.Calls.{IsHint, Adds, Posts}
-use Rattle.bl_index.specs.Runs.{IsSince, IsDone}
+use Rattle.bl_index.specs.Calls.{IsHint, Posts}
+use Rattle.bl_index.specs.Runs.{IsDone}
 use Rattle.bl_index.specs.Searching.{IsPostAnswer}
 use Rattle.bl_index.proofs.Calls.{since_end, since_said}
 use Rattle.bl_index.proofs.Ends.{not_end_way, not_end}

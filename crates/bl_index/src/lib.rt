@@ -5,7 +5,7 @@
 //! Each thread works with a [`Pass`], which knows all that has happened in the index up to its own last event. Promised
 //! to its caller: after each call there is one legal list of events and one legal history of the map, in which each
 //! answer stands at its point; both begin with those that the pass knew before, and the call's own entry is the only new
-//! one of this pass. A sweep adds releases of pages alone, and no entry.
+//! one of this pass. A post and a sweep have no entry; what a post answers, and its hint, mean what it did.
 #![tactic(auto)]
 
 mod changing;

@@ -301,6 +301,25 @@ fn posts_of_nothing_are_stale(rt: HostRuntime) -> Result<(), Fail> {
     Ok(())
 }
 
+// Of four pages three are leaves after 23 rows: there is none for a new level, and the tree stays as it is.
+#[test]
+fn posts_meet_want_of_pages(rt: HostRuntime) -> Result<(), Fail> {
+    let Some((index, mut pass)) = one_pass(rt.alloc(), 4) else {
+        assert!(rt; false);
+        return Ok(());
+    };
+    for key in 1..24 {
+        let (reply, _hint) = index.insert(&rt, &mut pass, key, 10 * key);
+        assert!(rt; matches!(reply, Reply::Inserted));
+        let _released = index.sweep(&mut pass);
+    }
+    let refused = index.post(&rt, &mut pass, Hint::Post { level: 1, key: 9 });
+    assert!(rt; matches!(refused, (Posted::NoRoom, None)));
+    let found = index.find(&mut pass, 12, 3);
+    assert!(rt; matches!(found, Ok(Reply::Found(120))));
+    Ok(())
+}
+
 // Of 16 frames two are in use, and fourteen rows take the others: there is none for a new level, and the tree stays as it is.
 #[test]
 fn posts_meet_want_of_frames(rt: HostRuntime) -> Result<(), Fail> {

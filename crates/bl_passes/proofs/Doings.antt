@@ -1,14 +1,14 @@
 -- What a process has done, and one turn more.
-use Rattle.std.proofs.Common.{ℕ, ◌≡◌, ◌≢◌, ◌++◌, Some, [], ◌∷◌, refl, sym, ap, ◌∙◌, subst}
+use Rattle.std.proofs.Common.{◌≡◌, ◌≢◌, refl, sym, ap, ◌∙◌, subst}
 use Rattle.bl_page.specs.declared.page.Page.{Page}
 use Rattle.bl_page.specs.Machine.{Name, State}
-use Rattle.bl_trails.specs.Trails.{Mark, Saw, marks_of}
+use Rattle.bl_trails.specs.Trails.{Mark, marks_of}
 use Rattle.bl_trails.proofs.Pushes.{marks_of-own, marks_of-other}
 use Rattle.bl_steps.specs.Worlds.{World}
 use Rattle.bl_ways.specs.declared.acts.Action.{Action}
 use Rattle.bl_ways.specs.declared.acts.Seen.{Seen}
 use Rattle.bl_proc.specs.declared.kinds.Proc.{Proc}
-use Rattle.bl_proc.specs.Processes.{next_of, Takes}
+use Rattle.bl_proc.specs.Processes.{next_of}
 use Rattle.bl_tables.specs.Logs.{proc_log}
 use Rattle.bl_tables.specs.Turns.{event_of, IsTold, Turned}
 use Rattle.bl_tables.specs.Knowing.{Run, bare as know, end_of_proc}

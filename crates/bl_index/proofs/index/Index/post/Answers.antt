@@ -1,4 +1,4 @@
-use Rattle.std.proofs.Common.{◌≡◌, ◌∙◌, sym, ap, Some, Option, ℕ}
+use Rattle.std.proofs.Common.{◌∙◌, sym, Some}
 use Rattle.bl_index.proofs.Posted.{post_has_answer, post_answered, hint_fits}
 use Rattle.bl_index.proofs.index.Index.post.Goals as goal
 
