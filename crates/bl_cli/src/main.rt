@@ -10,6 +10,9 @@ mod check_tests;
 mod command;
 mod fault;
 mod leaf;
+mod replay;
+#[cfg(test)]
+mod replay_tests;
 mod serve;
 #[cfg(test)]
 mod tests;
@@ -20,6 +23,7 @@ use clap::Error;
 use clap::error::ErrorKind;
 use command::Invocation;
 use fault::CommandFault;
+use replay::replay_file;
 use serve::serve_leaf;
 use std::io;
 use std::process::ExitCode;
@@ -50,6 +54,11 @@ fn carry_out(rt: &HostRuntime) -> Result<ExitCode, CommandFault> {
             let mut writer = Watched::new(io::writer(rt));
             let sound = check_file(rt, file.as_str(), &mut writer)?;
             Ok(ExitCode::from(if sound { 0 } else { 1 }))
+        }
+        Ok(Invocation::Replay(file)) => {
+            let mut writer = Watched::new(io::writer(rt));
+            replay_file(rt, file.as_str(), &mut writer)?;
+            Ok(ExitCode::SUCCESS)
         }
         Ok(Invocation::Nothing) => Ok(ExitCode::from(2)),
         Err(error) => refuse(rt, error),
