@@ -1,6 +1,6 @@
 -- What the command `replay` prints for the script that it read, and why it ends early.
-use Rattle.std.specs.Prelude.{◌≡◌, ℕ, List, Option}
-use Rattle.std.specs.Io.KnownBytes.{Consumes, IsAtEnd, Appends, Keeps}
+use Rattle.std.specs.Prelude.{◌≡◌, ◌⊎◌, ℕ, List, Option}
+use Rattle.std.specs.Io.KnownBytes.{Appends}
 use Rattle.bl_model.specs.Stream.{StartsOut}
 use Rattle.bl_script.specs.declared.command.Command.{Command}
 use Rattle.bl_script.specs.Scripts.{IsScript, IsBadAt}
@@ -28,9 +28,10 @@ pub record BreaksInto (bytes : List ℕ) (at_end : Type 0) (old new : Option (Li
   pub played : PlaysInto pages commands text
   pub written : StartsOut old new text
 
--- Why a replay ends early. Before the script has been read whole, nothing is written.
+-- Why a replay ends early. Before the script has been read whole, nothing is written; behind that, a beginning of its text.
+-- Memory may fail in both parts.
 abbrev pub StopsReplay : CommandFault → List ℕ → Type 0 → Type 0 → Type 0 → Option (List ℕ) → Option (List ℕ) → Type 0
 StopsReplay Read bytes at_end reader_failed writer_failed old new = reader_failed × (new ≡ old)
 StopsReplay Write bytes at_end reader_failed writer_failed old new = writer_failed × BreaksInto bytes at_end old new
-StopsReplay Memory bytes at_end reader_failed writer_failed old new = (text : List ℕ) × StartsOut old new text
+StopsReplay Memory bytes at_end reader_failed writer_failed old new = (new ≡ old) ⊎ BreaksInto bytes at_end old new
 StopsReplay (Script line) bytes at_end reader_failed writer_failed old new = IsBadAt few bytes at_end line × (new ≡ old)

@@ -1,7 +1,7 @@
 //! The program `blink`: its command line, its commands over readers and writers, and its words on standard error.
 //!
-//! Promised to whoever runs it: `serve` writes what is served for what it reads. The leaf that it serves from is private
-//! to this crate.
+//! Promised to whoever runs it: `serve` writes what is served for what it reads, `check` tells whether an image is sound, and
+//! `replay` prints one run of the script that it reads. The leaf that `serve` serves from is private to this crate.
 #![tactic(auto)]
 
 mod check;
@@ -13,6 +13,8 @@ mod leaf;
 mod replay;
 #[cfg(test)]
 mod replay_tests;
+#[cfg(test)]
+mod scripts_tests;
 mod serve;
 #[cfg(test)]
 mod tests;
