@@ -125,8 +125,10 @@ fn levels_processes_and_pages_that_are_bad(rt: HostRuntime) -> Result<(), Fail> 
 /// The greatest numbers, and those at their limits.
 #[test]
 fn numbers_at_their_limits(rt: HostRuntime) {
-    let text = b"pages 4\ninsert 18446744073709551615 18446744073709551615\nrun 1 0\nturn 1 3\nrun 1 18446744073709551615\nfind 18446744073709551615\nrun 2 4\npost 12 0\nrun 3 9\n";
-    let wanted = b"1 begin\n1 get 0\n1 latch 1\n1 get 1\n1 put 1\n1 open 1\n1 end\n1 answer inserted\n2 begin\n2 get 0\n2 get 1\n2 end\n2 answer found 18446744073709551615\n3 begin\n3 get 0\n3 end\n3 answer stale\n";
+    let text =
+        b"pages 4\ninsert 18446744073709551615 18446744073709551615\nrun 1 0\nturn 1 3\nrun 1 18446744073709551615\nfind 18446744073709551615\nrun 2 4\npost 12 0\nrun 3 9\n";
+    let wanted =
+        b"1 begin\n1 get 0\n1 latch 1\n1 get 1\n1 put 1\n1 open 1\n1 end\n1 answer inserted\n2 begin\n2 get 0\n2 get 1\n2 end\n2 answer found 18446744073709551615\n3 begin\n3 get 0\n3 end\n3 answer stale\n";
     let (result, written) = replayed(rt.alloc(), text);
     assert!(rt; result == Ok(()));
     assert!(rt; written.as_slice() == wanted.as_slice());
@@ -208,7 +210,8 @@ fn writes_that_fail(rt: HostRuntime) {
 #[test]
 fn memory_or_the_output(rt: HostRuntime) {
     let text = b"pages 4\ninsert 5 50\nfind 5\nrun 1 4\nrun 2 9\nrun 1 9\n";
-    let wanted = b"1 begin\n1 get 0\n1 latch 1\n1 get 1\n2 begin\n2 get 0\n2 get 1\n2 end\n2 answer absent\n1 put 1\n1 open 1\n1 end\n1 answer inserted\n";
+    let wanted =
+        b"1 begin\n1 get 0\n1 latch 1\n1 get 1\n2 begin\n2 get 0\n2 get 1\n2 end\n2 answer absent\n1 put 1\n1 open 1\n1 end\n1 answer inserted\n";
     let mut writer = Watched::new(Full {
         bytes: Vec::new(rt.alloc()),
         room: 999,
@@ -216,8 +219,9 @@ fn memory_or_the_output(rt: HostRuntime) {
     match replay_script(rt.alloc(), &mut Watched::new(&text[..]), &mut writer) {
         Ok(()) => assert!(rt; writer.into_inner().bytes.as_slice() == wanted.as_slice()),
         // the test's own writer may have been refused its memory
-        Err(CommandFault::Memory) | Err(CommandFault::Write) =>
-            assert!(rt; wanted.starts_with(writer.into_inner().bytes.as_slice())),
+        Err(CommandFault::Memory) | Err(CommandFault::Write) => assert!(rt;
+            wanted.starts_with(writer.into_inner().bytes.as_slice())
+        ),
         Err(_) => assert!(rt; false),
     }
 }

@@ -54,10 +54,12 @@ fn prints_then(alloc: Global, pages: u32, lines: &str, more: &str) -> Result<boo
 }
 
 /// What the insertion of 15 into the full leaf prints, by process 15.
-const SPLIT: &str = "15 begin\n15 get 0\n15 latch 1\n15 get 1\n15 take 2\n15 put 2\n15 put 1\n15 open 2\n15 open 1\n15 end\n15 answer inserted post 1 9\n";
+const SPLIT: &str =
+    "15 begin\n15 get 0\n15 latch 1\n15 get 1\n15 take 2\n15 put 2\n15 put 1\n15 open 2\n15 open 1\n15 end\n15 answer inserted post 1 9\n";
 
 /// What the post of the new leaf prints up to its last put, by process 16. The tree grows by a level.
-const GROWTH: &str = "16 begin\n16 get 0\n16 latch 0\n16 get 0\n16 take 3\n16 put 3\n16 put 0\n16 open 3\n16 open 0\n16 get 0\n16 latch 3\n16 get 3\n16 get 1\n16 get 2\n";
+const GROWTH: &str =
+    "16 begin\n16 get 0\n16 latch 0\n16 get 0\n16 take 3\n16 put 3\n16 put 0\n16 open 3\n16 open 0\n16 get 0\n16 latch 3\n16 get 3\n16 get 1\n16 get 2\n";
 
 /// What the whole post prints.
 const LISTING: &str = "16 put 3\n16 open 3\n16 end\n16 answer done\n";
@@ -154,8 +156,12 @@ fn searches_beside_a_split(rt: HostRuntime) -> Result<(), Fail> {
     // all processes are started before the first turn
     let started = filling.as_str().find("run 1 9").ok_or("no run")?;
     let (starts, runs) = filling.as_str().split_at(started);
-    let script = format!(in alloc; "{starts}insert 15 150\nfind 12\nfind 15\n{runs}run 15 6\nrun 17 9\nrun 15 1\nrun 16 9\nrun 15 9\n")?;
-    let wanted = format!(in alloc; "{filled}15 begin\n15 get 0\n15 latch 1\n15 get 1\n15 take 2\n15 put 2\n17 begin\n17 get 0\n17 get 1\n17 end\n17 answer absent\n15 put 1\n16 begin\n16 get 0\n16 get 1\n16 get 2\n16 end\n16 answer found 120\n15 open 2\n15 open 1\n15 end\n15 answer inserted post 1 9\n")?;
+    let script = format!(in alloc;
+        "{starts}insert 15 150\nfind 12\nfind 15\n{runs}run 15 6\nrun 17 9\nrun 15 1\nrun 16 9\nrun 15 9\n"
+    )?;
+    let wanted = format!(in alloc;
+        "{filled}15 begin\n15 get 0\n15 latch 1\n15 get 1\n15 take 2\n15 put 2\n17 begin\n17 get 0\n17 get 1\n17 end\n17 answer absent\n15 put 1\n16 begin\n16 get 0\n16 get 1\n16 get 2\n16 end\n16 answer found 120\n15 open 2\n15 open 1\n15 end\n15 answer inserted post 1 9\n"
+    )?;
     assert!(rt; prints(alloc, script.as_str(), wanted.as_str()));
     Ok(())
 }
@@ -176,7 +182,9 @@ fn a_key_posted_twice(rt: HostRuntime) -> Result<(), Fail> {
 #[test]
 fn a_post_that_is_refused(rt: HostRuntime) -> Result<(), Fail> {
     let alloc = rt.alloc();
-    let more = format!(in alloc; "{SPLIT}{GROWTH}16 miss\n16 open 3\n16 end\n16 answer noroom\n17 begin\n17 get 0\n17 get 3\n17 get 1\n17 get 2\n17 end\n17 answer found 120\n")?;
+    let more = format!(in alloc;
+        "{SPLIT}{GROWTH}16 miss\n16 open 3\n16 end\n16 answer noroom\n17 begin\n17 get 0\n17 get 3\n17 get 1\n17 get 2\n17 end\n17 answer found 120\n"
+    )?;
     assert!(rt;
         prints_then(
             alloc,
@@ -230,7 +238,9 @@ fn no_page_is_released(rt: HostRuntime) -> Result<(), Fail> {
         }
     }
     lines.push_str("insert 23 230\nrun 24 9\nfind 23\nrun 25 9\nfind 22\nrun 26 9\n")?;
-    more.push_str("24 begin\n24 get 0\n24 get 3\n24 latch 2\n24 get 2\n24 miss\n24 open 2\n24 end\n24 answer noroom\n25 begin\n25 get 0\n25 get 3\n25 get 2\n25 end\n25 answer absent\n26 begin\n26 get 0\n26 get 3\n26 get 2\n26 end\n26 answer found 220\n")?;
+    more.push_str(
+        "24 begin\n24 get 0\n24 get 3\n24 latch 2\n24 get 2\n24 miss\n24 open 2\n24 end\n24 answer noroom\n25 begin\n25 get 0\n25 get 3\n25 get 2\n25 end\n25 answer absent\n26 begin\n26 get 0\n26 get 3\n26 get 2\n26 end\n26 answer found 220\n",
+    )?;
     assert!(rt; prints_posted(alloc, 4, lines.as_str(), more.as_str())?);
     Ok(())
 }

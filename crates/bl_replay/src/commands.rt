@@ -141,8 +141,13 @@ pub fn play_command<W: Write>(
     match command {
         Command::Start(process) => start(world, process),
         Command::Turn(number) => play_chosen(world, number as usize, None, pending, writer),
-        Command::TurnAt(number, page) =>
-            play_chosen(world, number as usize, Some(page), pending, writer),
+        Command::TurnAt(number, page) => play_chosen(
+            world,
+            number as usize,
+            Some(page),
+            pending,
+            writer,
+        ),
         Command::Refuse(number) => {
             let turn = Turn::Refuse(number as usize);
             play_turn(world, number as usize, turn, pending, writer)

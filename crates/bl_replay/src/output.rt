@@ -35,10 +35,7 @@ pub fn write_much<W: Write>(
 }
 
 /// Writes all that is pending.
-pub fn write_last<W: Write>(
-    writer: &mut Watched<W>,
-    pending: &Vec<u8>,
-) -> Result<(), ReplayFault>
+pub fn write_last<W: Write>(writer: &mut Watched<W>, pending: &Vec<u8>) -> Result<(), ReplayFault>
     ensures ok { OnOk result (Appends (W.contents writer.old.inner) (W.contents writer.new.inner) pending.now.items) }
     ensures err { OnErr result (StartsOut (W.contents writer.old.inner) (W.contents writer.new.inner) pending.now.items) }
     ensures failed { OnErr result (writer.new.failed ≡ true) }

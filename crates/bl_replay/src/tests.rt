@@ -23,7 +23,8 @@ fn printed(alloc: Global, text: &[u8]) -> Result<Vec<u8>, Fail> {
 #[test]
 fn a_search_beside_an_insertion(rt: HostRuntime) -> Result<(), Fail> {
     let text = b"pages 4\ninsert 5 50\nfind 5\nrun 1 4\nrun 2 9\nrun 1 9\n";
-    let wanted = b"1 begin\n1 get 0\n1 latch 1\n1 get 1\n2 begin\n2 get 0\n2 get 1\n2 end\n2 answer absent\n1 put 1\n1 open 1\n1 end\n1 answer inserted\n";
+    let wanted =
+        b"1 begin\n1 get 0\n1 latch 1\n1 get 1\n2 begin\n2 get 0\n2 get 1\n2 end\n2 answer absent\n1 put 1\n1 open 1\n1 end\n1 answer inserted\n";
     let found = printed(rt.alloc(), text)?;
     assert!(rt; found.as_slice() == wanted.as_slice());
     Ok(())
@@ -57,7 +58,8 @@ fn a_search_beside_a_split(rt: HostRuntime) -> Result<(), Fail> {
     }
     more.push_str("run 15 6\nrun 17 9\nrun 15 1\nrun 16 9\nrun 15 9\n")?;
     let script = filled(alloc, more.as_str())?;
-    let wanted = b"15 put 2\n17 begin\n17 get 0\n17 get 1\n17 end\n17 answer absent\n15 put 1\n16 begin\n16 get 0\n16 get 1\n16 get 2\n16 end\n16 answer found 120\n15 open 2\n15 open 1\n15 end\n15 answer inserted post 1 9\n";
+    let wanted =
+        b"15 put 2\n17 begin\n17 get 0\n17 get 1\n17 end\n17 answer absent\n15 put 1\n16 begin\n16 get 0\n16 get 1\n16 get 2\n16 end\n16 answer found 120\n15 open 2\n15 open 1\n15 end\n15 answer inserted post 1 9\n";
     assert!(rt; ends_with(alloc, script.as_str(), wanted)?);
     Ok(())
 }
@@ -71,9 +73,12 @@ fn takes_and_refusals(rt: HostRuntime) -> Result<(), Fail> {
         more.push_str(line.as_str())?;
     }
     // a take of a page that is in use is a miss, and so is a turn behind the answer
-    more.push_str("run 15 4\nturn 15 1\nturn 15 6\nrefuse 15\nrun 15 9\nturn 15\nfind 3\nrun 16 9\n")?;
+    more.push_str(
+        "run 15 4\nturn 15 1\nturn 15 6\nrefuse 15\nrun 15 9\nturn 15\nfind 3\nrun 16 9\n",
+    )?;
     let script = filled(alloc, more.as_str())?;
-    let wanted = b"15 begin\n15 get 0\n15 latch 1\n15 get 1\n15 miss\n15 take 6\n15 miss\n15 put 6\n15 put 1\n15 open 6\n15 open 1\n15 end\n15 answer inserted post 1 9\n15 miss\n16 begin\n16 get 0\n16 get 1\n16 end\n16 answer found 30\n";
+    let wanted =
+        b"15 begin\n15 get 0\n15 latch 1\n15 get 1\n15 miss\n15 take 6\n15 miss\n15 put 6\n15 put 1\n15 open 6\n15 open 1\n15 end\n15 answer inserted post 1 9\n15 miss\n16 begin\n16 get 0\n16 get 1\n16 end\n16 answer found 30\n";
     assert!(rt; ends_with(alloc, script.as_str(), wanted)?);
     Ok(())
 }

@@ -86,11 +86,7 @@ fn push_answer(out: &mut Vec<u8>, answer: &Answer) -> Result<(), AllocError>
 }
 
 /// Appends the line of the answer of the process with that number.
-pub fn push_answer_line(
-    out: &mut Vec<u8>,
-    number: usize,
-    answer: &Answer,
-) -> Result<(), AllocError>
+pub fn push_answer_line(out: &mut Vec<u8>, number: usize, answer: &Answer) -> Result<(), AllocError>
     ensures { OnOk result (out.new.items ≡ out.old.items ++ answer_line number answer.now) }
 {
     push_number(out, b"", number as u64)?;
