@@ -1,3 +1,4 @@
 pub mod Statuses
 pub mod Limits
 pub mod Checks
+pub mod Replays

@@ -4,6 +4,7 @@ ghost use Rattle.std.specs.Prelude.{◌≡◌, ◌≤◌, ℕ, Some, None, IfOk}
 ghost use Rattle.bl_cli.specs.Limits.{IsWithinLimits};
 
 use crate::check::check_command;
+use crate::replay::replay_command;
 use clap::{Arg, Command, Error, value_parser};
 use std::alloc::Global;
 
@@ -25,6 +26,8 @@ pub enum Invocation {
     Serve(ServeOptions),
     /// `blink check` of this file.
     Check(String),
+    /// `blink replay` of this file.
+    Replay(String),
     /// No command.
     Nothing,
 }
@@ -72,7 +75,8 @@ pub fn read_words(alloc: Global, words: &[String]) -> Result<Invocation, Error>
         .about("A concurrent ordered index from u64 keys to u64 values, proved")
         .subcommand_required(true)
         .subcommand(serve)?
-        .subcommand(check_command(alloc)?)?;
+        .subcommand(check_command(alloc)?)?
+        .subcommand(replay_command(alloc)?)?;
     let matches = blink.try_get_matches_from(words)?;
     match matches.subcommand() {
         Some(("serve", found)) => Ok(Invocation::Serve(ServeOptions {
@@ -82,6 +86,10 @@ pub fn read_words(alloc: Global, words: &[String]) -> Result<Invocation, Error>
         })),
         Some(("check", found)) => match found.get_str("FILE") {
             Some(file) => Ok(Invocation::Check(String::from_str(alloc, file)?)),
+            None => Ok(Invocation::Nothing),
+        },
+        Some(("replay", found)) => match found.get_str("FILE") {
+            Some(file) => Ok(Invocation::Replay(String::from_str(alloc, file)?)),
             None => Ok(Invocation::Nothing),
         },
         _ => Ok(Invocation::Nothing),

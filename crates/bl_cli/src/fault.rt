@@ -1,10 +1,12 @@
 //! Why a command ends early.
 
 ghost use Rattle.std.specs.Prelude.{◌≡◌};
-ghost use Rattle.bl_cli.specs.Statuses.{status_of, fault_of, IsFaultOf};
+ghost use Rattle.bl_cli.specs.Statuses.{status_of, fault_of, fault_of_script, fault_of_replay, IsFaultOf};
 ghost use Rattle.bl_cli.specs.declared.fault.CommandFault.TheVariants.{Memory};
 
 use bl_lines::ServeFault;
+use bl_replay::ReplayFault;
+use bl_script::ScriptFault;
 use std::alloc::AllocError;
 use std::io;
 
@@ -17,6 +19,9 @@ pub enum CommandFault {
     Write,
     #[error("blink: out of memory")]
     Memory,
+    /// This line of the script, counted from 1, is the first that is bad.
+    #[error("blink: bad script line {0}")]
+    Script(u64),
 }
 
 impl CommandFault {
@@ -25,7 +30,7 @@ impl CommandFault {
         ensures { result ≡ status_of self }
     {
         match self {
-            CommandFault::Read | CommandFault::Write => 3,
+            CommandFault::Read | CommandFault::Write | CommandFault::Script(_) => 3,
             CommandFault::Memory => 4,
         }
     }
@@ -39,6 +44,29 @@ impl From<ServeFault> for CommandFault {
             ServeFault::Read => CommandFault::Read,
             ServeFault::Write => CommandFault::Write,
             ServeFault::Memory => CommandFault::Memory,
+        }
+    }
+}
+
+impl From<ScriptFault> for CommandFault {
+    ghost from_gives = { λ fault command. command ≡ fault_of_script fault };
+
+    fn from(fault: ScriptFault) -> CommandFault {
+        match fault {
+            ScriptFault::Line(line) => CommandFault::Script(line),
+            ScriptFault::Read => CommandFault::Read,
+            ScriptFault::Memory => CommandFault::Memory,
+        }
+    }
+}
+
+impl From<ReplayFault> for CommandFault {
+    ghost from_gives = { λ fault command. command ≡ fault_of_replay fault };
+
+    fn from(fault: ReplayFault) -> CommandFault {
+        match fault {
+            ReplayFault::Write => CommandFault::Write,
+            ReplayFault::Memory => CommandFault::Memory,
         }
     }
 }

@@ -1,6 +1,7 @@
 //! The program `blink`: its command line, its commands over readers and writers, and its words on standard error.
 //!
-//! Promised to whoever runs it: `serve` writes what is served for what it reads, over an index with one pass.
+//! Promised to whoever runs it: `serve` writes what is served for what it reads, over an index with one pass, `check` tells
+//! whether an image is sound, and `replay` prints one run of the script that it reads.
 #![tactic(auto)]
 
 mod check;
@@ -8,6 +9,11 @@ mod check;
 mod check_tests;
 mod command;
 mod fault;
+mod replay;
+#[cfg(test)]
+mod replay_tests;
+#[cfg(test)]
+mod scripts_tests;
 mod serve;
 #[cfg(test)]
 mod tests;
@@ -19,6 +25,7 @@ use clap::Error;
 use clap::error::ErrorKind;
 use command::Invocation;
 use fault::CommandFault;
+use replay::replay_file;
 use serve::serve_index;
 use std::io;
 use std::process::ExitCode;
@@ -50,6 +57,11 @@ fn carry_out<W: Wait>(rt: &HostRuntime, wait: &W) -> Result<ExitCode, CommandFau
             let mut writer = Watched::new(io::writer(rt));
             let sound = check_file(rt, file.as_str(), &mut writer)?;
             Ok(ExitCode::from(if sound { 0 } else { 1 }))
+        }
+        Ok(Invocation::Replay(file)) => {
+            let mut writer = Watched::new(io::writer(rt));
+            replay_file(rt, file.as_str(), &mut writer)?;
+            Ok(ExitCode::SUCCESS)
         }
         Ok(Invocation::Nothing) => Ok(ExitCode::from(2)),
         Err(error) => refuse(rt, error),

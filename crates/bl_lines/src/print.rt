@@ -28,7 +28,7 @@ impl Response {
 }
 
 /// Appends a word and a number.
-fn push_number(out: &mut Vec<u8>, word: &[u8], value: u64) -> Result<(), AllocError>
+pub fn push_number(out: &mut Vec<u8>, word: &[u8], value: u64) -> Result<(), AllocError>
     ensures { OnOk result (out.new.items ≡ out.old.items ++ (word.now ++ decimal value)) }
 {
     let mut buffer = Buffer::new();

@@ -3,3 +3,4 @@ pub mod Turns
 pub mod Deeds
 pub mod Accounts
 pub mod Worlds
+pub mod Choices

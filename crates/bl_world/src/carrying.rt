@@ -166,7 +166,7 @@ impl Lists {
     }
 
     /// The page may be taken.
-    fn is_free(&self, at: u32) -> bool
+    pub fn is_free(&self, at: u32) -> bool
         ensures { IsTrue result ↔ IsFree (view_of self.now) at }
     {
         at > 0 && (at as usize) < self.owners.len() && self.owners[at as usize] == Owner::Released

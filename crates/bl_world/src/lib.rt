@@ -5,6 +5,7 @@
 #![tactic(auto)]
 
 mod carrying;
+mod choosing;
 mod lists;
 mod opening;
 mod owners;

@@ -661,3 +661,65 @@ fn a_tree_of_four_levels(rt: HostRuntime) -> Result<(), Fail> {
     }
     Ok(())
 }
+
+#[test]
+fn turns_that_are_chosen(rt: HostRuntime) -> Result<(), Fail> {
+    let mut world = filled(rt.alloc())?;
+    // a step, whatever page is named, until the process is to take a page
+    assert!(rt; world.turn_of(15, None) == Turn::Step(15));
+    assert!(rt; world.turn_of(15, Some(5)) == Turn::Step(15));
+    step(&mut world, 15, 4)?;
+    // pages 0 and 1 are in use
+    assert!(rt; world.turn_of(15, None) == Turn::Take(15, 2));
+    assert!(rt; world.turn_of(15, Some(5)) == Turn::Take(15, 5));
+    assert!(rt; world.turn_of(15, Some(1)) == Turn::Take(15, 1));
+    run(&mut world, &[Turn::Take(15, 2)])?;
+    assert!(rt; world.turn_of(15, None) == Turn::Step(15));
+    // processes that have answered, and one that was not started
+    assert!(rt; world.turn_of(1, None) == Turn::Step(1));
+    assert!(rt; world.turn_of(99, None) == Turn::Step(99));
+    Ok(())
+}
+
+/// Gives the process the turns that are chosen for it, until the next one is no step or it has answered.
+fn go_on(world: &mut World, number: usize) -> Result<(), Fail> {
+    for _ in 0..20 {
+        let turn = world.turn_of(number, None);
+        if turn != Turn::Step(number) || world.answer(number).is_some() {
+            return Ok(());
+        }
+        run(world, &[turn])?;
+    }
+    Ok(())
+}
+
+#[test]
+fn takes_without_a_released_page(rt: HostRuntime) -> Result<(), Fail> {
+    let mut world = opened(rt.alloc(), 4)?;
+    for key in 1..15 {
+        let number = insert(&mut world, key, 10 * key)?;
+        step(&mut world, number, 7)?;
+    }
+    insert(&mut world, 15, 150)?;
+    go_on(&mut world, 15)?;
+    run(&mut world, &[Turn::Take(15, 3)])?;
+    go_on(&mut world, 15)?;
+    post(&mut world, 1, 9)?;
+    go_on(&mut world, 16)?;
+    assert!(rt; world.turn_of(16, None) == Turn::Take(16, 2));
+    run(&mut world, &[Turn::Take(16, 2)])?;
+    go_on(&mut world, 16)?;
+    // page 3 has the keys 9 to 15, and 22 fills it
+    for key in 16..23 {
+        let number = insert(&mut world, key, 10 * key)?;
+        go_on(&mut world, number)?;
+    }
+    let last = insert(&mut world, 23, 230)?;
+    go_on(&mut world, last)?;
+    assert!(rt; world.turn_of(last, None) == Turn::Refuse(last));
+    assert!(rt; world.turn_of(last, Some(2)) == Turn::Refuse(last));
+    run(&mut world, &[Turn::Refuse(last)])?;
+    go_on(&mut world, last)?;
+    assert!(rt; world.answer(last) == plain(Reply::NoRoom));
+    Ok(())
+}

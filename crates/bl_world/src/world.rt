@@ -41,6 +41,7 @@ impl World {
     ghost use Rattle.bl_world.specs.declared.turns.WorldFault.TheVariants as fault;
     ghost use Rattle.bl_world.specs.Turns.{RunsTo, RunsInto, IsStarted, HasUnknown};
     ghost use Rattle.bl_world.specs.Deeds.{IsOpening, Starts};
+    ghost use Rattle.bl_world.specs.Choices.{Chooses};
     ghost use Rattle.bl_world.specs.Accounts.{Account, Continues};
 
     /// A world with the opening index of that many pages, 4 to 65,536: page 0 names one level, page 1 is an empty leaf, and
@@ -92,6 +93,15 @@ impl World {
             return Err(WorldFault::Memory);
         }
         Ok(())
+    }
+
+    /// The turn that comes next for the process with that number, where nothing else is wanted of it: a step; or, where it
+    /// is to take a page, the take of this page, or of the least released one where none is given; or, where no page is
+    /// released then, a refusal.
+    pub fn turn_of(&self, number: usize, page: Option<u32>) -> Turn
+        ensures { Chooses (view_of self.now.lists) number page result }
+    {
+        self.lists.choose(number, page)
     }
 
     /// The events so far, one for each turn.

@@ -1,0 +1,275 @@
+//! The command `replay` over bytes.
+
+use crate::command::{Invocation, read_words};
+use crate::fault::CommandFault;
+use crate::replay::{replay_file, replay_script};
+use bl_model::Watched;
+use std::alloc::Global;
+use std::io;
+use std::io::{ErrorKind, Read, Write};
+use std::test::Fail;
+
+/// How `replay` ends for these bytes, and what it has written.
+fn replayed(alloc: Global, text: &[u8]) -> (Result<(), CommandFault>, Vec<u8>) {
+    let mut writer = Watched::new(Vec::new(alloc));
+    let result = replay_script(alloc, &mut Watched::new(text), &mut writer);
+    (result, writer.into_inner())
+}
+
+/// The script is bad at that line, and nothing is written.
+fn is_bad_at(rt: &HostRuntime, text: &[u8], line: u64) -> bool {
+    let (result, written) = replayed(rt.alloc(), text);
+    result == Err(CommandFault::Script(line)) && written.is_empty()
+}
+
+#[test]
+fn bad_first_lines(rt: HostRuntime) {
+    let bad: [&[u8]; 12] = [
+        b"",
+        b"\n",
+        b"find 5\n",
+        b"pages\n",
+        b"pages 3\n",
+        b"pages 65537\n",
+        b"pages 18446744073709551616\n",
+        b"pages 04\n",
+        b"pages  4\n",
+        b"pages 4 4\n",
+        b"Pages 4\n",
+        b"pages 4",
+    ];
+    for text in bad {
+        assert!(rt; is_bad_at(&rt, text, 1));
+    }
+    for text in [b"pages 4\n".as_slice(), b"pages 65536\n".as_slice()] {
+        let (result, written) = replayed(rt.alloc(), text);
+        assert!(rt; result == Ok(()));
+        assert!(rt; written.is_empty());
+    }
+}
+
+/// Each of the lines is bad behind the lines of an insertion that has answered, which the script prints no more.
+fn are_bad(rt: &HostRuntime, lines: &[&[u8]]) -> Result<bool, Fail> {
+    for line in lines {
+        let mut text = Vec::from_slice(rt.alloc(), b"pages 4\ninsert 5 50\nrun 1 9\n")?;
+        text.extend_from_slice(line)?;
+        if !is_bad_at(rt, text.as_slice(), 4) {
+            return Ok(false);
+        }
+    }
+    Ok(true)
+}
+
+#[test]
+fn words_and_numbers_that_are_bad(rt: HostRuntime) -> Result<(), Fail> {
+    let words: [&[u8]; 8] = [
+        b"\n",
+        b"pages 4\n",
+        b"look 1\n",
+        b"FIND 5\n",
+        b" find 5\n",
+        b"find 5 \n",
+        b"find  5\n",
+        b"find 5\r\n",
+    ];
+    assert!(rt; are_bad(&rt, &words)?);
+    let numbers: [&[u8]; 8] = [
+        b"find\n",
+        b"find 05\n",
+        b"find -5\n",
+        b"find 18446744073709551616\n",
+        b"insert 5\n",
+        b"delete 5 50\n",
+        b"post 1\n",
+        b"run 1\n",
+    ];
+    assert!(rt; are_bad(&rt, &numbers)?);
+    let ends: [&[u8]; 3] = [
+        b"turn 1",
+        b"find 00000000000000000000000000000000000000000000000000000000000005\n",
+        b"xxxxxxxxxxxxxxxxxxxxxxxxxxxxxxxxxxxxxxxxxxxxxxxxxxxxxxxxxxxxxxxxxxxxxxxxxxxxxxx",
+    ];
+    assert!(rt; are_bad(&rt, &ends)?);
+    assert!(rt; is_bad_at(&rt, b"pages 4\nfind 5\nturn 1\n ", 4));
+    Ok(())
+}
+
+#[test]
+fn levels_processes_and_pages_that_are_bad(rt: HostRuntime) -> Result<(), Fail> {
+    let lines: [&[u8]; 13] = [
+        b"post 0 5\n",
+        b"post 13 5\n",
+        b"post 4294967297 5\n",
+        b"turn 0\n",
+        b"turn 2\n",
+        b"turn 4294967297\n",
+        b"turn 18446744073709551615\n",
+        b"turn 18446744073709551616\n",
+        b"turn 1 4\n",
+        b"turn 1 4294967296\n",
+        b"refuse 2\n",
+        b"run 2 9\n",
+        b"run 1 18446744073709551616\n",
+    ];
+    assert!(rt; are_bad(&rt, &lines)?);
+    // processes that no world has yet
+    let kinds: [&[u8]; 3] = [b"part 5\n", b"compress 1 5\n", b"reclaim 1\n"];
+    assert!(rt; are_bad(&rt, &kinds)?);
+    // before any process
+    assert!(rt; is_bad_at(&rt, b"pages 4\nturn 1\nfind 5\n", 2));
+    // the first bad line is named
+    assert!(rt; is_bad_at(&rt, b"pages 4\nfind x\nfind y\n", 2));
+    Ok(())
+}
+
+/// The greatest numbers, and those at their limits.
+#[test]
+fn numbers_at_their_limits(rt: HostRuntime) {
+    let text =
+        b"pages 4\ninsert 18446744073709551615 18446744073709551615\nrun 1 0\nturn 1 3\nrun 1 18446744073709551615\nfind 18446744073709551615\nrun 2 4\npost 12 0\nrun 3 9\n";
+    let wanted =
+        b"1 begin\n1 get 0\n1 latch 1\n1 get 1\n1 put 1\n1 open 1\n1 end\n1 answer inserted\n2 begin\n2 get 0\n2 get 1\n2 end\n2 answer found 18446744073709551615\n3 begin\n3 get 0\n3 end\n3 answer stale\n";
+    let (result, written) = replayed(rt.alloc(), text);
+    assert!(rt; result == Ok(()));
+    assert!(rt; written.as_slice() == wanted.as_slice());
+}
+
+/// Gives a text in pieces of at most 5 bytes, and then fails.
+#[derive(Drop)]
+struct Failing<'a> {
+    left: &'a [u8],
+}
+
+impl<'a> Read for Failing<'a> {
+    fn read(&mut self, buf: &mut [u8]) -> io::Result<usize> {
+        if self.left.is_empty() {
+            return Err(io::Error::from(ErrorKind::BrokenPipe));
+        }
+        let count = buf.len().min(5).min(self.left.len());
+        buf[..count].copy_from_slice(&self.left[..count]);
+        self.left = &self.left[count..];
+        Ok(count)
+    }
+}
+
+#[test]
+fn reads_that_fail(rt: HostRuntime) {
+    let alloc = rt.alloc();
+    let texts: [&[u8]; 4] = [
+        b"",
+        b"pages 4",
+        b"pages 4\nfind 5\nrun 1 9\n",
+        b"pages 4\nfind 5\nrun 1 9\nru",
+    ];
+    for left in texts {
+        let mut writer = Watched::new(Vec::new(alloc));
+        let result = replay_script(alloc, &mut Watched::new(Failing { left }), &mut writer);
+        assert_eq!(rt; result, Err(CommandFault::Read));
+        assert!(rt; writer.into_inner().is_empty());
+    }
+}
+
+/// Takes so many bytes, and then fails.
+#[derive(Drop)]
+struct Full {
+    bytes: Vec<u8>,
+    room: usize,
+}
+
+impl Write for Full {
+    fn write(&mut self, buf: &[u8]) -> io::Result<usize> {
+        let count = buf.len().min(self.room - self.bytes.len().min(self.room));
+        if count == 0 || self.bytes.extend_from_slice(&buf[..count]).is_err() {
+            return Err(io::Error::from(ErrorKind::BrokenPipe));
+        }
+        Ok(count)
+    }
+
+    fn flush(&mut self) -> io::Result<()> {
+        Ok(())
+    }
+}
+
+#[test]
+fn writes_that_fail(rt: HostRuntime) {
+    let alloc = rt.alloc();
+    let text = b"pages 4\nfind 5\nrun 1 9\n";
+    let wanted = b"1 begin\n1 get 0\n1 get 1\n1 end\n1 answer absent\n";
+    for room in [0, 1, 9, 44] {
+        let mut writer = Watched::new(Full {
+            bytes: Vec::new(alloc),
+            room,
+        });
+        let result = replay_script(alloc, &mut Watched::new(&text[..]), &mut writer);
+        assert_eq!(rt; result, Err(CommandFault::Write));
+        assert!(rt; writer.into_inner().bytes.as_slice() == &wanted[..room]);
+    }
+}
+
+/// Holds whichever allocation is refused: the answer is Memory and a beginning of the output, or that of ample memory.
+#[test]
+fn memory_or_the_output(rt: HostRuntime) {
+    let text = b"pages 4\ninsert 5 50\nfind 5\nrun 1 4\nrun 2 9\nrun 1 9\n";
+    let wanted =
+        b"1 begin\n1 get 0\n1 latch 1\n1 get 1\n2 begin\n2 get 0\n2 get 1\n2 end\n2 answer absent\n1 put 1\n1 open 1\n1 end\n1 answer inserted\n";
+    let mut writer = Watched::new(Full {
+        bytes: Vec::new(rt.alloc()),
+        room: 999,
+    });
+    match replay_script(rt.alloc(), &mut Watched::new(&text[..]), &mut writer) {
+        Ok(()) => assert!(rt; writer.into_inner().bytes.as_slice() == wanted.as_slice()),
+        // the test's own writer may have been refused its memory
+        Err(CommandFault::Memory) | Err(CommandFault::Write) => assert!(rt;
+            wanted.starts_with(writer.into_inner().bytes.as_slice())
+        ),
+        Err(_) => assert!(rt; false),
+    }
+}
+
+#[test]
+fn paths_that_are_no_script(rt: HostRuntime) {
+    for path in ["/", "no such file", ""] {
+        let mut writer = Watched::new(Vec::new(rt.alloc()));
+        assert_eq!(rt;
+            replay_file(&rt, path, &mut writer),
+            Err(CommandFault::Read),
+            "{path}"
+        );
+        assert!(rt; writer.into_inner().is_empty());
+    }
+}
+
+#[test]
+fn words_of_a_bad_script(rt: HostRuntime) -> Result<(), Fail> {
+    let fault = CommandFault::Script(7);
+    let text = format!(in rt.alloc(); "{fault}")?;
+    assert!(rt; text.as_str() == "blink: bad script line 7");
+    assert_eq!(rt; fault.status(), 3);
+    Ok(())
+}
+
+#[test]
+fn words_of_replay(rt: HostRuntime) -> Result<(), Fail> {
+    let alloc = rt.alloc();
+    let file = String::from_str(alloc, "script")?;
+    assert_eq!(rt;
+        read_words(alloc, words(alloc, "blink replay script")?.as_slice()).ok(),
+        Some(Invocation::Replay(file))
+    );
+    for refused in ["blink replay", "blink replay a b"] {
+        assert!(rt;
+            read_words(alloc, words(alloc, refused)?.as_slice()).is_err(),
+            "{refused}"
+        );
+    }
+    Ok(())
+}
+
+/// The words of a command line.
+fn words(alloc: Global, text: &str) -> Result<Vec<String>, Fail> {
+    let mut words = Vec::new(alloc);
+    for word in text.split(' ') {
+        words.push(String::from_str(alloc, word)?)?;
+    }
+    Ok(words)
+}

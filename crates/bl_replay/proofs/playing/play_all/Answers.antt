@@ -1,0 +1,49 @@
+use Rattle.std.proofs.Common.{◌++◌, ◌+◌, [], length, refl, sym, ◌∙◌, arith, subst}
+use Rattle.std.proofs.lemmas.Option.{slice_get-get_or}
+use Rattle.bl_model.specs.declared.operation.Op.TheVariants as op
+use Rattle.bl_script.specs.declared.command.Start.TheVariants as start
+use Rattle.bl_script.specs.declared.command.Command.TheVariants as command
+use Rattle.bl_world.specs.Views.{view_of}
+use Rattle.bl_replay.specs.Plays.{few}
+use Rattle.bl_replay.specs.Plays.Plays.{Nothing}
+use Rattle.bl_replay.proofs.Emitting.{emits_start, emits_more, emits_stop, err_of}
+use Rattle.bl_replay.proofs.Following.{stands_here, plays_further, started_further, breaks_off}
+use Rattle.bl_replay.proofs.playing.play_all.Goals as goal
+
+pub loop-command-init : goal.loop-command-init
+loop-command-init g c = record { text = []; played = Nothing; emitted = emits_start _ c.args.pending.now.items; count = omega arith }
+
+pub play_command-requires : goal.play_command-requires
+play_command-requires g c =
+    let i = c.loop-command.command-index in
+    let commands = c.args.commands.now in
+    let at = slice_get-get_or commands i (command.Start (start.Operation (op.Find 0))) (omega (arith, c.loop-command-test.true)) in
+    (c.requires.0, stands_here few c.requires.0 (length c.args.world.now.lists.processes.items) _ commands i _ c.loop-command.invariant.count c.requires.1 at)
+
+pub returns-in_err-play_command-clause-err : goal.returns-in_err-play_command-clause-err
+returns-in_err-play_command-clause-err g c =
+    let i = c.loop-command.command-index in
+    let commands = c.args.commands.now in
+    let at = slice_get-get_or commands i (command.Start (start.Operation (op.Find 0))) (omega (arith, c.loop-command-test.true)) in
+    let n = c.loop-command.invariant in
+    let e = c.in_err-play_command.ensures.err in
+    err_of c.from_residual.result (
+      n.text ++ e.0,
+      breaks_off (view_of c.args.world.now.lists) (view_of c.loop-command.world.lists) commands i _ n.text e.0 at n.played e.1,
+      emits_stop _ _ _ c.args.pending.now.items c.loop-command.pending.items n.text e.0 n.emitted e.2,
+    )
+
+pub loop-command-preserved : goal.loop-command-preserved
+loop-command-preserved g c =
+    let i = c.loop-command.command-index in
+    let commands = c.args.commands.now in
+    let at = slice_get-get_or commands i (command.Start (start.Operation (op.Find 0))) (omega (arith, c.loop-command-test.true)) in
+    let n = c.loop-command.invariant in
+    let e = c.in_ok-play_command.ensures.ok in
+    let more = started_further commands i _ at in
+    record {
+      text = n.text ++ e.0;
+      played = plays_further (view_of c.args.world.now.lists) (view_of c.loop-command.world.lists) (view_of c.play_command.new.world.lists) commands i _ n.text e.0 at n.played e.1;
+      emitted = emits_more _ _ _ c.args.pending.now.items c.loop-command.pending.items c.play_command.new.pending.items n.text e.0 n.emitted e.2;
+      count = omega (arith, more, n.count, c.in_ok-play_command.ensures.count);
+    }

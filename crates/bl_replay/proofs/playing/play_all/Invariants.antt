@@ -1,0 +1,14 @@
+use Rattle.std.proofs.Common.{◌≡◌, ◌+◌, ℕ, List, length, take}
+use Rattle.bl_script.specs.Commands.{started_by}
+use Rattle.bl_world.specs.Views.{view_of}
+use Rattle.bl_replay.specs.Plays.{Plays}
+use Rattle.bl_replay.specs.Emits.{Emits}
+use Rattle.bl_replay.proofs.playing.play_all.Given as goal
+
+abbrev pub invariant-loop-command : goal.invariant-loop-command
+invariant-loop-command g l = record {
+  text : List ℕ;
+  played : Plays (view_of l.fn.world.lists) (take l.command-index l.commands) text (view_of l.world.lists);
+  emitted : Emits (g.W.Write.contents l.fn.writer.inner) (g.W.Write.contents l.writer.inner) l.fn.pending.items l.pending.items text;
+  count : length l.world.lists.processes.items ≡ length l.fn.world.lists.processes.items + started_by (take l.command-index l.commands);
+}

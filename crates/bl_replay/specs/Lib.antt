@@ -1,0 +1,3 @@
+pub mod Texts
+pub mod Plays
+pub mod Emits

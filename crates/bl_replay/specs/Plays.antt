@@ -1,0 +1,102 @@
+-- What a script prints: the text of its commands, one after the other, on what stands in a world.
+use Rattle.std.specs.Prelude.{◌≡◌, ◌⊎◌, ℕ, ◌+◌, ◌≤◌, Option, Some, None, List, [], ◌∷◌, ◌++◌, false, slice_get}
+use Rattle.bl_model.specs.declared.operation.Op.TheVariants as op
+use Rattle.bl_script.specs.declared.command.Start.{Start}
+use Rattle.bl_script.specs.declared.command.Start.TheVariants as start
+use Rattle.bl_script.specs.declared.command.Command.{Command}
+use Rattle.bl_script.specs.declared.command.Command.TheVariants as command
+use Rattle.bl_script.specs.declared.command.Kinds.{Kinds}
+use Rattle.bl_script.specs.Commands.{IsPageCount}
+use Rattle.bl_script.specs.Scripts.{AllStand}
+use Rattle.bl_ways.specs.declared.answers.Answer.{Answer}
+use Rattle.bl_proc.specs.declared.kinds.Proc.{Proc}
+use Rattle.bl_proc.specs.Processes.{answer_of, IsFind, IsInsert, IsDelete, IsPost}
+use Rattle.bl_world.specs.declared.turns.Event.{Event}
+use Rattle.bl_world.specs.declared.turns.Turn.{Turn}
+use Rattle.bl_world.specs.declared.turns.Turn.TheVariants as turn
+use Rattle.bl_world.specs.Views.{View}
+use Rattle.bl_world.specs.Turns.{TurnsTo}
+use Rattle.bl_world.specs.Deeds.{IsOpening, Starts}
+use Rattle.bl_world.specs.Choices.{Chooses}
+use Rattle.bl_world.specs.Accounts.{Account}
+use Rattle.bl_replay.specs.Texts.{event_line, answer_line}
+
+-- The process with that number has this answer, or none yet.
+pub record HasAnswer (v : View) (number : ℕ) (a : Option Answer) : Type 0 where
+  pub place : ℕ
+  pub counts : number ≡ place + 1
+  pub process : Proc
+  pub stood : slice_get v.processes place ≡ Some process
+  pub answer : a ≡ answer_of process
+
+-- the line of an answer, where it is there now and was not before
+abbrev pub new_answer : ℕ → Option Answer → Option Answer → List ℕ
+new_answer number None (Some a) = answer_line number a
+new_answer number None None = []
+new_answer number (Some b) after = []
+
+-- One turn of a process prints its event, and then its answer where this turn gave it.
+pub record Prints (v : View) (number : ℕ) (turn : Turn) (text : List ℕ) (v' : View) : Type 0 where
+  pub turned : TurnsTo v turn v'
+  pub event : Event
+  pub recorded : v'.events ≡ v.events ++ event ∷ []
+  pub before : Option Answer
+  pub had : HasAnswer v number before
+  pub after : Option Answer
+  pub has : HasAnswer v' number after
+  pub printed : text ≡ event_line event ++ new_answer number before after
+
+-- One turn of a process, as it is chosen for it; a take may be told its page.
+abbrev pub PrintsChosen : View → ℕ → Option ℕ → List ℕ → View → Type 0
+PrintsChosen v number page text v' = (turn : Turn) × Chooses v number page turn × Prints v number turn text v'
+
+-- Turns of a process that had not answered before any of them, so many.
+pub data PrintsTurns (number : ℕ) (v : View) : ℕ → List ℕ → View → Type 0 where
+  Still : PrintsTurns number v 0 [] v
+  More : (count : ℕ) (text more : List ℕ) (mid v' : View) → PrintsTurns number v count text mid → HasAnswer mid number None → PrintsChosen mid number None more v'
+      → PrintsTurns number v (count + 1) (text ++ more) v'
+
+-- a process that a script starts, which is to begin; no world has the kinds part, compress and reclaim yet
+abbrev pub IsStart : Start → Proc → Type 0
+IsStart (start.Operation (op.Find key)) p = IsFind key p
+IsStart (start.Operation (op.Insert key value)) p = IsInsert key value p
+IsStart (start.Operation (op.Delete key)) p = IsDelete key p
+IsStart (start.Operation (op.Part from)) p = ⊥
+IsStart (start.Post level key) p = IsPost level key p
+IsStart (start.Compress level key) p = ⊥
+IsStart (start.Reclaim page) p = ⊥
+
+-- What one command does and prints. A run ends with its last turn, or when its process has answered.
+abbrev pub Does : View → Command → List ℕ → View → Type 0
+Does v (command.Start start) text v' = (p : Proc) × IsStart start p × Starts v p v' × (text ≡ [])
+Does v (command.Turn number) text v' = PrintsChosen v number None text v'
+Does v (command.TurnAt number page) text v' = PrintsChosen v number (Some page) text v'
+Does v (command.Refuse number) text v' = Prints v number (turn.Refuse number) text v'
+Does v (command.Run number most) text v' = (count : ℕ) × (count ≤ most) × PrintsTurns number v count text v' × ((count ≡ most) ⊎ ((a : Answer) × HasAnswer v' number (Some a)))
+
+-- What a list of commands does and prints.
+pub data Plays (v : View) : List Command → List ℕ → View → Type 0 where
+  Nothing : Plays v [] [] v
+  Then : (commands : List Command) (next : Command) (text more : List ℕ) (mid v' : View) → Plays v commands text mid → Does mid next more v' → Plays v (commands ++ next ∷ []) (text ++ more) v'
+
+-- A list of commands was broken off: behind some of them, and maybe behind some turns of a run.
+pub data BreaksOff (v : View) (commands : List Command) : List ℕ → Type 0 where
+  Behind : (done rest : List Command) (text : List ℕ) (v' : View) → commands ≡ done ++ rest → Plays v done text v' → BreaksOff v commands text
+  Within : (done rest : List Command) (number most count : ℕ) (text more : List ℕ) (mid v' : View) → commands ≡ done ++ command.Run number most ∷ rest → Plays v done text mid
+      → count ≤ most → PrintsTurns number mid count more v' → BreaksOff v commands (text ++ more)
+
+-- What a script that was carried out has printed; and what may be believed of the world in the end.
+abbrev pub PlaysOut : ℕ → List Command → List ℕ → Type 0
+PlaysOut pages commands text = (start : View) × (end : View) × IsOpening pages start × Plays start commands text end × ∥ Account end ∥₁
+
+-- What a script that was broken off has printed: nothing, where there was no memory for a world, or what it did until then.
+abbrev pub PlaysInto : ℕ → List Command → List ℕ → Type 0
+PlaysInto pages commands text = (text ≡ []) ⊎ ((start : View) × IsOpening pages start × BreaksOff start commands text)
+
+-- searches, insertions, deletions and posts alone
+abbrev pub few : Kinds
+few = record { part = false; compress = false; reclaim = false }
+
+-- A script as it is read: each of its commands may stand where it does.
+abbrev pub MayPlay : ℕ → List Command → Type 0
+MayPlay pages commands = IsPageCount pages × AllStand few pages 0 commands

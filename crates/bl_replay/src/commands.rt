@@ -1,0 +1,157 @@
+//! Commands, and what each prints.
+
+ghost use Rattle.std.specs.Prelude.{◌≡◌, ◌⊎◌, ◌≤◌, ◌+◌, ◌++◌, ◌∷◌, [], true, ℕ, List, Err, length, OnOk, OnErr, IfErr};
+ghost use Rattle.bl_model.specs.Stream.{StartsOut};
+ghost use Rattle.bl_ways.specs.declared.acts.Action.TheVariants as act;
+ghost use Rattle.bl_proc.specs.Processes.{next_of};
+ghost use Rattle.bl_script.specs.Commands.{MayStart, MayStand, starts};
+ghost use Rattle.bl_script.specs.declared.command.Command.TheVariants as command;
+ghost use Rattle.bl_world.specs.Views.{View, view_of, number_in};
+ghost use Rattle.bl_world.specs.Turns.{IsStarted};
+ghost use Rattle.bl_replay.specs.declared.fault.ReplayFault.TheVariants as fault;
+ghost use Rattle.bl_replay.specs.Plays.{Prints, PrintsChosen, PrintsTurns, IsStart, Does, few};
+ghost use Rattle.bl_replay.specs.Emits.{Emits, Partly};
+
+use crate::fault::ReplayFault;
+use crate::output::write_much;
+use crate::turning::{answer_of, print_turn};
+use bl_model::{Op, Watched};
+use bl_proc::Proc;
+use bl_script::{Command, Start};
+use bl_world::{Turn, World, WorldFault};
+use std::io::Write;
+
+/// The process that a script starts.
+fn process_of(start: Start) -> Proc
+    requires { (pages : ℕ) × MayStart few pages start }
+    ensures made { IsStart start result }
+    ensures begins { next_of result ≡ act.Begin }
+{
+    match start {
+        Start::Operation(Op::Find(key)) => Proc::find(key),
+        Start::Operation(Op::Insert(key, value)) => Proc::insert(key, value),
+        Start::Operation(Op::Delete(key)) => Proc::delete(key),
+        Start::Post { level, key } => Proc::post(level, key),
+        Start::Operation(Op::Part(_)) | Start::Compress { .. } | Start::Reclaim(_) =>
+            unreachable!(),
+    }
+}
+
+/// Starts a process.
+fn start(world: &mut World, start: Start) -> Result<(), ReplayFault>
+    requires { (pages : ℕ) × MayStart few pages start }
+    ensures ok { OnOk result (Does (view_of world.old.lists) (command.Start start) [] (view_of world.new.lists)) }
+    ensures count { OnOk result (length world.new.lists.processes.items ≡ length world.old.lists.processes.items + 1) }
+    ensures err { IfErr result (λ why. why ≡ fault.Memory) }
+{
+    match world.start(process_of(start)) {
+        Ok(_) => Ok(()),
+        Err(_) => Err(ReplayFault::Memory),
+    }
+}
+
+/// Gives a process a turn, and prints it.
+fn play_turn<W: Write>(
+    world: &mut World,
+    number: usize,
+    turn: Turn,
+    pending: &mut Vec<u8>,
+    writer: &mut Watched<W>,
+) -> Result<(), ReplayFault>
+    requires started { IsStarted (view_of world.old.lists) number }
+    requires same { number_in turn ≡ number }
+    ensures ok { OnOk result ((text : List ℕ)
+        × Prints (view_of world.old.lists) number turn text (view_of world.new.lists)
+        × Emits (W.contents writer.old.inner) (W.contents writer.new.inner) pending.old.items pending.new.items text) }
+    ensures count { OnOk result (length world.new.lists.processes.items ≡ length world.old.lists.processes.items) }
+    ensures err { OnErr result ((text : List ℕ)
+        × ((text ≡ []) ⊎ ((after : View) × Prints (view_of world.old.lists) number turn text after))
+        × StartsOut (W.contents writer.old.inner) (W.contents writer.new.inner) (pending.old.items ++ text)) }
+    ensures write { result ≡ Err fault.Write → writer.new.failed ≡ true }
+{
+    print_turn(world, number, turn, pending)?;
+    write_much(writer, pending)
+}
+
+/// Gives a process the turn that is chosen for it, and prints it.
+fn play_chosen<W: Write>(
+    world: &mut World,
+    number: usize,
+    page: Option<u32>,
+    pending: &mut Vec<u8>,
+    writer: &mut Watched<W>,
+) -> Result<(), ReplayFault>
+    requires { IsStarted (view_of world.old.lists) number }
+    ensures ok { OnOk result ((text : List ℕ)
+        × PrintsChosen (view_of world.old.lists) number page text (view_of world.new.lists)
+        × Emits (W.contents writer.old.inner) (W.contents writer.new.inner) pending.old.items pending.new.items text) }
+    ensures count { OnOk result (length world.new.lists.processes.items ≡ length world.old.lists.processes.items) }
+    ensures err { OnErr result ((text : List ℕ)
+        × ((text ≡ []) ⊎ ((after : View) × PrintsChosen (view_of world.old.lists) number page text after))
+        × StartsOut (W.contents writer.old.inner) (W.contents writer.new.inner) (pending.old.items ++ text)) }
+    ensures write { result ≡ Err fault.Write → writer.new.failed ≡ true }
+{
+    let turn = world.turn_of(number, page);
+    play_turn(world, number, turn, pending, writer)
+}
+
+/// Gives a process turns, at most so many, until it has answered, and prints them.
+fn play_run<W: Write>(
+    world: &mut World,
+    number: usize,
+    most: u64,
+    pending: &mut Vec<u8>,
+    writer: &mut Watched<W>,
+) -> Result<(), ReplayFault>
+    requires { IsStarted (view_of world.old.lists) number }
+    ensures ok { OnOk result ((text : List ℕ)
+        × Does (view_of world.old.lists) (command.Run number most) text (view_of world.new.lists)
+        × Emits (W.contents writer.old.inner) (W.contents writer.new.inner) pending.old.items pending.new.items text) }
+    ensures count { OnOk result (length world.new.lists.processes.items ≡ length world.old.lists.processes.items) }
+    ensures err { OnErr result ((text : List ℕ) × (count : ℕ) × (after : View)
+        × (count ≤ most) × PrintsTurns number (view_of world.old.lists) count text after
+        × StartsOut (W.contents writer.old.inner) (W.contents writer.new.inner) (pending.old.items ++ text)) }
+    ensures write { result ≡ Err fault.Write → writer.new.failed ≡ true }
+{
+    for _ in 0..most {
+        match answer_of(world, number) {
+            Some(_) => return Ok(()),
+            None => play_chosen(world, number, None, pending, writer)?,
+        }
+    }
+    Ok(())
+}
+
+/// Carries out a command, and prints what it does.
+pub fn play_command<W: Write>(
+    world: &mut World,
+    command: Command,
+    pending: &mut Vec<u8>,
+    writer: &mut Watched<W>,
+) -> Result<(), ReplayFault>
+    requires { (pages : ℕ) × MayStand few pages (length world.old.lists.processes.items) command }
+    ensures ok { OnOk result ((text : List ℕ)
+        × Does (view_of world.old.lists) command text (view_of world.new.lists)
+        × Emits (W.contents writer.old.inner) (W.contents writer.new.inner) pending.old.items pending.new.items text) }
+    ensures count { OnOk result (length world.new.lists.processes.items ≡ length world.old.lists.processes.items + starts command) }
+    ensures err { OnErr result ((text : List ℕ) × Partly (view_of world.old.lists) command text
+        × StartsOut (W.contents writer.old.inner) (W.contents writer.new.inner) (pending.old.items ++ text)) }
+    ensures write { result ≡ Err fault.Write → writer.new.failed ≡ true }
+{
+    match command {
+        Command::Start(process) => start(world, process),
+        Command::Turn(number) => play_chosen(world, number as usize, None, pending, writer),
+        Command::TurnAt(number, page) => play_chosen(
+            world,
+            number as usize,
+            Some(page),
+            pending,
+            writer,
+        ),
+        Command::Refuse(number) => {
+            let turn = Turn::Refuse(number as usize);
+            play_turn(world, number as usize, turn, pending, writer)
+        }
+        Command::Run(number, most) => play_run(world, number as usize, most, pending, writer),
+    }
+}

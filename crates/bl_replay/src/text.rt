@@ -1,0 +1,97 @@
+//! The printed form of events and answers.
+
+ghost use Rattle.std.specs.Prelude.{◌≡◌, ◌++◌, OnOk};
+ghost use Rattle.bl_replay.specs.Texts.{act_text, event_line, hint_text, posted_text, answer_text, answer_line};
+
+use bl_lines::print::{push_number, push_reply};
+use bl_proc::{Answer, Hint, Posted};
+use bl_world::{Act, Event};
+use std::alloc::AllocError;
+
+/// Appends what an event did.
+fn push_act(out: &mut Vec<u8>, act: Act) -> Result<(), AllocError>
+    ensures { OnOk result (out.new.items ≡ out.old.items ++ act_text act) }
+{
+    match act {
+        Act::Begin => out.extend_from_slice(b"begin"),
+        Act::End => out.extend_from_slice(b"end"),
+        Act::Get(at) => push_number(out, b"get ", u64::from(at)),
+        Act::Put(at) => push_number(out, b"put ", u64::from(at)),
+        Act::Latch(at) => push_number(out, b"latch ", u64::from(at)),
+        Act::Take(at) => push_number(out, b"take ", u64::from(at)),
+        Act::Open(at) => push_number(out, b"open ", u64::from(at)),
+        Act::Retire(at) => push_number(out, b"retire ", u64::from(at)),
+        Act::Look(process) => push_number(out, b"look ", process as u64),
+        Act::See(at) => push_number(out, b"see ", u64::from(at)),
+        Act::Release(at) => push_number(out, b"release ", u64::from(at)),
+        Act::Miss => out.extend_from_slice(b"miss"),
+    }
+}
+
+/// Appends the line of an event.
+pub fn push_event(out: &mut Vec<u8>, event: Event) -> Result<(), AllocError>
+    ensures { OnOk result (out.new.items ≡ out.old.items ++ event_line event) }
+{
+    push_number(out, b"", event.process as u64)?;
+    out.extend_from_slice(b" ")?;
+    push_act(out, event.act)?;
+    out.push(b'\n')?;
+    Ok(())
+}
+
+/// Appends a hint, if there is one.
+fn push_hint(out: &mut Vec<u8>, hint: Option<Hint>) -> Result<(), AllocError>
+    ensures { OnOk result (out.new.items ≡ out.old.items ++ hint_text hint) }
+{
+    match hint {
+        None => Ok(()),
+        Some(Hint::Post { level, key }) => {
+            push_number(out, b" post ", u64::from(level))?;
+            push_number(out, b" ", key)
+        }
+        Some(Hint::Thin { level, key }) => {
+            push_number(out, b" thin ", u64::from(level))?;
+            push_number(out, b" ", key)
+        }
+    }
+}
+
+/// Appends what became of a post.
+fn push_posted(out: &mut Vec<u8>, posted: Posted) -> Result<(), AllocError>
+    ensures { OnOk result (out.new.items ≡ out.old.items ++ posted_text posted) }
+{
+    match posted {
+        Posted::Done => out.extend_from_slice(b"done"),
+        Posted::Already => out.extend_from_slice(b"already"),
+        Posted::Stale => out.extend_from_slice(b"stale"),
+        Posted::NoRoom => out.extend_from_slice(b"noroom"),
+        Posted::TooTall => out.extend_from_slice(b"tootall"),
+    }
+}
+
+/// Appends an answer, without its line.
+fn push_answer(out: &mut Vec<u8>, answer: &Answer) -> Result<(), AllocError>
+    ensures { OnOk result (out.new.items ≡ out.old.items ++ answer_text answer.now) }
+{
+    match answer {
+        Answer::Op(reply, hint) => {
+            push_reply(out, reply)?;
+            push_hint(out, *hint)
+        }
+        Answer::Post(posted, hint) => {
+            push_posted(out, *posted)?;
+            push_hint(out, *hint)
+        }
+    }
+}
+
+/// Appends the line of the answer of the process with that number.
+pub fn push_answer_line(out: &mut Vec<u8>, number: usize, answer: &Answer) -> Result<(), AllocError>
+    ensures { OnOk result (out.new.items ≡ out.old.items ++ answer_line number answer.now) }
+{
+    push_number(out, b"", number as u64)?;
+    out.extend_from_slice(b" answer ")?;
+    push_answer(out, answer)?;
+    out.push(b'\n')?;
+    Ok(())
+}
