@@ -1,12 +1,8 @@
-//! A plain Rust program that answers request lines as `blink serve` does over one leaf, for comparison, and a
-//! generator of such lines. `twin lines N` writes N lines; `twin serve` answers standard input.
+//! A plain Rust program that answers request lines as `blink serve` does, for comparison, and a generator of such lines. `twin lines N` writes N lines; `twin serve` answers standard input.
 
 use std::collections::BTreeMap;
 use std::env;
 use std::io::{self, BufRead, BufReader, BufWriter, Write};
-
-/// Rows of one leaf.
-const ROOM: usize = 14;
 
 enum Request {
     Find(u64),
@@ -62,7 +58,6 @@ fn serve() -> io::Result<()> {
             },
             Some(Request::Insert(key, value)) => match rows.get(&key) {
                 Some(there) => writeln!(text, "{count} present {there}")?,
-                None if rows.len() >= ROOM => writeln!(text, "{count} noroom")?,
                 None => {
                     rows.insert(key, value);
                     writeln!(text, "{count} inserted")?;
@@ -84,13 +79,13 @@ fn serve() -> io::Result<()> {
     writer.flush()
 }
 
-/// Finds, inserts and deletes of keys 1 to 20 in turn, by a linear congruential generator, and a sync each 1,000 lines.
+/// Finds, inserts and deletes of keys 1 to 4,000 in turn, by a linear congruential generator, and a sync each 1,000 lines.
 fn write_lines(count: u64) -> io::Result<()> {
     let mut writer = BufWriter::new(io::stdout().lock());
     let mut state = 1u64;
     for line in 1..=count {
         state = state.wrapping_mul(6364136223846793005).wrapping_add(1442695040888963407);
-        let key = (state >> 33) % 20 + 1;
+        let key = (state >> 33) % 4000 + 1;
         match (state >> 60) % 4 {
             _ if line % 1000 == 0 => writeln!(writer, "sync")?,
             0 | 1 => writeln!(writer, "find {key}")?,

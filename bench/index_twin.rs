@@ -1,0 +1,107 @@
+//! The load of `index_load` on a plain Rust `RwLock<BTreeMap>`, for comparison. `index_twin ROWS THREADS FINDS MIXED` prints
+//! what `index_load` prints.
+
+use std::collections::BTreeMap;
+use std::env;
+use std::sync::RwLock;
+use std::sync::atomic::{AtomicU64, Ordering};
+use std::thread;
+
+fn key_of(row: u64) -> u64 {
+    row.wrapping_mul(0x9e37_79b9_7f4a_7c15)
+}
+
+fn after(seed: u64) -> u64 {
+    seed.wrapping_mul(6_364_136_223_846_793_005).wrapping_add(1_442_695_040_888_963_407)
+}
+
+fn row_of(seed: u64, rows: u64) -> u64 {
+    if rows == 0 { 0 } else { (seed >> 24) % rows }
+}
+
+type Map = RwLock<BTreeMap<u64, u64>>;
+
+fn insert(map: &Map, key: u64, value: u64) -> bool {
+    let mut map = map.write().unwrap();
+    match map.get(&key) {
+        Some(_) => false,
+        None => {
+            map.insert(key, value);
+            true
+        }
+    }
+}
+
+fn find(map: &Map, key: u64) -> Option<u64> {
+    map.read().unwrap().get(&key).copied()
+}
+
+fn fill(map: &Map, place: u64, rows: u64, threads: u64) -> u64 {
+    let mut done = 0;
+    for row in 0..rows {
+        if row % threads == place && insert(map, key_of(row), row) {
+            done += 1;
+        }
+    }
+    done
+}
+
+fn search(map: &Map, place: u64, rows: u64, finds: u64) -> u64 {
+    let mut done = 0;
+    let mut seed = place;
+    for _ in 0..finds {
+        seed = after(seed);
+        if find(map, key_of(row_of(seed, rows))).is_some() {
+            done += 1;
+        }
+    }
+    done
+}
+
+fn mix(map: &Map, place: u64, rows: u64, mixed: u64) -> u64 {
+    let mut done = 0;
+    let mut seed = place;
+    for round in 0..mixed {
+        if round % 4 != 3 {
+            seed = after(seed);
+        }
+        let row = row_of(seed, rows);
+        match round % 4 {
+            2 => {
+                map.write().unwrap().remove(&key_of(row));
+            }
+            3 => {
+                insert(map, key_of(row), row);
+            }
+            _ => {
+                std::hint::black_box(find(map, key_of(row)));
+            }
+        }
+        done += 1;
+    }
+    done
+}
+
+fn run(threads: u64, work: impl Fn(u64) -> u64 + Sync) -> u64 {
+    let done = AtomicU64::new(0);
+    thread::scope(|scope| {
+        for place in 0..threads {
+            let (work, done) = (&work, &done);
+            scope.spawn(move || done.fetch_add(work(place), Ordering::SeqCst));
+        }
+    });
+    done.into_inner()
+}
+
+fn main() {
+    let words: Vec<u64> = env::args().skip(1).filter_map(|word| word.parse().ok()).collect();
+    let [rows, threads, finds, mixed] = words[..] else {
+        eprintln!("usage: index_twin ROWS THREADS FINDS MIXED");
+        std::process::exit(2);
+    };
+    let map = RwLock::new(BTreeMap::new());
+    let inserted = run(threads, |place| fill(&map, place, rows, threads));
+    let found = run(threads, |place| search(&map, place, rows, finds));
+    let mixed = run(threads, |place| mix(&map, place, rows, mixed));
+    println!("rows {inserted}, found {found}, mixed {mixed}");
+}
