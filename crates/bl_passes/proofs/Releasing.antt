@@ -1,5 +1,5 @@
 -- Pages are released by a process of a pass that runs none: this keeps the rule, and the pass knows it.
-use Rattle.std.proofs.Common.{ℕ, ◌≡◌, ◌≢◌, ◌⊎◌, ◌+◌, ◌≤◌, ◌++◌, false, Option, None, List, [], ◌∷◌, set, refl, sym, ap, ◌∙◌, subst, ⊎_elim, inl, inr, arith, append-nil, append_assoc}
+use Rattle.std.proofs.Common.{ℕ, ◌≡◌, ◌≢◌, ◌⊎◌, ◌+◌, ◌≤◌, ◌++◌, false, Option, None, List, [], ◌∷◌, length, set, refl, sym, ap, ◌∙◌, subst, ⊎_elim, inl, inr, arith, append-nil, append_assoc}
 use Rattle.std.proofs.lemmas.Bool.{cases_eq, false≢true}
 use mathlib.Core.Option.{some}
 use lib.ListN.{get_elem?}
