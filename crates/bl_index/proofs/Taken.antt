@@ -1,5 +1,5 @@
 -- The passes of a new index, taken from the last one on.
-use Rattle.std.proofs.Common.{ℕ, ◌≡◌, ◌+◌, ◌++◌, List, [], ◌∷◌, length, sym, ap, ◌∙◌, refl, arith}
+use Rattle.std.proofs.Common.{ℕ, zero, suc, ◌≡◌, ◌+◌, ◌<◌, ◌++◌, List, [], ◌∷◌, All, length, get_or, sym, ap, ◌∙◌, refl, arith}
 use Rattle.std.proofs.lemmas.List.{length-append}
 use mathlib.Core.Option.{some}
 use lib.ListN.{get_elem?}
@@ -26,3 +26,15 @@ only_pass config index passes rest pass o one e =
 
 pub same_of : (index : Index) (old new : Pass) → IsSamePass old new → IsPassOf index old → IsPassOf index new
 same_of index old new same of = (same.0 ∙ of.0, same.1 ∙ of.1)
+
+there : (l : List Pass) (i : ℕ) (d : Pass) → i < length l → get_elem? l i ≡ some (get_or l i d)
+there [] i d h = absurd (omega arith)
+there (x ∷ xs) zero d h = refl
+there (x ∷ xs) (suc i) d h = there xs i d (omega arith)
+
+-- all passes of an index, and all but the last one
+pub all_passes : (config : Config) (index : Index) (passes : List Pass) → IsOpened config index passes → All (IsPassOf index) passes
+all_passes config index passes o = λ k d lt. (o.each k (get_or passes k d) (there passes k d lt)).0
+
+pub front_passes : (config : Config) (index : Index) (passes rest : List Pass) (pass : Pass) → IsOpened config index passes → passes ≡ rest ++ pass ∷ [] → All (IsPassOf index) rest
+front_passes config index passes rest pass o e = λ k d lt. (o.each k (get_or rest k d) (ap (λ (z : List Pass). get_elem? z k) e ∙ at_longer rest (pass ∷ []) k (get_or rest k d) (there rest k d lt))).0
