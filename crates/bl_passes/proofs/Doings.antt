@@ -23,7 +23,7 @@ log_after w p old what c a s b t next told log =
     let m : Mark = record { event = record { process = p; act = act }; saw = t.saw; said = t.said } in
     let trail = ap (marks_of p) t.extends.trail ∙ marks_of-own p w.trail m refl in
     let on = log_turn old c.new what (marks_of p w.trail) m c.takes (ap (λ (z : Action). event_of (end_of_proc old) z what) (sym next))
-        (λ x d e f. saw_words (end_of_proc old) w.now w.size t.saw a what told t.extends.saw x d e f) log in
+    (λ x d e f. saw_words (end_of_proc old) w.now w.size t.saw a what told t.extends.saw x d e f) log in
     subst (proc_log c.new) (sym trail) on
 
 -- by a turn of another
