@@ -159,14 +159,14 @@ fn run<R: Threads + Wait + Sync>(
 fn opened(alloc: Global, threads: u32) -> Option<(Index, Vec<Pass>)>
     ensures { IfSome result (λ t. All (IsPassOf t.0) t.1.items) }
 {
-    Index::open(
-        alloc,
-        Config {
-            pages: 65_536,
-            passes: threads,
-        },
-    )
-    .ok()
+    let config = Config {
+        pages: 65_536,
+        passes: threads,
+    };
+    match Index::open(alloc, config) {
+        Ok((index, passes)) => Some((index, passes)),
+        Err(_) => None,
+    }
 }
 
 fn main(rt: HostRuntime) -> anyhow::Result<()> {
