@@ -1,7 +1,7 @@
 -- Two neighbours of a level, merged into one page or evened out.
-use Rattle.std.specs.Prelude.{◌≡◌, ◌≢◌, ℕ, ◌+◌, ◌/◌, ◌<◌, ◌≤◌, ◌++◌, List, length, Option, Some, None}
+use Rattle.std.specs.Prelude.{◌≡◌, ◌≢◌, ℕ, ◌+◌, ◌/◌, ◌<◌, ◌≤◌, ◌++◌, length, Option, Some, None}
 use Rattle.bl_page.specs.declared.page.Page.{Page}
-use Rattle.bl_page.specs.declared.page.Page.TheVariants.{Anchor, Leaf, Inner, Dead}
+use Rattle.bl_page.specs.declared.page.Page.TheVariants.{Leaf, Inner}
 use Rattle.bl_page.specs.Pairs.{BeginsWith}
 use Rattle.bl_rearrange.specs.Rearranged.{IsNow, pairs_of, low_of, high_of, right_of}
 use Rattle.bl_rearrange.specs.declared.sides.Side.{Side}

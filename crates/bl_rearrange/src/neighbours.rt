@@ -100,7 +100,13 @@ fn evened_inners(left: Inner, right: Inner) -> Evened
         upper,
         separator,
         gains,
-    } = evened_pairs(left.children, right.children, left.low, right.low, right.high);
+    } = evened_pairs(
+        left.children,
+        right.children,
+        left.low,
+        right.low,
+        right.high,
+    );
     let lower_inner = Inner {
         level: left.level,
         low: left.low,
