@@ -1,3 +1,4 @@
 pub mod EnteredLemmas
 pub mod Cuts
 pub mod Parts
+pub mod Joins

@@ -1,2 +1,4 @@
 pub mod Entered
+pub mod Joined
+pub mod Neighbours
 pub mod Rearranged

@@ -22,7 +22,7 @@ fn entered_at_place(pairs: Pairs, key: u64, word: u64) -> Pairs
 }
 
 /// The pairs of a slice.
-fn collected(slice: &[(u64, u64)]) -> Pairs
+pub fn collected(slice: &[(u64, u64)]) -> Pairs
     requires { length slice.now < 15 }
     ensures { result.items ≡ slice.now }
 {

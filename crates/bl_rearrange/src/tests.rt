@@ -87,3 +87,247 @@ fn a_row_is_dropped(rt: HostRuntime) -> Result<(), Fail> {
     assert!(rt; rest.to_words() == words(&[8589934593, 0, 0, 0, 6, 60]));
     Ok(())
 }
+
+/// The page in place of both pages of these words, if they are neighbours.
+fn merged_of(left: &[u64], right: &[u64]) -> Option<Option<Page>> {
+    match (from_words(&words(left)), from_words(&words(right))) {
+        (Ok(Page::Leaf(left)), Ok(Page::Leaf(right))) => {
+            if left.high == 0 || right.low != left.high {
+                return None;
+            }
+            Some(merged(Page::Leaf(left), Page::Leaf(right)))
+        }
+        (Ok(Page::Inner(left)), Ok(Page::Inner(right))) => {
+            if right.level != left.level || left.high == 0 || right.low != left.high {
+                return None;
+            }
+            Some(merged(Page::Inner(left), Page::Inner(right)))
+        }
+        _ => None,
+    }
+}
+
+/// The pages of these words evened out, if they are neighbours and have more than 14 pairs.
+fn evened_of(left: &[u64], right: &[u64]) -> Option<Evened> {
+    match (from_words(&words(left)), from_words(&words(right))) {
+        (Ok(Page::Leaf(left)), Ok(Page::Leaf(right))) => {
+            if left.high == 0
+                || right.low != left.high
+                || left.rows.len() + right.rows.len() <= 14
+            {
+                return None;
+            }
+            Some(evened(Page::Leaf(left), Page::Leaf(right)))
+        }
+        (Ok(Page::Inner(left)), Ok(Page::Inner(right))) => {
+            if right.level != left.level
+                || left.high == 0
+                || right.low != left.high
+                || left.children.len() + right.children.len() <= 14
+            {
+                return None;
+            }
+            Some(evened(Page::Inner(left), Page::Inner(right)))
+        }
+        _ => None,
+    }
+}
+
+#[test]
+fn a_thin_leaf_goes_into_its_left_neighbour(rt: HostRuntime) -> Result<(), Fail> {
+    let left = [
+        8589934600, 0, 9, 2, 1, 10, 2, 20, 3, 30, 4, 40, 5, 50, 6, 60, 7, 70, 8, 80,
+    ];
+    let right = [
+        8589934598, 9, 0, 0, 10, 100, 11, 110, 12, 120, 13, 130, 14, 140, 15, 150,
+    ];
+    let Some(Some(page)) = merged_of(&left, &right) else {
+        return Err("not merged".into());
+    };
+    assert!(rt;
+        page.to_words()
+            == words(&[
+                8589934606, 0, 0, 0, 1, 10, 2, 20, 3, 30, 4, 40, 5, 50, 6, 60, 7, 70, 8, 80, 10,
+                100, 11, 110, 12, 120, 13, 130, 14, 140, 15, 150
+            ])
+    );
+    Ok(())
+}
+
+#[test]
+fn fifteen_rows_are_not_merged(rt: HostRuntime) -> Result<(), Fail> {
+    let left = [
+        8589934600, 0, 9, 2, 1, 10, 2, 20, 3, 30, 4, 40, 5, 50, 6, 60, 7, 70, 8, 80,
+    ];
+    let right = [
+        8589934599, 9, 0, 0, 9, 90, 10, 100, 11, 110, 12, 120, 13, 130, 14, 140, 15, 150,
+    ];
+    assert!(rt; matches!(merged_of(&left, &right), Some(None)));
+    Ok(())
+}
+
+#[test]
+fn children_of_two_pages_are_listed_in_one(rt: HostRuntime) -> Result<(), Fail> {
+    let left = [12884967426, 0, 30, 5, 0, 1, 9, 2];
+    let right = [12884967426, 30, 60, 7, 30, 4, 50, 6];
+    let Some(Some(page)) = merged_of(&left, &right) else {
+        return Err("not merged".into());
+    };
+    assert!(rt; page.to_words() == words(&[12884967428, 0, 60, 7, 0, 1, 9, 2, 30, 4, 50, 6]));
+    Ok(())
+}
+
+#[test]
+fn rows_move_right(rt: HostRuntime) -> Result<(), Fail> {
+    let left = [
+        8589934606, 0, 90, 2, 10, 100, 11, 110, 12, 120, 13, 130, 14, 140, 15, 150, 16, 160, 20,
+        200, 30, 300, 40, 400, 50, 500, 60, 600, 70, 700, 80, 800,
+    ];
+    let right = [8589934594, 90, 0, 0, 90, 900, 100, 1000];
+    let Some(now) = evened_of(&left, &right) else {
+        return Err("not evened".into());
+    };
+    assert_eq!(rt; now.separator, 30);
+    assert_eq!(rt; now.gains, Side::Right);
+    assert!(rt;
+        now.left.to_words()
+            == words(&[
+                8589934600, 0, 30, 2, 10, 100, 11, 110, 12, 120, 13, 130, 14, 140, 15, 150, 16,
+                160, 20, 200
+            ])
+    );
+    assert!(rt;
+        now.right.to_words()
+            == words(&[
+                8589934600, 30, 0, 0, 30, 300, 40, 400, 50, 500, 60, 600, 70, 700, 80, 800, 90,
+                900, 100, 1000
+            ])
+    );
+    Ok(())
+}
+
+#[test]
+fn rows_move_left(rt: HostRuntime) -> Result<(), Fail> {
+    let left = [8589934594, 0, 9, 2, 7, 70, 8, 80];
+    let right = [
+        8589934606, 9, 0, 0, 9, 90, 10, 100, 11, 110, 12, 120, 13, 130, 14, 140, 15, 150, 16, 160,
+        17, 170, 18, 180, 19, 190, 20, 200, 21, 210, 22, 220,
+    ];
+    let Some(now) = evened_of(&left, &right) else {
+        return Err("not evened".into());
+    };
+    assert_eq!(rt; now.separator, 15);
+    assert_eq!(rt; now.gains, Side::Left);
+    assert!(rt;
+        now.left.to_words()
+            == words(&[
+                8589934600, 0, 15, 2, 7, 70, 8, 80, 9, 90, 10, 100, 11, 110, 12, 120, 13, 130, 14,
+                140
+            ])
+    );
+    assert!(rt;
+        now.right.to_words()
+            == words(&[
+                8589934600, 15, 0, 0, 15, 150, 16, 160, 17, 170, 18, 180, 19, 190, 20, 200, 21,
+                210, 22, 220
+            ])
+    );
+    Ok(())
+}
+
+#[test]
+fn of_17_children_the_left_page_gets_9(rt: HostRuntime) -> Result<(), Fail> {
+    let left = [
+        12885032974,
+        0,
+        140,
+        20,
+        0,
+        1,
+        10,
+        2,
+        20,
+        3,
+        30,
+        4,
+        40,
+        5,
+        50,
+        6,
+        60,
+        7,
+        70,
+        8,
+        80,
+        9,
+        90,
+        10,
+        100,
+        11,
+        110,
+        12,
+        120,
+        13,
+        130,
+        14,
+    ];
+    let right = [12885032963, 140, 200, 21, 140, 15, 150, 16, 160, 17];
+    let Some(now) = evened_of(&left, &right) else {
+        return Err("not evened".into());
+    };
+    assert_eq!(rt; now.separator, 90);
+    assert_eq!(rt; now.gains, Side::Right);
+    assert!(rt;
+        now.left.to_words()
+            == words(&[
+                12885032969,
+                0,
+                90,
+                20,
+                0,
+                1,
+                10,
+                2,
+                20,
+                3,
+                30,
+                4,
+                40,
+                5,
+                50,
+                6,
+                60,
+                7,
+                70,
+                8,
+                80,
+                9
+            ])
+    );
+    assert!(rt;
+        now.right.to_words()
+            == words(&[
+                12885032968,
+                90,
+                200,
+                21,
+                90,
+                10,
+                100,
+                11,
+                110,
+                12,
+                120,
+                13,
+                130,
+                14,
+                140,
+                15,
+                150,
+                16,
+                160,
+                17
+            ])
+    );
+    Ok(())
+}
