@@ -1,5 +1,6 @@
 pub mod Same
 pub mod Lookups
+pub mod Halving
 pub mod PairsIn
 pub mod PagesIn
 pub mod Writing

@@ -20,15 +20,15 @@ same_kind p q e = kind_same (kind_of p) (kind_of q) (words_of q) (subst (IsOf (k
 vec_same : {A : Type 0} (v w : ArrayVec A) → v.items ≡ w.items → v ≡ w
 vec_same v w e = ap (λ xs. record { items = xs }) e
 
-leftmost_again : (a : Anchor) → take (count_in (words_of (page.Anchor a))) (drop 4 (words_of (page.Anchor a))) ≡ a.leftmost.items
+pub leftmost_again : (a : Anchor) → take (count_in (words_of (page.Anchor a))) (drop 4 (words_of (page.Anchor a))) ≡ a.leftmost.items
 leftmost_again a = let count = head-count 1 0 (length a.leftmost.items) (omega arith) (omega (arith, a.few)) in
     take_at a.leftmost.items (replicate {A = ℕ} (28 - length a.leftmost.items) 0) _ (sym count)
 
-rows_again : (l : Leaf) → pairs_of (words_of (page.Leaf l)) ≡ l.rows.items
+pub rows_again : (l : Leaf) → pairs_of (words_of (page.Leaf l)) ≡ l.rows.items
 rows_again l = let count = head-count 2 0 (length l.rows.items) (omega arith) (omega (arith, l.few)) in
     ap (λ n. pairs_in n (entries_of l.rows.items ++ replicate {A = ℕ} (28 - length (entries_of l.rows.items)) 0)) count ∙ pairs_in-entries_of l.rows.items _
 
-children_again : (n : Inner) → pairs_of (words_of (page.Inner n)) ≡ n.children.items
+pub children_again : (n : Inner) → pairs_of (words_of (page.Inner n)) ≡ n.children.items
 children_again n = let count = head-count 3 n.level (length n.children.items) (omega (arith, n.below_limit)) (omega (arith, n.few)) in
     ap (λ k. pairs_in k (entries_of n.children.items ++ replicate {A = ℕ} (28 - length (entries_of n.children.items)) 0)) count ∙ pairs_in-entries_of n.children.items _
 

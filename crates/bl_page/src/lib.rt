@@ -6,12 +6,15 @@ mod keys;
 mod page;
 mod pairs;
 mod reading;
+mod seeking;
 mod words;
 
 pub use keys::is_within;
 pub use page::{Anchor, Dead, Inner, Leaf, Page, Pairs, WordFault};
 pub use pairs::{listed_with, place_of};
 pub use reading::from_words;
+pub use seeking::{child_in, listed_in};
+pub use words::{KIND_UNIT, LEVEL_UNIT};
 
 #[cfg(test)]
 mod tests;

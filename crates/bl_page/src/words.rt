@@ -6,10 +6,10 @@ ghost use Rattle.bl_page.specs.Words.{words_of, head, layout, entries_of};
 use crate::page::Page;
 
 /// What the kind counts in word 0.
-pub(crate) const KIND_UNIT: u64 = 1 << 32;
+pub const KIND_UNIT: u64 = 1 << 32;
 
 /// What the level counts in word 0.
-pub(crate) const LEVEL_UNIT: u64 = 1 << 16;
+pub const LEVEL_UNIT: u64 = 1 << 16;
 
 /// The words of a page with these pairs.
 fn pair_words(first: u64, low: u64, high: u64, right: u32, pairs: &[(u64, u64)]) -> [u64; 32]

@@ -4,10 +4,15 @@ ghost use Rattle.std.specs.Prelude.{◌≡◌, ℕ, Option, None};
 ghost use Rattle.bl_ways.specs.declared.acts.Action.{Action};
 ghost use Rattle.bl_ways.specs.declared.acts.Seen.{Seen};
 ghost use Rattle.bl_ways.specs.declared.answers.Answer.{Answer};
+ghost use Rattle.bl_ways.specs.declared.acts.Action.TheVariants as act;
+ghost use Rattle.bl_ways.specs.declared.acts.Seen.TheVariants as seen;
 ghost use Rattle.bl_ways.specs.Given.{Gives};
+ghost use Rattle.bl_page.specs.declared.page.Page.{Page};
+ghost use Rattle.bl_page.specs.Words.{words_of};
 
 use crate::acts::{Action, Seen};
 use crate::answers::Answer;
+use bl_page::from_words;
 
 /// A process of one kind: whoever runs it asks for its next action, carries it out, and tells it what the action gave,
 /// until it answers.
@@ -42,4 +47,17 @@ pub trait Process {
         requires running { answer_of self.old ≡ None }
         requires given { Gives (next_of self.old) (needs_of self.old) seen }
         ensures { Takes self.old seen self.new };
+
+    /// Goes on by the page that it got, by the page's words.
+    fn took_words(&mut self, words: &[u64; 32])
+        requires running { answer_of self.old ≡ None }
+        requires gets { (x : ℕ) × (next_of self.old ≡ act.Get x) }
+        requires page { (c : Page) × (words.now ≡ words_of c) }
+        ensures { (c : Page) → words.now ≡ words_of c → Takes self.old (seen.Words c) self.new }
+    {
+        match from_words(words) {
+            Ok(page) => self.took(Seen::Words(page)),
+            Err(_) => unreachable!(),
+        }
+    }
 }
