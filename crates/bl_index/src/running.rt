@@ -17,7 +17,6 @@ ghost use Rattle.bl_index.specs.Runs.{IsOn, IsSince, IsWithin, Moves};
 
 use crate::index::Index;
 use crate::kinds::Kind;
-use bl_page::from_words;
 use bl_passes::{Began, Ended, GaveUp, Got, Launch, Mine};
 use bl_proc::Seen;
 use bl_store::Hand;
@@ -54,8 +53,14 @@ impl Index {
         process.took(Seen::Done);
     }
 
-    /// The process gets the page.
-    pub(crate) fn read<P: Kind>(&self, hand: &mut Hand<Mine>, process: &mut P, page: u32)
+    /// The process gets the page, its words into the buffer.
+    pub(crate) fn read<P: Kind>(
+        &self,
+        hand: &mut Hand<Mine>,
+        process: &mut P,
+        page: u32,
+        words: &mut [u64; 32],
+    )
         requires own { IsOf self.now.store.table.shared.table_id self.now.store.layout hand.old.seat }
         requires running { IsRunning hand.old.seat }
         requires process { IsOn self.now.store.layout (known hand.old.seat) (P.proc_of process.old) }
@@ -65,11 +70,8 @@ impl Index {
         ensures moves { Moves (known hand.old.seat) (known hand.new.seat) }
         ensures takes { (c : PageIs) × P.Takes process.old (seen.Words c) process.new }
     {
-        let words = self.store.get::<Got>(hand, page);
-        match from_words(&words) {
-            Ok(page) => process.took(Seen::Words(page)),
-            Err(_) => unreachable!(),
-        }
+        self.store.get_into::<Got>(hand, page, words);
+        process.took_words(words);
     }
 
     /// The process ends.

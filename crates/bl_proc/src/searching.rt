@@ -3,12 +3,16 @@
 ghost use Rattle.std.specs.Prelude.{◌≡◌, None};
 ghost use Rattle.bl_ways.specs.declared.acts.Seen.TheVariants as seen;
 ghost use Rattle.bl_proc.specs.declared.searching.FindStage.TheVariants as find_stage;
+ghost use Rattle.bl_page.specs.declared.page.Page.{Page as PageIs};
+ghost use Rattle.bl_page.specs.Words.{words_of};
 ghost use Rattle.bl_ways.specs.Given.{Gives};
 ghost use Rattle.bl_proc.specs.Searches.{find_next_in, find_answer_in, find_next, find_needs, find_answer, FindGoes, FindTakes};
 
 use bl_model::Reply;
 use bl_page::Page;
-use bl_ways::{Action, Answer, Onward, Process, Seen, listed, top_page, way_from};
+use bl_ways::{
+    Action, Answer, Onward, Process, Seen, listed, row_in, top_in, top_page, way_from, way_in,
+};
 
 /// A search for the value of a key.
 #[derive(Clone, Copy)]
@@ -40,6 +44,18 @@ fn went_on(key: u64, at: u32, page: &Page) -> FindStage
         Onward::Again => FindStage::AtAnchor,
         Onward::Right(next) | Onward::Down(next) => FindStage::At(next),
         Onward::Here => FindStage::Ending(listed(page, key)),
+    }
+}
+
+/// The same by the page's words.
+fn went_on_in(key: u64, at: u32, words: &[u64; 32]) -> FindStage
+    requires { (c : PageIs) × (words.now ≡ words_of c) }
+    ensures { (c : PageIs) → words.now ≡ words_of c → FindGoes key (find_stage.At at) (seen.Words c) result }
+{
+    match way_in(words, key, 0) {
+        Onward::Again => FindStage::AtAnchor,
+        Onward::Right(next) | Onward::Down(next) => FindStage::At(next),
+        Onward::Here => FindStage::Ending(row_in(words, key)),
     }
 }
 
@@ -102,5 +118,14 @@ impl Process for Find {
 
     fn took(&mut self, seen: Seen) {
         self.stage = went(self.key, self.stage, &seen);
+    }
+
+    // A search makes no page of the words: most of its time would go there.
+    fn took_words(&mut self, words: &[u64; 32]) {
+        self.stage = match self.stage {
+            FindStage::AtAnchor => FindStage::At(top_in(words)),
+            FindStage::At(at) => went_on_in(self.key, at, words),
+            _ => unreachable!(),
+        };
     }
 }

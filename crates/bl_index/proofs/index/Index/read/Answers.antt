@@ -7,8 +7,11 @@ use Rattle.bl_store.specs.Hands.{known}
 use Rattle.bl_passes.proofs.Pages.{gets_page}
 use Rattle.bl_index.proofs.index.Index.read.Goals as goal
 
-pub get-words-requires-clause-rule : goal.get-words-requires-clause-rule
-get-words-requires-clause-rule g c =
+pub get_into-requires-clause-rule : goal.get_into-requires-clause-rule
+get_into-requires-clause-rule g c =
     let laws = g.met.P.Kind in
     gets_page _ _ (known c.args.hand.now.seat) c.requires.process.runs _ (ap next_of c.requires.process.state ∙ (laws.acts c.args.process.now ∙ c.requires.next.1))
     (λ p. subst (λ (z : Proc). GoesOn z (seen.Words p)) (sym c.requires.process.state) (laws.courses c.args.process.now (seen.Words p) c.requires.next.0 (rw c.requires.next.1 tt)))
+
+pub returns-clause-takes : goal.returns-clause-takes
+returns-clause-takes g c = let told = c.get_into.ensures.told.1 in (told.0, c.took_words.ensures told.0 told.1)
