@@ -86,16 +86,18 @@ fn fill<R: Wait>(rt: &R, index: &Index, pass: &mut Pass, place: u64, load: Load)
     done
 }
 
-// Searches for rows. Returns how many were found.
-fn search<R: Wait>(rt: &R, index: &Index, pass: &mut Pass, place: u64, load: Load) -> u64
+// Searches for rows, which retires nothing, so that no sweep follows. Returns how many were found.
+fn search(index: &Index, pass: &mut Pass, place: u64, load: Load) -> u64
     requires { IsPassOf index.now pass.old }
     ensures { IsPassOf index.now pass.new }
 {
+    let turns = index.patience();
     let mut done = 0u64;
     let mut seed = place;
     for _round in 0..load.finds {
         seed = after(seed);
-        if let Reply::Found(_) = find(rt, index, pass, key_of(row_of(seed, load.rows))) {
+        let key = key_of(row_of(seed, load.rows));
+        if let Ok(Reply::Found(_)) = index.find(pass, key, turns) {
             done = done.wrapping_add(1);
         }
     }
@@ -146,7 +148,7 @@ fn run<R: Threads + Wait + Sync>(
             let place = place as u64;
             let mine = match part {
                 Part::Rows => fill(rt, index, pass, place, load),
-                Part::Finds => search(rt, index, pass, place, load),
+                Part::Finds => search(index, pass, place, load),
                 Part::Mixed => mix(rt, index, pass, place, load),
             };
             done.fetch_add(mine, Ordering::SeqCst);
