@@ -113,7 +113,7 @@ fn levels_processes_and_pages_that_are_bad(rt: HostRuntime) -> Result<(), Fail> 
     ];
     assert!(rt; are_bad(&rt, &lines)?);
     // processes that no world has yet
-    let kinds: [&[u8]; 3] = [b"part 5\n", b"compress 1 5\n", b"reclaim 1\n"];
+    let kinds: [&[u8]; 2] = [b"compress 1 5\n", b"reclaim 1\n"];
     assert!(rt; are_bad(&rt, &kinds)?);
     // before any process
     assert!(rt; is_bad_at(&rt, b"pages 4\nturn 1\nfind 5\n", 2));
