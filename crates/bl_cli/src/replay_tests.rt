@@ -73,13 +73,14 @@ fn words_and_numbers_that_are_bad(rt: HostRuntime) -> Result<(), Fail> {
         b"find 5\r\n",
     ];
     assert!(rt; are_bad(&rt, &words)?);
-    let numbers: [&[u8]; 8] = [
+    let numbers: [&[u8]; 9] = [
         b"find\n",
         b"find 05\n",
         b"find -5\n",
         b"find 18446744073709551616\n",
         b"insert 5\n",
         b"delete 5 50\n",
+        b"part\n",
         b"post 1\n",
         b"run 1\n",
     ];
@@ -113,7 +114,7 @@ fn levels_processes_and_pages_that_are_bad(rt: HostRuntime) -> Result<(), Fail> 
     ];
     assert!(rt; are_bad(&rt, &lines)?);
     // processes that no world has yet
-    let kinds: [&[u8]; 3] = [b"part 5\n", b"compress 1 5\n", b"reclaim 1\n"];
+    let kinds: [&[u8]; 2] = [b"compress 1 5\n", b"reclaim 1\n"];
     assert!(rt; are_bad(&rt, &kinds)?);
     // before any process
     assert!(rt; is_bad_at(&rt, b"pages 4\nturn 1\nfind 5\n", 2));

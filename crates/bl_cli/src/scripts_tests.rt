@@ -244,3 +244,75 @@ fn no_page_is_released(rt: HostRuntime) -> Result<(), Fail> {
     assert!(rt; prints_posted(alloc, 4, lines.as_str(), more.as_str())?);
     Ok(())
 }
+
+#[test]
+fn a_part_at_the_greatest_key(rt: HostRuntime) {
+    assert!(rt;
+        prints(
+            rt.alloc(),
+            "pages 8\ninsert 18446744073709551615 1\npart 18446744073709551615\nrun 1 9\nrun 2 9\n",
+            "1 begin\n1 get 0\n1 latch 1\n1 get 1\n1 put 1\n1 open 1\n1 end\n1 answer inserted\n2 begin\n2 get 0\n2 get 1\n2 end\n2 answer rows 18446744073709551615=1 end\n"
+        )
+    );
+}
+
+/// The second part begins where the first one ended.
+#[test]
+fn parts_of_two_leaves(rt: HostRuntime) -> Result<(), Fail> {
+    assert!(rt;
+        prints_posted(
+            rt.alloc(),
+            8,
+            "part 7\nrun 17 9\npart 9\nrun 18 9\n",
+            "17 begin\n17 get 0\n17 get 3\n17 get 1\n17 end\n17 answer rows 7=70 8=80 more 9\n18 begin\n18 get 0\n18 get 3\n18 get 2\n18 end\n18 answer rows 9=90 10=100 11=110 12=120 13=130 14=140 15=150 end\n"
+        )?
+    );
+    Ok(())
+}
+
+/// What a deletion prints that is alone, below page 3 in page 2, without its value.
+const DELETION_BELOW: [&str; 9] = [
+    "begin",
+    "get 0",
+    "get 3",
+    "latch 2",
+    "get 2",
+    "put 2",
+    "open 2",
+    "end",
+    "answer deleted",
+];
+
+/// The lines of a script that delete the keys 9 to 15, one after the other, and what they print. They empty page 2.
+fn emptied(alloc: Global) -> Result<(String, String), Fail> {
+    let mut lines = String::new(alloc);
+    let mut wanted = String::new(alloc);
+    for key in 9..16u64 {
+        let process = key + 8;
+        let value = 10 * key;
+        let line = format!(in alloc; "delete {key}\nrun {process} 9\n")?;
+        lines.push_str(line.as_str())?;
+        let mut end = "";
+        for act in DELETION_BELOW {
+            let line = format!(in alloc; "{end}{process} {act}")?;
+            wanted.push_str(line.as_str())?;
+            end = "\n";
+        }
+        let line = format!(in alloc; " {value}\n")?;
+        wanted.push_str(line.as_str())?;
+    }
+    Ok((lines, wanted))
+}
+
+/// A part at the last key of a leaf, one at the leaf behind it, which is empty, and one past all keys that were there.
+#[test]
+fn parts_up_to_an_emptied_leaf(rt: HostRuntime) -> Result<(), Fail> {
+    let alloc = rt.alloc();
+    let (mut lines, mut more) = emptied(alloc)?;
+    lines.push_str("part 8\nrun 24 9\npart 9\nrun 25 9\npart 16\nrun 26 9\n")?;
+    more.push_str(
+        "24 begin\n24 get 0\n24 get 3\n24 get 1\n24 end\n24 answer rows 8=80 more 9\n25 begin\n25 get 0\n25 get 3\n25 get 2\n25 end\n25 answer rows end\n26 begin\n26 get 0\n26 get 3\n26 get 2\n26 end\n26 answer rows end\n",
+    )?;
+    assert!(rt; prints_posted(alloc, 8, lines.as_str(), more.as_str())?);
+    Ok(())
+}

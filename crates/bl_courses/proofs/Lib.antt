@@ -2,13 +2,16 @@ pub mod Onwards
 pub mod Cases
 pub mod Searches
 pub mod Rows
+pub mod Listings
 pub mod Pages
 pub mod Ways
 pub mod Changes
 pub mod Growths
+pub mod Parts
 pub mod Leaves
 pub mod Insertions
 pub mod Deletions
 pub mod Posts
 pub mod Following
 pub mod PostsFollowing
+pub mod PartsFollowing

@@ -1,5 +1,5 @@
 -- A search goes on, and in one way.
-use Rattle.std.proofs.Common.{ℕ, ◌≡◌, Option, None, ap, refl, inl, inr, subst}
+use Rattle.std.proofs.Common.{ℕ, ◌≡◌, Option, None, ap, sym, ◌∙◌, refl, inl, inr, subst}
 use Rattle.bl_page.specs.declared.page.Page.{Page}
 use Rattle.bl_laws.specs.Pages.{node_of, roots_of}
 use Rattle.bl_ways.specs.declared.acts.Seen.{Seen}
@@ -9,7 +9,7 @@ use Rattle.bl_ways.specs.declared.onwards.Onward.TheVariants.{Again, Right, Down
 use Rattle.bl_ways.specs.Given.{Gives}
 use Rattle.bl_ways.specs.Onwards.{top_of, Leads}
 use Rattle.bl_proc.specs.declared.kinds.Proc.{Proc}
-use Rattle.bl_proc.specs.declared.kinds.Proc.TheVariants.{Find, Insert, Delete, Post}
+use Rattle.bl_proc.specs.declared.kinds.Proc.TheVariants.{Find, Insert, Delete, Post, Part}
 use Rattle.bl_proc.specs.declared.searching.Find.{Find as FindState}
 use Rattle.bl_proc.specs.declared.searching.FindStage.{FindStage}
 use Rattle.bl_proc.specs.declared.searching.FindStage.TheVariants.{New, AtAnchor, At, Ending, Over}
@@ -79,6 +79,10 @@ module _ (key x : ℕ) (c : Page) where
   at_goes (Down y) a = record { new = At y; goes = inr a; only = down_only y a }
   at_goes Here a = record { new = Ending ((node_of c).look key); goes = (a, refl); only = here_only a }
 
+-- the way from a page is one
+pub way_one : (key x : ℕ) (c : Page) (a b : FindStage) → FindGoes key (At x) (seen.Words c) a → FindGoes key (At x) (seen.Words c) b → a ≡ b
+way_one key x c a b s t = (let o = leads_some c key 0 in let g = at_goes key x c o.0 o.1 in g.only a s ∙ sym (g.only b t))
+
 stage_goes : (key : ℕ) (old : FindStage) (what : Seen) → find_answer_in old ≡ None → Gives (find_next_in old) None what → Goes key old what
 stage_goes key New seen.Done a g = record { new = AtAnchor; goes = tt; only = new_only key }
 stage_goes key New (seen.Words c) a g = absurd g
@@ -121,6 +125,7 @@ find_only old what g (Find f) t = (let e = g.only f.stage (subst (λ k. FindGoes
 find_only old what g (Insert f) t = absurd t
 find_only old what g (Delete f) t = absurd t
 find_only old what g (Post f) t = absurd t
+find_only old what g (Part f) t = absurd t
 
 pub find_goes : (old : FindState) (what : Seen) → find_answer_in old.stage ≡ None → Gives (find_next_in old.stage) None what → GoesOn (Find old) what
 find_goes old what running given =

@@ -71,6 +71,7 @@ frames_of (proc.Find p) = 0
 frames_of (proc.Insert p) = insert_frames p.stage
 frames_of (proc.Delete p) = delete_frames p.stage
 frames_of (proc.Post p) = post_frames p.stage
+frames_of (proc.Part p) = 0
 
 -- the operation that a process carries out, if it has one
 abbrev pub op_of : Proc → Option Op
@@ -78,6 +79,7 @@ op_of (proc.Find p) = Some (op.Find p.key)
 op_of (proc.Insert p) = Some (op.Insert p.key p.value)
 op_of (proc.Delete p) = Some (op.Delete p.key)
 op_of (proc.Post p) = None
+op_of (proc.Part p) = Some (op.Part p.from)
 
 -- the level and the key of a post
 abbrev pub work_of : Proc → Option (ℕ × ℕ)
@@ -85,6 +87,7 @@ work_of (proc.Find p) = None
 work_of (proc.Insert p) = None
 work_of (proc.Delete p) = None
 work_of (proc.Post p) = Some (p.level, p.key)
+work_of (proc.Part p) = None
 
 -- A process that has so many frames: a put asks for one where it has none, and a take for a page and two frames. No kind
 -- retires, looks or releases.

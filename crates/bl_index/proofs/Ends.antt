@@ -3,6 +3,7 @@ use Rattle.std.proofs.Common.{ℕ, ◌≡◌, ◌≢◌, ◌+◌, ◌++◌, Opti
 use Rattle.bl_model.specs.declared.operation.Op.{Op as Operation}
 use Rattle.bl_model.specs.declared.operation.Op.TheVariants as op
 use Rattle.bl_model.specs.declared.operation.Reply.{Reply}
+use Rattle.bl_model.specs.declared.operation.Reply.TheVariants.{Rows}
 use Rattle.bl_page.specs.declared.page.Page.{Page}
 use Rattle.bl_trails.specs.Trails.{Said}
 use Rattle.bl_ways.specs.declared.acts.Action.TheVariants as act
@@ -26,13 +27,17 @@ use Rattle.bl_proc.specs.declared.deleting.DeleteReply.{DeleteReply}
 use Rattle.bl_proc.specs.declared.deleting.DeleteReply.TheVariants as deleted
 use Rattle.bl_proc.specs.declared.searching.FindStage.{FindStage}
 use Rattle.bl_proc.specs.declared.searching.FindStage.TheVariants as find
+use Rattle.bl_proc.specs.declared.parts.PartRows.{PartRows}
+use Rattle.bl_proc.specs.declared.parts.PartStage.{PartStage}
+use Rattle.bl_proc.specs.declared.parts.PartStage.TheVariants as part
 use Rattle.bl_proc.specs.declared.kinds.Proc.{Proc}
 use Rattle.bl_proc.specs.declared.kinds.Proc.TheVariants as proc
 use Rattle.bl_proc.specs.Inserts.{inserted_answer, insert_next_in, insert_answer_in, InsertGoes}
 use Rattle.bl_proc.specs.Deletes.{deleted_answer, delete_next_in, delete_answer_in, DeleteGoes}
 use Rattle.bl_proc.specs.Searches.{found_answer, find_next_in, find_answer_in, FindGoes}
+use Rattle.bl_proc.specs.Parts.{part_next_in, part_answer_in, PartGoes}
 use Rattle.bl_proc.specs.Processes.{next_of, answer_of, Takes}
-use Rattle.bl_tables.specs.Knowing.{Run, bare as know, know_of, inserted_reply, deleted_reply, found_reply, know_find, know_insert, know_delete, find_end, insert_end, delete_end, end_of_proc}
+use Rattle.bl_tables.specs.Knowing.{Run, bare as know, know_of, inserted_reply, deleted_reply, found_reply, know_find, know_part, know_insert, know_delete, find_end, part_end, insert_end, delete_end, end_of_proc}
 use Rattle.bl_courses.specs.Frames.{op_of}
 use Rattle.bl_passes.specs.declared.known.Mine.{Mine}
 use Rattle.bl_passes.specs.Noting.{trail_of}
@@ -121,6 +126,26 @@ find_ends key (find.Ending v) (find.Over u) reply hint e t h =
     let is : found_reply v ≡ reply = ap found_reply (sym t) ∙ find_reply_said u reply hint some in
     (ap (λ (z : Reply). Some z) is, ap (λ (z : Reply). Some (record { op = op.Find key; reply = z })) is)
 
+same_reply : (a b : Reply) (hint other : Option Hint) → Op a hint ≡ Op b other → a ≡ b
+same_reply a b hint other e = cc
+
+abbrev rows_of : PartRows → Reply
+rows_of r = Rows r.rows r.next
+
+part_ends : (from : ℕ) (a b : PartStage) (reply : Reply) (hint : Option Hint) → part_next_in a ≡ act.End → PartGoes from a seen.Done b → part_answer_in b ≡ Some (Op reply hint) → (part_end a ≡ Some reply) × ((know_part from a).said ≡ Some (record { op = op.Part from; reply = reply }))
+part_ends from part.New b reply hint e t h = cc
+part_ends from part.AtAnchor b reply hint e t h = cc
+part_ends from (part.At x) b reply hint e t h = cc
+part_ends from (part.Over r) b reply hint e t h = absurd t
+part_ends from (part.Ending r) part.New reply hint e t h = absurd t
+part_ends from (part.Ending r) part.AtAnchor reply hint e t h = absurd t
+part_ends from (part.Ending r) (part.At x) reply hint e t h = absurd t
+part_ends from (part.Ending r) (part.Ending q) reply hint e t h = absurd t
+part_ends from (part.Ending r) (part.Over q) reply hint e t h =
+    let some : Op (rows_of q) None ≡ Op reply hint = some_one h in
+    let is : rows_of r ≡ reply = ap rows_of (sym t) ∙ same_reply _ _ _ _ some in
+    (ap (λ (z : Reply). Some z) is, ap (λ (z : Reply). Some (record { op = op.Part from; reply = z })) is)
+
 -- what a process that ended with this answer had said
 pub record Says (before : Proc) (o : Operation) (reply : Reply) : Type 0 where
   pub end : end_of_proc before ≡ Some reply
@@ -151,6 +176,15 @@ end_says (proc.Delete p) (proc.Post q) o reply hint i e t h = absurd t
 end_says (proc.Post p) (proc.Find q) o reply hint i e t h = absurd t
 end_says (proc.Post p) (proc.Insert q) o reply hint i e t h = absurd t
 end_says (proc.Post p) (proc.Delete q) o reply hint i e t h = absurd t
+end_says (proc.Find p) (proc.Part q) o reply hint i e t h = absurd t
+end_says (proc.Insert p) (proc.Part q) o reply hint i e t h = absurd t
+end_says (proc.Delete p) (proc.Part q) o reply hint i e t h = absurd t
+end_says (proc.Post p) (proc.Part q) o reply hint i e t h = absurd t
+end_says (proc.Part p) (proc.Find q) o reply hint i e t h = absurd t
+end_says (proc.Part p) (proc.Insert q) o reply hint i e t h = absurd t
+end_says (proc.Part p) (proc.Delete q) o reply hint i e t h = absurd t
+end_says (proc.Part p) (proc.Post q) o reply hint i e t h = absurd t
+end_says (proc.Part p) (proc.Part q) o reply hint i e t h = (let s = part_ends p.from p.stage q.stage reply hint e t.1 h in says_of (proc.Part p) o (op.Part p.from) reply s.0 (λ got child. s.1) i)
 end_says (proc.Post p) (proc.Post q) o reply hint i e t h = cc
 
 pub op_answered : (pass : ℕ) (old e : Mine) (first last : Proc) (o : Operation) (reply : Reply) (hint : Option Hint) → IsDone pass old e first last → op_of first ≡ Some o → answer_of last ≡ Some (Op reply hint) → Answers pass o reply (trail_of old.trail) (trail_of e.trail)
@@ -206,6 +240,17 @@ find_has key (find.Ending v) (find.Ending u) e t = absurd t
 find_has key (find.Ending v) (find.Over (Some u)) e t = tt
 find_has key (find.Ending v) (find.Over None) e t = tt
 
+part_has : (from : ℕ) (a b : PartStage) → part_next_in a ≡ act.End → PartGoes from a seen.Done b → IsOpAnswer (part_answer_in b)
+part_has from part.New b e t = cc
+part_has from part.AtAnchor b e t = cc
+part_has from (part.At x) b e t = cc
+part_has from (part.Over r) b e t = absurd t
+part_has from (part.Ending r) part.New e t = absurd t
+part_has from (part.Ending r) part.AtAnchor e t = absurd t
+part_has from (part.Ending r) (part.At x) e t = absurd t
+part_has from (part.Ending r) (part.Ending q) e t = absurd t
+part_has from (part.Ending r) (part.Over q) e t = tt
+
 end_has : (before last : Proc) (o : Operation) → op_of before ≡ Some o → next_of before ≡ act.End → Takes before seen.Done last → IsOpAnswer (answer_of last)
 end_has (proc.Find p) (proc.Find q) o i e t = find_has p.key p.stage q.stage e t.1
 end_has (proc.Find p) (proc.Insert q) o i e t = absurd t
@@ -222,6 +267,15 @@ end_has (proc.Delete p) (proc.Post q) o i e t = absurd t
 end_has (proc.Post p) (proc.Find q) o i e t = absurd t
 end_has (proc.Post p) (proc.Insert q) o i e t = absurd t
 end_has (proc.Post p) (proc.Delete q) o i e t = absurd t
+end_has (proc.Find p) (proc.Part q) o i e t = absurd t
+end_has (proc.Insert p) (proc.Part q) o i e t = absurd t
+end_has (proc.Delete p) (proc.Part q) o i e t = absurd t
+end_has (proc.Post p) (proc.Part q) o i e t = absurd t
+end_has (proc.Part p) (proc.Find q) o i e t = absurd t
+end_has (proc.Part p) (proc.Insert q) o i e t = absurd t
+end_has (proc.Part p) (proc.Delete q) o i e t = absurd t
+end_has (proc.Part p) (proc.Post q) o i e t = absurd t
+end_has (proc.Part p) (proc.Part q) o i e t = part_has p.from p.stage q.stage e t.1
 end_has (proc.Post p) (proc.Post q) o i e t = cc
 
 pub op_has_answer : (pass : ℕ) (old e : Mine) (first last : Proc) (o : Operation) → IsDone pass old e first last → op_of first ≡ Some o → (answer : Option Answer) → answer ≡ answer_of last → IsOpAnswer answer

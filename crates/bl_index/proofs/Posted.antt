@@ -108,9 +108,11 @@ posting (proc.Post p) (proc.Post q) level key is e t = record { old = p; new = q
 posting (proc.Post p) (proc.Find q) level key is e t = absurd t
 posting (proc.Post p) (proc.Insert q) level key is e t = absurd t
 posting (proc.Post p) (proc.Delete q) level key is e t = absurd t
+posting (proc.Post p) (proc.Part q) level key is e t = absurd t
 posting (proc.Find p) last level key is e t = absurd (let z = is in cc)
 posting (proc.Insert p) last level key is e t = absurd (let z = is in cc)
 posting (proc.Delete p) last level key is e t = absurd (let z = is in cc)
+posting (proc.Part p) last level key is e t = absurd (let z = is in cc)
 
 pub post_has_answer : (pass : ℕ) (old e : Mine) (first last : Proc) (level key : ℕ) → IsDone pass old e first last → work_of first ≡ Some (level, key) → (what : Option Answer) → what ≡ answer_of last → IsPostAnswer what
 post_has_answer pass old e first last level key d is what a =

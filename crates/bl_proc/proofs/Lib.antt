@@ -1,3 +1,4 @@
 pub mod Arrivals
 pub mod Named
+pub mod Rising
 mod Examples

@@ -1,4 +1,5 @@
 pub mod Searches
+pub mod Parts
 pub mod Inserts
 pub mod Deletes
 pub mod Posts

@@ -4,21 +4,24 @@ use Rattle.bl_ways.specs.declared.acts.Action.{Action}
 use Rattle.bl_ways.specs.declared.acts.Seen.{Seen}
 use Rattle.bl_ways.specs.declared.answers.Answer.{Answer}
 use Rattle.bl_proc.specs.declared.kinds.Proc.{Proc}
-use Rattle.bl_proc.specs.declared.kinds.Proc.TheVariants.{Find, Insert, Delete, Post}
+use Rattle.bl_proc.specs.declared.kinds.Proc.TheVariants.{Find, Insert, Delete, Post, Part}
 use Rattle.bl_proc.specs.declared.searching.FindStage.TheVariants as find
 use Rattle.bl_proc.specs.declared.inserting.InsertStage.TheVariants as insert
 use Rattle.bl_proc.specs.declared.deleting.DeleteStage.TheVariants as delete
 use Rattle.bl_proc.specs.declared.posting.PostStage.TheVariants as post
+use Rattle.bl_proc.specs.declared.parts.PartStage.TheVariants as part
 use Rattle.bl_proc.specs.Searches.{find_next, find_needs, find_answer, FindTakes}
 use Rattle.bl_proc.specs.Inserts.{insert_next, insert_needs, insert_answer, InsertTakes}
 use Rattle.bl_proc.specs.Deletes.{delete_next, delete_needs, delete_answer, DeleteTakes}
 use Rattle.bl_proc.specs.Posts.{post_next, post_needs, post_answer, PostTakes}
+use Rattle.bl_proc.specs.Parts.{part_next, part_needs, part_answer, PartTakes}
 
 abbrev pub next_of : Proc → Action
 next_of (Find p) = find_next p
 next_of (Insert p) = insert_next p
 next_of (Delete p) = delete_next p
 next_of (Post p) = post_next p
+next_of (Part p) = part_next p
 
 -- pages and frames
 abbrev pub needs_of : Proc → Option (ℕ × ℕ)
@@ -26,18 +29,21 @@ needs_of (Find p) = find_needs p
 needs_of (Insert p) = insert_needs p
 needs_of (Delete p) = delete_needs p
 needs_of (Post p) = post_needs p
+needs_of (Part p) = part_needs p
 
 abbrev pub answer_of : Proc → Option Answer
 answer_of (Find p) = find_answer p
 answer_of (Insert p) = insert_answer p
 answer_of (Delete p) = delete_answer p
 answer_of (Post p) = post_answer p
+answer_of (Part p) = part_answer p
 
 abbrev pub Takes : Proc → Seen → Proc → Type 0
 Takes (Find old) what (Find new) = FindTakes old what new
 Takes (Insert old) what (Insert new) = InsertTakes old what new
 Takes (Delete old) what (Delete new) = DeleteTakes old what new
 Takes (Post old) what (Post new) = PostTakes old what new
+Takes (Part old) what (Part new) = PartTakes old what new
 Takes old what new = ⊥
 
 -- Processes that are to begin.
@@ -57,3 +63,7 @@ IsDelete key p = ⊥
 abbrev pub IsPost : ℕ → ℕ → Proc → Type 0
 IsPost level key (Post p) = (p.level ≡ level) × (p.key ≡ key) × (p.stage ≡ post.New)
 IsPost level key p = ⊥
+
+abbrev pub IsPart : ℕ → Proc → Type 0
+IsPart from (Part p) = (p.from ≡ from) × (p.stage ≡ part.New)
+IsPart from p = ⊥

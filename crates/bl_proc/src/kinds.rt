@@ -2,10 +2,11 @@
 
 ghost use Rattle.std.specs.Prelude.{◌≡◌, ◌<◌, ◌≤◌};
 ghost use Rattle.bl_ways.specs.declared.acts.Action.TheVariants as act;
-ghost use Rattle.bl_proc.specs.Processes.{next_of, needs_of, answer_of, Takes, IsFind, IsInsert, IsDelete, IsPost};
+ghost use Rattle.bl_proc.specs.Processes.{next_of, needs_of, answer_of, Takes, IsFind, IsInsert, IsDelete, IsPost, IsPart};
 
 use crate::deleting::Delete;
 use crate::inserting::Insert;
+use crate::parts::Part;
 use crate::posting::Post;
 use crate::searching::Find;
 use bl_ways::{Action, Answer, Process, Seen};
@@ -21,6 +22,8 @@ pub enum Proc {
     Delete(Delete),
     /// Lists a child in its parent.
     Post(Post),
+    /// Lists pairs from a key on.
+    Part(Part),
 }
 
 impl Proc {
@@ -57,6 +60,14 @@ impl Proc {
     {
         Proc::Post(Post::new(level, key))
     }
+
+    /// A process that is to list pairs from the key on.
+    pub fn part(from: u64) -> Proc
+        ensures made { IsPart from result }
+        ensures begins { next_of result ≡ act.Begin }
+    {
+        Proc::Part(Part::new(from))
+    }
 }
 
 impl Process for Proc {
@@ -74,6 +85,7 @@ impl Process for Proc {
             Proc::Insert(process) => process.next(),
             Proc::Delete(process) => process.next(),
             Proc::Post(process) => process.next(),
+            Proc::Part(process) => process.next(),
         }
     }
 
@@ -83,6 +95,7 @@ impl Process for Proc {
             Proc::Insert(process) => process.needs(),
             Proc::Delete(process) => process.needs(),
             Proc::Post(process) => process.needs(),
+            Proc::Part(process) => process.needs(),
         }
     }
 
@@ -92,6 +105,7 @@ impl Process for Proc {
             Proc::Insert(process) => process.answer(),
             Proc::Delete(process) => process.answer(),
             Proc::Post(process) => process.answer(),
+            Proc::Part(process) => process.answer(),
         }
     }
 
@@ -101,6 +115,7 @@ impl Process for Proc {
             Proc::Insert(process) => process.took(seen),
             Proc::Delete(process) => process.took(seen),
             Proc::Post(process) => process.took(seen),
+            Proc::Part(process) => process.took(seen),
         }
     }
 }

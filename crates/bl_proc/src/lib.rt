@@ -10,6 +10,7 @@
 mod deleting;
 mod inserting;
 mod kinds;
+mod parts;
 mod posting;
 mod posts;
 mod searching;
@@ -18,6 +19,7 @@ pub use bl_ways::{Action, Answer, Hint, Posted, Process, Seen};
 pub use deleting::{Delete, DeleteReply, DeleteStage};
 pub use inserting::{Insert, InsertReply, InsertStage};
 pub use kinds::Proc;
+pub use parts::{Part, PartRows, PartStage};
 pub use posting::{Post, PostReply, PostStage, Walk};
 pub use searching::{Find, FindStage};
 

@@ -1,7 +1,8 @@
 //! Processes that run alone, one event after the other, over plain pages.
 
 use crate::{Action, Answer, Hint, Post, Posted, Proc, Process, Seen};
-use bl_model::Reply;
+use arrayvec::ArrayVec;
+use bl_model::{Next, Reply};
 use bl_page::{Page, from_words};
 use std::alloc::Global;
 use std::test::Fail;
@@ -414,5 +415,56 @@ fn posts_with_nothing_to_list(rt: HostRuntime) -> Result<(), Fail> {
     let mut post = Proc::post(12, 9);
     tall.run(rt.alloc(), &mut post, 99)?;
     assert!(rt; post.answer() == Some(Answer::Post(Posted::TooTall, None)));
+    Ok(())
+}
+
+/// What a part answers.
+fn part_answer(rows: &[(u64, u64)], next: Next) -> Option<Answer> {
+    let mut listed = ArrayVec::new();
+    for row in rows {
+        if !listed.is_full() {
+            listed.push(*row);
+        }
+    }
+    plain(Reply::Rows(listed, next))
+}
+
+#[test]
+fn a_part_at_the_greatest_key(rt: HostRuntime) -> Result<(), Fail> {
+    let mut tree = opening(rt.alloc())?;
+    let mut insert = Proc::insert(18446744073709551615, 1);
+    tree.run(rt.alloc(), &mut insert, 99)?;
+    let mut part = Proc::part(18446744073709551615);
+    let events = tree.run(rt.alloc(), &mut part, 99)?;
+    assert!(rt; are(&events, &[Did::Begin, Did::Get(0), Did::Get(1), Did::End]));
+    assert!(rt; part.answer() == part_answer(&[(18446744073709551615, 1)], Next::End));
+    Ok(())
+}
+
+#[test]
+fn parts_at_the_end_of_a_leaf_and_past_the_last_key(rt: HostRuntime) -> Result<(), Fail> {
+    let (mut tree, _, _) = posted(rt.alloc())?;
+    for key in 9..16 {
+        let mut delete = Proc::delete(key);
+        tree.run(rt.alloc(), &mut delete, 99)?;
+    }
+    let mut part = Proc::part(8);
+    let events = tree.run(rt.alloc(), &mut part, 99)?;
+    assert!(rt;
+        are(
+            &events,
+            &[Did::Begin, Did::Get(0), Did::Get(3), Did::Get(1), Did::End]
+        )
+    );
+    assert!(rt; part.answer() == part_answer(&[(8, 80)], Next::More(9)));
+    let mut part = Proc::part(9);
+    let events = tree.run(rt.alloc(), &mut part, 99)?;
+    assert!(rt;
+        are(
+            &events,
+            &[Did::Begin, Did::Get(0), Did::Get(3), Did::Get(2), Did::End]
+        )
+    );
+    assert!(rt; part.answer() == part_answer(&[], Next::End));
     Ok(())
 }

@@ -74,6 +74,7 @@ Living-puts know w w' p x c said b s =
       places = s.owes.places;
       point = s.owes.point;
       maps = s.owes.maps;
+      bounded = s.owes.bounded;
       own = s.owes.own;
     }
 

@@ -96,6 +96,7 @@ PutsRelisted-keeps know w w' p parent x y e c b s g =
       places = s.owes.places;
       point = s.owes.point;
       maps = s.owes.maps;
+      bounded = s.owes.bounded;
       own = s.owes.own;
     }) g
 
@@ -150,5 +151,6 @@ PutsDead-keeps know w w' p parent x y c b m g =
       places = s.owes.places;
       point = s.owes.point;
       maps = s.owes.maps;
+      bounded = s.owes.bounded;
       own = s.owes.own;
     }) g

@@ -1,5 +1,5 @@
 -- What a script prints: the text of its commands, one after the other, on what stands in a world.
-use Rattle.std.specs.Prelude.{◌≡◌, ◌⊎◌, ℕ, ◌+◌, ◌≤◌, Option, Some, None, List, [], ◌∷◌, ◌++◌, false, slice_get}
+use Rattle.std.specs.Prelude.{◌≡◌, ◌⊎◌, ℕ, ◌+◌, ◌≤◌, Option, Some, None, List, [], ◌∷◌, ◌++◌, true, false, slice_get}
 use Rattle.bl_model.specs.declared.operation.Op.TheVariants as op
 use Rattle.bl_script.specs.declared.command.Start.{Start}
 use Rattle.bl_script.specs.declared.command.Start.TheVariants as start
@@ -10,7 +10,7 @@ use Rattle.bl_script.specs.Commands.{IsPageCount}
 use Rattle.bl_script.specs.Scripts.{AllStand}
 use Rattle.bl_ways.specs.declared.answers.Answer.{Answer}
 use Rattle.bl_proc.specs.declared.kinds.Proc.{Proc}
-use Rattle.bl_proc.specs.Processes.{answer_of, IsFind, IsInsert, IsDelete, IsPost}
+use Rattle.bl_proc.specs.Processes.{answer_of, IsFind, IsInsert, IsDelete, IsPost, IsPart}
 use Rattle.bl_world.specs.declared.turns.Event.{Event}
 use Rattle.bl_world.specs.declared.turns.Turn.{Turn}
 use Rattle.bl_world.specs.declared.turns.Turn.TheVariants as turn
@@ -56,12 +56,12 @@ pub data PrintsTurns (number : ℕ) (v : View) : ℕ → List ℕ → View → T
   More : (count : ℕ) (text more : List ℕ) (mid v' : View) → PrintsTurns number v count text mid → HasAnswer mid number None → PrintsChosen mid number None more v'
       → PrintsTurns number v (count + 1) (text ++ more) v'
 
--- a process that a script starts, which is to begin; no world has the kinds part, compress and reclaim yet
+-- a process that a script starts, which is to begin; no world has the kinds compress and reclaim yet
 abbrev pub IsStart : Start → Proc → Type 0
 IsStart (start.Operation (op.Find key)) p = IsFind key p
 IsStart (start.Operation (op.Insert key value)) p = IsInsert key value p
 IsStart (start.Operation (op.Delete key)) p = IsDelete key p
-IsStart (start.Operation (op.Part from)) p = ⊥
+IsStart (start.Operation (op.Part from)) p = IsPart from p
 IsStart (start.Post level key) p = IsPost level key p
 IsStart (start.Compress level key) p = ⊥
 IsStart (start.Reclaim page) p = ⊥
@@ -93,9 +93,9 @@ PlaysOut pages commands text = (start : View) × (end : View) × IsOpening pages
 abbrev pub PlaysInto : ℕ → List Command → List ℕ → Type 0
 PlaysInto pages commands text = (text ≡ []) ⊎ ((start : View) × IsOpening pages start × BreaksOff start commands text)
 
--- searches, insertions, deletions and posts alone
+-- searches, insertions, deletions, posts and parts alone
 abbrev pub few : Kinds
-few = record { part = false; compress = false; reclaim = false }
+few = record { part = true; compress = false; reclaim = false }
 
 -- A script as it is read: each of its commands may stand where it does.
 abbrev pub MayPlay : ℕ → List Command → Type 0

@@ -32,8 +32,8 @@ fn process_of(start: Start) -> Proc
         Start::Operation(Op::Insert(key, value)) => Proc::insert(key, value),
         Start::Operation(Op::Delete(key)) => Proc::delete(key),
         Start::Post { level, key } => Proc::post(level, key),
-        Start::Operation(Op::Part(_)) | Start::Compress { .. } | Start::Reclaim(_) =>
-            unreachable!(),
+        Start::Operation(Op::Part(from)) => Proc::part(from),
+        Start::Compress { .. } | Start::Reclaim(_) => unreachable!(),
     }
 }
 

@@ -21,7 +21,7 @@ use std::io::Write;
 
 /// The kinds of process that a script may start, beside searches, insertions, deletions and posts.
 pub const PLAYED: Kinds = Kinds {
-    part: false,
+    part: true,
     compress: false,
     reclaim: false,
 };

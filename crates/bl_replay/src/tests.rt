@@ -83,6 +83,37 @@ fn takes_and_refusals(rt: HostRuntime) -> Result<(), Fail> {
     Ok(())
 }
 
+#[test]
+fn parts_at_the_end_of_a_leaf_and_past_the_last_key(rt: HostRuntime) -> Result<(), Fail> {
+    let alloc = rt.alloc();
+    let mut more = String::from_str(alloc, "post 1 9\n")?;
+    for process in 1..17 {
+        let line = format!(in alloc; "run {process} 20\n")?;
+        more.push_str(line.as_str())?;
+    }
+    for key in 9..16 {
+        let process = key + 8;
+        let line = format!(in alloc; "delete {key}\nrun {process} 20\n")?;
+        more.push_str(line.as_str())?;
+    }
+    more.push_str("part 8\npart 9\nrun 24 9\nrun 25 9\n")?;
+    let script = filled(alloc, more.as_str())?;
+    let wanted =
+        b"24 begin\n24 get 0\n24 get 3\n24 get 1\n24 end\n24 answer rows 8=80 more 9\n25 begin\n25 get 0\n25 get 3\n25 get 2\n25 end\n25 answer rows end\n";
+    assert!(rt; ends_with(alloc, script.as_str(), wanted)?);
+    Ok(())
+}
+
+#[test]
+fn a_part_at_the_greatest_key(rt: HostRuntime) -> Result<(), Fail> {
+    let text =
+        b"pages 8\ninsert 18446744073709551615 1\npart 18446744073709551615\nrun 1 9\nrun 2 9\n";
+    let wanted = b"2 begin\n2 get 0\n2 get 1\n2 end\n2 answer rows 18446744073709551615=1 end\n";
+    let found = printed(rt.alloc(), text)?;
+    assert!(rt; found.as_slice().ends_with(wanted));
+    Ok(())
+}
+
 /// Takes so many writes, and then fails.
 #[derive(Drop)]
 struct Failing {

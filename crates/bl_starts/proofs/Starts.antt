@@ -1,15 +1,17 @@
 -- A world in which nothing has happened is good.
-use Rattle.std.proofs.Common.{true, false, ℕ, ◌≡◌, ◌≢◌, ◌⊎◌, [], sym, ◌∙◌, inl, inr, ◌<◌, ◌==◌, Bool, None, arith, ap, refl}
+use Rattle.std.proofs.Common.{true, false, ℕ, ◌≡◌, ◌≢◌, ◌⊎◌, [], sym, ◌∙◌, inl, inr, ◌<◌, ◌==◌, Bool, Some, None, arith, ap, refl}
 use Rattle.bl_model.specs.declared.operation.Reply.{Reply}
 use Rattle.bl_page.specs.Machine.{Name, Act, Owner, State}
 use Rattle.bl_page.specs.Machine.Owner.{Released}
 use Rattle.bl_page.specs.Machine.Phase.{Waiting}
+use Rattle.bl_tree.specs.Nodes.{Node, Roots, unbounded}
 use Rattle.bl_tree.specs.Trees.{Status}
 use Rattle.bl_tree.specs.Trees.Status.{Free, Fresh, Live, Right, Gone, Anchored}
 use Rattle.bl_trails.specs.Trails.{DoesAt, SaysAt}
-use Rattle.bl_steps.specs.Worlds.{Know, World, IsSure, IsGood}
+use Rattle.bl_steps.specs.Worlds.{Know, World, IsSure, IsBounded, IsGood}
 use Rattle.bl_page.specs.declared.page.Page.{Page}
-use Rattle.std.proofs.lemmas.Bool.{cases_eq}
+use Rattle.std.proofs.lemmas.Bool.{cases_eq, cases_lt}
+use Rattle.std.proofs.lemmas.Bool.Decides.{nat_tests}
 use Rattle.bl_laws.specs.Pages.{node_of, roots_of}
 use Rattle.bl_laws.proofs.Opening.{empty_leaf, opens}
 use Rattle.bl_laws.specs.Starts.{AreSound, start_map}
@@ -72,6 +74,7 @@ starts_good know w s =
         map = rw s.trail s.map;
         since = λ p since h. (let e = s.waiting p in absurd cc);
       };
+      bounded = s.bounded;
       names = record {
         fresh = λ y h. (let e = not y Fresh h (λ v. cc) (λ v. cc) in absurd cc);
         named = λ y h f. elim (s.owned y) [ inl o ↦ (let e = o.0 in let k = f.held in cc) | inr o ↦ (let e = o.0 in let k = f.held in cc) ];
@@ -105,6 +108,7 @@ opening_good know now size proc wide o blank =
       waiting = o.waiting;
       tree = opens (λ x. node_of (now.contents x)) (roots_of (now.contents 0)) o.leaf o.levels o.leftmost;
       map = λ k. refl;
+      bounded = λ k v h. absurd (let e : None ≡ Some v = h in cc);
       owned = λ x. elim (cases_eq x 0) [
         | inl i ↦ inl (rw i o.anchor_open, inr (rw i refl))
         | inr i ↦ elim (cases_eq x 1) [
@@ -149,6 +153,12 @@ sound_world live now size proc = record {
   map = start_map (λ x. node_of (now.contents x)) (roots_of (now.contents 0));
 }
 
+map_bounded : (node : ℕ → Node) (roots : Roots) (l : ℕ) → IsBounded (start_map node roots l)
+map_bounded node roots l k v h = elim (cases_lt k unbounded) [
+  | inl j ↦ j
+  | inr j ↦ absurd (let e : start_map node roots l k ≡ None = grind (arith, nat_tests, j) in cc)
+]
+
 pub sound_good : {P : Type 0} (know : P → Know) (live : ℕ → Bool) (now : State Page) (size : ℕ) (proc : Name → P) → Sound live now size → ((p : Name) → IsBlank (know (proc p))) → IsGood know (sound_world live now size proc)
 sound_good know live now size proc o blank =
     let kinds : (x : ℕ) → (x ≡ 0) ⊎ (((x ≢ 0) × (live x ≡ true)) ⊎ ((x ≢ 0) × (live x ≡ false))) = λ x. elim (cases_eq x 0) [
@@ -162,6 +172,7 @@ sound_good know live now size proc o blank =
       waiting = o.waiting;
       tree = sound_tree live (λ x. node_of (now.contents x)) (roots_of (now.contents 0)) o.pages;
       map = λ k. refl;
+      bounded = map_bounded (λ x. node_of (now.contents x)) (roots_of (now.contents 0)) 0;
       owned = λ x. elim (kinds x) [
         | inl i ↦ inl (rw i o.anchor_open, inr (rw i refl))
         | inr r ↦ elim r [

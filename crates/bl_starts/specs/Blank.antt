@@ -6,7 +6,7 @@ use Rattle.bl_page.specs.Machine.Phase.{Waiting}
 use Rattle.bl_tree.specs.Nodes.{unbounded}
 use Rattle.bl_tree.specs.Trees.{IsTree}
 use Rattle.bl_tree.specs.Trees.Status.{Free, Live, Anchored}
-use Rattle.bl_steps.specs.Worlds.{Stage, Know, World, tree_of}
+use Rattle.bl_steps.specs.Worlds.{Stage, Know, World, tree_of, IsBounded}
 
 -- the process has done nothing, and has nothing
 pub record IsBlank (k : Know) : Type 0 where
@@ -26,6 +26,7 @@ pub record IsStart {P : Type 0} (know : P → Know) (w : World P) : Type 0 where
   pub waiting : (p : Name) → w.now.phase p ≡ Waiting
   pub tree : IsTree unbounded (tree_of w)
   pub map : (k : ℕ) → w.map 0 k ≡ w.first k
+  pub bounded : IsBounded (w.map 0)
   pub owned : (x : ℕ) → ((w.now.owner x ≡ Owner.Open) × ((w.status x ≡ Live) ⊎ (w.status x ≡ Anchored))) ⊎ ((w.now.owner x ≡ Released) × (w.status x ≡ Free))
   pub small : (x : ℕ) → w.status x ≢ Free → x < w.size
   pub one_anchor : (x : ℕ) → w.status x ≡ Anchored → x ≡ 0

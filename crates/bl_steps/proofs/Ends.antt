@@ -63,6 +63,7 @@ turns_keeps know w w' m b phase s g =
         one_anchor = λ x h. g.owned.one_anchor x (rw s.ghost.status at h);
       };
       recorded = s.recorded;
+      bounded = rw s.ghost.map g.bounded;
       names = names_step w w' m s.extends.trail (record {
         fresh = λ y h. inr (rw s.ghost.status at h, λ q e. s.owner y ∙ e, (s.no_take y).0, (s.no_take y).1, λ x c n e o. s.no_put x c e);
         not_taken = λ y h. (s.no_take y).0;

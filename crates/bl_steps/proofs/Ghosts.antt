@@ -100,6 +100,7 @@ still_keeps know w w' m b s say maps name owned own g =
       tree = same_tree w w' s.ghosts g.tree;
       owned = owned;
       recorded = record_inner w w' m b s.extends s.inner say maps g.recorded;
+      bounded = rw s.ghosts.map g.bounded;
       names = names_step w w' m s.extends.trail name g.names;
       gone = λ x h.
           let o : w.status x ≡ Gone = rw s.ghosts.status at h in

@@ -11,7 +11,7 @@ use Rattle.bl_tree.proofs.Statuses.{free_dead, fresh_dead, gone_dead, not_dead}
 use Rattle.bl_tree.proofs.Asides.{Aside-keeps}
 use Rattle.bl_laws.specs.Pages.{node_of, roots_of}
 use Rattle.bl_trails.specs.Trails.{Mark}
-use Rattle.bl_steps.specs.Worlds.{Know, World, nodes, tree_of, was_in, MapsTo, MayGet, IsSure, Holds, HasMiddle, IsGone, AreOwned, IsGood, Extends, silent}
+use Rattle.bl_steps.specs.Worlds.{Know, World, nodes, tree_of, was_in, MapsTo, MayGet, IsSure, Holds, HasMiddle, IsGone, AreOwned, IsBounded, IsGood, Extends, silent}
 use Rattle.bl_trails.proofs.Pushes.{MaySay}
 use Rattle.bl_steps.proofs.Frames.{Leaves, all_sure}
 use Rattle.bl_steps.proofs.Steady.{Steady, was_live, free_not, may_still, passed_still, gone_still}
@@ -21,11 +21,12 @@ use Rattle.bl_steps.proofs.Ghosts.{middles_step, held_step}
 use Rattle.bl_steps.proofs.Watches.{may_say}
 
 -- An inner event keeps the world good where it keeps each part of it.
-pub inner_keeps : {P : Type 0} (know : P → Know) (w w' : World P) (m : Mark) (b : P) → Extends w w' m b → IsInner m.event.act → IsTree unbounded (tree_of w') → AreOwned know w' → MaySay w.trail m → MapsTo (w.map 0) (w'.map 0) m.said → MayName w w' m → ((x : ℕ) → w'.status x ≡ Gone → IsGone w' x) → ((x y : ℕ) → w'.status y ≡ Right x → HasMiddle know w' x y) → Leaves w w' m.event.process → IsSure w' m.event.process (know b) → IsGood know w → IsGood know w'
-inner_keeps know w w' m b e i tree owned say maps name gone middles leaves own g = record {
+pub inner_keeps : {P : Type 0} (know : P → Know) (w w' : World P) (m : Mark) (b : P) → Extends w w' m b → IsInner m.event.act → IsTree unbounded (tree_of w') → AreOwned know w' → MaySay w.trail m → MapsTo (w.map 0) (w'.map 0) m.said → IsBounded (w'.map 0) → MayName w w' m → ((x : ℕ) → w'.status x ≡ Gone → IsGone w' x) → ((x y : ℕ) → w'.status y ≡ Right x → HasMiddle know w' x y) → Leaves w w' m.event.process → IsSure w' m.event.process (know b) → IsGood know w → IsGood know w'
+inner_keeps know w w' m b e i tree owned say maps bounded name gone middles leaves own g = record {
   tree = tree;
   owned = owned;
   recorded = record_inner w w' m b e i say maps g.recorded;
+  bounded = bounded;
   names = names_step w w' m e.trail name g.names;
   gone = gone;
   middles = middles;
@@ -92,6 +93,7 @@ Takes-keeps know w w' p x b s g =
     })
     (may_say know w (silent p (Take x)) inner (λ said h. cc) g)
     (λ k. ap (λ f. f 0 k) s.map)
+    (rw s.map g.bounded)
     (record {
       fresh = λ y h. elim (cases_eq y x) [
         | inl i ↦ inl (ap Take (sym i), ap w'.now.owner i ∙ owner.at)
@@ -195,6 +197,7 @@ Retires-keeps know w w' p x b s g =
     })
     (may_say know w (silent p (Retire x)) inner (λ said h. cc) g)
     (λ k. ap (λ f. f 0 k) s.map)
+    (rw s.map g.bounded)
     (record {
       fresh = λ y h.
           let f : w.status y ≡ Fresh = rw s.status at h in
@@ -295,6 +298,7 @@ Releases-keeps know w w' p x b s g =
     })
     (may_say know w (silent p (Release x)) inner (λ said h. cc) g)
     (λ k. ap (λ f. f 0 k) s.map)
+    (rw s.map g.bounded)
     (record {
       fresh = λ y h. let n = status_not y Fresh h (λ e. cc) in inr (sym (u.others y n) ∙ h, λ q e. back y n ∙ e, λ e. cc, λ e. cc, λ z c m e o. cc);
       not_taken = λ y h e. cc;

@@ -11,7 +11,7 @@ use Rattle.bl_tree.specs.Trees.{IsLive, IsTree}
 use Rattle.bl_tree.specs.Trees.Status.{Free, Fresh, Live, Right, Gone, Anchored}
 use Rattle.bl_laws.specs.Pages.{node_of}
 use Rattle.bl_trails.specs.Trails.{Said, HasSaid}
-use Rattle.bl_steps.specs.Worlds.{Child, Know, World, nodes, tree_of, was_in, MapsTo, IsRelied, IsSure, Holds, IsGood, Extends, put_mark}
+use Rattle.bl_steps.specs.Worlds.{Child, Know, World, nodes, tree_of, was_in, MapsTo, IsRelied, IsSure, Holds, IsBounded, IsGood, Extends, put_mark}
 use Rattle.bl_trails.proofs.Pushes.{name_cases}
 use Rattle.bl_steps.proofs.Steady.{Steady, was_live, may_still, passed_still, gone_still}
 use Rattle.bl_steps.proofs.Records.{IsInner}
@@ -54,6 +54,7 @@ pub record Puts {P : Type 0} (know : P → Know) (w w' : World P) (p : Name) (x 
   pub places : (y : ℕ) → Holds (know (w.proc p)).holds y → Holds (know b).holds y
   pub point : (s : Said) → said ≡ Some s → ((since : ℕ) × (w.now.phase p ≡ Running since)) × HasSaid w.trail p None
   pub maps : MapsTo (w.map 0) (w'.map 0) said
+  pub bounded : IsBounded (w'.map 0)
   pub own : IsSure w' p (know b)
 
 same_owner : (p q : Name) (o : Owner) → o ≡ Held p → o ≡ Held q → q ≡ p
@@ -104,6 +105,7 @@ Puts-keeps know w w' p x c said b s g =
     })
     (may_say know w m inner s.point g)
     s.maps
+    s.bounded
     (record {
       fresh = λ y h. inr (
         elim (mine p (w.now.owner y)) [ inl i ↦ (s.fresh y i h).0 | inr i ↦ sym (s.status y i) ∙ h ],

@@ -192,10 +192,15 @@ pub record AreNamed {P : Type 0} (w : World P) : Type 0 where
   pub fresh : (y : ℕ) → w.status y ≡ Fresh → IsFresh w.now w.trail y
   pub named : (y : ℕ) → IsLive (w.status y) → IsFresh w.now w.trail y → ⊥
 
+-- the map has no key above those that the tree may cover
+abbrev pub IsBounded : Map → Type 0
+IsBounded m = (k v : ℕ) → m k ≡ Some v → k < unbounded
+
 pub record IsGood {P : Type 0} (know : P → Know) (w : World P) : Type 0 where
   pub tree : IsTree unbounded (tree_of w)
   pub owned : AreOwned know w
   pub recorded : IsRecorded w
+  pub bounded : IsBounded (w.map 0)
   pub names : AreNamed w
   pub gone : (x : ℕ) → w.status x ≡ Gone → IsGone w x
   pub middles : (x y : ℕ) → w.status y ≡ Right x → HasMiddle know w x y

@@ -1,5 +1,5 @@
 -- A process changes one pair of a page that it holds: each of its turns keeps a world good.
-use Rattle.std.proofs.Common.{ℕ, ◌≡◌, ◌≢◌, ◌<◌, ◌++◌, false, Option, Some, None, List, [], ◌∷◌, length, ap, sym, ◌∙◌, refl, subst, inl, inr}
+use Rattle.std.proofs.Common.{ℕ, ◌≡◌, ◌≢◌, ◌<◌, ◌++◌, false, Option, Some, None, List, [], ◌∷◌, length, arith, ap, sym, ◌∙◌, refl, subst, inl, inr}
 use Rattle.std.proofs.lemmas.Bool.{cases_eq, false≢true}
 use Rattle.bl_page.specs.declared.page.Page.{Page}
 use Rattle.bl_page.specs.Machine.{Name, State, Act}
@@ -15,7 +15,7 @@ use Rattle.bl_tree.proofs.Statuses.{live_live, free_dead, fresh_dead}
 use Rattle.bl_laws.specs.Pages.{node_of}
 use Rattle.bl_trails.specs.Trails.{Said, Mark, HasSaid}
 use Rattle.bl_trails.proofs.Pushes.{HasSaid-silent, SaysAt-last}
-use Rattle.bl_steps.specs.Worlds.{Hold, Child, Stage, Know, World, nodes, MapsTo, IsHeld, IsRelied, IsSure, IsGood, silent, put_mark}
+use Rattle.bl_steps.specs.Worlds.{Hold, Child, Stage, Know, World, nodes, MapsTo, IsHeld, IsRelied, IsSure, IsBounded, IsGood, silent, put_mark}
 use Rattle.bl_steps.proofs.Frames.{Each-map}
 use Rattle.bl_steps.proofs.After.{after, Extends-after, put_at, is_put_at}
 use Rattle.bl_puts.proofs.Moves.{PutsFresh-keeps, PutsRow-keeps, PutsSplit-keeps}
@@ -102,6 +102,19 @@ row_maps know w aim o x g fine n live due =
       | inr above ↦ ap (λ f. f j) (row.others 0 (λ e. above (sym e)))
     ])
 
+-- the key of a pair that a page lists is one that the page covers
+row_bounded : {P : Type 0} (know : P → Know) (w : World P) (aim : Aim) (x : ℕ) → IsGood know w → w.status x ≡ Live → IsDue aim (w.now.contents x) → IsBounded (row_at aim.level aim.key aim.word w.map 0)
+row_bounded know w aim x g live due k v h =
+    let row = is_row_at aim.level aim.key aim.word w.map in
+    let end = g.tree.side.within x (rw live live_live) in
+    elim (cases_eq k aim.key) [
+      | inl same ↦ (let covers = due.covers in omega arith)
+      | inr other ↦ elim (cases_eq aim.level 0) [
+        | inl zero ↦ g.bounded k v (sym (subst (λ l. row_at aim.level aim.key aim.word w.map l k ≡ w.map l k) zero (row.rest k other)) ∙ h)
+        | inr above ↦ g.bounded k v (sym (ap (λ f. f k) (row.others 0 (λ e. above (sym e)))) ∙ h)
+      ]
+    ]
+
 pub refused_maps : {P : Type 0} (know : P → Know) (w : World P) (aim : Aim) (x : ℕ) → IsGood know w → IsAim aim → w.status x ≡ Live → IsDue aim (w.now.contents x) → MapsTo (w.map 0) (w.map 0) (aim.said outcome.Refused)
 refused_maps know w aim x g fine live due =
     let before : w.map aim.level aim.key ≡ aim.was =
@@ -187,6 +200,7 @@ module _ {P : Type 0} (know : P → Know) (w : World P) (g : IsGood know w) (p :
             places = λ y h. rw then (rw before at h);
             point = λ it e. (is.stage, is.said);
             maps = row_maps know w aim outcome.Changed x g fine (λ e. cc) held.status due;
+            bounded = row_bounded know w aim x g held.status due;
             own = rw then (record {
               stage = rw (does.changes.2 p) is.stage;
               said = says w m is.said;
@@ -290,6 +304,7 @@ module _ {P : Type 0} (know : P → Know) (w : World P) (g : IsGood know w) (p :
             places = λ y h. rw then (rw before at h);
             point = λ it e. cc;
             maps = λ j. refl;
+            bounded = g.bounded;
             own = rw then (record {
               stage = rw (does.changes.2 p) is.stage;
               said = HasSaid-silent w.trail m p None refl is.said;
@@ -343,6 +358,7 @@ module _ {P : Type 0} (know : P → Know) (w : World P) (g : IsGood know w) (p :
             places = λ y h. rw then (rw before at h);
             point = λ it e. (is.stage, is.said);
             maps = row_maps know w aim (outcome.Parted t.separator) t.at g fine (λ e. cc) held.status due;
+            bounded = row_bounded know w aim t.at g held.status due;
             own = rw then (record {
               stage = rw (does.changes.2 p) is.stage;
               said = says w m is.said;

@@ -4,7 +4,7 @@ use Rattle.bl_page.specs.declared.page.Page.{Page}
 use Rattle.bl_page.specs.Machine.{Name, State}
 use Rattle.bl_page.specs.Machine.Act.{Get}
 use Rattle.bl_laws.specs.Pages.{roots_of}
-use Rattle.bl_trails.specs.Trails.{Mark}
+use Rattle.bl_trails.specs.Trails.{Mark, Said}
 use Rattle.bl_steps.specs.Worlds.{Know, World, nodes, MapsTo, IsGoes, IsSure, IsGood}
 use Rattle.bl_descents.proofs.Descents.{goes_leftmost, goes_down, leaf_says, not_released, anchor_not_released}
 use Rattle.bl_ways.specs.declared.acts.Seen.{Seen}
@@ -16,14 +16,23 @@ use Rattle.bl_ways.specs.Onwards.{Leads}
 use Rattle.bl_proc.specs.Searches.{find_next_in, FindGoes}
 use Rattle.bl_tables.specs.Turns.{event_of, IsTold, Does, Turned}
 use Rattle.bl_tables.specs.Tables.{goes_to}
-use Rattle.bl_tables.specs.Knowing.{found, know_find, find_end}
+use Rattle.bl_tables.specs.Knowing.{ending, found, know_find, find_end}
 use Rattle.bl_tables.proofs.Acts.{watched}
 use Rattle.bl_tables.proofs.Approaching.{got_goes, to_right, wider}
 use Rattle.bl_tables.proofs.Changing.{says}
 use Rattle.bl_tables.proofs.Ends.{begin_turn, end_turn}
 
 module _ {P : Type 0} (know : P → Know) (w : World P) (g : IsGood know w) (p : Name) (b : P) (key : ℕ) where
-  anchor_turn : (x : ℕ) (c : Page) (s : State Page) → know (w.proc p) ≡ know_find key AtAnchor → know b ≡ know_find key (At x) → FindGoes key AtAnchor (seen.Words c) (At x) → c ≡ w.now.contents 0 → Does w.now p (Get 0) s → Turned know w p (Get 0) s b
+  -- at the get of the leaf that covers the key, it says what is true of the map
+  pub told_turn : (x : ℕ) (said : Option Said) (s : State Page) → know (w.proc p) ≡ know_find key (At x) → know b ≡ ending said → MapsTo (w.map 0) (w.map 0) said → Does w.now p (Get x) s → Turned know w p (Get x) s b
+  told_turn x said s before then maps does =
+      let is : IsSure w p (know_find key (At x)) = rw before at (g.sure p) in
+      let m : Mark = record { event = record { process = p; act = Get x }; saw = Some (w.now.contents x); said = said } in
+      watched know w g p b _ _ before then (Get x) (Some (w.now.contents x)) said s tt (is.stage, not_released know w g p x is.goes.0.may) does refl refl (λ y h. h) (λ it e. (is.stage, is.said))
+      maps
+      (record { stage = is.stage; said = says w m is.said; holds = tt; goes = tt; children = tt; passed = tt; sound = tt; log = tt })
+
+  pub anchor_turn : (x : ℕ) (c : Page) (s : State Page) → know (w.proc p) ≡ know_find key AtAnchor → know b ≡ know_find key (At x) → FindGoes key AtAnchor (seen.Words c) (At x) → c ≡ w.now.contents 0 → Does w.now p (Get 0) s → Turned know w p (Get 0) s b
   anchor_turn x c s before then t told does =
       let is : IsSure w p (know_find key AtAnchor) = rw before at (g.sure p) in
       let few = g.tree.few_levels in
@@ -33,7 +42,7 @@ module _ {P : Type 0} (know : P → Know) (w : World P) (g : IsGood know w) (p :
       let goes : IsGoes w p (goes_to x 0 12) = rw to (wider know w g p _ top top 0 12 (omega arith) (omega arith) (goes_leftmost know w g p is.stage.0 top is.stage.1 (omega arith))) in
       got_goes know w g p b 0 key _ 0 s (goes_to x 0 12 ∷ []) before refl refl then is.stage is.said (anchor_not_released know w g) does is.sound (goes, tt)
 
-  at_turn : (x : ℕ) (a : FindStage) (c : Page) (s : State Page) → know (w.proc p) ≡ know_find key (At x) → know b ≡ know_find key a → FindGoes key (At x) (seen.Words c) a → c ≡ w.now.contents x → Does w.now p (Get x) s → Turned know w p (Get x) s b
+  pub at_turn : (x : ℕ) (a : FindStage) (c : Page) (s : State Page) → know (w.proc p) ≡ know_find key (At x) → know b ≡ know_find key a → FindGoes key (At x) (seen.Words c) a → c ≡ w.now.contents x → Does w.now p (Get x) s → Turned know w p (Get x) s b
   at_turn x AtAnchor c s before then t told does =
       let is : IsSure w p (know_find key (At x)) = rw before at (g.sure p) in
       got_goes know w g p b 0 key _ x s [] before refl refl then is.stage is.said (not_released know w g p x is.goes.0.may) does is.sound tt
@@ -57,10 +66,7 @@ module _ {P : Type 0} (know : P → Know) (w : World P) (g : IsGood know w) (p :
       let may = is.goes.0.may in
       let l : Leads (w.now.contents x) key 0 Here = rw told at t.0 in
       let look : value ≡ (nodes w.now x).look key = rw told at t.1 in
-      let m : Mark = record { event = record { process = p; act = Get x }; saw = Some (w.now.contents x); said = found key value } in
-      watched know w g p b _ _ before then (Get x) (Some (w.now.contents x)) (found key value) s tt (is.stage, not_released know w g p x may) does refl refl (λ y h. h) (λ it e. (is.stage, is.said))
-      (answers value (look ∙ leaf_says know w g p x key may l.0 l.2 l.1))
-      (record { stage = is.stage; said = says w m is.said; holds = tt; goes = tt; children = tt; passed = tt; sound = tt; log = tt })
+      told_turn x (found key value) s before then (answers value (look ∙ leaf_says know w g p x key may l.0 l.2 l.1)) does
     where
       answers : (value : Option ℕ) → value ≡ w.map 0 key → MapsTo (w.map 0) (w.map 0) (found key value)
       answers (Some v) e = (sym e, λ k. refl)

@@ -14,6 +14,8 @@ use Rattle.bl_ways.specs.declared.growing.Growth.{Growth}
 use Rattle.bl_ways.specs.declared.growing.Growth.TheVariants as growth
 use Rattle.bl_proc.specs.declared.searching.FindStage.{FindStage}
 use Rattle.bl_proc.specs.declared.searching.FindStage.TheVariants as find
+use Rattle.bl_proc.specs.declared.parts.PartStage.{PartStage}
+use Rattle.bl_proc.specs.declared.parts.PartStage.TheVariants as part
 use Rattle.bl_proc.specs.declared.inserting.InsertStage.{InsertStage}
 use Rattle.bl_proc.specs.declared.inserting.InsertStage.TheVariants as insert
 use Rattle.bl_proc.specs.declared.deleting.DeleteStage.{DeleteStage}
@@ -21,17 +23,18 @@ use Rattle.bl_proc.specs.declared.deleting.DeleteStage.TheVariants as delete
 use Rattle.bl_proc.specs.declared.posting.PostStage.{PostStage}
 use Rattle.bl_proc.specs.declared.posting.PostStage.TheVariants as post
 use Rattle.bl_proc.specs.declared.kinds.Proc.{Proc}
-use Rattle.bl_proc.specs.declared.kinds.Proc.TheVariants.{Find, Insert, Delete, Post}
+use Rattle.bl_proc.specs.declared.kinds.Proc.TheVariants.{Find, Insert, Delete, Post, Part}
 use Rattle.bl_ways.specs.Approaches.{approach_next}
 use Rattle.bl_ways.specs.Changes.{change_next}
 use Rattle.bl_ways.specs.Growths.{growth_next}
 use Rattle.bl_proc.specs.Searches.{find_next_in}
+use Rattle.bl_proc.specs.Parts.{part_next_in}
 use Rattle.bl_proc.specs.Inserts.{insert_next_in}
 use Rattle.bl_proc.specs.Deletes.{delete_next_in}
 use Rattle.bl_proc.specs.Posts.{post_next_in}
 use Rattle.bl_proc.specs.Processes.{next_of}
 use Rattle.bl_tables.specs.Tables.{Aim, know_approach, know_change}
-use Rattle.bl_tables.specs.Knowing.{know_growth, know_find, know_insert, know_delete, know_post, know_of, Run, bare}
+use Rattle.bl_tables.specs.Knowing.{know_growth, know_find, know_part, know_insert, know_delete, know_post, know_of, Run, bare}
 
 -- page 0, or one that it may get
 abbrev pub IsGot : {P : Type 0} → World P → Name → Action → Type 0
@@ -72,6 +75,13 @@ module _ {P : Type 0} (w : World P) (p : Name) where
   find_got key (find.Ending v) is = tt
   find_got key (find.Over v) is = tt
 
+  part_got : (from : ℕ) (a : PartStage) → IsSure w p (know_part from a) → IsGot w p (part_next_in a)
+  part_got from part.New is = find_got from find.New is
+  part_got from part.AtAnchor is = find_got from find.AtAnchor is
+  part_got from (part.At x) is = find_got from (find.At x) is
+  part_got from (part.Ending r) is = tt
+  part_got from (part.Over r) is = tt
+
   insert_got : (key value : ℕ) (got : ℕ → Page) (a : InsertStage) → IsSure w p (know_insert key value got a) → IsGot w p (insert_next_in a)
   insert_got key value got insert.New is = tt
   insert_got key value got (insert.Coming a) is = approach_got 0 key a is
@@ -103,6 +113,7 @@ module _ {P : Type 0} (w : World P) (p : Name) where
   of_got got child (Insert a) is = insert_got a.key a.value got a.stage is
   of_got got child (Delete a) is = delete_got a.key got a.stage is
   of_got got child (Post a) is = post_got a.level a.key got child a.stage is
+  of_got got child (Part a) is = part_got a.from a.stage is
 
 pub got_next_is : (w : World Run) (p : Name) → IsGood bare w → IsGot w p (next_of (w.proc p).state)
 got_next_is w p g = of_got w p (w.proc p).got (w.proc p).child (w.proc p).state (g.sure p)

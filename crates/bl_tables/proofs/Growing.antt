@@ -13,7 +13,7 @@ use Rattle.bl_tree.proofs.Statuses.{free_dead, fresh_dead}
 use Rattle.bl_laws.specs.Pages.{node_of, roots_of}
 use Rattle.bl_trails.proofs.Pushes.{HasSaid-silent}
 use Rattle.bl_trails.specs.Trails.{Mark, HasSaid}
-use Rattle.bl_steps.specs.Worlds.{IfKnown, Stage, Know, World, nodes, IsStage, IsHeld, IsSure, IsGood, silent, put_mark}
+use Rattle.bl_steps.specs.Worlds.{IfKnown, Stage, Know, World, nodes, IsStage, IsHeld, IsSure, IsBounded, IsGood, silent, put_mark}
 use Rattle.bl_steps.proofs.Watches.{Learns}
 use Rattle.bl_steps.proofs.After.{after, Extends-after, put_at, is_put_at}
 use Rattle.bl_descents.proofs.Descents.{anchor_not_released}
@@ -181,6 +181,7 @@ module _ {P : Type 0} (know : P → Know) (w : World P) (g : IsGood know w) (p :
             places = λ y h. rw then (rw before at h);
             point = λ it e. cc;
             maps = λ j. refl;
+            bounded = g.bounded;
             own = rw then (record {
               stage = rw (does.changes.2 p) is.stage;
               said = HasSaid-silent w.trail m p None refl is.said;
@@ -226,6 +227,7 @@ module _ {P : Type 0} (know : P → Know) (w : World P) (g : IsGood know w) (p :
       let some = g.tree.some_level in
       let next : World P = after w s m b (put_at r.new Live w.status) w.sep map in
       let extends = Extends-after w s m b (put_at r.new Live w.status) w.sep map (record { enabled = held.owner; changes = does.changes; on = does.on }) tt in
+      let rows : map 0 ≡ w.map 0 = (is_put_at level look w.map).others 0 (λ e. (let u = some in omega (arith, levels, e))) in
       let grown : (roots_of r.anchor).levels ≡ suc level = anchor_levels _ r.anchor raises.1 ∙ pushed_length leftmost r.new level may.levels in
       record {
         next = next;
@@ -239,7 +241,8 @@ module _ {P : Type 0} (know : P → Know) (w : World P) (g : IsGood know w) (p :
             no_dead = not_gone know w g p b _ _ before then (λ e. cc, (λ e. cc, tt));
             places = λ y h. rw then (rw before at h);
             point = λ it e. cc;
-            maps = λ k. ap (λ f. f k) ((is_put_at level look w.map).others 0 (λ e. (let u = some in omega (arith, levels, e))));
+            maps = λ k. ap (λ f. f k) rows;
+            bounded = subst IsBounded (sym rows) g.bounded;
             own = rw then (record {
               stage = rw (does.changes.2 p) is.stage;
               said = HasSaid-silent w.trail m p None refl is.said;

@@ -5,6 +5,7 @@ pub mod Approaching
 pub mod Changing
 pub mod Ends
 pub mod Finding
+pub mod Listing
 pub mod Entering
 pub mod Inserting
 pub mod Deleting

@@ -23,7 +23,7 @@ use Rattle.bl_ways.specs.declared.growing.Growth.TheVariants as growth
 use Rattle.bl_proc.specs.declared.posting.PostStage.{PostStage}
 use Rattle.bl_proc.specs.declared.posting.PostStage.TheVariants as post
 use Rattle.bl_proc.specs.declared.kinds.Proc.{Proc}
-use Rattle.bl_proc.specs.declared.kinds.Proc.TheVariants.{Find, Insert, Delete, Post}
+use Rattle.bl_proc.specs.declared.kinds.Proc.TheVariants.{Find, Insert, Delete, Post, Part}
 use Rattle.bl_proc.specs.Processes.{next_of, Takes}
 use Rattle.bl_tables.specs.Turns.{event_of, IsTold, Turned}
 use Rattle.bl_tables.specs.Tables.{know_approach, know_change}
@@ -45,6 +45,7 @@ bare_good w g = record {
     one_anchor = g.owned.one_anchor;
   };
   recorded = g.recorded;
+  bounded = g.bounded;
   names = g.names;
   gone = g.gone;
   middles = λ x y e. absurd (let m = g.middles x y e in let n = (plain (w.proc m.by)).middle in let i = m.is in cc);
@@ -73,6 +74,7 @@ full_good w g logs = record {
     one_anchor = g.owned.one_anchor;
   };
   recorded = g.recorded;
+  bounded = g.bounded;
   names = g.names;
   gone = g.gone;
   middles = λ x y e. absurd (let m = g.middles x y e in let n = (plain (w.proc m.by)).middle in let i = m.is in cc);
@@ -121,6 +123,7 @@ early_state got child (Find a) e marks = tt
 early_state got child (Insert a) e marks = tt
 early_state got child (Delete a) e marks = tt
 early_state got child (Post a) e marks = early_post a.level a.key got child a.stage e marks
+early_state got child (Part a) e marks = tt
 
 pub early_log : (b : Run) → (know b).stage ≡ Stage.Early → (marks : Trail) → proc_log b.state marks
 early_log b e marks = early_state b.got b.child b.state e marks
@@ -238,6 +241,7 @@ log_turn (Post a) (Post c) what marks m t did saw h =
 log_turn (Find a) (Post c) what marks m t did saw h = absurd t
 log_turn (Insert a) (Post c) what marks m t did saw h = absurd t
 log_turn (Delete a) (Post c) what marks m t did saw h = absurd t
+log_turn (Part a) (Post c) what marks m t did saw h = absurd t
 log_turn (Find a) (Find c) what marks m t did saw h = tt
 log_turn (Find a) (Insert c) what marks m t did saw h = tt
 log_turn (Find a) (Delete c) what marks m t did saw h = tt
@@ -250,11 +254,20 @@ log_turn (Delete a) (Delete c) what marks m t did saw h = tt
 log_turn (Post a) (Find c) what marks m t did saw h = tt
 log_turn (Post a) (Insert c) what marks m t did saw h = tt
 log_turn (Post a) (Delete c) what marks m t did saw h = tt
+log_turn (Find a) (Part c) what marks m t did saw h = tt
+log_turn (Insert a) (Part c) what marks m t did saw h = tt
+log_turn (Delete a) (Part c) what marks m t did saw h = tt
+log_turn (Post a) (Part c) what marks m t did saw h = tt
+log_turn (Part a) (Find c) what marks m t did saw h = tt
+log_turn (Part a) (Insert c) what marks m t did saw h = tt
+log_turn (Part a) (Delete c) what marks m t did saw h = tt
+log_turn (Part a) (Part c) what marks m t did saw h = tt
 
 log_stays : (old : Proc) (marks : Trail) (m : Mark) → m.event.act ≡ Miss → proc_log old marks → proc_log old (marks ++ m ∷ [])
 log_stays (Find a) marks m did h = tt
 log_stays (Insert a) marks m did h = tt
 log_stays (Delete a) marks m did h = tt
+log_stays (Part a) marks m did h = tt
 log_stays (Post a) marks m did h = post_stays marks m a.level a.key a.least (ap put_in did) (λ x o. (let e = sym did ∙ o in cc)) a.stage h
 
 -- the logs of all processes after a turn of p

@@ -18,6 +18,8 @@ use Rattle.bl_ways.specs.declared.growing.Growth.{Growth}
 use Rattle.bl_ways.specs.declared.growing.Growth.TheVariants as growth
 use Rattle.bl_proc.specs.declared.searching.FindStage.{FindStage}
 use Rattle.bl_proc.specs.declared.searching.FindStage.TheVariants as find
+use Rattle.bl_proc.specs.declared.parts.PartStage.{PartStage}
+use Rattle.bl_proc.specs.declared.parts.PartStage.TheVariants as part
 use Rattle.bl_proc.specs.declared.inserting.InsertStage.{InsertStage}
 use Rattle.bl_proc.specs.declared.inserting.InsertStage.TheVariants as insert
 use Rattle.bl_proc.specs.declared.deleting.DeleteStage.{DeleteStage}
@@ -25,17 +27,18 @@ use Rattle.bl_proc.specs.declared.deleting.DeleteStage.TheVariants as delete
 use Rattle.bl_proc.specs.declared.posting.PostStage.{PostStage}
 use Rattle.bl_proc.specs.declared.posting.PostStage.TheVariants as post
 use Rattle.bl_proc.specs.declared.kinds.Proc.{Proc}
-use Rattle.bl_proc.specs.declared.kinds.Proc.TheVariants.{Find, Insert, Delete, Post}
+use Rattle.bl_proc.specs.declared.kinds.Proc.TheVariants.{Find, Insert, Delete, Post, Part}
 use Rattle.bl_ways.specs.Approaches.{approach_next}
 use Rattle.bl_ways.specs.Changes.{change_next}
 use Rattle.bl_ways.specs.Growths.{growth_next}
 use Rattle.bl_proc.specs.Searches.{find_next_in}
+use Rattle.bl_proc.specs.Parts.{part_next_in}
 use Rattle.bl_proc.specs.Inserts.{insert_next_in}
 use Rattle.bl_proc.specs.Deletes.{delete_next_in}
 use Rattle.bl_proc.specs.Posts.{post_next_in}
 use Rattle.bl_proc.specs.Processes.{next_of}
 use Rattle.bl_tables.specs.Tables.{Aim, know_approach, know_change}
-use Rattle.bl_tables.specs.Knowing.{know_growth, know_find, know_insert, know_delete, know_post, know_of, Run, bare, know}
+use Rattle.bl_tables.specs.Knowing.{know_growth, know_find, know_part, know_insert, know_delete, know_post, know_of, Run, bare, know}
 use Rattle.bl_tables.proofs.Logged.{bare_good}
 
 abbrev pub IsNear : {P : Type 0} → World P → Name → Action → Type 0
@@ -85,6 +88,13 @@ module _ {P : Type 0} (know : P → Know) (w : World P) (g : IsGood know w) (p :
   find_near key (find.Ending v) is = tt
   find_near key (find.Over v) is = tt
 
+  part_near : (from : ℕ) (a : PartStage) → IsSure w p (know_part from a) → IsNear w p (part_next_in a)
+  part_near from part.New is = find_near from find.New is
+  part_near from part.AtAnchor is = find_near from find.AtAnchor is
+  part_near from (part.At x) is = find_near from (find.At x) is
+  part_near from (part.Ending r) is = tt
+  part_near from (part.Over r) is = tt
+
   insert_near : (key value : ℕ) (got : ℕ → Page) (a : InsertStage) → IsSure w p (know_insert key value got a) → IsNear w p (insert_next_in a)
   insert_near key value got insert.New is = tt
   insert_near key value got (insert.Coming a) is = approach_near 0 key a is
@@ -116,6 +126,7 @@ module _ {P : Type 0} (know : P → Know) (w : World P) (g : IsGood know w) (p :
   of_near got child (Insert a) is = insert_near a.key a.value got a.stage is
   of_near got child (Delete a) is = delete_near a.key got a.stage is
   of_near got child (Post a) is = post_near a.level a.key got child a.stage is
+  of_near got child (Part a) is = part_near a.from a.stage is
 
 pub bare_near : (w : World Run) (p : Name) → IsGood bare w → IsNear w p (next_of (w.proc p).state)
 bare_near w p g = of_near bare w g p (w.proc p).got (w.proc p).child (w.proc p).state (g.sure p)

@@ -11,6 +11,8 @@ use Rattle.bl_ways.specs.declared.growing.Growth.{Growth}
 use Rattle.bl_ways.specs.declared.growing.Growth.TheVariants as growth
 use Rattle.bl_proc.specs.declared.searching.FindStage.{FindStage}
 use Rattle.bl_proc.specs.declared.searching.FindStage.TheVariants as find
+use Rattle.bl_proc.specs.declared.parts.PartStage.{PartStage}
+use Rattle.bl_proc.specs.declared.parts.PartStage.TheVariants as part
 use Rattle.bl_proc.specs.declared.inserting.InsertStage.{InsertStage}
 use Rattle.bl_proc.specs.declared.inserting.InsertStage.TheVariants as insert
 use Rattle.bl_proc.specs.declared.deleting.DeleteStage.{DeleteStage}
@@ -18,9 +20,9 @@ use Rattle.bl_proc.specs.declared.deleting.DeleteStage.TheVariants as delete
 use Rattle.bl_proc.specs.declared.posting.PostStage.{PostStage}
 use Rattle.bl_proc.specs.declared.posting.PostStage.TheVariants as post
 use Rattle.bl_proc.specs.declared.kinds.Proc.{Proc}
-use Rattle.bl_proc.specs.declared.kinds.Proc.TheVariants.{Find, Insert, Delete, Post}
+use Rattle.bl_proc.specs.declared.kinds.Proc.TheVariants.{Find, Insert, Delete, Post, Part}
 use Rattle.bl_tables.specs.Tables.{Aim, know_approach, know_change}
-use Rattle.bl_tables.specs.Knowing.{know_growth, know_find, know_insert, know_delete, know_post, know_of, Run, bare}
+use Rattle.bl_tables.specs.Knowing.{know_growth, know_find, know_part, know_insert, know_delete, know_post, know_of, Run, bare}
 
 pub record IsPlain (k : Know) : Type 1 where
   pub middle : k.middle ≡ None
@@ -60,6 +62,13 @@ find_plain key (find.At x) = record { middle = refl; passed = refl; log = λ mar
 find_plain key (find.Ending v) = record { middle = refl; passed = refl; log = λ marks. tt }
 find_plain key (find.Over v) = record { middle = refl; passed = refl; log = λ marks. tt }
 
+part_plain : (from : ℕ) (a : PartStage) → IsPlain (know_part from a)
+part_plain from part.New = find_plain from find.New
+part_plain from part.AtAnchor = find_plain from find.AtAnchor
+part_plain from (part.At x) = find_plain from (find.At x)
+part_plain from (part.Ending r) = record { middle = refl; passed = refl; log = λ marks. tt }
+part_plain from (part.Over r) = record { middle = refl; passed = refl; log = λ marks. tt }
+
 insert_plain : (key value : ℕ) (got : ℕ → Page) (a : InsertStage) → IsPlain (know_insert key value got a)
 insert_plain key value got insert.New = record { middle = refl; passed = refl; log = λ marks. tt }
 insert_plain key value got (insert.Present x v) = record { middle = refl; passed = refl; log = λ marks. tt }
@@ -91,6 +100,7 @@ of_plain got child (Find p) = find_plain p.key p.stage
 of_plain got child (Insert p) = insert_plain p.key p.value got p.stage
 of_plain got child (Delete p) = delete_plain p.key got p.stage
 of_plain got child (Post p) = post_plain p.level p.key got child p.stage
+of_plain got child (Part p) = part_plain p.from p.stage
 
 pub plain : (r : Run) → IsPlain (bare r)
 plain r = of_plain r.got r.child r.state

@@ -78,6 +78,7 @@ bare_enters_good w p b g waiting old new =
         map = g.recorded.map;
         since = g.recorded.since;
       };
+      bounded = g.bounded;
       names = record { fresh = g.names.fresh; named = g.names.named };
       gone = λ x h. let o = g.gone x h in record {
         end = o.end;

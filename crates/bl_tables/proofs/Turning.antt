@@ -9,14 +9,15 @@ use Rattle.bl_steps.specs.Worlds.{World, IsHeld, IsRelied, IsGood, silent}
 use Rattle.bl_steps.proofs.Frames.{Each-map}
 use Rattle.bl_ways.specs.declared.acts.Seen.{Seen}
 use Rattle.bl_proc.specs.declared.kinds.Proc.{Proc}
-use Rattle.bl_proc.specs.declared.kinds.Proc.TheVariants.{Find, Insert, Delete, Post}
+use Rattle.bl_proc.specs.declared.kinds.Proc.TheVariants.{Find, Insert, Delete, Post, Part}
 use Rattle.bl_proc.specs.Processes.{next_of, Takes}
 use Rattle.bl_tables.specs.Turns.{event_of, IsTold, Does, Turned}
-use Rattle.bl_tables.specs.Knowing.{Run, know_of, bare, know, know_find, know_insert, know_delete, know_post, insert_got, delete_got, post_got, post_child, end_of_proc, got_next, child_next, run_next}
+use Rattle.bl_tables.specs.Knowing.{Run, know_of, bare, know, know_find, know_part, know_insert, know_delete, know_post, insert_got, delete_got, post_got, post_child, end_of_proc, got_next, child_next, run_next}
 use Rattle.bl_tables.proofs.Acts.{watched}
 use Rattle.bl_tables.proofs.Plain.{plain}
 use Rattle.bl_tables.proofs.Logged.{bare_good, with_logs, with_miss}
 use Rattle.bl_tables.proofs.Finding.{find_turn}
+use Rattle.bl_tables.proofs.Listing.{part_turn}
 use Rattle.bl_tables.proofs.Inserting.{insert_turn}
 use Rattle.bl_tables.proofs.Deleting.{delete_turn}
 use Rattle.bl_tables.proofs.Posting.{post_turn}
@@ -30,6 +31,8 @@ state_turn w p got child (Delete a) (Delete c) b what s g before then t told doe
     delete_turn bare w g p b a.key a.stage c.stage got what s before (subst (λ k. bare b ≡ know_delete k (delete_got got a.stage what) c.stage) t.0 then) t.1 told does
 state_turn w p got child (Post a) (Post c) b what s g before then t told does =
     post_turn bare w g p b a.level a.key a.least a.most a.stage c.stage got child what s before (subst (λ l. bare b ≡ know_post l a.key (post_got got a.stage what) (post_child child a.stage) c.stage) t.0 (subst (λ k. bare b ≡ know_post c.level k (post_got got a.stage what) (post_child child a.stage) c.stage) t.1 then)) t.2 told does
+state_turn w p got child (Part a) (Part c) b what s g before then t told does =
+    part_turn bare w g p b a.from a.stage c.stage what s before (subst (λ k. bare b ≡ know_part k c.stage) t.0 then) t.1 told does
 state_turn w p got child (Find a) (Insert c) b what s g before then t told does = absurd t
 state_turn w p got child (Find a) (Delete c) b what s g before then t told does = absurd t
 state_turn w p got child (Find a) (Post c) b what s g before then t told does = absurd t
@@ -42,6 +45,14 @@ state_turn w p got child (Delete a) (Post c) b what s g before then t told does 
 state_turn w p got child (Post a) (Find c) b what s g before then t told does = absurd t
 state_turn w p got child (Post a) (Insert c) b what s g before then t told does = absurd t
 state_turn w p got child (Post a) (Delete c) b what s g before then t told does = absurd t
+state_turn w p got child (Find a) (Part c) b what s g before then t told does = absurd t
+state_turn w p got child (Insert a) (Part c) b what s g before then t told does = absurd t
+state_turn w p got child (Delete a) (Part c) b what s g before then t told does = absurd t
+state_turn w p got child (Post a) (Part c) b what s g before then t told does = absurd t
+state_turn w p got child (Part a) (Find c) b what s g before then t told does = absurd t
+state_turn w p got child (Part a) (Insert c) b what s g before then t told does = absurd t
+state_turn w p got child (Part a) (Delete c) b what s g before then t told does = absurd t
+state_turn w p got child (Part a) (Post c) b what s g before then t told does = absurd t
 
 -- Process p, which is a, was told this of its next action, truly, and goes to that state: from a good world this leads to a
 -- good world, in which p is in that state, and whose trail has one mark more. First by the states of processes alone.

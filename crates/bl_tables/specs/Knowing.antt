@@ -21,6 +21,9 @@ use Rattle.bl_proc.specs.declared.deleting.DeleteStage.{DeleteStage}
 use Rattle.bl_proc.specs.declared.deleting.DeleteStage.TheVariants as delete
 use Rattle.bl_proc.specs.declared.deleting.DeleteReply.{DeleteReply}
 use Rattle.bl_proc.specs.declared.deleting.DeleteReply.TheVariants as deleted
+use Rattle.bl_proc.specs.declared.parts.PartRows.{PartRows}
+use Rattle.bl_proc.specs.declared.parts.PartStage.{PartStage}
+use Rattle.bl_proc.specs.declared.parts.PartStage.TheVariants as part
 use Rattle.bl_ways.specs.declared.growing.Growth.{Growth}
 use Rattle.bl_ways.specs.declared.growing.Growth.TheVariants as growth
 use Rattle.bl_proc.specs.declared.posting.PostStage.{PostStage}
@@ -58,6 +61,18 @@ know_find key find.AtAnchor = record (idle Stage.Busy) { sound = key < unbounded
 know_find key (find.At x) = record (idle Stage.Busy) { goes = goes_to x 0 12 ∷ []; sound = key < unbounded }
 know_find key (find.Ending value) = ending (found key value)
 know_find key (find.Over value) = late (found key value)
+
+-- Parts: on its way down a part knows what a search for its first key knows
+
+abbrev pub listed : ℕ → PartRows → Option Said
+listed from r = Some (record { op = op.Part from; reply = reply.Rows r.rows r.next })
+
+abbrev pub know_part : ℕ → PartStage → Know
+know_part from part.New = know_find from find.New
+know_part from part.AtAnchor = know_find from find.AtAnchor
+know_part from (part.At x) = know_find from (find.At x)
+know_part from (part.Ending r) = ending (listed from r)
+know_part from (part.Over r) = late (listed from r)
 
 -- Insertions
 
@@ -148,6 +163,7 @@ know_of got child (proc.Find p) = know_find p.key p.stage
 know_of got child (proc.Insert p) = know_insert p.key p.value got p.stage
 know_of got child (proc.Delete p) = know_delete p.key got p.stage
 know_of got child (proc.Post p) = know_post p.level p.key got child p.stage
+know_of got child (proc.Part p) = know_part p.from p.stage
 
 -- by its state alone
 abbrev pub bare : Run → Know
@@ -164,6 +180,13 @@ find_end find.AtAnchor = None
 find_end (find.At x) = None
 find_end (find.Ending value) = Some (found_reply value)
 find_end (find.Over value) = None
+
+abbrev pub part_end : PartStage → Option Reply
+part_end part.New = None
+part_end part.AtAnchor = None
+part_end (part.At x) = None
+part_end (part.Ending r) = Some (reply.Rows r.rows r.next)
+part_end (part.Over r) = None
 
 abbrev pub insert_end : InsertStage → Option Reply
 insert_end insert.New = None
@@ -186,6 +209,7 @@ end_of_proc (proc.Find p) = find_end p.stage
 end_of_proc (proc.Insert p) = insert_end p.stage
 end_of_proc (proc.Delete p) = delete_end p.stage
 end_of_proc (proc.Post p) = None
+end_of_proc (proc.Part p) = part_end p.stage
 
 -- what a process has got of the pages that it holds, after it was told this
 abbrev pub insert_got : (ℕ → Page) → InsertStage → Seen → ℕ → Page
@@ -210,12 +234,14 @@ got_next got (proc.Find p) what = got
 got_next got (proc.Insert p) what = insert_got got p.stage what
 got_next got (proc.Delete p) what = delete_got got p.stage what
 got_next got (proc.Post p) what = post_got got p.stage what
+got_next got (proc.Part p) what = got
 
 abbrev pub child_next : ℕ → Proc → ℕ
 child_next child (proc.Find p) = child
 child_next child (proc.Insert p) = child
 child_next child (proc.Delete p) = child
 child_next child (proc.Post p) = post_child child p.stage
+child_next child (proc.Part p) = child
 
 -- the process after it was told this, in that state
 abbrev pub run_next : Run → Seen → Proc → Run

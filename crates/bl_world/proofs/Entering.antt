@@ -17,6 +17,8 @@ use Rattle.bl_ways.specs.Changes.{change_next}
 use Rattle.bl_ways.specs.Growths.{growth_next}
 use Rattle.bl_proc.specs.declared.searching.FindStage.{FindStage}
 use Rattle.bl_proc.specs.declared.searching.FindStage.TheVariants as find
+use Rattle.bl_proc.specs.declared.parts.PartStage.{PartStage}
+use Rattle.bl_proc.specs.declared.parts.PartStage.TheVariants as part
 use Rattle.bl_proc.specs.declared.inserting.InsertStage.{InsertStage}
 use Rattle.bl_proc.specs.declared.inserting.InsertStage.TheVariants as insert
 use Rattle.bl_proc.specs.declared.deleting.DeleteStage.{DeleteStage}
@@ -27,10 +29,11 @@ use Rattle.bl_proc.specs.declared.kinds.Proc.{Proc}
 use Rattle.bl_proc.specs.declared.kinds.Proc.TheVariants as proc
 use Rattle.bl_proc.specs.Processes.{next_of}
 use Rattle.bl_proc.specs.Searches.{find_next_in}
+use Rattle.bl_proc.specs.Parts.{part_next_in}
 use Rattle.bl_proc.specs.Inserts.{insert_next_in}
 use Rattle.bl_proc.specs.Deletes.{delete_next_in}
 use Rattle.bl_proc.specs.Posts.{post_next_in}
-use Rattle.bl_tables.specs.Knowing.{Run, know_of, know_find, know_insert, know_delete, know_post}
+use Rattle.bl_tables.specs.Knowing.{Run, know_of, know_find, know_part, know_insert, know_delete, know_post}
 use Rattle.bl_tables.proofs.Logged.{full_blank}
 use Rattle.bl_tables.proofs.Starting.{with_proc, enters_good}
 use Rattle.bl_world.specs.declared.turns.Event.{Event}
@@ -74,6 +77,13 @@ find_blank k (find.At x) small e = absurd cc
 find_blank k (find.Ending v) small e = absurd cc
 find_blank k (find.Over v) small e = absurd cc
 
+part_blank : (k : ℕ) (a : PartStage) → k < 2 ^ 64 → part_next_in a ≡ act.Begin → IsBlank (know_part k a)
+part_blank k part.New small e = find_blank k find.New small e
+part_blank k part.AtAnchor small e = absurd cc
+part_blank k (part.At x) small e = absurd cc
+part_blank k (part.Ending r) small e = absurd cc
+part_blank k (part.Over r) small e = absurd cc
+
 insert_blank : (k v : ℕ) (got : ℕ → Page) (a : InsertStage) → k < 2 ^ 64 → insert_next_in a ≡ act.Begin → IsBlank (know_insert k v got a)
 insert_blank k v got insert.New small e = record { stage = refl; said = refl; holds = refl; goes = refl; children = refl; passed = refl; sound = small; log = tt }
 insert_blank k v got (insert.Coming a) small e = approach_begins a e
@@ -105,6 +115,7 @@ blank got child (proc.Find p) small e = find_blank p.key p.stage small e
 blank got child (proc.Insert p) small e = insert_blank p.key p.value got p.stage small e
 blank got child (proc.Delete p) small e = delete_blank p.key got p.stage small e
 blank got child (proc.Post p) small e = post_blank p.level p.key got child p.stage small e
+blank got child (proc.Part p) small e = part_blank p.from p.stage small e
 
 -- It stands after all others.
 pub enters : (pages : List Page) (owners : List Owner) (processes : List Proc) (events : List Event) (p : Proc) → key_in p < 2 ^ 64 → next_of p ≡ act.Begin → (h : HasWorld pages owners processes events) → Grows h pages owners (processes ++ p ∷ []) events

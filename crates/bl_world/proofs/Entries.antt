@@ -17,6 +17,8 @@ use Rattle.bl_ways.specs.declared.answers.Answer.TheVariants as answer
 use Rattle.bl_ways.specs.declared.answers.Hint.{Hint}
 use Rattle.bl_proc.specs.declared.searching.FindStage.{FindStage}
 use Rattle.bl_proc.specs.declared.searching.FindStage.TheVariants as find
+use Rattle.bl_proc.specs.declared.parts.PartStage.{PartStage}
+use Rattle.bl_proc.specs.declared.parts.PartStage.TheVariants as part
 use Rattle.bl_proc.specs.declared.inserting.InsertStage.{InsertStage}
 use Rattle.bl_proc.specs.declared.inserting.InsertStage.TheVariants as insert
 use Rattle.bl_proc.specs.declared.inserting.InsertReply.TheVariants as inserted
@@ -30,11 +32,12 @@ use Rattle.bl_proc.specs.declared.kinds.Proc.{Proc}
 use Rattle.bl_proc.specs.declared.kinds.Proc.TheVariants as proc
 use Rattle.bl_proc.specs.Processes.{answer_of}
 use Rattle.bl_proc.specs.Searches.{find_answer_in}
+use Rattle.bl_proc.specs.Parts.{part_answer_in}
 use Rattle.bl_proc.specs.Inserts.{insert_answer_in}
 use Rattle.bl_proc.specs.Deletes.{delete_answer_in}
 use Rattle.bl_proc.specs.Posts.{post_answer_in}
 use Rattle.bl_tables.specs.Tables.{Aim, know_approach, know_change}
-use Rattle.bl_tables.specs.Knowing.{know_of, know_find, know_insert, know_delete, know_post, know_growth, insert_aim, delete_aim, post_aim}
+use Rattle.bl_tables.specs.Knowing.{know_of, know_find, know_part, know_insert, know_delete, know_post, know_growth, insert_aim, delete_aim, post_aim}
 use Rattle.bl_world.specs.Accounts.{op_of}
 
 none_said : {X : Type 0} (s : Said) → None ≡ Some s → X
@@ -78,6 +81,13 @@ find_op k (find.At x) s e = none_said s e
 find_op k (find.Ending v) s e = same_op _ s e
 find_op k (find.Over v) s e = same_op _ s e
 
+part_op : (k : ℕ) (a : PartStage) (s : Said) → (know_part k a).said ≡ Some s → Some (op.Part k) ≡ Some s.op
+part_op k part.New s e = none_said s e
+part_op k part.AtAnchor s e = none_said s e
+part_op k (part.At x) s e = none_said s e
+part_op k (part.Ending r) s e = same_op _ s e
+part_op k (part.Over r) s e = same_op _ s e
+
 insert_op : (k v : ℕ) (got : ℕ → Page) (a : InsertStage) (s : Said) → (know_insert k v got a).said ≡ Some s → Some (op.Insert k v) ≡ Some s.op
 insert_op k v got insert.New s e = none_said s e
 insert_op k v got (insert.Coming a) s e = none_said s (sym (approach_said 0 k a) ∙ e)
@@ -109,6 +119,7 @@ said_op got child (proc.Find p) s e = find_op p.key p.stage s e
 said_op got child (proc.Insert p) s e = insert_op p.key p.value got p.stage s e
 said_op got child (proc.Delete p) s e = delete_op p.key got p.stage s e
 said_op got child (proc.Post p) s e = post_none p.level p.key got child p.stage s e
+said_op got child (proc.Part p) s e = part_op p.from p.stage s e
 
 -- What it answers
 
@@ -141,6 +152,13 @@ find_answered k (find.At x) reply hint e = none_answer _ e
 find_answered k (find.Ending v) reply hint e = none_answer _ e
 find_answered k (find.Over None) reply hint e = record { it = _; is = refl; reply_is = same_reply _ _ _ _ e }
 find_answered k (find.Over (Some v)) reply hint e = record { it = _; is = refl; reply_is = same_reply _ _ _ _ e }
+
+part_answered : (k : ℕ) (a : PartStage) (reply : Reply) (hint : Option Hint) → part_answer_in a ≡ Some (answer.Op reply hint) → HasAnswered (know_part k a).said reply
+part_answered k part.New reply hint e = none_answer _ e
+part_answered k part.AtAnchor reply hint e = none_answer _ e
+part_answered k (part.At x) reply hint e = none_answer _ e
+part_answered k (part.Ending r) reply hint e = none_answer _ e
+part_answered k (part.Over r) reply hint e = record { it = _; is = refl; reply_is = same_reply _ _ _ _ e }
 
 insert_answered : (k v : ℕ) (got : ℕ → Page) (a : InsertStage) (reply : Reply) (hint : Option Hint) → insert_answer_in a ≡ Some (answer.Op reply hint) → HasAnswered (know_insert k v got a).said reply
 insert_answered k v got insert.New reply hint e = none_answer _ e
@@ -181,6 +199,7 @@ answered_said got child (proc.Find p) reply hint e = find_answered p.key p.stage
 answered_said got child (proc.Insert p) reply hint e = insert_answered p.key p.value got p.stage reply hint e
 answered_said got child (proc.Delete p) reply hint e = delete_answered p.key got p.stage reply hint e
 answered_said got child (proc.Post p) reply hint e = post_answered p.level p.stage reply hint e
+answered_said got child (proc.Part p) reply hint e = part_answered p.from p.stage reply hint e
 
 -- It has ended
 
@@ -190,6 +209,13 @@ find_late k find.AtAnchor b e = none_answer _ e
 find_late k (find.At x) b e = none_answer _ e
 find_late k (find.Ending v) b e = none_answer _ e
 find_late k (find.Over v) b e = refl
+
+part_late : (k : ℕ) (a : PartStage) (b : Answer) → part_answer_in a ≡ Some b → (know_part k a).stage ≡ Stage.Late
+part_late k part.New b e = none_answer _ e
+part_late k part.AtAnchor b e = none_answer _ e
+part_late k (part.At x) b e = none_answer _ e
+part_late k (part.Ending r) b e = none_answer _ e
+part_late k (part.Over r) b e = refl
 
 insert_late : (k v : ℕ) (got : ℕ → Page) (a : InsertStage) (b : Answer) → insert_answer_in a ≡ Some b → (know_insert k v got a).stage ≡ Stage.Late
 insert_late k v got insert.New b e = none_answer _ e
@@ -222,3 +248,4 @@ answered_late got child (proc.Find p) b e = find_late p.key p.stage b e
 answered_late got child (proc.Insert p) b e = insert_late p.key p.value got p.stage b e
 answered_late got child (proc.Delete p) b e = delete_late p.key got p.stage b e
 answered_late got child (proc.Post p) b e = post_late p.level p.key got child p.stage b e
+answered_late got child (proc.Part p) b e = part_late p.from p.stage b e

@@ -100,6 +100,7 @@ IsRefused (proc.Find p) = ⊥
 IsRefused (proc.Insert p) = InsertRefused p.stage
 IsRefused (proc.Delete p) = DeleteRefused p.stage
 IsRefused (proc.Post p) = PostRefused p.stage
+IsRefused (proc.Part p) = ⊥
 
 -- A change, and a growth
 

@@ -10,6 +10,8 @@ use Rattle.bl_ways.specs.Changes.{change_next}
 use Rattle.bl_ways.specs.Growths.{growth_next}
 use Rattle.bl_proc.specs.declared.searching.FindStage.{FindStage}
 use Rattle.bl_proc.specs.declared.searching.FindStage.TheVariants as find
+use Rattle.bl_proc.specs.declared.parts.PartStage.{PartStage}
+use Rattle.bl_proc.specs.declared.parts.PartStage.TheVariants as part
 use Rattle.bl_proc.specs.declared.inserting.InsertStage.{InsertStage}
 use Rattle.bl_proc.specs.declared.inserting.InsertStage.TheVariants as insert
 use Rattle.bl_proc.specs.declared.inserting.InsertReply.TheVariants as inserted
@@ -23,6 +25,7 @@ use Rattle.bl_proc.specs.declared.kinds.Proc.{Proc}
 use Rattle.bl_proc.specs.declared.kinds.Proc.TheVariants as proc
 use Rattle.bl_proc.specs.Processes.{next_of, answer_of}
 use Rattle.bl_proc.specs.Searches.{find_answer_in}
+use Rattle.bl_proc.specs.Parts.{part_answer_in}
 use Rattle.bl_proc.specs.Inserts.{insert_next_in, insert_answer_in}
 use Rattle.bl_proc.specs.Deletes.{delete_next_in, delete_answer_in}
 use Rattle.bl_proc.specs.Posts.{post_next_in, post_answer_in}
@@ -44,6 +47,13 @@ find_answers (find.At x) b e r = none_answer b e
 find_answers (find.Ending v) b e r = none_answer b e
 find_answers (find.Over None) b e r = no_room _ b e r
 find_answers (find.Over (Some v)) b e r = no_room _ b e r
+
+part_answers : (a : PartStage) (b : Answer) → part_answer_in a ≡ Some b → IsNoRoom b → ⊥
+part_answers part.New b e r = none_answer b e
+part_answers part.AtAnchor b e r = none_answer b e
+part_answers (part.At x) b e r = none_answer b e
+part_answers (part.Ending q) b e r = none_answer b e
+part_answers (part.Over q) b e r = no_room _ b e r
 
 insert_answers : (a : InsertStage) (b : Answer) → insert_answer_in a ≡ Some b → IsNoRoom b → InsertRefused a
 insert_answers insert.New b e r = none_answer b e
@@ -84,6 +94,7 @@ answers_refused (proc.Find p) a e r = find_answers p.stage a e r
 answers_refused (proc.Insert p) a e r = insert_answers p.stage a e r
 answers_refused (proc.Delete p) a e r = delete_answers p.stage a e r
 answers_refused (proc.Post p) a e r = post_answers p.level p.stage a e r
+answers_refused (proc.Part p) a e r = part_answers p.stage a e r
 
 -- A process that is to begin was not refused.
 
@@ -136,3 +147,4 @@ begins_free (proc.Find p) e r = r
 begins_free (proc.Insert p) e r = insert_free p.stage e r
 begins_free (proc.Delete p) e r = delete_free p.stage e r
 begins_free (proc.Post p) e r = post_free p.stage e r
+begins_free (proc.Part p) e r = r

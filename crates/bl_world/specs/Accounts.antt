@@ -54,6 +54,7 @@ op_of (proc.Find p) = Some (op.Find p.key)
 op_of (proc.Insert p) = Some (op.Insert p.key p.value)
 op_of (proc.Delete p) = Some (op.Delete p.key)
 op_of (proc.Post p) = None
+op_of (proc.Part p) = Some (op.Part p.from)
 
 -- The operation of p has its point in the trail, with that reply.
 pub record Answers (trail : Trail) (p : Name) (is : Option Op) (answer : Reply) : Type 0 where

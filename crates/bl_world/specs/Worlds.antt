@@ -22,6 +22,7 @@ key_in (proc.Find p) = p.key
 key_in (proc.Insert p) = p.key
 key_in (proc.Delete p) = p.key
 key_in (proc.Post p) = p.key
+key_in (proc.Part p) = p.from
 
 -- none of the processes of that many has this name
 abbrev pub IsUnknown : ℕ → Name → Type 0

@@ -30,6 +30,7 @@ fn key_of(process: &Proc) -> u64
         Proc::Insert(process) => process.key,
         Proc::Delete(process) => process.key,
         Proc::Post(process) => process.key,
+        Proc::Part(process) => process.from,
     }
 }
 

@@ -1,0 +1,70 @@
+-- A part, by its state.
+use Rattle.std.specs.Prelude.{◌≡◌, ◌≢◌, ℕ, ◌≤◌, Option, None, Some}
+use Rattle.bl_model.specs.declared.operation.Next.{Next}
+use Rattle.bl_model.specs.declared.operation.Next.TheVariants.{More, End}
+use Rattle.bl_model.specs.declared.operation.Reply.TheVariants as reply
+use Rattle.bl_model.specs.Map.{ListsPairs}
+use Rattle.bl_page.specs.declared.page.Page.{Page}
+use Rattle.bl_tree.specs.Nodes.{unbounded}
+use Rattle.bl_laws.specs.Pages.{node_of}
+use Rattle.bl_ways.specs.declared.acts.Action.{Action}
+use Rattle.bl_ways.specs.declared.acts.Action.TheVariants as act
+use Rattle.bl_ways.specs.declared.acts.Seen.{Seen}
+use Rattle.bl_ways.specs.declared.acts.Seen.TheVariants as seen
+use Rattle.bl_ways.specs.declared.answers.Answer.{Answer}
+use Rattle.bl_ways.specs.declared.answers.Answer.TheVariants.{Op}
+use Rattle.bl_ways.specs.declared.onwards.Onward.TheVariants.{Here}
+use Rattle.bl_proc.specs.declared.searching.FindStage.TheVariants as find
+use Rattle.bl_proc.specs.declared.parts.Part.{Part}
+use Rattle.bl_proc.specs.declared.parts.PartRows.{PartRows}
+use Rattle.bl_proc.specs.declared.parts.PartStage.{PartStage}
+use Rattle.bl_proc.specs.declared.parts.PartStage.TheVariants.{New, AtAnchor, At, Ending, Over}
+use Rattle.bl_ways.specs.Onwards.{Leads}
+use Rattle.bl_proc.specs.Searches.{FindGoes}
+
+-- The next part begins where the page ends. Past a page without a bound there is none.
+abbrev pub GoesOnAt : ℕ → Next → Type 0
+GoesOnAt end (More key) = (end ≢ unbounded) × (key ≡ end)
+GoesOnAt end End = end ≡ unbounded
+
+-- of a page: what it lists from the key on, in rising order, and its end
+pub record IsPartOf (c : Page) (from : ℕ) (part : PartRows) : Type 0 where
+  pub rows : ListsPairs (node_of c).look (λ key. from ≤ key) part.rows.items
+  pub next : GoesOnAt (node_of c).shape.end part.next
+
+-- An ended process has no next action: it is not asked for one.
+abbrev pub part_next_in : PartStage → Action
+part_next_in New = act.Begin
+part_next_in AtAnchor = act.Get 0
+part_next_in (At x) = act.Get x
+part_next_in (Ending part) = act.End
+part_next_in (Over part) = act.End
+
+abbrev pub part_answer_in : PartStage → Option Answer
+part_answer_in New = None
+part_answer_in AtAnchor = None
+part_answer_in (At x) = None
+part_answer_in (Ending part) = None
+part_answer_in (Over part) = Some (Op (reply.Rows part.rows part.next) None)
+
+-- It goes down as a search for its first key does, until a leaf covers that key; that leaf gives the part.
+abbrev pub PartGoes : ℕ → PartStage → Seen → PartStage → Type 0
+PartGoes from New seen.Done AtAnchor = FindGoes from find.New seen.Done find.AtAnchor
+PartGoes from AtAnchor (seen.Words c) (At x) = FindGoes from find.AtAnchor (seen.Words c) (find.At x)
+PartGoes from (At x) (seen.Words c) AtAnchor = FindGoes from (find.At x) (seen.Words c) find.AtAnchor
+PartGoes from (At x) (seen.Words c) (At y) = FindGoes from (find.At x) (seen.Words c) (find.At y)
+PartGoes from (At x) (seen.Words c) (Ending part) = Leads c from 0 Here × IsPartOf c from part
+PartGoes from (Ending part) seen.Done (Over last) = last ≡ part
+PartGoes from old what new = ⊥
+
+abbrev pub part_next : Part → Action
+part_next p = part_next_in p.stage
+
+abbrev pub part_needs : Part → Option (ℕ × ℕ)
+part_needs p = None
+
+abbrev pub part_answer : Part → Option Answer
+part_answer p = part_answer_in p.stage
+
+abbrev pub PartTakes : Part → Seen → Part → Type 0
+PartTakes old what new = (new.from ≡ old.from) × PartGoes old.from old.stage what new.stage

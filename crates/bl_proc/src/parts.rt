@@ -1,0 +1,189 @@
+//! A part of the map's pairs: those of one leaf, from a key on.
+
+ghost use Rattle.std.specs.Prelude.{◌≡◌, ◌≤◌, None, length};
+ghost use Rattle.bl_model.specs.Map.{ListsPairs};
+ghost use Rattle.bl_model.specs.Rows.{map_of};
+ghost use Rattle.bl_model.proofs.Parts.{IsPlaceOf};
+ghost use Rattle.bl_page.specs.Pairs.{RisesFrom, end_of};
+ghost use Rattle.bl_ways.specs.declared.acts.Seen.TheVariants as seen;
+ghost use Rattle.bl_ways.specs.declared.onwards.Onward.TheVariants as onward;
+ghost use Rattle.bl_proc.specs.declared.parts.PartStage.TheVariants as part_stage;
+ghost use Rattle.bl_ways.specs.Given.{Gives};
+ghost use Rattle.bl_ways.specs.Onwards.{Leads};
+ghost use Rattle.bl_proc.specs.Parts.{GoesOnAt, IsPartOf, part_next_in, part_answer_in, PartGoes, part_next, part_needs, part_answer, PartTakes};
+
+use arrayvec::ArrayVec;
+use bl_model::{Next, Reply};
+use bl_page::{Page, Pairs};
+use bl_ways::{Action, Answer, Onward, Process, Seen, top_page, way_from};
+use std::mem;
+
+/// A process that lists the pairs of one leaf from a key on.
+#[derive(Drop)]
+pub struct Part {
+    /// The key that it begins with.
+    pub from: u64,
+    pub stage: PartStage,
+}
+
+/// How far a part has come.
+#[derive(Drop)]
+pub enum PartStage {
+    /// It is to begin.
+    New,
+    /// It is to get the anchor.
+    AtAnchor,
+    /// It is to get that page.
+    At(u32),
+    /// It is to end, with these rows.
+    Ending(PartRows),
+    /// It has ended, with these rows.
+    Over(PartRows),
+}
+
+/// What a part lists.
+#[derive(Drop)]
+pub struct PartRows {
+    /// The rows of the leaf from the key on, in rising order.
+    pub rows: Pairs,
+    /// Where the next part begins: at the leaf's bound, where it has one.
+    pub next: Next,
+}
+
+/// The place of the first row that is not below the key.
+fn place_from(rows: &[(u64, u64)], from: u64) -> usize
+    requires { RisesFrom 0 rows.now }
+    ensures { IsPlaceOf rows.now from result }
+{
+    for (i, row) in rows.iter().enumerate() {
+        if from <= row.0 {
+            return i;
+        }
+    }
+    rows.len()
+}
+
+/// The rows from the key on.
+fn rows_from(rows: &[(u64, u64)], from: u64) -> Pairs
+    requires few { length rows.now ≤ 14 }
+    requires rising { RisesFrom 0 rows.now }
+    ensures { ListsPairs (map_of rows.now) (λ key. from ≤ key) result.items }
+{
+    let rest = &rows[place_from(rows, from)..];
+    let mut part = ArrayVec::new();
+    for row in rest {
+        part.push(*row);
+    }
+    part
+}
+
+/// Where the part after a leaf with that bound begins.
+fn next_after(high: u64) -> Next
+    ensures { GoesOnAt (end_of high) result }
+{
+    if high == 0 {
+        Next::End
+    } else {
+        Next::More(high)
+    }
+}
+
+/// The part of the leaf that covers the key.
+fn part_of(page: &Page, from: u64) -> PartRows
+    requires { Leads page.now from 0 onward.Here }
+    ensures { IsPartOf page.now from result }
+{
+    match page {
+        Page::Leaf(leaf) => PartRows {
+            rows: rows_from(leaf.rows.as_slice(), from),
+            next: next_after(leaf.high),
+        },
+        _ => unreachable!(),
+    }
+}
+
+/// From a page that was got.
+fn went_on(from: u64, at: u32, page: &Page) -> PartStage
+    ensures { PartGoes from (part_stage.At at) (seen.Words page.now) result }
+{
+    match way_from(page, from, 0) {
+        Onward::Again => PartStage::AtAnchor,
+        Onward::Right(next) | Onward::Down(next) => PartStage::At(next),
+        Onward::Here => PartStage::Ending(part_of(page, from)),
+    }
+}
+
+fn went(from: u64, stage: PartStage, seen: &Seen) -> PartStage
+    requires running { part_answer_in stage ≡ None }
+    requires given { Gives (part_next_in stage) None seen.now }
+    ensures { PartGoes from stage seen.now result }
+{
+    match (stage, seen) {
+        (PartStage::New, Seen::Done) => PartStage::AtAnchor,
+        (PartStage::AtAnchor, Seen::Words(anchor)) => PartStage::At(top_page(anchor)),
+        (PartStage::At(at), Seen::Words(page)) => went_on(from, at, page),
+        (PartStage::Ending(part), Seen::Done) => PartStage::Over(part),
+        _ => unreachable!(),
+    }
+}
+
+/// A copy of the rows.
+fn copied(rows: &Pairs) -> Pairs
+    ensures { result ≡ rows.now }
+{
+    match rows.clone() {
+        Ok(copy) => copy,
+        Err(_) => unreachable!(),
+    }
+}
+
+impl Part {
+    /// A part that is to begin.
+    pub fn new(from: u64) -> Part
+        ensures from { result.from ≡ from }
+        ensures stage { result.stage ≡ part_stage.New }
+    {
+        Part {
+            from,
+            stage: PartStage::New,
+        }
+    }
+}
+
+impl Process for Part {
+    ghost next_of = { part_next };
+
+    ghost needs_of = { part_needs };
+
+    ghost answer_of = { part_answer };
+
+    ghost Takes = { PartTakes };
+
+    fn next(&self) -> Action {
+        match &self.stage {
+            PartStage::New => Action::Begin,
+            PartStage::AtAnchor => Action::Get(0),
+            PartStage::At(page) => Action::Get(*page),
+            PartStage::Ending(_) | PartStage::Over(_) => Action::End,
+        }
+    }
+
+    fn needs(&self) -> Option<(u32, u32)> {
+        None
+    }
+
+    fn answer(&self) -> Option<Answer> {
+        match &self.stage {
+            PartStage::Over(part) => {
+                let reply = Reply::Rows(copied(&part.rows), part.next);
+                Some(Answer::Op(reply, None))
+            }
+            _ => None,
+        }
+    }
+
+    fn took(&mut self, seen: Seen) {
+        let stage = mem::replace(&mut self.stage, PartStage::New);
+        self.stage = went(self.from, stage, &seen);
+    }
+}
