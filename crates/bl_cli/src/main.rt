@@ -17,7 +17,6 @@ mod scripts_tests;
 mod serve;
 #[cfg(test)]
 mod tests;
-mod worker;
 
 use bl_model::Watched;
 use check::check_file;

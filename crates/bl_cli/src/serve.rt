@@ -6,9 +6,9 @@ ghost use Rattle.bl_model.specs.Map.{empty};
 ghost use Rattle.bl_lines.specs.Served.{Served, Stops};
 ghost use Rattle.bl_lines.specs.Streams.{EndsRead};
 
-use crate::worker::Worker;
 use bl_lines::{ServeFault, Totals, serve};
 use bl_model::Watched;
+use bl_worker::Worker;
 use std::alloc::Global;
 use std::io::{Read, Write};
 use std::sync::Wait;

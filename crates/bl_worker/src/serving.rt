@@ -4,10 +4,10 @@ ghost use Rattle.std.specs.Prelude.{◌≡◌, ◌≤◌, IfOk};
 ghost use Rattle.bl_model.specs.Map.{empty};
 ghost use Rattle.bl_index.specs.Calls.{IsPassOf, passes_of, number_of, trail, map_of};
 
+use crate::working::{delete, find, insert};
 use bl_index::{Config, Index, OpenFault, Pass};
 use bl_lines::Answers;
 use bl_model::{Op, Reply};
-use bl_worker::{delete, find, insert};
 use std::alloc::{AllocError, Global};
 use std::sync::Wait;
 

@@ -1,6 +1,6 @@
 use Rattle.bl_index.proofs.Taken.{same_of}
-use Rattle.bl_cli.proofs.Working.{works_step}
-use Rattle.bl_cli.proofs.worker.WorkerAnswers.answer.Goals as goal
+use Rattle.bl_worker.proofs.Steps.{works_step}
+use Rattle.bl_worker.proofs.serving.WorkerAnswers.answer.Goals as goal
 
 pub returns-in-Find : goal.returns-in-Find
 returns-in-Find g c = (let me = c.args.self.now in rw c.in-Find.is (works_step me.index me.pass c.find.new.pass _ _ me.own (same_of me.index me.pass c.find.new.pass c.find.ensures.same me.own) me.alone me.first c.find.ensures.works))
