@@ -34,8 +34,10 @@ use Rattle.bl_ways.specs.Changes.{EntersPair, Changes}
 use Rattle.bl_ways.specs.Growths.{Grows}
 use Rattle.bl_proc.specs.declared.kinds.Proc.{Proc}
 use Rattle.bl_proc.specs.declared.kinds.Proc.TheVariants as proc
-use Rattle.bl_proc.specs.declared.posting.Walk.{Walk}
+use Rattle.bl_proc.specs.declared.walking.Walk.{Walk}
 use Rattle.bl_proc.specs.declared.posting.Post.{Post}
+use Rattle.bl_proc.specs.Levels.{IsBelowTop, IsBelowTop-prop}
+use Rattle.bl_proc.proofs.Below.{goes_below}
 use Rattle.bl_proc.specs.declared.posting.PostStage.{PostStage}
 use Rattle.bl_proc.specs.declared.posting.PostStage.TheVariants.{New, Coming, Growing, Walking, Changing, Staying, Ending, Over}
 use Rattle.bl_proc.specs.declared.posting.PostReply.{PostReply}
@@ -561,7 +563,7 @@ module _ (level key : ℕ) where
   stage_one least (Ending q) seen.Refused r g = absurd g
   stage_one least (Over q) what r g = (let z : Some _ ≡ None = r in cc)
 
-post_only : (old : Post) (what : Seen) (g : One (PostGoes old.level old.key old.stage what)) (other : Proc) → Takes (proc.Post old) what other → other ≡ proc.Post (record { level = old.level; key = old.key; stage = g.new; least = old.least; most = old.most })
+post_only : (old : Post) (what : Seen) (g : One (PostGoes old.level old.key old.stage what)) (other : Proc) → Takes (proc.Post old) what other → other ≡ proc.Post (record { level = old.level; key = old.key; stage = g.new; least = old.least; most = old.most; below = goes_below old.level old.key old.stage what g.new old.below g.goes })
 post_only old what g (proc.Find f) t = absurd t
 post_only old what g (proc.Part f) t = absurd t
 post_only old what g (proc.Insert f) t = absurd t
@@ -572,9 +574,10 @@ post_only old what g (proc.Post f) t = (let e = g.only f.stage t.2 in λ i. proc
   stage = e i;
   least = is_prop→PathP (λ i. 0 < t.0 i) (λ i. le_prop) f.least old.least i;
   most = is_prop→PathP (λ i. t.0 i ≤ 12) (λ i. le_prop) f.most old.most i;
+  below = is_prop→PathP (λ i. IsBelowTop (t.0 i) (e i)) (λ i. IsBelowTop-prop (t.0 i) (e i)) f.below (goes_below old.level old.key old.stage what g.new old.below g.goes) i;
 }))
 
 pub post_goes : (old : Post) (what : Seen) → post_answer_in old.level old.stage ≡ None → Gives (post_next_in old.stage) (post_needs_in old.stage) what → GoesOn (proc.Post old) what
 post_goes old what running given =
     let g = stage_one old.level old.key old.least old.stage what running given in
-    record { new = proc.Post (record { level = old.level; key = old.key; stage = g.new; least = old.least; most = old.most }); takes = (refl, refl, g.goes); only = post_only old what g }
+    record { new = proc.Post (record { level = old.level; key = old.key; stage = g.new; least = old.least; most = old.most; below = goes_below old.level old.key old.stage what g.new old.below g.goes }); takes = (refl, refl, g.goes); only = post_only old what g }

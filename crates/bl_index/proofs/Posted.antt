@@ -39,7 +39,7 @@ use Rattle.bl_passes.specs.Noting.{trail_of}
 use Rattle.bl_passes.specs.Seeing.{own}
 use Rattle.bl_passes.specs.Fitting.{name}
 use Rattle.bl_passes.specs.Told.{Finishes}
-use Rattle.bl_index.specs.Calls.{IsHint, Posts}
+use Rattle.bl_index.specs.Calls.{Posts}
 use Rattle.bl_index.specs.Runs.{IsDone}
 use Rattle.bl_index.specs.Searching.{IsPostAnswer}
 use Rattle.bl_index.proofs.Calls.{since_end, since_said}
@@ -139,38 +139,3 @@ post_answered pass old e first last level key what next d is a =
       means = subst (λ (z : ℕ × ℕ). MeansPosted z.0 z.1 what marks) (λ i. (p.level_is i, p.key_is i)) (stage_means q.level q.key q.stage what next marks answered log);
       hint = subst (λ (z : ℕ × ℕ). MeansHint z.0 z.1 what next marks) (λ i. (p.level_is i, p.key_is i)) (stage_hints q.level q.key q.stage what next marks answered log);
     }
-
-below_limit : (c : Page) → (node_of c).shape.level < 12
-below_limit (Anchor a) = omega arith
-below_limit (Leaf l) = omega arith
-below_limit (Inner i) = i.below_limit
-below_limit (Dead d) = d.below_limit
-
-parted_fits : (level key : ℕ) (parted : Option ℕ) (marks : Trail) → MeansParted level key parted marks → IfSome (post_hint (level + 1) parted) IsHint
-parted_fits level key None marks m = tt
-parted_fits level key (Some s) marks m = (let low = below_limit m.done.parent.parent in let is = m.done.parent.level_is in (omega arith, omega arith))
-
-none_fits : (next : Option Hint) → next ≡ None → IfSome next IsHint
-none_fits next e = subst (λ (z : Option Hint). IfSome z IsHint) (sym e) tt
-
--- the hint beside an answer is one that may be posted
-pub hint_fits : (level key : ℕ) (what : Posted) (next : Option Hint) (marks : Trail) → MeansHint level key what next marks → IfSome next IsHint
-hint_fits level key posted.Done next marks h = subst (λ (z : Option Hint). IfSome z IsHint) (sym h.2) (parted_fits level key h.0 marks h.1)
-hint_fits level key posted.Already next marks h = none_fits next h
-hint_fits level key posted.Stale next marks h = none_fits next h
-hint_fits level key posted.NoRoom next marks h = none_fits next h
-hint_fits level key posted.TooTall next marks h = none_fits next h
-
-some_op : (r s : Reply) (h i : Option Hint) → Some (answer.Op r h) ≡ Some (answer.Op s i) → i ≡ h
-some_op r s h i e = cc
-
-pub insert_fits : (a : InsertStage) (reply : Reply) (next : Option Hint) → insert_answer_in a ≡ Some (answer.Op reply next) → IfSome next IsHint
-insert_fits (insert.Over (inserted.Inserted None)) reply next e = none_fits next (some_op _ _ _ _ e)
-insert_fits (insert.Over (inserted.Inserted (Some s))) reply next e = subst (λ (z : Option Hint). IfSome z IsHint) (sym (some_op _ _ _ _ e)) (omega arith, omega arith)
-insert_fits (insert.Over (inserted.Present v)) reply next e = none_fits next (some_op _ _ _ _ e)
-insert_fits (insert.Over inserted.NoRoom) reply next e = none_fits next (some_op _ _ _ _ e)
-insert_fits insert.New reply next e = absurd (let z = e in cc)
-insert_fits (insert.Coming a) reply next e = absurd (let z = e in cc)
-insert_fits (insert.Present x v) reply next e = absurd (let z = e in cc)
-insert_fits (insert.Changing c) reply next e = absurd (let z = e in cc)
-insert_fits (insert.Ending r) reply next e = absurd (let z = e in cc)

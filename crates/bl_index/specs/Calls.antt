@@ -1,5 +1,5 @@
 -- What a call tells the pass that makes it.
-use Rattle.std.specs.Prelude.{◌≡◌, ◌≢◌, ℕ, ◌<◌, ◌≤◌, ◌++◌, Option, Some, None, List, [], ◌∷◌, Result, IfOk, IfErr}
+use Rattle.std.specs.Prelude.{◌≡◌, ◌≢◌, ℕ, ◌++◌, Option, Some, None, List, [], ◌∷◌, Result, IfOk, IfErr}
 use Rattle.bl_model.specs.Map.{Map, empty}
 use Rattle.bl_model.specs.History.{final_map}
 use Rattle.bl_model.specs.declared.operation.Op.{Op}
@@ -8,7 +8,6 @@ use Rattle.bl_page.specs.Machine.{Name}
 use Rattle.bl_trails.specs.Trails.{Mark, Trail, history_of, marks_of}
 use Rattle.bl_steps.specs.Worlds.{Each}
 use Rattle.bl_ways.specs.declared.answers.Hint.{Hint}
-use Rattle.bl_ways.specs.declared.answers.Hint.TheVariants as hint
 use Rattle.bl_ways.specs.declared.answers.Posted.{Posted}
 use Rattle.bl_tables.specs.Answers.{MeansPosted, MeansHint}
 use Rattle.bl_store.specs.Hands.{known, IsOf}
@@ -80,19 +79,6 @@ pub record Sweeps (pass : ℕ) (old new : Trail) : Type 0 where
 pub record MayAnswer (pass : ℕ) (op : Op) (result : Result Reply OutOfTurns) (old new : Trail) : Type 0 where
   pub answered : IfOk result (λ reply. Answers pass op reply old new)
   pub refused : IfErr result (λ fault. Adds pass old new)
-
--- the level and the key that a hint names
-abbrev pub level_of : Hint → ℕ
-level_of (hint.Post level key) = level
-level_of (hint.Thin level key) = level
-
-abbrev pub key_of : Hint → ℕ
-key_of (hint.Post level key) = key
-key_of (hint.Thin level key) = key
-
--- it names a level that a tree may have above its leaves, or would have with one level more
-abbrev pub IsHint : Hint → Type 0
-IsHint h = (0 < level_of h) × (level_of h ≤ 12)
 
 -- A post is answered: it says nothing of the map, and what its process has done is what its answer and its hint mean.
 pub record Posts (pass level key : ℕ) (answer : Posted) (next : Option Hint) (old new : Trail) : Type 0 where

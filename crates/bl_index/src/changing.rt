@@ -1,6 +1,6 @@
 //! Insertions and deletions.
 
-ghost use Rattle.std.specs.Prelude.{◌≡◌, None, Some, IfSome, false};
+ghost use Rattle.std.specs.Prelude.{◌≡◌, None, Some, false};
 ghost use Rattle.bl_model.specs.declared.operation.Op.TheVariants as op;
 ghost use Rattle.bl_ways.specs.declared.acts.Action.TheVariants as act;
 ghost use Rattle.bl_ways.specs.declared.answers.Answer.TheVariants as answers;
@@ -33,7 +33,7 @@ fn answered(answer: Option<Answer>) -> (Reply, Option<Hint>)
 }
 
 impl Index {
-    ghost use Rattle.bl_index.specs.Calls.{IsPassOf, IsSamePass, number_of, trail, IsHint, Answers};
+    ghost use Rattle.bl_index.specs.Calls.{IsPassOf, IsSamePass, number_of, trail, Answers};
 
     /// Puts the value at the key, where the key has none. Where a page was parted, there is a hint to post.
     pub fn insert<R: Wait>(
@@ -46,7 +46,6 @@ impl Index {
         requires { IsPassOf self.now pass.old }
         ensures same { IsSamePass pass.old pass.new }
         ensures answers { Answers (number_of pass.old) (op.Insert key value) result.0 (trail pass.old) (trail pass.new) }
-        ensures hint { IfSome result.1 IsHint }
     {
         let process = self.carry_out(rt, &mut pass.hand, Insert::new(key, value));
         answered(process.answer())

@@ -1,9 +1,9 @@
-ghost use Rattle.std.specs.Prelude.{IfSome, ◌<◌};
+ghost use Rattle.std.specs.Prelude.{IfSome, ◌<◌, ◌≤◌};
 ghost use Rattle.bl_index.specs.Calls.{IsPassOf};
 
 use crate::{Config, Index, OpenFault, OutOfTurns, Pass};
 use bl_model::Reply;
-use bl_proc::{Find, Hint, Posted};
+use bl_proc::{Find, Hint, Level, Posted};
 use std::alloc::Global;
 use std::sync::Wait;
 use std::test::Fail;
@@ -11,6 +11,15 @@ use std::thread::join;
 
 fn config(pages: u32, passes: u32) -> Config {
     Config { pages, passes }
+}
+
+/// The hint to list the page whose low is the key in a parent of that level.
+fn hint_to_post(level: u32, key: u64) -> Hint
+    requires least { 0 < level }
+    requires most { level ≤ 12 }
+{
+    let level = Level::new(level);
+    Hint::Post { level, key }
 }
 
 fn one_pass(alloc: Global, pages: u32) -> Option<(Index, Pass)>
@@ -111,13 +120,9 @@ fn full_leaves_are_parted(rt: HostRuntime) -> Result<(), Fail> {
         let reply = index.insert(&rt, &mut pass, key, 10 * key);
         assert!(rt; matches!(reply, (Reply::Inserted, None)));
     }
-    let last = index.insert(&rt, &mut pass, 15, 150);
-    assert!(rt;
-        matches!(
-            last,
-            (Reply::Inserted, Some(Hint::Post { level: 1, key: 9 }))
-        )
-    );
+    let (last, hint) = index.insert(&rt, &mut pass, 15, 150);
+    assert!(rt; matches!(last, Reply::Inserted));
+    assert!(rt; hint == Some(hint_to_post(1, 9)));
     let few = index.find(&mut pass, 12, 2);
     assert!(rt; matches!(few, Err(OutOfTurns)));
     let found = index.find(&mut pass, 12, 3);
@@ -269,7 +274,7 @@ fn posts_grow_the_tree(rt: HostRuntime) -> Result<(), Fail> {
         assert!(rt; false);
         return Ok(());
     };
-    assert!(rt; matches!(hint, Hint::Post { level: 1, key: 9 }));
+    assert!(rt; hint == hint_to_post(1, 9));
     let done = index.post(&rt, &mut one, hint);
     assert!(rt; matches!(done, (Posted::Done, None)));
     let again = index.post(&rt, &mut two, hint);
@@ -286,17 +291,18 @@ fn posts_of_nothing_are_stale(rt: HostRuntime) -> Result<(), Fail> {
         assert!(rt; false);
         return Ok(());
     };
-    let high = index.post(&rt, &mut pass, Hint::Post { level: 12, key: 9 });
+    let high = index.post(&rt, &mut pass, hint_to_post(12, 9));
     assert!(rt; matches!(high, (Posted::Stale, None)));
-    let two = index.post(&rt, &mut pass, Hint::Post { level: 2, key: 9 });
+    let two = index.post(&rt, &mut pass, hint_to_post(2, 9));
     assert!(rt; matches!(two, (Posted::Stale, None)));
     let few = index.find(&mut pass, 5, 2);
     assert!(rt; matches!(few, Ok(Reply::Absent)));
-    let one = index.post(&rt, &mut pass, Hint::Thin { level: 1, key: 9 });
+    let level = Level::new(1);
+    let one = index.post(&rt, &mut pass, Hint::Thin { level, key: 9 });
     assert!(rt; matches!(one, (Posted::Stale, None)));
     let grown = index.find(&mut pass, 5, 2);
     assert!(rt; matches!(grown, Err(OutOfTurns)));
-    let first = index.post(&rt, &mut pass, Hint::Post { level: 1, key: 0 });
+    let first = index.post(&rt, &mut pass, hint_to_post(1, 0));
     assert!(rt; matches!(first, (Posted::Already, None)));
     Ok(())
 }
@@ -313,7 +319,7 @@ fn posts_meet_want_of_pages(rt: HostRuntime) -> Result<(), Fail> {
         assert!(rt; matches!(reply, Reply::Inserted));
         let _released = index.sweep(&mut pass);
     }
-    let refused = index.post(&rt, &mut pass, Hint::Post { level: 1, key: 9 });
+    let refused = index.post(&rt, &mut pass, hint_to_post(1, 9));
     assert!(rt; matches!(refused, (Posted::NoRoom, None)));
     let found = index.find(&mut pass, 12, 3);
     assert!(rt; matches!(found, Ok(Reply::Found(120))));
@@ -331,7 +337,7 @@ fn posts_meet_want_of_frames(rt: HostRuntime) -> Result<(), Fail> {
         let reply = index.insert(&rt, &mut pass, key, 10 * key);
         assert!(rt; matches!(reply, (Reply::Inserted, None)));
     }
-    let refused = index.post(&rt, &mut pass, Hint::Post { level: 1, key: 9 });
+    let refused = index.post(&rt, &mut pass, hint_to_post(1, 9));
     assert!(rt; matches!(refused, (Posted::NoRoom, None)));
     let found = index.find(&mut pass, 12, 2);
     assert!(rt; matches!(found, Ok(Reply::Found(120))));

@@ -1,4 +1,5 @@
 pub mod Arrivals
+pub mod Below
 pub mod Named
 pub mod Rising
 mod Examples

@@ -2,5 +2,6 @@ pub mod Searches
 pub mod Parts
 pub mod Inserts
 pub mod Deletes
+pub mod Levels
 pub mod Posts
 pub mod Processes

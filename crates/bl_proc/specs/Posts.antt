@@ -21,7 +21,7 @@ use Rattle.bl_ways.specs.declared.changing.Outcome.TheVariants as outcome
 use Rattle.bl_ways.specs.declared.changing.Changed.TheVariants as change
 use Rattle.bl_ways.specs.declared.growing.Growth.TheVariants as growth
 use Rattle.bl_ways.specs.declared.growing.Grew.TheVariants as grew
-use Rattle.bl_proc.specs.declared.posting.Walk.{Walk}
+use Rattle.bl_proc.specs.declared.walking.Walk.{Walk}
 use Rattle.bl_proc.specs.declared.posting.Post.{Post}
 use Rattle.bl_proc.specs.declared.posting.PostStage.{PostStage}
 use Rattle.bl_proc.specs.declared.posting.PostStage.TheVariants.{New, Coming, Growing, Walking, Changing, Staying, Ending, Over}

@@ -1,6 +1,6 @@
 //! The insertion of a pair.
 
-ghost use Rattle.std.specs.Prelude.{◌≡◌, None};
+ghost use Rattle.std.specs.Prelude.{◌≡◌, None, Some};
 ghost use Rattle.bl_laws.specs.Pages.{node_of};
 ghost use Rattle.bl_ways.specs.declared.approaching.Approach.{Approach};
 ghost use Rattle.bl_ways.specs.declared.approaching.Approached.TheVariants as approached;
@@ -16,8 +16,8 @@ ghost use Rattle.bl_ways.specs.declared.onwards.Onward.TheVariants as onward;
 use bl_model::Reply;
 use bl_page::Page;
 use bl_ways::{
-    Action, Answer, Approach, Approached, Change, Changed, Hint, Outcome, Process, Seen, entering,
-    listed,
+    Action, Answer, Approach, Approached, Change, Changed, Hint, Level, Outcome, Process, Seen,
+    entering, listed,
 };
 use std::mem;
 
@@ -58,12 +58,12 @@ pub enum InsertReply {
 }
 
 /// The hint to list a page that begins at the separator, in a parent of that level.
-pub fn hint_to_post(level: u32, separator: Option<u64>) -> Option<Hint>
-    ensures { result ≡ post_hint level separator }
+pub fn hint_to_post(level: Level, separator: u64) -> Hint
+    ensures { Some result ≡ post_hint level (Some separator) }
 {
-    match separator {
-        Some(key) => Some(Hint::Post { level, key }),
-        None => None,
+    Hint::Post {
+        level,
+        key: separator,
     }
 }
 
@@ -123,8 +123,10 @@ fn answer_of(reply: InsertReply) -> Answer
     ensures { result ≡ inserted_answer reply }
 {
     match reply {
-        InsertReply::Inserted(separator) => {
-            Answer::Op(Reply::Inserted, hint_to_post(1, separator))
+        InsertReply::Inserted(None) => Answer::Op(Reply::Inserted, None),
+        InsertReply::Inserted(Some(separator)) => {
+            let above = Level::new(1);
+            Answer::Op(Reply::Inserted, Some(hint_to_post(above, separator)))
         }
         InsertReply::Present(value) => Answer::Op(Reply::Present(value), None),
         InsertReply::NoRoom => Answer::Op(Reply::NoRoom, None),

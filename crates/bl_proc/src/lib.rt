@@ -14,14 +14,16 @@ mod parts;
 mod posting;
 mod posts;
 mod searching;
+mod walking;
 
-pub use bl_ways::{Action, Answer, Hint, Posted, Process, Seen};
+pub use bl_ways::{Action, Answer, Hint, Level, Posted, Process, Seen};
 pub use deleting::{Delete, DeleteReply, DeleteStage};
 pub use inserting::{Insert, InsertReply, InsertStage};
 pub use kinds::Proc;
 pub use parts::{Part, PartRows, PartStage};
-pub use posting::{Post, PostReply, PostStage, Walk};
+pub use posting::{Post, PostReply, PostStage};
 pub use searching::{Find, FindStage};
+pub use walking::Walk;
 
 #[cfg(test)]
 mod tests;

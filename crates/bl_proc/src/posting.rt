@@ -1,26 +1,10 @@
 //! The listing of a child in its parent.
 
-ghost use Rattle.std.specs.Prelude.{◌≡◌, ◌≤◌, ◌<◌, None};
-ghost use Rattle.bl_model.specs.Rows.{map_of};
-ghost use Rattle.bl_page.specs.Pairs.{IsWithin, IsWithin-prop, IsChild, IsChild-prop};
+ghost use Rattle.std.specs.Prelude.{◌≡◌, ◌≤◌, ◌<◌};
+ghost use Rattle.bl_proc.specs.Levels.{IsBelowTop, IsBelowTop-prop};
 
-use bl_page::Inner;
+use crate::walking::Walk;
 use bl_ways::{Approach, Change, Growth};
-
-/// The walk to the child that covers a key, from a parent that is held and does not list it.
-#[derive(Drop)]
-pub struct Walk {
-    /// The number of the parent.
-    pub at: u32,
-    pub key: u64,
-    /// The parent.
-    pub parent: Inner,
-    /// The page that is to be got next.
-    pub child: u32,
-    ghost covers: { IsWithin parent.low parent.high key } by { IsWithin-prop parent.low parent.high key },
-    ghost unlisted: { map_of parent.children.items key ≡ None },
-    ghost names: { IsChild child } by { IsChild-prop child },
-}
 
 /// The post of a key to a level: the page whose low the key is, one level lower, is to be listed.
 #[derive(Drop)]
@@ -31,6 +15,7 @@ pub struct Post {
     pub stage: PostStage,
     ghost least: { 0 < level },
     ghost most: { level ≤ 12 },
+    ghost below: { IsBelowTop level stage } by { IsBelowTop-prop level stage },
 }
 
 /// How far a post has come.

@@ -8,14 +8,16 @@ ghost use Rattle.bl_ways.specs.declared.onwards.Onward.TheVariants as onward;
 ghost use Rattle.bl_proc.specs.declared.posting.PostStage.TheVariants as post_stage;
 ghost use Rattle.bl_ways.specs.Given.{Gives};
 ghost use Rattle.bl_ways.specs.Onwards.{Leads};
+ghost use Rattle.bl_proc.specs.Levels.{MayReply};
 ghost use Rattle.bl_proc.specs.Posts.{post_reply, posted_answer, post_next_in, post_needs_in, post_answer_in, PostStarts, PostArrives, PostWalks, PostNears, PostComes, PostGoes, post_next, post_needs, post_answer, PostTakes};
 
 use crate::inserting::hint_to_post;
-use crate::posting::{Post, PostReply, PostStage, Walk};
+use crate::posting::{Post, PostReply, PostStage};
+use crate::walking::Walk;
 use bl_page::{Inner, Page, listed_with};
 use bl_ways::{
-    Action, Answer, Approach, Approached, Change, Changed, Grew, Growth, Onward, Outcome, Posted,
-    Process, Seen, entered, entering, levels_of, low_of, way_from,
+    Action, Answer, Approach, Approached, Change, Changed, Grew, Growth, Level, Onward, Outcome,
+    Posted, Process, Seen, entered, entering, levels_of, low_of, way_from,
 };
 use std::mem;
 
@@ -211,12 +213,14 @@ fn went(level: u32, key: u64, stage: PostStage, seen: Seen) -> PostStage
 
 /// The answer of a post to that level.
 fn answer_of(level: u32, reply: PostReply) -> Answer
-    requires { level ≤ 12 }
+    requires { MayReply level reply }
     ensures { result ≡ posted_answer level reply }
 {
     match reply {
-        PostReply::Done(separator) => {
-            Answer::Post(Posted::Done, hint_to_post(level + 1, separator))
+        PostReply::Done(None) => Answer::Post(Posted::Done, None),
+        PostReply::Done(Some(separator)) => {
+            let above = Level::new(level + 1);
+            Answer::Post(Posted::Done, Some(hint_to_post(above, separator)))
         }
         PostReply::Already => Answer::Post(Posted::Already, None),
         PostReply::Stale => Answer::Post(Posted::Stale, None),

@@ -1,6 +1,6 @@
 //! Processes that run alone, one event after the other, over plain pages.
 
-use crate::{Action, Answer, Hint, Post, Posted, Proc, Process, Seen};
+use crate::{Action, Answer, Hint, Level, Post, Posted, Proc, Process, Seen};
 use arrayvec::ArrayVec;
 use bl_model::{Next, Reply};
 use bl_page::{Page, from_words};
@@ -228,7 +228,8 @@ fn a_full_leaf_is_split(rt: HostRuntime) -> Result<(), Fail> {
             ]
         )
     );
-    assert!(rt; answer == Some(Answer::Op(Reply::Inserted, Some(Hint::Post { level: 1, key: 9 }))));
+    let level = Level::new(1);
+    assert!(rt; answer == Some(Answer::Op(Reply::Inserted, Some(Hint::Post { level, key: 9 }))));
     assert!(rt;
         tree.is_page(
             1,

@@ -1,6 +1,6 @@
 //! The printed form of events and answers.
 
-ghost use Rattle.std.specs.Prelude.{◌≡◌, ◌++◌, OnOk};
+ghost use Rattle.std.specs.Prelude.{◌≡◌, ◌++◌, OnOk, Some};
 ghost use Rattle.bl_replay.specs.Texts.{act_text, event_line, hint_text, posted_text, answer_text, answer_line};
 
 use bl_lines::print::{push_number, push_reply};
@@ -39,20 +39,24 @@ pub fn push_event(out: &mut Vec<u8>, event: Event) -> Result<(), AllocError>
     Ok(())
 }
 
+/// Appends the work that is left for another process.
+fn push_work(out: &mut Vec<u8>, hint: &Hint) -> Result<(), AllocError>
+    ensures { OnOk result (out.new.items ≡ out.old.items ++ hint_text (Some hint.now)) }
+{
+    match hint {
+        Hint::Post { .. } => push_number(out, b" post ", u64::from(hint.level()))?,
+        Hint::Thin { .. } => push_number(out, b" thin ", u64::from(hint.level()))?,
+    }
+    push_number(out, b" ", hint.key())
+}
+
 /// Appends a hint, if there is one.
-fn push_hint(out: &mut Vec<u8>, hint: Option<Hint>) -> Result<(), AllocError>
-    ensures { OnOk result (out.new.items ≡ out.old.items ++ hint_text hint) }
+fn push_hint(out: &mut Vec<u8>, hint: &Option<Hint>) -> Result<(), AllocError>
+    ensures { OnOk result (out.new.items ≡ out.old.items ++ hint_text hint.now) }
 {
     match hint {
         None => Ok(()),
-        Some(Hint::Post { level, key }) => {
-            push_number(out, b" post ", u64::from(level))?;
-            push_number(out, b" ", key)
-        }
-        Some(Hint::Thin { level, key }) => {
-            push_number(out, b" thin ", u64::from(level))?;
-            push_number(out, b" ", key)
-        }
+        Some(hint) => push_work(out, hint),
     }
 }
 
@@ -76,11 +80,11 @@ fn push_answer(out: &mut Vec<u8>, answer: &Answer) -> Result<(), AllocError>
     match answer {
         Answer::Op(reply, hint) => {
             push_reply(out, reply)?;
-            push_hint(out, *hint)
+            push_hint(out, hint)
         }
         Answer::Post(posted, hint) => {
             push_posted(out, *posted)?;
-            push_hint(out, *hint)
+            push_hint(out, hint)
         }
     }
 }

@@ -27,7 +27,7 @@ use Rattle.bl_ways.specs.declared.changing.Changed.TheVariants as changed
 use Rattle.bl_ways.specs.declared.growing.Growth.{Growth}
 use Rattle.bl_ways.specs.declared.growing.Growth.TheVariants as growth
 use Rattle.bl_ways.specs.declared.growing.Grew.TheVariants as grew
-use Rattle.bl_proc.specs.declared.posting.Walk.{Walk}
+use Rattle.bl_proc.specs.declared.walking.Walk.{Walk}
 use Rattle.bl_proc.specs.declared.posting.PostReply.{PostReply}
 use Rattle.bl_proc.specs.declared.posting.PostReply.TheVariants as reply
 use Rattle.bl_proc.specs.declared.posting.PostStage.{PostStage}

@@ -22,7 +22,7 @@ use Rattle.bl_ways.specs.declared.approaching.Approached.TheVariants as came
 use Rattle.bl_ways.specs.declared.changing.Change.{Change}
 use Rattle.bl_ways.specs.declared.growing.Growth.{Growth}
 use Rattle.bl_ways.specs.declared.growing.Growth.TheVariants as growth
-use Rattle.bl_proc.specs.declared.posting.Walk.{Walk}
+use Rattle.bl_proc.specs.declared.walking.Walk.{Walk}
 use Rattle.bl_proc.specs.declared.posting.PostStage.{PostStage}
 use Rattle.bl_proc.specs.declared.posting.PostStage.TheVariants as post
 use Rattle.bl_proc.specs.declared.posting.PostReply.TheVariants as reply

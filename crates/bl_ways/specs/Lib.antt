@@ -4,3 +4,4 @@ pub mod Onwards
 pub mod Approaches
 pub mod Changes
 pub mod Growths
+pub mod Hints

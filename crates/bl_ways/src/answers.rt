@@ -1,6 +1,47 @@
 //! What a process answers.
 
+ghost use Rattle.std.specs.Prelude.{◌≡◌, ◌<◌, ◌≤◌};
+
 use bl_model::Reply;
+use std::marker::Model;
+
+/// The level of a page above the leaves, or the one that a tree would have with one level more: 1 to 12.
+#[derive(Clone, Copy, Debug, PartialEq, Eq)]
+pub struct Level {
+    number: u32,
+}
+
+impl Model for Level {
+    ghost use Rattle.std.specs.Prelude.{ℕ, ◌<◌, ◌≤◌};
+
+    ghost Value = { ℕ };
+
+    ghost view = { λ l. l.number };
+
+    ghost invariant = { λ l. (0 < l.number) × (l.number ≤ 12) };
+
+    ghost inverse = { λ n. record { number = n } };
+}
+
+impl Level {
+    /// The level with that number.
+    pub fn new(number: u32) -> Level
+        requires least { 0 < number }
+        requires most { number ≤ 12 }
+        ensures { result ≡ number }
+    {
+        Level { number }
+    }
+
+    /// Its number, 1 to 12.
+    pub fn number(self) -> u32
+        ensures same { result ≡ self }
+        ensures least { 0 < result }
+        ensures most { result ≤ 12 }
+    {
+        self.number
+    }
+}
 
 /// Work that a process leaves for another one. It names a level and a key and never a page, so that it does no harm when
 /// it comes late, twice or not at all.
@@ -8,18 +49,43 @@ use bl_model::Reply;
 pub enum Hint {
     /// The page whose low is the key may have no parent that lists it.
     Post {
-        /// The level of the parent, 1 to 12.
-        level: u32,
+        /// The level of the parent.
+        level: Level,
         /// The low of the page, by which it is to be listed.
         key: u64,
     },
     /// The page that covers the key has few pairs.
     Thin {
-        /// The level of its parent, 1 to 12.
-        level: u32,
+        /// The level of its parent.
+        level: Level,
         /// A key that the page covers.
         key: u64,
     },
+}
+
+impl Hint {
+    ghost use Rattle.std.specs.Prelude.{◌≡◌, ◌<◌, ◌≤◌};
+    ghost use Rattle.bl_ways.specs.Hints.{level_of, key_of};
+
+    /// The number of the level that it names, 1 to 12.
+    pub fn level(&self) -> u32
+        ensures named { result ≡ level_of self.now }
+        ensures least { 0 < result }
+        ensures most { result ≤ 12 }
+    {
+        match self {
+            Hint::Post { level, .. } | Hint::Thin { level, .. } => level.number(),
+        }
+    }
+
+    /// The key that it names.
+    pub fn key(&self) -> u64
+        ensures { result ≡ key_of self.now }
+    {
+        match self {
+            Hint::Post { key, .. } | Hint::Thin { key, .. } => *key,
+        }
+    }
 }
 
 /// What became of a post.

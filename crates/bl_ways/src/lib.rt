@@ -20,7 +20,7 @@ mod reading;
 mod spelled;
 
 pub use acts::{Action, Seen};
-pub use answers::{Answer, Hint, Posted};
+pub use answers::{Answer, Hint, Level, Posted};
 pub use approaching::{Approach, Approached, entered};
 pub use changes::{dropping, entering};
 pub use changing::{Change, Changed, Full, Outcome, Parting};

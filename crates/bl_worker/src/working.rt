@@ -1,8 +1,7 @@
 //! Requests on one key.
 
-ghost use Rattle.std.specs.Prelude.{IfSome};
 ghost use Rattle.bl_model.specs.declared.operation.Op.TheVariants as op;
-ghost use Rattle.bl_index.specs.Calls.{IsPassOf, IsSamePass, IsHint, number_of, trail};
+ghost use Rattle.bl_index.specs.Calls.{IsPassOf, IsSamePass, number_of, trail};
 ghost use Rattle.bl_worker.specs.Works.{Works, Adds};
 
 use bl_index::{Index, Pass};
@@ -54,8 +53,7 @@ pub fn delete<R: Wait>(rt: &R, index: &Index, pass: &mut Pass, key: u64) -> Repl
 
 /// Posts, and goes on with the hints that posting gives. Where a post meets no room, searches go on by the links.
 fn post<R: Wait>(rt: &R, index: &Index, pass: &mut Pass, hint: Option<Hint>)
-    requires own { IsPassOf index.now pass.old }
-    requires hint { IfSome hint IsHint }
+    requires { IsPassOf index.now pass.old }
     ensures same { IsSamePass pass.old pass.new }
     ensures adds { Adds (number_of pass.old) (trail pass.old) (trail pass.new) }
 {

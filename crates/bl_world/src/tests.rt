@@ -2,7 +2,7 @@
 
 use crate::{Act, Event, Turn, World, WorldFault};
 use bl_model::Reply;
-use bl_proc::{Answer, Hint, Posted, Proc};
+use bl_proc::{Answer, Hint, Level, Posted, Proc};
 use std::alloc::Global;
 use std::test::Fail;
 
@@ -71,6 +71,12 @@ fn did(alloc: Global, world: &World, number: usize, wanted: &[Act]) -> Result<bo
 /// What an operation answers without a hint.
 fn plain(reply: Reply) -> Option<Answer> {
     Some(Answer::Op(reply, None))
+}
+
+/// What an insertion answers that has parted its leaf at that key.
+fn inserted_to_post(key: u64) -> Option<Answer> {
+    let level = Level::new(1);
+    Some(Answer::Op(Reply::Inserted, Some(Hint::Post { level, key })))
 }
 
 /// What a post answers without a hint.
@@ -210,9 +216,7 @@ fn a_full_leaf_is_split_and_its_page_posted(rt: HostRuntime) -> Result<(), Fail>
             ]
         )?
     );
-    assert!(rt;
-        world.answer(15) == Some(Answer::Op(Reply::Inserted, Some(Hint::Post { level: 1, key: 9 })))
-    );
+    assert!(rt; world.answer(15) == inserted_to_post(9));
     assert!(rt;
         did(
             rt.alloc(),
@@ -305,9 +309,7 @@ fn searches_beside_a_split_that_is_half_done(rt: HostRuntime) -> Result<(), Fail
     assert!(rt; world.answer(between) == plain(Reply::Found(120)));
     assert!(rt; world.answer(15) == None);
     step(&mut world, 15, 3)?;
-    assert!(rt;
-        world.answer(15) == Some(Answer::Op(Reply::Inserted, Some(Hint::Post { level: 1, key: 9 })))
-    );
+    assert!(rt; world.answer(15) == inserted_to_post(9));
     Ok(())
 }
 
@@ -634,13 +636,11 @@ fn insert_and_post(world: &mut World, key: u64, unused: &mut u32) -> Result<(), 
     let number = insert(world, key, key)?;
     let mut hint = hint_of(finish(world, number, unused)?);
     for _ in 0..12 {
-        match hint {
-            Some(Hint::Post { level, key }) => {
-                let number = post(world, level, key)?;
-                hint = hint_of(finish(world, number, unused)?);
-            }
-            _ => return Ok(()),
-        }
+        let Some(next) = hint else {
+            return Ok(());
+        };
+        let number = post(world, next.level(), next.key())?;
+        hint = hint_of(finish(world, number, unused)?);
     }
     Ok(())
 }

@@ -1,5 +1,4 @@
-use Rattle.std.specs.Prelude.{IfSome}
-use Rattle.bl_index.specs.Calls.{IsSamePass, IsHint, number_of, trail}
+use Rattle.bl_index.specs.Calls.{IsSamePass, number_of, trail}
 use Rattle.bl_worker.specs.Works.{Adds}
 use Rattle.bl_worker.proofs.working.post.Given as goal
 
@@ -7,5 +6,4 @@ abbrev pub invariant-loop-level : goal.invariant-loop-level
 invariant-loop-level g l = record {
   same : IsSamePass l.fn.pass l.pass;
   adds : Adds (number_of l.fn.pass) (trail l.fn.pass) (trail l.pass);
-  hint : IfSome l.hint IsHint;
 }

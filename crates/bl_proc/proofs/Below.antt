@@ -1,0 +1,196 @@
+-- A post that changes its parent, or has parted it, is to a level below the last one: its parent is an inner page.
+use Rattle.std.proofs.Common.{ℕ, suc, ◌≡◌, ◌<◌, Option, None, Some, sym, ap, subst, ◌∙◌, arith}
+use Rattle.bl_page.specs.declared.page.Page.{Page}
+use Rattle.bl_page.specs.declared.page.Page.TheVariants.{Inner}
+use Rattle.bl_laws.specs.Pages.{node_of}
+use Rattle.bl_ways.specs.declared.acts.Seen.{Seen}
+use Rattle.bl_ways.specs.declared.acts.Seen.TheVariants as seen
+use Rattle.bl_ways.specs.declared.onwards.Onward.TheVariants.{Here}
+use Rattle.bl_ways.specs.declared.approaching.Approach.{Approach}
+use Rattle.bl_ways.specs.declared.approaching.Approach.TheVariants as way
+use Rattle.bl_ways.specs.declared.approaching.Approached.TheVariants as came
+use Rattle.bl_ways.specs.declared.changing.Outcome.{Outcome}
+use Rattle.bl_ways.specs.declared.changing.Outcome.TheVariants as outcome
+use Rattle.bl_ways.specs.declared.growing.Growth.TheVariants as growth
+use Rattle.bl_ways.specs.Onwards.{Leads}
+use Rattle.bl_ways.specs.Approaches.{Approaches}
+use Rattle.bl_proc.specs.declared.walking.Walk.{Walk}
+use Rattle.bl_proc.specs.declared.posting.PostStage.{PostStage}
+use Rattle.bl_proc.specs.declared.posting.PostStage.TheVariants.{New, Coming, Growing, Walking, Changing, Staying, Ending, Over}
+use Rattle.bl_proc.specs.declared.posting.PostReply.{PostReply}
+use Rattle.bl_proc.specs.declared.posting.PostReply.TheVariants as reply
+use Rattle.bl_proc.specs.Levels.{MayReply, IsBelowTop}
+use Rattle.bl_proc.specs.Posts.{post_reply, PostStarts, PostArrives, PostWalks, PostNears, PostComes, PostGoes}
+
+pub here_is : (level key : ℕ) (a : Approach) (what : Seen) (x : ℕ) (c : Page) → Approaches level key a what (came.Here x c) → (node_of c).shape.level ≡ level
+here_is level key way.Start seen.Done x c t = absurd t
+here_is level key way.Start (seen.Words d) x c t = absurd t
+here_is level key way.Start (seen.Took z) x c t = absurd t
+here_is level key way.Start (seen.Owner retired started own) x c t = absurd t
+here_is level key way.Start (seen.Blocks q) x c t = absurd t
+here_is level key way.Start seen.Missed x c t = absurd t
+here_is level key way.Start seen.Refused x c t = absurd t
+here_is level key (way.At y) seen.Done x c t = absurd t
+here_is level key (way.At y) (seen.Words d) x c t = absurd t
+here_is level key (way.At y) (seen.Took z) x c t = absurd t
+here_is level key (way.At y) (seen.Owner retired started own) x c t = absurd t
+here_is level key (way.At y) (seen.Blocks q) x c t = absurd t
+here_is level key (way.At y) seen.Missed x c t = absurd t
+here_is level key (way.At y) seen.Refused x c t = absurd t
+here_is level key (way.Latching y) seen.Done x c t = absurd t
+here_is level key (way.Latching y) (seen.Words d) x c t = absurd t
+here_is level key (way.Latching y) (seen.Took z) x c t = absurd t
+here_is level key (way.Latching y) (seen.Owner retired started own) x c t = absurd t
+here_is level key (way.Latching y) (seen.Blocks q) x c t = absurd t
+here_is level key (way.Latching y) seen.Missed x c t = absurd t
+here_is level key (way.Latching y) seen.Refused x c t = absurd t
+here_is level key (way.Latched y) seen.Done x c t = absurd t
+here_is level key (way.Latched y) (seen.Words d) x c t = ap (λ p. (node_of p).shape.level) t.1 ∙ t.2.2
+here_is level key (way.Latched y) (seen.Took z) x c t = absurd t
+here_is level key (way.Latched y) (seen.Owner retired started own) x c t = absurd t
+here_is level key (way.Latched y) (seen.Blocks q) x c t = absurd t
+here_is level key (way.Latched y) seen.Missed x c t = absurd t
+here_is level key (way.Latched y) seen.Refused x c t = absurd t
+here_is level key (way.Leaving y None) seen.Done x c t = absurd t
+here_is level key (way.Leaving y None) (seen.Words d) x c t = absurd t
+here_is level key (way.Leaving y None) (seen.Took z) x c t = absurd t
+here_is level key (way.Leaving y None) (seen.Owner retired started own) x c t = absurd t
+here_is level key (way.Leaving y None) (seen.Blocks q) x c t = absurd t
+here_is level key (way.Leaving y None) seen.Missed x c t = absurd t
+here_is level key (way.Leaving y None) seen.Refused x c t = absurd t
+here_is level key (way.Leaving y (Some to)) seen.Done x c t = absurd t
+here_is level key (way.Leaving y (Some to)) (seen.Words d) x c t = absurd t
+here_is level key (way.Leaving y (Some to)) (seen.Took z) x c t = absurd t
+here_is level key (way.Leaving y (Some to)) (seen.Owner retired started own) x c t = absurd t
+here_is level key (way.Leaving y (Some to)) (seen.Blocks q) x c t = absurd t
+here_is level key (way.Leaving y (Some to)) seen.Missed x c t = absurd t
+here_is level key (way.Leaving y (Some to)) seen.Refused x c t = absurd t
+
+inner_below : (level : ℕ) (c : Page) (w : Walk) → (node_of c).shape.level ≡ level → c ≡ Inner w.parent → level < 12
+inner_below level c w is same = (let low = w.parent.below_limit in let e : w.parent.level ≡ level = sym (ap (λ p. (node_of p).shape.level) same) ∙ is in omega (arith, low, e))
+
+starts_below : (level key : ℕ) (c : Page) (new : PostStage) → PostStarts level key c new → IsBelowTop level new
+starts_below level key c New t = tt
+starts_below level key c (Coming b) t = tt
+starts_below level key c (Growing g) t = tt
+starts_below level key c (Walking v) t = absurd t
+starts_below level key c (Changing d) t = absurd t
+starts_below level key c (Staying y r) t = absurd t
+starts_below level key c (Ending (reply.Done s)) t = absurd t
+starts_below level key c (Ending reply.Already) t = tt
+starts_below level key c (Ending reply.Stale) t = tt
+starts_below level key c (Ending reply.NoRoom) t = tt
+starts_below level key c (Ending reply.TooTall) t = tt
+starts_below level key c (Over r) t = absurd t
+
+nears_below : (level key : ℕ) (a : Approach) (what : Seen) (new : PostStage) → PostNears level key a what new → IsBelowTop level new
+nears_below level key a what New t = tt
+nears_below level key a what (Coming b) t = tt
+nears_below level key a what (Growing g) t = tt
+nears_below level key a what (Walking v) t = inner_below level t.1 v (here_is level key a what t.0 t.1 t.2) t.3.2
+nears_below level key a what (Changing d) t = absurd t.3
+nears_below level key a what (Staying y (reply.Done s)) t = absurd t.3
+nears_below level key a what (Staying y reply.Already) t = tt
+nears_below level key a what (Staying y reply.Stale) t = tt
+nears_below level key a what (Staying y reply.NoRoom) t = tt
+nears_below level key a what (Staying y reply.TooTall) t = tt
+nears_below level key a what (Ending r) t = absurd t.3
+nears_below level key a what (Over r) t = absurd t.3
+
+walks_below : (level : ℕ) (w : Walk) (c : Page) (new : PostStage) → level < 12 → PostWalks level w c new → IsBelowTop level new
+walks_below level w c New h t = tt
+walks_below level w c (Coming b) h t = tt
+walks_below level w c (Growing g) h t = tt
+walks_below level w c (Walking v) h t = h
+walks_below level w c (Changing d) h t = h
+walks_below level w c (Staying y (reply.Done s)) h t = absurd t
+walks_below level w c (Staying y reply.Already) h t = tt
+walks_below level w c (Staying y reply.Stale) h t = tt
+walks_below level w c (Staying y reply.NoRoom) h t = tt
+walks_below level w c (Staying y reply.TooTall) h t = tt
+walks_below level w c (Ending r) h t = absurd t
+walks_below level w c (Over r) h t = absurd t
+
+reply_below : (level : ℕ) (o : Outcome) → level < 12 → MayReply level (post_reply o)
+reply_below level outcome.Changed h = tt
+reply_below level (outcome.Parted s) h = h
+reply_below level outcome.Refused h = tt
+
+pub goes_below : (level key : ℕ) (old : PostStage) (what : Seen) (new : PostStage) → IsBelowTop level old → PostGoes level key old what new → IsBelowTop level new
+goes_below level key New seen.Done New h t = tt
+goes_below level key New seen.Done (Coming b) h t = tt
+goes_below level key New seen.Done (Growing g) h t = tt
+goes_below level key New seen.Done (Walking v) h t = absurd t
+goes_below level key New seen.Done (Changing d) h t = absurd t
+goes_below level key New seen.Done (Staying y r) h t = absurd t
+goes_below level key New seen.Done (Ending r) h t = absurd t
+goes_below level key New seen.Done (Over r) h t = absurd t
+goes_below level key New (seen.Words c) new h t = absurd t
+goes_below level key New (seen.Took z) new h t = absurd t
+goes_below level key New (seen.Owner retired started own) new h t = absurd t
+goes_below level key New (seen.Blocks q) new h t = absurd t
+goes_below level key New seen.Missed new h t = absurd t
+goes_below level key New seen.Refused new h t = absurd t
+goes_below level key (Coming way.Start) seen.Done new h t = absurd t
+goes_below level key (Coming way.Start) (seen.Words c) new h t = starts_below level key c new t
+goes_below level key (Coming way.Start) (seen.Took z) new h t = absurd t
+goes_below level key (Coming way.Start) (seen.Owner retired started own) new h t = absurd t
+goes_below level key (Coming way.Start) (seen.Blocks q) new h t = absurd t
+goes_below level key (Coming way.Start) seen.Missed new h t = absurd t
+goes_below level key (Coming way.Start) seen.Refused new h t = absurd t
+goes_below level key (Coming (way.At x)) what new h t = nears_below level key (way.At x) what new t
+goes_below level key (Coming (way.Latching x)) what new h t = nears_below level key (way.Latching x) what new t
+goes_below level key (Coming (way.Latched x)) what new h t = nears_below level key (way.Latched x) what new t
+goes_below level key (Coming (way.Leaving x to)) what new h t = nears_below level key (way.Leaving x to) what new t
+goes_below level key (Growing k) what New h t = tt
+goes_below level key (Growing k) what (Coming b) h t = tt
+goes_below level key (Growing k) what (Growing g) h t = tt
+goes_below level key (Growing k) what (Walking v) h t = absurd t
+goes_below level key (Growing k) what (Changing d) h t = absurd t
+goes_below level key (Growing k) what (Staying y r) h t = absurd t
+goes_below level key (Growing k) what (Ending r) h t = subst (MayReply level) (sym t.1) tt
+goes_below level key (Growing k) what (Over r) h t = absurd t
+goes_below level key (Walking w) seen.Done new h t = absurd t
+goes_below level key (Walking w) (seen.Words c) new h t = walks_below level w c new h t
+goes_below level key (Walking w) (seen.Took z) new h t = absurd t
+goes_below level key (Walking w) (seen.Owner retired started own) new h t = absurd t
+goes_below level key (Walking w) (seen.Blocks q) new h t = absurd t
+goes_below level key (Walking w) seen.Missed new h t = absurd t
+goes_below level key (Walking w) seen.Refused new h t = absurd t
+goes_below level key (Changing e) what New h t = tt
+goes_below level key (Changing e) what (Coming b) h t = tt
+goes_below level key (Changing e) what (Growing g) h t = tt
+goes_below level key (Changing e) what (Walking v) h t = absurd t
+goes_below level key (Changing e) what (Changing d) h t = h
+goes_below level key (Changing e) what (Staying y r) h t = absurd t
+goes_below level key (Changing e) what (Ending r) h t = subst (MayReply level) (sym t.2) (reply_below level t.0 h)
+goes_below level key (Changing e) what (Over r) h t = absurd t
+goes_below level key (Staying x q) seen.Done New h t = tt
+goes_below level key (Staying x q) seen.Done (Coming b) h t = tt
+goes_below level key (Staying x q) seen.Done (Growing g) h t = tt
+goes_below level key (Staying x q) seen.Done (Walking v) h t = absurd t
+goes_below level key (Staying x q) seen.Done (Changing d) h t = absurd t
+goes_below level key (Staying x q) seen.Done (Staying y r) h t = absurd t
+goes_below level key (Staying x q) seen.Done (Ending r) h t = subst (MayReply level) (sym t) h
+goes_below level key (Staying x q) seen.Done (Over r) h t = absurd t
+goes_below level key (Staying x q) (seen.Words c) new h t = absurd t
+goes_below level key (Staying x q) (seen.Took z) new h t = absurd t
+goes_below level key (Staying x q) (seen.Owner retired started own) new h t = absurd t
+goes_below level key (Staying x q) (seen.Blocks b) new h t = absurd t
+goes_below level key (Staying x q) seen.Missed new h t = absurd t
+goes_below level key (Staying x q) seen.Refused new h t = absurd t
+goes_below level key (Ending q) seen.Done New h t = tt
+goes_below level key (Ending q) seen.Done (Coming b) h t = tt
+goes_below level key (Ending q) seen.Done (Growing g) h t = tt
+goes_below level key (Ending q) seen.Done (Walking v) h t = absurd t
+goes_below level key (Ending q) seen.Done (Changing d) h t = absurd t
+goes_below level key (Ending q) seen.Done (Staying y r) h t = absurd t
+goes_below level key (Ending q) seen.Done (Ending r) h t = absurd t
+goes_below level key (Ending q) seen.Done (Over r) h t = subst (MayReply level) (sym t) h
+goes_below level key (Ending q) (seen.Words c) new h t = absurd t
+goes_below level key (Ending q) (seen.Took z) new h t = absurd t
+goes_below level key (Ending q) (seen.Owner retired started own) new h t = absurd t
+goes_below level key (Ending q) (seen.Blocks b) new h t = absurd t
+goes_below level key (Ending q) seen.Missed new h t = absurd t
+goes_below level key (Ending q) seen.Refused new h t = absurd t
+goes_below level key (Over q) what new h t = absurd t
