@@ -1,6 +1,6 @@
 //! Processes that run alone, one event after the other, over plain pages.
 
-use crate::{Action, Answer, Hint, Level, Post, Posted, Proc, Process, Seen};
+use crate::{Action, Answer, Find, Hint, Level, Post, Posted, Proc, Process, Seen};
 use arrayvec::ArrayVec;
 use bl_model::{Next, Reply};
 use bl_page::{Page, from_words};
@@ -104,6 +104,29 @@ impl Tree {
             events.push(self.turn(process)?)?;
         }
         Ok(events)
+    }
+}
+
+/// One turn of a search that is told of a page by its words.
+fn turn_by_words(tree: &Tree, find: &mut Find) -> Result<Did, Fail> {
+    if find.answer().is_some() {
+        return Ok(Did::Miss);
+    }
+    match find.next() {
+        Action::Get(at) => {
+            let page = tree.pages.get(at as usize).ok_or("no such page")?;
+            find.took_words(&page.to_words());
+            Ok(Did::Get(at))
+        }
+        Action::Begin => {
+            find.took(Seen::Done);
+            Ok(Did::Begin)
+        }
+        Action::End => {
+            find.took(Seen::Done);
+            Ok(Did::End)
+        }
+        _ => Err("no such action")?,
     }
 }
 
@@ -305,6 +328,49 @@ fn a_post_grows_the_tree_and_lists_the_page(rt: HostRuntime) -> Result<(), Fail>
             &[Did::Begin, Did::Get(0), Did::Get(3), Did::Get(2), Did::End]
         )
     );
+    assert!(rt; find.answer() == plain(Reply::Found(120)));
+    Ok(())
+}
+
+// The words of a page say as much as the page: a key of each leaf, a key between two, and one past the last.
+#[test]
+fn a_search_by_the_words_of_pages(rt: HostRuntime) -> Result<(), Fail> {
+    let (tree, _, _) = posted(rt.alloc())?;
+    let answers = [
+        (12, 2, Reply::Found(120)),
+        (9, 2, Reply::Found(90)),
+        (8, 1, Reply::Found(80)),
+        (1, 1, Reply::Found(10)),
+        (0, 1, Reply::Absent),
+        (16, 2, Reply::Absent),
+    ];
+    for (key, leaf, reply) in answers {
+        let mut find = Find::new(key);
+        for did in [
+            Did::Begin,
+            Did::Get(0),
+            Did::Get(3),
+            Did::Get(leaf),
+            Did::End,
+        ] {
+            assert!(rt; turn_by_words(&tree, &mut find)? == did);
+        }
+        assert!(rt; find.answer() == plain(reply));
+    }
+    Ok(())
+}
+
+// A search that stands at a page that was parted meanwhile goes on by its link.
+#[test]
+fn a_search_by_the_words_of_a_parted_page(rt: HostRuntime) -> Result<(), Fail> {
+    let before = opening(rt.alloc())?;
+    let mut find = Find::new(12);
+    assert!(rt; turn_by_words(&before, &mut find)? == Did::Begin);
+    assert!(rt; turn_by_words(&before, &mut find)? == Did::Get(0));
+    let (tree, _, _) = split(rt.alloc())?;
+    assert!(rt; turn_by_words(&tree, &mut find)? == Did::Get(1));
+    assert!(rt; turn_by_words(&tree, &mut find)? == Did::Get(2));
+    assert!(rt; turn_by_words(&tree, &mut find)? == Did::End);
     assert!(rt; find.answer() == plain(Reply::Found(120)));
     Ok(())
 }
