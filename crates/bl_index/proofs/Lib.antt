@@ -1,6 +1,8 @@
 pub mod Calls
 pub mod Hands
+pub mod Silent
 pub mod Searches
+pub mod Listings
 pub mod Firsts
 pub mod Taken
 pub mod Stocks

@@ -1,9 +1,11 @@
--- A search that goes on, and the answers of an operation and of a post.
+-- A search and a part that go on, and the answers of an operation and of a post.
 use Rattle.std.specs.Prelude.{Option, None, Some}
 use Rattle.bl_ways.specs.declared.answers.Answer.{Answer}
 use Rattle.bl_ways.specs.declared.answers.Answer.TheVariants.{Op, Post}
 use Rattle.bl_proc.specs.declared.searching.FindStage.{FindStage}
 use Rattle.bl_proc.specs.declared.searching.FindStage.TheVariants.{New, AtAnchor, At, Ending, Over}
+use Rattle.bl_proc.specs.declared.parts.PartStage.{PartStage}
+use Rattle.bl_proc.specs.declared.parts.PartStage.TheVariants as part
 
 abbrev pub IsSearching : FindStage → Type 0
 IsSearching New = ⊥
@@ -11,6 +13,13 @@ IsSearching AtAnchor = Unit {0}
 IsSearching (At x) = Unit {0}
 IsSearching (Ending v) = ⊥
 IsSearching (Over v) = ⊥
+
+abbrev pub IsListing : PartStage → Type 0
+IsListing part.New = ⊥
+IsListing part.AtAnchor = Unit {0}
+IsListing (part.At x) = Unit {0}
+IsListing (part.Ending r) = ⊥
+IsListing (part.Over r) = ⊥
 
 -- the answer of an operation
 abbrev pub IsOpAnswer : Option Answer → Type 0

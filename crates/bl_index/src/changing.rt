@@ -22,7 +22,7 @@ use crossbeam_utils::Backoff;
 use std::sync::Wait;
 
 /// The reply of an operation, and its hint.
-fn answered(answer: Option<Answer>) -> (Reply, Option<Hint>)
+pub(crate) fn answered(answer: Option<Answer>) -> (Reply, Option<Hint>)
     requires { IsOpAnswer answer }
     ensures { answer ≡ Some (answers.Op result.0 result.1) }
 {

@@ -20,6 +20,6 @@ pub enum OpenFault {
     Memory,
 }
 
-/// A search has got as many pages as it was allowed, and has answered nothing.
+/// A search or a part has got as many pages as it was allowed, and has answered nothing.
 #[derive(Clone, Copy, Debug, PartialEq, Eq)]
 pub struct OutOfTurns;

@@ -1,6 +1,6 @@
 //! Kinds of processes, each by its own type.
 
-use bl_proc::{Delete, Find, Insert, Post, Process};
+use bl_proc::{Delete, Find, Insert, Part, Post, Process};
 
 /// A kind of process that the index carries out: each is one of the kinds that the world of processes knows, and goes on
 /// in one way.
@@ -121,4 +121,27 @@ impl Kind for Post {
     ghost wants = { post_wants };
 
     ghost follows = { post_follows };
+}
+
+impl Kind for Part {
+    ghost use Rattle.std.specs.Prelude.{refl};
+    ghost use Rattle.bl_proc.specs.declared.kinds.Proc.TheVariants as proc;
+    ghost use Rattle.bl_courses.proofs.Parts.{part_goes};
+    ghost use Rattle.bl_courses.proofs.PartsFollowing.{part_wants, part_follows};
+
+    ghost proc_of = { λ p. proc.Part p };
+
+    ghost acts = { λ p. refl };
+
+    ghost asks = { λ p. refl };
+
+    ghost answers = { λ p. refl };
+
+    ghost goes = { λ p q what t. t };
+
+    ghost courses = { part_goes };
+
+    ghost wants = { part_wants };
+
+    ghost follows = { part_follows };
 }

@@ -13,6 +13,7 @@ mod config;
 mod finding;
 mod index;
 mod kinds;
+mod listing;
 mod opening;
 mod posting;
 mod running;

@@ -2,7 +2,8 @@ ghost use Rattle.std.specs.Prelude.{IfSome, ◌<◌, ◌≤◌};
 ghost use Rattle.bl_index.specs.Calls.{IsPassOf};
 
 use crate::{Config, Index, OpenFault, OutOfTurns, Pass};
-use bl_model::Reply;
+use arrayvec::ArrayVec;
+use bl_model::{Next, Reply};
 use bl_proc::{Find, Hint, Level, Posted};
 use std::alloc::Global;
 use std::sync::Wait;
@@ -341,5 +342,64 @@ fn posts_meet_want_of_frames(rt: HostRuntime) -> Result<(), Fail> {
     assert!(rt; matches!(refused, (Posted::NoRoom, None)));
     let found = index.find(&mut pass, 12, 2);
     assert!(rt; matches!(found, Ok(Reply::Found(120))));
+    Ok(())
+}
+
+// It is answered with these rows, and goes on there.
+fn lists(found: Result<Reply, OutOfTurns>, rows: &[(u64, u64)], next: Next) -> bool {
+    let mut listed = ArrayVec::new();
+    for row in rows {
+        if !listed.is_full() {
+            listed.push(*row);
+        }
+    }
+    found == Ok(Reply::Rows(listed, next))
+}
+
+#[test]
+fn a_part_at_the_greatest_key(rt: HostRuntime) -> Result<(), Fail> {
+    let Some((index, mut pass)) = one_pass(rt.alloc(), 8) else {
+        assert!(rt; false);
+        return Ok(());
+    };
+    let few = index.part(&mut pass, 0, 1);
+    assert!(rt; matches!(few, Err(OutOfTurns)));
+    let none = index.part(&mut pass, 0, 2);
+    assert!(rt; lists(none, &[], Next::End));
+    let inserted = index.insert(&rt, &mut pass, 18446744073709551615, 1);
+    assert!(rt; matches!(inserted, (Reply::Inserted, None)));
+    let last = index.part(&mut pass, 18446744073709551615, 2);
+    assert!(rt; lists(last, &[(18446744073709551615, 1)], Next::End));
+    Ok(())
+}
+
+// Keys 1 to 15 part the leaf, with no post: the second part gets the upper leaf by the link.
+#[test]
+fn parts_of_two_leaves(rt: HostRuntime) -> Result<(), Fail> {
+    let Some((index, mut pass)) = one_pass(rt.alloc(), 8) else {
+        assert!(rt; false);
+        return Ok(());
+    };
+    for key in 1..16 {
+        let (reply, _hint) = index.insert(&rt, &mut pass, key, 10 * key);
+        assert!(rt; matches!(reply, Reply::Inserted));
+    }
+    let lower = index.part(&mut pass, 7, 2);
+    assert!(rt; lists(lower, &[(7, 70), (8, 80)], Next::More(9)));
+    let few = index.part(&mut pass, 9, 2);
+    assert!(rt; matches!(few, Err(OutOfTurns)));
+    let rows = [
+        (9, 90),
+        (10, 100),
+        (11, 110),
+        (12, 120),
+        (13, 130),
+        (14, 140),
+        (15, 150),
+    ];
+    let upper = index.part(&mut pass, 9, 3);
+    assert!(rt; lists(upper, &rows, Next::End));
+    let past = index.part(&mut pass, 16, 3);
+    assert!(rt; lists(past, &[], Next::End));
     Ok(())
 }

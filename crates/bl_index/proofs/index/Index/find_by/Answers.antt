@@ -2,7 +2,8 @@ use Rattle.std.proofs.Common.{rules, ◌≡◌, ◌∙◌, sym, Option, ℕ}
 use Rattle.bl_proc.specs.declared.searching.FindStage.TheVariants.{Ending}
 use Rattle.bl_store.specs.Hands.{known}
 use Rattle.bl_index.proofs.Calls.{since_step}
-use Rattle.bl_index.proofs.Searches.{searches_on, may_give_up, find_answers, find_gives_up}
+use Rattle.bl_index.proofs.Silent.{gives_up}
+use Rattle.bl_index.proofs.Searches.{searches_on, find_may_give_up, find_answers}
 use Rattle.bl_index.proofs.index.Index.find_by.Goals as goal
 
 pub loop-preserved : goal.loop-preserved
@@ -31,7 +32,7 @@ returns-in-Ending-clause-answers c =
 pub returns-clause-answers : goal.returns-clause-answers
 returns-clause-answers c =
     let inv = c.loop.invariant in
-    record { answered = tt; refused = find_gives_up _ _ _ _ c.loop.process inv.since inv.process.state inv.going c.give_up.ensures.told }
+    record { answered = tt; refused = gives_up _ _ _ _ inv.since (find_may_give_up c.loop.process _ inv.process.state inv.going) c.give_up.ensures.told }
 
 pub give_up-requires-clause-may : goal.give_up-requires-clause-may
-give_up-requires-clause-may c = may_give_up c.loop.process _ c.loop.invariant.process.state c.loop.invariant.going
+give_up-requires-clause-may c = find_may_give_up c.loop.process _ c.loop.invariant.process.state c.loop.invariant.going

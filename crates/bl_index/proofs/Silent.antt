@@ -1,0 +1,39 @@
+-- What is known of a process that gives up.
+use Rattle.std.proofs.Common.{ℕ, ◌≡◌, ◌+◌, Option, None, [], sym, ◌∙◌, subst, append-nil}
+use Rattle.bl_page.specs.declared.page.Page.{Page}
+use Rattle.bl_steps.specs.Worlds.{Know, Stage}
+use Rattle.bl_proc.specs.declared.kinds.Proc.{Proc}
+use Rattle.bl_tables.specs.Knowing.{Run, know_of}
+use Rattle.bl_passes.specs.declared.known.Mine.{Mine}
+use Rattle.bl_passes.specs.Noting.{trail_of}
+use Rattle.bl_passes.specs.Seeing.{own}
+use Rattle.bl_passes.specs.Told.{Finishes, MayGiveUp}
+use Rattle.bl_index.specs.Calls.{Adds}
+use Rattle.bl_index.specs.Runs.{IsSince}
+use Rattle.bl_index.proofs.Calls.{since_end, since_said}
+
+-- it runs, has said nothing, and holds nothing
+pub record IsSilent (k : Know) : Type 0 where
+  pub busy : k.stage ≡ Stage.Busy
+  pub silent : k.said ≡ None
+  pub empty : k.holds ≡ []
+  pub no_middle : k.middle ≡ None
+
+pub may_give_up : (state process : Proc) → state ≡ process → ((got : ℕ → Page) (child : ℕ) → IsSilent (know_of got child process)) → MayGiveUp state
+may_give_up state process is silent = record {
+  busy = λ r e. (here r e).busy;
+  silent = λ r e. (here r e).silent;
+  empty = λ r e. (here r e).empty;
+  no_middle = λ r e. (here r e).no_middle;
+}
+  where
+    here : (r : Run) → r.state ≡ state → IsSilent (know_of r.got r.child r.state)
+    here r e = subst (λ (z : Proc). IsSilent (know_of r.got r.child z)) (sym (e ∙ is)) (silent r.got r.child)
+
+pub gives_up : (pass : ℕ) (old d e : Mine) → IsSince pass old d → MayGiveUp d.state → Finishes None d e → Adds pass (trail_of old.trail) (trail_of e.trail)
+gives_up pass old d e s may t = record {
+  number = old.number + 1;
+  holds = since_end pass None old d e s t;
+  seen = t.notes.seen;
+  none = since_said pass None old d e None s t may.silent ∙ append-nil (own pass (trail_of old.trail));
+}

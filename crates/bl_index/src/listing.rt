@@ -1,0 +1,71 @@
+//! Parts of the map.
+
+ghost use Rattle.std.specs.Prelude.{◌≡◌, false};
+ghost use Rattle.bl_model.specs.declared.operation.Op.TheVariants as op;
+ghost use Rattle.bl_store.specs.Hands.{known, IsOf, IsIdle, IsSameHand, IsSameStock};
+ghost use Rattle.bl_passes.specs.Noting.{trail_of};
+ghost use Rattle.bl_passes.specs.Seeing.{IsSeen};
+ghost use Rattle.bl_ways.specs.declared.acts.Action.TheVariants as act;
+ghost use Rattle.bl_proc.specs.Parts.{part_next_in};
+ghost use Rattle.bl_index.specs.Runs.{IsWithin};
+ghost use Rattle.bl_index.specs.Searching.{IsListing};
+
+use crate::changing::answered;
+use crate::config::OutOfTurns;
+use crate::index::{Index, Pass};
+use bl_model::Reply;
+use bl_passes::Mine;
+use bl_proc::{Part, PartStage, Process};
+use bl_store::Hand;
+
+/// The page that a part is to get next.
+fn page_of(stage: &PartStage) -> u32
+    requires { IsListing stage.now }
+    ensures { part_next_in stage.now ≡ act.Get result }
+{
+    match stage {
+        PartStage::AtAnchor => 0,
+        PartStage::At(page) => *page,
+        _ => unreachable!(),
+    }
+}
+
+impl Index {
+    ghost use Rattle.bl_index.specs.Calls.{IsPassOf, IsSamePass, number_of, trail, MayAnswer};
+
+    /// The pairs of one leaf from a key on, in rising order, and the key from which the next part begins, where there is
+    /// one. It gets at most so many pages, the anchor included.
+    pub fn part(&self, pass: &mut Pass, from: u64, turns: u32) -> Result<Reply, OutOfTurns>
+        requires { IsPassOf self.now pass.old }
+        ensures same { IsSamePass pass.old pass.new }
+        ensures answers { MayAnswer (number_of pass.old) (op.Part from) result (trail pass.old) (trail pass.new) }
+    {
+        self.part_by(&mut pass.hand, from, turns)
+    }
+
+    fn part_by(&self, hand: &mut Hand<Mine>, from: u64, turns: u32) -> Result<Reply, OutOfTurns>
+        requires own { IsOf self.now.store.table.shared.table_id self.now.store.layout hand.old.seat }
+        requires idle { IsIdle hand.old.seat }
+        ensures same { IsSameHand hand.old.seat hand.new.seat × IsSameStock hand.old.seat hand.new.seat }
+        ensures idle { IsIdle hand.new.seat }
+        ensures within { IsWithin hand.new.seat }
+        ensures rests { (known hand.new.seat).runs ≡ false }
+        ensures seen { IsSeen (trail_of (known hand.new.seat).trail) }
+        ensures answers { MayAnswer hand.old.number (op.Part from) result (trail_of (known hand.old.seat).trail) (trail_of (known hand.new.seat).trail) }
+    {
+        let mut process = Part::new(from);
+        let mut words = [0; 32];
+        self.begin(hand, &mut process);
+        for _ in 0..turns {
+            let page = page_of(&process.stage);
+            self.read(hand, &mut process, page, &mut words);
+            if let PartStage::Ending(_) = &process.stage {
+                self.finish(hand, &mut process);
+                let (reply, _) = answered(process.answer());
+                return Ok(reply);
+            }
+        }
+        self.give_up(hand);
+        Err(OutOfTurns)
+    }
+}
