@@ -17,6 +17,7 @@ mod growths;
 mod machine;
 mod onwards;
 mod reading;
+mod thin;
 
 pub use acts::{Action, Seen};
 pub use answers::{Answer, Hint, Level, Posted};
@@ -27,3 +28,4 @@ pub use growing::{Grew, Growth, Raising, Rise};
 pub use machine::Process;
 pub use onwards::{Onward, way_from};
 pub use reading::{level_of, levels_of, listed, low_of, top_page};
+pub use thin::{hint_of_thin, thin_low};
