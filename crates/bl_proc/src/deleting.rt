@@ -136,10 +136,12 @@ fn answer_of(reply: DeleteReply) -> Answer
         DeleteReply::Deleted(Removed { value, thin: None }) => {
             Answer::Op(Reply::Deleted(value), None)
         }
-        DeleteReply::Deleted(Removed {
-            value,
-            thin: Some(low),
-        }) => {
+        DeleteReply::Deleted(
+            Removed {
+                value,
+                thin: Some(low),
+            },
+        ) => {
             let above = Level::new(1);
             Answer::Op(Reply::Deleted(value), Some(hint_of_thin(above, low)))
         }
