@@ -124,6 +124,19 @@ fn a_split_and_its_post(rt: HostRuntime) -> Result<(), Fail> {
 }
 
 #[test]
+fn a_leaf_that_becomes_thin(rt: HostRuntime) -> Result<(), Fail> {
+    assert!(rt;
+        prints_posted(
+            rt.alloc(),
+            8,
+            "delete 9\nrun 17 9\n",
+            "17 begin\n17 get 0\n17 get 3\n17 latch 2\n17 get 2\n17 put 2\n17 open 2\n17 end\n17 answer deleted 90 thin 1 9\n"
+        )?
+    );
+    Ok(())
+}
+
+#[test]
 fn a_search_by_the_link(rt: HostRuntime) -> Result<(), Fail> {
     assert!(rt;
         prints_then(

@@ -17,7 +17,7 @@ mod searching;
 mod walking;
 
 pub use bl_ways::{Action, Answer, Hint, Level, Posted, Process, Seen};
-pub use deleting::{Delete, DeleteReply, DeleteStage};
+pub use deleting::{Delete, DeleteReply, DeleteStage, Removed};
 pub use inserting::{Insert, InsertReply, InsertStage};
 pub use kinds::Proc;
 pub use parts::{Part, PartRows, PartStage};

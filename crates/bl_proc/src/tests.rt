@@ -535,3 +535,43 @@ fn parts_at_the_end_of_a_leaf_and_past_the_last_key(rt: HostRuntime) -> Result<(
     assert!(rt; part.answer() == part_answer(&[], Next::End));
     Ok(())
 }
+
+/// A leaf with that low has lost a pair, and is thin.
+fn thin(low: u64) -> Option<Hint> {
+    let level = Level::new(1);
+    Some(Hint::Thin { level, key: low })
+}
+
+// Page 2 has seven rows, and page 1 has eight. The leaf of an opening tree is alone on its level, and never thin.
+#[test]
+fn leaves_that_become_thin(rt: HostRuntime) -> Result<(), Fail> {
+    let (mut tree, _, _) = posted(rt.alloc())?;
+    let mut last = Proc::delete(9);
+    let events = tree.run(rt.alloc(), &mut last, 99)?;
+    assert!(rt;
+        are(
+            &events,
+            &[
+                Did::Begin,
+                Did::Get(0),
+                Did::Get(3),
+                Did::Latch(2),
+                Did::Get(2),
+                Did::Put(2),
+                Did::Open(2),
+                Did::End
+            ]
+        )
+    );
+    assert!(rt; last.answer() == Some(Answer::Op(Reply::Deleted(90), thin(9))));
+    let mut second = Proc::delete(2);
+    tree.run(rt.alloc(), &mut second, 99)?;
+    assert!(rt; second.answer() == plain(Reply::Deleted(20)));
+    let mut first = Proc::delete(1);
+    tree.run(rt.alloc(), &mut first, 99)?;
+    assert!(rt; first.answer() == Some(Answer::Op(Reply::Deleted(10), thin(0))));
+    let mut gone = Proc::delete(9);
+    tree.run(rt.alloc(), &mut gone, 99)?;
+    assert!(rt; gone.answer() == plain(Reply::Absent));
+    Ok(())
+}

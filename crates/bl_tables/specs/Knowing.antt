@@ -17,6 +17,7 @@ use Rattle.bl_proc.specs.declared.inserting.InsertStage.{InsertStage}
 use Rattle.bl_proc.specs.declared.inserting.InsertStage.TheVariants as insert
 use Rattle.bl_proc.specs.declared.inserting.InsertReply.{InsertReply}
 use Rattle.bl_proc.specs.declared.inserting.InsertReply.TheVariants as inserted
+use Rattle.bl_proc.specs.declared.deleting.Removed.{Removed}
 use Rattle.bl_proc.specs.declared.deleting.DeleteStage.{DeleteStage}
 use Rattle.bl_proc.specs.declared.deleting.DeleteStage.TheVariants as delete
 use Rattle.bl_proc.specs.declared.deleting.DeleteReply.{DeleteReply}
@@ -98,21 +99,21 @@ know_insert key value got (insert.Over r) = late (inserts key value r)
 -- Deletions
 
 abbrev pub deleted_reply : DeleteReply → Reply
-deleted_reply (deleted.Deleted value) = reply.Deleted value
+deleted_reply (deleted.Deleted removed) = reply.Deleted removed.value
 deleted_reply deleted.Absent = reply.Absent
 deleted_reply deleted.NoRoom = reply.NoRoom
 
 abbrev pub deletes : ℕ → DeleteReply → Option Said
 deletes key r = Some (record { op = op.Delete key; reply = deleted_reply r })
 
-abbrev pub delete_aim : ℕ → ℕ → Aim
-delete_aim key value = record { level = 0; key = key; was = Some value; word = None; said = λ o. deletes key (delete_reply value o); children = λ x. [] }
+abbrev pub delete_aim : ℕ → Removed → Aim
+delete_aim key removed = record { level = 0; key = key; was = Some removed.value; word = None; said = λ o. deletes key (delete_reply removed o); children = λ x. [] }
 
 abbrev pub know_delete : ℕ → (ℕ → Page) → DeleteStage → Know
 know_delete key got delete.New = early key
 know_delete key got (delete.Coming a) = know_approach 0 key a
 know_delete key got (delete.Absent x) = record (ending (deletes key deleted.Absent)) { holds = holds_live x ∷ [] }
-know_delete key got (delete.Changing value c) = know_change (delete_aim key value) got c
+know_delete key got (delete.Changing removed c) = know_change (delete_aim key removed) got c
 know_delete key got (delete.Ending r) = ending (deletes key r)
 know_delete key got (delete.Over r) = late (deletes key r)
 
@@ -200,7 +201,7 @@ abbrev pub delete_end : DeleteStage → Option Reply
 delete_end delete.New = None
 delete_end (delete.Coming a) = None
 delete_end (delete.Absent x) = None
-delete_end (delete.Changing value c) = None
+delete_end (delete.Changing removed c) = None
 delete_end (delete.Ending r) = Some (deleted_reply r)
 delete_end (delete.Over r) = None
 

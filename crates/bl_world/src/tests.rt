@@ -723,3 +723,39 @@ fn takes_without_a_released_page(rt: HostRuntime) -> Result<(), Fail> {
     assert!(rt; world.answer(last) == plain(Reply::NoRoom));
     Ok(())
 }
+
+// Page 2 has seven rows, and page 1 has eight.
+#[test]
+fn leaves_that_become_thin(rt: HostRuntime) -> Result<(), Fail> {
+    let mut world = posted(rt.alloc())?;
+    let last = delete(&mut world, 9)?;
+    step(&mut world, last, 8)?;
+    assert!(rt;
+        did(
+            rt.alloc(),
+            &world,
+            last,
+            &[
+                Act::Begin,
+                Act::Get(0),
+                Act::Get(3),
+                Act::Latch(2),
+                Act::Get(2),
+                Act::Put(2),
+                Act::Open(2),
+                Act::End
+            ]
+        )?
+    );
+    let level = Level::new(1);
+    let thin = Some(Hint::Thin { level, key: 9 });
+    assert!(rt; world.answer(last) == Some(Answer::Op(Reply::Deleted(90), thin)));
+    let second = delete(&mut world, 2)?;
+    step(&mut world, second, 8)?;
+    assert!(rt; world.answer(second) == plain(Reply::Deleted(20)));
+    let first = delete(&mut world, 1)?;
+    step(&mut world, first, 8)?;
+    let thin = Some(Hint::Thin { level, key: 0 });
+    assert!(rt; world.answer(first) == Some(Answer::Op(Reply::Deleted(10), thin)));
+    Ok(())
+}
