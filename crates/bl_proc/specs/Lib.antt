@@ -3,4 +3,5 @@ pub mod Parts
 pub mod Inserts
 pub mod Deletes
 pub mod Posts
+pub mod Reclaims
 pub mod Processes

@@ -13,14 +13,16 @@ mod kinds;
 mod parts;
 mod posting;
 mod posts;
+mod reclaiming;
 mod searching;
 
-pub use bl_ways::{Action, Answer, Hint, Posted, Process, Seen};
+pub use bl_ways::{Action, Answer, Hint, Posted, Process, Reclaimed, Seen};
 pub use deleting::{Delete, DeleteReply, DeleteStage};
 pub use inserting::{Insert, InsertReply, InsertStage};
 pub use kinds::Proc;
 pub use parts::{Part, PartRows, PartStage};
 pub use posting::{Post, PostReply, PostStage, Walk};
+pub use reclaiming::{Reclaim, ReclaimStage, Round};
 pub use searching::{Find, FindStage};
 
 #[cfg(test)]

@@ -19,7 +19,7 @@ mod onwards;
 mod reading;
 
 pub use acts::{Action, Seen};
-pub use answers::{Answer, Hint, Posted};
+pub use answers::{Answer, Hint, Posted, Reclaimed};
 pub use approaching::{Approach, Approached, entered};
 pub use changes::{dropping, entering};
 pub use changing::{Change, Changed, Full, Outcome, Parting};
