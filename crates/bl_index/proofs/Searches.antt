@@ -41,7 +41,7 @@ searches_on key (Ending v) new c is t ne = absurd is
 searches_on key (Over v) new c is t ne = absurd is
 
 knows : (p : FindState) (r : Run) → r.state ≡ Find p → know r ≡ know_find p.key p.stage
-knows p r e = ap (know_of r.got r.child) e
+knows p r e = ap (know_of r.got r.child r.time) e
 
 busy_in : (key : ℕ) (a : FindStage) → IsSearching a → (know_find key a).stage ≡ Stage.Busy
 busy_in key AtAnchor is = refl
