@@ -3,12 +3,11 @@ use Rattle.std.proofs.lemmas.Option.{slice_get-get_or}
 use Rattle.bl_model.specs.declared.operation.Op.TheVariants as op
 use Rattle.bl_script.specs.declared.command.Start.TheVariants as start
 use Rattle.bl_script.specs.declared.command.Command.TheVariants as command
-use Rattle.bl_script.specs.Commands.{MayStand}
 use Rattle.bl_world.specs.Views.{view_of}
 use Rattle.bl_replay.specs.Plays.{few}
 use Rattle.bl_replay.specs.Plays.Plays.{Nothing}
 use Rattle.bl_replay.proofs.Emitting.{emits_start, emits_more, emits_stop, err_of}
-use Rattle.bl_replay.proofs.Following.{stands_here, plays_further, started_further, breaks_off}
+use Rattle.bl_replay.proofs.Following.{stands_sized, plays_further, started_further, breaks_off}
 use Rattle.bl_replay.proofs.playing.play_all.Goals as goal
 
 pub loop-command-init : goal.loop-command-init
@@ -19,7 +18,7 @@ play_command-requires g c =
     let i = c.loop-command.command-index in
     let commands = c.args.commands.now in
     let at = slice_get-get_or commands i (command.Start (start.Operation (op.Find 0))) (omega (arith, c.loop-command-test.true)) in
-    subst (λ z. MayStand few z _ _) (sym c.loop-command.invariant.size) (stands_here few (length c.args.world.now.lists.pages.items) (length c.args.world.now.lists.processes.items) _ commands i _ c.loop-command.invariant.count c.requires at)
+    stands_sized few (length c.args.world.now.lists.pages.items) _ (length c.args.world.now.lists.processes.items) _ commands i _ c.loop-command.invariant.size c.loop-command.invariant.count c.requires at
 
 pub returns-in_err-play_command-clause-err : goal.returns-in_err-play_command-clause-err
 returns-in_err-play_command-clause-err g c =
