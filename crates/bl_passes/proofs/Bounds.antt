@@ -201,7 +201,7 @@ ends_process l n d next course s since f o at =
     let does : Does w.now p (Act.End (end_of_proc d.state)) s1 = record { changes = (λ x. refl, λ x. refl, is_put_name p machine.Ended w.now.phase); on = omega arith } in
     let z = finishes l n d s since f o at (end_of_proc d.state) _ (turned s f n since d at seen.Done course act.End next s1 tt tt does) in
     let named = is_named s f n since d at in
-    let log = then_log s f n since d at seen.Done course act.End next s1 tt does in (
+    let log = then_log s f n since d at seen.Done course act.End next s1 tt tt does in (
       z.0,
       z.1,
       z.2,

@@ -38,7 +38,7 @@ unmoved s f n since d at what c a next said shown does = (
 )
 
 -- an event by which a page gets another owner
-moved : (s : Pages Mine) (f : Fits s) (n since : ℕ) (d : Mine) → Stands s n (Running since) d → (what : Seen) → GoesOn d.state what → (a : Action) → next_of d.state ≡ a → (x : ℕ) (was o : Owner) → get_elem? s.owners x ≡ some was → (o' : machine.Owner) → o' ≡ owner_in s.hands o → ((q : Name) → q ≢ name n d.number → o' ≢ machine.Held q) → IsTold f.world.now f.world.size a what
+moved : (s : Pages Mine) (f : Fits s) (n since : ℕ) (d : Mine) → Stands s n (Running since) d → (what : Seen) → GoesOn d.state what → (a : Action) → next_of d.state ≡ a → (x : ℕ) (was o : Owner) → get_elem? s.owners x ≡ some was → (o' : machine.Owner) → o' ≡ owner_in s.hands o → ((q : Name) → q ≢ name n d.number → o' ≢ machine.Held q) → IsTold f.world.now f.world.size a what → IsShown f.world.now (name n d.number) (f.world.proc (name n d.number)).time a what
     → Does f.world.now (name n d.number) (event_of (end_of_proc d.state) a what) (record f.world.now { owner = put_at x o' f.world.now.owner })
     → (e : Mine) × Fits (told (owned s x o) n (Running since) e) × Goes what d e
 moved s f n since d at what c a next x was o here o' is else said shown does =
@@ -81,9 +81,9 @@ module _ (l : Layout) (n : ℕ) (d : Mine) (runs : d.runs ≡ true) where
       let may : (x ≡ 0) ⊎ MayGet w p x = subst (IsGot w p) next_is (got_next_is w p f.good) in
       let words_are : words ≡ words_of c = got_words w p x words f.good may (f.pages x words page.0) in
       let does : Does w.now p (Act.Get x) w.now = record { changes = (λ z. refl, λ z. refl, λ q. refl); on = omega arith } in
-      let t = turned s f n since d at (seen.Words c) (course c) (act.Get x) next w.now refl tt tt does in
+      let t = turned s f n since d at (seen.Words c) (course c) (act.Get x) next w.now refl tt does in
       let can : ((b : ℕ) × (w.now.phase p ≡ machine.Running b)) × (w.now.owner x ≢ machine.Released) = t.extends.steps.enabled in
-      let u = unmoved s f n since d at (seen.Words c) (course c) (act.Get x) next refl tt tt does in
+      let u = unmoved s f n since d at (seen.Words c) (course c) (act.Get x) next refl tt does in
       (λ e. can.1 (f.owners x owner page.1 ∙ is_released s.hands owner e), u.0, u.1, (c, words_are, u.2))
 
   pub puts_page : (x : ℕ) (new : List ℕ) (c : Page) → next_of d.state ≡ act.Put x c → new ≡ words_of c → GoesOn d.state seen.Done → Puts Fits l n d x new puts
@@ -97,14 +97,14 @@ module _ (l : Layout) (n : ℕ) (d : Mine) (runs : d.runs ≡ true) where
       let t = turned s f n since d at' seen.Done course (act.Put x c) next s1 tt tt does in
       let can : w.now.owner x ≡ machine.Held p = t.extends.steps.enabled in (
         is_held s.hands n d.number owner (sym (f.owners x owner page.1) ∙ can),
-        then_known s f n since d at' seen.Done course (act.Put x c) next s1 tt does,
-        then_fits s f n since d at' seen.Done course (act.Put x c) next s1 tt does (written s x new) refl (length-set s.contents x new) f.clock (λ q. refl) (λ y q ne e. e)
+        then_known s f n since d at' seen.Done course (act.Put x c) next s1 tt tt does,
+        then_fits s f n since d at' seen.Done course (act.Put x c) next s1 tt tt does (written s x new) refl (length-set s.contents x new) f.clock (λ q. refl) (λ y q ne e. e)
             (λ y ws e. ⊎_elim
             (λ (z : (y ≡ x) × (new ≡ ws)). subst (λ (v : ℕ × List ℕ). Shows v.0 v.1 (s1.contents v.0)) (λ i. (sym z.0 i, z.1 i)) (subst (Shows x new) (sym put.at) (shows_words x new c is)))
             (λ (z : (y ≢ x) × (get_elem? s.contents y ≡ some ws)). subst (Shows y ws) (sym (put.others y z.0)) (f.pages y ws z.1))
             (at_set s.contents x y new ws e))
             f.owners,
-        then_goes s f n since d at' seen.Done course (act.Put x c) next s1 tt does,
+        then_goes s f n since d at' seen.Done course (act.Put x c) next s1 tt tt does,
       ))
 
   pub opens_page : (x : ℕ) → next_of d.state ≡ act.Open x → GoesOn d.state seen.Done → Opens Fits l n d x opens
