@@ -108,8 +108,7 @@ fn parts_at_the_end_of_a_leaf_and_past_the_last_key(rt: HostRuntime) -> Result<(
 fn a_part_at_the_greatest_key(rt: HostRuntime) -> Result<(), Fail> {
     let text =
         b"pages 8\ninsert 18446744073709551615 1\npart 18446744073709551615\nrun 1 9\nrun 2 9\n";
-    let wanted =
-        b"2 begin\n2 get 0\n2 get 1\n2 end\n2 answer rows 18446744073709551615=1 end\n";
+    let wanted = b"2 begin\n2 get 0\n2 get 1\n2 end\n2 answer rows 18446744073709551615=1 end\n";
     let found = printed(rt.alloc(), text)?;
     assert!(rt; found.as_slice().ends_with(wanted));
     Ok(())

@@ -103,7 +103,7 @@ module _ (pages : List Page) (owners : List Owner) (processes : List Proc) (even
   -- a process that is to look at another has seen its page retired
   pub not_unseen : next_of p0 ≡ act.Look x → ((y k : ℕ) → IsToRelease p0 y → ¬ HasSeen events (n + 1) y k (length events)) → ⊥
   not_unseen next else_so = ∥∥₁_elim h (λ a b. absurd a) (λ h.
-    (let old = reclaims p0 (λ tree. (let f : IsOfTree (act.Look x) = subst IsOfTree next tree in f)) in
-    let known = h.reclaiming n old.0 (stood ∙ ap Some old.1) in
-    let has = looks_seen events (suc n) old.0.page (h.world.proc (name_of (suc n))).time x old.0.stage (subst (λ z. next_of z ≡ act.Look x) old.1 next) known in
-    else_so old.0.page (h.world.proc (name_of (suc n))).time (subst (λ z. IsToRelease z old.0.page) (sym old.1) refl) (rw (one_more n) has)))
+      (let old = reclaims p0 (λ tree. (let f : IsOfTree (act.Look x) = subst IsOfTree next tree in f)) in
+      let known = h.reclaiming n old.0 (stood ∙ ap Some old.1) in
+      let has = looks_seen events (suc n) old.0.page (h.world.proc (name_of (suc n))).time x old.0.stage (subst (λ z. next_of z ≡ act.Look x) old.1 next) known in
+      else_so old.0.page (h.world.proc (name_of (suc n))).time (subst (λ z. IsToRelease z old.0.page) (sym old.1) refl) (rw (one_more n) has)))

@@ -187,15 +187,15 @@ module _ (pages : List Page) (owners : List Owner) (processes : List Proc) (even
       stay pages owners processes events n p0 p1 stood what _ h s refl refl refl (mine (shown.Look q) (act.Look q) what h g time knows) (λ y f. absurd cc)
       (turned pages owners processes events n p0 p1 stood what (act.Look q) h s next takes tt
       (λ free since runs.
-          let b = h.times.began q since runs in
-          let going = h.times.going q (λ f. (let v : Running since ≡ Ended = sym runs ∙ f in cc)) in
-          elim (cases_lt b.0 k) [
-            | inl less ↦ absurd (false≢true (sym free ∙ truly.1 (record { place = b.0; before = less; begins = b.2; runs = λ j l. going j })))
-            | inr more ↦ elim (cases_eq b.0 k) [
-              | inl at ↦ absurd (let f : Stands events k q shown.Begin = subst (λ z. Stands events z q shown.Begin) at b.2 in let v : shown.Begin ≡ shown.Retire x = act_at events k (record { process = q; act = shown.Begin }) has.retired.by (shown.Retire x) f has.retired.retires in cc)
-              | inr ne ↦ (let le = b.1 in omega (arith, same, more, ne, le))
-            ]
-          ])
+      let b = h.times.began q since runs in
+      let going = h.times.going q (λ f. (let v : Running since ≡ Ended = sym runs ∙ f in cc)) in
+      elim (cases_lt b.0 k) [
+        | inl less ↦ absurd (false≢true (sym free ∙ truly.1 (record { place = b.0; before = less; begins = b.2; runs = λ j l. going j })))
+        | inr more ↦ elim (cases_eq b.0 k) [
+          | inl at ↦ absurd (let f : Stands events k q shown.Begin = subst (λ z. Stands events z q shown.Begin) at b.2 in let v : shown.Begin ≡ shown.Retire x = act_at events k (record { process = q; act = shown.Begin }) has.retired.by (shown.Retire x) f has.retired.retires in cc)
+          | inr ne ↦ (let le = b.1 in omega (arith, same, more, ne, le))
+        ]
+      ])
       (record { changes = (λ y. refl, λ y. refl, λ q. refl); on = omega arith }))
 
   pub frees : (x k : ℕ) → HasSeen events (suc n) x k last → slice_get owners x ≡ Some (own.Retired k) → next_of p0 ≡ act.Release x → Takes p0 seen.Done p1 → (h : HasWorld pages owners processes events) → Grows h pages (slice_set owners x own.Released) (slice_set processes n p1) (after_act pages owners processes events n p0 p1 stood (shown.Release x))

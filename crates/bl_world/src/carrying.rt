@@ -209,13 +209,7 @@ impl Lists {
         if !self.may_release(index, at) {
             return self.told(index, Act::Miss, Seen::Missed);
         }
-        self.own(
-            index,
-            at,
-            Owner::Released,
-            Act::Release(at),
-            Seen::Done,
-        )
+        self.own(index, at, Owner::Released, Act::Release(at), Seen::Done)
     }
 
     /// The page is retired as the process at that place has seen it.

@@ -1,8 +1,8 @@
 //! Worlds, turn by turn.
 
+use crate::looking::{is_blocking, retirement_seen};
 use crate::{Act, Event, Turn, World, WorldFault};
 use bl_model::Reply;
-use crate::looking::{is_blocking, retirement_seen};
 use bl_proc::{Answer, Hint, Posted, Proc, Reclaimed};
 use std::alloc::Global;
 use std::test::Fail;

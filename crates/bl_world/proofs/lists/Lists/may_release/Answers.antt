@@ -8,8 +8,7 @@ use Rattle.bl_world.proofs.lists.Lists.may_release.Goals as goal
 pub returns-in-Some : goal.returns-in-Some
 returns-in-Some c =
     let owners = c.args.self.now.owners.items in
-    let there = read_at owners c.args.at c.index.result.now c.requires.within c.index.ensures in
-    (
+    let there = read_at owners c.args.at c.index.result.now c.requires.within c.index.ensures in (
       λ t. (c.in-Some.place, rw c.as_slice.ensures.value at (c.retirement_seen.ensures.some c.in-Some.place c.in-Some.is), there ∙ ap Some (c.is_owner.ensures.0 t)),
       λ m.
           let same : Some m.0 ≡ Some c.in-Some.place = sym (c.retirement_seen.ensures.only m.0 (rw c.as_slice.ensures.value m.1)) ∙ c.in-Some.is in
