@@ -72,6 +72,17 @@ fn prints_posted(alloc: Global, pages: u32, lines: &str, more: &str) -> Result<b
 }
 
 #[test]
+fn a_page_that_is_kept(rt: HostRuntime) {
+    assert!(rt;
+        prints(
+            rt.alloc(),
+            "pages 4\nreclaim 1\nrun 1 9\n",
+            "1 see 1\n1 answer kept\n"
+        )
+    );
+}
+
+#[test]
 fn a_search_of_an_empty_index(rt: HostRuntime) {
     assert!(rt;
         prints(

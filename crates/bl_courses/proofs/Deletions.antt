@@ -162,6 +162,7 @@ module _ (key : ℕ) where
 delete_only : (old : Delete) (what : Seen) (g : One (DeleteGoes old.key old.stage what)) (other : Proc) → Takes (proc.Delete old) what other → other ≡ proc.Delete (record { key = old.key; stage = g.new })
 delete_only old what g (proc.Find f) t = absurd t
 delete_only old what g (proc.Part f) t = absurd t
+delete_only old what g (proc.Reclaim f) t = absurd t
 delete_only old what g (proc.Insert f) t = absurd t
 delete_only old what g (proc.Delete f) t = (let e = g.only f.stage t.1 in λ i. proc.Delete (record { key = t.0 i; stage = e i }))
 delete_only old what g (proc.Post f) t = absurd t

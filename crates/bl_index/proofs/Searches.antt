@@ -42,7 +42,7 @@ searches_on key (Ending v) new c is t ne = absurd is
 searches_on key (Over v) new c is t ne = absurd is
 
 knows : (p : FindState) (r : Run) → r.state ≡ Find p → know r ≡ know_find p.key p.stage
-knows p r e = ap (know_of r.got r.child) e
+knows p r e = ap (know_of r.got r.child r.time) e
 
 silent : (key : ℕ) (a : FindStage) → IsSearching a → IsSilent (know_find key a)
 silent key AtAnchor is = record { busy = refl; silent = refl; empty = refl; no_middle = refl }

@@ -21,7 +21,7 @@ mod spelled;
 mod thin;
 
 pub use acts::{Action, Seen};
-pub use answers::{Answer, Hint, Level, Posted};
+pub use answers::{Answer, Hint, Level, Posted, Reclaimed};
 pub use approaching::{Approach, Approached, entered};
 pub use changes::{dropping, entering};
 pub use changing::{Change, Changed, Full, Outcome, Parting};
