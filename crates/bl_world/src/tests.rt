@@ -629,6 +629,7 @@ fn hint_of(answer: Answer) -> Option<Hint> {
     match answer {
         Answer::Op(_, hint) => hint,
         Answer::Post(_, hint) => hint,
+        Answer::Reclaim(_) => None,
     }
 }
 
