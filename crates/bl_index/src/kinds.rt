@@ -1,10 +1,10 @@
 //! Kinds of processes, each by its own type.
 
-use bl_proc::{Delete, Find, Insert, Part, Post, Process};
+use bl_proc::{Delete, Find, Insert, Part, Post, Process, Reader};
 
 /// A kind of process that the index carries out: each is one of the kinds that the world of processes knows, and goes on
 /// in one way.
-pub(crate) trait Kind: Process {
+pub(crate) trait Kind: Process + Reader {
     ghost use Rattle.std.specs.Prelude.{◌≡◌, None};
     ghost use Rattle.bl_ways.specs.declared.acts.Seen.{Seen};
     ghost use Rattle.bl_ways.specs.Given.{Gives};

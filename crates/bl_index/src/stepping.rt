@@ -12,7 +12,7 @@ use crate::index::Index;
 use crate::kinds::Kind;
 use bl_page::Page;
 use bl_passes::{Mine, Opened, Put, Refused, Took, Tried};
-use bl_proc::{Action, Seen};
+use bl_proc::{Action, Process, Seen};
 use bl_store::{Hand, Stock};
 use crossbeam_utils::Backoff;
 

@@ -13,8 +13,8 @@ ghost use Rattle.bl_proc.specs.Deletes.{delete_reply, thin_after, deleted_answer
 use bl_model::Reply;
 use bl_page::Page;
 use bl_ways::{
-    Action, Answer, Approach, Approached, Change, Changed, Level, Outcome, Process, Seen, dropping,
-    hint_of_thin, listed, thin_low,
+    Action, Answer, Approach, Approached, Change, Changed, Level, Outcome, Process, Reader, Seen,
+    dropping, hint_of_thin, listed, thin_low,
 };
 use std::mem;
 
@@ -210,3 +210,5 @@ impl Process for Delete {
         }
     }
 }
+
+impl Reader for Delete {}

@@ -16,8 +16,8 @@ ghost use Rattle.bl_ways.specs.declared.onwards.Onward.TheVariants as onward;
 use bl_model::Reply;
 use bl_page::Page;
 use bl_ways::{
-    Action, Answer, Approach, Approached, Change, Changed, Hint, Level, Outcome, Process, Seen,
-    entering, listed,
+    Action, Answer, Approach, Approached, Change, Changed, Hint, Level, Outcome, Process, Reader,
+    Seen, entering, listed,
 };
 use std::mem;
 
@@ -197,3 +197,5 @@ impl Process for Insert {
         }
     }
 }
+
+impl Reader for Insert {}

@@ -17,7 +17,7 @@ mod reclaiming;
 mod searching;
 mod walking;
 
-pub use bl_ways::{Action, Answer, Hint, Level, Posted, Process, Reclaimed, Seen};
+pub use bl_ways::{Action, Answer, Hint, Level, Posted, Process, Reader, Reclaimed, Seen};
 pub use deleting::{Delete, DeleteReply, DeleteStage, Removed};
 pub use inserting::{Insert, InsertReply, InsertStage};
 pub use kinds::Proc;

@@ -15,7 +15,7 @@ ghost use Rattle.bl_proc.specs.Parts.{GoesOnAt, IsPartOf, part_next_in, part_ans
 use arrayvec::ArrayVec;
 use bl_model::{Next, Reply};
 use bl_page::{Page, Pairs};
-use bl_ways::{Action, Answer, Onward, Process, Seen, top_page, way_from};
+use bl_ways::{Action, Answer, Onward, Process, Reader, Seen, top_page, way_from};
 use std::mem;
 
 /// A process that lists the pairs of one leaf from a key on.
@@ -187,3 +187,5 @@ impl Process for Part {
         self.stage = went(self.from, stage, &seen);
     }
 }
+
+impl Reader for Part {}

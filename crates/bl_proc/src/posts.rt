@@ -17,7 +17,7 @@ use crate::walking::Walk;
 use bl_page::{Inner, Page, listed_with};
 use bl_ways::{
     Action, Answer, Approach, Approached, Change, Changed, Grew, Growth, Level, Onward, Outcome,
-    Posted, Process, Seen, entered, entering, levels_of, low_of, way_from,
+    Posted, Process, Reader, Seen, entered, entering, levels_of, low_of, way_from,
 };
 use std::mem;
 
@@ -287,3 +287,5 @@ impl Process for Post {
         self.stage = went(self.level, self.key, stage, seen);
     }
 }
+
+impl Reader for Post {}

@@ -11,7 +11,8 @@ ghost use Rattle.bl_proc.specs.Searches.{find_next_in, find_answer_in, find_next
 use bl_model::Reply;
 use bl_page::Page;
 use bl_ways::{
-    Action, Answer, Onward, Process, Seen, listed, row_in, top_in, top_page, way_from, way_in,
+    Action, Answer, Onward, Process, Reader, Seen, listed, row_in, top_in, top_page, way_from,
+    way_in,
 };
 
 /// A search for the value of a key.
@@ -122,7 +123,9 @@ impl Process for Find {
     fn took(&mut self, seen: Seen) {
         self.stage = went(self.key, self.stage, &seen);
     }
+}
 
+impl Reader for Find {
     // A search makes no page of the words: most of its time would go there.
     fn took_words(&mut self, words: &[u64; 32]) {
         self.stage = match self.stage {

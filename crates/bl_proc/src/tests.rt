@@ -1,7 +1,8 @@
 //! Processes that run alone, one event after the other, over plain pages.
 
 use crate::{
-    Action, Answer, Find, Hint, Level, Post, Posted, Proc, Process, Reclaim, Reclaimed, Seen,
+    Action, Answer, Find, Hint, Level, Post, Posted, Proc, Process, Reader, Reclaim, Reclaimed,
+    Seen,
 };
 use arrayvec::ArrayVec;
 use bl_model::{Next, Reply};

@@ -26,7 +26,7 @@ pub use approaching::{Approach, Approached, entered};
 pub use changes::{dropping, entering};
 pub use changing::{Change, Changed, Full, Outcome, Parting};
 pub use growing::{Grew, Growth, Raising, Rise};
-pub use machine::Process;
+pub use machine::{Process, Reader};
 pub use onwards::{Onward, way_from};
 pub use reading::{level_of, levels_of, listed, low_of, top_page};
 pub use spelled::{row_in, top_in, way_in};

@@ -47,13 +47,16 @@ pub trait Process {
         requires running { answer_of self.old ≡ None }
         requires given { Gives (next_of self.old) (needs_of self.old) seen }
         ensures { Takes self.old seen self.new };
+}
 
+/// A process of a kind that gets pages, and may be told of one by its words.
+pub trait Reader: Process {
     /// Goes on by the page that it got, by the page's words.
     fn took_words(&mut self, words: &[u64; 32])
-        requires running { answer_of self.old ≡ None }
-        requires gets { (x : ℕ) × (next_of self.old ≡ act.Get x) }
+        requires running { Self.Process.answer_of self.old ≡ None }
+        requires gets { (x : ℕ) × (Self.Process.next_of self.old ≡ act.Get x) }
         requires page { (c : Page) × (words.now ≡ words_of c) }
-        ensures { (c : Page) → words.now ≡ words_of c → Takes self.old (seen.Words c) self.new }
+        ensures { (c : Page) → words.now ≡ words_of c → Self.Process.Takes self.old (seen.Words c) self.new }
     {
         match from_words(words) {
             Ok(page) => self.took(Seen::Words(page)),
