@@ -68,12 +68,12 @@ module _ {P : Type 0} (know : P → Know) (w : World P) (g : IsGood know w) (p :
       let before = (g.owned.retired page kept.0 kept.1).1 in (
         omega (arith, when, before),
         λ q since among runs. absurd (
-          let n = shown.among q since runs in
-          let pass : q.pass ≡ n.0 = ap (λ z. z.pass) n.3 in
-          among (ahead q (ap (λ z. z.number) n.3) (omega (arith, pass, n.1)) (omega (arith, pass, n.2)) (λ e.
-          let own_name : q ≡ p = n.3 ∙ (ap numbered (sym pass ∙ e) ∙ sym shown.is_own) in
-          let f : Waiting ≡ Running since = sym waits ∙ (ap w.now.phase (sym own_name) ∙ runs) in
-          cc))),
+            let n = shown.among q since runs in
+            let pass : q.pass ≡ n.0 = ap (λ z. z.pass) n.3 in
+            among (ahead q (ap (λ z. z.number) n.3) (omega (arith, pass, n.1)) (omega (arith, pass, n.2)) (λ e.
+            let own_name : q ≡ p = n.3 ∙ (ap numbered (sym pass ∙ e) ∙ sym shown.is_own) in
+            let f : Waiting ≡ Running since = sym waits ∙ (ap w.now.phase (sym own_name) ∙ runs) in
+            cc))),
       )
 
   -- a process did not block
