@@ -132,7 +132,7 @@ fn a_part_at_the_greatest_key(rt: HostRuntime) -> Result<(), Fail> {
 #[test]
 fn a_page_that_is_not_retired_is_kept(rt: HostRuntime) -> Result<(), Fail> {
     let found = printed(rt.alloc(), b"pages 4\nreclaim 1\nrun 1 9\n")?;
-    assert!(rt; found.as_slice() == b"1 see 1\n1 answer kept\n");
+    assert!(rt; found.as_slice() == b"1 see 1\n1 answer kept\n".as_slice());
     Ok(())
 }
 
