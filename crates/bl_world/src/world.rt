@@ -125,3 +125,6 @@ impl World {
         self.lists.processes[number - 1].answer()
     }
 }
+
+#[cfg(test)]
+mod random_tests;
