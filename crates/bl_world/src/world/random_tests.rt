@@ -236,7 +236,7 @@ fn onwards(lists: &Lists, at: u32, key: u64) -> Result<Option<u32>, Law> {
             let mut child = None;
             for pair in inner.children.as_slice() {
                 if pair.0 <= key {
-                    child = Some(pair.1 as u32);
+                    child = u32::try_from(pair.1).ok();
                 }
             }
             holds(child.is_some(), "a descent comes to no page past its key")?;
@@ -448,10 +448,15 @@ impl Running {
 
     /// It has answered this.
     fn judge(&self, tree: &Tree, answer: Answer) -> Result<(), Law> {
-        if let Some(Hint::Post { level, key }) = hint_of(&answer) {
-            let below = (level.number() as usize).wrapping_sub(1);
+        if let Some(hint) = hint_of(&answer) {
+            let is_to_post = matches!(hint, Hint::Post { .. });
+            let below = (hint.level() as usize).wrapping_sub(1);
+            let names_low = tree.has_low(below, hint.key());
             holds(self.own.is_some(), "who hints has changed a page")?;
-            holds(tree.has_low(below, key), "a hint names the low of a page")?;
+            holds(
+                names_low || !is_to_post,
+                "a hint to post names the low of a page",
+            )?;
         }
         let answer = without_hint(answer);
         if let Some(own) = &self.own {
@@ -683,7 +688,8 @@ impl Trial {
         {
             number = running.number;
         }
-        let page = self.draws.below((self.size.pages as u64).wrapping_add(3)) as u32;
+        let page = self.draws.below((self.size.pages as u64).wrapping_add(3));
+        let page = u32::try_from(page).unwrap_or(0);
         match self.draws.below(32) {
             0 => Turn::Refuse(number),
             1 | 2 => Turn::Take(number, page),
