@@ -97,7 +97,7 @@ fn words_and_numbers_that_are_bad(rt: HostRuntime) -> Result<(), Fail> {
 
 #[test]
 fn levels_processes_and_pages_that_are_bad(rt: HostRuntime) -> Result<(), Fail> {
-    let lines: [&[u8]; 13] = [
+    let lines: [&[u8]; 14] = [
         b"post 0 5\n",
         b"post 13 5\n",
         b"post 4294967297 5\n",
@@ -109,12 +109,13 @@ fn levels_processes_and_pages_that_are_bad(rt: HostRuntime) -> Result<(), Fail> 
         b"turn 1 4\n",
         b"turn 1 4294967296\n",
         b"refuse 2\n",
+        b"reclaim 4\n",
         b"run 2 9\n",
         b"run 1 18446744073709551616\n",
     ];
     assert!(rt; are_bad(&rt, &lines)?);
     // processes that no world has yet
-    let kinds: [&[u8]; 2] = [b"compress 1 5\n", b"reclaim 1\n"];
+    let kinds: [&[u8]; 1] = [b"compress 1 5\n"];
     assert!(rt; are_bad(&rt, &kinds)?);
     // before any process
     assert!(rt; is_bad_at(&rt, b"pages 4\nturn 1\nfind 5\n", 2));

@@ -72,6 +72,17 @@ fn prints_posted(alloc: Global, pages: u32, lines: &str, more: &str) -> Result<b
 }
 
 #[test]
+fn a_page_that_is_kept(rt: HostRuntime) {
+    assert!(rt;
+        prints(
+            rt.alloc(),
+            "pages 4\nreclaim 1\nrun 1 9\n",
+            "1 see 1\n1 answer kept\n"
+        )
+    );
+}
+
+#[test]
 fn a_search_of_an_empty_index(rt: HostRuntime) {
     assert!(rt;
         prints(
@@ -118,6 +129,19 @@ fn a_split_and_its_post(rt: HostRuntime) -> Result<(), Fail> {
             8,
             "find 12\nrun 17 9\n",
             "17 begin\n17 get 0\n17 get 3\n17 get 2\n17 end\n17 answer found 120\n"
+        )?
+    );
+    Ok(())
+}
+
+#[test]
+fn a_leaf_that_becomes_thin(rt: HostRuntime) -> Result<(), Fail> {
+    assert!(rt;
+        prints_posted(
+            rt.alloc(),
+            8,
+            "delete 9\nrun 17 9\n",
+            "17 begin\n17 get 0\n17 get 3\n17 latch 2\n17 get 2\n17 put 2\n17 open 2\n17 end\n17 answer deleted 90 thin 1 9\n"
         )?
     );
     Ok(())

@@ -26,33 +26,34 @@ use Rattle.bl_courses.proofs.Cases.{came_on, came_at, came_as, not_both, on_one,
 use Rattle.bl_courses.proofs.Ways.{approach_one, here_leads}
 use Rattle.bl_courses.proofs.Changes.{drop_one, change_one}
 use Rattle.bl_courses.proofs.Leaves.{leaf_covers, leaf_loses}
+use Rattle.bl_proc.specs.declared.deleting.Removed.{Removed}
 use Rattle.bl_proc.specs.declared.deleting.Delete.{Delete}
 use Rattle.bl_proc.specs.declared.deleting.DeleteStage.{DeleteStage}
 use Rattle.bl_proc.specs.declared.deleting.DeleteStage.TheVariants.{New, Coming, Absent, Changing, Ending, Over}
 use Rattle.bl_proc.specs.declared.deleting.DeleteReply.{DeleteReply}
 use Rattle.bl_proc.specs.declared.deleting.DeleteReply.TheVariants as reply
-use Rattle.bl_proc.specs.Deletes.{delete_reply, delete_next_in, delete_needs_in, delete_answer_in, DeleteArrives, DeleteGoes}
+use Rattle.bl_proc.specs.Deletes.{delete_reply, thin_after, delete_next_in, delete_needs_in, delete_answer_in, DeleteArrives, DeleteGoes}
 
 module _ (key : ℕ) (x : ℕ) (c : Page) where
   absent_only : (node_of c).look key ≡ None → (other : DeleteStage) → DeleteArrives key x c other → other ≡ Absent x
   absent_only e New t = absurd t
   absent_only e (Coming b) t = absurd t
   absent_only e (Absent m) t = ap Absent t.0
-  absent_only e (Changing v d) t = (let z : None ≡ Some v = sym e ∙ t.0 in cc)
+  absent_only e (Changing v d) t = (let z : None ≡ Some v.value = sym e ∙ t.0 in cc)
   absent_only e (Ending r) t = absurd t
   absent_only e (Over r) t = absurd t
 
-  changing_only : (w : ℕ) (d : Change) → (node_of c).look key ≡ Some w → ((f : Change) → DropsPair x c key f → f ≡ d) → (other : DeleteStage) → DeleteArrives key x c other → other ≡ Changing w d
+  changing_only : (w : ℕ) (d : Change) → (node_of c).look key ≡ Some w → ((f : Change) → DropsPair x c key f → f ≡ d) → (other : DeleteStage) → DeleteArrives key x c other → other ≡ Changing (record { value = w; thin = thin_after d }) d
   changing_only w d e one New t = absurd t
   changing_only w d e one (Coming b) t = absurd t
   changing_only w d e one (Absent m) t = (let z : None ≡ Some w = sym t.1 ∙ e in cc)
-  changing_only w d e one (Changing v f) t = (let same : Some v ≡ Some w = sym t.0 ∙ e in let s : v ≡ w = cc in let f_is = one f t.1 in λ i. Changing (s i) (f_is i))
+  changing_only w d e one (Changing v f) t = (let same : Some v.value ≡ Some w = sym t.0 ∙ e in let s : v.value ≡ w = cc in let f_is = one f t.1 in let thin = t.2 ∙ ap thin_after f_is in λ i. Changing (record { value = s i; thin = thin i }) (f_is i))
   changing_only w d e one (Ending r) t = absurd t
   changing_only w d e one (Over r) t = absurd t
 
   arrive_by : Leads c key 0 Here → (look : Option ℕ) → (node_of c).look key ≡ look → One (DeleteArrives key x c)
   arrive_by h None e = record { new = Absent x; goes = (refl, e); only = absent_only e }
-  arrive_by h (Some w) e = (let p = drop_one x c key (leaf_covers c key 0 h) (leaf_loses c key h) in record { new = Changing w p.new; goes = (e, p.goes); only = changing_only w p.new e p.only })
+  arrive_by h (Some w) e = (let p = drop_one x c key (leaf_covers c key 0 h) (leaf_loses c key h) in record { new = Changing (record { value = w; thin = thin_after p.new }) p.new; goes = (e, p.goes, refl); only = changing_only w p.new e p.only })
 
   arrive_one : Leads c key 0 Here → One (DeleteArrives key x c)
   arrive_one h = arrive_by h ((node_of c).look key) refl
@@ -86,8 +87,8 @@ module _ (key : ℕ) (a : Approach) (what : Seen) where
   coming_by (came.On b) h only = record { new = Coming b; goes = h; only = on_only b only }
   coming_by (came.Here x c) h only = (let one = arrive_one key x c (here_leads 0 key a what x c h) in record { new = one.new; goes = here_goes x c h one.new one.goes; only = here_only x c only one })
 
-module _ (key : ℕ) (value : ℕ) (d : Change) (what : Seen) where
-  more_only : (e : Change) → ((o : Changed) → Changes d what o → o ≡ change.On e) → (other : DeleteStage) → DeleteGoes key (Changing value d) what other → other ≡ Changing value e
+module _ (key : ℕ) (removed : Removed) (d : Change) (what : Seen) where
+  more_only : (e : Change) → ((o : Changed) → Changes d what o → o ≡ change.On e) → (other : DeleteStage) → DeleteGoes key (Changing removed d) what other → other ≡ Changing removed e
   more_only e is New t = absurd t
   more_only e is (Coming b) t = absurd t
   more_only e is (Absent m) t = absurd t
@@ -95,17 +96,17 @@ module _ (key : ℕ) (value : ℕ) (d : Change) (what : Seen) where
   more_only e is (Ending r) t = absurd (not_over e t.0 (sym (is (change.Over t.0) t.1)))
   more_only e is (Over r) t = absurd t
 
-  over_only : (o : Outcome) → ((z : Changed) → Changes d what z → z ≡ change.Over o) → (other : DeleteStage) → DeleteGoes key (Changing value d) what other → other ≡ Ending (delete_reply value o)
+  over_only : (o : Outcome) → ((z : Changed) → Changes d what z → z ≡ change.Over o) → (other : DeleteStage) → DeleteGoes key (Changing removed d) what other → other ≡ Ending (delete_reply removed o)
   over_only o is New t = absurd t
   over_only o is (Coming b) t = absurd t
   over_only o is (Absent m) t = absurd t
   over_only o is (Changing v f) t = absurd (not_over f o (is (change.On f) t.1))
-  over_only o is (Ending r) t = ap Ending (t.2 ∙ ap (delete_reply value) (over_one t.0 o (is (change.Over t.0) t.1)))
+  over_only o is (Ending r) t = ap Ending (t.2 ∙ ap (delete_reply removed) (over_one t.0 o (is (change.Over t.0) t.1)))
   over_only o is (Over r) t = absurd t
 
-  changing_by : (n : Changed) → Changes d what n → ((z : Changed) → Changes d what z → z ≡ n) → One (DeleteGoes key (Changing value d) what)
-  changing_by (change.On e) h only = record { new = Changing value e; goes = (refl, h); only = more_only e only }
-  changing_by (change.Over o) h only = record { new = Ending (delete_reply value o); goes = (o, h, refl); only = over_only o only }
+  changing_by : (n : Changed) → Changes d what n → ((z : Changed) → Changes d what z → z ≡ n) → One (DeleteGoes key (Changing removed d) what)
+  changing_by (change.On e) h only = record { new = Changing removed e; goes = (refl, h); only = more_only e only }
+  changing_by (change.Over o) h only = record { new = Ending (delete_reply removed o); goes = (o, h, refl); only = over_only o only }
 
 module _ (key : ℕ) where
   begun_only : (other : DeleteStage) → DeleteGoes key New seen.Done other → other ≡ Coming Start
@@ -161,6 +162,7 @@ module _ (key : ℕ) where
 delete_only : (old : Delete) (what : Seen) (g : One (DeleteGoes old.key old.stage what)) (other : Proc) → Takes (proc.Delete old) what other → other ≡ proc.Delete (record { key = old.key; stage = g.new })
 delete_only old what g (proc.Find f) t = absurd t
 delete_only old what g (proc.Part f) t = absurd t
+delete_only old what g (proc.Reclaim f) t = absurd t
 delete_only old what g (proc.Insert f) t = absurd t
 delete_only old what g (proc.Delete f) t = (let e = g.only f.stage t.1 in λ i. proc.Delete (record { key = t.0 i; stage = e i }))
 delete_only old what g (proc.Post f) t = absurd t

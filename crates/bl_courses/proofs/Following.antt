@@ -19,6 +19,7 @@ use Rattle.bl_proc.specs.declared.searching.FindStage.TheVariants as find
 use Rattle.bl_proc.specs.declared.inserting.Insert.{Insert}
 use Rattle.bl_proc.specs.declared.inserting.InsertStage.{InsertStage}
 use Rattle.bl_proc.specs.declared.inserting.InsertStage.TheVariants as insert
+use Rattle.bl_proc.specs.declared.deleting.Removed.{Removed}
 use Rattle.bl_proc.specs.declared.deleting.Delete.{Delete}
 use Rattle.bl_proc.specs.declared.deleting.DeleteStage.{DeleteStage}
 use Rattle.bl_proc.specs.declared.deleting.DeleteStage.TheVariants as delete
@@ -211,7 +212,7 @@ came_frames_delete x key c (change.Opening u v) t = absurd t
 came_changing_insert : (key value : ℕ) (a : Approach) (what : Seen) (e : Change) → InsertGoes key value (insert.Coming a) what (insert.Changing e) → Leaves (approach_next a) None what 0 (change_frames e)
 came_changing_insert key value a what e t = subst (λ (z : ℕ). Leaves (approach_next a) None what 0 z) (sym (came_frames_insert t.0 key value t.1 e t.3.1)) (approach_leaves a what)
 
-came_changing_delete : (key : ℕ) (a : Approach) (what : Seen) (v : ℕ) (e : Change) → DeleteGoes key (delete.Coming a) what (delete.Changing v e) → Leaves (approach_next a) None what 0 (change_frames e)
+came_changing_delete : (key : ℕ) (a : Approach) (what : Seen) (v : Removed) (e : Change) → DeleteGoes key (delete.Coming a) what (delete.Changing v e) → Leaves (approach_next a) None what 0 (change_frames e)
 came_changing_delete key a what v e t = subst (λ (z : ℕ). Leaves (approach_next a) None what 0 z) (sym (came_frames_delete t.0 key t.1 e t.3.1)) (approach_leaves a what)
 
 insert_leaves : (key value : ℕ) (a b : InsertStage) (what : Seen) → InsertGoes key value a what b → Leaves (insert_next_in a) (insert_needs_in a) what (insert_frames a) (insert_frames b)

@@ -161,6 +161,7 @@ module _ (key value : ℕ) where
 insert_only : (old : Insert) (what : Seen) (g : One (InsertGoes old.key old.value old.stage what)) (other : Proc) → Takes (proc.Insert old) what other → other ≡ proc.Insert (record { key = old.key; value = old.value; stage = g.new })
 insert_only old what g (proc.Find f) t = absurd t
 insert_only old what g (proc.Part f) t = absurd t
+insert_only old what g (proc.Reclaim f) t = absurd t
 insert_only old what g (proc.Insert f) t = (let e = g.only f.stage t.2 in λ i. proc.Insert (record { key = t.0 i; value = t.1 i; stage = e i }))
 insert_only old what g (proc.Delete f) t = absurd t
 insert_only old what g (proc.Post f) t = absurd t

@@ -566,6 +566,7 @@ module _ (level key : ℕ) where
 post_only : (old : Post) (what : Seen) (g : One (PostGoes old.level old.key old.stage what)) (other : Proc) → Takes (proc.Post old) what other → other ≡ proc.Post (record { level = old.level; key = old.key; stage = g.new; least = old.least; most = old.most; below = goes_below old.level old.key old.stage what g.new old.below g.goes })
 post_only old what g (proc.Find f) t = absurd t
 post_only old what g (proc.Part f) t = absurd t
+post_only old what g (proc.Reclaim f) t = absurd t
 post_only old what g (proc.Insert f) t = absurd t
 post_only old what g (proc.Delete f) t = absurd t
 post_only old what g (proc.Post f) t = (let e = g.only f.stage t.2 in λ i. proc.Post (record {

@@ -72,6 +72,7 @@ frames_of (proc.Insert p) = insert_frames p.stage
 frames_of (proc.Delete p) = delete_frames p.stage
 frames_of (proc.Post p) = post_frames p.stage
 frames_of (proc.Part p) = 0
+frames_of (proc.Reclaim p) = 0
 
 -- the operation that a process carries out, if it has one
 abbrev pub op_of : Proc → Option Op
@@ -80,6 +81,7 @@ op_of (proc.Insert p) = Some (op.Insert p.key p.value)
 op_of (proc.Delete p) = Some (op.Delete p.key)
 op_of (proc.Post p) = None
 op_of (proc.Part p) = Some (op.Part p.from)
+op_of (proc.Reclaim p) = None
 
 -- the level and the key of a post
 abbrev pub work_of : Proc → Option (ℕ × ℕ)
@@ -88,9 +90,10 @@ work_of (proc.Insert p) = None
 work_of (proc.Delete p) = None
 work_of (proc.Post p) = Some (p.level, p.key)
 work_of (proc.Part p) = None
+work_of (proc.Reclaim p) = None
 
--- A process that has so many frames: a put asks for one where it has none, and a take for a page and two frames. No kind
--- retires, looks or releases.
+-- A process that has so many frames: a put asks for one where it has none, and a take for a page and two frames. No
+-- kind retires, and an index has sweeps for those that look or release.
 abbrev pub Wants : Action → Option (ℕ × ℕ) → ℕ → Type 0
 Wants (act.Put x page) None frames = frames ≢ 0
 Wants (act.Put x page) (Some ask) frames = (frames ≡ 0) × (ask.0 ≡ 0) × (ask.1 ≡ 1)

@@ -154,24 +154,24 @@ pub record Says (before : Proc) (o : Operation) (reply : Reply) : Type 0 where
 op_one : {a b : Operation} → Some a ≡ Some b → a ≡ b
 op_one e = cc
 
-says_of : (before : Proc) (o o' : Operation) (reply : Reply) → end_of_proc before ≡ Some reply → ((got : ℕ → Page) (child : ℕ) → (know_of got child before).said ≡ Some (record { op = o'; reply = reply })) → Some o' ≡ Some o → Says before o reply
+says_of : (before : Proc) (o o' : Operation) (reply : Reply) → end_of_proc before ≡ Some reply → ((got : ℕ → Page) (child time : ℕ) → (know_of got child time before).said ≡ Some (record { op = o'; reply = reply })) → Some o' ≡ Some o → Says before o reply
 says_of before o o' reply end said e = record {
   end = end;
-  said = λ r h. ap (λ (z : Proc). (know_of r.got r.child z).said) h ∙ (said r.got r.child ∙ ap (λ (z : Operation). Some (record { op = z; reply = reply })) (op_one e));
+  said = λ r h. ap (λ (z : Proc). (know_of r.got r.child r.time z).said) h ∙ (said r.got r.child r.time ∙ ap (λ (z : Operation). Some (record { op = z; reply = reply })) (op_one e));
 }
 
 end_says : (before last : Proc) (o : Operation) (reply : Reply) (hint : Option Hint) → op_of before ≡ Some o → next_of before ≡ act.End → Takes before seen.Done last → answer_of last ≡ Some (Op reply hint) → Says before o reply
-end_says (proc.Find p) (proc.Find q) o reply hint i e t h = (let s = find_ends p.key p.stage q.stage reply hint e t.1 h in says_of (proc.Find p) o (op.Find p.key) reply s.0 (λ got child. s.1) i)
+end_says (proc.Find p) (proc.Find q) o reply hint i e t h = (let s = find_ends p.key p.stage q.stage reply hint e t.1 h in says_of (proc.Find p) o (op.Find p.key) reply s.0 (λ got child time. s.1) i)
 end_says (proc.Find p) (proc.Insert q) o reply hint i e t h = absurd t
 end_says (proc.Find p) (proc.Delete q) o reply hint i e t h = absurd t
 end_says (proc.Find p) (proc.Post q) o reply hint i e t h = absurd t
 end_says (proc.Insert p) (proc.Find q) o reply hint i e t h = absurd t
-end_says (proc.Insert p) (proc.Insert q) o reply hint i e t h = (let s = insert_ends p.key p.value p.stage q.stage reply hint e t.2 h in says_of (proc.Insert p) o (op.Insert p.key p.value) reply s.0 (λ got child. s.1 got) i)
+end_says (proc.Insert p) (proc.Insert q) o reply hint i e t h = (let s = insert_ends p.key p.value p.stage q.stage reply hint e t.2 h in says_of (proc.Insert p) o (op.Insert p.key p.value) reply s.0 (λ got child time. s.1 got) i)
 end_says (proc.Insert p) (proc.Delete q) o reply hint i e t h = absurd t
 end_says (proc.Insert p) (proc.Post q) o reply hint i e t h = absurd t
 end_says (proc.Delete p) (proc.Find q) o reply hint i e t h = absurd t
 end_says (proc.Delete p) (proc.Insert q) o reply hint i e t h = absurd t
-end_says (proc.Delete p) (proc.Delete q) o reply hint i e t h = (let s = delete_ends p.key p.stage q.stage reply hint e t.1 h in says_of (proc.Delete p) o (op.Delete p.key) reply s.0 (λ got child. s.1 got) i)
+end_says (proc.Delete p) (proc.Delete q) o reply hint i e t h = (let s = delete_ends p.key p.stage q.stage reply hint e t.1 h in says_of (proc.Delete p) o (op.Delete p.key) reply s.0 (λ got child time. s.1 got) i)
 end_says (proc.Delete p) (proc.Post q) o reply hint i e t h = absurd t
 end_says (proc.Post p) (proc.Find q) o reply hint i e t h = absurd t
 end_says (proc.Post p) (proc.Insert q) o reply hint i e t h = absurd t
@@ -184,7 +184,18 @@ end_says (proc.Part p) (proc.Find q) o reply hint i e t h = absurd t
 end_says (proc.Part p) (proc.Insert q) o reply hint i e t h = absurd t
 end_says (proc.Part p) (proc.Delete q) o reply hint i e t h = absurd t
 end_says (proc.Part p) (proc.Post q) o reply hint i e t h = absurd t
-end_says (proc.Part p) (proc.Part q) o reply hint i e t h = (let s = part_ends p.from p.stage q.stage reply hint e t.1 h in says_of (proc.Part p) o (op.Part p.from) reply s.0 (λ got child. s.1) i)
+end_says (proc.Find p) (proc.Reclaim q) o reply hint i e t h = absurd t
+end_says (proc.Reclaim p) (proc.Find q) o reply hint i e t h = absurd t
+end_says (proc.Insert p) (proc.Reclaim q) o reply hint i e t h = absurd t
+end_says (proc.Reclaim p) (proc.Insert q) o reply hint i e t h = absurd t
+end_says (proc.Delete p) (proc.Reclaim q) o reply hint i e t h = absurd t
+end_says (proc.Reclaim p) (proc.Delete q) o reply hint i e t h = absurd t
+end_says (proc.Post p) (proc.Reclaim q) o reply hint i e t h = absurd t
+end_says (proc.Reclaim p) (proc.Post q) o reply hint i e t h = absurd t
+end_says (proc.Part p) (proc.Reclaim q) o reply hint i e t h = absurd t
+end_says (proc.Reclaim p) (proc.Part q) o reply hint i e t h = absurd t
+end_says (proc.Reclaim p) (proc.Reclaim q) o reply hint i e t h = cc
+end_says (proc.Part p) (proc.Part q) o reply hint i e t h = (let s = part_ends p.from p.stage q.stage reply hint e t.1 h in says_of (proc.Part p) o (op.Part p.from) reply s.0 (λ got child time. s.1) i)
 end_says (proc.Post p) (proc.Post q) o reply hint i e t h = cc
 
 pub op_answered : (pass : ℕ) (old e : Mine) (first last : Proc) (o : Operation) (reply : Reply) (hint : Option Hint) → IsDone pass old e first last → op_of first ≡ Some o → answer_of last ≡ Some (Op reply hint) → Answers pass o reply (trail_of old.trail) (trail_of e.trail)
@@ -275,6 +286,17 @@ end_has (proc.Part p) (proc.Find q) o i e t = absurd t
 end_has (proc.Part p) (proc.Insert q) o i e t = absurd t
 end_has (proc.Part p) (proc.Delete q) o i e t = absurd t
 end_has (proc.Part p) (proc.Post q) o i e t = absurd t
+end_has (proc.Find p) (proc.Reclaim q) o i e t = absurd t
+end_has (proc.Reclaim p) (proc.Find q) o i e t = absurd t
+end_has (proc.Insert p) (proc.Reclaim q) o i e t = absurd t
+end_has (proc.Reclaim p) (proc.Insert q) o i e t = absurd t
+end_has (proc.Delete p) (proc.Reclaim q) o i e t = absurd t
+end_has (proc.Reclaim p) (proc.Delete q) o i e t = absurd t
+end_has (proc.Post p) (proc.Reclaim q) o i e t = absurd t
+end_has (proc.Reclaim p) (proc.Post q) o i e t = absurd t
+end_has (proc.Part p) (proc.Reclaim q) o i e t = absurd t
+end_has (proc.Reclaim p) (proc.Part q) o i e t = absurd t
+end_has (proc.Reclaim p) (proc.Reclaim q) o i e t = cc
 end_has (proc.Part p) (proc.Part q) o i e t = part_has p.from p.stage q.stage e t.1
 end_has (proc.Post p) (proc.Post q) o i e t = cc
 

@@ -45,7 +45,7 @@ silent from (Ending r) is = absurd is
 silent from (Over r) is = absurd is
 
 pub part_may_give_up : (p : Part) (state : Proc) → state ≡ proc.Part p → IsListing p.stage → MayGiveUp state
-part_may_give_up p state e is = may_give_up state (proc.Part p) e (λ got child. silent p.from p.stage is)
+part_may_give_up p state e is = may_give_up state (proc.Part p) e (λ got child time. silent p.from p.stage is)
 
 -- a part that has found its leaf, and has ended
 pub part_done : (pass : ℕ) (old d e : Mine) (p q : Part) (rows : PartRows) → IsSince pass old d → d.state ≡ proc.Part p → p.stage ≡ Ending rows → Finishes (end_of_proc (proc.Part p)) d e → Takes (proc.Part p) seen.Done (proc.Part q) → IsDone pass old e (proc.Part p) (proc.Part q)

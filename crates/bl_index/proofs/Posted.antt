@@ -109,10 +109,12 @@ posting (proc.Post p) (proc.Find q) level key is e t = absurd t
 posting (proc.Post p) (proc.Insert q) level key is e t = absurd t
 posting (proc.Post p) (proc.Delete q) level key is e t = absurd t
 posting (proc.Post p) (proc.Part q) level key is e t = absurd t
+posting (proc.Post p) (proc.Reclaim q) level key is e t = absurd t
 posting (proc.Find p) last level key is e t = absurd (let z = is in cc)
 posting (proc.Insert p) last level key is e t = absurd (let z = is in cc)
 posting (proc.Delete p) last level key is e t = absurd (let z = is in cc)
 posting (proc.Part p) last level key is e t = absurd (let z = is in cc)
+posting (proc.Reclaim p) last level key is e t = absurd (let z = is in cc)
 
 pub post_has_answer : (pass : ℕ) (old e : Mine) (first last : Proc) (level key : ℕ) → IsDone pass old e first last → work_of first ≡ Some (level, key) → (what : Option Answer) → what ≡ answer_of last → IsPostAnswer what
 post_has_answer pass old e first last level key d is what a =
@@ -125,7 +127,7 @@ post_answered pass old e first last level key what next d is a =
     let q = p.new in
     let state = d.state ∙ p.before_is in
     let told : Finishes None d.d e = subst (λ (z : Proc). Finishes (end_of_proc z) d.d e) p.before_is d.told in
-    let says : (r : Run) → r.state ≡ d.d.state → (know r).said ≡ None = λ r h. ap (λ (z : Proc). (know_of r.got r.child z).said) (h ∙ state) ∙ silent_at_end p.old.level p.old.key r.got r.child p.old.stage p.at_end in
+    let says : (r : Run) → r.state ≡ d.d.state → (know r).said ≡ None = λ r h. ap (λ (z : Proc). (know_of r.got r.child r.time z).said) (h ∙ state) ∙ silent_at_end p.old.level p.old.key r.got r.child p.old.stage p.at_end in
     let marks : Trail = marks_of (name pass (old.number + 1)) (trail_of e.trail) in
     let log : post_log q.level q.key q.stage marks = subst (λ (z : Proc). proc_log z marks) p.last_is d.log in
     let answered : post_answer_in q.level q.stage ≡ Some (answer.Post what next) = sym (ap answer_of p.last_is) ∙ a in

@@ -42,7 +42,7 @@ searches_on key (Ending v) new c is t ne = absurd is
 searches_on key (Over v) new c is t ne = absurd is
 
 knows : (p : FindState) (r : Run) → r.state ≡ Find p → know r ≡ know_find p.key p.stage
-knows p r e = ap (know_of r.got r.child) e
+knows p r e = ap (know_of r.got r.child r.time) e
 
 silent : (key : ℕ) (a : FindStage) → IsSearching a → IsSilent (know_find key a)
 silent key AtAnchor is = record { busy = refl; silent = refl; empty = refl; no_middle = refl }
@@ -52,7 +52,7 @@ silent key (Ending v) is = absurd is
 silent key (Over v) is = absurd is
 
 pub find_may_give_up : (p : FindState) (state : Proc) → state ≡ Find p → IsSearching p.stage → MayGiveUp state
-find_may_give_up p state e is = may_give_up state (Find p) e (λ got child. silent p.key p.stage is)
+find_may_give_up p state e is = may_give_up state (Find p) e (λ got child time. silent p.key p.stage is)
 
 -- a search that has found its leaf
 pub find_answers : (pass : ℕ) (old d e : Mine) (p : FindState) (key : ℕ) (value : Option ℕ) (reply : Reply) → IsSince pass old d → d.state ≡ Find p → p.key ≡ key → p.stage ≡ Ending value → Finishes (end_of_proc (Find p)) d e → reply ≡ found_reply value → Answers pass (op.Find key) reply (trail_of old.trail) (trail_of e.trail)

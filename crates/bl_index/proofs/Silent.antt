@@ -19,7 +19,7 @@ pub record IsSilent (k : Know) : Type 0 where
   pub empty : k.holds ≡ []
   pub no_middle : k.middle ≡ None
 
-pub may_give_up : (state process : Proc) → state ≡ process → ((got : ℕ → Page) (child : ℕ) → IsSilent (know_of got child process)) → MayGiveUp state
+pub may_give_up : (state process : Proc) → state ≡ process → ((got : ℕ → Page) (child time : ℕ) → IsSilent (know_of got child time process)) → MayGiveUp state
 may_give_up state process is silent = record {
   busy = λ r e. (here r e).busy;
   silent = λ r e. (here r e).silent;
@@ -27,8 +27,8 @@ may_give_up state process is silent = record {
   no_middle = λ r e. (here r e).no_middle;
 }
   where
-    here : (r : Run) → r.state ≡ state → IsSilent (know_of r.got r.child r.state)
-    here r e = subst (λ (z : Proc). IsSilent (know_of r.got r.child z)) (sym (e ∙ is)) (silent r.got r.child)
+    here : (r : Run) → r.state ≡ state → IsSilent (know_of r.got r.child r.time r.state)
+    here r e = subst (λ (z : Proc). IsSilent (know_of r.got r.child r.time z)) (sym (e ∙ is)) (silent r.got r.child r.time)
 
 pub gives_up : (pass : ℕ) (old d e : Mine) → IsSince pass old d → MayGiveUp d.state → Finishes None d e → Adds pass (trail_of old.trail) (trail_of e.trail)
 gives_up pass old d e s may t = record {

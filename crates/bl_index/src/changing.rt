@@ -51,7 +51,7 @@ impl Index {
         answered(process.answer())
     }
 
-    /// Takes the key and its value away.
+    /// Takes the key and its value away. Where the leaf is thin then, there is a hint to merge it or even it out.
     pub fn delete<R: Wait>(&self, rt: &R, pass: &mut Pass, key: u64) -> (Reply, Option<Hint>)
         requires { IsPassOf self.now pass.old }
         ensures same { IsSamePass pass.old pass.new }

@@ -128,6 +128,10 @@ fn full_leaves_are_parted(rt: HostRuntime) -> Result<(), Fail> {
     assert!(rt; matches!(few, Err(OutOfTurns)));
     let found = index.find(&mut pass, 12, 3);
     assert!(rt; matches!(found, Ok(Reply::Found(120))));
+    let (gone, thin) = index.delete(&rt, &mut pass, 9);
+    assert!(rt; matches!(gone, Reply::Deleted(90)));
+    let level = Level::new(1);
+    assert!(rt; thin == Some(Hint::Thin { level, key: 9 }));
     Ok(())
 }
 

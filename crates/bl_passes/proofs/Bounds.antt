@@ -106,7 +106,7 @@ first_anchor = Anchor (record { leftmost = record { items = 1 ∷ [] }; some = o
 
 -- a process that is to begin, in the world that has got nothing yet
 abbrev pub fresh_run : Proc → Run
-fresh_run process = record { state = process; got = λ x. first_anchor; child = 0 }
+fresh_run process = record { state = process; got = λ x. first_anchor; child = 0; time = 0 }
 
 pub begins_process : (l : Layout) (n : ℕ) (d : Mine) (process : Proc) → next_of process ≡ act.Begin → IsUnborn process → GoesOn process seen.Done → BeginsIn Fits l n d (begins n l.pages l.passes process)
 unfolding entered
@@ -121,8 +121,8 @@ begins_process l n d process next unborn course s g o at =
     let phase = is_put_name p (machine.Running s.clock) w.now.phase in
     let here : w.proc p ≡ b = (is_put_name p b g.world.proc).at in
     let does : Does w.now p Act.Begin s1 = record { changes = (λ x. refl, λ x. refl, (s.clock, g.clock, omega arith, phase)); on = g.clock } in
-    let t : Turned know w p Act.Begin s1 (run_next (w.proc p) seen.Done course.new) = turn_of w p process seen.Done s1 f.good (ap (λ (r : Run). r.state) here) course act.Begin next tt does in
-    let b' = run_next (w.proc p) seen.Done course.new in
+    let t : Turned know w p Act.Begin s1 (run_next w.now (w.proc p) seen.Done course.new) = turn_of w p process seen.Done s1 f.good (ap (λ (r : Run). r.state) here) course act.Begin next tt tt does in
+    let b' = run_next w.now (w.proc p) seen.Done course.new in
     let h = g.hands n Idle d at in
     let early : proc_log process (marks_of p w.trail) = early_log b blank.stage (marks_of p w.trail) in
     let log : proc_log course.new (marks_of p t.next.trail) = log_after w p process seen.Done course act.Begin s1 b' t next tt early in
@@ -199,9 +199,9 @@ ends_process l n d next course s since f o at =
     let p = name n d.number in
     let s1 : State Page = record w.now { phase = put_name p machine.Ended w.now.phase } in
     let does : Does w.now p (Act.End (end_of_proc d.state)) s1 = record { changes = (λ x. refl, λ x. refl, is_put_name p machine.Ended w.now.phase); on = omega arith } in
-    let z = finishes l n d s since f o at (end_of_proc d.state) _ (turned s f n since d at seen.Done course act.End next s1 tt does) in
+    let z = finishes l n d s since f o at (end_of_proc d.state) _ (turned s f n since d at seen.Done course act.End next s1 tt tt does) in
     let named = is_named s f n since d at in
-    let log = then_log s f n since d at seen.Done course act.End next s1 tt does in (
+    let log = then_log s f n since d at seen.Done course act.End next s1 tt tt does in (
       z.0,
       z.1,
       z.2,

@@ -17,7 +17,7 @@ use Rattle.bl_ways.specs.declared.acts.Action.TheVariants as act
 use Rattle.bl_ways.specs.declared.acts.Seen.{Seen}
 use Rattle.bl_ways.specs.declared.acts.Seen.TheVariants as seen
 use Rattle.bl_proc.specs.Processes.{next_of}
-use Rattle.bl_tables.specs.Turns.{event_of, IsTold, Does}
+use Rattle.bl_tables.specs.Turns.{event_of, IsTold, IsShown, Does}
 use Rattle.bl_tables.specs.Knowing.{Run, bare as know, end_of_proc}
 use Rattle.bl_tables.proofs.Gets.{IsGot, got_next_is}
 use Rattle.bl_courses.specs.Courses.{GoesOn}
@@ -30,22 +30,22 @@ use Rattle.bl_passes.proofs.Shown.{at_below, set_there, shows_words, got_words, 
 use Rattle.bl_passes.proofs.Turns.{mine, standing, turned, then_known, then_goes, then_fits, runs_on}
 
 -- an event that leaves all pages and owners as they are
-unmoved : (s : Pages Mine) (f : Fits s) (n since : ℕ) (d : Mine) → Stands s n (Running since) d → (what : Seen) → GoesOn d.state what → (a : Action) → next_of d.state ≡ a → IsTold f.world.now f.world.size a what → Does f.world.now (name n d.number) (event_of (end_of_proc d.state) a what) f.world.now → (e : Mine) × Fits (told s n (Running since) e) × Goes what d e
-unmoved s f n since d at what c a next said does = (
-  then_known s f n since d at what c a next f.world.now said does,
-  then_fits s f n since d at what c a next f.world.now said does s refl refl f.clock (λ q. refl) (λ x q ne e. e) f.pages f.owners,
-  then_goes s f n since d at what c a next f.world.now said does,
+unmoved : (s : Pages Mine) (f : Fits s) (n since : ℕ) (d : Mine) → Stands s n (Running since) d → (what : Seen) → GoesOn d.state what → (a : Action) → next_of d.state ≡ a → IsTold f.world.now f.world.size a what → IsShown f.world.now (name n d.number) (f.world.proc (name n d.number)).time a what → Does f.world.now (name n d.number) (event_of (end_of_proc d.state) a what) f.world.now → (e : Mine) × Fits (told s n (Running since) e) × Goes what d e
+unmoved s f n since d at what c a next said shown does = (
+  then_known s f n since d at what c a next f.world.now said shown does,
+  then_fits s f n since d at what c a next f.world.now said shown does s refl refl f.clock (λ q. refl) (λ x q ne e. e) f.pages f.owners,
+  then_goes s f n since d at what c a next f.world.now said shown does,
 )
 
 -- an event by which a page gets another owner
-moved : (s : Pages Mine) (f : Fits s) (n since : ℕ) (d : Mine) → Stands s n (Running since) d → (what : Seen) → GoesOn d.state what → (a : Action) → next_of d.state ≡ a → (x : ℕ) (was o : Owner) → get_elem? s.owners x ≡ some was → (o' : machine.Owner) → o' ≡ owner_in s.hands o → ((q : Name) → q ≢ name n d.number → o' ≢ machine.Held q) → IsTold f.world.now f.world.size a what
+moved : (s : Pages Mine) (f : Fits s) (n since : ℕ) (d : Mine) → Stands s n (Running since) d → (what : Seen) → GoesOn d.state what → (a : Action) → next_of d.state ≡ a → (x : ℕ) (was o : Owner) → get_elem? s.owners x ≡ some was → (o' : machine.Owner) → o' ≡ owner_in s.hands o → ((q : Name) → q ≢ name n d.number → o' ≢ machine.Held q) → IsTold f.world.now f.world.size a what → IsShown f.world.now (name n d.number) (f.world.proc (name n d.number)).time a what
     → Does f.world.now (name n d.number) (event_of (end_of_proc d.state) a what) (record f.world.now { owner = put_at x o' f.world.now.owner })
     → (e : Mine) × Fits (told (owned s x o) n (Running since) e) × Goes what d e
-moved s f n since d at what c a next x was o here o' is else said does =
+moved s f n since d at what c a next x was o here o' is else said shown does =
     let s1 : State Page = record f.world.now { owner = put_at x o' f.world.now.owner } in
     let put = is_put_at x o' f.world.now.owner in (
-      then_known s f n since d at what c a next s1 said does,
-      then_fits s f n since d at what c a next s1 said does (owned s x o) refl refl f.clock (λ q. refl)
+      then_known s f n since d at what c a next s1 said shown does,
+      then_fits s f n since d at what c a next s1 said shown does (owned s x o) refl refl f.clock (λ q. refl)
           (λ y q ne e. ⊎_elim
           (λ (z : y ≡ x). absurd (else q ne (sym put.at ∙ (ap (put_at x o' f.world.now.owner) (sym z) ∙ e))))
           (λ (z : y ≢ x). sym (put.others y z) ∙ e)
@@ -55,7 +55,7 @@ moved s f n since d at what c a next x was o here o' is else said does =
           (λ (z : (y ≡ x) × (o ≡ p)). ap (put_at x o' f.world.now.owner) z.0 ∙ (put.at ∙ (is ∙ ap (owner_in s.hands) z.1)))
           (λ (z : (y ≢ x) × (get_elem? s.owners y ≡ some p)). put.others y z.0 ∙ f.owners y p z.1)
           (at_set s.owners x y o p e)),
-      then_goes s f n since d at what c a next s1 said does,
+      then_goes s f n since d at what c a next s1 said shown does,
     )
   where
     either_page : (y x : ℕ) → (y ≡ x) ⊎ (y ≢ x)
@@ -81,9 +81,9 @@ module _ (l : Layout) (n : ℕ) (d : Mine) (runs : d.runs ≡ true) where
       let may : (x ≡ 0) ⊎ MayGet w p x = subst (IsGot w p) next_is (got_next_is w p f.good) in
       let words_are : words ≡ words_of c = got_words w p x words f.good may (f.pages x words page.0) in
       let does : Does w.now p (Act.Get x) w.now = record { changes = (λ z. refl, λ z. refl, λ q. refl); on = omega arith } in
-      let t = turned s f n since d at (seen.Words c) (course c) (act.Get x) next w.now refl does in
+      let t = turned s f n since d at (seen.Words c) (course c) (act.Get x) next w.now refl tt does in
       let can : ((b : ℕ) × (w.now.phase p ≡ machine.Running b)) × (w.now.owner x ≢ machine.Released) = t.extends.steps.enabled in
-      let u = unmoved s f n since d at (seen.Words c) (course c) (act.Get x) next refl does in
+      let u = unmoved s f n since d at (seen.Words c) (course c) (act.Get x) next refl tt does in
       (λ e. can.1 (f.owners x owner page.1 ∙ is_released s.hands owner e), u.0, u.1, (c, words_are, u.2))
 
   pub puts_page : (x : ℕ) (new : List ℕ) (c : Page) → next_of d.state ≡ act.Put x c → new ≡ words_of c → GoesOn d.state seen.Done → Puts Fits l n d x new puts
@@ -94,17 +94,17 @@ module _ (l : Layout) (n : ℕ) (d : Mine) (runs : d.runs ≡ true) where
       let s1 : State Page = record w.now { contents = put_at x c w.now.contents } in
       let put = is_put_at x c w.now.contents in
       let does : Does w.now p (Act.Put x c) s1 = record { changes = (put, λ z. refl, λ q. refl); on = omega arith } in
-      let t = turned s f n since d at' seen.Done course (act.Put x c) next s1 tt does in
+      let t = turned s f n since d at' seen.Done course (act.Put x c) next s1 tt tt does in
       let can : w.now.owner x ≡ machine.Held p = t.extends.steps.enabled in (
         is_held s.hands n d.number owner (sym (f.owners x owner page.1) ∙ can),
-        then_known s f n since d at' seen.Done course (act.Put x c) next s1 tt does,
-        then_fits s f n since d at' seen.Done course (act.Put x c) next s1 tt does (written s x new) refl (length-set s.contents x new) f.clock (λ q. refl) (λ y q ne e. e)
+        then_known s f n since d at' seen.Done course (act.Put x c) next s1 tt tt does,
+        then_fits s f n since d at' seen.Done course (act.Put x c) next s1 tt tt does (written s x new) refl (length-set s.contents x new) f.clock (λ q. refl) (λ y q ne e. e)
             (λ y ws e. ⊎_elim
             (λ (z : (y ≡ x) × (new ≡ ws)). subst (λ (v : ℕ × List ℕ). Shows v.0 v.1 (s1.contents v.0)) (λ i. (sym z.0 i, z.1 i)) (subst (Shows x new) (sym put.at) (shows_words x new c is)))
             (λ (z : (y ≢ x) × (get_elem? s.contents y ≡ some ws)). subst (Shows y ws) (sym (put.others y z.0)) (f.pages y ws z.1))
             (at_set s.contents x y new ws e))
             f.owners,
-        then_goes s f n since d at' seen.Done course (act.Put x c) next s1 tt does,
+        then_goes s f n since d at' seen.Done course (act.Put x c) next s1 tt tt does,
       ))
 
   pub opens_page : (x : ℕ) → next_of d.state ≡ act.Open x → GoesOn d.state seen.Done → Opens Fits l n d x opens
@@ -113,9 +113,9 @@ module _ (l : Layout) (n : ℕ) (d : Mine) (runs : d.runs ≡ true) where
       let w = f.world in
       let p = name n d.number in
       let does : Does w.now p (Act.Open x) (record w.now { owner = put_at x machine.Owner.Open w.now.owner }) = record { changes = (λ z. refl, is_put_at x machine.Owner.Open w.now.owner, λ q. refl); on = omega arith } in
-      let t = turned s f n since d at' seen.Done course (act.Open x) next (record w.now { owner = put_at x machine.Owner.Open w.now.owner }) tt does in
+      let t = turned s f n since d at' seen.Done course (act.Open x) next (record w.now { owner = put_at x machine.Owner.Open w.now.owner }) tt tt does in
       let can : w.now.owner x ≡ machine.Held p = t.extends.steps.enabled in
-      let u = moved s f n since d at' seen.Done course (act.Open x) next x owner Open page.1 machine.Owner.Open refl (λ q ne e. let z : machine.Owner.Open ≡ machine.Held q = e in cc) tt does in
+      let u = moved s f n since d at' seen.Done course (act.Open x) next x owner Open page.1 machine.Owner.Open refl (λ q ne e. let z : machine.Owner.Open ≡ machine.Held q = e in cc) tt tt does in
       (is_held s.hands n d.number owner (sym (f.owners x owner page.1) ∙ can), u.0, u.1, u.2))
 
   pub latches_page : (x : ℕ) → next_of d.state ≡ act.Latch x → GoesOn d.state seen.Done → Latches Fits l n d x tries
@@ -125,7 +125,7 @@ module _ (l : Layout) (n : ℕ) (d : Mine) (runs : d.runs ≡ true) where
       let p = name n d.number in
       let free : w.now.owner x ≡ machine.Owner.Open = f.owners x Open page.1 in
       let does : Does w.now p (Act.Latch x) (record w.now { owner = put_at x (machine.Held p) w.now.owner }) = record { changes = (λ z. refl, is_put_at x (machine.Held p) w.now.owner, λ q. refl); on = omega arith } in
-      let u = moved s f n since d at' seen.Done course (act.Latch x) next x Open (Held n) page.1 (machine.Held p) (sym (held_by s.hands n (Running since, d) at')) (λ q ne e. let z : p ≡ q = cc in ne (sym z)) free does in
+      let u = moved s f n since d at' seen.Done course (act.Latch x) next x Open (Held n) page.1 (machine.Held p) (sym (held_by s.hands n (Running since, d) at')) (λ q ne e. let z : p ≡ q = cc in ne (sym z)) free tt does in
       (u.0, u.1, ((λ e. u.2), λ ne. absurd (ne refl))))
 
   pub misses_page : (x : ℕ) → next_of d.state ≡ act.Latch x → GoesOn d.state seen.Missed → Misses Fits l n d x tries
@@ -133,7 +133,7 @@ module _ (l : Layout) (n : ℕ) (d : Mine) (runs : d.runs ≡ true) where
       running (λ sg. (e : Mine) × Fits (told s n sg e) × tries d x owner words e) s f n st d runs at (λ since at'.
       let w = f.world in
       let does : Does w.now (name n d.number) Act.Miss w.now = record { changes = (λ z. refl, λ z. refl, λ q. refl); on = omega arith } in
-      let u = unmoved s f n since d at' seen.Missed course (act.Latch x) next tt does in
+      let u = unmoved s f n since d at' seen.Missed course (act.Latch x) next tt tt does in
       (u.0, u.1, ((λ e. absurd (shut e)), λ ne. u.2)))
 
   pub takes_page : (x : ℕ) → next_of d.state ≡ act.Take → ((y : ℕ) → IsChild y → GoesOn d.state (seen.Took y)) → Takes Fits l n d x takes
@@ -149,7 +149,7 @@ module _ (l : Layout) (n : ℕ) (d : Mine) (runs : d.runs ≡ true) where
       let child : IsChild x = (low, omega arith) in
       let sized : x < w.size = rw f.size within in
       let does : Does w.now p (Act.Take x) (record w.now { owner = put_at x (machine.Held p) w.now.owner }) = record { changes = (λ z. refl, is_put_at x (machine.Held p) w.now.owner, λ q. refl); on = omega arith } in
-      let u = moved s f n since d at' (seen.Took x) (course x child) act.Take next x Released (Held n) page.1 (machine.Held p) (sym (held_by s.hands n (Running since, d) at')) (λ q ne e. let z : p ≡ q = cc in ne (sym z)) (free, sized) does in
+      let u = moved s f n since d at' (seen.Took x) (course x child) act.Take next x Released (Held n) page.1 (machine.Held p) (sym (held_by s.hands n (Running since, d) at')) (λ q ne e. let z : p ≡ q = cc in ne (sym z)) (free, sized) tt does in
       (u.0, u.1, u.2))
     where
       above : (x : ℕ) → f.world.now.owner x ≡ machine.Released → 0 < x
@@ -161,7 +161,7 @@ module _ (l : Layout) (n : ℕ) (d : Mine) (runs : d.runs ≡ true) where
       running (λ sg. (e : Mine) × Fits (told s n sg e) × refuses d s.clock e) s f n st d runs at (λ since at'.
       let w = f.world in
       let does : Does w.now (name n d.number) Act.Miss w.now = record { changes = (λ z. refl, λ z. refl, λ q. refl); on = omega arith } in
-      let u = unmoved s f n since d at' seen.Refused course act.Take next tt does in
+      let u = unmoved s f n since d at' seen.Refused course act.Take next tt tt does in
       (u.0, u.1, u.2))
 
   pub refuses_put : (x : ℕ) (c : Page) → next_of d.state ≡ act.Put x c → GoesOn d.state seen.Refused → Refuses Fits l n d refuses
@@ -169,5 +169,5 @@ module _ (l : Layout) (n : ℕ) (d : Mine) (runs : d.runs ≡ true) where
       running (λ sg. (e : Mine) × Fits (told s n sg e) × refuses d s.clock e) s f n st d runs at (λ since at'.
       let w = f.world in
       let does : Does w.now (name n d.number) Act.Miss w.now = record { changes = (λ z. refl, λ z. refl, λ q. refl); on = omega arith } in
-      let u = unmoved s f n since d at' seen.Refused course (act.Put x c) next tt does in
+      let u = unmoved s f n since d at' seen.Refused course (act.Put x c) next tt tt does in
       (u.0, u.1, u.2))

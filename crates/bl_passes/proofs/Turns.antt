@@ -14,7 +14,7 @@ use Rattle.bl_proc.specs.declared.kinds.Proc.{Proc}
 use Rattle.bl_proc.specs.Processes.{next_of, Takes}
 use Rattle.bl_trails.specs.Trails.{marks_of}
 use Rattle.bl_tables.specs.Logs.{proc_log}
-use Rattle.bl_tables.specs.Turns.{event_of, IsTold, Does, Turned}
+use Rattle.bl_tables.specs.Turns.{event_of, IsTold, IsShown, Does, Turned}
 use Rattle.bl_tables.specs.Knowing.{Run, bare as know, end_of_proc, run_next}
 use Rattle.bl_tables.proofs.Turning.{bare_turn as turn}
 use Rattle.bl_courses.specs.Courses.{GoesOn}
@@ -27,13 +27,13 @@ use Rattle.bl_passes.proofs.Shown.{same_owner}
 use Rattle.bl_passes.proofs.Advance.{next_known, advance, next_notes, next_near, next_own, next_stage}
 
 -- the turn of a process of that state
-pub turn_of : (w : World Run) (p : Name) (old : Proc) (what : Seen) (s : State Page) → IsGood know w → (w.proc p).state ≡ old → (c : GoesOn old what) → (a : Action) → next_of old ≡ a → IsTold w.now w.size a what → Does w.now p (event_of (end_of_proc old) a what) s
-    → Turned know w p (event_of (end_of_proc old) a what) s (run_next (w.proc p) what c.new)
-turn_of w p old what s good is c a next told does =
-    let F : Proc → Type 0 = λ z. Takes z what c.new → (y : Action) → next_of z ≡ y → IsTold w.now w.size y what → Does w.now p (event_of (end_of_proc z) y what) s → Turned know w p (event_of (end_of_proc z) y what) s (run_next (w.proc p) what c.new) in
-    let G : Proc → Type 0 = λ z. (y : Action) → next_of z ≡ y → IsTold w.now w.size y what → Does w.now p (event_of (end_of_proc z) y what) s → Turned know w p (event_of (end_of_proc z) y what) s (run_next (w.proc p) what c.new) in
-    let here : F (w.proc p).state = λ takes y e. subst (λ (v : Action). IsTold w.now w.size v what → Does w.now p (event_of (end_of_proc (w.proc p).state) v what) s → Turned know w p (event_of (end_of_proc (w.proc p).state) v what) s (run_next (w.proc p) what c.new)) e (λ t d. turn w p (w.proc p) c.new what s refl good takes t d) in
-    (subst F is here) c.takes a next told does
+pub turn_of : (w : World Run) (p : Name) (old : Proc) (what : Seen) (s : State Page) → IsGood know w → (w.proc p).state ≡ old → (c : GoesOn old what) → (a : Action) → next_of old ≡ a → IsTold w.now w.size a what → IsShown w.now p (w.proc p).time a what → Does w.now p (event_of (end_of_proc old) a what) s
+    → Turned know w p (event_of (end_of_proc old) a what) s (run_next w.now (w.proc p) what c.new)
+turn_of w p old what s good is c a next told shown does =
+    let F : Proc → Type 0 = λ z. Takes z what c.new → (y : Action) → next_of z ≡ y → IsTold w.now w.size y what → IsShown w.now p (w.proc p).time y what → Does w.now p (event_of (end_of_proc z) y what) s → Turned know w p (event_of (end_of_proc z) y what) s (run_next w.now (w.proc p) what c.new) in
+    let G : Proc → Type 0 = λ z. (y : Action) → next_of z ≡ y → IsTold w.now w.size y what → IsShown w.now p (w.proc p).time y what → Does w.now p (event_of (end_of_proc z) y what) s → Turned know w p (event_of (end_of_proc z) y what) s (run_next w.now (w.proc p) what c.new) in
+    let here : F (w.proc p).state = λ takes y e. subst (λ (v : Action). IsTold w.now w.size v what → IsShown w.now p (w.proc p).time v what → Does w.now p (event_of (end_of_proc (w.proc p).state) v what) s → Turned know w p (event_of (end_of_proc (w.proc p).state) v what) s (run_next w.now (w.proc p) what c.new)) e (λ t h d. turn w p (w.proc p) c.new what s refl good takes t h d) in
+    (subst F is here) c.takes a next told shown does
 
 module _ (s : Pages Mine) (f : Fits s) (n since : ℕ) (d : Mine) (at : Stands s n (Running since) d) where
   abbrev pub mine : Name
@@ -45,21 +45,21 @@ module _ (s : Pages Mine) (f : Fits s) (n since : ℕ) (d : Mine) (at : Stands s
   pub is_named : (d.pass ≡ n) × (d.pages ≡ f.world.size)
   is_named = (f.hands n (Running since) d at).named standing.1
 
-  module _ (what : Seen) (course : GoesOn d.state what) (a : Action) (next : next_of d.state ≡ a) (s1 : State Page) (said : IsTold f.world.now f.world.size a what) (does : Does f.world.now mine (event_of (end_of_proc d.state) a what) s1) where
-    abbrev pub turned : Turned know f.world mine (event_of (end_of_proc d.state) a what) s1 (run_next (f.world.proc mine) what course.new)
-    turned = turn_of f.world mine d.state what s1 f.good standing.3 course a next said does
+  module _ (what : Seen) (course : GoesOn d.state what) (a : Action) (next : next_of d.state ≡ a) (s1 : State Page) (said : IsTold f.world.now f.world.size a what) (shown : IsShown f.world.now mine (f.world.proc mine).time a what) (does : Does f.world.now mine (event_of (end_of_proc d.state) a what) s1) where
+    abbrev pub turned : Turned know f.world mine (event_of (end_of_proc d.state) a what) s1 (run_next f.world.now (f.world.proc mine) what course.new)
+    turned = turn_of f.world mine d.state what s1 f.good standing.3 course a next said shown does
 
     -- what it has done by then
     pub then_log : proc_log course.new (marks_of mine turned.next.trail)
-    then_log = log_after f.world mine d.state what course a s1 (run_next (f.world.proc mine) what course.new) turned next said standing.5
+    then_log = log_after f.world mine d.state what course a s1 (run_next f.world.now (f.world.proc mine) what course.new) turned next said standing.5
 
     abbrev pub then_known : Mine
-    then_known = next_known s f n d.number (Running since) d at (event_of (end_of_proc d.state) a what) s1 (run_next (f.world.proc mine) what course.new) turned true d.past
+    then_known = next_known s f n d.number (Running since) d at (event_of (end_of_proc d.state) a what) s1 (run_next f.world.now (f.world.proc mine) what course.new) turned true d.past
 
     pub then_goes : Goes what d then_known
     then_goes =
         let act = event_of (end_of_proc d.state) a what in
-        let b = run_next (f.world.proc mine) what course.new in
+        let b = run_next f.world.now (f.world.proc mine) what course.new in
         let notes : Notes n d.number act d then_known = next_notes s f n d.number (Running since) d at act s1 b turned true d.past in
         let steps : Steps act d then_known = record {
           notes = subst (λ (z : ℕ). Notes z d.number act d then_known) (sym is_named.0) notes;
@@ -85,7 +85,7 @@ module _ (s : Pages Mine) (f : Fits s) (n since : ℕ) (d : Mine) (at : Stands s
         → Fits (told s2 n (Running since) then_known)
     then_fits s2 hands size clock phases kept pages owners =
         let act = event_of (end_of_proc d.state) a what in
-        let b = run_next (f.world.proc mine) what course.new in
+        let b = run_next f.world.now (f.world.proc mine) what course.new in
         let set_is : set s2.hands n (Running since, then_known) ≡ set s.hands n (Running since, then_known) = ap (λ (z : List (Stage × Mine)). set z n (Running since, then_known)) hands in
         advance s f n d.number (Running since) d at act s1 b turned true d.past (told s2 n (Running since) then_known) (Running since) set_is size (omega arith) clock (λ q ne. phases q) kept pages
         (λ x o e. owners x o e ∙ sym (ap (λ (z : List (Stage × Mine)). owner_in z o) set_is ∙ same_owner s.hands n (Running since, d) (Running since, then_known) o at refl))

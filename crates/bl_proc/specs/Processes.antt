@@ -4,17 +4,19 @@ use Rattle.bl_ways.specs.declared.acts.Action.{Action}
 use Rattle.bl_ways.specs.declared.acts.Seen.{Seen}
 use Rattle.bl_ways.specs.declared.answers.Answer.{Answer}
 use Rattle.bl_proc.specs.declared.kinds.Proc.{Proc}
-use Rattle.bl_proc.specs.declared.kinds.Proc.TheVariants.{Find, Insert, Delete, Post, Part}
+use Rattle.bl_proc.specs.declared.kinds.Proc.TheVariants.{Find, Insert, Delete, Post, Part, Reclaim}
 use Rattle.bl_proc.specs.declared.searching.FindStage.TheVariants as find
 use Rattle.bl_proc.specs.declared.inserting.InsertStage.TheVariants as insert
 use Rattle.bl_proc.specs.declared.deleting.DeleteStage.TheVariants as delete
 use Rattle.bl_proc.specs.declared.posting.PostStage.TheVariants as post
 use Rattle.bl_proc.specs.declared.parts.PartStage.TheVariants as part
+use Rattle.bl_proc.specs.declared.reclaiming.ReclaimStage.TheVariants as reclaim
 use Rattle.bl_proc.specs.Searches.{find_next, find_needs, find_answer, FindTakes}
 use Rattle.bl_proc.specs.Inserts.{insert_next, insert_needs, insert_answer, InsertTakes}
 use Rattle.bl_proc.specs.Deletes.{delete_next, delete_needs, delete_answer, DeleteTakes}
 use Rattle.bl_proc.specs.Posts.{post_next, post_needs, post_answer, PostTakes}
 use Rattle.bl_proc.specs.Parts.{part_next, part_needs, part_answer, PartTakes}
+use Rattle.bl_proc.specs.Reclaims.{reclaim_next, reclaim_needs, reclaim_answer, ReclaimTakes}
 
 abbrev pub next_of : Proc → Action
 next_of (Find p) = find_next p
@@ -22,6 +24,7 @@ next_of (Insert p) = insert_next p
 next_of (Delete p) = delete_next p
 next_of (Post p) = post_next p
 next_of (Part p) = part_next p
+next_of (Reclaim p) = reclaim_next p
 
 -- pages and frames
 abbrev pub needs_of : Proc → Option (ℕ × ℕ)
@@ -30,6 +33,7 @@ needs_of (Insert p) = insert_needs p
 needs_of (Delete p) = delete_needs p
 needs_of (Post p) = post_needs p
 needs_of (Part p) = part_needs p
+needs_of (Reclaim p) = reclaim_needs p
 
 abbrev pub answer_of : Proc → Option Answer
 answer_of (Find p) = find_answer p
@@ -37,6 +41,7 @@ answer_of (Insert p) = insert_answer p
 answer_of (Delete p) = delete_answer p
 answer_of (Post p) = post_answer p
 answer_of (Part p) = part_answer p
+answer_of (Reclaim p) = reclaim_answer p
 
 abbrev pub Takes : Proc → Seen → Proc → Type 0
 Takes (Find old) what (Find new) = FindTakes old what new
@@ -44,6 +49,7 @@ Takes (Insert old) what (Insert new) = InsertTakes old what new
 Takes (Delete old) what (Delete new) = DeleteTakes old what new
 Takes (Post old) what (Post new) = PostTakes old what new
 Takes (Part old) what (Part new) = PartTakes old what new
+Takes (Reclaim old) what (Reclaim new) = ReclaimTakes old what new
 Takes old what new = ⊥
 
 -- Processes that are to begin.
@@ -67,3 +73,8 @@ IsPost level key p = ⊥
 abbrev pub IsPart : ℕ → Proc → Type 0
 IsPart from (Part p) = (p.from ≡ from) × (p.stage ≡ part.New)
 IsPart from p = ⊥
+
+-- It is to look at the page's owner.
+abbrev pub IsReclaim : ℕ → Proc → Type 0
+IsReclaim page (Reclaim p) = (p.page ≡ page) × (p.stage ≡ reclaim.Seeing)
+IsReclaim page p = ⊥

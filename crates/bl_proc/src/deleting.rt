@@ -1,18 +1,20 @@
 //! The deletion of a key.
 
-ghost use Rattle.std.specs.Prelude.{◌≡◌, ℕ, None, Some};
+ghost use Rattle.std.specs.Prelude.{◌≡◌, None, Some};
 ghost use Rattle.bl_laws.specs.Pages.{node_of};
 ghost use Rattle.bl_ways.specs.declared.changing.Change.{Change};
+ghost use Rattle.bl_proc.specs.declared.deleting.Removed.{Removed};
 ghost use Rattle.bl_proc.specs.declared.deleting.DeleteStage.TheVariants as delete_stage;
 ghost use Rattle.bl_ways.specs.declared.onwards.Onward.TheVariants as onward;
 ghost use Rattle.bl_ways.specs.Given.{Gives};
 ghost use Rattle.bl_ways.specs.Onwards.{Leads};
-ghost use Rattle.bl_proc.specs.Deletes.{delete_reply, deleted_answer, delete_next_in, delete_needs_in, delete_answer_in, DeleteArrives, DeleteGoes, delete_next, delete_needs, delete_answer, DeleteTakes};
+ghost use Rattle.bl_proc.specs.Deletes.{delete_reply, thin_after, deleted_answer, delete_next_in, delete_needs_in, delete_answer_in, DeleteArrives, DeleteGoes, delete_next, delete_needs, delete_answer, DeleteTakes};
 
 use bl_model::Reply;
 use bl_page::Page;
 use bl_ways::{
-    Action, Answer, Approach, Approached, Change, Changed, Outcome, Process, Seen, dropping, listed,
+    Action, Answer, Approach, Approached, Change, Changed, Level, Outcome, Process, Seen, dropping,
+    hint_of_thin, listed, thin_low,
 };
 use std::mem;
 
@@ -32,32 +34,51 @@ pub enum DeleteStage {
     Coming(Approach),
     /// It holds that leaf, which does not have the key, and is to open it.
     Absent(u32),
-    /// It changes the leaf, which had the key with that value.
-    Changing(u64, Change),
+    /// It changes the leaf, and takes this out of it.
+    Changing(Removed, Change),
     /// It is to end.
     Ending(DeleteReply),
     /// It has ended.
     Over(DeleteReply),
 }
 
+/// What a deletion takes out of its leaf.
+#[derive(Clone, Copy)]
+pub struct Removed {
+    /// The value that the key had.
+    pub value: u64,
+    /// The low of the leaf, if it is thin without the key: it has fewer than 7 pairs, and is not alone on its level.
+    pub thin: Option<u64>,
+}
+
 /// What became of a deletion.
 #[derive(Clone, Copy)]
 pub enum DeleteReply {
-    /// The key was there with this value, and isn't any more.
-    Deleted(u64),
+    /// The key was there with this value, and isn't any more. If the leaf is thin now, there is a hint.
+    Deleted(Removed),
     /// The key isn't there.
     Absent,
     /// There was no room for the leaf's new words, and nothing has changed.
     NoRoom,
 }
 
-/// What the deletion of a value answers by what became of its leaf.
-fn reply_of(value: u64, outcome: Outcome) -> DeleteReply
-    ensures { result ≡ delete_reply value outcome }
+/// What a deletion answers by what became of its leaf.
+fn reply_of(removed: Removed, outcome: Outcome) -> DeleteReply
+    ensures { result ≡ delete_reply removed outcome }
 {
     match outcome {
-        Outcome::Changed | Outcome::Parted(_) => DeleteReply::Deleted(value),
+        Outcome::Changed | Outcome::Parted(_) => DeleteReply::Deleted(removed),
         Outcome::Refused => DeleteReply::NoRoom,
+    }
+}
+
+/// The low of the page that is to be put, if it is thin.
+fn thin_after(change: &Change) -> Option<u64>
+    ensures { result ≡ thin_after change.now }
+{
+    match change {
+        Change::Putting(_, page) => thin_low(page),
+        _ => None,
     }
 }
 
@@ -67,7 +88,11 @@ fn arrived(key: u64, at: u32, page: Page) -> DeleteStage
     ensures { DeleteArrives key at page result }
 {
     match listed(&page, key) {
-        Some(value) => DeleteStage::Changing(value, dropping(at, page, key)),
+        Some(value) => {
+            let change = dropping(at, page, key);
+            let thin = thin_after(&change);
+            DeleteStage::Changing(Removed { value, thin }, change)
+        }
         None => DeleteStage::Absent(at),
     }
 }
@@ -87,15 +112,15 @@ impl Delete {
 
     /// On with the change of the leaf.
     fn changed(&mut self, seen: Seen)
-        requires stage { (value : ℕ) × (c : Change) × (self.old.stage ≡ delete_stage.Changing value c) }
+        requires stage { (removed : Removed) × (c : Change) × (self.old.stage ≡ delete_stage.Changing removed c) }
         requires given { Gives (delete_next_in self.old.stage) (delete_needs_in self.old.stage) seen }
         ensures { DeleteTakes self.old seen self.new }
     {
         match mem::replace(&mut self.stage, DeleteStage::New) {
-            DeleteStage::Changing(value, change) => match change.took(seen) {
-                Changed::On(change) => self.stage = DeleteStage::Changing(value, change),
+            DeleteStage::Changing(removed, change) => match change.took(seen) {
+                Changed::On(change) => self.stage = DeleteStage::Changing(removed, change),
                 Changed::Over(outcome) => {
-                    self.stage = DeleteStage::Ending(reply_of(value, outcome));
+                    self.stage = DeleteStage::Ending(reply_of(removed, outcome));
                 }
             },
             _ => unreachable!(),
@@ -108,7 +133,18 @@ fn answer_of(reply: DeleteReply) -> Answer
     ensures { result ≡ deleted_answer reply }
 {
     match reply {
-        DeleteReply::Deleted(value) => Answer::Op(Reply::Deleted(value), None),
+        DeleteReply::Deleted(Removed { value, thin: None }) => {
+            Answer::Op(Reply::Deleted(value), None)
+        }
+        DeleteReply::Deleted(
+            Removed {
+                value,
+                thin: Some(low),
+            },
+        ) => {
+            let above = Level::new(1);
+            Answer::Op(Reply::Deleted(value), Some(hint_of_thin(above, low)))
+        }
         DeleteReply::Absent => Answer::Op(Reply::Absent, None),
         DeleteReply::NoRoom => Answer::Op(Reply::NoRoom, None),
     }

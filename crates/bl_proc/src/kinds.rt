@@ -2,12 +2,13 @@
 
 ghost use Rattle.std.specs.Prelude.{◌≡◌, ◌<◌, ◌≤◌};
 ghost use Rattle.bl_ways.specs.declared.acts.Action.TheVariants as act;
-ghost use Rattle.bl_proc.specs.Processes.{next_of, needs_of, answer_of, Takes, IsFind, IsInsert, IsDelete, IsPost, IsPart};
+ghost use Rattle.bl_proc.specs.Processes.{next_of, needs_of, answer_of, Takes, IsFind, IsInsert, IsDelete, IsPost, IsPart, IsReclaim};
 
 use crate::deleting::Delete;
 use crate::inserting::Insert;
 use crate::parts::Part;
 use crate::posting::Post;
+use crate::reclaiming::Reclaim;
 use crate::searching::Find;
 use bl_ways::{Action, Answer, Process, Seen};
 
@@ -24,6 +25,8 @@ pub enum Proc {
     Post(Post),
     /// Lists pairs from a key on.
     Part(Part),
+    /// Releases a page that was retired.
+    Reclaim(Reclaim),
 }
 
 impl Proc {
@@ -68,6 +71,15 @@ impl Proc {
     {
         Proc::Part(Part::new(from))
     }
+
+    /// A process that is to release the page, if that is retired and no process may still read it. It has neither a begin
+    /// nor an end.
+    pub fn reclaim(page: u32) -> Proc
+        ensures made { IsReclaim page result }
+        ensures sees { next_of result ≡ act.See page }
+    {
+        Proc::Reclaim(Reclaim::new(page))
+    }
 }
 
 impl Process for Proc {
@@ -86,6 +98,7 @@ impl Process for Proc {
             Proc::Delete(process) => process.next(),
             Proc::Post(process) => process.next(),
             Proc::Part(process) => process.next(),
+            Proc::Reclaim(process) => process.next(),
         }
     }
 
@@ -96,6 +109,7 @@ impl Process for Proc {
             Proc::Delete(process) => process.needs(),
             Proc::Post(process) => process.needs(),
             Proc::Part(process) => process.needs(),
+            Proc::Reclaim(process) => process.needs(),
         }
     }
 
@@ -106,6 +120,7 @@ impl Process for Proc {
             Proc::Delete(process) => process.answer(),
             Proc::Post(process) => process.answer(),
             Proc::Part(process) => process.answer(),
+            Proc::Reclaim(process) => process.answer(),
         }
     }
 
@@ -116,6 +131,7 @@ impl Process for Proc {
             Proc::Delete(process) => process.took(seen),
             Proc::Post(process) => process.took(seen),
             Proc::Part(process) => process.took(seen),
+            Proc::Reclaim(process) => process.took(seen),
         }
     }
 }

@@ -13,15 +13,17 @@ mod kinds;
 mod parts;
 mod posting;
 mod posts;
+mod reclaiming;
 mod searching;
 mod walking;
 
-pub use bl_ways::{Action, Answer, Hint, Level, Posted, Process, Seen};
-pub use deleting::{Delete, DeleteReply, DeleteStage};
+pub use bl_ways::{Action, Answer, Hint, Level, Posted, Process, Reclaimed, Seen};
+pub use deleting::{Delete, DeleteReply, DeleteStage, Removed};
 pub use inserting::{Insert, InsertReply, InsertStage};
 pub use kinds::Proc;
 pub use parts::{Part, PartRows, PartStage};
 pub use posting::{Post, PostReply, PostStage};
+pub use reclaiming::{Reclaim, ReclaimStage, Round};
 pub use searching::{Find, FindStage};
 pub use walking::Walk;
 

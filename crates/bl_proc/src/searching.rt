@@ -53,9 +53,12 @@ fn went_on_in(key: u64, at: u32, words: &[u64; 32]) -> FindStage
     ensures { (c : PageIs) → words.now ≡ words_of c → FindGoes key (find_stage.At at) (seen.Words c) result }
 {
     match way_in(words, key, 0) {
-        Onward::Again => FindStage::AtAnchor,
         Onward::Right(next) | Onward::Down(next) => FindStage::At(next),
         Onward::Here => FindStage::Ending(row_in(words, key)),
+        Onward::Again => {
+            // The key has gone to the left since its parent was read.
+            FindStage::AtAnchor
+        }
     }
 }
 

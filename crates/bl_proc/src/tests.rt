@@ -1,6 +1,8 @@
 //! Processes that run alone, one event after the other, over plain pages.
 
-use crate::{Action, Answer, Find, Hint, Level, Post, Posted, Proc, Process, Seen};
+use crate::{
+    Action, Answer, Find, Hint, Level, Post, Posted, Proc, Process, Reclaim, Reclaimed, Seen,
+};
 use arrayvec::ArrayVec;
 use bl_model::{Next, Reply};
 use bl_page::{Page, from_words};
@@ -533,5 +535,125 @@ fn parts_at_the_end_of_a_leaf_and_past_the_last_key(rt: HostRuntime) -> Result<(
         )
     );
     assert!(rt; part.answer() == part_answer(&[], Next::End));
+    Ok(())
+}
+
+/// A leaf with that low has lost a pair, and is thin.
+fn thin(low: u64) -> Option<Hint> {
+    let level = Level::new(1);
+    Some(Hint::Thin { level, key: low })
+}
+
+// Page 2 has seven rows, and page 1 has eight. The leaf of an opening tree is alone on its level, and never thin.
+#[test]
+fn leaves_that_become_thin(rt: HostRuntime) -> Result<(), Fail> {
+    let (mut tree, _, _) = posted(rt.alloc())?;
+    let mut last = Proc::delete(9);
+    let events = tree.run(rt.alloc(), &mut last, 99)?;
+    assert!(rt;
+        are(
+            &events,
+            &[
+                Did::Begin,
+                Did::Get(0),
+                Did::Get(3),
+                Did::Latch(2),
+                Did::Get(2),
+                Did::Put(2),
+                Did::Open(2),
+                Did::End
+            ]
+        )
+    );
+    assert!(rt; last.answer() == Some(Answer::Op(Reply::Deleted(90), thin(9))));
+    let mut second = Proc::delete(2);
+    tree.run(rt.alloc(), &mut second, 99)?;
+    assert!(rt; second.answer() == plain(Reply::Deleted(20)));
+    let mut first = Proc::delete(1);
+    tree.run(rt.alloc(), &mut first, 99)?;
+    assert!(rt; first.answer() == Some(Answer::Op(Reply::Deleted(10), thin(0))));
+    let mut gone = Proc::delete(9);
+    tree.run(rt.alloc(), &mut gone, 99)?;
+    assert!(rt; gone.answer() == plain(Reply::Absent));
+    Ok(())
+}
+
+/// What a release does next, as a number: a page that is seen, a process that is looked at, a page that is released.
+#[derive(Clone, Copy, Debug, PartialEq, Eq)]
+enum Does {
+    Sees(u32),
+    Looks(usize),
+    Releases(u32),
+    Else,
+}
+
+fn does_next<P: Process>(process: &P) -> Does {
+    if process.answer().is_some() {
+        return Does::Else;
+    }
+    match process.next() {
+        Action::See(page) => Does::Sees(page),
+        Action::Look(number) => Does::Looks(number),
+        Action::Release(page) => Does::Releases(page),
+        _ => Does::Else,
+    }
+}
+
+/// A release is told what it saw of its page, or of a process, or of its release.
+fn tell<P: Process>(process: &mut P, retired: bool, started: usize, own: usize, blocks: bool) {
+    if process.answer().is_none() {
+        match process.next() {
+            Action::See(_) => process.took(Seen::Owner {
+                retired,
+                started,
+                own,
+            }),
+            Action::Look(_) => process.took(Seen::Blocks(blocks)),
+            Action::Release(_) if blocks => process.took(Seen::Missed),
+            Action::Release(_) => process.took(Seen::Done),
+            _ => {}
+        }
+    }
+}
+
+// The third of four processes: it looks at all others, and not at itself.
+#[test]
+fn a_retired_page_is_released_after_a_look_at_all_others(rt: HostRuntime) -> Result<(), Fail> {
+    let mut reclaim = Proc::reclaim(2);
+    assert!(rt; does_next(&reclaim) == Does::Sees(2) && reclaim.needs().is_none());
+    for wanted in [
+        Does::Looks(1),
+        Does::Looks(2),
+        Does::Looks(4),
+        Does::Releases(2),
+        Does::Else,
+    ] {
+        assert!(rt; reclaim.answer().is_none());
+        tell(&mut reclaim, true, 4, 3, false);
+        assert!(rt; does_next(&reclaim) == wanted);
+    }
+    assert!(rt; reclaim.answer() == Some(Answer::Reclaim(Reclaimed::Released)));
+    Ok(())
+}
+
+#[test]
+fn a_page_is_kept(rt: HostRuntime) -> Result<(), Fail> {
+    // it is not retired
+    let mut reclaim = Reclaim::new(1);
+    tell(&mut reclaim, false, 4, 3, false);
+    assert!(rt; reclaim.answer() == Some(Answer::Reclaim(Reclaimed::Kept)));
+    // the second process blocks
+    let mut reclaim = Reclaim::new(1);
+    tell(&mut reclaim, true, 4, 3, false);
+    tell(&mut reclaim, true, 4, 3, false);
+    assert!(rt; does_next(&reclaim) == Does::Looks(2));
+    tell(&mut reclaim, true, 4, 3, true);
+    assert!(rt; reclaim.answer() == Some(Answer::Reclaim(Reclaimed::Kept)));
+    // another released it before; there is no other process
+    let mut reclaim = Reclaim::new(1);
+    tell(&mut reclaim, true, 1, 1, false);
+    assert!(rt; does_next(&reclaim) == Does::Releases(1));
+    tell(&mut reclaim, true, 1, 1, true);
+    assert!(rt; reclaim.answer() == Some(Answer::Reclaim(Reclaimed::Kept)));
     Ok(())
 }

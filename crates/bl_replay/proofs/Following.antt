@@ -50,8 +50,12 @@ stands_at kinds pages s (d ∷ commands) (suc i) c h e =
     subst (λ z. MayStand kinds pages z c) n (stands_at kinds pages (s + starts d) commands i c h.1 e)
 
 -- the same, where so many processes stand there
-pub stands_here : (kinds : Kinds) (pages s n : ℕ) (commands : List Command) (i : ℕ) (c : Command) → n ≡ s + started_by (take i commands) → AllStand kinds pages s commands → slice_get commands i ≡ Some c → MayStand kinds pages n c
+stands_here : (kinds : Kinds) (pages s n : ℕ) (commands : List Command) (i : ℕ) (c : Command) → n ≡ s + started_by (take i commands) → AllStand kinds pages s commands → slice_get commands i ≡ Some c → MayStand kinds pages n c
 stands_here kinds pages s n commands i c count h e = subst (λ z. MayStand kinds pages z c) (sym count) (stands_at kinds pages s commands i c h e)
+
+-- and where so many pages are there
+pub stands_sized : (kinds : Kinds) (pages size s n : ℕ) (commands : List Command) (i : ℕ) (c : Command) → size ≡ pages → n ≡ s + started_by (take i commands) → AllStand kinds pages s commands → slice_get commands i ≡ Some c → MayStand kinds size n c
+stands_sized kinds pages size s n commands i c same count h e = subst (λ z. MayStand kinds z n c) (sym same) (stands_here kinds pages s n commands i c count h e)
 
 started_push : (commands : List Command) (c : Command) → started_by (commands ++ c ∷ []) ≡ started_by commands + starts c
 started_push [] c = omega arith

@@ -10,7 +10,7 @@ use Rattle.bl_script.specs.Commands.{IsPageCount}
 use Rattle.bl_script.specs.Scripts.{AllStand}
 use Rattle.bl_ways.specs.declared.answers.Answer.{Answer}
 use Rattle.bl_proc.specs.declared.kinds.Proc.{Proc}
-use Rattle.bl_proc.specs.Processes.{answer_of, IsFind, IsInsert, IsDelete, IsPost, IsPart}
+use Rattle.bl_proc.specs.Processes.{answer_of, IsFind, IsInsert, IsDelete, IsPost, IsPart, IsReclaim}
 use Rattle.bl_world.specs.declared.turns.Event.{Event}
 use Rattle.bl_world.specs.declared.turns.Turn.{Turn}
 use Rattle.bl_world.specs.declared.turns.Turn.TheVariants as turn
@@ -56,7 +56,7 @@ pub data PrintsTurns (number : ℕ) (v : View) : ℕ → List ℕ → View → T
   More : (count : ℕ) (text more : List ℕ) (mid v' : View) → PrintsTurns number v count text mid → HasAnswer mid number None → PrintsChosen mid number None more v'
       → PrintsTurns number v (count + 1) (text ++ more) v'
 
--- a process that a script starts, which is to begin; no world has the kinds compress and reclaim yet
+-- a process that a script starts, which has done nothing yet; no world has the kind compress yet
 abbrev pub IsStart : Start → Proc → Type 0
 IsStart (start.Operation (op.Find key)) p = IsFind key p
 IsStart (start.Operation (op.Insert key value)) p = IsInsert key value p
@@ -64,7 +64,7 @@ IsStart (start.Operation (op.Delete key)) p = IsDelete key p
 IsStart (start.Operation (op.Part from)) p = IsPart from p
 IsStart (start.Post level key) p = IsPost level key p
 IsStart (start.Compress level key) p = ⊥
-IsStart (start.Reclaim page) p = ⊥
+IsStart (start.Reclaim page) p = IsReclaim page p
 
 -- What one command does and prints. A run ends with its last turn, or when its process has answered.
 abbrev pub Does : View → Command → List ℕ → View → Type 0
@@ -93,9 +93,9 @@ PlaysOut pages commands text = (start : View) × (end : View) × IsOpening pages
 abbrev pub PlaysInto : ℕ → List Command → List ℕ → Type 0
 PlaysInto pages commands text = (text ≡ []) ⊎ ((start : View) × IsOpening pages start × BreaksOff start commands text)
 
--- searches, insertions, deletions, posts and parts alone
+-- all kinds but compressions
 abbrev pub few : Kinds
-few = record { part = true; compress = false; reclaim = false }
+few = record { part = true; compress = false; reclaim = true }
 
 -- A script as it is read: each of its commands may stand where it does.
 abbrev pub MayPlay : ℕ → List Command → Type 0

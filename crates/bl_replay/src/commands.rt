@@ -2,12 +2,11 @@
 
 ghost use Rattle.std.specs.Prelude.{◌≡◌, ◌⊎◌, ◌≤◌, ◌+◌, ◌++◌, ◌∷◌, [], true, ℕ, List, Err, length, OnOk, OnErr, IfErr};
 ghost use Rattle.bl_model.specs.Stream.{StartsOut};
-ghost use Rattle.bl_ways.specs.declared.acts.Action.TheVariants as act;
-ghost use Rattle.bl_proc.specs.Processes.{next_of};
 ghost use Rattle.bl_script.specs.Commands.{MayStart, MayStand, starts};
 ghost use Rattle.bl_script.specs.declared.command.Command.TheVariants as command;
 ghost use Rattle.bl_world.specs.Views.{View, view_of, number_in};
 ghost use Rattle.bl_world.specs.Turns.{IsStarted};
+ghost use Rattle.bl_world.specs.Deeds.{MayStart as MayBegin};
 ghost use Rattle.bl_replay.specs.declared.fault.ReplayFault.TheVariants as fault;
 ghost use Rattle.bl_replay.specs.Plays.{Prints, PrintsChosen, PrintsTurns, IsStart, Does, few};
 ghost use Rattle.bl_replay.specs.Emits.{Emits, Partly};
@@ -25,7 +24,7 @@ use std::io::Write;
 fn process_of(start: Start) -> Proc
     requires { (pages : ℕ) × MayStart few pages start }
     ensures made { IsStart start result }
-    ensures begins { next_of result ≡ act.Begin }
+    ensures begins { (v : View) → MayStart few (length v.pages) start → MayBegin v result }
 {
     match start {
         Start::Operation(Op::Find(key)) => Proc::find(key),
@@ -33,15 +32,17 @@ fn process_of(start: Start) -> Proc
         Start::Operation(Op::Delete(key)) => Proc::delete(key),
         Start::Post { level, key } => Proc::post(level, key),
         Start::Operation(Op::Part(from)) => Proc::part(from),
-        Start::Compress { .. } | Start::Reclaim(_) => unreachable!(),
+        Start::Reclaim(page) => Proc::reclaim(page),
+        Start::Compress { .. } => unreachable!(),
     }
 }
 
 /// Starts a process.
 fn start(world: &mut World, start: Start) -> Result<(), ReplayFault>
-    requires { (pages : ℕ) × MayStart few pages start }
+    requires { MayStart few (length world.old.lists.pages.items) start }
     ensures ok { OnOk result (Does (view_of world.old.lists) (command.Start start) [] (view_of world.new.lists)) }
     ensures count { OnOk result (length world.new.lists.processes.items ≡ length world.old.lists.processes.items + 1) }
+    ensures size { OnOk result (length world.new.lists.pages.items ≡ length world.old.lists.pages.items) }
     ensures err { IfErr result (λ why. why ≡ fault.Memory) }
 {
     match world.start(process_of(start)) {
@@ -64,6 +65,7 @@ fn play_turn<W: Write>(
         × Prints (view_of world.old.lists) number turn text (view_of world.new.lists)
         × Emits (W.contents writer.old.inner) (W.contents writer.new.inner) pending.old.items pending.new.items text) }
     ensures count { OnOk result (length world.new.lists.processes.items ≡ length world.old.lists.processes.items) }
+    ensures size { OnOk result (length world.new.lists.pages.items ≡ length world.old.lists.pages.items) }
     ensures err { OnErr result ((text : List ℕ)
         × ((text ≡ []) ⊎ ((after : View) × Prints (view_of world.old.lists) number turn text after))
         × StartsOut (W.contents writer.old.inner) (W.contents writer.new.inner) (pending.old.items ++ text)) }
@@ -86,6 +88,7 @@ fn play_chosen<W: Write>(
         × PrintsChosen (view_of world.old.lists) number page text (view_of world.new.lists)
         × Emits (W.contents writer.old.inner) (W.contents writer.new.inner) pending.old.items pending.new.items text) }
     ensures count { OnOk result (length world.new.lists.processes.items ≡ length world.old.lists.processes.items) }
+    ensures size { OnOk result (length world.new.lists.pages.items ≡ length world.old.lists.pages.items) }
     ensures err { OnErr result ((text : List ℕ)
         × ((text ≡ []) ⊎ ((after : View) × PrintsChosen (view_of world.old.lists) number page text after))
         × StartsOut (W.contents writer.old.inner) (W.contents writer.new.inner) (pending.old.items ++ text)) }
@@ -108,6 +111,7 @@ fn play_run<W: Write>(
         × Does (view_of world.old.lists) (command.Run number most) text (view_of world.new.lists)
         × Emits (W.contents writer.old.inner) (W.contents writer.new.inner) pending.old.items pending.new.items text) }
     ensures count { OnOk result (length world.new.lists.processes.items ≡ length world.old.lists.processes.items) }
+    ensures size { OnOk result (length world.new.lists.pages.items ≡ length world.old.lists.pages.items) }
     ensures err { OnErr result ((text : List ℕ) × (count : ℕ) × (after : View)
         × (count ≤ most) × PrintsTurns number (view_of world.old.lists) count text after
         × StartsOut (W.contents writer.old.inner) (W.contents writer.new.inner) (pending.old.items ++ text)) }
@@ -129,11 +133,12 @@ pub fn play_command<W: Write>(
     pending: &mut Vec<u8>,
     writer: &mut Watched<W>,
 ) -> Result<(), ReplayFault>
-    requires { (pages : ℕ) × MayStand few pages (length world.old.lists.processes.items) command }
+    requires { MayStand few (length world.old.lists.pages.items) (length world.old.lists.processes.items) command }
     ensures ok { OnOk result ((text : List ℕ)
         × Does (view_of world.old.lists) command text (view_of world.new.lists)
         × Emits (W.contents writer.old.inner) (W.contents writer.new.inner) pending.old.items pending.new.items text) }
     ensures count { OnOk result (length world.new.lists.processes.items ≡ length world.old.lists.processes.items + starts command) }
+    ensures size { OnOk result (length world.new.lists.pages.items ≡ length world.old.lists.pages.items) }
     ensures err { OnErr result ((text : List ℕ) × Partly (view_of world.old.lists) command text
         × StartsOut (W.contents writer.old.inner) (W.contents writer.new.inner) (pending.old.items ++ text)) }
     ensures write { result ≡ Err fault.Write → writer.new.failed ≡ true }

@@ -23,7 +23,7 @@ use std::io::Write;
 pub const PLAYED: Kinds = Kinds {
     part: true,
     compress: false,
-    reclaim: false,
+    reclaim: true,
 };
 
 /// Carries out commands in their order, and prints what they do.
@@ -33,7 +33,7 @@ fn play_all<W: Write>(
     pending: &mut Vec<u8>,
     writer: &mut Watched<W>,
 ) -> Result<(), ReplayFault>
-    requires { (pages : ℕ) × AllStand few pages (length world.old.lists.processes.items) commands.now }
+    requires { AllStand few (length world.old.lists.pages.items) (length world.old.lists.processes.items) commands.now }
     ensures ok { OnOk result ((text : List ℕ)
         × Plays (view_of world.old.lists) commands.now text (view_of world.new.lists)
         × Emits (W.contents writer.old.inner) (W.contents writer.new.inner) pending.old.items pending.new.items text) }

@@ -105,12 +105,34 @@ fn parts_at_the_end_of_a_leaf_and_past_the_last_key(rt: HostRuntime) -> Result<(
 }
 
 #[test]
+fn a_leaf_that_becomes_thin(rt: HostRuntime) -> Result<(), Fail> {
+    let alloc = rt.alloc();
+    let mut more = String::from_str(alloc, "post 1 9\ndelete 9\n")?;
+    for process in 1..18 {
+        let line = format!(in alloc; "run {process} 20\n")?;
+        more.push_str(line.as_str())?;
+    }
+    let script = filled(alloc, more.as_str())?;
+    let wanted =
+        b"17 begin\n17 get 0\n17 get 3\n17 latch 2\n17 get 2\n17 put 2\n17 open 2\n17 end\n17 answer deleted 90 thin 1 9\n";
+    assert!(rt; ends_with(alloc, script.as_str(), wanted)?);
+    Ok(())
+}
+
+#[test]
 fn a_part_at_the_greatest_key(rt: HostRuntime) -> Result<(), Fail> {
     let text =
         b"pages 8\ninsert 18446744073709551615 1\npart 18446744073709551615\nrun 1 9\nrun 2 9\n";
     let wanted = b"2 begin\n2 get 0\n2 get 1\n2 end\n2 answer rows 18446744073709551615=1 end\n";
     let found = printed(rt.alloc(), text)?;
     assert!(rt; found.as_slice().ends_with(wanted));
+    Ok(())
+}
+
+#[test]
+fn a_page_that_is_not_retired_is_kept(rt: HostRuntime) -> Result<(), Fail> {
+    let found = printed(rt.alloc(), b"pages 4\nreclaim 1\nrun 1 9\n")?;
+    assert!(rt; found.as_slice() == b"1 see 1\n1 answer kept\n");
     Ok(())
 }
 

@@ -1,10 +1,10 @@
 //! The printed form of events and answers.
 
 ghost use Rattle.std.specs.Prelude.{◌≡◌, ◌++◌, OnOk, Some};
-ghost use Rattle.bl_replay.specs.Texts.{act_text, event_line, hint_text, posted_text, answer_text, answer_line};
+ghost use Rattle.bl_replay.specs.Texts.{act_text, event_line, hint_text, posted_text, reclaimed_text, answer_text, answer_line};
 
 use bl_lines::print::{push_number, push_reply};
-use bl_proc::{Answer, Hint, Posted};
+use bl_proc::{Answer, Hint, Posted, Reclaimed};
 use bl_world::{Act, Event};
 use std::alloc::AllocError;
 
@@ -73,6 +73,16 @@ fn push_posted(out: &mut Vec<u8>, posted: Posted) -> Result<(), AllocError>
     }
 }
 
+/// Appends what became of a page that was to be released.
+fn push_reclaimed(out: &mut Vec<u8>, what: Reclaimed) -> Result<(), AllocError>
+    ensures { OnOk result (out.new.items ≡ out.old.items ++ reclaimed_text what) }
+{
+    match what {
+        Reclaimed::Released => out.extend_from_slice(b"released"),
+        Reclaimed::Kept => out.extend_from_slice(b"kept"),
+    }
+}
+
 /// Appends an answer, without its line.
 fn push_answer(out: &mut Vec<u8>, answer: &Answer) -> Result<(), AllocError>
     ensures { OnOk result (out.new.items ≡ out.old.items ++ answer_text answer.now) }
@@ -86,6 +96,7 @@ fn push_answer(out: &mut Vec<u8>, answer: &Answer) -> Result<(), AllocError>
             push_posted(out, *posted)?;
             push_hint(out, hint)
         }
+        Answer::Reclaim(what) => push_reclaimed(out, *what),
     }
 }
 

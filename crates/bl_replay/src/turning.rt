@@ -73,6 +73,7 @@ pub fn print_turn(
         × (out.new.items ≡ out.old.items ++ text)) }
     ensures err { IfErr result (λ why. why ≡ fault.Memory) }
     ensures count { OnOk result (length world.new.lists.processes.items ≡ length world.old.lists.processes.items) }
+    ensures size { OnOk result (length world.new.lists.pages.items ≡ length world.old.lists.pages.items) }
 {
     let before = answer_of(world, number);
     let event = take_turn(world, turn)?;

@@ -43,10 +43,16 @@ pub record Middle : Type 0 where
   pub left : ℕ
   pub right : ℕ
 
--- every process of a pass below this one either had ended or began after that time
+-- every process that runs began after that time, but for those that are still to be looked at: they are numbered from next up
+-- to last, and own is not among them
 pub record Passed : Type 0 where
   pub time : ℕ
-  pub below : ℕ
+  pub next : ℕ
+  pub last : ℕ
+  pub own : ℕ
+
+abbrev pub IsAhead : Passed → Name → Type 0
+IsAhead s q = (q.number ≡ 0) × (s.next ≤ q.pass) × (q.pass ≤ s.last) × (q.pass ≢ s.own)
 
 pub data Stage : Type 0 where
   Early : Stage
@@ -134,7 +140,7 @@ pub record IsRelied {P : Type 0} (w : World P) (p : Name) (c : Child) : Type 0 w
 
 abbrev pub IsPassed : {P : Type 0} → World P → Option Passed → Type 0
 IsPassed w None = Unit {0}
-IsPassed w (Some s) = (s.time < w.now.clock) × ((q : Name) (since : ℕ) → q.pass < s.below → w.now.phase q ≡ Running since → s.time < since)
+IsPassed w (Some s) = (s.time < w.now.clock) × ((q : Name) (since : ℕ) → (IsAhead s q → ⊥) → w.now.phase q ≡ Running since → s.time < since)
 
 pub record IsSure {P : Type 0} (w : World P) (p : Name) (k : Know) : Type 0 where
   pub stage : IsStage k.stage (w.now.phase p)

@@ -18,6 +18,7 @@ use Rattle.bl_ways.specs.declared.approaching.Approached.TheVariants as came
 use Rattle.bl_ways.specs.declared.changing.Outcome.{Outcome}
 use Rattle.bl_ways.specs.declared.changing.Outcome.TheVariants as outcome
 use Rattle.bl_ways.specs.declared.changing.Change.{Change}
+use Rattle.bl_proc.specs.declared.deleting.Removed.{Removed}
 use Rattle.bl_proc.specs.declared.deleting.DeleteStage.{DeleteStage}
 use Rattle.bl_proc.specs.declared.deleting.DeleteStage.TheVariants as delete
 use Rattle.bl_proc.specs.declared.deleting.DeleteReply.TheVariants as deleted
@@ -34,14 +35,14 @@ use Rattle.bl_tables.proofs.Changing.{says, change_turn, finish_turn}
 use Rattle.bl_tables.proofs.Entering.{drops_learns, drops_places, change_middle}
 use Rattle.bl_tables.proofs.Ends.{begin_turn, end_turn}
 
-pub delete_fine : (key value : ℕ) → IsAim (delete_aim key value)
-delete_fine key value = record {
+pub delete_fine : (key : ℕ) (removed : Removed) → IsAim (delete_aim key removed)
+delete_fine key removed = record {
   changed = changed;
   refused = λ m h. (rw (h refl) refl, λ k. refl);
   lists = λ w p x d h l c e f. absurd (omega (arith, e));
 }
   where
-    changed : (o : Outcome) → o ≢ outcome.Refused → (m m' : Map) → ((◌≡◌ {A = ℕ} 0 0) → (m key ≡ Some value) × (m' key ≡ None)) → ((◌≢◌ {A = ℕ} 0 0) → m' key ≡ m key) → ((j : ℕ) → j ≢ key → m' j ≡ m j) → MapsTo m m' (deletes key (delete_reply value o))
+    changed : (o : Outcome) → o ≢ outcome.Refused → (m m' : Map) → ((◌≡◌ {A = ℕ} 0 0) → (m key ≡ Some removed.value) × (m' key ≡ None)) → ((◌≢◌ {A = ℕ} 0 0) → m' key ≡ m key) → ((j : ℕ) → j ≢ key → m' j ≡ m j) → MapsTo m m' (deletes key (delete_reply removed o))
     changed outcome.Changed n m m' at up rest = ((at refl).0, λ k. let new = (at refl).1 in let old = rest k in grind (arith, new, old))
     changed (outcome.Parted s) n m m' at up rest = ((at refl).0, λ k. let new = (at refl).1 in let old = rest k in grind (arith, new, old))
     changed outcome.Refused n m m' at up rest = absurd (n refl)
@@ -60,11 +61,11 @@ module _ {P : Type 0} (know : P → Know) (w : World P) (g : IsGood know w) (p :
       (record { stage = is.stage; said = says w m is.said; holds = ((does.changes.1 x ∙ held.owner, held.status, tt, tt), tt); goes = tt; children = tt; passed = tt; sound = tt; log = tt })
 
   -- at the leaf, which has it
-  drop_turn : (x value : ℕ) (c : Change) (s : State Page) → know (w.proc p) ≡ know_approach 0 key (way.Latched x) → know b ≡ know_change (delete_aim key value) (λ z. w.now.contents x) c → Leads (w.now.contents x) key 0 Here → (nodes w.now x).look key ≡ Some value → DropsPair x (w.now.contents x) key c → Does w.now p (Get x) s → Turned know w p (Get x) s b
-  drop_turn x value c s before then l look drops does =
+  drop_turn : (x : ℕ) (removed : Removed) (c : Change) (s : State Page) → know (w.proc p) ≡ know_approach 0 key (way.Latched x) → know b ≡ know_change (delete_aim key removed) (λ z. w.now.contents x) c → Leads (w.now.contents x) key 0 Here → (nodes w.now x).look key ≡ Some removed.value → DropsPair x (w.now.contents x) key c → Does w.now p (Get x) s → Turned know w p (Get x) s b
+  drop_turn x removed c s before then l look drops does =
       let is : IsSure w p (know_approach 0 key (way.Latched x)) = rw before at (g.sure p) in
       let held = is.holds.0 in
-      let aim = delete_aim key value in
+      let aim = delete_aim key removed in
       let page = w.now.contents x in
       watched know w g p b _ _ before then (Get x) (Some page) None s tt (is.stage, not_released know w g p x is.goes.0.may) does refl (change_middle aim (λ z. page) c)
       (λ y h. elim h [ inl e ↦ subst (λ z. Holds (know_change aim (λ u. page) c).holds z) e (drops_places aim x key page c drops) | inr n ↦ absurd n ]) (λ it e. cc) (λ k. refl)
@@ -80,7 +81,7 @@ module _ {P : Type 0} (know : P → Know) (w : World P) (g : IsGood know w) (p :
 
   arrive_turn : (x : ℕ) (a : DeleteStage) (got : ℕ → Page) (s : State Page) → know (w.proc p) ≡ know_approach 0 key (way.Latched x) → know b ≡ know_delete key got a → got ≡ (λ z. w.now.contents x) → Leads (w.now.contents x) key 0 Here → DeleteArrives key x (w.now.contents x) a → Does w.now p (Get x) s → Turned know w p (Get x) s b
   arrive_turn x (delete.Absent y) got s before then same l t does = absent_turn x got s before (rw t.0 at then) l t.1 does
-  arrive_turn x (delete.Changing value c) got s before then same l t does = drop_turn x value c s before (subst (λ f. know b ≡ know_change (delete_aim key value) f c) same then) l t.0 t.1 does
+  arrive_turn x (delete.Changing removed c) got s before then same l t does = drop_turn x removed c s before (subst (λ f. know b ≡ know_change (delete_aim key removed) f c) same then) l t.0 t.1 does
   arrive_turn x delete.New got s before then same l t does = absurd t
   arrive_turn x (delete.Coming a) got s before then same l t does = absurd t
   arrive_turn x (delete.Ending r) got s before then same l t does = absurd t
@@ -111,15 +112,15 @@ module _ {P : Type 0} (know : P → Know) (w : World P) (g : IsGood know w) (p :
   come_turn (way.Latched x) a' got seen.Missed s before then (y, d, h, t) told does = absurd h
   come_turn (way.Latched x) a' got seen.Refused s before then (y, d, h, t) told does = absurd h
 
-  change_ends : (value : ℕ) (c : Change) (a' : DeleteStage) (got : ℕ → Page) (what : Seen) (s : State Page) → know (w.proc p) ≡ know_delete key got (delete.Changing value c) → know b ≡ know_delete key got a' → DeleteGoes key (delete.Changing value c) what a' → IsTold w.now w.size (change_next c) what → Does w.now p (event_of None (change_next c) what) s → Turned know w p (event_of None (change_next c) what) s b
-  change_ends value c (delete.Changing same d) got what s before then t told does =
-      change_turn know w g p b (delete_aim key value) (delete_fine key value) got c d what s before (subst (λ v. know b ≡ know_change (delete_aim key v) got d) t.0 then) t.1 told does
-  change_ends value c (delete.Ending r) got what s before then (o, t, same) told does =
-      finish_turn know w g p b (delete_aim key value) (delete_fine key value) got c o what _ s before (subst (λ z. know b ≡ know_delete key got (delete.Ending z)) same then) tt t does
-  change_ends value c delete.New got what s before then t told does = absurd t
-  change_ends value c (delete.Coming a) got what s before then t told does = absurd t
-  change_ends value c (delete.Absent x) got what s before then t told does = absurd t
-  change_ends value c (delete.Over r) got what s before then t told does = absurd t
+  change_ends : (removed : Removed) (c : Change) (a' : DeleteStage) (got : ℕ → Page) (what : Seen) (s : State Page) → know (w.proc p) ≡ know_delete key got (delete.Changing removed c) → know b ≡ know_delete key got a' → DeleteGoes key (delete.Changing removed c) what a' → IsTold w.now w.size (change_next c) what → Does w.now p (event_of None (change_next c) what) s → Turned know w p (event_of None (change_next c) what) s b
+  change_ends removed c (delete.Changing same d) got what s before then t told does =
+      change_turn know w g p b (delete_aim key removed) (delete_fine key removed) got c d what s before (subst (λ v. know b ≡ know_change (delete_aim key v) got d) t.0 then) t.1 told does
+  change_ends removed c (delete.Ending r) got what s before then (o, t, same) told does =
+      finish_turn know w g p b (delete_aim key removed) (delete_fine key removed) got c o what _ s before (subst (λ z. know b ≡ know_delete key got (delete.Ending z)) same then) tt t does
+  change_ends removed c delete.New got what s before then t told does = absurd t
+  change_ends removed c (delete.Coming a) got what s before then t told does = absurd t
+  change_ends removed c (delete.Absent x) got what s before then t told does = absurd t
+  change_ends removed c (delete.Over r) got what s before then t told does = absurd t
 
   -- every turn of a deletion
   pub delete_turn : (a a' : DeleteStage) (got : ℕ → Page) (what : Seen) (s : State Page) → know (w.proc p) ≡ know_delete key got a → know b ≡ know_delete key (delete_got got a what) a' → DeleteGoes key a what a' → IsTold w.now w.size (delete_next_in a) what → Does w.now p (event_of (delete_end a) (delete_next_in a) what) s → Turned know w p (event_of (delete_end a) (delete_next_in a) what) s b
@@ -129,7 +130,7 @@ module _ {P : Type 0} (know : P → Know) (w : World P) (g : IsGood know w) (p :
   delete_turn (delete.Coming a) (delete.Changing v d) got what s before then t told does = come_turn a (delete.Changing v d) got what s before then t told does
   delete_turn (delete.Coming a) (delete.Ending last) got what s before then t told does = come_turn a (delete.Ending last) got what s before then t told does
   delete_turn (delete.Coming a) (delete.Over last) got what s before then t told does = come_turn a (delete.Over last) got what s before then t told does
-  delete_turn (delete.Changing value c) a' got what s before then t told does = change_ends value c a' got what s before then t told does
+  delete_turn (delete.Changing removed c) a' got what s before then t told does = change_ends removed c a' got what s before then t told does
   delete_turn delete.New delete.New got seen.Done s before then t told does = absurd t
   delete_turn delete.New (delete.Coming a') got seen.Done s before then t told does = begin_turn know w g p b key s before (rw t at then) does
   delete_turn delete.New (delete.Absent y) got seen.Done s before then t told does = absurd t

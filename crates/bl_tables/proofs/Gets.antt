@@ -22,8 +22,10 @@ use Rattle.bl_proc.specs.declared.deleting.DeleteStage.{DeleteStage}
 use Rattle.bl_proc.specs.declared.deleting.DeleteStage.TheVariants as delete
 use Rattle.bl_proc.specs.declared.posting.PostStage.{PostStage}
 use Rattle.bl_proc.specs.declared.posting.PostStage.TheVariants as post
+use Rattle.bl_proc.specs.declared.reclaiming.ReclaimStage.{ReclaimStage}
+use Rattle.bl_proc.specs.declared.reclaiming.ReclaimStage.TheVariants as reclaim
 use Rattle.bl_proc.specs.declared.kinds.Proc.{Proc}
-use Rattle.bl_proc.specs.declared.kinds.Proc.TheVariants.{Find, Insert, Delete, Post, Part}
+use Rattle.bl_proc.specs.declared.kinds.Proc.TheVariants.{Find, Insert, Delete, Post, Part, Reclaim}
 use Rattle.bl_ways.specs.Approaches.{approach_next}
 use Rattle.bl_ways.specs.Changes.{change_next}
 use Rattle.bl_ways.specs.Growths.{growth_next}
@@ -32,9 +34,10 @@ use Rattle.bl_proc.specs.Parts.{part_next_in}
 use Rattle.bl_proc.specs.Inserts.{insert_next_in}
 use Rattle.bl_proc.specs.Deletes.{delete_next_in}
 use Rattle.bl_proc.specs.Posts.{post_next_in}
+use Rattle.bl_proc.specs.Reclaims.{reclaim_next_in}
 use Rattle.bl_proc.specs.Processes.{next_of}
 use Rattle.bl_tables.specs.Tables.{Aim, know_approach, know_change}
-use Rattle.bl_tables.specs.Knowing.{know_growth, know_find, know_part, know_insert, know_delete, know_post, know_of, Run, bare}
+use Rattle.bl_tables.specs.Knowing.{know_growth, know_find, know_part, know_insert, know_delete, know_post, know_reclaim, know_of, Run, bare}
 
 -- page 0, or one that it may get
 abbrev pub IsGot : {P : Type 0} → World P → Name → Action → Type 0
@@ -108,12 +111,19 @@ module _ {P : Type 0} (w : World P) (p : Name) where
   post_got level key got child (post.Ending r) is = tt
   post_got level key got child (post.Over r) is = tt
 
-  of_got : (got : ℕ → Page) (child : ℕ) (state : Proc) → IsSure w p (know_of got child state) → IsGot w p (next_of state)
-  of_got got child (Find a) is = find_got a.key a.stage is
-  of_got got child (Insert a) is = insert_got a.key a.value got a.stage is
-  of_got got child (Delete a) is = delete_got a.key got a.stage is
-  of_got got child (Post a) is = post_got a.level a.key got child a.stage is
-  of_got got child (Part a) is = part_got a.from a.stage is
+  reclaim_got : (page time : ℕ) (a : ReclaimStage) → IsSure w p (know_reclaim time a) → IsGot w p (reclaim_next_in page a)
+  reclaim_got page time reclaim.Seeing is = tt
+  reclaim_got page time (reclaim.Looking r) is = tt
+  reclaim_got page time reclaim.Releasing is = tt
+  reclaim_got page time (reclaim.Over what) is = tt
+
+  of_got : (got : ℕ → Page) (child time : ℕ) (state : Proc) → IsSure w p (know_of got child time state) → IsGot w p (next_of state)
+  of_got got child time (Find a) is = find_got a.key a.stage is
+  of_got got child time (Insert a) is = insert_got a.key a.value got a.stage is
+  of_got got child time (Delete a) is = delete_got a.key got a.stage is
+  of_got got child time (Post a) is = post_got a.level a.key got child a.stage is
+  of_got got child time (Part a) is = part_got a.from a.stage is
+  of_got got child time (Reclaim a) is = reclaim_got a.page time a.stage is
 
 pub got_next_is : (w : World Run) (p : Name) → IsGood bare w → IsGot w p (next_of (w.proc p).state)
-got_next_is w p g = of_got w p (w.proc p).got (w.proc p).child (w.proc p).state (g.sure p)
+got_next_is w p g = of_got w p (w.proc p).got (w.proc p).child (w.proc p).time (w.proc p).state (g.sure p)

@@ -14,7 +14,7 @@ use Rattle.bl_tables.proofs.Acts.{finished}
 
 -- what stands for it then: a process that is over and has said nothing
 abbrev pub given_up : Run → Run
-given_up r = record { state = Post (record { level = 1; key = 0; stage = Over Stale; least = omega arith; most = omega arith; below = tt }); got = r.got; child = r.child }
+given_up r = record { state = Post (record { level = 1; key = 0; stage = Over Stale; least = omega arith; most = omega arith; below = tt }); got = r.got; child = r.child; time = r.time }
 
 pub give_up : (w : World Run) (p : Name) (s : State Page) → IsGood bare w → (bare (w.proc p)).stage ≡ Stage.Busy → (bare (w.proc p)).said ≡ None → (bare (w.proc p)).holds ≡ [] → (bare (w.proc p)).middle ≡ None → Does w.now p (End None) s → Turned bare w p (End None) s (given_up (w.proc p))
 give_up w p s g busy none empty middle does =

@@ -11,6 +11,7 @@ pub mod Inserting
 pub mod Deleting
 pub mod Growing
 pub mod Posting
+pub mod Reclaiming
 pub mod Plain
 pub mod Logged
 pub mod Near

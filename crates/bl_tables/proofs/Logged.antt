@@ -23,7 +23,7 @@ use Rattle.bl_ways.specs.declared.growing.Growth.TheVariants as growth
 use Rattle.bl_proc.specs.declared.posting.PostStage.{PostStage}
 use Rattle.bl_proc.specs.declared.posting.PostStage.TheVariants as post
 use Rattle.bl_proc.specs.declared.kinds.Proc.{Proc}
-use Rattle.bl_proc.specs.declared.kinds.Proc.TheVariants.{Find, Insert, Delete, Post, Part}
+use Rattle.bl_proc.specs.declared.kinds.Proc.TheVariants.{Find, Insert, Delete, Post, Part, Reclaim}
 use Rattle.bl_proc.specs.Processes.{next_of, Takes}
 use Rattle.bl_tables.specs.Turns.{event_of, IsTold, Turned}
 use Rattle.bl_tables.specs.Tables.{know_approach, know_change}
@@ -118,15 +118,16 @@ early_post level key got child (post.Changing (change.PuttingOld p)) e marks = a
 early_post level key got child (post.Changing (change.OpeningNew x new separator)) e marks = absurd (let f = e in cc)
 early_post level key got child (post.Changing (change.Opening x o)) e marks = absurd (let f = e in cc)
 
-early_state : (got : ℕ → Page) (child : ℕ) (a : Proc) → (know_of got child a).stage ≡ Stage.Early → (marks : Trail) → proc_log a marks
-early_state got child (Find a) e marks = tt
-early_state got child (Insert a) e marks = tt
-early_state got child (Delete a) e marks = tt
-early_state got child (Post a) e marks = early_post a.level a.key got child a.stage e marks
-early_state got child (Part a) e marks = tt
+early_state : (got : ℕ → Page) (child time : ℕ) (a : Proc) → (know_of got child time a).stage ≡ Stage.Early → (marks : Trail) → proc_log a marks
+early_state got child time (Find a) e marks = tt
+early_state got child time (Insert a) e marks = tt
+early_state got child time (Delete a) e marks = tt
+early_state got child time (Post a) e marks = early_post a.level a.key got child a.stage e marks
+early_state got child time (Part a) e marks = tt
+early_state got child time (Reclaim a) e marks = tt
 
 pub early_log : (b : Run) → (know b).stage ≡ Stage.Early → (marks : Trail) → proc_log b.state marks
-early_log b e marks = early_state b.got b.child b.state e marks
+early_log b e marks = early_state b.got b.child b.time b.state e marks
 
 pub full_blank : (b : Run) → IsBlank (bare b) → IsBlank (know b)
 full_blank b is = record {
@@ -262,12 +263,24 @@ log_turn (Part a) (Find c) what marks m t did saw h = tt
 log_turn (Part a) (Insert c) what marks m t did saw h = tt
 log_turn (Part a) (Delete c) what marks m t did saw h = tt
 log_turn (Part a) (Part c) what marks m t did saw h = tt
+log_turn (Find a) (Reclaim c) what marks m t did saw h = tt
+log_turn (Insert a) (Reclaim c) what marks m t did saw h = tt
+log_turn (Delete a) (Reclaim c) what marks m t did saw h = tt
+log_turn (Post a) (Reclaim c) what marks m t did saw h = tt
+log_turn (Part a) (Reclaim c) what marks m t did saw h = tt
+log_turn (Reclaim a) (Reclaim c) what marks m t did saw h = tt
+log_turn (Reclaim a) (Post c) what marks m t did saw h = absurd t
+log_turn (Reclaim a) (Find c) what marks m t did saw h = tt
+log_turn (Reclaim a) (Insert c) what marks m t did saw h = tt
+log_turn (Reclaim a) (Delete c) what marks m t did saw h = tt
+log_turn (Reclaim a) (Part c) what marks m t did saw h = tt
 
 log_stays : (old : Proc) (marks : Trail) (m : Mark) → m.event.act ≡ Miss → proc_log old marks → proc_log old (marks ++ m ∷ [])
 log_stays (Find a) marks m did h = tt
 log_stays (Insert a) marks m did h = tt
 log_stays (Delete a) marks m did h = tt
 log_stays (Part a) marks m did h = tt
+log_stays (Reclaim a) marks m did h = tt
 log_stays (Post a) marks m did h = post_stays marks m a.level a.key a.least (ap put_in did) (λ x o. (let e = sym did ∙ o in cc)) a.stage h
 
 -- the logs of all processes after a turn of p
@@ -287,9 +300,9 @@ logs_after w p a s b t g mine q =
 full_turned : (w : World Run) (p : Name) (a : Act Page Reply) (s : State Page) (b : Run) (t : Turned bare w p a s b) → ((q : Name) → proc_log (t.next.proc q).state (marks_of q t.next.trail)) → Turned know w p a s b
 full_turned w p a s b t logs = record { next = t.next; saw = t.saw; said = t.said; extends = t.extends; now = t.now; good = full_good t.next t.good logs }
 
-pub with_logs : (w : World Run) (p : Name) (a : Run) (new : Proc) (what : Seen) (s : State Page) (did : Act Page Reply) → w.proc p ≡ a → IsGood know w → Takes a.state what new → IsTold w.now w.size (next_of a.state) what → did ≡ event_of (end_of_proc a.state) (next_of a.state) what → Turned bare w p did s (run_next a what new) → Turned know w p did s (run_next a what new)
+pub with_logs : (w : World Run) (p : Name) (a : Run) (new : Proc) (what : Seen) (s : State Page) (did : Act Page Reply) → w.proc p ≡ a → IsGood know w → Takes a.state what new → IsTold w.now w.size (next_of a.state) what → did ≡ event_of (end_of_proc a.state) (next_of a.state) what → Turned bare w p did s (run_next w.now a what new) → Turned know w p did s (run_next w.now a what new)
 with_logs w p a new what s did is g t told same turned =
-    full_turned w p did s (run_next a what new) turned (logs_after w p did s (run_next a what new) turned g (λ marks m here mark.
+    full_turned w p did s (run_next w.now a what new) turned (logs_after w p did s (run_next w.now a what new) turned g (λ marks m here mark.
     let seen_it = subst (λ e. Saw w.now e turned.saw) same turned.extends.saw in
     log_turn a.state new what marks m t (ap (λ z. z.event.act) mark ∙ same)
     (λ x c e f. ap (λ z. z.saw) mark ∙ saw_words (end_of_proc a.state) w.now w.size turned.saw (next_of a.state) what told seen_it x c (sym (ap (λ z. z.event.act) mark ∙ same) ∙ e) f)

@@ -26,8 +26,10 @@ use Rattle.bl_proc.specs.declared.deleting.DeleteStage.{DeleteStage}
 use Rattle.bl_proc.specs.declared.deleting.DeleteStage.TheVariants as delete
 use Rattle.bl_proc.specs.declared.posting.PostStage.{PostStage}
 use Rattle.bl_proc.specs.declared.posting.PostStage.TheVariants as post
+use Rattle.bl_proc.specs.declared.reclaiming.ReclaimStage.{ReclaimStage}
+use Rattle.bl_proc.specs.declared.reclaiming.ReclaimStage.TheVariants as reclaim
 use Rattle.bl_proc.specs.declared.kinds.Proc.{Proc}
-use Rattle.bl_proc.specs.declared.kinds.Proc.TheVariants.{Find, Insert, Delete, Post, Part}
+use Rattle.bl_proc.specs.declared.kinds.Proc.TheVariants.{Find, Insert, Delete, Post, Part, Reclaim}
 use Rattle.bl_ways.specs.Approaches.{approach_next}
 use Rattle.bl_ways.specs.Changes.{change_next}
 use Rattle.bl_ways.specs.Growths.{growth_next}
@@ -36,9 +38,10 @@ use Rattle.bl_proc.specs.Parts.{part_next_in}
 use Rattle.bl_proc.specs.Inserts.{insert_next_in}
 use Rattle.bl_proc.specs.Deletes.{delete_next_in}
 use Rattle.bl_proc.specs.Posts.{post_next_in}
+use Rattle.bl_proc.specs.Reclaims.{reclaim_next_in}
 use Rattle.bl_proc.specs.Processes.{next_of}
 use Rattle.bl_tables.specs.Tables.{Aim, know_approach, know_change}
-use Rattle.bl_tables.specs.Knowing.{know_growth, know_find, know_part, know_insert, know_delete, know_post, know_of, Run, bare, know}
+use Rattle.bl_tables.specs.Knowing.{know_growth, know_find, know_part, know_insert, know_delete, know_post, know_reclaim, know_of, Run, bare, know}
 use Rattle.bl_tables.proofs.Logged.{bare_good}
 
 abbrev pub IsNear : {P : Type 0} → World P → Name → Action → Type 0
@@ -121,15 +124,22 @@ module _ {P : Type 0} (know : P → Know) (w : World P) (g : IsGood know w) (p :
   post_near level key got child (post.Ending r) is = tt
   post_near level key got child (post.Over r) is = tt
 
-  of_near : (got : ℕ → Page) (child : ℕ) (state : Proc) → IsSure w p (know_of got child state) → IsNear w p (next_of state)
-  of_near got child (Find a) is = find_near a.key a.stage is
-  of_near got child (Insert a) is = insert_near a.key a.value got a.stage is
-  of_near got child (Delete a) is = delete_near a.key got a.stage is
-  of_near got child (Post a) is = post_near a.level a.key got child a.stage is
-  of_near got child (Part a) is = part_near a.from a.stage is
+  reclaim_near : (page time : ℕ) (a : ReclaimStage) → IsSure w p (know_reclaim time a) → IsNear w p (reclaim_next_in page a)
+  reclaim_near page time reclaim.Seeing is = tt
+  reclaim_near page time (reclaim.Looking r) is = tt
+  reclaim_near page time reclaim.Releasing is = tt
+  reclaim_near page time (reclaim.Over what) is = tt
+
+  of_near : (got : ℕ → Page) (child time : ℕ) (state : Proc) → IsSure w p (know_of got child time state) → IsNear w p (next_of state)
+  of_near got child time (Find a) is = find_near a.key a.stage is
+  of_near got child time (Insert a) is = insert_near a.key a.value got a.stage is
+  of_near got child time (Delete a) is = delete_near a.key got a.stage is
+  of_near got child time (Post a) is = post_near a.level a.key got child a.stage is
+  of_near got child time (Part a) is = part_near a.from a.stage is
+  of_near got child time (Reclaim a) is = reclaim_near a.page time a.stage is
 
 pub bare_near : (w : World Run) (p : Name) → IsGood bare w → IsNear w p (next_of (w.proc p).state)
-bare_near w p g = of_near bare w g p (w.proc p).got (w.proc p).child (w.proc p).state (g.sure p)
+bare_near w p g = of_near bare w g p (w.proc p).got (w.proc p).child (w.proc p).time (w.proc p).state (g.sure p)
 
 pub near : (w : World Run) (p : Name) → IsGood know w → IsNear w p (next_of (w.proc p).state)
 near w p g = bare_near w p (bare_good w g)

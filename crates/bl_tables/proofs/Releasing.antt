@@ -1,5 +1,5 @@
 -- Any process may release a page that was retired before each process that runs began, and goes on as it was.
-use Rattle.std.proofs.Common.{ℕ, ◌≡◌, ◌≢◌, ◌≤◌, true, None, sym, ap, ◌∙◌, refl, subst, arith}
+use Rattle.std.proofs.Common.{ℕ, ◌≡◌, ◌≢◌, ◌≤◌, true, Option, Some, None, sym, ap, ◌∙◌, refl, subst, arith}
 use Rattle.bl_page.specs.declared.page.Page.{Page}
 use Rattle.bl_page.specs.Machine.{Name, State, IsAt, AllBeganAfter}
 use Rattle.bl_page.specs.Machine.Act.{Release}
@@ -11,7 +11,7 @@ use Rattle.bl_tree.proofs.Statuses.{gone_dead, not_dead}
 use Rattle.bl_laws.specs.Pages.{node_of}
 use Rattle.bl_trails.specs.Trails.{marks_of}
 use Rattle.bl_trails.proofs.Pushes.{HasSaid-silent}
-use Rattle.bl_steps.specs.Worlds.{Hold, Goes, Child, World, nodes, was_in, IsStage, IfKnown, MayGet, IsHeld, IsGoes, IsRelied, IsPassed, IsSure, IsGood, silent}
+use Rattle.bl_steps.specs.Worlds.{Hold, Goes, Child, Passed, World, nodes, was_in, IsStage, IfKnown, MayGet, IsHeld, IsGoes, IsRelied, IsPassed, IsSure, IsGood, silent}
 use Rattle.bl_steps.proofs.Frames.{Each-map}
 use Rattle.bl_steps.proofs.After.{after, Extends-after, put_at, is_put_at}
 use Rattle.bl_steps.proofs.Outside.{Releases-keeps}
@@ -75,6 +75,10 @@ module _ (w : World Run) (p : Name) (x : ℕ) (s : State Page) (g : IsGood bare 
         sep = i.sep;
       }
 
+  passed : (a : Option Passed) → IsPassed w a → IsPassed freed a
+  passed None h = tt
+  passed (Some a) h = (omega (arith, h.0, does.on), λ q since among runs. h.1 q since among (sym (does.changes.2 q) ∙ runs))
+
   sure : IsSure freed p (bare (w.proc p))
   sure =
       let k = bare (w.proc p) in
@@ -86,7 +90,7 @@ module _ (w : World Run) (p : Name) (x : ℕ) (s : State Page) (g : IsGood bare 
         holds = Each-map (IsHeld w p) (IsHeld freed p) k.holds held is.holds;
         goes = Each-map (IsGoes w p) (IsGoes freed p) k.goes goes is.goes;
         children = Each-map (IsRelied w p) (IsRelied freed p) k.children relied is.children;
-        passed = subst (IsPassed freed) (sym none.passed) tt;
+        passed = passed k.passed is.passed;
         sound = is.sound;
         log = none.log (marks_of p freed.trail);
       }

@@ -9,10 +9,10 @@ use Rattle.bl_steps.specs.Worlds.{World, IsHeld, IsRelied, IsGood, silent}
 use Rattle.bl_steps.proofs.Frames.{Each-map}
 use Rattle.bl_ways.specs.declared.acts.Seen.{Seen}
 use Rattle.bl_proc.specs.declared.kinds.Proc.{Proc}
-use Rattle.bl_proc.specs.declared.kinds.Proc.TheVariants.{Find, Insert, Delete, Post, Part}
+use Rattle.bl_proc.specs.declared.kinds.Proc.TheVariants.{Find, Insert, Delete, Post, Part, Reclaim}
 use Rattle.bl_proc.specs.Processes.{next_of, Takes}
-use Rattle.bl_tables.specs.Turns.{event_of, IsTold, Does, Turned}
-use Rattle.bl_tables.specs.Knowing.{Run, know_of, bare, know, know_find, know_part, know_insert, know_delete, know_post, insert_got, delete_got, post_got, post_child, end_of_proc, got_next, child_next, run_next}
+use Rattle.bl_tables.specs.Turns.{event_of, IsTold, IsShown, Does, Turned}
+use Rattle.bl_tables.specs.Knowing.{Run, know_of, bare, know, know_find, know_part, know_insert, know_delete, know_post, insert_got, delete_got, post_got, post_child, end_of_proc, got_next, child_next, time_next, run_next}
 use Rattle.bl_tables.proofs.Acts.{watched}
 use Rattle.bl_tables.proofs.Plain.{plain}
 use Rattle.bl_tables.proofs.Logged.{bare_good, with_logs, with_miss}
@@ -21,43 +21,56 @@ use Rattle.bl_tables.proofs.Listing.{part_turn}
 use Rattle.bl_tables.proofs.Inserting.{insert_turn}
 use Rattle.bl_tables.proofs.Deleting.{delete_turn}
 use Rattle.bl_tables.proofs.Posting.{post_turn}
+use Rattle.bl_tables.proofs.Reclaiming.{reclaim_turn}
 
-state_turn : (w : World Run) (p : Name) (got : ℕ → Page) (child : ℕ) (old new : Proc) (b : Run) (what : Seen) (s : State Page) → IsGood bare w → bare (w.proc p) ≡ know_of got child old → bare b ≡ know_of (got_next got old what) (child_next child old) new → Takes old what new → IsTold w.now w.size (next_of old) what → Does w.now p (event_of (end_of_proc old) (next_of old) what) s → Turned bare w p (event_of (end_of_proc old) (next_of old) what) s b
-state_turn w p got child (Find a) (Find c) b what s g before then t told does =
+state_turn : (w : World Run) (p : Name) (got : ℕ → Page) (child time : ℕ) (old new : Proc) (b : Run) (what : Seen) (s : State Page) → IsGood bare w → bare (w.proc p) ≡ know_of got child time old → bare b ≡ know_of (got_next got old what) (child_next child old) (time_next w.now time old) new → Takes old what new → IsTold w.now w.size (next_of old) what → IsShown w.now p time (next_of old) what → Does w.now p (event_of (end_of_proc old) (next_of old) what) s → Turned bare w p (event_of (end_of_proc old) (next_of old) what) s b
+state_turn w p got child time (Find a) (Find c) b what s g before then t told shown does =
     find_turn bare w g p b a.key a.stage c.stage what s before (subst (λ k. bare b ≡ know_find k c.stage) t.0 then) t.1 told does
-state_turn w p got child (Insert a) (Insert c) b what s g before then t told does =
+state_turn w p got child time (Insert a) (Insert c) b what s g before then t told shown does =
     insert_turn bare w g p b a.key a.value a.stage c.stage got what s before (subst (λ k. bare b ≡ know_insert k a.value (insert_got got a.stage what) c.stage) t.0 (subst (λ v. bare b ≡ know_insert c.key v (insert_got got a.stage what) c.stage) t.1 then)) t.2 told does
-state_turn w p got child (Delete a) (Delete c) b what s g before then t told does =
+state_turn w p got child time (Delete a) (Delete c) b what s g before then t told shown does =
     delete_turn bare w g p b a.key a.stage c.stage got what s before (subst (λ k. bare b ≡ know_delete k (delete_got got a.stage what) c.stage) t.0 then) t.1 told does
-state_turn w p got child (Post a) (Post c) b what s g before then t told does =
+state_turn w p got child time (Post a) (Post c) b what s g before then t told shown does =
     post_turn bare w g p b a.level a.key a.least a.most a.stage c.stage got child what s before (subst (λ l. bare b ≡ know_post l a.key (post_got got a.stage what) (post_child child a.stage) c.stage) t.0 (subst (λ k. bare b ≡ know_post c.level k (post_got got a.stage what) (post_child child a.stage) c.stage) t.1 then)) t.2 told does
-state_turn w p got child (Part a) (Part c) b what s g before then t told does =
+state_turn w p got child time (Part a) (Part c) b what s g before then t told shown does =
     part_turn bare w g p b a.from a.stage c.stage what s before (subst (λ k. bare b ≡ know_part k c.stage) t.0 then) t.1 told does
-state_turn w p got child (Find a) (Insert c) b what s g before then t told does = absurd t
-state_turn w p got child (Find a) (Delete c) b what s g before then t told does = absurd t
-state_turn w p got child (Find a) (Post c) b what s g before then t told does = absurd t
-state_turn w p got child (Insert a) (Find c) b what s g before then t told does = absurd t
-state_turn w p got child (Insert a) (Delete c) b what s g before then t told does = absurd t
-state_turn w p got child (Insert a) (Post c) b what s g before then t told does = absurd t
-state_turn w p got child (Delete a) (Find c) b what s g before then t told does = absurd t
-state_turn w p got child (Delete a) (Insert c) b what s g before then t told does = absurd t
-state_turn w p got child (Delete a) (Post c) b what s g before then t told does = absurd t
-state_turn w p got child (Post a) (Find c) b what s g before then t told does = absurd t
-state_turn w p got child (Post a) (Insert c) b what s g before then t told does = absurd t
-state_turn w p got child (Post a) (Delete c) b what s g before then t told does = absurd t
-state_turn w p got child (Find a) (Part c) b what s g before then t told does = absurd t
-state_turn w p got child (Insert a) (Part c) b what s g before then t told does = absurd t
-state_turn w p got child (Delete a) (Part c) b what s g before then t told does = absurd t
-state_turn w p got child (Post a) (Part c) b what s g before then t told does = absurd t
-state_turn w p got child (Part a) (Find c) b what s g before then t told does = absurd t
-state_turn w p got child (Part a) (Insert c) b what s g before then t told does = absurd t
-state_turn w p got child (Part a) (Delete c) b what s g before then t told does = absurd t
-state_turn w p got child (Part a) (Post c) b what s g before then t told does = absurd t
+state_turn w p got child time (Find a) (Insert c) b what s g before then t told shown does = absurd t
+state_turn w p got child time (Find a) (Delete c) b what s g before then t told shown does = absurd t
+state_turn w p got child time (Find a) (Post c) b what s g before then t told shown does = absurd t
+state_turn w p got child time (Insert a) (Find c) b what s g before then t told shown does = absurd t
+state_turn w p got child time (Insert a) (Delete c) b what s g before then t told shown does = absurd t
+state_turn w p got child time (Insert a) (Post c) b what s g before then t told shown does = absurd t
+state_turn w p got child time (Delete a) (Find c) b what s g before then t told shown does = absurd t
+state_turn w p got child time (Delete a) (Insert c) b what s g before then t told shown does = absurd t
+state_turn w p got child time (Delete a) (Post c) b what s g before then t told shown does = absurd t
+state_turn w p got child time (Post a) (Find c) b what s g before then t told shown does = absurd t
+state_turn w p got child time (Post a) (Insert c) b what s g before then t told shown does = absurd t
+state_turn w p got child time (Post a) (Delete c) b what s g before then t told shown does = absurd t
+state_turn w p got child time (Find a) (Part c) b what s g before then t told shown does = absurd t
+state_turn w p got child time (Insert a) (Part c) b what s g before then t told shown does = absurd t
+state_turn w p got child time (Delete a) (Part c) b what s g before then t told shown does = absurd t
+state_turn w p got child time (Post a) (Part c) b what s g before then t told shown does = absurd t
+state_turn w p got child time (Part a) (Find c) b what s g before then t told shown does = absurd t
+state_turn w p got child time (Part a) (Insert c) b what s g before then t told shown does = absurd t
+state_turn w p got child time (Part a) (Delete c) b what s g before then t told shown does = absurd t
+state_turn w p got child time (Part a) (Post c) b what s g before then t told shown does = absurd t
+state_turn w p got child time (Reclaim a) (Reclaim c) b what s g before then t told shown does =
+    reclaim_turn bare w g p b a.page time a.stage c.stage what s before then t.1 shown does
+state_turn w p got child time (Find a) (Reclaim c) b what s g before then t told shown does = absurd t
+state_turn w p got child time (Reclaim a) (Find c) b what s g before then t told shown does = absurd t
+state_turn w p got child time (Insert a) (Reclaim c) b what s g before then t told shown does = absurd t
+state_turn w p got child time (Reclaim a) (Insert c) b what s g before then t told shown does = absurd t
+state_turn w p got child time (Delete a) (Reclaim c) b what s g before then t told shown does = absurd t
+state_turn w p got child time (Reclaim a) (Delete c) b what s g before then t told shown does = absurd t
+state_turn w p got child time (Post a) (Reclaim c) b what s g before then t told shown does = absurd t
+state_turn w p got child time (Reclaim a) (Post c) b what s g before then t told shown does = absurd t
+state_turn w p got child time (Part a) (Reclaim c) b what s g before then t told shown does = absurd t
+state_turn w p got child time (Reclaim a) (Part c) b what s g before then t told shown does = absurd t
 
 -- Process p, which is a, was told this of its next action, truly, and goes to that state: from a good world this leads to a
 -- good world, in which p is in that state, and whose trail has one mark more. First by the states of processes alone.
-pub bare_turn : (w : World Run) (p : Name) (a : Run) (new : Proc) (what : Seen) (s : State Page) → w.proc p ≡ a → IsGood bare w → Takes a.state what new → IsTold w.now w.size (next_of a.state) what → Does w.now p (event_of (end_of_proc a.state) (next_of a.state) what) s → Turned bare w p (event_of (end_of_proc a.state) (next_of a.state) what) s (run_next a what new)
-bare_turn w p a new what s is g t told does = state_turn w p a.got a.child a.state new (run_next a what new) what s g (ap bare is) refl t told does
+pub bare_turn : (w : World Run) (p : Name) (a : Run) (new : Proc) (what : Seen) (s : State Page) → w.proc p ≡ a → IsGood bare w → Takes a.state what new → IsTold w.now w.size (next_of a.state) what → IsShown w.now p a.time (next_of a.state) what → Does w.now p (event_of (end_of_proc a.state) (next_of a.state) what) s → Turned bare w p (event_of (end_of_proc a.state) (next_of a.state) what) s (run_next w.now a what new)
+bare_turn w p a new what s is g t told shown does = state_turn w p a.got a.child a.time a.state new (run_next w.now a what new) what s g (ap bare is) refl t told shown does
 
 -- A turn that is not fit is a miss, and changes nothing.
 pub bare_idle_turn : (w : World Run) (p : Name) (s : State Page) → IsGood bare w → Does w.now p Miss s → Turned bare w p Miss s (w.proc p)
@@ -77,8 +90,8 @@ bare_idle_turn w p s g does =
     })
 
 -- The same, with what each process has done.
-pub turn : (w : World Run) (p : Name) (a : Run) (new : Proc) (what : Seen) (s : State Page) → w.proc p ≡ a → IsGood know w → Takes a.state what new → IsTold w.now w.size (next_of a.state) what → Does w.now p (event_of (end_of_proc a.state) (next_of a.state) what) s → Turned know w p (event_of (end_of_proc a.state) (next_of a.state) what) s (run_next a what new)
-turn w p a new what s is g t told does = with_logs w p a new what s _ is g t told refl (bare_turn w p a new what s is (bare_good w g) t told does)
+pub turn : (w : World Run) (p : Name) (a : Run) (new : Proc) (what : Seen) (s : State Page) → w.proc p ≡ a → IsGood know w → Takes a.state what new → IsTold w.now w.size (next_of a.state) what → IsShown w.now p a.time (next_of a.state) what → Does w.now p (event_of (end_of_proc a.state) (next_of a.state) what) s → Turned know w p (event_of (end_of_proc a.state) (next_of a.state) what) s (run_next w.now a what new)
+turn w p a new what s is g t told shown does = with_logs w p a new what s _ is g t told refl (bare_turn w p a new what s is (bare_good w g) t told shown does)
 
 pub idle_turn : (w : World Run) (p : Name) (s : State Page) → IsGood know w → Does w.now p Miss s → Turned know w p Miss s (w.proc p)
 idle_turn w p s g does = with_miss w p s g (bare_idle_turn w p s (bare_good w g) does)

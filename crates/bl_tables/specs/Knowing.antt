@@ -5,10 +5,12 @@ use Rattle.bl_model.specs.declared.operation.Reply.{Reply}
 use Rattle.bl_model.specs.declared.operation.Reply.TheVariants as reply
 use Rattle.bl_page.specs.declared.page.Page.{Page}
 use Rattle.bl_page.specs.declared.page.Page.TheVariants.{Anchor, Inner}
+use Rattle.bl_page.specs.Machine.{Owner, State}
+use Rattle.bl_page.specs.Machine.Owner.{Released, Held, Retired}
 use Rattle.bl_tree.specs.Nodes.{unbounded}
 use Rattle.bl_tree.specs.Trees.Status.{Fresh, Anchored}
 use Rattle.bl_trails.specs.Trails.{Said}
-use Rattle.bl_steps.specs.Worlds.{Hold, Stage, Know}
+use Rattle.bl_steps.specs.Worlds.{Hold, Passed, Stage, Know}
 use Rattle.bl_ways.specs.declared.acts.Seen.{Seen}
 use Rattle.bl_ways.specs.declared.acts.Seen.TheVariants as seen
 use Rattle.bl_proc.specs.declared.searching.FindStage.TheVariants as find
@@ -17,6 +19,7 @@ use Rattle.bl_proc.specs.declared.inserting.InsertStage.{InsertStage}
 use Rattle.bl_proc.specs.declared.inserting.InsertStage.TheVariants as insert
 use Rattle.bl_proc.specs.declared.inserting.InsertReply.{InsertReply}
 use Rattle.bl_proc.specs.declared.inserting.InsertReply.TheVariants as inserted
+use Rattle.bl_proc.specs.declared.deleting.Removed.{Removed}
 use Rattle.bl_proc.specs.declared.deleting.DeleteStage.{DeleteStage}
 use Rattle.bl_proc.specs.declared.deleting.DeleteStage.TheVariants as delete
 use Rattle.bl_proc.specs.declared.deleting.DeleteReply.{DeleteReply}
@@ -28,6 +31,9 @@ use Rattle.bl_ways.specs.declared.growing.Growth.{Growth}
 use Rattle.bl_ways.specs.declared.growing.Growth.TheVariants as growth
 use Rattle.bl_proc.specs.declared.posting.PostStage.{PostStage}
 use Rattle.bl_proc.specs.declared.posting.PostStage.TheVariants as post
+use Rattle.bl_proc.specs.declared.reclaiming.Round.{Round}
+use Rattle.bl_proc.specs.declared.reclaiming.ReclaimStage.{ReclaimStage}
+use Rattle.bl_proc.specs.declared.reclaiming.ReclaimStage.TheVariants as reclaim
 use Rattle.bl_proc.specs.declared.kinds.Proc.{Proc}
 use Rattle.bl_proc.specs.declared.kinds.Proc.TheVariants as proc
 use Rattle.bl_proc.specs.Inserts.{insert_reply}
@@ -98,21 +104,21 @@ know_insert key value got (insert.Over r) = late (inserts key value r)
 -- Deletions
 
 abbrev pub deleted_reply : DeleteReply → Reply
-deleted_reply (deleted.Deleted value) = reply.Deleted value
+deleted_reply (deleted.Deleted removed) = reply.Deleted removed.value
 deleted_reply deleted.Absent = reply.Absent
 deleted_reply deleted.NoRoom = reply.NoRoom
 
 abbrev pub deletes : ℕ → DeleteReply → Option Said
 deletes key r = Some (record { op = op.Delete key; reply = deleted_reply r })
 
-abbrev pub delete_aim : ℕ → ℕ → Aim
-delete_aim key value = record { level = 0; key = key; was = Some value; word = None; said = λ o. deletes key (delete_reply value o); children = λ x. [] }
+abbrev pub delete_aim : ℕ → Removed → Aim
+delete_aim key removed = record { level = 0; key = key; was = Some removed.value; word = None; said = λ o. deletes key (delete_reply removed o); children = λ x. [] }
 
 abbrev pub know_delete : ℕ → (ℕ → Page) → DeleteStage → Know
 know_delete key got delete.New = early key
 know_delete key got (delete.Coming a) = know_approach 0 key a
 know_delete key got (delete.Absent x) = record (ending (deletes key deleted.Absent)) { holds = holds_live x ∷ [] }
-know_delete key got (delete.Changing value c) = know_change (delete_aim key value) got c
+know_delete key got (delete.Changing removed c) = know_change (delete_aim key removed) got c
 know_delete key got (delete.Ending r) = ending (deletes key r)
 know_delete key got (delete.Over r) = late (deletes key r)
 
@@ -152,22 +158,44 @@ know_post level key got child (post.Staying x r) = record (idle Stage.Busy) { ho
 know_post level key got child (post.Ending r) = ending None
 know_post level key got child (post.Over r) = late None
 
--- Any process: its state, what it got of the pages that it holds, and the child that it is to list.
+-- Releases: they answer no operation of the map, and never begin. While a process looks at the others, it knows of all but
+-- those that are still ahead of it that they began after the page was retired, if they run.
+
+abbrev pub looks : Passed → Know
+looks passed = record (idle Stage.Early) { passed = Some passed }
+
+abbrev pub round : ℕ → Round → Passed
+round time r = record { time = time; next = r.next; last = r.started; own = r.own }
+
+-- none is ahead
+abbrev pub all : ℕ → Passed
+all time = record { time = time; next = 1; last = 0; own = 0 }
+
+abbrev pub know_reclaim : ℕ → ReclaimStage → Know
+know_reclaim time reclaim.Seeing = idle Stage.Early
+know_reclaim time (reclaim.Looking r) = looks (round time r)
+know_reclaim time reclaim.Releasing = looks (all time)
+know_reclaim time (reclaim.Over what) = idle Stage.Early
+
+-- Any process: its state, what it got of the pages that it holds, the child that it is to list, and since when the page that
+-- it is to release is retired.
 pub record Run : Type 0 where
   pub state : Proc
   pub got : ℕ → Page
   pub child : ℕ
+  pub time : ℕ
 
-abbrev pub know_of : (ℕ → Page) → ℕ → Proc → Know
-know_of got child (proc.Find p) = know_find p.key p.stage
-know_of got child (proc.Insert p) = know_insert p.key p.value got p.stage
-know_of got child (proc.Delete p) = know_delete p.key got p.stage
-know_of got child (proc.Post p) = know_post p.level p.key got child p.stage
-know_of got child (proc.Part p) = know_part p.from p.stage
+abbrev pub know_of : (ℕ → Page) → ℕ → ℕ → Proc → Know
+know_of got child time (proc.Find p) = know_find p.key p.stage
+know_of got child time (proc.Insert p) = know_insert p.key p.value got p.stage
+know_of got child time (proc.Delete p) = know_delete p.key got p.stage
+know_of got child time (proc.Post p) = know_post p.level p.key got child p.stage
+know_of got child time (proc.Part p) = know_part p.from p.stage
+know_of got child time (proc.Reclaim p) = know_reclaim time p.stage
 
 -- by its state alone
 abbrev pub bare : Run → Know
-bare r = know_of r.got r.child r.state
+bare r = know_of r.got r.child r.time r.state
 
 -- and by what it has done
 abbrev pub know : Run → Know
@@ -200,7 +228,7 @@ abbrev pub delete_end : DeleteStage → Option Reply
 delete_end delete.New = None
 delete_end (delete.Coming a) = None
 delete_end (delete.Absent x) = None
-delete_end (delete.Changing value c) = None
+delete_end (delete.Changing removed c) = None
 delete_end (delete.Ending r) = Some (deleted_reply r)
 delete_end (delete.Over r) = None
 
@@ -210,6 +238,7 @@ end_of_proc (proc.Insert p) = insert_end p.stage
 end_of_proc (proc.Delete p) = delete_end p.stage
 end_of_proc (proc.Post p) = None
 end_of_proc (proc.Part p) = part_end p.stage
+end_of_proc (proc.Reclaim p) = None
 
 -- what a process has got of the pages that it holds, after it was told this
 abbrev pub insert_got : (ℕ → Page) → InsertStage → Seen → ℕ → Page
@@ -235,6 +264,7 @@ got_next got (proc.Insert p) what = insert_got got p.stage what
 got_next got (proc.Delete p) what = delete_got got p.stage what
 got_next got (proc.Post p) what = post_got got p.stage what
 got_next got (proc.Part p) what = got
+got_next got (proc.Reclaim p) what = got
 
 abbrev pub child_next : ℕ → Proc → ℕ
 child_next child (proc.Find p) = child
@@ -242,7 +272,29 @@ child_next child (proc.Insert p) = child
 child_next child (proc.Delete p) = child
 child_next child (proc.Post p) = post_child child p.stage
 child_next child (proc.Part p) = child
+child_next child (proc.Reclaim p) = child
 
--- the process after it was told this, in that state
-abbrev pub run_next : Run → Seen → Proc → Run
-run_next r what state = record { state = state; got = got_next r.got r.state what; child = child_next r.child r.state }
+-- since when the page is retired, if it is, at which a release looks
+abbrev pub retired_since : Owner → ℕ → ℕ
+retired_since (Retired time) old = time
+retired_since Released old = old
+retired_since Owner.Open old = old
+retired_since (Held p) old = old
+
+abbrev pub reclaim_time : State Page → ℕ → ℕ → ReclaimStage → ℕ
+reclaim_time now time page reclaim.Seeing = retired_since (now.owner page) time
+reclaim_time now time page (reclaim.Looking r) = time
+reclaim_time now time page reclaim.Releasing = time
+reclaim_time now time page (reclaim.Over what) = time
+
+abbrev pub time_next : State Page → ℕ → Proc → ℕ
+time_next now time (proc.Find p) = time
+time_next now time (proc.Insert p) = time
+time_next now time (proc.Delete p) = time
+time_next now time (proc.Post p) = time
+time_next now time (proc.Part p) = time
+time_next now time (proc.Reclaim p) = reclaim_time now time p.page p.stage
+
+-- the process after it was told this of these pages, in that state
+abbrev pub run_next : State Page → Run → Seen → Proc → Run
+run_next now r what state = record { state = state; got = got_next r.got r.state what; child = child_next r.child r.state; time = time_next now r.time r.state }

@@ -111,3 +111,4 @@ proc_log (proc.Insert p) marks = Unit {0}
 proc_log (proc.Delete p) marks = Unit {0}
 proc_log (proc.Post p) marks = post_log p.level p.key p.stage marks
 proc_log (proc.Part p) marks = Unit {0}
+proc_log (proc.Reclaim p) marks = Unit {0}

@@ -55,7 +55,7 @@ top_is (page.Anchor a) words e one =
     let all : take (count_in words) (drop 4 words) ≡ a.leftmost.items = ap (λ w. take (count_in w) (drop 4 w)) e ∙ leftmost_again a in
     let back : 4 + (n - 1) ≡ 3 + count_in words = omega (arith, count, some) in
     let at : get_or words (3 + count_in words) 0 ≡ get_or a.leftmost.items (n - 1) 0 =
-        ap (λ i. get_or words i 0) (sym back) ∙ sym (get_or-drop 4 words (n - 1) 0) ∙ sym (get_or-take (count_in words) (drop 4 words) (n - 1) 0 (omega (arith, count, some))) ∙ ap (λ xs. get_or xs (n - 1) 0) all in
+    ap (λ i. get_or words i 0) (sym back) ∙ sym (get_or-drop 4 words (n - 1) 0) ∙ sym (get_or-take (count_in words) (drop 4 words) (n - 1) 0 (omega (arith, count, some))) ∙ ap (λ xs. get_or xs (n - 1) 0) all in
     let child : IsChild (get_or a.leftmost.items (n - 1) 0) = AreChildren-at a.leftmost.items (n - 1) a.pages (omega (arith, some)) in
     (at, omega (arith, at, child.1))
 top_is (page.Leaf l) words e one = absurd (let k : kind_in words ≡ 2 = ap kind_in e ∙ (fits (page.Leaf l)).is_of in omega (arith, k, one))

@@ -5,3 +5,4 @@ pub mod Approaches
 pub mod Changes
 pub mod Growths
 pub mod Hints
+pub mod Thin

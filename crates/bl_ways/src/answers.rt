@@ -103,6 +103,15 @@ pub enum Posted {
     TooTall,
 }
 
+/// What became of a page that was to be released.
+#[derive(Clone, Copy, Debug, PartialEq, Eq)]
+pub enum Reclaimed {
+    /// It is released.
+    Released,
+    /// It was not retired, or another process may still read it, or it was released before.
+    Kept,
+}
+
 /// The answer of a process, by its kind.
 #[derive(Debug, PartialEq, Eq, Drop)]
 pub enum Answer {
@@ -110,4 +119,6 @@ pub enum Answer {
     Op(Reply, Option<Hint>),
     /// What became of a post.
     Post(Posted, Option<Hint>),
+    /// What became of a page that was to be released.
+    Reclaim(Reclaimed),
 }

@@ -18,9 +18,10 @@ mod machine;
 mod onwards;
 mod reading;
 mod spelled;
+mod thin;
 
 pub use acts::{Action, Seen};
-pub use answers::{Answer, Hint, Level, Posted};
+pub use answers::{Answer, Hint, Level, Posted, Reclaimed};
 pub use approaching::{Approach, Approached, entered};
 pub use changes::{dropping, entering};
 pub use changing::{Change, Changed, Full, Outcome, Parting};
@@ -29,3 +30,4 @@ pub use machine::Process;
 pub use onwards::{Onward, way_from};
 pub use reading::{level_of, levels_of, listed, low_of, top_page};
 pub use spelled::{row_in, top_in, way_in};
+pub use thin::{hint_of_thin, thin_low};

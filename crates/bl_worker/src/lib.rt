@@ -6,9 +6,9 @@
 //! answers operations on key and value by steps of one map.
 #![tactic(auto)]
 
+mod serving;
 #[cfg(test)]
 mod tests;
-mod serving;
 mod working;
 
 pub use serving::Worker;

@@ -1,5 +1,5 @@
 -- The account of a world.
-use Rattle.std.proofs.Common.{ℕ, ◌≡◌, ◌⊎◌, ◌+◌, ◌-◌, ◌<◌, suc, Option, Some, None, length, slice_get, arith, ap, sym, ◌∙◌, subst, inl, inr}
+use Rattle.std.proofs.Common.{ℕ, ◌≡◌, ◌⊎◌, ◌+◌, ◌-◌, ◌<◌, suc, Option, Some, None, List, length, slice_get, arith, ap, sym, ◌∙◌, subst, inl, inr}
 use Rattle.std.proofs.lemmas.Bool.{cases_eq, cases_lt}
 use mathlib.Core.Logic.{∥∥₁_map}
 use Rattle.std.proofs.Math.Logic.{∥∥₁_elim}
@@ -15,6 +15,10 @@ use Rattle.bl_ways.specs.declared.answers.Answer.TheVariants as answer
 use Rattle.bl_ways.specs.declared.answers.Hint.{Hint}
 use Rattle.bl_ways.specs.declared.answers.Posted.{Posted}
 use Rattle.bl_proc.specs.declared.posting.Post.{Post}
+use Rattle.bl_ways.specs.declared.answers.Reclaimed.{Reclaimed}
+use Rattle.bl_proc.specs.declared.reclaiming.ReclaimStage.{ReclaimStage}
+use Rattle.bl_proc.specs.declared.reclaiming.ReclaimStage.TheVariants as reclaim
+use Rattle.bl_proc.specs.Reclaims.{reclaim_answer_in}
 use Rattle.bl_proc.specs.declared.kinds.Proc.TheVariants as proc
 use Rattle.bl_proc.specs.declared.kinds.Proc.{Proc}
 use Rattle.bl_proc.specs.Processes.{answer_of}
@@ -25,9 +29,12 @@ use Rattle.bl_tables.proofs.Answered.{post_means, post_hints}
 use Rattle.bl_tables.proofs.Starting.{run_laws}
 use Rattle.bl_world.specs.Views.{View, name_of}
 use Rattle.bl_world.specs.Deeds.{Way}
-use Rattle.bl_world.specs.Accounts.{op_of, Answers, IsOwn, Account, Continues}
-use Rattle.bl_world.specs.Worlds.{IsUnknown, IsWorld}
+use Rattle.bl_world.specs.Retirements.{MeansReclaimed}
+use Rattle.bl_world.specs.declared.turns.Event.{Event}
+use Rattle.bl_world.specs.Accounts.{op_of, HasEnd, Answers, IsOwn, Account, Continues}
+use Rattle.bl_world.specs.Worlds.{IsReclaiming, IsWorld}
 use Rattle.bl_world.proofs.Arms.{stands}
+use Rattle.bl_world.proofs.ReclaimArms.{named}
 use Rattle.bl_world.proofs.Moments.{world_map}
 use Rattle.bl_world.proofs.Orders.{ordered, ended_in, none_released}
 use Rattle.bl_world.proofs.Entries.{said_op, answered_said, answered_late}
@@ -38,18 +45,12 @@ use Rattle.bl_world.proofs.Keeping.{Has, GrowsTo}
 one_more : (n : ℕ) → n + 1 ≡ suc n
 one_more n = omega arith
 
--- a name is that of a process that was started, or of none
-named : (count : ℕ) (q : Name) → ((n : ℕ) × (n < count) × (q ≡ name_of (suc n))) ⊎ IsUnknown count q
-named count q = elim (cases_eq q.number 0) [
-  | inl zero_is ↦ elim (cases_lt 0 q.pass) [
-    | inl some ↦ elim (cases_lt count q.pass) [
-      | inl far ↦ inr (λ n l e. (let f = ap (λ z. z.pass) e in omega (arith, f, l, far)))
-      | inr near ↦ inl (q.pass - 1, omega (arith, some, near), λ i. record { pass = (let p : q.pass ≡ suc (q.pass - 1) = omega (arith, some) in p) i; number = zero_is i })
-    ]
-    | inr none ↦ inr (λ n l e. (let f = ap (λ z. z.pass) e in omega (arith, f, none)))
-  ]
-  | inr other ↦ inr (λ n l e. other (ap (λ z. z.number) e))
-]
+-- what a process means that has released a page, or kept it
+over_means : (es : List Event) (n x k : ℕ) (stage : ReclaimStage) (a : Reclaimed) → reclaim_answer_in stage ≡ Some (answer.Reclaim a) → IsReclaiming es n x k stage → MeansReclaimed es n x a
+over_means es n x k reclaim.Seeing a e is = absurd cc
+over_means es n x k (reclaim.Looking r) a e is = absurd cc
+over_means es n x k reclaim.Releasing a e is = absurd cc
+over_means es n x k (reclaim.Over what) a e is = (let f : Some (answer.Reclaim what) ≡ Some (answer.Reclaim a) = e in let g : what ≡ a = cc in subst (MeansReclaimed es n x) g is)
 
 -- two operations of one process are one
 same_said : (w : ModelWorld Run) (q : Name) (said : Option Said) (i : ℕ) (s : Said) → IsGood know w → HasSaid w.trail q said → SaysAt w.trail i q s → said ≡ Some s
@@ -63,8 +64,8 @@ same_said w q (Some t) i s g has says =
 
 module _ (v : View) (h : Has v) where
   -- what a process that was started knows, by its state
-  sure_of : (n : ℕ) (p : Proc) → slice_get v.processes n ≡ Some p → IsSure h.world (name_of (suc n)) (know_of (h.world.proc (name_of (suc n))).got (h.world.proc (name_of (suc n))).child p)
-  sure_of n p stood = subst (λ z. IsSure h.world (name_of (suc n)) (know_of (h.world.proc (name_of (suc n))).got (h.world.proc (name_of (suc n))).child z)) (h.runs n p stood) ((bare_good h.world h.good).sure (name_of (suc n)))
+  sure_of : (n : ℕ) (p : Proc) → slice_get v.processes n ≡ Some p → IsSure h.world (name_of (suc n)) (know_of (h.world.proc (name_of (suc n))).got (h.world.proc (name_of (suc n))).child (h.world.proc (name_of (suc n))).time p)
+  sure_of n p stood = subst (λ z. IsSure h.world (name_of (suc n)) (know_of (h.world.proc (name_of (suc n))).got (h.world.proc (name_of (suc n))).child (h.world.proc (name_of (suc n))).time z)) (h.runs n p stood) ((bare_good h.world h.good).sure (name_of (suc n)))
 
   own : (i : ℕ) (q : Name) (said : Said) → SaysAt h.world.trail i q said → IsOwn v q said
   own i q said says = elim (named (length v.processes) q) [
@@ -73,8 +74,8 @@ module _ (v : View) (h : Has v) where
         let p = stands v.processes n known.1 in
         let r = h.world.proc (name_of (suc n)) in
         let here : SaysAt h.world.trail i (name_of (suc n)) said = rw known.2 at says in
-        let is = same_said h.world (name_of (suc n)) (know_of r.got r.child p.0).said i said h.good (sure_of n p.0 p.1).said here in
-        record { place = n; process = p.0; name = known.2 ∙ ap name_of (sym (one_more n)); stood = p.1; op = said_op r.got r.child p.0 said is }
+        let is = same_said h.world (name_of (suc n)) (know_of r.got r.child r.time p.0).said i said h.good (sure_of n p.0 p.1).said here in
+        record { place = n; process = p.0; name = known.2 ∙ ap name_of (sym (one_more n)); stood = p.1; op = said_op r.got r.child r.time p.0 said is }
     | inr far ↦
         let none : (know (h.world.proc q)).said ≡ None = (h.others q far).1.said in
         let is = same_said h.world q (know (h.world.proc q)).said i said h.good (h.good.sure q).said says in
@@ -84,14 +85,14 @@ module _ (v : View) (h : Has v) where
   answers : (n : ℕ) (p : Proc) (reply : _) (hint : Option Hint) → slice_get v.processes n ≡ Some p → answer_of p ≡ Some (answer.Op reply hint) → Answers h.world.trail (name_of (n + 1)) (op_of p) reply
   answers n p reply hint stood e =
       let r = h.world.proc (name_of (suc n)) in
-      let a = answered_said r.got r.child p reply hint e in
+      let a = answered_said r.got r.child r.time p reply hint e in
       let has : HasSaid h.world.trail (name_of (suc n)) (Some a.it) = subst (HasSaid h.world.trail (name_of (suc n))) a.is (sure_of n p stood).said in
-      rw (one_more n) (record { place = has.0; said = a.it; says = has.1; op = said_op r.got r.child p a.it a.is; reply = a.reply_is })
+      rw (one_more n) (record { place = has.0; said = a.it; says = has.1; op = said_op r.got r.child r.time p a.it a.is; reply = a.reply_is })
 
-  ended : (n : ℕ) (p : Proc) (a : Answer) → slice_get v.processes n ≡ Some p → answer_of p ≡ Some a → (i : ℕ) × ((reply : Option _) × DoesAt h.world.trail i (name_of (n + 1)) (End reply))
-  ended n p a stood e =
+  ended : (n : ℕ) (p : Proc) (a : Answer) → slice_get v.processes n ≡ Some p → HasEnd p → answer_of p ≡ Some a → (i : ℕ) × ((reply : Option _) × DoesAt h.world.trail i (name_of (n + 1)) (End reply))
+  ended n p a stood ends e =
       let r = h.world.proc (name_of (suc n)) in
-      let late : h.world.now.phase (name_of (suc n)) ≡ Ended = subst (λ z. IsStage z (h.world.now.phase (name_of (suc n)))) (answered_late r.got r.child p a e) (sure_of n p stood).stage in
+      let late : h.world.now.phase (name_of (suc n)) ≡ Ended = subst (λ z. IsStage z (h.world.now.phase (name_of (suc n)))) (answered_late r.got r.child r.time p a ends e) (sure_of n p stood).stage in
       let began = h.opening.waiting (name_of (suc n)) in
       rw (one_more n) (ended_in h.world.start h.world.now h.world.trail (name_of (suc n)) (λ f. (let g : Waiting ≡ Ended = sym began ∙ f in cc)) h.good.recorded.leads late)
 
@@ -127,7 +128,9 @@ module _ (v : View) (h : Has v) where
         answers = answers;
         posted = posted;
         hinted = hinted;
-        ended = λ n p a stood e. (let x = ended n p a stood e in (x.0, x.1.0, x.1.1));
+        ended = λ n p a stood ends e. (let x = ended n p a stood ends e in (x.0, x.1.0, x.1.1));
+        reclaimed = λ n p a stood e. rw (one_more n) (over_means v.events (suc n) p.page (w.proc (name_of (suc n))).time p.stage a e (h.reclaiming n p stood));
+        releases = h.releases;
         refused = λ way n p a stood e no. first_refused way.size way.opened v way.deeds n way.opening way.led (record { process = p; stood = stood; refused = answers_refused p a e no });
       }
 

@@ -1,5 +1,5 @@
 -- A process enters a world.
-use Rattle.std.proofs.Common.{ℕ, ◌≡◌, ◌≢◌, ◌^◌, ◌<◌, ◌++◌, suc, List, [], ◌∷◌, length, arith, ap, sym, ◌∙◌, refl, inl, inr, append-nil}
+use Rattle.std.proofs.Common.{ℕ, ◌≡◌, ◌≢◌, ◌⊎◌, ◌^◌, ◌<◌, ◌++◌, suc, List, [], ◌∷◌, length, arith, ap, sym, ◌∙◌, refl, subst, inl, inr, append-nil}
 use Rattle.std.proofs.lemmas.Option.{slice_get_within}
 use Rattle.bl_page.specs.declared.page.Page.{Page}
 use Rattle.bl_page.specs.Machine.{Name}
@@ -25,21 +25,25 @@ use Rattle.bl_proc.specs.declared.deleting.DeleteStage.{DeleteStage}
 use Rattle.bl_proc.specs.declared.deleting.DeleteStage.TheVariants as delete
 use Rattle.bl_proc.specs.declared.posting.PostStage.{PostStage}
 use Rattle.bl_proc.specs.declared.posting.PostStage.TheVariants as post
+use Rattle.bl_proc.specs.declared.reclaiming.Reclaim.{Reclaim}
+use Rattle.bl_proc.specs.declared.reclaiming.ReclaimStage.{ReclaimStage}
+use Rattle.bl_proc.specs.declared.reclaiming.ReclaimStage.TheVariants as reclaim
 use Rattle.bl_proc.specs.declared.kinds.Proc.{Proc}
 use Rattle.bl_proc.specs.declared.kinds.Proc.TheVariants as proc
-use Rattle.bl_proc.specs.Processes.{next_of}
+use Rattle.bl_proc.specs.Processes.{next_of, IsReclaim}
 use Rattle.bl_proc.specs.Searches.{find_next_in}
 use Rattle.bl_proc.specs.Parts.{part_next_in}
 use Rattle.bl_proc.specs.Inserts.{insert_next_in}
 use Rattle.bl_proc.specs.Deletes.{delete_next_in}
 use Rattle.bl_proc.specs.Posts.{post_next_in}
-use Rattle.bl_tables.specs.Knowing.{Run, know_of, know_find, know_part, know_insert, know_delete, know_post}
+use Rattle.bl_proc.specs.Reclaims.{reclaim_next_in}
+use Rattle.bl_tables.specs.Knowing.{Run, know_of, know_find, know_part, know_insert, know_delete, know_post, know_reclaim}
 use Rattle.bl_tables.proofs.Logged.{full_blank}
 use Rattle.bl_tables.proofs.Starting.{with_proc, enters_good}
 use Rattle.bl_world.specs.declared.turns.Event.{Event}
 use Rattle.bl_world.specs.declared.owners.Owner.{Owner}
 use Rattle.bl_world.specs.Views.{name_of}
-use Rattle.bl_world.specs.Worlds.{key_in, IsUnknown, HasWorld}
+use Rattle.bl_world.specs.Worlds.{key_in, IsUnknown, IsReclaiming, HasWorld}
 use Rattle.bl_world.proofs.Stands.{Grows, name_differs}
 use Rattle.bl_world.proofs.Places.{push_cases, push_length}
 
@@ -110,27 +114,52 @@ post_blank l k got child (post.Staying x r) small e = absurd cc
 post_blank l k got child (post.Ending r) small e = absurd cc
 post_blank l k got child (post.Over r) small e = absurd cc
 
-pub blank : (got : ℕ → Page) (child : ℕ) (p : Proc) → key_in p < 2 ^ 64 → next_of p ≡ act.Begin → IsBlank (know_of got child p)
-blank got child (proc.Find p) small e = find_blank p.key p.stage small e
-blank got child (proc.Insert p) small e = insert_blank p.key p.value got p.stage small e
-blank got child (proc.Delete p) small e = delete_blank p.key got p.stage small e
-blank got child (proc.Post p) small e = post_blank p.level p.key got child p.stage small e
-blank got child (proc.Part p) small e = part_blank p.from p.stage small e
+reclaim_begins : {X : Type 0} (page : ℕ) (a : ReclaimStage) → reclaim_next_in page a ≡ act.Begin → X
+reclaim_begins page reclaim.Seeing e = absurd cc
+reclaim_begins page (reclaim.Looking r) e = absurd cc
+reclaim_begins page reclaim.Releasing e = absurd cc
+reclaim_begins page (reclaim.Over what) e = absurd cc
+
+-- it is to begin, or to release a page
+abbrev IsNew : ℕ → Proc → Type 0
+IsNew size p = (next_of p ≡ act.Begin) ⊎ ((x : ℕ) × (x < size) × IsReclaim x p)
+
+reclaim_blank : (time : ℕ) (a : ReclaimStage) → a ≡ reclaim.Seeing → IsBlank (know_reclaim time a)
+reclaim_blank time a e = rw e (record { stage = refl; said = refl; holds = refl; goes = refl; children = refl; passed = refl; sound = tt; log = tt })
+
+pub blank : (size : ℕ) (got : ℕ → Page) (child time : ℕ) (p : Proc) → key_in p < 2 ^ 64 → IsNew size p → IsBlank (know_of got child time p)
+blank size got child time (proc.Find p) small (inl e) = find_blank p.key p.stage small e
+blank size got child time (proc.Insert p) small (inl e) = insert_blank p.key p.value got p.stage small e
+blank size got child time (proc.Delete p) small (inl e) = delete_blank p.key got p.stage small e
+blank size got child time (proc.Post p) small (inl e) = post_blank p.level p.key got child p.stage small e
+blank size got child time (proc.Part p) small (inl e) = part_blank p.from p.stage small e
+blank size got child time (proc.Reclaim p) small (inl e) = reclaim_begins p.page p.stage e
+blank size got child time (proc.Find p) small (inr r) = absurd r.2
+blank size got child time (proc.Insert p) small (inr r) = absurd r.2
+blank size got child time (proc.Delete p) small (inr r) = absurd r.2
+blank size got child time (proc.Post p) small (inr r) = absurd r.2
+blank size got child time (proc.Part p) small (inr r) = absurd r.2
+blank size got child time (proc.Reclaim p) small (inr r) = reclaim_blank time p.stage r.2.1
+
+-- a process that is to release a page is to look at the owner of a page of the world
+new_reclaim : (size : ℕ) (q : Reclaim) → IsNew size (proc.Reclaim q) → (q.page < size) × (q.stage ≡ reclaim.Seeing)
+new_reclaim size q (inl e) = reclaim_begins q.page q.stage e
+new_reclaim size q (inr r) = (let same = r.2.0 in omega (arith, same, r.1), r.2.1)
 
 -- It stands after all others.
-pub enters : (pages : List Page) (owners : List Owner) (processes : List Proc) (events : List Event) (p : Proc) → key_in p < 2 ^ 64 → next_of p ≡ act.Begin → (h : HasWorld pages owners processes events) → Grows h pages owners (processes ++ p ∷ []) events
+pub enters : (pages : List Page) (owners : List Owner) (processes : List Proc) (events : List Event) (p : Proc) → key_in p < 2 ^ 64 → IsNew (length pages) p → (h : HasWorld pages owners processes events) → Grows h pages owners (processes ++ p ∷ []) events
 enters pages owners processes events p small next h =
     let n = length processes in
     let name : Name = name_of (suc n) in
     let old = h.world in
-    let b : Run = record { state = p; got = (old.proc name).got; child = 0 } in
+    let b : Run = record { state = p; got = (old.proc name).got; child = 0; time = 0 } in
     let unknown : IsUnknown n name = λ i l. name_differs n i (λ e. omega (arith, e, l)) in
     let free = h.others name unknown in
     let put = is_put_name name b old.proc in
     let more : length (processes ++ p ∷ []) ≡ suc n = push_length processes p in (
       record {
         world = with_proc old name b;
-        good = enters_good old name b h.good free.0 free.1 (full_blank b (blank b.got 0 p small next));
+        good = enters_good old name b h.good free.0 free.1 (full_blank b (blank (length pages) b.got 0 0 p small next));
         opening = h.opening;
         first = h.first;
         size = h.size;
@@ -148,6 +177,16 @@ enters pages owners processes events p small next h =
         shown = h.shown;
         numbered = h.numbered;
         moments = h.moments;
+        times = record { clock = h.times.clock; retired = h.times.retired; only = h.times.only; began = h.times.began; going = h.times.going };
+        inside = λ i q is. elim (push_cases processes p i _ is) [
+          | inl e ↦ h.inside i q e
+          | inr e ↦ (new_reclaim (length pages) q (subst (IsNew (length pages)) (sym e.1) next)).0
+        ];
+        reclaiming = λ i q is. elim (push_cases processes p i _ is) [
+          | inl e ↦ subst (λ (r : Run). IsReclaiming events (suc i) q.page r.time q.stage) (sym (put.others (name_of (suc i)) (name_differs i n (λ f. (let l = slice_get_within processes i _ e in omega (arith, f, l)))))) (h.reclaiming i q e)
+          | inr e ↦ rw (new_reclaim (length pages) q (subst (IsNew (length pages)) (sym e.1) next)).1 tt
+        ];
+        releases = h.releases;
       },
       ([], sym (append-nil old.trail)),
     )

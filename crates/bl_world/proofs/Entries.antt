@@ -28,6 +28,8 @@ use Rattle.bl_proc.specs.declared.deleting.DeleteReply.TheVariants as deleted
 use Rattle.bl_proc.specs.declared.posting.PostStage.{PostStage}
 use Rattle.bl_proc.specs.declared.posting.PostStage.TheVariants as post
 use Rattle.bl_proc.specs.declared.posting.PostReply.TheVariants as listed
+use Rattle.bl_proc.specs.declared.reclaiming.ReclaimStage.{ReclaimStage}
+use Rattle.bl_proc.specs.declared.reclaiming.ReclaimStage.TheVariants as reclaim
 use Rattle.bl_proc.specs.declared.kinds.Proc.{Proc}
 use Rattle.bl_proc.specs.declared.kinds.Proc.TheVariants as proc
 use Rattle.bl_proc.specs.Processes.{answer_of}
@@ -36,9 +38,10 @@ use Rattle.bl_proc.specs.Parts.{part_answer_in}
 use Rattle.bl_proc.specs.Inserts.{insert_answer_in}
 use Rattle.bl_proc.specs.Deletes.{delete_answer_in}
 use Rattle.bl_proc.specs.Posts.{post_answer_in}
+use Rattle.bl_proc.specs.Reclaims.{reclaim_answer_in}
 use Rattle.bl_tables.specs.Tables.{Aim, know_approach, know_change}
-use Rattle.bl_tables.specs.Knowing.{know_of, know_find, know_part, know_insert, know_delete, know_post, know_growth, insert_aim, delete_aim, post_aim}
-use Rattle.bl_world.specs.Accounts.{op_of}
+use Rattle.bl_tables.specs.Knowing.{know_of, know_find, know_part, know_insert, know_delete, know_post, know_reclaim, know_growth, insert_aim, delete_aim, post_aim}
+use Rattle.bl_world.specs.Accounts.{op_of, HasEnd}
 
 none_said : {X : Type 0} (s : Said) → None ≡ Some s → X
 none_said s e = absurd (let f : None ≡ Some s = e in cc)
@@ -114,12 +117,19 @@ post_none l k got child (post.Staying x r) s e = none_said s e
 post_none l k got child (post.Ending r) s e = none_said s e
 post_none l k got child (post.Over r) s e = none_said s e
 
-pub said_op : (got : ℕ → Page) (child : ℕ) (p : Proc) (s : Said) → (know_of got child p).said ≡ Some s → op_of p ≡ Some s.op
-said_op got child (proc.Find p) s e = find_op p.key p.stage s e
-said_op got child (proc.Insert p) s e = insert_op p.key p.value got p.stage s e
-said_op got child (proc.Delete p) s e = delete_op p.key got p.stage s e
-said_op got child (proc.Post p) s e = post_none p.level p.key got child p.stage s e
-said_op got child (proc.Part p) s e = part_op p.from p.stage s e
+reclaim_none : {X : Type 0} (time : ℕ) (a : ReclaimStage) (s : Said) → (know_reclaim time a).said ≡ Some s → X
+reclaim_none time reclaim.Seeing s e = none_said s e
+reclaim_none time (reclaim.Looking r) s e = none_said s e
+reclaim_none time reclaim.Releasing s e = none_said s e
+reclaim_none time (reclaim.Over what) s e = none_said s e
+
+pub said_op : (got : ℕ → Page) (child time : ℕ) (p : Proc) (s : Said) → (know_of got child time p).said ≡ Some s → op_of p ≡ Some s.op
+said_op got child time (proc.Find p) s e = find_op p.key p.stage s e
+said_op got child time (proc.Insert p) s e = insert_op p.key p.value got p.stage s e
+said_op got child time (proc.Delete p) s e = delete_op p.key got p.stage s e
+said_op got child time (proc.Post p) s e = post_none p.level p.key got child p.stage s e
+said_op got child time (proc.Part p) s e = part_op p.from p.stage s e
+said_op got child time (proc.Reclaim p) s e = reclaim_none time p.stage s e
 
 -- What it answers
 
@@ -129,6 +139,7 @@ none_answer a e = absurd (let f : None ≡ Some a = e in cc)
 abbrev reply_in : Answer → Option Reply
 reply_in (answer.Op reply hint) = Some reply
 reply_in (answer.Post posted hint) = None
+reply_in (answer.Reclaim what) = None
 
 same_reply : (a b : Reply) (hint other : Option Hint) → Some (answer.Op a hint) ≡ Some (answer.Op b other) → a ≡ b
 same_reply a b hint other e =
@@ -194,12 +205,19 @@ post_answered l (post.Over listed.Stale) reply hint e = no_post _ _ _ _ e
 post_answered l (post.Over listed.NoRoom) reply hint e = no_post _ _ _ _ e
 post_answered l (post.Over listed.TooTall) reply hint e = no_post _ _ _ _ e
 
-pub answered_said : (got : ℕ → Page) (child : ℕ) (p : Proc) (reply : Reply) (hint : Option Hint) → answer_of p ≡ Some (answer.Op reply hint) → HasAnswered (know_of got child p).said reply
-answered_said got child (proc.Find p) reply hint e = find_answered p.key p.stage reply hint e
-answered_said got child (proc.Insert p) reply hint e = insert_answered p.key p.value got p.stage reply hint e
-answered_said got child (proc.Delete p) reply hint e = delete_answered p.key got p.stage reply hint e
-answered_said got child (proc.Post p) reply hint e = post_answered p.level p.stage reply hint e
-answered_said got child (proc.Part p) reply hint e = part_answered p.from p.stage reply hint e
+reclaim_answered : {X : Type 0} (a : ReclaimStage) (reply : Reply) (hint : Option Hint) → reclaim_answer_in a ≡ Some (answer.Op reply hint) → X
+reclaim_answered reclaim.Seeing reply hint e = none_answer _ e
+reclaim_answered (reclaim.Looking r) reply hint e = none_answer _ e
+reclaim_answered reclaim.Releasing reply hint e = none_answer _ e
+reclaim_answered (reclaim.Over what) reply hint e = absurd (let f : Some (answer.Reclaim what) ≡ Some (answer.Op reply hint) = e in cc)
+
+pub answered_said : (got : ℕ → Page) (child time : ℕ) (p : Proc) (reply : Reply) (hint : Option Hint) → answer_of p ≡ Some (answer.Op reply hint) → HasAnswered (know_of got child time p).said reply
+answered_said got child time (proc.Find p) reply hint e = find_answered p.key p.stage reply hint e
+answered_said got child time (proc.Insert p) reply hint e = insert_answered p.key p.value got p.stage reply hint e
+answered_said got child time (proc.Delete p) reply hint e = delete_answered p.key got p.stage reply hint e
+answered_said got child time (proc.Post p) reply hint e = post_answered p.level p.stage reply hint e
+answered_said got child time (proc.Part p) reply hint e = part_answered p.from p.stage reply hint e
+answered_said got child time (proc.Reclaim p) reply hint e = reclaim_answered p.stage reply hint e
 
 -- It has ended
 
@@ -243,9 +261,10 @@ post_late l k got child (post.Staying x r) b e = none_answer _ e
 post_late l k got child (post.Ending r) b e = none_answer _ e
 post_late l k got child (post.Over r) b e = refl
 
-pub answered_late : (got : ℕ → Page) (child : ℕ) (p : Proc) (b : Answer) → answer_of p ≡ Some b → (know_of got child p).stage ≡ Stage.Late
-answered_late got child (proc.Find p) b e = find_late p.key p.stage b e
-answered_late got child (proc.Insert p) b e = insert_late p.key p.value got p.stage b e
-answered_late got child (proc.Delete p) b e = delete_late p.key got p.stage b e
-answered_late got child (proc.Post p) b e = post_late p.level p.key got child p.stage b e
-answered_late got child (proc.Part p) b e = part_late p.from p.stage b e
+pub answered_late : (got : ℕ → Page) (child time : ℕ) (p : Proc) (b : Answer) → HasEnd p → answer_of p ≡ Some b → (know_of got child time p).stage ≡ Stage.Late
+answered_late got child time (proc.Find p) b ends e = find_late p.key p.stage b e
+answered_late got child time (proc.Insert p) b ends e = insert_late p.key p.value got p.stage b e
+answered_late got child time (proc.Delete p) b ends e = delete_late p.key got p.stage b e
+answered_late got child time (proc.Post p) b ends e = post_late p.level p.key got child p.stage b e
+answered_late got child time (proc.Part p) b ends e = part_late p.from p.stage b e
+answered_late got child time (proc.Reclaim p) b ends e = absurd ends

@@ -7,7 +7,7 @@ use Rattle.bl_proc.specs.Processes.{next_of}
 use Rattle.bl_world.specs.declared.turns.Turn.{Turn}
 use Rattle.bl_world.specs.Views.{View}
 use Rattle.bl_world.specs.Turns.{RunsTo, RunsInto}
-use Rattle.bl_world.specs.Deeds.{Starts, Way}
+use Rattle.bl_world.specs.Deeds.{MayStart, Starts, Way}
 use Rattle.bl_world.specs.Accounts.{Continues}
 use Rattle.bl_world.specs.Worlds.{key_in, IsWorld}
 use Rattle.bl_world.proofs.Keeping.{Has, GrowsTo, runs_grow}
@@ -27,14 +27,14 @@ goes v v' h way grows on = record { world = ∥∥₁_map h (λ h. (grows h).0);
 pub stays : (v v' : View) → IsWorld v → ∥ Way v ∥₁ → v' ≡ v → Goes v v'
 stays v v' h way e = goes v v' h way (λ h. subst (λ z. GrowsTo h z) (sym e) (h, ([], sym (append-nil h.world.trail)))) (λ w. subst Way (sym e) w)
 
-pub starts : (v v' : View) (p : Proc) → key_in p < 2 ^ 64 → next_of p ≡ act.Begin → IsWorld v → ∥ Way v ∥₁ → Starts v p v' → Goes v v'
+pub starts : (v v' : View) (p : Proc) → key_in p < 2 ^ 64 → MayStart v p → IsWorld v → ∥ Way v ∥₁ → Starts v p v' → Goes v v'
 starts v v' p small next h way e = goes v v' h way (λ h. subst (λ z. GrowsTo h z) (sym e) (enters v.pages v.owners v.processes v.events p small next h)) (way_start v v' p next e)
 
 pub runs : (v v' : View) (turns : List Turn) → IsWorld v → ∥ Way v ∥₁ → RunsTo v turns v' → Goes v v'
 runs v v' turns h way r = goes v v' h way (λ h. runs_grow v v' turns h r) (way_run v v' turns r)
 
 -- by what a call answered
-pub started : {A E : Type 0} (r : Result A E) (v v' : View) (p : Proc) → key_in p < 2 ^ 64 → next_of p ≡ act.Begin → IsWorld v → ∥ Way v ∥₁ → OnOk r (Starts v p v') → OnErr r (v' ≡ v) → Goes v v'
+pub started : {A E : Type 0} (r : Result A E) (v v' : View) (p : Proc) → key_in p < 2 ^ 64 → MayStart v p → IsWorld v → ∥ Way v ∥₁ → OnOk r (Starts v p v') → OnErr r (v' ≡ v) → Goes v v'
 started (Ok a) v v' p small next h way ok err = starts v v' p small next h way ok
 started (Err e) v v' p small next h way ok err = stays v v' h way err
 

@@ -1,7 +1,12 @@
 pub mod Places
+pub mod Retired
+pub mod Times
+pub mod Reclaims
+pub mod Looks
 pub mod Moments
 pub mod Stands
 pub mod Arms
+pub mod ReclaimArms
 pub mod Near
 pub mod Outcomes
 pub mod Turned

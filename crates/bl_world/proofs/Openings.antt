@@ -1,11 +1,12 @@
 -- The opening index is a world in which nothing has happened.
 use Rattle.std.proofs.Common.{ℕ, ◌≡◌, ◌<◌, ◌≤◌, zero, suc, Some, None, List, [], ◌∷◌, length, get_or, slice_get, arith, ap, sym, ◌∙◌, refl, inl, inr}
-use Rattle.std.proofs.lemmas.Bool.{cases_lt}
+use Rattle.std.proofs.lemmas.Bool.{cases_eq, cases_lt}
 use Rattle.std.proofs.lemmas.Option.{get_or_from_slice_get}
 use Rattle.bl_page.specs.declared.page.Page.{Page}
 use Rattle.bl_page.specs.declared.page.Page.TheVariants.{Anchor, Leaf, Inner, Dead}
 use Rattle.bl_page.specs.Machine.{State}
-use Rattle.bl_page.specs.Machine.Phase.{Waiting}
+use Rattle.bl_page.specs.Machine.Owner.{Released, Open, Retired}
+use Rattle.bl_page.specs.Machine.Phase.{Waiting, Running}
 use Rattle.bl_laws.specs.Pages.{node_of, roots_of}
 use Rattle.bl_starts.specs.Opening.{Opening}
 use Rattle.bl_starts.specs.Blank.{IsBlank}
@@ -15,7 +16,10 @@ use Rattle.bl_proc.specs.declared.kinds.Proc.{Proc}
 use Rattle.bl_proc.specs.declared.kinds.Proc.TheVariants as proc
 use Rattle.bl_proc.specs.declared.searching.FindStage.TheVariants as find
 use Rattle.bl_tables.specs.Knowing.{Run, know}
+use Rattle.bl_world.specs.declared.turns.Act.{Act}
+use Rattle.bl_world.specs.declared.turns.Event.{Event}
 use Rattle.bl_world.specs.declared.owners.Owner.TheVariants as own
+use Rattle.bl_world.specs.Retirements.{Stands}
 use Rattle.bl_world.specs.Views.{View, owner_of}
 use Rattle.bl_world.specs.Deeds.{IsOpening}
 use Rattle.bl_world.proofs.Keeping.{Has}
@@ -39,10 +43,14 @@ past (y ∷ xs) d (suc x) le = past xs d x (omega (arith, le))
 
 -- nobody was started
 abbrev nobody : Page → Run
-nobody c = record { state = proc.Find (record { key = 0; stage = find.New }); got = λ x. c; child = 0 }
+nobody c = record { state = proc.Find (record { key = 0; stage = find.New }); got = λ x. c; child = 0; time = 0 }
 
 nobody_blank : (c : Page) → IsBlank (know (nobody c))
 nobody_blank c = record { stage = refl; said = refl; holds = refl; goes = refl; children = refl; passed = refl; sound = omega arith; log = tt }
+
+-- where there is no event, none stands
+no_event : (events : List Event) (i number : ℕ) (act : Act) → events ≡ [] → Stands events i number act → ⊥
+no_event events i number act e s = (let f : slice_get {X = Event} [] i ≡ Some (record { process = number; act = act }) = rw e at s in cc)
 
 pub opens : (size : ℕ) (v : View) → 1 < size → IsOpening size v → Has v
 opens size v wide o =
@@ -77,5 +85,21 @@ opens size v wide o =
       others = λ q far. (refl, nobody_blank leaf);
       shown = o.events;
       numbered = λ i m is. absurd (let e : None ≡ Some m = is in cc);
+      times = record {
+        clock = sym (ap length o.events);
+        retired = λ x k r. absurd (elim (cases_eq x 0) [
+          | inl i ↦ (let e : Open ≡ Retired k = sym opening.anchor_open ∙ (ap now.owner (sym i) ∙ r) in cc)
+          | inr i ↦ elim (cases_eq x 1) [
+            | inl j ↦ (let e : Open ≡ Retired k = sym opening.leaf_open ∙ (ap now.owner (sym j) ∙ r) in cc)
+            | inr j ↦ (let e : Released ≡ Retired k = sym (opening.others x i j) ∙ r in cc)
+          ]
+        ]);
+        only = λ x k r. absurd (no_event v.events k r.by _ o.events r.retires);
+        began = λ number since r. absurd (let e : Waiting ≡ Running since = r in cc);
+        going = λ number ne j s. no_event v.events j number _ o.events s;
+      };
+      inside = λ n p is. absurd (let e : slice_get {X = Proc} [] n ≡ Some (proc.Reclaim p) = rw o.processes at is in cc);
+      reclaiming = λ n p is. absurd (let e : slice_get {X = Proc} [] n ≡ Some (proc.Reclaim p) = rw o.processes at is in cc);
+      releases = λ i number x s. absurd (no_event v.events i number _ o.events s);
       moments = moments_first now (world_moment (opening_world now size (λ p. nobody leaf)) good refl);
     }

@@ -101,6 +101,7 @@ IsRefused (proc.Insert p) = InsertRefused p.stage
 IsRefused (proc.Delete p) = DeleteRefused p.stage
 IsRefused (proc.Post p) = PostRefused p.stage
 IsRefused (proc.Part p) = ⊥
+IsRefused (proc.Reclaim p) = ⊥
 
 -- A change, and a growth
 

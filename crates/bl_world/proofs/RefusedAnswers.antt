@@ -21,14 +21,17 @@ use Rattle.bl_proc.specs.declared.deleting.DeleteReply.TheVariants as deleted
 use Rattle.bl_proc.specs.declared.posting.PostStage.{PostStage}
 use Rattle.bl_proc.specs.declared.posting.PostStage.TheVariants as post
 use Rattle.bl_proc.specs.declared.posting.PostReply.TheVariants as listed
+use Rattle.bl_proc.specs.declared.reclaiming.ReclaimStage.{ReclaimStage}
+use Rattle.bl_proc.specs.declared.reclaiming.ReclaimStage.TheVariants as reclaim
 use Rattle.bl_proc.specs.declared.kinds.Proc.{Proc}
 use Rattle.bl_proc.specs.declared.kinds.Proc.TheVariants as proc
-use Rattle.bl_proc.specs.Processes.{next_of, answer_of}
+use Rattle.bl_proc.specs.Processes.{next_of, answer_of, IsReclaim}
 use Rattle.bl_proc.specs.Searches.{find_answer_in}
 use Rattle.bl_proc.specs.Parts.{part_answer_in}
 use Rattle.bl_proc.specs.Inserts.{insert_next_in, insert_answer_in}
 use Rattle.bl_proc.specs.Deletes.{delete_next_in, delete_answer_in}
 use Rattle.bl_proc.specs.Posts.{post_next_in, post_answer_in}
+use Rattle.bl_proc.specs.Reclaims.{reclaim_answer_in}
 use Rattle.bl_world.specs.Deeds.{IsNoRoom}
 use Rattle.bl_world.proofs.Refusals.{InsertRefused, DeleteRefused, PostRefused, IsRefused}
 
@@ -89,12 +92,19 @@ post_answers level (post.Over listed.Stale) b e r = no_room _ b e r
 post_answers level (post.Over listed.NoRoom) b e r = tt
 post_answers level (post.Over listed.TooTall) b e r = no_room _ b e r
 
+reclaim_answers : (a : ReclaimStage) (b : Answer) → reclaim_answer_in a ≡ Some b → IsNoRoom b → ⊥
+reclaim_answers reclaim.Seeing b e r = none_answer b e
+reclaim_answers (reclaim.Looking q) b e r = none_answer b e
+reclaim_answers reclaim.Releasing b e r = none_answer b e
+reclaim_answers (reclaim.Over q) b e r = no_room _ b e r
+
 pub answers_refused : (p : Proc) (a : Answer) → answer_of p ≡ Some a → IsNoRoom a → IsRefused p
 answers_refused (proc.Find p) a e r = find_answers p.stage a e r
 answers_refused (proc.Insert p) a e r = insert_answers p.stage a e r
 answers_refused (proc.Delete p) a e r = delete_answers p.stage a e r
 answers_refused (proc.Post p) a e r = post_answers p.level p.stage a e r
 answers_refused (proc.Part p) a e r = part_answers p.stage a e r
+answers_refused (proc.Reclaim p) a e r = reclaim_answers p.stage a e r
 
 -- A process that is to begin was not refused.
 
@@ -148,3 +158,13 @@ begins_free (proc.Insert p) e r = insert_free p.stage e r
 begins_free (proc.Delete p) e r = delete_free p.stage e r
 begins_free (proc.Post p) e r = post_free p.stage e r
 begins_free (proc.Part p) e r = r
+begins_free (proc.Reclaim p) e r = r
+
+-- Nor is one that is to release a page.
+pub reclaim_free : (x : ℕ) (p : Proc) → IsReclaim x p → IsRefused p → ⊥
+reclaim_free x (proc.Reclaim p) e r = r
+reclaim_free x (proc.Find p) e r = e
+reclaim_free x (proc.Insert p) e r = e
+reclaim_free x (proc.Delete p) e r = e
+reclaim_free x (proc.Post p) e r = e
+reclaim_free x (proc.Part p) e r = e

@@ -11,6 +11,7 @@ use Rattle.bl_ways.specs.declared.growing.Growth.TheVariants as growth
 use Rattle.bl_proc.specs.declared.inserting.InsertStage.{InsertStage}
 use Rattle.bl_proc.specs.declared.inserting.InsertStage.TheVariants as insert
 use Rattle.bl_proc.specs.declared.inserting.InsertReply.TheVariants as inserted
+use Rattle.bl_proc.specs.declared.deleting.Removed.{Removed}
 use Rattle.bl_proc.specs.declared.deleting.DeleteStage.{DeleteStage}
 use Rattle.bl_proc.specs.declared.deleting.DeleteStage.TheVariants as delete
 use Rattle.bl_proc.specs.declared.deleting.DeleteReply.TheVariants as deleted
@@ -111,7 +112,7 @@ insert_refused key value (insert.Over r0) what (insert.Changing d1) h r = absurd
 insert_refused key value (insert.Over r0) what (insert.Ending inserted.NoRoom) h r = absurd h
 insert_refused key value (insert.Over r0) what (insert.Over inserted.NoRoom) h r = absurd h
 
-delete_outcome : (v : ℕ) (o : Outcome) → deleted.NoRoom ≡ delete_reply v o → OutcomeRefused o
+delete_outcome : (v : Removed) (o : Outcome) → deleted.NoRoom ≡ delete_reply v o → OutcomeRefused o
 delete_outcome v outcome.Changed e = absurd cc
 delete_outcome v (outcome.Parted k) e = absurd cc
 delete_outcome v outcome.Refused e = tt
@@ -482,6 +483,17 @@ takes_refused (proc.Part p) what (proc.Find q) t r = absurd r
 takes_refused (proc.Part p) what (proc.Insert q) t r = absurd t
 takes_refused (proc.Part p) what (proc.Delete q) t r = absurd t
 takes_refused (proc.Part p) what (proc.Post q) t r = absurd t
+takes_refused (proc.Find p) what (proc.Reclaim q) t r = absurd r
+takes_refused (proc.Insert p) what (proc.Reclaim q) t r = absurd r
+takes_refused (proc.Delete p) what (proc.Reclaim q) t r = absurd r
+takes_refused (proc.Post p) what (proc.Reclaim q) t r = absurd r
+takes_refused (proc.Part p) what (proc.Reclaim q) t r = absurd r
+takes_refused (proc.Reclaim p) what (proc.Reclaim q) t r = absurd r
+takes_refused (proc.Reclaim p) what (proc.Find q) t r = absurd r
+takes_refused (proc.Reclaim p) what (proc.Part q) t r = absurd r
+takes_refused (proc.Reclaim p) what (proc.Insert q) t r = absurd t
+takes_refused (proc.Reclaim p) what (proc.Delete q) t r = absurd t
+takes_refused (proc.Reclaim p) what (proc.Post q) t r = absurd t
 takes_refused (proc.Find p) what (proc.Insert q) t r = absurd t
 takes_refused (proc.Find p) what (proc.Delete q) t r = absurd t
 takes_refused (proc.Find p) what (proc.Post q) t r = absurd t

@@ -85,3 +85,4 @@ reserves (proc.Insert p) h = insert_reserves p.stage h
 reserves (proc.Delete p) h = delete_reserves p.stage h
 reserves (proc.Post p) h = post_reserves p.stage h
 reserves (proc.Part p) h = absurd (false≢true h)
+reserves (proc.Reclaim p) h = absurd (false≢true h)

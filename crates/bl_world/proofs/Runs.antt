@@ -32,14 +32,40 @@ module _ (v v' : View) (n : ℕ) (p : Proc) where
   carried_count (act.Open x) c = told_count c.1
   carried_count act.Take c = absurd c
   carried_count (act.Retire x) c = absurd c
-  carried_count (act.Look q) c = absurd c
-  carried_count (act.See x) c = absurd c
-  carried_count (act.Release x) c = absurd c
+  carried_count (act.Look q) c = told_count c.7
+  carried_count (act.See x) c = told_count c.3
+  carried_count (act.Release x) c = elim c [ inl l ↦ told_count l.2 | inr m ↦ told_count m.2 ]
 
   at_count : (t : Turn) → TurnsAt v n p t v' → length v'.processes ≡ length v.processes
   at_count (turn.Step number) d = elim d [ inl l ↦ carried_count (next_of p) l.1 | inr i ↦ idle_count i.1 ]
   at_count (turn.Take number x) d = elim d [ inl l ↦ told_count l.3 | inr i ↦ idle_count i.1 ]
   at_count (turn.Refuse number) d = elim d [ inl l ↦ told_count l.2 | inr i ↦ idle_count i.1 ]
+
+-- no turn makes or ends a page
+module _ (v v' : View) (n : ℕ) (p : Proc) where
+  carried_size : (action : Action) → Carries v n p action v' → length v'.pages ≡ length v.pages
+  carried_size act.Begin c = ap length c.0.0
+  carried_size act.End c = ap length c.0.0
+  carried_size (act.Get x) c = ap length c.2.0
+  carried_size (act.Put x d) c = ap length c.0.0 ∙ length-set v.pages x d
+  carried_size (act.Latch x) c = elim c [ inl l ↦ ap length l.1.0 | inr m ↦ ap length m.1.0 ]
+  carried_size (act.Open x) c = ap length c.0.0
+  carried_size act.Take c = absurd c
+  carried_size (act.Retire x) c = absurd c
+  carried_size (act.Look q) c = ap length c.6.0
+  carried_size (act.See x) c = ap length c.2.0
+  carried_size (act.Release x) c = elim c [ inl l ↦ ap length l.1.0 | inr m ↦ ap length m.1.0 ]
+
+  idle_size : Idles v n v' → length v'.pages ≡ length v.pages
+  idle_size e = ap (λ z. length z.pages) e
+
+  at_size : (t : Turn) → TurnsAt v n p t v' → length v'.pages ≡ length v.pages
+  at_size (turn.Step number) d = elim d [ inl l ↦ carried_size (next_of p) l.1 | inr i ↦ idle_size i.1 ]
+  at_size (turn.Take number x) d = elim d [ inl l ↦ ap length l.2.0 | inr i ↦ idle_size i.1 ]
+  at_size (turn.Refuse number) d = elim d [ inl l ↦ ap length l.1.0 | inr i ↦ idle_size i.1 ]
+
+pub turn_size : (v v' : View) (t : Turn) → TurnsTo v t v' → length v'.pages ≡ length v.pages
+turn_size v v' t r = at_size v v' r.place r.process t r.does
 
 pub runs_count : (v v' : View) (turns : List Turn) → RunsTo v turns v' → length v'.processes ≡ length v.processes
 runs_count v v' [] e = ap (λ z. length z.processes) e

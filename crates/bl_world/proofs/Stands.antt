@@ -6,14 +6,22 @@ use Rattle.bl_page.specs.declared.page.Page.{Page}
 use Rattle.bl_page.specs.Machine.{Name, State, Act as MachineAct, Changes}
 use Rattle.bl_page.specs.Machine.Act.{Begin, End, Get, Put, Take, Latch, Retire, Look, Release, Miss}
 use Rattle.bl_trails.specs.Trails.{Mark, Trail, events_of}
+use Rattle.bl_proc.specs.declared.reclaiming.Reclaim.{Reclaim}
 use Rattle.bl_proc.specs.declared.kinds.Proc.{Proc}
+use Rattle.bl_proc.specs.declared.kinds.Proc.TheVariants as proc
 use Rattle.bl_tables.specs.Turns.{Turned}
 use Rattle.bl_tables.specs.Knowing.{Run, know}
+use Rattle.bl_world.specs.declared.turns.Act.{Act}
+use Rattle.bl_world.specs.declared.turns.Act.TheVariants as shown
 use Rattle.bl_world.specs.declared.turns.Event.{Event}
 use Rattle.bl_world.specs.declared.owners.Owner.{Owner}
 use Rattle.bl_world.specs.Views.{name_of, owner_of, act_shown, events_shown}
-use Rattle.bl_world.specs.Worlds.{HasWorld}
+use Rattle.bl_world.specs.Retirements.{Stands, IsRetired, HasSeen}
+use Rattle.bl_world.specs.Worlds.{IsReclaiming, HasWorld}
 use Rattle.bl_world.proofs.Places.{push_cases}
+use Rattle.bl_world.proofs.Retired.{push_new}
+use Rattle.bl_world.proofs.Times.{times_on}
+use Rattle.bl_world.proofs.Reclaims.{reclaiming_on, releases_on}
 use Rattle.bl_world.proofs.Moments.{world_moment, moments_on}
 
 -- an event leaves all other processes where they stood
@@ -37,13 +45,23 @@ shown_push (x ∷ trail) m = ap (λ es. record { process = x.event.process.pass;
 pub name_differs : (a b : ℕ) → a ≢ b → name_of (suc a) ≢ name_of (suc b)
 name_differs a b n e = n (let f : suc a ≡ suc b = ap (λ q. q.pass) e in omega arith)
 
+-- the event of one process is not that of another
+own_event : (events : List Event) (n i : ℕ) (act other : Act) → i ≢ n → Stands (events ++ record { process = suc n; act = act } ∷ []) (length events) (suc i) other → ⊥
+own_event events n i act other ne s =
+    let mine : Event = record { process = suc n; act = act } in
+    let its : Event = record { process = suc i; act = other } in
+    let e : Some mine ≡ Some its = sym (push_new events mine) ∙ s in
+    let f : mine ≡ its = cc in
+    let g : suc n ≡ suc i = ap (λ z. z.process) f in
+    ne (omega (arith, g))
+
 -- The lists after one event, and how the trail goes on.
 abbrev pub Grows : {pages : List Page} {owners : List Owner} {processes : List Proc} {events : List Event} → HasWorld pages owners processes events → List Page → List Owner → List Proc → List Event → Type 0
 Grows h pages owners processes events = (after : HasWorld pages owners processes events) × ((more : Trail) × (after.world.trail ≡ h.world.trail ++ more))
 
 -- After one turn of process n the lists are those of the world after it.
-pub turned_lists : (pages pages' : List Page) (owners owners' : List Owner) (processes processes' : List Proc) (events : List Event) (n : ℕ) (a : MachineAct Page Reply) (s : State Page) (b : Run) → (h : HasWorld pages owners processes events) → n < length processes → length pages' ≡ length pages → length owners' ≡ length owners → length processes' ≡ length processes → ((x : ℕ) (c : Page) → slice_get pages' x ≡ Some c → s.contents x ≡ c) → ((x : ℕ) (o : Owner) → slice_get owners' x ≡ Some o → s.owner x ≡ owner_of o) → ((p : Proc) → slice_get processes' n ≡ Some p → b.state ≡ p) → ((i : ℕ) → i ≢ n → slice_get processes' i ≡ slice_get processes i) → Turned know h.world (name_of (suc n)) a s b → Grows h pages' owners' processes' (events ++ record { process = suc n; act = act_shown a } ∷ [])
-turned_lists pages pages' owners owners' processes processes' events n a s b h here count pairs many contents owner new rest t =
+pub turned_lists : (pages pages' : List Page) (owners owners' : List Owner) (processes processes' : List Proc) (events : List Event) (n : ℕ) (a : MachineAct Page Reply) (s : State Page) (b : Run) → (h : HasWorld pages owners processes events) → n < length processes → length pages' ≡ length pages → length owners' ≡ length owners → length processes' ≡ length processes → ((x : ℕ) (c : Page) → slice_get pages' x ≡ Some c → s.contents x ≡ c) → ((x : ℕ) (o : Owner) → slice_get owners' x ≡ Some o → s.owner x ≡ owner_of o) → ((p : Proc) → slice_get processes' n ≡ Some p → b.state ≡ p) → ((i : ℕ) → i ≢ n → slice_get processes' i ≡ slice_get processes i) → s.clock ≡ suc h.world.now.clock → ((q : Reclaim) → slice_get processes' n ≡ Some (proc.Reclaim q) → (q.page < length pages) × IsReclaiming (events ++ record { process = suc n; act = act_shown a } ∷ []) (suc n) q.page b.time q.stage) → ((x : ℕ) → act_shown a ≡ shown.Release x → (k : ℕ) × HasSeen events (suc n) x k (length events) × IsRetired events x k (length events)) → Turned know h.world (name_of (suc n)) a s b → Grows h pages' owners' processes' (events ++ record { process = suc n; act = act_shown a } ∷ [])
+turned_lists pages pages' owners owners' processes processes' events n a s b h here count pairs many contents owner new rest on mine releases t =
     let p = name_of (suc n) in
     let old = h.world in
     let next = t.next in
@@ -71,6 +89,16 @@ turned_lists pages pages' owners owners' processes processes' events n a s b h h
           | inr is_new ↦ ap (λ z. z.event.process.number) is_new.1
         ];
         moments = moments_on old.start next.start old.trail next.trail _ e.start e.trail h.moments (world_moment next t.good (e.first ∙ h.first));
+        times = times_on old next events n a e.steps.enabled e.steps.changes (ap (λ z. z.clock) t.now ∙ on) h.times;
+        inside = λ i q is. elim (cases_eq i n) [
+          | inl eq ↦ rw count (mine q (sym (ap (slice_get processes') eq) ∙ is)).0
+          | inr ne ↦ rw count (h.inside i q (sym (rest i ne) ∙ is))
+        ];
+        reclaiming = λ i q is. elim (cases_eq i n) [
+          | inl eq ↦ rw (eq, e.proc.at) (mine q (sym (ap (slice_get processes') eq) ∙ is)).1
+          | inr ne ↦ rw (e.proc.others (name_of (suc i)) (name_differs i n ne)) (reclaiming_on events _ (suc i) q.page (old.proc (name_of (suc i))).time q.stage (λ s. own_event events n i (act_shown a) (shown.See q.page) ne s) (h.reclaiming i q (sym (rest i ne) ∙ is)))
+        ];
+        releases = releases_on events _ releases h.releases;
       },
       (_ ∷ [], e.trail),
     )

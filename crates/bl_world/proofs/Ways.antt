@@ -13,13 +13,13 @@ use Rattle.bl_world.specs.declared.turns.Turn.{Turn}
 use Rattle.bl_world.specs.declared.turns.Turn.TheVariants as turn
 use Rattle.bl_world.specs.Views.{View, number_in}
 use Rattle.bl_world.specs.Turns.{MayRefuse, Tells, Idles, Carries, TurnsAt, TurnsTo, RunsTo}
-use Rattle.bl_world.specs.Deeds.{IsOpening, Deed, Starts, DoneTo, LeadsTo, turns_in, Way, WasRefused}
+use Rattle.bl_world.specs.Deeds.{IsOpening, Deed, MayStart, Starts, DoneTo, LeadsTo, turns_in, Way, WasRefused}
 use Rattle.bl_world.specs.Deeds.Deed.{Starting, Turning}
 use Rattle.bl_world.proofs.Arms.{set_here, set_other}
 use Rattle.bl_world.proofs.Places.{push_plus, push_cases}
 use Rattle.bl_world.proofs.Refusals.{IsRefused}
 use Rattle.bl_world.proofs.RefusedTurns.{takes_refused}
-use Rattle.bl_world.proofs.RefusedAnswers.{begins_free}
+use Rattle.bl_world.proofs.RefusedAnswers.{begins_free, reclaim_free}
 
 -- Ways go on
 
@@ -27,7 +27,7 @@ pub leads_on : (v mid v' : View) (deeds : List Deed) (d : Deed) → LeadsTo v de
 leads_on v mid v' [] d e done = (v', subst (λ z. DoneTo z d v') e done, refl)
 leads_on v mid v' (s ∷ deeds) d r done = (r.0, r.1, leads_on r.0 mid v' deeds d r.2 done)
 
-pub way_start : (v v' : View) (p : Proc) → next_of p ≡ act.Begin → Starts v p v' → Way v → Way v'
+pub way_start : (v v' : View) (p : Proc) → MayStart v p → Starts v p v' → Way v → Way v'
 way_start v v' p next e w = record { size = w.size; opened = w.opened; opening = w.opening; deeds = w.deeds ++ Starting p ∷ []; led = leads_on w.opened v v' w.deeds (Starting p) w.led (next, e) }
 
 pub way_run : (v v' : View) (turns : List Turn) → RunsTo v turns v' → Way v → Way v'
@@ -55,9 +55,9 @@ module _ (v v' : View) (n : ℕ) (p : Proc) where
   one_carried (act.Open x) c = one_told c.1
   one_carried act.Take c = absurd c
   one_carried (act.Retire x) c = absurd c
-  one_carried (act.Look q) c = absurd c
-  one_carried (act.See x) c = absurd c
-  one_carried (act.Release x) c = absurd c
+  one_carried (act.Look q) c = one_told c.7
+  one_carried (act.See x) c = one_told c.3
+  one_carried (act.Release x) c = elim c [ inl l ↦ one_told l.2 | inr m ↦ one_told m.2 ]
 
   one_event : (t : Turn) → TurnsAt v n p t v' → length v'.events ≡ length v.events + 1
   one_event (turn.Step number) d = elim d [ inl l ↦ one_carried (next_of p) l.1 | inr i ↦ one_idle i.1 ]
@@ -111,9 +111,9 @@ module _ (v v' : View) (n m : ℕ) (p : Proc) (stood : slice_get v.processes n �
   carried_stuck (act.Open x) c = kept_stuck _ (λ e. cc) c.1
   carried_stuck act.Take c = absurd c
   carried_stuck (act.Retire x) c = absurd c
-  carried_stuck (act.Look q) c = absurd c
-  carried_stuck (act.See x) c = absurd c
-  carried_stuck (act.Release x) c = absurd c
+  carried_stuck (act.Look q) c = kept_stuck _ (λ e. cc) c.7
+  carried_stuck (act.See x) c = kept_stuck _ (λ e. cc) c.3
+  carried_stuck (act.Release x) c = elim c [ inl l ↦ kept_stuck _ (λ e. cc) l.2 | inr k ↦ kept_stuck _ (λ e. cc) k.2 ]
 
 -- the process at that place was refused by this turn
 abbrev Refuses : View → Turn → ℕ → Type 0
@@ -155,7 +155,7 @@ after_deed v mid d deeds m done w = record {
 pub was_refused : (v v' : View) (deeds : List Deed) (m : ℕ) → LeadsTo v deeds v' → Stuck v' m → Stuck v m ⊎ WasRefused v deeds m
 was_refused v v' [] m e after = inl (record { process = after.process; stood = ap (λ z. slice_get z.processes m) (sym e) ∙ after.stood; refused = after.refused })
 was_refused v v' (Starting p ∷ deeds) m r after = elim (was_refused r.0 v' deeds m r.2 after) [
-  | inl s ↦ inl (start_stuck v r.0 p m (begins_free p r.1.0) r.1.1 s)
+  | inl s ↦ inl (start_stuck v r.0 p m (elim r.1.0 [ inl e ↦ begins_free p e | inr is ↦ reclaim_free is.0 p is.2 ]) r.1.1 s)
   | inr w ↦ inr (after_deed v r.0 (Starting p) deeds m r.1 w)
 ]
 was_refused v v' (Turning t ∷ deeds) m r after = elim (was_refused r.0 v' deeds m r.2 after) [

@@ -17,12 +17,15 @@ use Rattle.bl_ways.specs.declared.answers.Answer.TheVariants as answer
 use Rattle.bl_ways.specs.declared.answers.Hint.{Hint}
 use Rattle.bl_ways.specs.declared.answers.Posted.{Posted}
 use Rattle.bl_proc.specs.declared.posting.Post.{Post}
+use Rattle.bl_ways.specs.declared.answers.Reclaimed.{Reclaimed}
+use Rattle.bl_proc.specs.declared.reclaiming.Reclaim.{Reclaim}
 use Rattle.bl_proc.specs.declared.kinds.Proc.{Proc}
 use Rattle.bl_proc.specs.declared.kinds.Proc.TheVariants as proc
 use Rattle.bl_proc.specs.Processes.{answer_of}
 use Rattle.bl_tables.specs.Answers.{MeansPosted, MeansHint}
 use Rattle.bl_world.specs.declared.owners.Owner.{Owner}
 use Rattle.bl_world.specs.Views.{View, name_of, owner_of, events_shown}
+use Rattle.bl_world.specs.Retirements.{MeansReclaimed, ReleasesSeen}
 use Rattle.bl_world.specs.Deeds.{Way, turns_in, IsNoRoom, WasRefused}
 
 -- One moment: the marks so far lead from the start, each event enabled in its turn, to pages that have the laws of the tree,
@@ -55,6 +58,12 @@ op_of (proc.Insert p) = Some (op.Insert p.key p.value)
 op_of (proc.Delete p) = Some (op.Delete p.key)
 op_of (proc.Post p) = None
 op_of (proc.Part p) = Some (op.Part p.from)
+op_of (proc.Reclaim p) = None
+
+-- a process that releases a page has neither a begin nor an end
+abbrev pub HasEnd : Proc → Type 0
+HasEnd (proc.Reclaim p) = ⊥
+HasEnd p = Unit {0}
 
 -- The operation of p has its point in the trail, with that reply.
 pub record Answers (trail : Trail) (p : Name) (is : Option Op) (answer : Reply) : Type 0 where
@@ -100,10 +109,13 @@ pub record Account (v : View) : Type 0 where
   -- each entry is the operation of a process that was started; and what a process answered is what its entry says
   pub own : (i : ℕ) (q : Name) (said : Said) → SaysAt trail i q said → IsOwn v q said
   pub answers : (n : ℕ) (p : Proc) (reply : Reply) (hint : Option Hint) → slice_get v.processes n ≡ Some p → answer_of p ≡ Some (answer.Op reply hint) → Answers trail (name_of (n + 1)) (op_of p) reply
-  pub ended : (n : ℕ) (p : Proc) (a : Answer) → slice_get v.processes n ≡ Some p → answer_of p ≡ Some a → (i : ℕ) × (reply : Option Reply) × DoesAt trail i (name_of (n + 1)) (End reply)
+  pub ended : (n : ℕ) (p : Proc) (a : Answer) → slice_get v.processes n ≡ Some p → HasEnd p → answer_of p ≡ Some a → (i : ℕ) × (reply : Option Reply) × DoesAt trail i (name_of (n + 1)) (End reply)
   -- what a post answered means what it says, and so does its hint, by what its process has done
   pub posted : (n : ℕ) (p : Post) (a : Posted) (hint : Option Hint) → slice_get v.processes n ≡ Some (proc.Post p) → answer_of (proc.Post p) ≡ Some (answer.Post a hint) → MeansPosted p.level p.key a (marks_of (name_of (n + 1)) trail)
   pub hinted : (n : ℕ) (p : Post) (a : Posted) (hint : Option Hint) → slice_get v.processes n ≡ Some (proc.Post p) → answer_of (proc.Post p) ≡ Some (answer.Post a hint) → MeansHint p.level p.key a hint (marks_of (name_of (n + 1)) trail)
+  -- so does the answer of a process that was to release a page; and each release is of the retirement that its process saw
+  pub reclaimed : (n : ℕ) (p : Reclaim) (a : Reclaimed) → slice_get v.processes n ≡ Some (proc.Reclaim p) → answer_of (proc.Reclaim p) ≡ Some (answer.Reclaim a) → MeansReclaimed v.events (n + 1) p.page a
+  pub releases : ReleasesSeen v.events
   -- whichever the turns were: a process answers that there was no room only where one of them was a fit refusal of it
   pub refused : (way : Way v) (n : ℕ) (p : Proc) (a : Answer) → slice_get v.processes n ≡ Some p → answer_of p ≡ Some a → IsNoRoom a → WasRefused way.opened way.deeds n
 

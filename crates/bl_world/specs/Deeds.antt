@@ -1,5 +1,5 @@
 -- What the user of a world does with it, and where that leads.
-use Rattle.std.specs.Prelude.{◌≡◌, ℕ, ◌<◌, ◌+◌, ◌++◌, Some, None, List, [], ◌∷◌, length, slice_get}
+use Rattle.std.specs.Prelude.{◌≡◌, ◌⊎◌, ℕ, ◌<◌, ◌+◌, ◌++◌, Some, None, List, [], ◌∷◌, length, slice_get}
 use Rattle.bl_model.specs.declared.operation.Reply.TheVariants as reply
 use Rattle.bl_page.specs.declared.page.Page.{Page}
 use Rattle.bl_tree.specs.Nodes.{unbounded}
@@ -10,7 +10,7 @@ use Rattle.bl_ways.specs.declared.answers.Answer.TheVariants as answer
 use Rattle.bl_ways.specs.declared.answers.Posted.TheVariants as posted
 use Rattle.bl_ways.specs.Growths.{IsAnchor}
 use Rattle.bl_proc.specs.declared.kinds.Proc.{Proc}
-use Rattle.bl_proc.specs.Processes.{next_of}
+use Rattle.bl_proc.specs.Processes.{next_of, IsReclaim}
 use Rattle.bl_world.specs.declared.turns.Turn.{Turn}
 use Rattle.bl_world.specs.declared.turns.Turn.TheVariants as turn
 use Rattle.bl_world.specs.declared.owners.Owner.{Owner}
@@ -43,7 +43,11 @@ pub record IsOpening (size : ℕ) (v : View) : Type 0 where
   pub processes : v.processes ≡ []
   pub events : v.events ≡ []
 
--- It starts a process that is to begin, or gives one a turn.
+-- A process may be started that is to begin, or that is to release a page of the world, and has done nothing yet.
+abbrev pub MayStart : View → Proc → Type 0
+MayStart v p = (next_of p ≡ act.Begin) ⊎ ((x : ℕ) × (x < length v.pages) × IsReclaim x p)
+
+-- It starts such a process, or gives one a turn.
 pub data Deed : Type 0 where
   Starting : Proc → Deed
   Turning : Turn → Deed
@@ -53,7 +57,7 @@ abbrev pub Starts : View → Proc → View → Type 0
 Starts v p v' = v' ≡ record v { processes = v.processes ++ p ∷ [] }
 
 abbrev pub DoneTo : View → Deed → View → Type 0
-DoneTo v (Starting p) v' = (next_of p ≡ act.Begin) × Starts v p v'
+DoneTo v (Starting p) v' = MayStart v p × Starts v p v'
 DoneTo v (Turning t) v' = TurnsTo v t v'
 
 -- deeds in their order

@@ -1,4 +1,5 @@
 pub mod Views
+pub mod Retirements
 pub mod Turns
 pub mod Deeds
 pub mod Accounts

@@ -1,11 +1,12 @@
 -- What a turn does to a world, and what a list of turns does.
-use Rattle.std.specs.Prelude.{◌≡◌, ◌≢◌, ◌⊎◌, ℕ, ◌<◌, ◌≤◌, ◌+◌, ◌++◌, Some, None, IsSome, List, [], ◌∷◌, length, slice_get, slice_set}
+use Rattle.std.specs.Prelude.{◌≡◌, ◌≢◌, ◌⊎◌, ℕ, ◌<◌, ◌≤◌, ◌+◌, ◌++◌, ◌↔◌, Bool, IsTrue, Some, None, IsSome, List, [], ◌∷◌, length, slice_get, slice_set}
 use Rattle.bl_page.specs.declared.page.Page.{Page}
 use Rattle.bl_ways.specs.declared.acts.Action.{Action}
 use Rattle.bl_ways.specs.declared.acts.Action.TheVariants as act
 use Rattle.bl_ways.specs.declared.acts.Seen.{Seen}
 use Rattle.bl_ways.specs.declared.acts.Seen.TheVariants as seen
 use Rattle.bl_proc.specs.declared.kinds.Proc.{Proc}
+use Rattle.bl_proc.specs.declared.kinds.Proc.TheVariants as proc
 use Rattle.bl_proc.specs.Processes.{next_of, needs_of, answer_of, Takes}
 use Rattle.bl_world.specs.declared.turns.Act.{Act}
 use Rattle.bl_world.specs.declared.turns.Act.TheVariants as shown
@@ -13,7 +14,8 @@ use Rattle.bl_world.specs.declared.turns.Turn.{Turn}
 use Rattle.bl_world.specs.declared.turns.Turn.TheVariants as turn
 use Rattle.bl_world.specs.declared.owners.Owner.{Owner}
 use Rattle.bl_world.specs.declared.owners.Owner.TheVariants as own
-use Rattle.bl_world.specs.Views.{View, number_in}
+use Rattle.bl_world.specs.Views.{View, is_retired, number_in}
+use Rattle.bl_world.specs.Retirements.{HasSeen, Blocks}
 
 -- A step is fit where the process has not answered and is not to take a page, and a take where it is to take one.
 abbrev pub MayStep : Proc → Type 0
@@ -52,9 +54,19 @@ pub record Tells (v : View) (n : ℕ) (p : Proc) (act : Act) (what : Seen) (v' :
 abbrev pub Idles : View → ℕ → View → Type 0
 Idles v n v' = v' ≡ record v { events = v.events ++ record { process = n + 1; act = shown.Miss } ∷ [] }
 
--- What the process at place n does by its next action. The event is the one that the action names. Only a latch can be
--- missed: where the page is not open, the event is a miss, which the process is told. (No process of these kinds looks,
--- retires or releases.)
+-- it is to release that page
+abbrev pub IsToRelease : Proc → ℕ → Type 0
+IsToRelease (proc.Reclaim p) x = p.page ≡ x
+IsToRelease p x = ⊥
+
+-- the page is retired as the process at place n has seen it
+abbrev pub MayRelease : View → ℕ → ℕ → Type 0
+MayRelease v n x = (k : ℕ) × HasSeen v.events (n + 1) x k (length v.events) × (slice_get v.owners x ≡ Some (own.Retired k))
+
+-- What the process at place n does by its next action. The event is the one that the action names. Only a latch or a
+-- release can be missed: where the page is not open, or is not retired as the process has seen it, the event is a miss,
+-- which the process is told. A look tells whether that other process blocks what the process has seen retired. (No process
+-- of these kinds retires.)
 abbrev pub Carries : View → ℕ → Proc → Action → View → Type 0
 Carries v n p act.Begin v' = Stays v v' × Tells v n p shown.Begin seen.Done v'
 Carries v n p act.End v' = Stays v v' × Tells v n p shown.End seen.Done v'
@@ -64,9 +76,9 @@ Carries v n p (act.Latch x) v' = ((slice_get v.owners x ≡ Some own.Open) × Ow
 Carries v n p (act.Open x) v' = Owns v x own.Open v' × Tells v n p (shown.Open x) seen.Done v'
 Carries v n p act.Take v' = ⊥
 Carries v n p (act.Retire x) v' = ⊥
-Carries v n p (act.Look q) v' = ⊥
-Carries v n p (act.See x) v' = ⊥
-Carries v n p (act.Release x) v' = ⊥
+Carries v n p (act.Look q) v' = (x : ℕ) × (k : ℕ) × (blocks : Bool) × IsToRelease p x × HasSeen v.events (n + 1) x k (length v.events) × (IsTrue blocks ↔ Blocks v.events q k (length v.events)) × Stays v v' × Tells v n p (shown.Look q) (seen.Blocks blocks) v'
+Carries v n p (act.See x) v' = (o : Owner) × (slice_get v.owners x ≡ Some o) × Stays v v' × Tells v n p (shown.See x) (seen.Owner (is_retired o) (length v.processes) (n + 1)) v'
+Carries v n p (act.Release x) v' = (MayRelease v n x × Owns v x own.Released v' × Tells v n p (shown.Release x) seen.Done v') ⊎ ((¬ MayRelease v n x) × Stays v v' × Tells v n p shown.Miss seen.Missed v')
 
 -- The three kinds of turn of the process at place n, which is p.
 abbrev pub StepsTo : View → ℕ → Proc → View → Type 0

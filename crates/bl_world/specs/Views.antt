@@ -1,5 +1,5 @@
 -- What stands in a world at one moment, and what it is in the terms of the page machine.
-use Rattle.std.specs.Prelude.{ℕ, List, [], ◌∷◌}
+use Rattle.std.specs.Prelude.{ℕ, Bool, true, false, List, [], ◌∷◌}
 use Rattle.bl_model.specs.declared.operation.Reply.{Reply}
 use Rattle.bl_page.specs.declared.page.Page.{Page}
 use Rattle.bl_page.specs.Machine.{Name, Event as MachineEvent, Act as MachineAct, Owner as MachineOwner}
@@ -34,6 +34,13 @@ abbrev pub owner_of : Owner → MachineOwner
 owner_of own.Released = MachineOwner.Released
 owner_of own.Open = MachineOwner.Open
 owner_of (own.Held number) = MachineOwner.Held (name_of number)
+owner_of (own.Retired place) = MachineOwner.Retired place
+
+abbrev pub is_retired : Owner → Bool
+is_retired own.Released = false
+is_retired own.Open = false
+is_retired (own.Held number) = false
+is_retired (own.Retired place) = true
 
 -- what is shown of an event
 abbrev pub act_shown : MachineAct Page Reply → Act

@@ -1,18 +1,20 @@
 //! Turns on what stands in a world.
 
-ghost use Rattle.std.specs.Prelude.{◌≡◌, ◌<◌, ◌≤◌, ◌++◌, ◌∷◌, ◌+◌, ◌^◌, [], length, Some, None, slice_get, slice_set, OnOk, OnErr, IsTrue, ◌↔◌};
+ghost use Rattle.std.specs.Prelude.{ℕ, ◌≡◌, ◌<◌, ◌≤◌, ◌++◌, ◌∷◌, ◌+◌, ◌^◌, [], length, Some, None, slice_get, slice_set, OnOk, OnErr, IsTrue, ◌↔◌};
 ghost use Rattle.std.specs.Bool.{OnTrue, OnFalse};
 ghost use Rattle.bl_world.specs.declared.owners.Owner.TheVariants as own;
 ghost use Rattle.bl_proc.specs.declared.kinds.Proc.{Proc};
 ghost use Rattle.bl_ways.specs.declared.acts.Action.TheVariants as act;
 ghost use Rattle.bl_ways.specs.Given.{Gives};
 ghost use Rattle.bl_proc.specs.Processes.{next_of, needs_of, answer_of, Takes};
-ghost use Rattle.bl_world.specs.Views.{view_of, number_in};
-ghost use Rattle.bl_world.specs.Turns.{IsFree, Stays, Puts, Owns, Tells, Idles, Carries, StepsTo, TakesTo, RefusesTo, TurnsTo, RunsTo, RunsInto, IsStarted, AllStarted, HasUnknown};
+ghost use Rattle.bl_world.specs.Views.{view_of, number_in, is_retired as is_retired_owner};
+ghost use Rattle.bl_world.specs.Retirements.{HasSeen};
+ghost use Rattle.bl_world.specs.Turns.{IsFree, Stays, Puts, Owns, Tells, Idles, Carries, IsToRelease, MayRelease, StepsTo, TakesTo, RefusesTo, TurnsTo, RunsTo, RunsInto, IsStarted, AllStarted, HasUnknown};
 ghost use Rattle.bl_world.specs.Deeds.{Starts};
 ghost use Rattle.bl_world.specs.Worlds.{IsWorld};
 
 use crate::lists::Lists;
+use crate::looking::{is_blocking, retirement_seen};
 use crate::owners::Owner;
 use crate::turns::{Act, Event, Turn};
 use bl_page::Page;
@@ -115,7 +117,9 @@ impl Lists {
                 Act::Latch(at),
                 Seen::Done,
             ),
-            Owner::Released | Owner::Held(_) => self.told(index, Act::Miss, Seen::Missed),
+            Owner::Released | Owner::Held(_) | Owner::Retired(_) => {
+                self.told(index, Act::Miss, Seen::Missed)
+            }
         }
     }
 
@@ -142,6 +146,84 @@ impl Lists {
         self.own(index, at, Owner::Open, Act::Open(at), Seen::Done)
     }
 
+    /// The process looks at the owner of a page.
+    fn see(&mut self, index: usize, at: u32) -> Result<(), AllocError>
+        requires world { IsWorld (view_of self.old) }
+        requires started { index < length self.old.processes.items }
+        requires next { (p : Proc) → slice_get self.old.processes.items index ≡ Some p → (answer_of p ≡ None) × (next_of p ≡ act.See at) }
+        ensures ok { OnOk result ((p : Proc) → slice_get self.old.processes.items index ≡ Some p → Carries (view_of self.old) index p (act.See at) (view_of self.new)) }
+        ensures err { OnErr result (view_of self.new ≡ view_of self.old) }
+    {
+        let retired = is_retired(self.owners[at as usize]);
+        let started = self.processes.len();
+        self.told(
+            index,
+            Act::See(at),
+            Seen::Owner {
+                retired,
+                started,
+                own: index + 1,
+            },
+        )
+    }
+
+    /// Since which event the process at that place has seen its page retired, if it is to release one.
+    fn retired_for(&self, index: usize) -> Option<usize>
+        requires { index < length self.now.processes.items }
+        ensures some { (p : Proc) (k : ℕ) → slice_get self.now.processes.items index ≡ Some p → result ≡ Some k → (x : ℕ) × IsToRelease p x × HasSeen self.now.events.items (index + 1) x k (length self.now.events.items) }
+        ensures none { (p : Proc) (x k : ℕ) → slice_get self.now.processes.items index ≡ Some p → result ≡ None → IsToRelease p x → ¬ HasSeen self.now.events.items (index + 1) x k (length self.now.events.items) }
+    {
+        match &self.processes[index] {
+            Proc::Reclaim(reclaim) => {
+                retirement_seen(self.events.as_slice(), index + 1, reclaim.page)
+            }
+            _ => None,
+        }
+    }
+
+    /// The process looks at the one with that number.
+    fn look(&mut self, index: usize, number: usize) -> Result<(), AllocError>
+        requires world { IsWorld (view_of self.old) }
+        requires started { index < length self.old.processes.items }
+        requires next { (p : Proc) → slice_get self.old.processes.items index ≡ Some p → (answer_of p ≡ None) × (next_of p ≡ act.Look number) }
+        ensures ok { OnOk result ((p : Proc) → slice_get self.old.processes.items index ≡ Some p → Carries (view_of self.old) index p (act.Look number) (view_of self.new)) }
+        ensures err { OnErr result (view_of self.new ≡ view_of self.old) }
+    {
+        match self.retired_for(index) {
+            Some(place) => {
+                let blocks = is_blocking(self.events.as_slice(), number, place);
+                self.told(index, Act::Look(number), Seen::Blocks(blocks))
+            }
+            None => unreachable!(),
+        }
+    }
+
+    /// The process tries to release a page.
+    fn release(&mut self, index: usize, at: u32) -> Result<(), AllocError>
+        requires world { IsWorld (view_of self.old) }
+        requires started { index < length self.old.processes.items }
+        requires next { (p : Proc) → slice_get self.old.processes.items index ≡ Some p → (answer_of p ≡ None) × (next_of p ≡ act.Release at) }
+        ensures ok { OnOk result ((p : Proc) → slice_get self.old.processes.items index ≡ Some p → Carries (view_of self.old) index p (act.Release at) (view_of self.new)) }
+        ensures err { OnErr result (view_of self.new ≡ view_of self.old) }
+    {
+        if !self.may_release(index, at) {
+            return self.told(index, Act::Miss, Seen::Missed);
+        }
+        self.own(index, at, Owner::Released, Act::Release(at), Seen::Done)
+    }
+
+    /// The page is retired as the process at that place has seen it.
+    fn may_release(&self, index: usize, at: u32) -> bool
+        requires started { index < length self.now.processes.items }
+        requires within { at < length self.now.owners.items }
+        ensures { IsTrue result ↔ MayRelease (view_of self.now) index at }
+    {
+        match retirement_seen(self.events.as_slice(), index + 1, at) {
+            Some(place) => is_owner(self.owners[at as usize], Owner::Retired(place)),
+            None => false,
+        }
+    }
+
     /// The next action of a process, unless that is to take a page.
     fn step(&mut self, index: usize) -> Result<(), AllocError>
         requires world { IsWorld (view_of self.old) }
@@ -160,8 +242,10 @@ impl Lists {
             Action::Latch(at) => self.latch(index, at),
             Action::Open(at) => self.open_page(index, at),
             Action::Take => self.idle(index),
-            Action::Retire(_) | Action::Look(_) | Action::See(_) | Action::Release(_) =>
-                unreachable!(),
+            Action::Look(number) => self.look(index, number),
+            Action::See(at) => self.see(index, at),
+            Action::Release(at) => self.release(index, at),
+            Action::Retire(_) => unreachable!(),
         }
     }
 
@@ -265,6 +349,23 @@ impl Lists {
             self.turn(*turn)?;
         }
         Ok(())
+    }
+}
+
+/// The owners are the same.
+fn is_owner(owner: Owner, other: Owner) -> bool
+    ensures { IsTrue result ↔ (owner ≡ other) }
+{
+    owner == other
+}
+
+/// Whether that owner is none any more.
+fn is_retired(owner: Owner) -> bool
+    ensures { result ≡ is_retired_owner owner }
+{
+    match owner {
+        Owner::Retired(_) => true,
+        Owner::Released | Owner::Open | Owner::Held(_) => false,
     }
 }
 

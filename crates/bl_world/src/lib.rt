@@ -7,6 +7,7 @@
 mod carrying;
 mod choosing;
 mod lists;
+mod looking;
 mod opening;
 mod owners;
 mod turns;

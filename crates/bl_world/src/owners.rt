@@ -9,4 +9,6 @@ pub enum Owner {
     Open,
     /// The process with that number.
     Held(usize),
+    /// Nobody any more: it was retired by the event at that place.
+    Retired(usize),
 }

@@ -1,8 +1,9 @@
 //! Worlds, turn by turn.
 
+use crate::looking::{is_blocking, retirement_seen};
 use crate::{Act, Event, Turn, World, WorldFault};
 use bl_model::Reply;
-use bl_proc::{Answer, Hint, Level, Posted, Proc};
+use bl_proc::{Answer, Hint, Level, Posted, Proc, Reclaimed};
 use std::alloc::Global;
 use std::test::Fail;
 
@@ -628,6 +629,7 @@ fn hint_of(answer: Answer) -> Option<Hint> {
     match answer {
         Answer::Op(_, hint) => hint,
         Answer::Post(_, hint) => hint,
+        Answer::Reclaim(_) => None,
     }
 }
 
@@ -721,5 +723,88 @@ fn takes_without_a_released_page(rt: HostRuntime) -> Result<(), Fail> {
     run(&mut world, &[Turn::Refuse(last)])?;
     go_on(&mut world, last)?;
     assert!(rt; world.answer(last) == plain(Reply::NoRoom));
+    Ok(())
+}
+
+// Page 2 has seven rows, and page 1 has eight.
+#[test]
+fn leaves_that_become_thin(rt: HostRuntime) -> Result<(), Fail> {
+    let mut world = posted(rt.alloc())?;
+    let last = delete(&mut world, 9)?;
+    step(&mut world, last, 8)?;
+    assert!(rt;
+        did(
+            rt.alloc(),
+            &world,
+            last,
+            &[
+                Act::Begin,
+                Act::Get(0),
+                Act::Get(3),
+                Act::Latch(2),
+                Act::Get(2),
+                Act::Put(2),
+                Act::Open(2),
+                Act::End
+            ]
+        )?
+    );
+    let level = Level::new(1);
+    let thin = Some(Hint::Thin { level, key: 9 });
+    assert!(rt; world.answer(last) == Some(Answer::Op(Reply::Deleted(90), thin)));
+    let second = delete(&mut world, 2)?;
+    step(&mut world, second, 8)?;
+    assert!(rt; world.answer(second) == plain(Reply::Deleted(20)));
+    let first = delete(&mut world, 1)?;
+    step(&mut world, first, 8)?;
+    let thin = Some(Hint::Thin { level, key: 0 });
+    assert!(rt; world.answer(first) == Some(Answer::Op(Reply::Deleted(10), thin)));
+    Ok(())
+}
+
+// Nothing retires a page here, so that each page is kept.
+#[test]
+fn a_page_that_is_not_retired_is_kept(rt: HostRuntime) -> Result<(), Fail> {
+    let Ok(mut world) = World::open(rt.alloc(), 4) else {
+        return Err("no world")?;
+    };
+    let Ok(number) = world.start(Proc::reclaim(3)) else {
+        return Err("not started")?;
+    };
+    assert!(rt; world.answer(number).is_none());
+    step(&mut world, number, 2)?;
+    assert!(rt; did(rt.alloc(), &world, number, &[Act::See(3), Act::Miss])?);
+    assert!(rt; world.answer(number) == Some(Answer::Reclaim(Reclaimed::Kept)));
+    Ok(())
+}
+
+fn event(process: usize, act: Act) -> Event {
+    Event { process, act }
+}
+
+// Page 2 is retired, released, and retired again; process 4 has seen the first retirement, and process 5 the second.
+#[test]
+fn what_events_tell_of_retirements(rt: HostRuntime) -> Result<(), Fail> {
+    let events = [
+        event(1, Act::Begin),
+        event(2, Act::Begin),
+        event(1, Act::Retire(2)),
+        event(4, Act::See(2)),
+        event(3, Act::Begin),
+        event(6, Act::Release(2)),
+        event(7, Act::See(2)),
+        event(3, Act::Retire(2)),
+        event(5, Act::See(2)),
+        event(1, Act::End),
+    ];
+    assert!(rt; retirement_seen(&events, 4, 2) == Some(2));
+    assert!(rt; retirement_seen(&events, 5, 2) == Some(7));
+    assert!(rt; retirement_seen(&events, 7, 2).is_none());
+    assert!(rt; retirement_seen(&events, 4, 3).is_none());
+    assert!(rt; retirement_seen(&events, 1, 2).is_none());
+    // process 1 has ended, process 3 began behind the first retirement, and process 4 never began
+    assert!(rt; !is_blocking(&events, 1, 2) && is_blocking(&events, 2, 2));
+    assert!(rt; !is_blocking(&events, 3, 2) && is_blocking(&events, 3, 7));
+    assert!(rt; !is_blocking(&events, 4, 7));
     Ok(())
 }

@@ -31,17 +31,17 @@ fn key_of(process: &Proc) -> u64
         Proc::Delete(process) => process.key,
         Proc::Post(process) => process.key,
         Proc::Part(process) => process.from,
+        Proc::Reclaim(_) => 0,
     }
 }
 
 impl World {
     ghost use Rattle.std.specs.Prelude.{◌≡◌, ◌≢◌, ◌⊎◌, ◌<◌, ◌≤◌, ◌+◌, ◌↔◌, Some, None, Ok, Err, slice_get, length, IfOk, IfErr, OnOk, OnErr};
-    ghost use Rattle.bl_ways.specs.declared.acts.Action.TheVariants as act;
     ghost use Rattle.bl_proc.specs.declared.kinds.Proc.{Proc as AnyProc};
-    ghost use Rattle.bl_proc.specs.Processes.{next_of, answer_of};
+    ghost use Rattle.bl_proc.specs.Processes.{answer_of};
     ghost use Rattle.bl_world.specs.declared.turns.WorldFault.TheVariants as fault;
     ghost use Rattle.bl_world.specs.Turns.{RunsTo, RunsInto, IsStarted, HasUnknown};
-    ghost use Rattle.bl_world.specs.Deeds.{IsOpening, Starts};
+    ghost use Rattle.bl_world.specs.Deeds.{IsOpening, MayStart, Starts};
     ghost use Rattle.bl_world.specs.Choices.{Chooses};
     ghost use Rattle.bl_world.specs.Accounts.{Account, Continues};
 
@@ -62,9 +62,10 @@ impl World {
         }
     }
 
-    /// Adds a process that is to begin, and gives its number; they count from 1. Without memory nothing changes.
+    /// Adds a process that is to begin, or that is to release a page of this world, and gives its number; they count from 1.
+    /// Without memory nothing changes.
     pub fn start(&mut self, process: Proc) -> Result<usize, WorldFault>
-        requires { next_of process ≡ act.Begin }
+        requires { MayStart (view_of self.old.lists) process }
         ensures ok { OnOk result (Starts (view_of self.old.lists) process (view_of self.new.lists)) }
         ensures number { IfOk result (λ number. number ≡ length self.new.lists.processes.items) }
         ensures err { IfErr result (λ why. (why ≡ fault.Memory) × (view_of self.new.lists ≡ view_of self.old.lists)) }

@@ -7,7 +7,7 @@ use Rattle.bl_replay.proofs.Following.{run_breaks}
 use Rattle.bl_replay.proofs.commands.play_run.Goals as goal
 
 pub loop-init : goal.loop-init
-loop-init g c = record { text = []; printed = Still; emitted = emits_start _ c.args.pending.now.items; count = refl; few = omega arith }
+loop-init g c = record { text = []; printed = Still; emitted = emits_start _ c.args.pending.now.items; count = refl; size = refl; few = omega arith }
 
 pub returns-in_err-play_chosen-in-None-clause-err : goal.returns-in_err-play_chosen-in-None-clause-err
 returns-in_err-play_chosen-in-None-clause-err g c =
@@ -27,5 +27,6 @@ loop-preserved g c =
       printed = More c.loop.counter i.text e.0 (view_of c.loop.world.lists) (view_of c.play_chosen.new.world.lists) i.printed unanswered e.1;
       emitted = emits_more _ _ _ c.args.pending.now.items c.loop.pending.items c.play_chosen.new.pending.items i.text e.0 i.emitted e.2;
       count = c.in_ok-play_chosen-in-None.ensures.count ∙ i.count;
+      size = c.in_ok-play_chosen-in-None.ensures.size ∙ i.size;
       few = omega (arith, c.loop-test.true);
     }

@@ -7,18 +7,18 @@ use Rattle.bl_world.specs.Views.{view_of}
 use Rattle.bl_replay.specs.Plays.{few}
 use Rattle.bl_replay.specs.Plays.Plays.{Nothing}
 use Rattle.bl_replay.proofs.Emitting.{emits_start, emits_more, emits_stop, err_of}
-use Rattle.bl_replay.proofs.Following.{stands_here, plays_further, started_further, breaks_off}
+use Rattle.bl_replay.proofs.Following.{stands_sized, plays_further, started_further, breaks_off}
 use Rattle.bl_replay.proofs.playing.play_all.Goals as goal
 
 pub loop-command-init : goal.loop-command-init
-loop-command-init g c = record { text = []; played = Nothing; emitted = emits_start _ c.args.pending.now.items; count = omega arith }
+loop-command-init g c = record { text = []; played = Nothing; emitted = emits_start _ c.args.pending.now.items; count = omega arith; size = refl }
 
 pub play_command-requires : goal.play_command-requires
 play_command-requires g c =
     let i = c.loop-command.command-index in
     let commands = c.args.commands.now in
     let at = slice_get-get_or commands i (command.Start (start.Operation (op.Find 0))) (omega (arith, c.loop-command-test.true)) in
-    (c.requires.0, stands_here few c.requires.0 (length c.args.world.now.lists.processes.items) _ commands i _ c.loop-command.invariant.count c.requires.1 at)
+    stands_sized few (length c.args.world.now.lists.pages.items) _ (length c.args.world.now.lists.processes.items) _ commands i _ c.loop-command.invariant.size c.loop-command.invariant.count c.requires at
 
 pub returns-in_err-play_command-clause-err : goal.returns-in_err-play_command-clause-err
 returns-in_err-play_command-clause-err g c =
@@ -46,4 +46,5 @@ loop-command-preserved g c =
       played = plays_further (view_of c.args.world.now.lists) (view_of c.loop-command.world.lists) (view_of c.play_command.new.world.lists) commands i _ n.text e.0 at n.played e.1;
       emitted = emits_more _ _ _ c.args.pending.now.items c.loop-command.pending.items c.play_command.new.pending.items n.text e.0 n.emitted e.2;
       count = omega (arith, more, n.count, c.in_ok-play_command.ensures.count);
+      size = c.in_ok-play_command.ensures.size ∙ n.size;
     }

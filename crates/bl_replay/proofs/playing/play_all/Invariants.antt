@@ -11,4 +11,5 @@ invariant-loop-command g l = record {
   played : Plays (view_of l.fn.world.lists) (take l.command-index l.commands) text (view_of l.world.lists);
   emitted : Emits (g.W.Write.contents l.fn.writer.inner) (g.W.Write.contents l.writer.inner) l.fn.pending.items l.pending.items text;
   count : length l.world.lists.processes.items ≡ length l.fn.world.lists.processes.items + started_by (take l.command-index l.commands);
+  size : length l.world.lists.pages.items ≡ length l.fn.world.lists.pages.items;
 }

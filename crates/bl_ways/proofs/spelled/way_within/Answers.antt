@@ -18,6 +18,9 @@ returns-then-level-own c = λ p tree e.
     let within = bounds_are p words tree e in
     let child = c.child_in.ensures in
     let inside = (c.is_within.ensures).0 (rw c.if-not-is_within.false refl) in
-    let look = tree_lists p words tree e in
-    (tree, (omega (arith, inside.0, within.0), omega (arith, inside.1, within.1)), omega (arith, c.if-level-own.true, level),
-     record { key = child.key; listed = ap (λ look. look child.key) (sym look) ∙ child.listed; reached = child.reached; greatest = λ j other is. child.greatest j other (ap (λ look. look j) look ∙ is) })
+    let look = tree_lists p words tree e in (
+      tree,
+      (omega (arith, inside.0, within.0), omega (arith, inside.1, within.1)),
+      omega (arith, c.if-level-own.true, level),
+      record { key = child.key; listed = ap (λ look. look child.key) (sym look) ∙ child.listed; reached = child.reached; greatest = λ j other is. child.greatest j other (ap (λ look. look j) look ∙ is) },
+    )

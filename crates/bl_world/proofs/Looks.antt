@@ -1,0 +1,150 @@
+-- Only a process that is to release a page looks at an owner or a process, or releases.
+use Rattle.std.proofs.Common.{ℕ, ◌≡◌, None, Some, refl}
+use Rattle.bl_ways.specs.declared.acts.Action.{Action}
+use Rattle.bl_ways.specs.declared.acts.Action.TheVariants as act
+use Rattle.bl_ways.specs.declared.acts.Seen.{Seen}
+use Rattle.bl_ways.specs.declared.approaching.Approach.{Approach}
+use Rattle.bl_ways.specs.declared.approaching.Approach.TheVariants as way
+use Rattle.bl_ways.specs.declared.changing.Change.{Change}
+use Rattle.bl_ways.specs.declared.changing.Change.TheVariants as change
+use Rattle.bl_ways.specs.declared.growing.Growth.{Growth}
+use Rattle.bl_ways.specs.declared.growing.Growth.TheVariants as growth
+use Rattle.bl_ways.specs.Approaches.{approach_next}
+use Rattle.bl_ways.specs.Changes.{change_next}
+use Rattle.bl_ways.specs.Growths.{growth_next}
+use Rattle.bl_proc.specs.declared.searching.FindStage.{FindStage}
+use Rattle.bl_proc.specs.declared.searching.FindStage.TheVariants as find
+use Rattle.bl_proc.specs.declared.parts.PartStage.{PartStage}
+use Rattle.bl_proc.specs.declared.parts.PartStage.TheVariants as part
+use Rattle.bl_proc.specs.declared.inserting.InsertStage.{InsertStage}
+use Rattle.bl_proc.specs.declared.inserting.InsertStage.TheVariants as insert
+use Rattle.bl_proc.specs.declared.deleting.DeleteStage.{DeleteStage}
+use Rattle.bl_proc.specs.declared.deleting.DeleteStage.TheVariants as delete
+use Rattle.bl_proc.specs.declared.posting.PostStage.{PostStage}
+use Rattle.bl_proc.specs.declared.posting.PostStage.TheVariants as post
+use Rattle.bl_proc.specs.declared.reclaiming.Reclaim.{Reclaim}
+use Rattle.bl_proc.specs.declared.reclaiming.ReclaimStage.{ReclaimStage}
+use Rattle.bl_proc.specs.declared.reclaiming.ReclaimStage.TheVariants as reclaim
+use Rattle.bl_proc.specs.declared.kinds.Proc.{Proc}
+use Rattle.bl_proc.specs.declared.kinds.Proc.TheVariants as proc
+use Rattle.bl_proc.specs.Searches.{find_next_in}
+use Rattle.bl_proc.specs.Parts.{part_next_in}
+use Rattle.bl_proc.specs.Inserts.{insert_next_in}
+use Rattle.bl_proc.specs.Deletes.{delete_next_in}
+use Rattle.bl_proc.specs.Posts.{post_next_in}
+use Rattle.bl_proc.specs.Reclaims.{reclaim_next_in}
+use Rattle.bl_proc.specs.Processes.{next_of, Takes}
+
+abbrev pub IsOfTree : Action → Type 0
+IsOfTree act.Begin = Unit {0}
+IsOfTree act.End = Unit {0}
+IsOfTree (act.Get x) = Unit {0}
+IsOfTree (act.Put x c) = Unit {0}
+IsOfTree (act.Latch x) = Unit {0}
+IsOfTree act.Take = Unit {0}
+IsOfTree (act.Open x) = Unit {0}
+IsOfTree (act.Retire x) = Unit {0}
+IsOfTree (act.Look q) = ⊥
+IsOfTree (act.See x) = ⊥
+IsOfTree (act.Release x) = ⊥
+
+approach_tree : (a : Approach) → IsOfTree (approach_next a)
+approach_tree way.Start = tt
+approach_tree (way.At x) = tt
+approach_tree (way.Latching x) = tt
+approach_tree (way.Latched x) = tt
+approach_tree (way.Leaving x None) = tt
+approach_tree (way.Leaving x (Some y)) = tt
+
+change_tree : (a : Change) → IsOfTree (change_next a)
+change_tree (change.Putting x page) = tt
+change_tree (change.Taking full) = tt
+change_tree (change.PuttingNew p) = tt
+change_tree (change.PuttingOld p) = tt
+change_tree (change.OpeningNew x new s) = tt
+change_tree (change.Opening x o) = tt
+
+growth_tree : (a : Growth) → IsOfTree (growth_next a)
+growth_tree growth.Latching = tt
+growth_tree growth.Latched = tt
+growth_tree (growth.Taking r) = tt
+growth_tree (growth.PuttingTop r) = tt
+growth_tree (growth.PuttingAnchor r) = tt
+growth_tree (growth.OpeningTop x) = tt
+growth_tree growth.OpeningGrown = tt
+growth_tree growth.OpeningRefused = tt
+
+find_tree : (a : FindStage) → IsOfTree (find_next_in a)
+find_tree find.New = tt
+find_tree find.AtAnchor = tt
+find_tree (find.At x) = tt
+find_tree (find.Ending v) = tt
+find_tree (find.Over v) = tt
+
+part_tree : (a : PartStage) → IsOfTree (part_next_in a)
+part_tree part.New = tt
+part_tree part.AtAnchor = tt
+part_tree (part.At x) = tt
+part_tree (part.Ending r) = tt
+part_tree (part.Over r) = tt
+
+insert_tree : (a : InsertStage) → IsOfTree (insert_next_in a)
+insert_tree insert.New = tt
+insert_tree (insert.Coming a) = approach_tree a
+insert_tree (insert.Present x v) = tt
+insert_tree (insert.Changing c) = change_tree c
+insert_tree (insert.Ending r) = tt
+insert_tree (insert.Over r) = tt
+
+delete_tree : (a : DeleteStage) → IsOfTree (delete_next_in a)
+delete_tree delete.New = tt
+delete_tree (delete.Coming a) = approach_tree a
+delete_tree (delete.Absent x) = tt
+delete_tree (delete.Changing v c) = change_tree c
+delete_tree (delete.Ending r) = tt
+delete_tree (delete.Over r) = tt
+
+post_tree : (a : PostStage) → IsOfTree (post_next_in a)
+post_tree post.New = tt
+post_tree (post.Coming a) = approach_tree a
+post_tree (post.Growing g) = growth_tree g
+post_tree (post.Walking w) = tt
+post_tree (post.Changing c) = change_tree c
+post_tree (post.Staying x r) = tt
+post_tree (post.Ending r) = tt
+post_tree (post.Over r) = tt
+
+reclaim_tree : (page : ℕ) (a : ReclaimStage) → IsOfTree (reclaim_next_in page a) → ⊥
+reclaim_tree page reclaim.Seeing h = h
+reclaim_tree page (reclaim.Looking r) h = h
+reclaim_tree page reclaim.Releasing h = h
+reclaim_tree page (reclaim.Over what) h = h
+
+pub reclaims : (p : Proc) → (IsOfTree (next_of p) → ⊥) → (q : Reclaim) × (p ≡ proc.Reclaim q)
+reclaims (proc.Find p) h = absurd (h (find_tree p.stage))
+reclaims (proc.Insert p) h = absurd (h (insert_tree p.stage))
+reclaims (proc.Delete p) h = absurd (h (delete_tree p.stage))
+reclaims (proc.Post p) h = absurd (h (post_tree p.stage))
+reclaims (proc.Part p) h = absurd (h (part_tree p.stage))
+reclaims (proc.Reclaim p) h = (p, refl)
+
+-- what a process is told of an action on the tree makes none of this kind of it
+pub takes_tree : (p : Proc) (what : Seen) (q : Reclaim) → IsOfTree (next_of p) → Takes p what (proc.Reclaim q) → ⊥
+takes_tree (proc.Find p) what q h t = t
+takes_tree (proc.Insert p) what q h t = t
+takes_tree (proc.Delete p) what q h t = t
+takes_tree (proc.Post p) what q h t = t
+takes_tree (proc.Part p) what q h t = t
+takes_tree (proc.Reclaim p) what q h t = reclaim_tree p.page p.stage h
+
+pub see_page : (page x : ℕ) (a : ReclaimStage) → reclaim_next_in page a ≡ act.See x → page ≡ x
+see_page page x reclaim.Seeing e = (let f : act.See page ≡ act.See x = e in cc)
+see_page page x (reclaim.Looking r) e = absurd cc
+see_page page x reclaim.Releasing e = absurd cc
+see_page page x (reclaim.Over what) e = absurd cc
+
+pub release_page : (page x : ℕ) (a : ReclaimStage) → reclaim_next_in page a ≡ act.Release x → page ≡ x
+release_page page x reclaim.Seeing e = absurd cc
+release_page page x (reclaim.Looking r) e = absurd cc
+release_page page x reclaim.Releasing e = (let f : act.Release page ≡ act.Release x = e in cc)
+release_page page x (reclaim.Over what) e = (let f : act.Release page ≡ act.Release x = e in cc)
