@@ -926,7 +926,7 @@ fn broken(alloc: Global, seed: u64, size: Size, tally: &mut Tally) -> Option<(us
 #[test]
 fn small_worlds_keep_the_laws(rt: HostRuntime) {
     let mut tally = NONE;
-    for seed in 0..18u64 {
+    for seed in 0..27u64 {
         let size = Size {
             pages: 4 + (seed % 9) as u32,
             keys: 41,
