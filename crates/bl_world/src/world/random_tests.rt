@@ -6,7 +6,7 @@ use crate::{Act, Event, Owner, Turn, World, WorldFault};
 use arrayvec::ArrayVec;
 use bl_model::{Next, Op, PlainMap, Reply};
 use bl_page::{Inner, Leaf, Page};
-use bl_proc::{Answer, Hint, Posted, Proc, Process};
+use bl_proc::{Answer, Hint, Posted, Proc, Process, Reclaimed};
 use std::alloc::Global;
 
 /// A law that is broken, in words.
@@ -21,7 +21,7 @@ fn add<T: Drop>(list: &mut Vec<T>, item: T) -> Result<(), Law> {
 }
 
 /// A page that the walk of a level has met.
-#[derive(Clone, Copy)]
+#[derive(Clone, Copy, PartialEq, Eq)]
 struct Met {
     page: u32,
     level: usize,
@@ -31,7 +31,7 @@ struct Met {
 }
 
 /// A child that an inner page lists.
-#[derive(Clone, Copy)]
+#[derive(Clone, Copy, PartialEq, Eq)]
 struct Listed {
     level: usize,
     key: u64,
@@ -150,6 +150,40 @@ impl Tree {
             }
         }
         false
+    }
+
+    /// The low of the leaf that is that page, if it has fewer than 7 rows and there are other leaves.
+    fn thin_low(&self, page: u32) -> Result<Option<u64>, Law> {
+        let mut found = None;
+        let mut leaves = 0u32;
+        for met in self.met.as_slice() {
+            if met.level == 0 {
+                one_more(&mut leaves);
+                if met.page == page {
+                    found = Some(*met);
+                }
+            }
+        }
+        let leaf = found.ok_or("rows are dropped from a leaf of the chain")?;
+        let mut rows = 0u32;
+        for row in self.rows.as_slice() {
+            if leaf.low <= row.0 && (leaf.high == 0 || row.0 < leaf.high) {
+                one_more(&mut rows);
+            }
+        }
+        if rows < 7 && leaves > 1 {
+            Ok(Some(leaf.low))
+        } else {
+            Ok(None)
+        }
+    }
+
+    /// The same pages are met with the same rows and children.
+    fn is_as(&self, other: &Tree) -> bool {
+        self.levels == other.levels
+            && self.met.as_slice() == other.met.as_slice()
+            && self.listed.as_slice() == other.listed.as_slice()
+            && self.rows.as_slice() == other.rows.as_slice()
     }
 
     fn has_child(&self, listed: Listed) -> bool {
@@ -281,6 +315,7 @@ enum Job {
     Delete(u64),
     Post(u32, u64),
     Part(u64),
+    Reclaim(u32),
 }
 
 /// A process that has not answered.
@@ -293,6 +328,12 @@ struct Running {
     refused: bool,
     /// What it is to answer, since it has changed the tree.
     own: Option<Answer>,
+    /// The low of the leaf that its deletion left thin.
+    thin: Option<u64>,
+    /// It is to release a page, and has seen that page: whether it was retired then.
+    saw_retired: Option<bool>,
+    /// It has released its page.
+    released: bool,
     /// What was a right answer of an unchanged tree at some moment since it began.
     right: Vec<Answer>,
 }
@@ -312,6 +353,11 @@ struct Tally {
     stale: u32,
     /// Posts that were refused.
     unposted: u32,
+    /// Pages that were to be released, by what became of them.
+    released: u32,
+    kept: u32,
+    /// Deletions that left a thin leaf.
+    thin: u32,
     /// Pages that were parted, by the level of the parent to which they are to be posted.
     leaves_parted: u32,
     inner_pages_parted: u32,
@@ -331,6 +377,9 @@ const NONE: Tally = Tally {
     already: 0,
     stale: 0,
     unposted: 0,
+    released: 0,
+    kept: 0,
+    thin: 0,
     leaves_parted: 0,
     inner_pages_parted: 0,
     levels: 0,
@@ -354,6 +403,8 @@ impl Tally {
             Answer::Post(Posted::Already, _) => &mut self.already,
             Answer::Post(Posted::Stale, _) => &mut self.stale,
             Answer::Post(_, _) => &mut self.unposted,
+            Answer::Reclaim(Reclaimed::Released) => &mut self.released,
+            Answer::Reclaim(Reclaimed::Kept) => &mut self.kept,
         };
         one_more(count);
     }
@@ -369,11 +420,13 @@ impl Tally {
             .min(self.parts)
             .min(self.without_room);
         let posts = self.done.min(self.already).min(self.stale);
-        operations.min(posts)
+        operations.min(posts).min(self.kept)
     }
 
-    fn hinted(&mut self, level: u32) {
-        if level == 1 {
+    fn hinted(&mut self, hint: &Hint) {
+        if !is_to_post(hint) {
+            one_more(&mut self.thin);
+        } else if hint.level() == 1 {
             one_more(&mut self.leaves_parted);
         } else {
             one_more(&mut self.inner_pages_parted);
@@ -397,6 +450,8 @@ fn right_in(tree: &Tree, job: Job) -> Option<Answer> {
             None => Some(Answer::Op(Reply::Absent, None)),
         },
         Job::Part(from) => Some(Answer::Op(tree.part_from(from), None)),
+        // it looks at owners, not at the tree
+        Job::Reclaim(_) => None,
         Job::Post(level, key) => {
             let level = level as usize;
             if tree.lists(level, key) {
@@ -414,6 +469,7 @@ fn without_hint(answer: Answer) -> Answer {
     match answer {
         Answer::Op(reply, _) => Answer::Op(reply, None),
         Answer::Post(posted, _) => Answer::Post(posted, None),
+        Answer::Reclaim(what) => Answer::Reclaim(what),
     }
 }
 
@@ -421,6 +477,14 @@ fn hint_of(answer: &Answer) -> Option<Hint> {
     match answer {
         Answer::Op(_, hint) => *hint,
         Answer::Post(_, hint) => *hint,
+        Answer::Reclaim(_) => None,
+    }
+}
+
+fn is_to_post(hint: &Hint) -> bool {
+    match hint {
+        Hint::Post { .. } => true,
+        Hint::Thin { .. } => false,
     }
 }
 
@@ -428,6 +492,7 @@ fn is_no_room(answer: &Answer) -> bool {
     match answer {
         Answer::Op(reply, _) => *reply == Reply::NoRoom,
         Answer::Post(posted, _) => *posted == Posted::NoRoom,
+        Answer::Reclaim(_) => false,
     }
 }
 
@@ -446,18 +511,96 @@ impl Running {
         add(&mut self.right, right)
     }
 
+    /// It has done this in its turn, and that was the owner of the page that the event names.
+    fn note(&mut self, turn: Turn, act: Act, owner: Option<Owner>) -> Result<(), Law> {
+        if let Job::Reclaim(page) = self.job {
+            return self.note_of_page(page, turn, act, owner);
+        }
+        if act == Act::Begin {
+            self.begun = true;
+        }
+        match act {
+            Act::See(_) | Act::Look(_) | Act::Release(_) => Err("who looks is to release a page"),
+            _ => Ok(()),
+        }
+    }
+
+    /// It is to release this page, and has done this in its turn.
+    fn note_of_page(
+        &mut self,
+        page: u32,
+        turn: Turn,
+        act: Act,
+        owner: Option<Owner>,
+    ) -> Result<(), Law> {
+        let may_release = self.saw_retired == Some(true);
+        match act {
+            Act::See(at) => {
+                holds(at == page, "who is to release a page sees that page")?;
+                holds(self.saw_retired.is_none(), "a page is seen once")?;
+                self.saw_retired = Some(matches!(owner, Some(Owner::Retired(_))));
+                Ok(())
+            }
+            Act::Look(_) => holds(may_release, "who looks has seen a retired page"),
+            Act::Release(at) => {
+                self.released = true;
+                holds(
+                    may_release && at == page,
+                    "who releases a page has seen it retired",
+                )
+            }
+            Act::Miss => {
+                let is_step = matches!(turn, Turn::Step(_));
+                holds(may_release || !is_step, "the first step sees the page")
+            }
+            _ => Err("who is to release a page does nothing else"),
+        }
+    }
+
+    /// It has answered that this became of its page.
+    fn judge_of_page(&self, what: Reclaimed) -> Result<(), Law> {
+        match self.saw_retired {
+            None => Err("who answers for a page has seen it"),
+            Some(false) => holds(
+                what == Reclaimed::Kept,
+                "a page that is not retired is kept",
+            ),
+            Some(true) => {
+                let says_so = what == Reclaimed::Released;
+                holds(says_so == self.released, "who has released a page says so")
+            }
+        }
+    }
+
+    /// It has answered with this hint, or none.
+    fn judge_hint(&self, tree: &Tree, hint: Option<Hint>) -> Result<(), Law> {
+        let Some(hint) = hint else {
+            return holds(self.thin.is_none(), "who leaves a leaf thin hints so");
+        };
+        holds(self.own.is_some(), "who hints has changed a page")?;
+        if is_to_post(&hint) {
+            let is_deletion = matches!(self.job, Job::Delete(_));
+            holds(!is_deletion, "a deletion parts no page")?;
+            let below = (hint.level() as usize).wrapping_sub(1);
+            return holds(
+                tree.has_low(below, hint.key()),
+                "a hint to post names the low of a page",
+            );
+        }
+        holds(hint.level() == 1, "the parent of a thin leaf is of level 1")?;
+        holds(
+            self.thin == Some(hint.key()),
+            "a hint of a thin leaf names its low",
+        )
+    }
+
     /// It has answered this.
     fn judge(&self, tree: &Tree, answer: Answer) -> Result<(), Law> {
-        if let Some(hint) = hint_of(&answer) {
-            let is_to_post = matches!(hint, Hint::Post { .. });
-            let below = (hint.level() as usize).wrapping_sub(1);
-            let names_low = tree.has_low(below, hint.key());
-            holds(self.own.is_some(), "who hints has changed a page")?;
-            holds(
-                names_low || !is_to_post,
-                "a hint to post names the low of a page",
-            )?;
+        self.judge_hint(tree, hint_of(&answer))?;
+        if let Answer::Reclaim(what) = answer {
+            return self.judge_of_page(what);
         }
+        holds(self.begun, "who answers has begun")?;
         let answer = without_hint(answer);
         if let Some(own) = &self.own {
             return holds(answer == *own, "who has changed the tree answers so");
@@ -549,6 +692,7 @@ fn number_of(turn: Turn) -> usize {
 fn page_of(act: Act) -> Option<u32> {
     match act {
         Act::Get(at) | Act::Put(at) | Act::Latch(at) | Act::Take(at) | Act::Open(at) => Some(at),
+        Act::See(at) | Act::Release(at) => Some(at),
         _ => None,
     }
 }
@@ -578,6 +722,15 @@ fn owns(event: Event, before: Option<Owner>, after: Option<Owner>) -> Result<(),
         Act::Open(_) => {
             holds(before == held, "who opens a page holds it")?;
             holds(after == Some(Owner::Open), "a page is opened")
+        }
+        Act::See(_) => {
+            holds(before.is_some(), "a page is seen that is there")?;
+            holds(after == before, "who sees a page changes no owner")
+        }
+        Act::Release(_) => {
+            let was_retired = matches!(before, Some(Owner::Retired(_)));
+            holds(was_retired, "a retired page is released")?;
+            holds(after == Some(Owner::Released), "a page is released")
         }
         _ => Ok(()),
     }
@@ -635,10 +788,14 @@ impl Trial {
 
     fn draw_job(&mut self) -> Job {
         let key = self.draw_key();
-        match self.draws.below(12) {
+        match self.draws.below(13) {
             0 | 1 => Job::Find(key),
             2 => Job::Part(key),
             3 | 4 => self.draw_post(),
+            5 => {
+                let page = self.draws.below(self.size.pages as u64);
+                Job::Reclaim(u32::try_from(page).unwrap_or(0))
+            }
             _ => {
                 let is_growing = self.started.checked_div(self.size.season).unwrap_or(0) & 1 == 0;
                 let insertions = if is_growing { 15 } else { 6 };
@@ -664,6 +821,12 @@ impl Trial {
                 }
                 self.world.start(Proc::post(level, key))
             }
+            Job::Reclaim(page) => {
+                if page as usize >= self.world.lists.pages.len() {
+                    return Err("a page of the world is to be released");
+                }
+                self.world.start(Proc::reclaim(page))
+            }
         };
         let number = number.ok().ok_or("there is memory")?;
         self.started = self.started.wrapping_add(1);
@@ -674,6 +837,9 @@ impl Trial {
             begun: false,
             refused: false,
             own: None,
+            thin: None,
+            saw_retired: None,
+            released: false,
             right: Vec::new(alloc),
         };
         add(&mut self.running, running)
@@ -713,13 +879,18 @@ impl Trial {
         }
     }
 
-    /// The rows have changed in a turn of that process.
-    fn changed(&mut self, number: usize) -> Result<(), Law> {
+    /// The rows have changed to those of this tree by that event.
+    fn changed(&mut self, event: Event, tree: &Tree) -> Result<(), Law> {
         for running in self.running.as_mut_slice() {
-            if running.number == number {
+            if running.number == event.process {
                 let op = match running.job {
                     Job::Insert(key, value) => Op::Insert(key, value),
-                    Job::Delete(key) => Op::Delete(key),
+                    Job::Delete(key) => {
+                        if let Act::Put(page) = event.act {
+                            running.thin = tree.thin_low(page)?;
+                        }
+                        Op::Delete(key)
+                    }
                     _ => return Err("only insertions and deletions change rows"),
                 };
                 let reply = self.map.apply(&op).ok().ok_or("there is memory")?;
@@ -731,16 +902,18 @@ impl Trial {
         Err("only a running process changes rows")
     }
 
-    /// The tree is now this one, after a turn of that process.
-    fn went_to(&mut self, alloc: Global, number: usize, tree: Tree) -> Result<(), Law> {
+    /// The tree is now this one, after that event.
+    fn went_to(&mut self, alloc: Global, event: Event, tree: Tree) -> Result<(), Law> {
+        let puts = matches!(event.act, Act::Put(_));
+        holds(puts || tree.is_as(&self.tree), "only a put changes pages")?;
         if tree.rows.as_slice() != self.tree.rows.as_slice() {
-            self.changed(number)?;
+            self.changed(event, &tree)?;
             let rows = rows_of(alloc, &mut self.map)?;
             let same = rows.as_slice() == tree.rows.as_slice();
             holds(same, "the leaves have the rows of the map")?;
         }
         for running in self.running.as_mut_slice() {
-            if running.number == number
+            if running.number == event.process
                 && let Job::Post(level, key) = running.job
             {
                 let level = level as usize;
@@ -756,18 +929,21 @@ impl Trial {
         Ok(())
     }
 
-    /// What the process has done in its turn.
-    fn note(&mut self, number: usize, act: Act, refused: bool) {
+    /// What a process has done in this turn, and the owner before it of the page that the event names.
+    fn note(
+        &mut self,
+        turn: Turn,
+        act: Act,
+        owner: Option<Owner>,
+        refused: bool,
+    ) -> Result<(), Law> {
         for running in self.running.as_mut_slice() {
-            if running.number == number {
-                if act == Act::Begin {
-                    running.begun = true;
-                }
-                if refused {
-                    running.refused = true;
-                }
+            if running.number == number_of(turn) {
+                running.refused = running.refused || refused;
+                return running.note(turn, act, owner);
             }
         }
+        holds(act == Act::Miss, "who has answered does nothing")
     }
 
     /// Processes that have answered run no more.
@@ -781,11 +957,12 @@ impl Trial {
                     running.number == number,
                     "a process answers in its own turn",
                 )?;
-                holds(running.begun, "who answers has begun")?;
                 self.tally.answered(&answer);
                 if let Some(hint) = hint_of(&answer) {
-                    self.tally.hinted(hint.level());
-                    add(&mut self.hints, (hint.level(), hint.key()))?;
+                    self.tally.hinted(&hint);
+                    if is_to_post(&hint) {
+                        add(&mut self.hints, (hint.level(), hint.key()))?;
+                    }
                 }
                 running.judge(&self.tree, answer)?;
                 if place < self.running.len() {
@@ -793,6 +970,10 @@ impl Trial {
                 }
                 return Ok(());
             }
+            holds(
+                running.saw_retired != Some(false),
+                "who sees a page that is not retired answers in that turn",
+            )?;
         }
         Ok(())
     }
@@ -868,9 +1049,9 @@ impl Trial {
         let old = page.and_then(|at| before.as_slice().get(at as usize).copied());
         owns(event, old, self.owner_of(page))?;
         self.keeps_owners(before.as_slice(), page)?;
-        self.note(number, event.act, refused);
+        self.note(turn, event.act, old, refused)?;
         let tree = walked(alloc, &self.world.lists)?;
-        self.went_to(alloc, number, tree)?;
+        self.went_to(alloc, event, tree)?;
         self.judge(number)?;
         self.are_held_by_running()?;
         match event.act {
@@ -941,6 +1122,7 @@ fn small_worlds_keep_the_laws(rt: HostRuntime) {
     assert!(rt; tally.least() > 9, "{tally:?}");
     assert!(rt; tally.unposted > 9, "{tally:?}");
     assert!(rt; tally.leaves_parted > 9, "{tally:?}");
+    assert!(rt; tally.thin > 9, "{tally:?}");
 }
 
 #[test]
