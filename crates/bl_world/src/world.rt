@@ -126,3 +126,6 @@ impl World {
         self.lists.processes[number - 1].answer()
     }
 }
+
+#[cfg(test)]
+mod random_tests;
