@@ -307,8 +307,7 @@ const DELETION_BELOW: [&str; 9] = [
     "answer deleted",
 ];
 
-/// The lines of a script that delete the keys 9 to 15, one after the other, and what they print. They empty page 2, which
-/// has six rows after the first, and is thin from then on.
+/// The lines of a script that delete the keys 9 to 15, one after the other, and what they print. They empty page 2.
 fn emptied(alloc: Global) -> Result<(String, String), Fail> {
     let mut lines = String::new(alloc);
     let mut wanted = String::new(alloc);
@@ -323,7 +322,7 @@ fn emptied(alloc: Global) -> Result<(String, String), Fail> {
             wanted.push_str(line.as_str())?;
             end = "\n";
         }
-        let line = format!(in alloc; " {value} thin 1 9\n")?;
+        let line = format!(in alloc; " {value}\n")?;
         wanted.push_str(line.as_str())?;
     }
     Ok((lines, wanted))

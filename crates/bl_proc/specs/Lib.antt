@@ -4,5 +4,6 @@ pub mod Inserts
 pub mod Deletes
 pub mod Levels
 pub mod Posts
+pub mod Compresses
 pub mod Reclaims
 pub mod Processes

@@ -4,7 +4,7 @@ use Rattle.bl_ways.specs.declared.acts.Action.{Action}
 use Rattle.bl_ways.specs.declared.acts.Seen.{Seen}
 use Rattle.bl_ways.specs.declared.answers.Answer.{Answer}
 use Rattle.bl_proc.specs.declared.kinds.Proc.{Proc}
-use Rattle.bl_proc.specs.declared.kinds.Proc.TheVariants.{Find, Insert, Delete, Post, Part, Reclaim}
+use Rattle.bl_proc.specs.declared.kinds.Proc.TheVariants.{Find, Insert, Delete, Post, Part, Compress, Reclaim}
 use Rattle.bl_proc.specs.declared.searching.FindStage.TheVariants as find
 use Rattle.bl_proc.specs.declared.inserting.InsertStage.TheVariants as insert
 use Rattle.bl_proc.specs.declared.deleting.DeleteStage.TheVariants as delete
@@ -15,6 +15,8 @@ use Rattle.bl_proc.specs.Searches.{find_next, find_needs, find_answer, FindTakes
 use Rattle.bl_proc.specs.Inserts.{insert_next, insert_needs, insert_answer, InsertTakes}
 use Rattle.bl_proc.specs.Deletes.{delete_next, delete_needs, delete_answer, DeleteTakes}
 use Rattle.bl_proc.specs.Posts.{post_next, post_needs, post_answer, PostTakes}
+use Rattle.bl_proc.specs.declared.squeezing.CompressStage.TheVariants as compress
+use Rattle.bl_proc.specs.Compresses.{compress_next, compress_needs, compress_answer, CompressTakes}
 use Rattle.bl_proc.specs.Parts.{part_next, part_needs, part_answer, PartTakes}
 use Rattle.bl_proc.specs.Reclaims.{reclaim_next, reclaim_needs, reclaim_answer, ReclaimTakes}
 
@@ -24,6 +26,7 @@ next_of (Insert p) = insert_next p
 next_of (Delete p) = delete_next p
 next_of (Post p) = post_next p
 next_of (Part p) = part_next p
+next_of (Compress p) = compress_next p
 next_of (Reclaim p) = reclaim_next p
 
 -- pages and frames
@@ -33,6 +36,7 @@ needs_of (Insert p) = insert_needs p
 needs_of (Delete p) = delete_needs p
 needs_of (Post p) = post_needs p
 needs_of (Part p) = part_needs p
+needs_of (Compress p) = compress_needs p
 needs_of (Reclaim p) = reclaim_needs p
 
 abbrev pub answer_of : Proc → Option Answer
@@ -41,6 +45,7 @@ answer_of (Insert p) = insert_answer p
 answer_of (Delete p) = delete_answer p
 answer_of (Post p) = post_answer p
 answer_of (Part p) = part_answer p
+answer_of (Compress p) = compress_answer p
 answer_of (Reclaim p) = reclaim_answer p
 
 abbrev pub Takes : Proc → Seen → Proc → Type 0
@@ -49,6 +54,7 @@ Takes (Insert old) what (Insert new) = InsertTakes old what new
 Takes (Delete old) what (Delete new) = DeleteTakes old what new
 Takes (Post old) what (Post new) = PostTakes old what new
 Takes (Part old) what (Part new) = PartTakes old what new
+Takes (Compress old) what (Compress new) = CompressTakes old what new
 Takes (Reclaim old) what (Reclaim new) = ReclaimTakes old what new
 Takes old what new = ⊥
 
@@ -73,6 +79,10 @@ IsPost level key p = ⊥
 abbrev pub IsPart : ℕ → Proc → Type 0
 IsPart from (Part p) = (p.from ≡ from) × (p.stage ≡ part.New)
 IsPart from p = ⊥
+
+abbrev pub IsCompress : ℕ → ℕ → Proc → Type 0
+IsCompress level key (Compress p) = (p.level ≡ level) × (p.key ≡ key) × (p.stage ≡ compress.New)
+IsCompress level key p = ⊥
 
 -- It is to look at the page's owner.
 abbrev pub IsReclaim : ℕ → Proc → Type 0

@@ -2,7 +2,7 @@
 
 ghost use Rattle.std.specs.Prelude.{◌≡◌, ◌<◌, ◌≤◌};
 ghost use Rattle.bl_ways.specs.declared.acts.Action.TheVariants as act;
-ghost use Rattle.bl_proc.specs.Processes.{next_of, needs_of, answer_of, Takes, IsFind, IsInsert, IsDelete, IsPost, IsPart, IsReclaim};
+ghost use Rattle.bl_proc.specs.Processes.{next_of, needs_of, answer_of, Takes, IsFind, IsInsert, IsDelete, IsPost, IsPart, IsCompress, IsReclaim};
 
 use crate::deleting::Delete;
 use crate::inserting::Insert;
@@ -10,6 +10,7 @@ use crate::parts::Part;
 use crate::posting::Post;
 use crate::reclaiming::Reclaim;
 use crate::searching::Find;
+use crate::squeezing::Compress;
 use bl_ways::{Action, Answer, Process, Seen};
 
 /// A process of any kind.
@@ -25,6 +26,8 @@ pub enum Proc {
     Post(Post),
     /// Lists pairs from a key on.
     Part(Part),
+    /// Merges or evens out two children of a parent.
+    Compress(Compress),
     /// Releases a page that was retired.
     Reclaim(Reclaim),
 }
@@ -72,6 +75,16 @@ impl Proc {
         Proc::Part(Part::new(from))
     }
 
+    /// A process that is to merge or even out two children of the parent of that level that covers the key.
+    pub fn compress(level: u32, key: u64) -> Proc
+        requires least { 0 < level }
+        requires most { level ≤ 12 }
+        ensures made { IsCompress level key result }
+        ensures begins { next_of result ≡ act.Begin }
+    {
+        Proc::Compress(Compress::new(level, key))
+    }
+
     /// A process that is to release the page, if that is retired and no process may still read it. It has neither a begin
     /// nor an end.
     pub fn reclaim(page: u32) -> Proc
@@ -98,6 +111,7 @@ impl Process for Proc {
             Proc::Delete(process) => process.next(),
             Proc::Post(process) => process.next(),
             Proc::Part(process) => process.next(),
+            Proc::Compress(process) => process.next(),
             Proc::Reclaim(process) => process.next(),
         }
     }
@@ -109,6 +123,7 @@ impl Process for Proc {
             Proc::Delete(process) => process.needs(),
             Proc::Post(process) => process.needs(),
             Proc::Part(process) => process.needs(),
+            Proc::Compress(process) => process.needs(),
             Proc::Reclaim(process) => process.needs(),
         }
     }
@@ -120,6 +135,7 @@ impl Process for Proc {
             Proc::Delete(process) => process.answer(),
             Proc::Post(process) => process.answer(),
             Proc::Part(process) => process.answer(),
+            Proc::Compress(process) => process.answer(),
             Proc::Reclaim(process) => process.answer(),
         }
     }
@@ -131,6 +147,7 @@ impl Process for Proc {
             Proc::Delete(process) => process.took(seen),
             Proc::Post(process) => process.took(seen),
             Proc::Part(process) => process.took(seen),
+            Proc::Compress(process) => process.took(seen),
             Proc::Reclaim(process) => process.took(seen),
         }
     }

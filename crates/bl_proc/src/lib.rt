@@ -15,9 +15,13 @@ mod posting;
 mod posts;
 mod reclaiming;
 mod searching;
+mod squeezes;
+mod squeezing;
 mod walking;
 
-pub use bl_ways::{Action, Answer, Hint, Level, Posted, Process, Reader, Reclaimed, Seen};
+pub use bl_ways::{
+    Action, Answer, Hint, Level, Posted, Process, Reader, Reclaimed, Seen, Squeezed,
+};
 pub use deleting::{Delete, DeleteReply, DeleteStage, Removed};
 pub use inserting::{Insert, InsertReply, InsertStage};
 pub use kinds::Proc;
@@ -25,6 +29,7 @@ pub use parts::{Part, PartRows, PartStage};
 pub use posting::{Post, PostReply, PostStage};
 pub use reclaiming::{Reclaim, ReclaimStage, Round};
 pub use searching::{Find, FindStage};
+pub use squeezing::{Compress, CompressReply, CompressStage};
 pub use walking::Walk;
 
 #[cfg(test)]

@@ -2,7 +2,7 @@
 
 use crate::{
     Action, Answer, Find, Hint, Level, Post, Posted, Proc, Process, Reader, Reclaim, Reclaimed,
-    Seen,
+    Seen, Squeezed,
 };
 use arrayvec::ArrayVec;
 use bl_model::{Next, Reply};
@@ -20,6 +20,7 @@ enum Did {
     Latch(u32),
     Take(u32),
     Open(u32),
+    Retire(u32),
     Miss,
 }
 
@@ -86,6 +87,7 @@ impl Tree {
                 (Did::Take(new), Seen::Took(new))
             }
             Action::Open(at) => (Did::Open(at), Seen::Done),
+            Action::Retire(at) => (Did::Retire(at), Seen::Done),
             _ => return Err("no such action")?,
         };
         process.took(seen);
@@ -576,6 +578,261 @@ fn leaves_that_become_thin(rt: HostRuntime) -> Result<(), Fail> {
     let mut gone = Proc::delete(9);
     tree.run(rt.alloc(), &mut gone, 99)?;
     assert!(rt; gone.answer() == plain(Reply::Absent));
+    Ok(())
+}
+
+/// The beginning of all compressions of two children of page 3, the pages 1 and 2.
+const COMING: [Did; 8] = [
+    Did::Begin,
+    Did::Get(0),
+    Did::Latch(3),
+    Did::Get(3),
+    Did::Latch(1),
+    Did::Get(1),
+    Did::Latch(2),
+    Did::Get(2),
+];
+
+/// These are the events of a compression of the two.
+fn are_behind(events: &Vec<Did>, wanted: &[Did]) -> bool {
+    match events.as_slice().split_at_checked(8) {
+        Some((front, rest)) => front == COMING.as_slice() && rest == wanted,
+        None => false,
+    }
+}
+
+/// What a compression answers without a hint.
+fn pressed(squeezed: Squeezed) -> Option<Answer> {
+    Some(Answer::Compress(squeezed, None))
+}
+
+#[test]
+fn two_leaves_are_merged(rt: HostRuntime) -> Result<(), Fail> {
+    let (mut tree, _, _) = posted(rt.alloc())?;
+    let mut delete = Proc::delete(9);
+    tree.run(rt.alloc(), &mut delete, 99)?;
+    let mut compress = Proc::compress(1, 9);
+    let events = tree.run(rt.alloc(), &mut compress, 99)?;
+    assert!(rt;
+        are_behind(
+            &events,
+            &[
+                Did::Put(1),
+                Did::Put(3),
+                Did::Put(2),
+                Did::Retire(2),
+                Did::Open(1),
+                Did::Open(3),
+                Did::End
+            ]
+        )
+    );
+    assert!(rt; compress.answer() == pressed(Squeezed::Merged));
+    assert!(rt;
+        tree.is_page(
+            1,
+            &[
+                8589934606, 0, 0, 0, 1, 10, 2, 20, 3, 30, 4, 40, 5, 50, 6, 60, 7, 70, 8, 80, 10,
+                100, 11, 110, 12, 120, 13, 130, 14, 140, 15, 150
+            ]
+        )
+    );
+    assert!(rt; tree.is_page(2, &[17179869184, 9, 0, 1]));
+    assert!(rt; tree.is_page(3, &[12884967425, 0, 0, 0, 0, 1]));
+    // the parent has one child now
+    let mut again = Proc::compress(1, 9);
+    let events = tree.run(rt.alloc(), &mut again, 99)?;
+    assert!(rt;
+        are(
+            &events,
+            &[
+                Did::Begin,
+                Did::Get(0),
+                Did::Latch(3),
+                Did::Get(3),
+                Did::Open(3),
+                Did::End
+            ]
+        )
+    );
+    assert!(rt; again.answer() == pressed(Squeezed::Alone));
+    Ok(())
+}
+
+// Two leaves with eight and seven rows have enough; so have two that meet no room, and both stay as they are.
+#[test]
+fn two_leaves_stay(rt: HostRuntime) -> Result<(), Fail> {
+    let (mut tree, _, _) = posted(rt.alloc())?;
+    let opened = [Did::Open(2), Did::Open(1), Did::Open(3), Did::End];
+    let mut compress = Proc::compress(1, 0);
+    let events = tree.run(rt.alloc(), &mut compress, 99)?;
+    assert!(rt; are_behind(&events, opened.as_slice()));
+    assert!(rt; compress.answer() == pressed(Squeezed::Enough));
+    let mut delete = Proc::delete(9);
+    tree.run(rt.alloc(), &mut delete, 99)?;
+    let mut refused = Proc::compress(1, 9);
+    tree.run(rt.alloc(), &mut refused, 8)?;
+    refuse(&mut refused);
+    let events = tree.run(rt.alloc(), &mut refused, 99)?;
+    assert!(rt; are(&events, opened.as_slice()));
+    assert!(rt; refused.answer() == pressed(Squeezed::NoRoom));
+    assert!(rt; tree.is_page(3, &[12884967426, 0, 0, 0, 0, 1, 9, 2]));
+    let mut early = opening(rt.alloc())?;
+    let mut alone = Proc::compress(1, 5);
+    let events = early.run(rt.alloc(), &mut alone, 99)?;
+    assert!(rt; are(&events, &[Did::Begin, Did::Get(0), Did::End]));
+    assert!(rt; alone.answer() == pressed(Squeezed::Alone));
+    Ok(())
+}
+
+/// An insertion, alone, of a key that is its own value.
+fn put_row(tree: &mut Tree, alloc: Global, key: u64) -> Result<(), Fail> {
+    let mut insert = Proc::insert(key, key);
+    tree.run(alloc, &mut insert, 99)?;
+    Ok(())
+}
+
+fn drop_row(tree: &mut Tree, alloc: Global, key: u64) -> Result<(), Fail> {
+    let mut delete = Proc::delete(key);
+    tree.run(alloc, &mut delete, 99)?;
+    Ok(())
+}
+
+/// A tree with the keys 10 to 150 by tens, each its own value, in two pages that page 3 lists.
+fn by_tens(alloc: Global) -> Result<Tree, Fail> {
+    let mut tree = opening(alloc)?;
+    for count in 1..16 {
+        put_row(&mut tree, alloc, 10 * count)?;
+    }
+    let mut post = Proc::post(1, 90);
+    tree.run(alloc, &mut post, 99)?;
+    Ok(tree)
+}
+
+#[test]
+fn rows_move_to_the_right(rt: HostRuntime) -> Result<(), Fail> {
+    let mut tree = by_tens(rt.alloc())?;
+    for key in [110, 120, 130, 140, 150] {
+        drop_row(&mut tree, rt.alloc(), key)?;
+    }
+    for key in 11..17 {
+        put_row(&mut tree, rt.alloc(), key)?;
+    }
+    let mut compress = Proc::compress(1, 90);
+    let events = tree.run(rt.alloc(), &mut compress, 99)?;
+    assert!(rt;
+        are_behind(
+            &events,
+            &[
+                Did::Put(2),
+                Did::Put(3),
+                Did::Put(1),
+                Did::Open(2),
+                Did::Open(1),
+                Did::Open(3),
+                Did::End
+            ]
+        )
+    );
+    assert!(rt; compress.answer() == pressed(Squeezed::Evened));
+    assert!(rt;
+        tree.is_page(
+            1,
+            &[
+                8589934600, 0, 30, 2, 10, 10, 11, 11, 12, 12, 13, 13, 14, 14, 15, 15, 16, 16, 20,
+                20
+            ]
+        )
+    );
+    assert!(rt;
+        tree.is_page(
+            2,
+            &[
+                8589934600, 30, 0, 0, 30, 30, 40, 40, 50, 50, 60, 60, 70, 70, 80, 80, 90, 90, 100,
+                100
+            ]
+        )
+    );
+    assert!(rt; tree.is_page(3, &[12884967426, 0, 0, 0, 0, 1, 30, 2]));
+    Ok(())
+}
+
+#[test]
+fn rows_move_to_the_left(rt: HostRuntime) -> Result<(), Fail> {
+    let (mut tree, _, _) = posted(rt.alloc())?;
+    for key in 16..23 {
+        put_row(&mut tree, rt.alloc(), key)?;
+    }
+    for key in 1..7 {
+        drop_row(&mut tree, rt.alloc(), key)?;
+    }
+    let mut compress = Proc::compress(1, 0);
+    let events = tree.run(rt.alloc(), &mut compress, 99)?;
+    assert!(rt;
+        are_behind(
+            &events,
+            &[
+                Did::Put(1),
+                Did::Put(3),
+                Did::Put(2),
+                Did::Open(2),
+                Did::Open(1),
+                Did::Open(3),
+                Did::End
+            ]
+        )
+    );
+    assert!(rt; compress.answer() == pressed(Squeezed::Evened));
+    assert!(rt;
+        tree.is_page(
+            1,
+            &[
+                8589934600, 0, 15, 2, 7, 70, 8, 80, 9, 90, 10, 100, 11, 110, 12, 120, 13, 130, 14,
+                140
+            ]
+        )
+    );
+    assert!(rt;
+        tree.is_page(
+            2,
+            &[
+                8589934600, 15, 0, 0, 15, 150, 16, 16, 17, 17, 18, 18, 19, 19, 20, 20, 21, 21, 22,
+                22
+            ]
+        )
+    );
+    assert!(rt; tree.is_page(3, &[12884967426, 0, 0, 0, 0, 1, 15, 2]));
+    Ok(())
+}
+
+// The insertion of the key 17 parts page 1, and the new page is not listed yet.
+#[test]
+fn a_page_between_two_children_is_posted_first(rt: HostRuntime) -> Result<(), Fail> {
+    let mut tree = by_tens(rt.alloc())?;
+    for key in 11..18 {
+        put_row(&mut tree, rt.alloc(), key)?;
+    }
+    let mut compress = Proc::compress(1, 90);
+    let events = tree.run(rt.alloc(), &mut compress, 99)?;
+    assert!(rt;
+        are(
+            &events,
+            &[
+                Did::Begin,
+                Did::Get(0),
+                Did::Latch(3),
+                Did::Get(3),
+                Did::Latch(1),
+                Did::Get(1),
+                Did::Open(1),
+                Did::Open(3),
+                Did::End
+            ]
+        )
+    );
+    let level = Level::new(1);
+    let hint = Some(Hint::Post { level, key: 20 });
+    assert!(rt; compress.answer() == Some(Answer::Compress(Squeezed::Unposted, hint)));
     Ok(())
 }
 

@@ -12,7 +12,7 @@ use Rattle.bl_tree.specs.Moves.{IsRow, IsCut}
 use Rattle.bl_laws.specs.Pages.{node_of}
 
 -- with the pairs, a page's shape and its pairs
-frame_shape : (old new : Page) → KeepsFrame old new → (node_of new).shape ≡ (node_of old).shape
+pub frame_shape : (old new : Page) → KeepsFrame old new → (node_of new).shape ≡ (node_of old).shape
 frame_shape (Leaf a) (Leaf b) e = λ i. record { level = 0; low = e.0 i; end = end_of (e.1 i); right = e.2 i }
 frame_shape (Inner a) (Inner b) e = λ i. record { level = e.0 i; low = e.1 i; end = end_of (e.2 i); right = e.3 i }
 frame_shape (Anchor a) new e = absurd e
@@ -24,7 +24,7 @@ frame_shape (Inner a) (Anchor b) e = absurd e
 frame_shape (Inner a) (Leaf b) e = absurd e
 frame_shape (Inner a) (Dead b) e = absurd e
 
-look_of : (p : Page) → (k : ℕ) → (node_of p).look k ≡ map_of (pairs_of p) k
+pub look_of : (p : Page) → (k : ℕ) → (node_of p).look k ≡ map_of (pairs_of p) k
 look_of (Anchor a) k = refl
 look_of (Leaf a) k = refl
 look_of (Inner a) k = refl
@@ -54,7 +54,7 @@ pub record HasBounds (from high link : ℕ) (old new : Page) : Type 0 where
   pub right : (node_of new).shape.right ≡ link
   pub wide : (node_of new).shape.low < (node_of new).shape.end
 
-now_bounds : (low high right : ℕ) (old new : Page) → IsNow low high right old new → HasBounds low high right old new
+pub now_bounds : (low high right : ℕ) (old new : Page) → IsNow low high right old new → HasBounds low high right old new
 now_bounds low high right (Leaf a) (Leaf b) e = record { level = refl; low = e.0; end = ap end_of e.1; right = e.2; wide = b.bounds }
 now_bounds low high right (Inner a) (Inner b) e = record { level = e.0; low = e.1; end = ap end_of e.2; right = e.3; wide = b.bounds }
 now_bounds low high right (Anchor a) new e = absurd e
@@ -67,13 +67,13 @@ now_bounds low high right (Inner a) (Leaf b) e = absurd e
 now_bounds low high right (Inner a) (Dead b) e = absurd e
 
 -- a page of the tree has its own bounds
-own_bounds : (page : Page) (low high right : ℕ) (new : Page) → IsNow low high right page new → ((node_of page).shape.low ≡ low_of page) × ((node_of page).shape.end ≡ end_of (high_of page)) × ((node_of page).shape.right ≡ right_of page)
+pub own_bounds : (page : Page) (low high right : ℕ) (new : Page) → IsNow low high right page new → ((node_of page).shape.low ≡ low_of page) × ((node_of page).shape.end ≡ end_of (high_of page)) × ((node_of page).shape.right ≡ right_of page)
 own_bounds (Anchor a) low high right new e = absurd e
 own_bounds (Leaf a) low high right new e = (refl, refl, refl)
 own_bounds (Inner a) low high right new e = (refl, refl, refl)
 own_bounds (Dead a) low high right new e = absurd e
 
-end_is : (high : ℕ) → 0 < high → end_of high ≡ high
+pub end_is : (high : ℕ) → 0 < high → end_of high ≡ high
 end_is high h = grind arith
 
 pub split_cut : (page left right : Page) (key word new_page separator : ℕ) → IsFitted page key word new_page (Split left right separator) → Covers (node_of page).shape key → IsCut new_page key (Some word) (node_of page) (node_of left) (node_of right)

@@ -3,3 +3,4 @@ pub mod Moves
 pub mod Fitted
 pub mod Compressions
 pub mod Partings
+pub mod Neighbours

@@ -24,20 +24,30 @@ use Rattle.bl_proc.specs.declared.posting.PostStage.{PostStage}
 use Rattle.bl_proc.specs.declared.posting.PostStage.TheVariants as post
 use Rattle.bl_proc.specs.declared.reclaiming.ReclaimStage.{ReclaimStage}
 use Rattle.bl_proc.specs.declared.reclaiming.ReclaimStage.TheVariants as reclaim
+use Rattle.bl_ways.specs.declared.compressing.Compression.{Compression}
+use Rattle.bl_ways.specs.declared.compressing.Compression.TheVariants.{LatchingLeft, LatchedLeft, LatchingRight, LatchedRight, PuttingFirst, PuttingParent, PuttingLast, Retiring, OpeningRight, OpeningLeft, OpeningParent}
+use Rattle.bl_proc.specs.declared.squeezing.CompressStage.{CompressStage}
+use Rattle.bl_proc.specs.declared.squeezing.CompressStage.TheVariants as compress
 use Rattle.bl_proc.specs.declared.kinds.Proc.{Proc}
-use Rattle.bl_proc.specs.declared.kinds.Proc.TheVariants.{Find, Insert, Delete, Post, Part, Reclaim}
+use Rattle.bl_proc.specs.declared.kinds.Proc.TheVariants.{Find, Insert, Delete, Post, Part, Compress, Reclaim}
 use Rattle.bl_ways.specs.Approaches.{approach_next}
 use Rattle.bl_ways.specs.Changes.{change_next}
+use Rattle.bl_ways.specs.Compressions.{put_of, other, compression_next}
+use Rattle.bl_rearrange.specs.declared.sides.Side.{Side}
+use Rattle.bl_rearrange.specs.declared.sides.Side.TheVariants as side
+use Rattle.bl_ways.specs.declared.compressing.Puts.{Puts}
 use Rattle.bl_ways.specs.Growths.{growth_next}
 use Rattle.bl_proc.specs.Searches.{find_next_in}
 use Rattle.bl_proc.specs.Parts.{part_next_in}
 use Rattle.bl_proc.specs.Inserts.{insert_next_in}
 use Rattle.bl_proc.specs.Deletes.{delete_next_in}
 use Rattle.bl_proc.specs.Posts.{post_next_in}
+use Rattle.bl_proc.specs.Compresses.{compress_next_in}
 use Rattle.bl_proc.specs.Reclaims.{reclaim_next_in}
 use Rattle.bl_proc.specs.Processes.{next_of}
+use Rattle.bl_tables.specs.Compressing.{know_squeeze}
 use Rattle.bl_tables.specs.Tables.{Aim, know_approach, know_change}
-use Rattle.bl_tables.specs.Knowing.{know_growth, know_find, know_part, know_insert, know_delete, know_post, know_reclaim, know_of, Run, bare}
+use Rattle.bl_tables.specs.Knowing.{know_growth, know_find, know_part, know_insert, know_delete, know_post, know_compress, know_reclaim, know_of, Run, bare}
 
 -- page 0, or one that it may get
 abbrev pub IsGot : {P : Type 0} → World P → Name → Action → Type 0
@@ -111,6 +121,31 @@ module _ {P : Type 0} (w : World P) (p : Name) where
   post_got level key got child (post.Ending r) is = tt
   post_got level key got child (post.Over r) is = tt
 
+  put_got : (u : Puts) (sd : Side) → IsGot w p (put_of sd u)
+  put_got u side.Left = tt
+  put_got u side.Right = tt
+
+  squeeze_got : (level key : ℕ) (got : ℕ → Page) (c : Compression) → IsSure w p (know_squeeze level key got c) → IsGot w p (compression_next c)
+  squeeze_got level key got (LatchingLeft f) is = tt
+  squeeze_got level key got (LatchedLeft f) is = inr is.goes.0.may
+  squeeze_got level key got (LatchingRight f c) is = tt
+  squeeze_got level key got (LatchedRight f c) is = inr is.goes.0.may
+  squeeze_got level key got (PuttingFirst u) is = put_got u u.gains
+  squeeze_got level key got (PuttingParent u) is = tt
+  squeeze_got level key got (PuttingLast u) is = put_got u (other u.gains)
+  squeeze_got level key got (Retiring t f) is = tt
+  squeeze_got level key got (OpeningRight t f) is = tt
+  squeeze_got level key got (OpeningLeft t f) is = tt
+  squeeze_got level key got (OpeningParent x f) is = tt
+
+  compress_got : (level key : ℕ) (got : ℕ → Page) (a : CompressStage) → IsSure w p (know_compress level key got a) → IsGot w p (compress_next_in a)
+  compress_got level key got compress.New is = tt
+  compress_got level key got (compress.Coming a) is = approach_got level key a is
+  compress_got level key got (compress.Compressing c) is = squeeze_got level key got c is
+  compress_got level key got (compress.Staying x) is = tt
+  compress_got level key got (compress.Ending r) is = tt
+  compress_got level key got (compress.Over r) is = tt
+
   reclaim_got : (page time : ℕ) (a : ReclaimStage) → IsSure w p (know_reclaim time a) → IsGot w p (reclaim_next_in page a)
   reclaim_got page time reclaim.Seeing is = tt
   reclaim_got page time (reclaim.Looking r) is = tt
@@ -123,6 +158,7 @@ module _ {P : Type 0} (w : World P) (p : Name) where
   of_got got child time (Delete a) is = delete_got a.key got a.stage is
   of_got got child time (Post a) is = post_got a.level a.key got child a.stage is
   of_got got child time (Part a) is = part_got a.from a.stage is
+  of_got got child time (Compress a) is = compress_got a.level a.key got a.stage is
   of_got got child time (Reclaim a) is = reclaim_got a.page time a.stage is
 
 pub got_next_is : (w : World Run) (p : Name) → IsGood bare w → IsGot w p (next_of (w.proc p).state)

@@ -132,7 +132,7 @@ cut_low (Anchor c) left right key word new separator f = absurd f.4
 cut_low (Dead c) left right key word new separator f = absurd f.4
 
 -- what a page lists it covers
-covered_in : (c : Page) (j v : ℕ) → (node_of c).look j ≡ Some v → Covers (node_of c).shape j
+pub covered_in : (c : Page) (j v : ℕ) → (node_of c).look j ≡ Some v → Covers (node_of c).shape j
 covered_in (Anchor a) j v e = absurd cc
 covered_in (Leaf l) j v e = (sound_node (Leaf l) tt).covered j v e
 covered_in (Inner i) j v e = (sound_node (Inner i) tt).covered j v e

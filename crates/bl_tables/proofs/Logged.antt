@@ -22,15 +22,19 @@ use Rattle.bl_ways.specs.declared.growing.Growth.{Growth}
 use Rattle.bl_ways.specs.declared.growing.Growth.TheVariants as growth
 use Rattle.bl_proc.specs.declared.posting.PostStage.{PostStage}
 use Rattle.bl_proc.specs.declared.posting.PostStage.TheVariants as post
+use Rattle.bl_ways.specs.declared.compressing.Compression.TheVariants.{LatchingLeft, LatchedLeft, LatchingRight, LatchedRight, PuttingFirst, PuttingParent, PuttingLast, Retiring, OpeningRight, OpeningLeft, OpeningParent}
+use Rattle.bl_proc.specs.declared.squeezing.CompressStage.{CompressStage}
+use Rattle.bl_proc.specs.declared.squeezing.CompressStage.TheVariants as compress
 use Rattle.bl_proc.specs.declared.kinds.Proc.{Proc}
-use Rattle.bl_proc.specs.declared.kinds.Proc.TheVariants.{Find, Insert, Delete, Post, Part, Reclaim}
+use Rattle.bl_proc.specs.declared.kinds.Proc.TheVariants.{Find, Insert, Delete, Post, Part, Compress, Reclaim}
 use Rattle.bl_proc.specs.Processes.{next_of, Takes}
 use Rattle.bl_tables.specs.Turns.{event_of, IsTold, Turned}
 use Rattle.bl_tables.specs.Tables.{know_approach, know_change}
-use Rattle.bl_tables.specs.Logs.{proc_log, post_log}
-use Rattle.bl_tables.specs.Knowing.{Run, know_of, bare, know, know_growth, know_post, post_aim, end_of_proc, run_next}
+use Rattle.bl_tables.specs.Logs.{proc_log, post_log, compress_log}
+use Rattle.bl_tables.specs.Knowing.{Run, know_of, bare, know, know_growth, know_post, know_compress, post_aim, end_of_proc, run_next}
 use Rattle.bl_tables.proofs.Plain.{plain}
 use Rattle.bl_tables.proofs.Logging.{post_on, post_stays}
+use Rattle.bl_tables.proofs.Doing.{compress_on, compress_stays}
 
 pub bare_good : (w : World Run) → IsGood know w → IsGood bare w
 bare_good w g = record {
@@ -48,7 +52,16 @@ bare_good w g = record {
   bounded = g.bounded;
   names = g.names;
   gone = g.gone;
-  middles = λ x y e. absurd (let m = g.middles x y e in let n = (plain (w.proc m.by)).middle in let i = m.is in cc);
+  middles = λ x y e. let m = g.middles x y e in record {
+    by = m.by;
+    parent = m.parent;
+    is = m.is;
+    held = m.held;
+    parent_held = m.parent_held;
+    parent_live = m.parent_live;
+    parent_level = m.parent_level;
+    parent_covers = m.parent_covers;
+  };
   sure = λ p. let is = g.sure p in record {
     stage = is.stage;
     said = is.said;
@@ -77,7 +90,16 @@ full_good w g logs = record {
   bounded = g.bounded;
   names = g.names;
   gone = g.gone;
-  middles = λ x y e. absurd (let m = g.middles x y e in let n = (plain (w.proc m.by)).middle in let i = m.is in cc);
+  middles = λ x y e. let m = g.middles x y e in record {
+    by = m.by;
+    parent = m.parent;
+    is = m.is;
+    held = m.held;
+    parent_held = m.parent_held;
+    parent_live = m.parent_live;
+    parent_level = m.parent_level;
+    parent_covers = m.parent_covers;
+  };
   sure = λ p. let is = g.sure p in record {
     stage = is.stage;
     said = is.said;
@@ -118,12 +140,36 @@ early_post level key got child (post.Changing (change.PuttingOld p)) e marks = a
 early_post level key got child (post.Changing (change.OpeningNew x new separator)) e marks = absurd (let f = e in cc)
 early_post level key got child (post.Changing (change.Opening x o)) e marks = absurd (let f = e in cc)
 
+early_press : (level key : ℕ) (got : ℕ → Page) (a : CompressStage) → (know_compress level key got a).stage ≡ Stage.Early → (marks : Trail) → compress_log level key a marks
+early_press level key got compress.New e marks = tt
+early_press level key got (compress.Coming way.Start) e marks = absurd (let f = e in cc)
+early_press level key got (compress.Coming (way.At x)) e marks = absurd (let f = e in cc)
+early_press level key got (compress.Coming (way.Latching x)) e marks = absurd (let f = e in cc)
+early_press level key got (compress.Coming (way.Latched x)) e marks = absurd (let f = e in cc)
+early_press level key got (compress.Coming (way.Leaving x None)) e marks = absurd (let f = e in cc)
+early_press level key got (compress.Coming (way.Leaving x (Some y))) e marks = absurd (let f = e in cc)
+early_press level key got (compress.Compressing (LatchingLeft h)) e marks = absurd (let f = e in cc)
+early_press level key got (compress.Compressing (LatchedLeft h)) e marks = absurd (let f = e in cc)
+early_press level key got (compress.Compressing (LatchingRight h c)) e marks = absurd (let f = e in cc)
+early_press level key got (compress.Compressing (LatchedRight h c)) e marks = absurd (let f = e in cc)
+early_press level key got (compress.Compressing (PuttingFirst u)) e marks = absurd (let f = e in cc)
+early_press level key got (compress.Compressing (PuttingParent u)) e marks = absurd (let f = e in cc)
+early_press level key got (compress.Compressing (PuttingLast u)) e marks = absurd (let f = e in cc)
+early_press level key got (compress.Compressing (Retiring t h)) e marks = absurd (let f = e in cc)
+early_press level key got (compress.Compressing (OpeningRight t h)) e marks = absurd (let f = e in cc)
+early_press level key got (compress.Compressing (OpeningLeft t h)) e marks = absurd (let f = e in cc)
+early_press level key got (compress.Compressing (OpeningParent x h)) e marks = absurd (let f = e in cc)
+early_press level key got (compress.Staying x) e marks = absurd (let f = e in cc)
+early_press level key got (compress.Ending r) e marks = absurd (let f = e in cc)
+early_press level key got (compress.Over r) e marks = absurd (let f = e in cc)
+
 early_state : (got : ℕ → Page) (child time : ℕ) (a : Proc) → (know_of got child time a).stage ≡ Stage.Early → (marks : Trail) → proc_log a marks
 early_state got child time (Find a) e marks = tt
 early_state got child time (Insert a) e marks = tt
 early_state got child time (Delete a) e marks = tt
 early_state got child time (Post a) e marks = early_post a.level a.key got child a.stage e marks
 early_state got child time (Part a) e marks = tt
+early_state got child time (Compress a) e marks = early_press a.level a.key got a.stage e marks
 early_state got child time (Reclaim a) e marks = tt
 
 pub early_log : (b : Run) → (know b).stage ≡ Stage.Early → (marks : Trail) → proc_log b.state marks
@@ -274,12 +320,27 @@ log_turn (Reclaim a) (Find c) what marks m t did saw h = tt
 log_turn (Reclaim a) (Insert c) what marks m t did saw h = tt
 log_turn (Reclaim a) (Delete c) what marks m t did saw h = tt
 log_turn (Reclaim a) (Part c) what marks m t did saw h = tt
+log_turn (Compress a) (Compress c) what marks m t did saw h =
+    subst (λ l. compress_log l c.key c.stage (marks ++ m ∷ [])) (sym t.0) (subst (λ k. compress_log a.level k c.stage (marks ++ m ∷ [])) (sym t.1) (compress_on marks m a.level a.key a.least a.stage c.stage what t.2 did saw h))
+log_turn (Find a) (Compress c) what marks m t did saw h = absurd t
+log_turn (Compress a) (Find c) what marks m t did saw h = tt
+log_turn (Insert a) (Compress c) what marks m t did saw h = absurd t
+log_turn (Compress a) (Insert c) what marks m t did saw h = tt
+log_turn (Delete a) (Compress c) what marks m t did saw h = absurd t
+log_turn (Compress a) (Delete c) what marks m t did saw h = tt
+log_turn (Post a) (Compress c) what marks m t did saw h = absurd t
+log_turn (Compress a) (Post c) what marks m t did saw h = absurd t
+log_turn (Part a) (Compress c) what marks m t did saw h = absurd t
+log_turn (Compress a) (Part c) what marks m t did saw h = tt
+log_turn (Reclaim a) (Compress c) what marks m t did saw h = absurd t
+log_turn (Compress a) (Reclaim c) what marks m t did saw h = tt
 
 log_stays : (old : Proc) (marks : Trail) (m : Mark) → m.event.act ≡ Miss → proc_log old marks → proc_log old (marks ++ m ∷ [])
 log_stays (Find a) marks m did h = tt
 log_stays (Insert a) marks m did h = tt
 log_stays (Delete a) marks m did h = tt
 log_stays (Part a) marks m did h = tt
+log_stays (Compress a) marks m did h = compress_stays marks m a.level a.key did a.stage h
 log_stays (Reclaim a) marks m did h = tt
 log_stays (Post a) marks m did h = post_stays marks m a.level a.key a.least (ap put_in did) (λ x o. (let e = sym did ∙ o in cc)) a.stage h
 

@@ -72,8 +72,8 @@ module _ (marks : Trail) (m : Mark) (level key : ℕ) (least : 0 < level) where
   outcome_reply (outcome.Parted s) h = h
   outcome_reply outcome.Refused h = h
 
-  -- on the way
-  latched_on : (a : Approach) (y : ℕ) (what : Seen) → Approaches level key a what (came.On (way.Latched y)) → m.event.act ≡ event_of None (approach_next a) what → Holding more y []
+  -- on the way a page is held from its latch on
+  pub latched_on : (a : Approach) (y : ℕ) (what : Seen) → Approaches level key a what (came.On (way.Latched y)) → m.event.act ≡ event_of None (approach_next a) what → m.event.act ≡ Latch y
   latched_on way.Start y seen.Done t did = absurd t
   latched_on way.Start y (seen.Words c) t did = absurd t
   latched_on way.Start y (seen.Took n) t did = absurd t
@@ -88,7 +88,7 @@ module _ (marks : Trail) (m : Mark) (level key : ℕ) (least : 0 < level) where
   latched_on (way.At x) y (seen.Blocks it) t did = absurd t
   latched_on (way.At x) y seen.Missed t did = absurd t
   latched_on (way.At x) y seen.Refused t did = absurd t
-  latched_on (way.Latching x) y seen.Done t did = held_now marks m y (did ∙ ap Latch (same_latched x y t))
+  latched_on (way.Latching x) y seen.Done t did = did ∙ ap Latch (same_latched x y t)
   latched_on (way.Latching x) y (seen.Words c) t did = absurd t
   latched_on (way.Latching x) y (seen.Took n) t did = absurd t
   latched_on (way.Latching x) y (seen.Owner retired started own) t did = absurd t
@@ -121,7 +121,7 @@ module _ (marks : Trail) (m : Mark) (level key : ℕ) (least : 0 < level) where
   approach_on a way.Start what t did = tt
   approach_on a (way.At x) what t did = tt
   approach_on a (way.Latching x) what t did = tt
-  approach_on a (way.Latched x) what t did = latched_on a x what t did
+  approach_on a (way.Latched x) what t did = held_now marks m x (latched_on a x what t did)
   approach_on a (way.Leaving x to) what t did = tt
 
   -- at the parent

@@ -28,20 +28,30 @@ use Rattle.bl_proc.specs.declared.posting.PostStage.{PostStage}
 use Rattle.bl_proc.specs.declared.posting.PostStage.TheVariants as post
 use Rattle.bl_proc.specs.declared.reclaiming.ReclaimStage.{ReclaimStage}
 use Rattle.bl_proc.specs.declared.reclaiming.ReclaimStage.TheVariants as reclaim
+use Rattle.bl_ways.specs.declared.compressing.Compression.{Compression}
+use Rattle.bl_ways.specs.declared.compressing.Compression.TheVariants.{LatchingLeft, LatchedLeft, LatchingRight, LatchedRight, PuttingFirst, PuttingParent, PuttingLast, Retiring, OpeningRight, OpeningLeft, OpeningParent}
+use Rattle.bl_proc.specs.declared.squeezing.CompressStage.{CompressStage}
+use Rattle.bl_proc.specs.declared.squeezing.CompressStage.TheVariants as compress
 use Rattle.bl_proc.specs.declared.kinds.Proc.{Proc}
-use Rattle.bl_proc.specs.declared.kinds.Proc.TheVariants.{Find, Insert, Delete, Post, Part, Reclaim}
+use Rattle.bl_proc.specs.declared.kinds.Proc.TheVariants.{Find, Insert, Delete, Post, Part, Compress, Reclaim}
 use Rattle.bl_ways.specs.Approaches.{approach_next}
 use Rattle.bl_ways.specs.Changes.{change_next}
+use Rattle.bl_ways.specs.Compressions.{put_of, other, compression_next}
+use Rattle.bl_rearrange.specs.declared.sides.Side.{Side}
+use Rattle.bl_rearrange.specs.declared.sides.Side.TheVariants as side
+use Rattle.bl_ways.specs.declared.compressing.Puts.{Puts}
 use Rattle.bl_ways.specs.Growths.{growth_next}
 use Rattle.bl_proc.specs.Searches.{find_next_in}
 use Rattle.bl_proc.specs.Parts.{part_next_in}
 use Rattle.bl_proc.specs.Inserts.{insert_next_in}
 use Rattle.bl_proc.specs.Deletes.{delete_next_in}
 use Rattle.bl_proc.specs.Posts.{post_next_in}
+use Rattle.bl_proc.specs.Compresses.{compress_next_in}
 use Rattle.bl_proc.specs.Reclaims.{reclaim_next_in}
 use Rattle.bl_proc.specs.Processes.{next_of}
+use Rattle.bl_tables.specs.Compressing.{know_squeeze}
 use Rattle.bl_tables.specs.Tables.{Aim, know_approach, know_change}
-use Rattle.bl_tables.specs.Knowing.{know_growth, know_find, know_part, know_insert, know_delete, know_post, know_reclaim, know_of, Run, bare, know}
+use Rattle.bl_tables.specs.Knowing.{know_growth, know_find, know_part, know_insert, know_delete, know_post, know_compress, know_reclaim, know_of, Run, bare, know}
 use Rattle.bl_tables.proofs.Logged.{bare_good}
 
 abbrev pub IsNear : {P : Type 0} → World P → Name → Action → Type 0
@@ -124,6 +134,31 @@ module _ {P : Type 0} (know : P → Know) (w : World P) (g : IsGood know w) (p :
   post_near level key got child (post.Ending r) is = tt
   post_near level key got child (post.Over r) is = tt
 
+  put_near : (u : Puts) (sd : Side) → w.now.owner u.at.left ≡ Held p → w.now.owner u.at.right ≡ Held p → IsNear w p (put_of sd u)
+  put_near u side.Left left right = left
+  put_near u side.Right left right = right
+
+  squeeze_near : (level key : ℕ) (got : ℕ → Page) (c : Compression) → IsSure w p (know_squeeze level key got c) → IsNear w p (compression_next c)
+  squeeze_near level key got (LatchingLeft f) is = not_free f.at.left is.goes.0.may
+  squeeze_near level key got (LatchedLeft f) is = not_released know w g p f.at.left is.goes.0.may
+  squeeze_near level key got (LatchingRight f c) is = not_free f.at.right is.goes.0.may
+  squeeze_near level key got (LatchedRight f c) is = not_released know w g p f.at.right is.goes.0.may
+  squeeze_near level key got (PuttingFirst u) is = put_near u u.gains is.holds.1.0.owner is.holds.1.1.0.owner
+  squeeze_near level key got (PuttingParent u) is = is.holds.0.owner
+  squeeze_near level key got (PuttingLast u) is = put_near u (other u.gains) is.holds.1.0.owner is.holds.1.1.0.owner
+  squeeze_near level key got (Retiring t f) is = tt
+  squeeze_near level key got (OpeningRight t f) is = is.holds.1.1.0.owner
+  squeeze_near level key got (OpeningLeft t f) is = is.holds.1.0.owner
+  squeeze_near level key got (OpeningParent x f) is = is.holds.0.owner
+
+  compress_near : (level key : ℕ) (got : ℕ → Page) (a : CompressStage) → IsSure w p (know_compress level key got a) → IsNear w p (compress_next_in a)
+  compress_near level key got compress.New is = tt
+  compress_near level key got (compress.Coming a) is = approach_near level key a is
+  compress_near level key got (compress.Compressing c) is = squeeze_near level key got c is
+  compress_near level key got (compress.Staying x) is = is.holds.0.owner
+  compress_near level key got (compress.Ending r) is = tt
+  compress_near level key got (compress.Over r) is = tt
+
   reclaim_near : (page time : ℕ) (a : ReclaimStage) → IsSure w p (know_reclaim time a) → IsNear w p (reclaim_next_in page a)
   reclaim_near page time reclaim.Seeing is = tt
   reclaim_near page time (reclaim.Looking r) is = tt
@@ -136,6 +171,7 @@ module _ {P : Type 0} (know : P → Know) (w : World P) (g : IsGood know w) (p :
   of_near got child time (Delete a) is = delete_near a.key got a.stage is
   of_near got child time (Post a) is = post_near a.level a.key got child a.stage is
   of_near got child time (Part a) is = part_near a.from a.stage is
+  of_near got child time (Compress a) is = compress_near a.level a.key got a.stage is
   of_near got child time (Reclaim a) is = reclaim_near a.page time a.stage is
 
 pub bare_near : (w : World Run) (p : Name) → IsGood bare w → IsNear w p (next_of (w.proc p).state)

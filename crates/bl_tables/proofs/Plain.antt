@@ -1,5 +1,5 @@
--- What no process knows by its state: none of these is in the middle of a compression, has looked at others, or keeps a log.
-use Rattle.std.proofs.Common.{ℕ, ◌≡◌, None, Some, refl}
+-- By its state alone no process keeps a log.
+use Rattle.std.proofs.Common.{ℕ, ◌≡◌, ◌⊎◌, None, Some, refl, inl, inr}
 use Rattle.bl_page.specs.declared.page.Page.{Page}
 use Rattle.bl_trails.specs.Trails.{Trail}
 use Rattle.bl_steps.specs.Worlds.{Know}
@@ -21,12 +21,22 @@ use Rattle.bl_proc.specs.declared.posting.PostStage.{PostStage}
 use Rattle.bl_proc.specs.declared.posting.PostStage.TheVariants as post
 use Rattle.bl_proc.specs.declared.reclaiming.ReclaimStage.{ReclaimStage}
 use Rattle.bl_proc.specs.declared.reclaiming.ReclaimStage.TheVariants as reclaim
+use Rattle.bl_ways.specs.declared.compressing.Compression.{Compression}
+use Rattle.bl_ways.specs.declared.compressing.Compression.TheVariants.{LatchingLeft, LatchedLeft, LatchingRight, LatchedRight, PuttingFirst, PuttingParent, PuttingLast, Retiring, OpeningRight, OpeningLeft, OpeningParent}
+use Rattle.bl_proc.specs.declared.squeezing.CompressStage.{CompressStage}
+use Rattle.bl_proc.specs.declared.squeezing.CompressStage.TheVariants as compress
+use Rattle.bl_proc.specs.declared.squeezing.Compress.{Compress as Press}
 use Rattle.bl_proc.specs.declared.kinds.Proc.{Proc}
-use Rattle.bl_proc.specs.declared.kinds.Proc.TheVariants.{Find, Insert, Delete, Post, Part, Reclaim}
+use Rattle.bl_proc.specs.declared.kinds.Proc.TheVariants.{Find, Insert, Delete, Post, Part, Compress, Reclaim}
+use Rattle.bl_tables.specs.Compressing.{know_squeeze}
 use Rattle.bl_tables.specs.Tables.{Aim, know_approach, know_change}
-use Rattle.bl_tables.specs.Knowing.{know_growth, know_find, know_part, know_insert, know_delete, know_post, know_reclaim, know_of, Run, bare}
+use Rattle.bl_tables.specs.Knowing.{know_growth, know_find, know_part, know_insert, know_delete, know_post, know_compress, know_reclaim, know_of, Run, bare}
 
-pub record IsPlain (k : Know) : Type 1 where
+pub record HasNoLog (k : Know) : Type 1 where
+  pub log : (marks : Trail) → k.log marks
+
+-- nor is in the middle of a compression, but one that compresses
+record IsPlain (k : Know) : Type 1 where
   pub middle : k.middle ≡ None
   pub log : (marks : Trail) → k.log marks
 
@@ -96,19 +106,51 @@ post_plain level key got child (post.Coming a) = approach_plain level key a
 post_plain level key got child (post.Growing h) = growth_plain level key got h
 post_plain level key got child (post.Changing c) = change_plain _ got c
 
+squeeze_plain : (level key : ℕ) (got : ℕ → Page) (c : Compression) → HasNoLog (know_squeeze level key got c)
+squeeze_plain level key got (LatchingLeft f) = record { log = λ marks. tt }
+squeeze_plain level key got (LatchedLeft f) = record { log = λ marks. tt }
+squeeze_plain level key got (LatchingRight f c) = record { log = λ marks. tt }
+squeeze_plain level key got (LatchedRight f c) = record { log = λ marks. tt }
+squeeze_plain level key got (PuttingFirst u) = record { log = λ marks. tt }
+squeeze_plain level key got (PuttingParent u) = record { log = λ marks. tt }
+squeeze_plain level key got (PuttingLast u) = record { log = λ marks. tt }
+squeeze_plain level key got (Retiring t f) = record { log = λ marks. tt }
+squeeze_plain level key got (OpeningRight t f) = record { log = λ marks. tt }
+squeeze_plain level key got (OpeningLeft t f) = record { log = λ marks. tt }
+squeeze_plain level key got (OpeningParent x f) = record { log = λ marks. tt }
+
+compress_plain : (level key : ℕ) (got : ℕ → Page) (a : CompressStage) → HasNoLog (know_compress level key got a)
+compress_plain level key got compress.New = record { log = λ marks. tt }
+compress_plain level key got (compress.Coming a) = record { log = (approach_plain level key a).log }
+compress_plain level key got (compress.Compressing c) = squeeze_plain level key got c
+compress_plain level key got (compress.Staying x) = record { log = λ marks. tt }
+compress_plain level key got (compress.Ending r) = record { log = λ marks. tt }
+compress_plain level key got (compress.Over r) = record { log = λ marks. tt }
+
 reclaim_plain : (time : ℕ) (a : ReclaimStage) → IsPlain (know_reclaim time a)
 reclaim_plain time reclaim.Seeing = record { middle = refl; log = λ marks. tt }
 reclaim_plain time (reclaim.Looking r) = record { middle = refl; log = λ marks. tt }
 reclaim_plain time reclaim.Releasing = record { middle = refl; log = λ marks. tt }
 reclaim_plain time (reclaim.Over what) = record { middle = refl; log = λ marks. tt }
 
-of_plain : (got : ℕ → Page) (child time : ℕ) (state : Proc) → IsPlain (know_of got child time state)
-of_plain got child time (Find p) = find_plain p.key p.stage
-of_plain got child time (Insert p) = insert_plain p.key p.value got p.stage
-of_plain got child time (Delete p) = delete_plain p.key got p.stage
-of_plain got child time (Post p) = post_plain p.level p.key got child p.stage
-of_plain got child time (Part p) = part_plain p.from p.stage
-of_plain got child time (Reclaim p) = reclaim_plain time p.stage
+of_plain : (got : ℕ → Page) (child time : ℕ) (state : Proc) → HasNoLog (know_of got child time state)
+of_plain got child time (Find p) = record { log = (find_plain p.key p.stage).log }
+of_plain got child time (Insert p) = record { log = (insert_plain p.key p.value got p.stage).log }
+of_plain got child time (Delete p) = record { log = (delete_plain p.key got p.stage).log }
+of_plain got child time (Post p) = record { log = (post_plain p.level p.key got child p.stage).log }
+of_plain got child time (Part p) = record { log = (part_plain p.from p.stage).log }
+of_plain got child time (Compress p) = compress_plain p.level p.key got p.stage
+of_plain got child time (Reclaim p) = record { log = (reclaim_plain time p.stage).log }
 
-pub plain : (r : Run) → IsPlain (bare r)
+pub plain : (r : Run) → HasNoLog (bare r)
 plain r = of_plain r.got r.child r.time r.state
+
+-- whoever is in the middle of a compression compresses
+pub of_middle : (got : ℕ → Page) (child time : ℕ) (state : Proc) → ((know_of got child time state).middle ≡ None) ⊎ ((p : Press) × (state ≡ Compress p))
+of_middle got child time (Find p) = inl (find_plain p.key p.stage).middle
+of_middle got child time (Insert p) = inl (insert_plain p.key p.value got p.stage).middle
+of_middle got child time (Delete p) = inl (delete_plain p.key got p.stage).middle
+of_middle got child time (Post p) = inl (post_plain p.level p.key got child p.stage).middle
+of_middle got child time (Part p) = inl (part_plain p.from p.stage).middle
+of_middle got child time (Compress p) = inr (p, refl)
+of_middle got child time (Reclaim p) = inl (reclaim_plain time p.stage).middle

@@ -2,7 +2,6 @@
 use Rattle.std.proofs.Common.{ℕ, ◌≡◌, None, Some, ap, sym, ◌∙◌, subst, inl, inr}
 use Rattle.bl_page.specs.Machine.{Name}
 use Rattle.bl_page.specs.Machine.Phase.{Waiting}
-use Rattle.bl_tree.specs.Trees.Status.{Right}
 use Rattle.bl_trails.specs.Moments.{HasLaws}
 use Rattle.bl_trails.specs.Trails.{marks_of, HasSaid}
 use Rattle.bl_trails.proofs.Pushes.{name_cases}
@@ -14,20 +13,12 @@ use Rattle.bl_starts.proofs.WorldLaws.{laws}
 use Rattle.bl_tables.specs.Logs.{proc_log}
 use Rattle.bl_tables.specs.Knowing.{Run, bare, know}
 use Rattle.bl_tables.proofs.Plain.{plain}
+use Rattle.bl_tables.proofs.Middles.{tells_middles}
 use Rattle.bl_tables.proofs.Logged.{bare_good, full_good, bare_blank, early_log}
 
 -- The laws of the tree hold in every good world of these processes.
-pub bare_laws : (w : World Run) → IsGood bare w → HasLaws w.now w.trail (w.map 0)
-bare_laws w g = laws bare w (record {
-  middle = λ x y e. absurd (none x y e);
-  evening = λ x y e. absurd (none x y e);
-}) g
-  where
-    none : (x y : ℕ) → w.status y ≡ Right x → ⊥
-    none x y e = (let m = g.middles x y e in let n = (plain (w.proc m.by)).middle in let i = m.is in cc)
-
 pub run_laws : (w : World Run) → IsGood know w → HasLaws w.now w.trail (w.map 0)
-run_laws w g = bare_laws w (bare_good w g)
+run_laws w g = laws know w (tells_middles w g) g
 
 -- the same world with another process at one name
 abbrev pub with_proc : World Run → Name → Run → World Run
@@ -87,7 +78,22 @@ bare_enters_good w p b g waiting old new =
             (record { since = l.0.since; runs = l.0.runs; was = l.0.was; kept = l.0.kept }, l.1));
         not_yet = o.not_yet;
       };
-      middles = λ x y e. absurd (let m = g.middles x y e in let n = (plain (w.proc m.by)).middle in let i = m.is in cc);
+      middles = λ x y e.
+          let m = g.middles x y e in
+          let is : (bare (put_name p b w.proc m.by)).middle ≡ Some (record { parent = m.parent; left = x; right = y }) = elim (name_cases m.by p) [
+            | inl i ↦ absurd (subst (λ hs. Holds hs y) (ap (λ n. (bare (w.proc n)).holds) i ∙ old.holds) (g.owned.held y m.by m.held))
+            | inr n ↦ ap (λ r. (bare r).middle) (put.others m.by n) ∙ m.is
+          ] in
+          record {
+            by = m.by;
+            parent = m.parent;
+            is = is;
+            held = m.held;
+            parent_held = m.parent_held;
+            parent_live = m.parent_live;
+            parent_level = m.parent_level;
+            parent_covers = m.parent_covers;
+          };
       sure = λ q. elim (name_cases q p) [
         | inl e ↦
             let is : IsSure w q (bare (w.proc q)) = g.sure q in

@@ -9,10 +9,10 @@ use Rattle.bl_steps.specs.Worlds.{World, IsHeld, IsRelied, IsGood, silent}
 use Rattle.bl_steps.proofs.Frames.{Each-map}
 use Rattle.bl_ways.specs.declared.acts.Seen.{Seen}
 use Rattle.bl_proc.specs.declared.kinds.Proc.{Proc}
-use Rattle.bl_proc.specs.declared.kinds.Proc.TheVariants.{Find, Insert, Delete, Post, Part, Reclaim}
+use Rattle.bl_proc.specs.declared.kinds.Proc.TheVariants.{Find, Insert, Delete, Post, Part, Compress, Reclaim}
 use Rattle.bl_proc.specs.Processes.{next_of, Takes}
 use Rattle.bl_tables.specs.Turns.{event_of, IsTold, IsShown, Does, Turned}
-use Rattle.bl_tables.specs.Knowing.{Run, know_of, bare, know, know_find, know_part, know_insert, know_delete, know_post, insert_got, delete_got, post_got, post_child, end_of_proc, got_next, child_next, time_next, run_next}
+use Rattle.bl_tables.specs.Knowing.{Run, know_of, bare, know, know_find, know_part, know_insert, know_delete, know_post, know_compress, compress_got, insert_got, delete_got, post_got, post_child, end_of_proc, got_next, child_next, time_next, run_next}
 use Rattle.bl_tables.proofs.Acts.{watched}
 use Rattle.bl_tables.proofs.Plain.{plain}
 use Rattle.bl_tables.proofs.Logged.{bare_good, with_logs, with_miss}
@@ -21,6 +21,7 @@ use Rattle.bl_tables.proofs.Listing.{part_turn}
 use Rattle.bl_tables.proofs.Inserting.{insert_turn}
 use Rattle.bl_tables.proofs.Deleting.{delete_turn}
 use Rattle.bl_tables.proofs.Posting.{post_turn}
+use Rattle.bl_tables.proofs.Pressing.{compress_turn}
 use Rattle.bl_tables.proofs.Reclaiming.{reclaim_turn}
 
 state_turn : (w : World Run) (p : Name) (got : ℕ → Page) (child time : ℕ) (old new : Proc) (b : Run) (what : Seen) (s : State Page) → IsGood bare w → bare (w.proc p) ≡ know_of got child time old → bare b ≡ know_of (got_next got old what) (child_next child old) (time_next w.now time old) new → Takes old what new → IsTold w.now w.size (next_of old) what → IsShown w.now p time (next_of old) what → Does w.now p (event_of (end_of_proc old) (next_of old) what) s → Turned bare w p (event_of (end_of_proc old) (next_of old) what) s b
@@ -66,6 +67,20 @@ state_turn w p got child time (Post a) (Reclaim c) b what s g before then t told
 state_turn w p got child time (Reclaim a) (Post c) b what s g before then t told shown does = absurd t
 state_turn w p got child time (Part a) (Reclaim c) b what s g before then t told shown does = absurd t
 state_turn w p got child time (Reclaim a) (Part c) b what s g before then t told shown does = absurd t
+state_turn w p got child time (Compress a) (Compress c) b what s g before then t told shown does =
+    compress_turn bare w g p b a.level a.key a.least a.most a.stage c.stage got what s before (subst (λ l. bare b ≡ know_compress l a.key (compress_got got a.stage what) c.stage) t.0 (subst (λ k. bare b ≡ know_compress c.level k (compress_got got a.stage what) c.stage) t.1 then)) t.2 told does
+state_turn w p got child time (Find a) (Compress c) b what s g before then t told shown does = absurd t
+state_turn w p got child time (Compress a) (Find c) b what s g before then t told shown does = absurd t
+state_turn w p got child time (Insert a) (Compress c) b what s g before then t told shown does = absurd t
+state_turn w p got child time (Compress a) (Insert c) b what s g before then t told shown does = absurd t
+state_turn w p got child time (Delete a) (Compress c) b what s g before then t told shown does = absurd t
+state_turn w p got child time (Compress a) (Delete c) b what s g before then t told shown does = absurd t
+state_turn w p got child time (Post a) (Compress c) b what s g before then t told shown does = absurd t
+state_turn w p got child time (Compress a) (Post c) b what s g before then t told shown does = absurd t
+state_turn w p got child time (Part a) (Compress c) b what s g before then t told shown does = absurd t
+state_turn w p got child time (Compress a) (Part c) b what s g before then t told shown does = absurd t
+state_turn w p got child time (Reclaim a) (Compress c) b what s g before then t told shown does = absurd t
+state_turn w p got child time (Compress a) (Reclaim c) b what s g before then t told shown does = absurd t
 
 -- Process p, which is a, was told this of its next action, truly, and goes to that state: from a good world this leads to a
 -- good world, in which p is in that state, and whose trail has one mark more. First by the states of processes alone.

@@ -34,12 +34,15 @@ use Rattle.bl_proc.specs.declared.posting.PostStage.TheVariants as post
 use Rattle.bl_proc.specs.declared.reclaiming.Round.{Round}
 use Rattle.bl_proc.specs.declared.reclaiming.ReclaimStage.{ReclaimStage}
 use Rattle.bl_proc.specs.declared.reclaiming.ReclaimStage.TheVariants as reclaim
+use Rattle.bl_proc.specs.declared.squeezing.CompressStage.{CompressStage}
+use Rattle.bl_proc.specs.declared.squeezing.CompressStage.TheVariants as compress
 use Rattle.bl_proc.specs.declared.kinds.Proc.{Proc}
 use Rattle.bl_proc.specs.declared.kinds.Proc.TheVariants as proc
 use Rattle.bl_proc.specs.Inserts.{insert_reply}
 use Rattle.bl_proc.specs.Deletes.{delete_reply}
 use Rattle.bl_ways.specs.Growths.{Raises, IsAnchor}
 use Rattle.bl_tables.specs.Logs.{proc_log}
+use Rattle.bl_tables.specs.Compressing.{know_squeeze, compression_got}
 use Rattle.bl_tables.specs.Tables.{idle, holds_live, holds_known, goes_to, know_approach, Aim, IsDue, know_change}
 
 -- it is to begin; it is to end, or has ended, with what it said
@@ -158,6 +161,16 @@ know_post level key got child (post.Staying x r) = record (idle Stage.Busy) { ho
 know_post level key got child (post.Ending r) = ending None
 know_post level key got child (post.Over r) = late None
 
+-- Compressions: they answer no operation of the map
+
+abbrev pub know_compress : ℕ → ℕ → (ℕ → Page) → CompressStage → Know
+know_compress level key got compress.New = early key
+know_compress level key got (compress.Coming a) = know_approach level key a
+know_compress level key got (compress.Compressing c) = know_squeeze level key got c
+know_compress level key got (compress.Staying x) = record (idle Stage.Busy) { holds = holds_live x ∷ [] }
+know_compress level key got (compress.Ending r) = ending None
+know_compress level key got (compress.Over r) = late None
+
 -- Releases: they answer no operation of the map, and never begin. While a process looks at the others, it knows of all but
 -- those that are still ahead of it that they began after the page was retired, if they run.
 
@@ -191,6 +204,7 @@ know_of got child time (proc.Insert p) = know_insert p.key p.value got p.stage
 know_of got child time (proc.Delete p) = know_delete p.key got p.stage
 know_of got child time (proc.Post p) = know_post p.level p.key got child p.stage
 know_of got child time (proc.Part p) = know_part p.from p.stage
+know_of got child time (proc.Compress p) = know_compress p.level p.key got p.stage
 know_of got child time (proc.Reclaim p) = know_reclaim time p.stage
 
 -- by its state alone
@@ -238,6 +252,7 @@ end_of_proc (proc.Insert p) = insert_end p.stage
 end_of_proc (proc.Delete p) = delete_end p.stage
 end_of_proc (proc.Post p) = None
 end_of_proc (proc.Part p) = part_end p.stage
+end_of_proc (proc.Compress p) = None
 end_of_proc (proc.Reclaim p) = None
 
 -- what a process has got of the pages that it holds, after it was told this
@@ -254,6 +269,10 @@ post_got got (post.Growing g) (seen.Words c) = λ x. c
 post_got got (post.Walking w) what = λ x. Inner w.parent
 post_got got stage what = got
 
+abbrev pub compress_got : (ℕ → Page) → CompressStage → Seen → ℕ → Page
+compress_got got (compress.Compressing c) what = compression_got got c what
+compress_got got stage what = got
+
 abbrev pub post_child : ℕ → PostStage → ℕ
 post_child child (post.Walking w) = w.child
 post_child child stage = child
@@ -264,6 +283,7 @@ got_next got (proc.Insert p) what = insert_got got p.stage what
 got_next got (proc.Delete p) what = delete_got got p.stage what
 got_next got (proc.Post p) what = post_got got p.stage what
 got_next got (proc.Part p) what = got
+got_next got (proc.Compress p) what = compress_got got p.stage what
 got_next got (proc.Reclaim p) what = got
 
 abbrev pub child_next : ℕ → Proc → ℕ
@@ -272,6 +292,7 @@ child_next child (proc.Insert p) = child
 child_next child (proc.Delete p) = child
 child_next child (proc.Post p) = post_child child p.stage
 child_next child (proc.Part p) = child
+child_next child (proc.Compress p) = child
 child_next child (proc.Reclaim p) = child
 
 -- since when the page is retired, if it is, at which a release looks
@@ -293,6 +314,7 @@ time_next now time (proc.Insert p) = time
 time_next now time (proc.Delete p) = time
 time_next now time (proc.Post p) = time
 time_next now time (proc.Part p) = time
+time_next now time (proc.Compress p) = time
 time_next now time (proc.Reclaim p) = reclaim_time now time p.page p.stage
 
 -- the process after it was told this of these pages, in that state

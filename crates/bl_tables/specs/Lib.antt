@@ -2,4 +2,6 @@ pub mod Turns
 pub mod Logs
 pub mod Answers
 pub mod Tables
+pub mod Compressing
+pub mod Squeezed
 pub mod Knowing

@@ -1,9 +1,9 @@
--- What a post has done so far, in each of its states: enough to tell in the end what its answer means.
-use Rattle.std.specs.Prelude.{◌≡◌, ◌≢◌, ℕ, suc, None, Some, ◌++◌, List, [], ◌∷◌, Contains}
+-- What a post or a compression has done so far, in each of its states: enough to tell in the end what its answer means.
+use Rattle.std.specs.Prelude.{◌≡◌, ◌≢◌, ℕ, suc, Option, None, Some, ◌++◌, List, [], ◌∷◌, Contains}
 use Rattle.bl_page.specs.declared.page.Page.{Page}
 use Rattle.bl_page.specs.declared.page.Page.TheVariants.{Inner}
 use Rattle.bl_page.specs.Machine.{Act}
-use Rattle.bl_page.specs.Machine.Act.{Latch}
+use Rattle.bl_page.specs.Machine.Act.{Get, Latch}
 use Rattle.bl_tree.specs.Nodes.{Covers}
 use Rattle.bl_laws.specs.Pages.{node_of}
 use Rattle.bl_trails.specs.Trails.{Mark, Trail}
@@ -20,6 +20,18 @@ use Rattle.bl_proc.specs.declared.posting.PostReply.{PostReply}
 use Rattle.bl_proc.specs.declared.posting.PostReply.TheVariants as reply
 use Rattle.bl_proc.specs.declared.posting.PostStage.{PostStage}
 use Rattle.bl_proc.specs.declared.posting.PostStage.TheVariants as post
+use Rattle.bl_ways.specs.declared.compressing.Puts.{Puts}
+use Rattle.bl_ways.specs.declared.answers.Hint.{Hint}
+use Rattle.bl_ways.specs.declared.compressing.Fate.{Fate}
+use Rattle.bl_ways.specs.declared.compressing.Fate.TheVariants as fate
+use Rattle.bl_ways.specs.declared.compressing.Compression.{Compression}
+use Rattle.bl_ways.specs.declared.compressing.Compression.TheVariants.{LatchingLeft, LatchedLeft, LatchingRight, LatchedRight, PuttingFirst, PuttingParent, PuttingLast, Retiring, OpeningRight, OpeningLeft, OpeningParent}
+use Rattle.bl_rearrange.specs.Rearranged.{right_of}
+use Rattle.bl_proc.specs.declared.squeezing.CompressReply.{CompressReply}
+use Rattle.bl_proc.specs.declared.squeezing.CompressReply.TheVariants as pressed
+use Rattle.bl_proc.specs.declared.squeezing.CompressStage.{CompressStage}
+use Rattle.bl_proc.specs.declared.squeezing.CompressStage.TheVariants as compress
+use Rattle.bl_tables.specs.Squeezed.{Since, AtFamily, AtLeft, to_left, to_right, to_first, to_second, to_last, IsToSqueeze, MeansMerged, MeansEvened, MeansEnough, MeansUnposted, MeansAlone, MeansNoPlace}
 use Rattle.bl_proc.specs.declared.kinds.Proc.{Proc}
 use Rattle.bl_proc.specs.declared.kinds.Proc.TheVariants as proc
 
@@ -105,10 +117,57 @@ post_log level key (post.Staying x r) marks = reply_log level key r marks
 post_log level key (post.Ending r) marks = reply_log level key r marks
 post_log level key (post.Over r) marks = reply_log level key r marks
 
+-- Compressions
+
+abbrev pub way_log : Approach → Trail → Type 0
+way_log way.Start marks = Unit {0}
+way_log (way.At x) marks = Unit {0}
+way_log (way.Latching x) marks = Unit {0}
+way_log (way.Latched x) marks = Since marks x []
+way_log (way.Leaving x to) marks = Unit {0}
+
+abbrev pub fate_log : ℕ → ℕ → Fate → Trail → Type 0
+fate_log level key (fate.Merged hint) marks = MeansMerged level key hint marks
+fate_log level key fate.Evened marks = MeansEvened level key marks
+fate_log level key fate.Enough marks = MeansEnough level key marks
+fate_log level key (fate.Unposted hint) marks = MeansUnposted level key hint marks
+fate_log level key fate.Refused marks = MeansNoPlace level key marks
+fate_log level key fate.Lost marks = Unit {0}
+
+abbrev pub squeeze_log : ℕ → ℕ → Compression → Trail → Type 0
+squeeze_log level key (LatchingLeft f) marks = AtFamily level key marks f (Get f.at.parent ∷ [])
+squeeze_log level key (LatchedLeft f) marks = AtFamily level key marks f (Get f.at.parent ∷ Latch f.at.left ∷ [])
+squeeze_log level key (LatchingRight f c) marks = AtLeft level key marks f c (to_left f.at)
+squeeze_log level key (LatchedRight f c) marks = AtLeft level key marks f c (Get f.at.parent ∷ Latch f.at.left ∷ Get f.at.left ∷ Latch f.at.right ∷ [])
+squeeze_log level key (PuttingFirst p) marks = IsToSqueeze level key marks p (to_right p.at)
+squeeze_log level key (PuttingParent p) marks = IsToSqueeze level key marks p (to_first p)
+squeeze_log level key (PuttingLast p) marks = IsToSqueeze level key marks p (to_second p)
+squeeze_log level key (Retiring at last) marks = (p : Puts) × (p.at ≡ at) × IsToSqueeze level key marks p (to_last p) × (p.fate ≡ last) × ((hint : Option Hint) × (last ≡ fate.Merged hint))
+squeeze_log level key (OpeningRight at last) marks = fate_log level key last marks
+squeeze_log level key (OpeningLeft at last) marks = fate_log level key last marks
+squeeze_log level key (OpeningParent x last) marks = fate_log level key last marks
+
+abbrev pub pressed_log : ℕ → ℕ → CompressReply → Trail → Type 0
+pressed_log level key (pressed.Merged hint) marks = MeansMerged level key hint marks
+pressed_log level key pressed.Evened marks = MeansEvened level key marks
+pressed_log level key pressed.Enough marks = MeansEnough level key marks
+pressed_log level key pressed.Alone marks = MeansAlone level key marks
+pressed_log level key (pressed.Unposted hint) marks = MeansUnposted level key hint marks
+pressed_log level key pressed.NoRoom marks = MeansNoPlace level key marks
+
+abbrev pub compress_log : ℕ → ℕ → CompressStage → Trail → Type 0
+compress_log level key compress.New marks = Unit {0}
+compress_log level key (compress.Coming a) marks = way_log a marks
+compress_log level key (compress.Compressing c) marks = squeeze_log level key c marks
+compress_log level key (compress.Staying x) marks = MeansAlone level key marks
+compress_log level key (compress.Ending r) marks = pressed_log level key r marks
+compress_log level key (compress.Over r) marks = pressed_log level key r marks
+
 abbrev pub proc_log : Proc → Trail → Type 0
 proc_log (proc.Find p) marks = Unit {0}
 proc_log (proc.Insert p) marks = Unit {0}
 proc_log (proc.Delete p) marks = Unit {0}
 proc_log (proc.Post p) marks = post_log p.level p.key p.stage marks
 proc_log (proc.Part p) marks = Unit {0}
+proc_log (proc.Compress p) marks = compress_log p.level p.key p.stage marks
 proc_log (proc.Reclaim p) marks = Unit {0}

@@ -103,6 +103,23 @@ pub enum Posted {
     TooTall,
 }
 
+/// What became of a compression.
+#[derive(Clone, Copy, Debug, PartialEq, Eq)]
+pub enum Squeezed {
+    /// The left child has taken all of the right one, which is gone.
+    Merged,
+    /// The two children have been evened out.
+    Evened,
+    /// The two children have enough pairs.
+    Enough,
+    /// The parent has one child, or the tree has no such level.
+    Alone,
+    /// A page between the two children is to be listed first.
+    Unposted,
+    /// There was no room, and all is as it was.
+    NoRoom,
+}
+
 /// What became of a page that was to be released.
 #[derive(Clone, Copy, Debug, PartialEq, Eq)]
 pub enum Reclaimed {
@@ -119,6 +136,8 @@ pub enum Answer {
     Op(Reply, Option<Hint>),
     /// What became of a post.
     Post(Posted, Option<Hint>),
+    /// What became of a compression.
+    Compress(Squeezed, Option<Hint>),
     /// What became of a page that was to be released.
     Reclaim(Reclaimed),
 }

@@ -17,7 +17,7 @@ use bl_page::Page;
 use bl_rearrange::{Fitted, with_pair, without};
 
 /// How many pairs the page has.
-fn count_of(page: &Page) -> usize
+pub(crate) fn count_of(page: &Page) -> usize
     ensures { result ≡ length (pairs_of page.now) }
 {
     match page {

@@ -1,0 +1,532 @@
+-- What a compression has done, and one mark more.
+use Rattle.std.proofs.Common.{ℕ, ◌≡◌, ◌≢◌, ◌⊎◌, ◌<◌, ◌≤◌, ◌++◌, List, [], ◌∷◌, Option, None, Some, arith, ap, sym, ◌∙◌, refl, subst, inl, inr, append_assoc, append-nil}
+use Rattle.std.specs.Prelude.{Contains}
+use Rattle.bl_model.specs.declared.operation.Reply.{Reply}
+use Rattle.bl_page.specs.declared.page.Page.{Page}
+use Rattle.bl_page.specs.declared.page.Page.TheVariants.{Inner as InnerPage}
+use Rattle.bl_page.specs.declared.page.Inner.{Inner}
+use Rattle.bl_page.specs.Machine.{Act}
+use Rattle.bl_page.specs.Machine.Act.{Get, Put, Latch, Retire, Miss}
+use Rattle.bl_laws.specs.Pages.{node_of}
+use Rattle.bl_rearrange.specs.Rearranged.{right_of}
+use Rattle.bl_rearrange.specs.Neighbours.{AreNeighbours}
+use Rattle.bl_rearrange.specs.declared.sides.Side.{Side}
+use Rattle.bl_rearrange.specs.declared.sides.Side.TheVariants as side
+use Rattle.bl_trails.specs.Trails.{Mark, Trail}
+use Rattle.bl_trails.specs.Meanings.{HasGot, put_in, puts_of}
+use Rattle.bl_trails.proofs.Meant.{puts_of-push, got_on, got_last}
+use Rattle.bl_ways.specs.declared.acts.Seen.{Seen}
+use Rattle.bl_ways.specs.declared.acts.Seen.TheVariants as seen
+use Rattle.bl_ways.specs.declared.answers.Hint.{Hint}
+use Rattle.bl_ways.specs.declared.onwards.Onward.TheVariants.{Here}
+use Rattle.bl_ways.specs.declared.approaching.Approach.{Approach}
+use Rattle.bl_ways.specs.declared.approaching.Approach.TheVariants as way
+use Rattle.bl_ways.specs.declared.approaching.Approached.TheVariants as came
+use Rattle.bl_ways.specs.declared.compressing.Trio.{Trio}
+use Rattle.bl_ways.specs.declared.compressing.Family.{Family}
+use Rattle.bl_ways.specs.declared.compressing.Puts.{Puts}
+use Rattle.bl_ways.specs.declared.compressing.Fate.{Fate}
+use Rattle.bl_ways.specs.declared.compressing.Fate.TheVariants as fate
+use Rattle.bl_ways.specs.declared.compressing.Compression.{Compression}
+use Rattle.bl_ways.specs.declared.compressing.Compression.TheVariants.{LatchingLeft, LatchedLeft, LatchingRight, LatchedRight, PuttingFirst, PuttingParent, PuttingLast, Retiring, OpeningRight, OpeningLeft, OpeningParent}
+use Rattle.bl_ways.specs.declared.compressing.Compressed.TheVariants as step
+use Rattle.bl_ways.specs.Onwards.{Leads}
+use Rattle.bl_ways.specs.Approaches.{approach_next, Approaches}
+use Rattle.bl_ways.specs.Compressions.{put_of, other, after_puts, AreSiblings, Merges, Evens, Links, Decides, compression_next, Compresses}
+use Rattle.bl_proc.specs.declared.squeezing.CompressReply.{CompressReply}
+use Rattle.bl_proc.specs.declared.squeezing.CompressReply.TheVariants as reply
+use Rattle.bl_proc.specs.declared.squeezing.CompressStage.{CompressStage}
+use Rattle.bl_proc.specs.declared.squeezing.CompressStage.TheVariants as compress
+use Rattle.bl_proc.specs.Compresses.{compress_reply, compress_next_in, CompressStarts, CompressArrives, CompressNears, CompressComes, CompressGoes}
+use Rattle.bl_tables.specs.Turns.{event_of}
+use Rattle.bl_tables.specs.Squeezed.{acts_in, acts_of, Since, AtFamily, AtLeft, AtBoth, to_left, to_right, put_act, to_first, to_second, to_last, to_end, Once, IsToSqueeze, HasMissed}
+use Rattle.bl_tables.specs.Logs.{way_log, fate_log, squeeze_log, pressed_log, compress_log}
+use Rattle.bl_tables.proofs.Approaching.{arrival}
+use Rattle.bl_tables.proofs.Logging.{latched_on}
+
+acts_of-push : (ms : Trail) (m : Mark) → acts_of (ms ++ m ∷ []) ≡ acts_of ms ++ acts_in m.event.act
+acts_of-push [] m = append-nil (acts_in m.event.act)
+acts_of-push (n ∷ ms) m = ap (λ z. acts_in n.event.act ++ z) (acts_of-push ms m) ∙ sym (append_assoc (acts_in n.event.act) (acts_of ms) (acts_in m.event.act))
+
+-- which of the two children a put is of
+put_event : (sd : Side) (u : Puts) → event_of None (put_of sd u) seen.Done ≡ put_act sd u
+put_event side.Left u = refl
+put_event side.Right u = refl
+
+refused_event : (sd : Side) (u : Puts) → event_of None (put_of sd u) seen.Refused ≡ Miss
+refused_event side.Left u = refl
+refused_event side.Right u = refl
+
+act_put : (sd : Side) (u : Puts) → acts_in (put_act sd u) ≡ put_act sd u ∷ []
+act_put side.Left u = refl
+act_put side.Right u = refl
+
+-- what is decided is a merge or an evening
+decided_fate : (f : Family) (c d : Page) (u : Puts) → Decides f c d (PuttingFirst u) → ((hint : Option Hint) × (u.fate ≡ fate.Merged hint)) ⊎ (u.fate ≡ fate.Evened)
+decided_fate f c d u h = elim h [ inl m ↦ inl (_, m.1.fate) | inr v ↦ inr v.fate ]
+
+decided_at : (f : Family) (c d : Page) (u : Puts) → Decides f c d (PuttingFirst u) → u.at ≡ f.at
+decided_at f c d u h = elim h [ inl m ↦ m.1.at | inr v ↦ v.at ]
+
+module _ (ms : Trail) (m : Mark) where
+  abbrev more : Trail
+  more = ms ++ m ∷ []
+
+  since_now : (x : ℕ) → m.event.act ≡ Latch x → Since more x []
+  since_now x e = record { before = ms; latch = m; during = []; split = refl; latched = e; acts_are = refl }
+
+  abbrev since_on : {x : ℕ} {acts : List (Act Page Reply)} (new : List (Act Page Reply)) → acts_in m.event.act ≡ new → Since ms x acts → Since more x (acts ++ new)
+  since_on {x} {acts} new did h = record {
+    before = h.before;
+    latch = h.latch;
+    during = h.during ++ m ∷ [];
+    split = ap (λ z. z ++ m ∷ []) h.split ∙ append_assoc h.before (h.latch ∷ h.during) (m ∷ []);
+    latched = h.latched;
+    acts_are = acts_of-push h.during m ∙ (ap (λ z. z ++ acts_in m.event.act) h.acts_are ∙ ap (λ z. acts ++ z) did);
+  }
+
+  abbrev family_on : {level key : ℕ} {f : Family} {acts : List (Act Page Reply)} (new : List (Act Page Reply)) → acts_in m.event.act ≡ new → AtFamily level key ms f acts → AtFamily level key more f (acts ++ new)
+  family_on new did h = record { since = since_on new did h.since; got = got_on h.since.during m h.got; level_is = h.level_is; covers = h.covers; siblings = h.siblings }
+
+  abbrev left_on : {level key : ℕ} {f : Family} {c : Page} {acts : List (Act Page Reply)} (new : List (Act Page Reply)) → acts_in m.event.act ≡ new → AtLeft level key ms f c acts → AtLeft level key more f c (acts ++ new)
+  left_on new did h = record { family = family_on new did h.family; got = got_on h.family.since.during m h.got }
+
+  abbrev both_on : {level key : ℕ} {f : Family} {c d : Page} {acts : List (Act Page Reply)} (new : List (Act Page Reply)) → acts_in m.event.act ≡ new → AtBoth level key ms f c d acts → AtBoth level key more f c d (acts ++ new)
+  both_on new did h = record { left = left_on new did h.left; got = got_on h.left.family.since.during m h.got }
+
+  puts_on : {level key : ℕ} {u : Puts} {acts : List (Act Page Reply)} (new : List (Act Page Reply)) → acts_in m.event.act ≡ new → IsToSqueeze level key ms u acts → IsToSqueeze level key more u (acts ++ new)
+  puts_on new did h = record { family = h.family; left = h.left; right = h.right; at = h.at; both = both_on new did h.both; decided = h.decided }
+
+  -- the left child was got just now, and the right one
+  left_got : {level key : ℕ} {f : Family} {acts : List (Act Page Reply)} (c : Page) → m.event.act ≡ Get f.at.left → m.saw ≡ Some c → AtFamily level key ms f acts → AtLeft level key more f c (acts ++ Get f.at.left ∷ [])
+  left_got {level} {key} {f} c did saw h = record { family = family_on (Get f.at.left ∷ []) (ap acts_in did) h; got = got_last h.since.during m did saw }
+
+  right_got : {level key : ℕ} {f : Family} {c : Page} {acts : List (Act Page Reply)} (d : Page) → m.event.act ≡ Get f.at.right → m.saw ≡ Some d → AtLeft level key ms f c acts → AtBoth level key more f c d (acts ++ Get f.at.right ∷ [])
+  right_got {level} {key} {f} d did saw h = record { left = left_on (Get f.at.right ∷ []) (ap acts_in did) h; got = got_last h.family.since.during m did saw }
+
+  -- it was done once, and stays done; or was done just now
+  abbrev once_on : {Then : Trail → Type 0} → put_in m.event.act ≡ [] → Once ms Then → Once more Then
+  once_on put h = record {
+    until = h.until;
+    after = h.after ++ m ∷ [];
+    split = ap (λ z. z ++ m ∷ []) h.split ∙ append_assoc h.until h.after (m ∷ []);
+    no_more = puts_of-push h.after m ∙ (ap (λ z. z ++ put_in m.event.act) h.no_more ∙ put);
+    is = h.is;
+  }
+
+  abbrev once_now : {Then : Trail → Type 0} → Then more → Once more Then
+  once_now h = record { until = more; after = []; split = sym (append-nil more); no_more = refl; is = h }
+
+  module _ (level key : ℕ) where
+    fate_on : (last : Fate) → put_in m.event.act ≡ [] → fate_log level key last ms → fate_log level key last more
+    fate_on (fate.Merged hint) put h = once_on put h
+    fate_on fate.Evened put h = once_on put h
+    fate_on fate.Enough put h = once_on put h
+    fate_on (fate.Unposted hint) put h = once_on put h
+    fate_on fate.Refused put h = once_on put h
+    fate_on fate.Lost put h = tt
+
+    pressed_on : (r : CompressReply) → put_in m.event.act ≡ [] → pressed_log level key r ms → pressed_log level key r more
+    pressed_on (reply.Merged hint) put h = once_on put h
+    pressed_on reply.Evened put h = once_on put h
+    pressed_on reply.Enough put h = once_on put h
+    pressed_on reply.Alone put h = once_on put h
+    pressed_on (reply.Unposted hint) put h = once_on put h
+    pressed_on reply.NoRoom put h = once_on put h
+
+    same_reply : (r r' : CompressReply) → Some r ≡ Some r' → r ≡ r'
+    same_reply r r' e = cc
+
+    fate_pressed : (last : Fate) (r : CompressReply) → compress_reply last ≡ Some r → fate_log level key last more → pressed_log level key r more
+    fate_pressed (fate.Merged hint) r e h = subst (λ z. pressed_log level key z more) (same_reply _ _ e) h
+    fate_pressed fate.Evened r e h = subst (λ z. pressed_log level key z more) (same_reply _ _ e) h
+    fate_pressed fate.Enough r e h = subst (λ z. pressed_log level key z more) (same_reply _ _ e) h
+    fate_pressed (fate.Unposted hint) r e h = subst (λ z. pressed_log level key z more) (same_reply _ _ e) h
+    fate_pressed fate.Refused r e h = subst (λ z. pressed_log level key z more) (same_reply _ _ e) h
+    fate_pressed fate.Lost r e h = absurd (let z : None ≡ Some r = e in cc)
+
+    -- all three pages were put
+    last_on : (u : Puts) → IsToSqueeze level key more u (to_last u) → squeeze_log level key (after_puts u.at u.fate) more
+    last_on u h = elim (decided_fate h.family h.left h.right u h.decided) [
+      | inl e ↦ subst (λ z. squeeze_log level key (after_puts u.at z) more) (sym e.1) (u, refl, h, e.1, (e.0, refl))
+      | inr e ↦ subst (λ z. squeeze_log level key (after_puts u.at z) more) (sym e) (once_now (u, h, e))
+    ]
+
+    -- the right one was retired
+    retired_on : (at : Trio) (last : Fate) → m.event.act ≡ Retire at.right → squeeze_log level key (Retiring at last) ms → fate_log level key last more
+    retired_on at last did (u, same, h, is, one) =
+        let e : acts_in m.event.act ≡ Retire u.at.right ∷ [] = ap acts_in did ∙ ap (λ (t : Trio). Retire t.right ∷ []) (sym same) in
+        subst (λ z. fate_log level key z more) (sym one.1) (once_now (u, puts_on (Retire u.at.right ∷ []) e h, is ∙ one.1))
+
+    links_on : (f : Family) (c : Page) (d : Compression) → Links f c d → m.event.act ≡ Get f.at.left → m.saw ≡ Some c → AtFamily level key ms f (Get f.at.parent ∷ Latch f.at.left ∷ []) → squeeze_log level key d more
+    links_on f c (LatchingRight h page) t did saw log = rw (← t.0, ← t.1) at (left_got c did saw log)
+    links_on f c (OpeningLeft at last) t did saw log = subst (λ z. fate_log level key z more) (sym t.2) (once_now (f, c, left_got c did saw log, (refl, t.1, refl)))
+    links_on f c (LatchingLeft h) t did saw log = absurd t
+    links_on f c (LatchedLeft h) t did saw log = absurd t
+    links_on f c (LatchedRight h page) t did saw log = absurd t
+    links_on f c (PuttingFirst z) t did saw log = absurd t
+    links_on f c (PuttingParent z) t did saw log = absurd t
+    links_on f c (PuttingLast z) t did saw log = absurd t
+    links_on f c (Retiring at fa) t did saw log = absurd t
+    links_on f c (OpeningRight at fa) t did saw log = absurd t
+    links_on f c (OpeningParent x fa) t did saw log = absurd t
+
+    decides_on : (f : Family) (c d : Page) (new : Compression) → Decides f c d new → m.event.act ≡ Get f.at.right → m.saw ≡ Some d → AtLeft level key ms f c (Get f.at.parent ∷ Latch f.at.left ∷ Get f.at.left ∷ Latch f.at.right ∷ []) → squeeze_log level key new more
+    decides_on f c d (PuttingFirst u) t did saw log =
+        let same = decided_at f c d u t in
+        record { family = f; left = c; right = d; at = same; both = subst (λ (z : Trio). AtBoth level key more f c d (to_right z)) (sym same) (right_got d did saw log); decided = t }
+    decides_on f c d (OpeningRight at fate.Enough) t did saw log = once_now (f, c, d, right_got d did saw log, (refl, t.1, t.2, t.3, t.4))
+    decides_on f c d (OpeningRight at fate.Lost) t did saw log = tt
+    decides_on f c d (LatchingLeft h) t did saw log = absurd t
+    decides_on f c d (LatchedLeft h) t did saw log = absurd t
+    decides_on f c d (LatchingRight h page) t did saw log = absurd t
+    decides_on f c d (LatchedRight h page) t did saw log = absurd t
+    decides_on f c d (PuttingParent z) t did saw log = absurd t
+    decides_on f c d (PuttingLast z) t did saw log = absurd t
+    decides_on f c d (Retiring at fa) t did saw log = absurd t
+    decides_on f c d (OpeningLeft at fa) t did saw log = absurd t
+    decides_on f c d (OpeningParent x fa) t did saw log = absurd t
+    decides_on f c d (OpeningRight at (fate.Merged h)) t did saw log = absurd t
+    decides_on f c d (OpeningRight at fate.Evened) t did saw log = absurd t
+    decides_on f c d (OpeningRight at (fate.Unposted h)) t did saw log = absurd t
+    decides_on f c d (OpeningRight at fate.Refused) t did saw log = absurd t
+
+    squeeze_on : (c d : Compression) (what : Seen) → Compresses c what (step.On d) → m.event.act ≡ event_of None (compression_next c) what → ((x : ℕ) (e : Page) → m.event.act ≡ Get x → what ≡ seen.Words e → m.saw ≡ Some e) → squeeze_log level key c ms → squeeze_log level key d more
+    squeeze_on (LatchingLeft f) d seen.Done t did saw h = subst (λ z. squeeze_log level key z more) (sym t) (family_on (Latch f.at.left ∷ []) (ap acts_in did) h)
+    squeeze_on (LatchingLeft f) d seen.Missed t did saw h = subst (λ z. squeeze_log level key z more) (sym t) (family_on [] (ap acts_in did) h)
+    squeeze_on (LatchedLeft f) d (seen.Words c) t did saw h = links_on f c d t did (saw f.at.left c did refl) h
+    squeeze_on (LatchingRight f c) d seen.Done t did saw h = subst (λ z. squeeze_log level key z more) (sym t) (left_on (Latch f.at.right ∷ []) (ap acts_in did) h)
+    squeeze_on (LatchingRight f c) d seen.Missed t did saw h = subst (λ z. squeeze_log level key z more) (sym t) (left_on [] (ap acts_in did) h)
+    squeeze_on (LatchedRight f c) d (seen.Words e) t did saw h = decides_on f c e d t did (saw f.at.right e did refl) h
+    squeeze_on (PuttingFirst u) d seen.Done t did saw h = subst (λ z. squeeze_log level key z more) (sym t) (puts_on (put_act u.gains u ∷ []) (ap acts_in (did ∙ put_event u.gains u) ∙ act_put u.gains u) h)
+    squeeze_on (PuttingFirst u) d seen.Refused t did saw h = subst (λ z. squeeze_log level key z more) (sym t) (once_now (record { until = ms; mark = m; split = refl; miss = did ∙ refused_event u.gains u; puts = u; is = h }))
+    squeeze_on (PuttingParent u) d seen.Done t did saw h = subst (λ z. squeeze_log level key z more) (sym t) (puts_on (Put u.at.parent u.parent ∷ []) (ap acts_in did) h)
+    squeeze_on (PuttingLast u) d seen.Done t did saw h = subst (λ z. squeeze_log level key z more) (sym t) (last_on u (puts_on (put_act (other u.gains) u ∷ []) (ap acts_in (did ∙ put_event (other u.gains) u) ∙ act_put (other u.gains) u) h))
+    squeeze_on (Retiring at last) d seen.Done t did saw h = subst (λ z. squeeze_log level key z more) (sym t) (retired_on at last did h)
+    squeeze_on (OpeningRight at last) d seen.Done t did saw h = subst (λ z. squeeze_log level key z more) (sym t) (fate_on last (ap put_in did) h)
+    squeeze_on (OpeningLeft at last) d seen.Done t did saw h = subst (λ z. squeeze_log level key z more) (sym t) (fate_on last (ap put_in did) h)
+    squeeze_on (LatchingLeft f) d (seen.Words y) t did saw h = absurd t
+    squeeze_on (LatchingLeft f) d (seen.Took n) t did saw h = absurd t
+    squeeze_on (LatchingLeft f) d (seen.Owner retired started own) t did saw h = absurd t
+    squeeze_on (LatchingLeft f) d (seen.Blocks it) t did saw h = absurd t
+    squeeze_on (LatchingLeft f) d seen.Refused t did saw h = absurd t
+    squeeze_on (LatchedLeft f) d seen.Done t did saw h = absurd t
+    squeeze_on (LatchedLeft f) d (seen.Took n) t did saw h = absurd t
+    squeeze_on (LatchedLeft f) d (seen.Owner retired started own) t did saw h = absurd t
+    squeeze_on (LatchedLeft f) d (seen.Blocks it) t did saw h = absurd t
+    squeeze_on (LatchedLeft f) d seen.Missed t did saw h = absurd t
+    squeeze_on (LatchedLeft f) d seen.Refused t did saw h = absurd t
+    squeeze_on (LatchingRight f page) d (seen.Words y) t did saw h = absurd t
+    squeeze_on (LatchingRight f page) d (seen.Took n) t did saw h = absurd t
+    squeeze_on (LatchingRight f page) d (seen.Owner retired started own) t did saw h = absurd t
+    squeeze_on (LatchingRight f page) d (seen.Blocks it) t did saw h = absurd t
+    squeeze_on (LatchingRight f page) d seen.Refused t did saw h = absurd t
+    squeeze_on (LatchedRight f page) d seen.Done t did saw h = absurd t
+    squeeze_on (LatchedRight f page) d (seen.Took n) t did saw h = absurd t
+    squeeze_on (LatchedRight f page) d (seen.Owner retired started own) t did saw h = absurd t
+    squeeze_on (LatchedRight f page) d (seen.Blocks it) t did saw h = absurd t
+    squeeze_on (LatchedRight f page) d seen.Missed t did saw h = absurd t
+    squeeze_on (LatchedRight f page) d seen.Refused t did saw h = absurd t
+    squeeze_on (PuttingFirst z) d (seen.Words y) t did saw h = absurd t
+    squeeze_on (PuttingFirst z) d (seen.Took n) t did saw h = absurd t
+    squeeze_on (PuttingFirst z) d (seen.Owner retired started own) t did saw h = absurd t
+    squeeze_on (PuttingFirst z) d (seen.Blocks it) t did saw h = absurd t
+    squeeze_on (PuttingFirst z) d seen.Missed t did saw h = absurd t
+    squeeze_on (PuttingParent z) d (seen.Words y) t did saw h = absurd t
+    squeeze_on (PuttingParent z) d (seen.Took n) t did saw h = absurd t
+    squeeze_on (PuttingParent z) d (seen.Owner retired started own) t did saw h = absurd t
+    squeeze_on (PuttingParent z) d (seen.Blocks it) t did saw h = absurd t
+    squeeze_on (PuttingParent z) d seen.Missed t did saw h = absurd t
+    squeeze_on (PuttingParent z) d seen.Refused t did saw h = absurd t
+    squeeze_on (PuttingLast z) d (seen.Words y) t did saw h = absurd t
+    squeeze_on (PuttingLast z) d (seen.Took n) t did saw h = absurd t
+    squeeze_on (PuttingLast z) d (seen.Owner retired started own) t did saw h = absurd t
+    squeeze_on (PuttingLast z) d (seen.Blocks it) t did saw h = absurd t
+    squeeze_on (PuttingLast z) d seen.Missed t did saw h = absurd t
+    squeeze_on (PuttingLast z) d seen.Refused t did saw h = absurd t
+    squeeze_on (Retiring at fa) d (seen.Words y) t did saw h = absurd t
+    squeeze_on (Retiring at fa) d (seen.Took n) t did saw h = absurd t
+    squeeze_on (Retiring at fa) d (seen.Owner retired started own) t did saw h = absurd t
+    squeeze_on (Retiring at fa) d (seen.Blocks it) t did saw h = absurd t
+    squeeze_on (Retiring at fa) d seen.Missed t did saw h = absurd t
+    squeeze_on (Retiring at fa) d seen.Refused t did saw h = absurd t
+    squeeze_on (OpeningRight at fa) d (seen.Words y) t did saw h = absurd t
+    squeeze_on (OpeningRight at fa) d (seen.Took n) t did saw h = absurd t
+    squeeze_on (OpeningRight at fa) d (seen.Owner retired started own) t did saw h = absurd t
+    squeeze_on (OpeningRight at fa) d (seen.Blocks it) t did saw h = absurd t
+    squeeze_on (OpeningRight at fa) d seen.Missed t did saw h = absurd t
+    squeeze_on (OpeningRight at fa) d seen.Refused t did saw h = absurd t
+    squeeze_on (OpeningLeft at fa) d (seen.Words y) t did saw h = absurd t
+    squeeze_on (OpeningLeft at fa) d (seen.Took n) t did saw h = absurd t
+    squeeze_on (OpeningLeft at fa) d (seen.Owner retired started own) t did saw h = absurd t
+    squeeze_on (OpeningLeft at fa) d (seen.Blocks it) t did saw h = absurd t
+    squeeze_on (OpeningLeft at fa) d seen.Missed t did saw h = absurd t
+    squeeze_on (OpeningLeft at fa) d seen.Refused t did saw h = absurd t
+    squeeze_on (OpeningParent x fa) d seen.Done t did saw h = absurd t
+    squeeze_on (OpeningParent x fa) d (seen.Words y) t did saw h = absurd t
+    squeeze_on (OpeningParent x fa) d (seen.Took n) t did saw h = absurd t
+    squeeze_on (OpeningParent x fa) d (seen.Owner retired started own) t did saw h = absurd t
+    squeeze_on (OpeningParent x fa) d (seen.Blocks it) t did saw h = absurd t
+    squeeze_on (OpeningParent x fa) d seen.Missed t did saw h = absurd t
+    squeeze_on (OpeningParent x fa) d seen.Refused t did saw h = absurd t
+
+    over_on : (c : Compression) (what : Seen) (last : Fate) → Compresses c what (step.Over last) → m.event.act ≡ event_of None (compression_next c) what → squeeze_log level key c ms → fate_log level key last more
+    over_on (OpeningParent x last) seen.Done same t did h = subst (λ z. fate_log level key z more) (sym t) (fate_on last (ap put_in did) h)
+    over_on (LatchingLeft h) seen.Done same t did log = absurd t
+    over_on (LatchingLeft h) (seen.Words y) same t did log = absurd t
+    over_on (LatchingLeft h) (seen.Took n) same t did log = absurd t
+    over_on (LatchingLeft h) (seen.Owner retired started own) same t did log = absurd t
+    over_on (LatchingLeft h) (seen.Blocks it) same t did log = absurd t
+    over_on (LatchingLeft h) seen.Missed same t did log = absurd t
+    over_on (LatchingLeft h) seen.Refused same t did log = absurd t
+    over_on (LatchedLeft h) seen.Done same t did log = absurd t
+    over_on (LatchedLeft h) (seen.Words y) same t did log = absurd t
+    over_on (LatchedLeft h) (seen.Took n) same t did log = absurd t
+    over_on (LatchedLeft h) (seen.Owner retired started own) same t did log = absurd t
+    over_on (LatchedLeft h) (seen.Blocks it) same t did log = absurd t
+    over_on (LatchedLeft h) seen.Missed same t did log = absurd t
+    over_on (LatchedLeft h) seen.Refused same t did log = absurd t
+    over_on (LatchingRight h page) seen.Done same t did log = absurd t
+    over_on (LatchingRight h page) (seen.Words y) same t did log = absurd t
+    over_on (LatchingRight h page) (seen.Took n) same t did log = absurd t
+    over_on (LatchingRight h page) (seen.Owner retired started own) same t did log = absurd t
+    over_on (LatchingRight h page) (seen.Blocks it) same t did log = absurd t
+    over_on (LatchingRight h page) seen.Missed same t did log = absurd t
+    over_on (LatchingRight h page) seen.Refused same t did log = absurd t
+    over_on (LatchedRight h page) seen.Done same t did log = absurd t
+    over_on (LatchedRight h page) (seen.Words y) same t did log = absurd t
+    over_on (LatchedRight h page) (seen.Took n) same t did log = absurd t
+    over_on (LatchedRight h page) (seen.Owner retired started own) same t did log = absurd t
+    over_on (LatchedRight h page) (seen.Blocks it) same t did log = absurd t
+    over_on (LatchedRight h page) seen.Missed same t did log = absurd t
+    over_on (LatchedRight h page) seen.Refused same t did log = absurd t
+    over_on (PuttingFirst z) seen.Done same t did log = absurd t
+    over_on (PuttingFirst z) (seen.Words y) same t did log = absurd t
+    over_on (PuttingFirst z) (seen.Took n) same t did log = absurd t
+    over_on (PuttingFirst z) (seen.Owner retired started own) same t did log = absurd t
+    over_on (PuttingFirst z) (seen.Blocks it) same t did log = absurd t
+    over_on (PuttingFirst z) seen.Missed same t did log = absurd t
+    over_on (PuttingFirst z) seen.Refused same t did log = absurd t
+    over_on (PuttingParent z) seen.Done same t did log = absurd t
+    over_on (PuttingParent z) (seen.Words y) same t did log = absurd t
+    over_on (PuttingParent z) (seen.Took n) same t did log = absurd t
+    over_on (PuttingParent z) (seen.Owner retired started own) same t did log = absurd t
+    over_on (PuttingParent z) (seen.Blocks it) same t did log = absurd t
+    over_on (PuttingParent z) seen.Missed same t did log = absurd t
+    over_on (PuttingParent z) seen.Refused same t did log = absurd t
+    over_on (PuttingLast z) seen.Done same t did log = absurd t
+    over_on (PuttingLast z) (seen.Words y) same t did log = absurd t
+    over_on (PuttingLast z) (seen.Took n) same t did log = absurd t
+    over_on (PuttingLast z) (seen.Owner retired started own) same t did log = absurd t
+    over_on (PuttingLast z) (seen.Blocks it) same t did log = absurd t
+    over_on (PuttingLast z) seen.Missed same t did log = absurd t
+    over_on (PuttingLast z) seen.Refused same t did log = absurd t
+    over_on (Retiring at fa) seen.Done same t did log = absurd t
+    over_on (Retiring at fa) (seen.Words y) same t did log = absurd t
+    over_on (Retiring at fa) (seen.Took n) same t did log = absurd t
+    over_on (Retiring at fa) (seen.Owner retired started own) same t did log = absurd t
+    over_on (Retiring at fa) (seen.Blocks it) same t did log = absurd t
+    over_on (Retiring at fa) seen.Missed same t did log = absurd t
+    over_on (Retiring at fa) seen.Refused same t did log = absurd t
+    over_on (OpeningRight at fa) seen.Done same t did log = absurd t
+    over_on (OpeningRight at fa) (seen.Words y) same t did log = absurd t
+    over_on (OpeningRight at fa) (seen.Took n) same t did log = absurd t
+    over_on (OpeningRight at fa) (seen.Owner retired started own) same t did log = absurd t
+    over_on (OpeningRight at fa) (seen.Blocks it) same t did log = absurd t
+    over_on (OpeningRight at fa) seen.Missed same t did log = absurd t
+    over_on (OpeningRight at fa) seen.Refused same t did log = absurd t
+    over_on (OpeningLeft at fa) seen.Done same t did log = absurd t
+    over_on (OpeningLeft at fa) (seen.Words y) same t did log = absurd t
+    over_on (OpeningLeft at fa) (seen.Took n) same t did log = absurd t
+    over_on (OpeningLeft at fa) (seen.Owner retired started own) same t did log = absurd t
+    over_on (OpeningLeft at fa) (seen.Blocks it) same t did log = absurd t
+    over_on (OpeningLeft at fa) seen.Missed same t did log = absurd t
+    over_on (OpeningLeft at fa) seen.Refused same t did log = absurd t
+    over_on (OpeningParent x fa) (seen.Words y) same t did log = absurd t
+    over_on (OpeningParent x fa) (seen.Took n) same t did log = absurd t
+    over_on (OpeningParent x fa) (seen.Owner retired started own) same t did log = absurd t
+    over_on (OpeningParent x fa) (seen.Blocks it) same t did log = absurd t
+    over_on (OpeningParent x fa) seen.Missed same t did log = absurd t
+    over_on (OpeningParent x fa) seen.Refused same t did log = absurd t
+
+    -- at the parent
+    arrive_on : (x : ℕ) (c : Page) (new : CompressStage) → CompressArrives key x c new → Leads c key level Here → m.event.act ≡ Get x → m.saw ≡ Some c → Since ms x [] → compress_log level key new more
+    arrive_on x c (compress.Compressing (LatchingLeft f)) (parent, page, siblings) l did saw h =
+        let family = siblings.1 in
+        let here : c ≡ InnerPage f.parent = page ∙ ap InnerPage (sym family.parent_is) in
+        let e : x ≡ f.at.parent = sym family.parent_at in
+        let now : Since ms f.at.parent [] = subst (λ z. Since ms z []) e h in
+        let get : m.event.act ≡ Get f.at.parent = did ∙ ap Get e in
+        record {
+          since = since_on (Get f.at.parent ∷ []) (ap acts_in get) now;
+          got = got_last now.during m get (saw ∙ ap Some here);
+          level_is = ap (λ v. (node_of v).shape.level) (sym here) ∙ l.2;
+          covers = rw here at l.1;
+          siblings = subst (λ z. AreSiblings z key f.parent (Some f)) e (subst (λ z. AreSiblings x key z (Some f)) (sym family.parent_is) siblings);
+        }
+    arrive_on x c (compress.Staying y) t l did saw h = once_now (inr (record {
+      at = x;
+      parent = t.1.0;
+      since = since_on (Get x ∷ []) (ap acts_in did) h;
+      got = got_last h.during m did (saw ∙ ap Some t.1.1);
+      level_is = ap (λ v. (node_of v).shape.level) (sym t.1.1) ∙ l.2;
+      covers = rw t.1.1 at l.1;
+      siblings = t.1.2;
+    }))
+    arrive_on x c compress.New t l did saw h = absurd t
+    arrive_on x c (compress.Coming v) t l did saw h = absurd t
+    arrive_on x c (compress.Compressing (LatchedLeft g)) t l did saw h = absurd t
+    arrive_on x c (compress.Compressing (LatchingRight g page)) t l did saw h = absurd t
+    arrive_on x c (compress.Compressing (LatchedRight g page)) t l did saw h = absurd t
+    arrive_on x c (compress.Compressing (PuttingFirst z)) t l did saw h = absurd t
+    arrive_on x c (compress.Compressing (PuttingParent z)) t l did saw h = absurd t
+    arrive_on x c (compress.Compressing (PuttingLast z)) t l did saw h = absurd t
+    arrive_on x c (compress.Compressing (Retiring at fa)) t l did saw h = absurd t
+    arrive_on x c (compress.Compressing (OpeningRight at fa)) t l did saw h = absurd t
+    arrive_on x c (compress.Compressing (OpeningLeft at fa)) t l did saw h = absurd t
+    arrive_on x c (compress.Compressing (OpeningParent z fa)) t l did saw h = absurd t
+    arrive_on x c (compress.Ending v) t l did saw h = absurd t
+    arrive_on x c (compress.Over v) t l did saw h = absurd t
+
+    module _ (least : 0 < level) where
+      way_on : (a b : Approach) (what : Seen) → Approaches level key a what (came.On b) → m.event.act ≡ event_of None (approach_next a) what → way_log b more
+      way_on a way.Start what t did = tt
+      way_on a (way.At x) what t did = tt
+      way_on a (way.Latching x) what t did = tt
+      way_on a (way.Latched x) what t did = since_now x (latched_on ms m level key least a x what t did)
+      way_on a (way.Leaving x to) what t did = tt
+
+      here_on : (a : Approach) (new : CompressStage) (what : Seen) → ((y : ℕ) × (d : Page) × Approaches level key a what (came.Here y d) × CompressArrives key y d new) → m.event.act ≡ event_of None (approach_next a) what → ((x : ℕ) (e : Page) → m.event.act ≡ Get x → what ≡ seen.Words e → m.saw ≡ Some e) → way_log a ms → compress_log level key new more
+      here_on (way.Latched x) new (seen.Words c) (y, d, h, t) did saw log = arrive_on x c new (subst (λ z. CompressArrives key x z new) h.1 (subst (λ z. CompressArrives key z d new) h.0 t)) h.2 did (saw x c did refl) log
+      here_on way.Start new what (y, d, h, t) did saw log = absurd (arrival level key way.Start what y d h)
+      here_on (way.At x) new what (y, d, h, t) did saw log = absurd (arrival level key (way.At x) what y d h)
+      here_on (way.Latching x) new what (y, d, h, t) did saw log = absurd (arrival level key (way.Latching x) what y d h)
+      here_on (way.Leaving x to) new what (y, d, h, t) did saw log = absurd (arrival level key (way.Leaving x to) what y d h)
+      here_on (way.Latched x) new seen.Done (u, d, h, t) did saw log = absurd h
+      here_on (way.Latched x) new (seen.Took n) (u, d, h, t) did saw log = absurd h
+      here_on (way.Latched x) new (seen.Owner retired started own) (u, d, h, t) did saw log = absurd h
+      here_on (way.Latched x) new (seen.Blocks it) (u, d, h, t) did saw log = absurd h
+      here_on (way.Latched x) new seen.Missed (u, d, h, t) did saw log = absurd h
+      here_on (way.Latched x) new seen.Refused (u, d, h, t) did saw log = absurd h
+
+      near_on : (a : Approach) (new : CompressStage) (what : Seen) → CompressNears level key a what new → m.event.act ≡ event_of None (approach_next a) what → ((x : ℕ) (e : Page) → m.event.act ≡ Get x → what ≡ seen.Words e → m.saw ≡ Some e) → way_log a ms → compress_log level key new more
+      near_on a (compress.Coming b) what t did saw log = way_on a b what t did
+      near_on a compress.New what t did saw log = here_on a compress.New what t did saw log
+      near_on a (compress.Compressing v) what t did saw log = here_on a (compress.Compressing v) what t did saw log
+      near_on a (compress.Staying v) what t did saw log = here_on a (compress.Staying v) what t did saw log
+      near_on a (compress.Ending v) what t did saw log = here_on a (compress.Ending v) what t did saw log
+      near_on a (compress.Over v) what t did saw log = here_on a (compress.Over v) what t did saw log
+
+      start_on : (c : Page) (new : CompressStage) → CompressStarts level key c new → m.event.act ≡ Get 0 → m.saw ≡ Some c → compress_log level key new more
+      start_on c (compress.Ending reply.Alone) t did saw = once_now (inl (record { anchor = c; got = got_last ms m did saw; few = t }))
+      start_on c (compress.Coming a) t did saw = way_on way.Start a (seen.Words c) t.1 did
+      start_on c compress.New t did saw = absurd t
+      start_on c (compress.Compressing v) t did saw = absurd t
+      start_on c (compress.Staying v) t did saw = absurd t
+      start_on c (compress.Ending (reply.Merged h)) t did saw = absurd t
+      start_on c (compress.Ending reply.Evened) t did saw = absurd t
+      start_on c (compress.Ending reply.Enough) t did saw = absurd t
+      start_on c (compress.Ending (reply.Unposted h)) t did saw = absurd t
+      start_on c (compress.Ending reply.NoRoom) t did saw = absurd t
+      start_on c (compress.Over v) t did saw = absurd t
+
+      come_on : (a : Approach) (new : CompressStage) (what : Seen) → CompressComes level key a what new → m.event.act ≡ event_of None (approach_next a) what → ((x : ℕ) (e : Page) → m.event.act ≡ Get x → what ≡ seen.Words e → m.saw ≡ Some e) → way_log a ms → compress_log level key new more
+      come_on way.Start new (seen.Words c) t did saw log = start_on c new t did (saw 0 c did refl)
+      come_on (way.At x) new what t did saw log = near_on (way.At x) new what t did saw log
+      come_on (way.Latching x) new what t did saw log = near_on (way.Latching x) new what t did saw log
+      come_on (way.Latched x) new what t did saw log = near_on (way.Latched x) new what t did saw log
+      come_on (way.Leaving x to) new what t did saw log = near_on (way.Leaving x to) new what t did saw log
+      come_on way.Start new seen.Done t did saw log = absurd t
+      come_on way.Start new (seen.Took n) t did saw log = absurd t
+      come_on way.Start new (seen.Owner retired started own) t did saw log = absurd t
+      come_on way.Start new (seen.Blocks it) t did saw log = absurd t
+      come_on way.Start new seen.Missed t did saw log = absurd t
+      come_on way.Start new seen.Refused t did saw log = absurd t
+
+      -- any step of a compression
+      pub compress_on : (a a' : CompressStage) (what : Seen) → CompressGoes level key a what a' → m.event.act ≡ event_of None (compress_next_in a) what → ((x : ℕ) (e : Page) → m.event.act ≡ Get x → what ≡ seen.Words e → m.saw ≡ Some e) → compress_log level key a ms → compress_log level key a' more
+      compress_on compress.New (compress.Coming v) seen.Done t did saw h = subst (λ z. way_log z more) (sym t) tt
+      compress_on (compress.Coming a) a' what t did saw h = come_on a a' what t did saw h
+      compress_on (compress.Compressing c) (compress.Compressing d) what t did saw h = squeeze_on c d what t did saw h
+      compress_on (compress.Compressing c) (compress.Coming a) what (last, t, none, start) did saw h = subst (λ z. way_log z more) (sym start) tt
+      compress_on (compress.Compressing c) (compress.Ending r) what (last, t, some) did saw h = fate_pressed last r some (over_on c what last t did h)
+      compress_on (compress.Staying x) (compress.Ending r) seen.Done t did saw h = subst (λ z. pressed_log level key z more) (sym t) (once_on (ap put_in did) h)
+      compress_on (compress.Ending r) (compress.Over r') seen.Done t did saw h = subst (λ z. pressed_log level key z more) (sym t) (pressed_on r (ap put_in did) h)
+      compress_on compress.New compress.New seen.Done t did saw h = absurd t
+      compress_on compress.New (compress.Compressing v) seen.Done t did saw h = absurd t
+      compress_on compress.New (compress.Staying v) seen.Done t did saw h = absurd t
+      compress_on compress.New (compress.Ending v) seen.Done t did saw h = absurd t
+      compress_on compress.New (compress.Over v) seen.Done t did saw h = absurd t
+      compress_on compress.New a' (seen.Words y) t did saw h = absurd t
+      compress_on compress.New a' (seen.Took n) t did saw h = absurd t
+      compress_on compress.New a' (seen.Owner retired started own) t did saw h = absurd t
+      compress_on compress.New a' (seen.Blocks it) t did saw h = absurd t
+      compress_on compress.New a' seen.Missed t did saw h = absurd t
+      compress_on compress.New a' seen.Refused t did saw h = absurd t
+      compress_on (compress.Compressing c) compress.New what t did saw h = absurd t
+      compress_on (compress.Compressing c) (compress.Staying v) what t did saw h = absurd t
+      compress_on (compress.Compressing c) (compress.Over v) what t did saw h = absurd t
+      compress_on (compress.Staying o) compress.New seen.Done t did saw h = absurd t
+      compress_on (compress.Staying o) (compress.Coming v) seen.Done t did saw h = absurd t
+      compress_on (compress.Staying o) (compress.Compressing v) seen.Done t did saw h = absurd t
+      compress_on (compress.Staying o) (compress.Staying v) seen.Done t did saw h = absurd t
+      compress_on (compress.Staying o) (compress.Over v) seen.Done t did saw h = absurd t
+      compress_on (compress.Staying o) a' (seen.Words y) t did saw h = absurd t
+      compress_on (compress.Staying o) a' (seen.Took n) t did saw h = absurd t
+      compress_on (compress.Staying o) a' (seen.Owner retired started own) t did saw h = absurd t
+      compress_on (compress.Staying o) a' (seen.Blocks it) t did saw h = absurd t
+      compress_on (compress.Staying o) a' seen.Missed t did saw h = absurd t
+      compress_on (compress.Staying o) a' seen.Refused t did saw h = absurd t
+      compress_on (compress.Ending o) compress.New seen.Done t did saw h = absurd t
+      compress_on (compress.Ending o) (compress.Coming v) seen.Done t did saw h = absurd t
+      compress_on (compress.Ending o) (compress.Compressing v) seen.Done t did saw h = absurd t
+      compress_on (compress.Ending o) (compress.Staying v) seen.Done t did saw h = absurd t
+      compress_on (compress.Ending o) (compress.Ending v) seen.Done t did saw h = absurd t
+      compress_on (compress.Ending o) a' (seen.Words y) t did saw h = absurd t
+      compress_on (compress.Ending o) a' (seen.Took n) t did saw h = absurd t
+      compress_on (compress.Ending o) a' (seen.Owner retired started own) t did saw h = absurd t
+      compress_on (compress.Ending o) a' (seen.Blocks it) t did saw h = absurd t
+      compress_on (compress.Ending o) a' seen.Missed t did saw h = absurd t
+      compress_on (compress.Ending o) a' seen.Refused t did saw h = absurd t
+      compress_on (compress.Over o) compress.New seen.Done t did saw h = absurd t
+      compress_on (compress.Over o) (compress.Coming v) seen.Done t did saw h = absurd t
+      compress_on (compress.Over o) (compress.Compressing v) seen.Done t did saw h = absurd t
+      compress_on (compress.Over o) (compress.Staying v) seen.Done t did saw h = absurd t
+      compress_on (compress.Over o) (compress.Ending v) seen.Done t did saw h = absurd t
+      compress_on (compress.Over o) (compress.Over v) seen.Done t did saw h = absurd t
+      compress_on (compress.Over o) a' (seen.Words y) t did saw h = absurd t
+      compress_on (compress.Over o) a' (seen.Took n) t did saw h = absurd t
+      compress_on (compress.Over o) a' (seen.Owner retired started own) t did saw h = absurd t
+      compress_on (compress.Over o) a' (seen.Blocks it) t did saw h = absurd t
+      compress_on (compress.Over o) a' seen.Missed t did saw h = absurd t
+      compress_on (compress.Over o) a' seen.Refused t did saw h = absurd t
+
+  -- a miss that is of no turn of its own changes nothing
+  module _ (level key : ℕ) (did : m.event.act ≡ Miss) where
+    squeeze_stays : (c : Compression) → squeeze_log level key c ms → squeeze_log level key c more
+    squeeze_stays (LatchingLeft f) h = family_on [] (ap acts_in did) h
+    squeeze_stays (LatchedLeft f) h = family_on [] (ap acts_in did) h
+    squeeze_stays (LatchingRight f c) h = left_on [] (ap acts_in did) h
+    squeeze_stays (LatchedRight f c) h = left_on [] (ap acts_in did) h
+    squeeze_stays (PuttingFirst u) h = puts_on [] (ap acts_in did) h
+    squeeze_stays (PuttingParent u) h = puts_on [] (ap acts_in did) h
+    squeeze_stays (PuttingLast u) h = puts_on [] (ap acts_in did) h
+    squeeze_stays (Retiring at last) (u, same, h, is, one) = (u, same, puts_on [] (ap acts_in did) h, is, one)
+    squeeze_stays (OpeningRight at last) h = fate_on level key last (ap put_in did) h
+    squeeze_stays (OpeningLeft at last) h = fate_on level key last (ap put_in did) h
+    squeeze_stays (OpeningParent x last) h = fate_on level key last (ap put_in did) h
+
+    way_stays : (a : Approach) → way_log a ms → way_log a more
+    way_stays way.Start h = tt
+    way_stays (way.At x) h = tt
+    way_stays (way.Latching x) h = tt
+    way_stays (way.Latched x) h = since_on [] (ap acts_in did) h
+    way_stays (way.Leaving x to) h = tt
+
+    pub compress_stays : (a : CompressStage) → compress_log level key a ms → compress_log level key a more
+    compress_stays compress.New h = tt
+    compress_stays (compress.Coming a) h = way_stays a h
+    compress_stays (compress.Compressing c) h = squeeze_stays c h
+    compress_stays (compress.Staying x) h = once_on (ap put_in did) h
+    compress_stays (compress.Ending r) h = pressed_on level key r (ap put_in did) h
+    compress_stays (compress.Over r) h = pressed_on level key r (ap put_in did) h
