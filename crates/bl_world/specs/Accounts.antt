@@ -17,6 +17,9 @@ use Rattle.bl_ways.specs.declared.answers.Answer.TheVariants as answer
 use Rattle.bl_ways.specs.declared.answers.Hint.{Hint}
 use Rattle.bl_ways.specs.declared.answers.Posted.{Posted}
 use Rattle.bl_proc.specs.declared.posting.Post.{Post}
+use Rattle.bl_ways.specs.declared.answers.Squeezed.{Squeezed}
+use Rattle.bl_proc.specs.declared.squeezing.Compress.{Compress}
+use Rattle.bl_tables.specs.Squeezed.{MeansSqueezed}
 use Rattle.bl_ways.specs.declared.answers.Reclaimed.{Reclaimed}
 use Rattle.bl_proc.specs.declared.reclaiming.Reclaim.{Reclaim}
 use Rattle.bl_proc.specs.declared.kinds.Proc.{Proc}
@@ -58,6 +61,7 @@ op_of (proc.Insert p) = Some (op.Insert p.key p.value)
 op_of (proc.Delete p) = Some (op.Delete p.key)
 op_of (proc.Post p) = None
 op_of (proc.Part p) = Some (op.Part p.from)
+op_of (proc.Compress p) = None
 op_of (proc.Reclaim p) = None
 
 -- a process that releases a page has neither a begin nor an end
@@ -113,6 +117,8 @@ pub record Account (v : View) : Type 0 where
   -- what a post answered means what it says, and so does its hint, by what its process has done
   pub posted : (n : ℕ) (p : Post) (a : Posted) (hint : Option Hint) → slice_get v.processes n ≡ Some (proc.Post p) → answer_of (proc.Post p) ≡ Some (answer.Post a hint) → MeansPosted p.level p.key a (marks_of (name_of (n + 1)) trail)
   pub hinted : (n : ℕ) (p : Post) (a : Posted) (hint : Option Hint) → slice_get v.processes n ≡ Some (proc.Post p) → answer_of (proc.Post p) ≡ Some (answer.Post a hint) → MeansHint p.level p.key a hint (marks_of (name_of (n + 1)) trail)
+  -- so does what a compression answered, with the hint beside it
+  pub squeezed : (n : ℕ) (p : Compress) (a : Squeezed) (hint : Option Hint) → slice_get v.processes n ≡ Some (proc.Compress p) → answer_of (proc.Compress p) ≡ Some (answer.Compress a hint) → MeansSqueezed p.level p.key a hint (marks_of (name_of (n + 1)) trail)
   -- so does the answer of a process that was to release a page; and each release is of the retirement that its process saw
   pub reclaimed : (n : ℕ) (p : Reclaim) (a : Reclaimed) → slice_get v.processes n ≡ Some (proc.Reclaim p) → answer_of (proc.Reclaim p) ≡ Some (answer.Reclaim a) → MeansReclaimed v.events (n + 1) p.page a
   pub releases : ReleasesSeen v.events

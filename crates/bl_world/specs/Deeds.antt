@@ -8,6 +8,7 @@ use Rattle.bl_ways.specs.declared.acts.Action.TheVariants as act
 use Rattle.bl_ways.specs.declared.answers.Answer.{Answer}
 use Rattle.bl_ways.specs.declared.answers.Answer.TheVariants as answer
 use Rattle.bl_ways.specs.declared.answers.Posted.TheVariants as posted
+use Rattle.bl_ways.specs.declared.answers.Squeezed.TheVariants as squeezed
 use Rattle.bl_ways.specs.Growths.{IsAnchor}
 use Rattle.bl_proc.specs.declared.kinds.Proc.{Proc}
 use Rattle.bl_proc.specs.Processes.{next_of, IsReclaim}
@@ -83,6 +84,7 @@ pub record Way (v : View) : Type 0 where
 abbrev pub IsNoRoom : Answer → Type 0
 IsNoRoom (answer.Op reply.NoRoom hint) = Unit {0}
 IsNoRoom (answer.Post posted.NoRoom hint) = Unit {0}
+IsNoRoom (answer.Compress squeezed.NoRoom hint) = Unit {0}
 IsNoRoom other = ⊥
 
 -- One of the deeds was to refuse the process at place n what it was about to reserve.

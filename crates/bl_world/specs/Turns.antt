@@ -65,8 +65,8 @@ MayRelease v n x = (k : ℕ) × HasSeen v.events (n + 1) x k (length v.events) �
 
 -- What the process at place n does by its next action. The event is the one that the action names. Only a latch or a
 -- release can be missed: where the page is not open, or is not retired as the process has seen it, the event is a miss,
--- which the process is told. A look tells whether that other process blocks what the process has seen retired. (No process
--- of these kinds retires.)
+-- which the process is told. A look tells whether that other process blocks what the process has seen retired. A page is
+-- retired by the event at that place.
 abbrev pub Carries : View → ℕ → Proc → Action → View → Type 0
 Carries v n p act.Begin v' = Stays v v' × Tells v n p shown.Begin seen.Done v'
 Carries v n p act.End v' = Stays v v' × Tells v n p shown.End seen.Done v'
@@ -75,7 +75,7 @@ Carries v n p (act.Put x c) v' = Puts v x c v' × Tells v n p (shown.Put x) seen
 Carries v n p (act.Latch x) v' = ((slice_get v.owners x ≡ Some own.Open) × Owns v x (own.Held (n + 1)) v' × Tells v n p (shown.Latch x) seen.Done v') ⊎ ((slice_get v.owners x ≢ Some own.Open) × Stays v v' × Tells v n p shown.Miss seen.Missed v')
 Carries v n p (act.Open x) v' = Owns v x own.Open v' × Tells v n p (shown.Open x) seen.Done v'
 Carries v n p act.Take v' = ⊥
-Carries v n p (act.Retire x) v' = ⊥
+Carries v n p (act.Retire x) v' = Owns v x (own.Retired (length v.events)) v' × Tells v n p (shown.Retire x) seen.Done v'
 Carries v n p (act.Look q) v' = (x : ℕ) × (k : ℕ) × (blocks : Bool) × IsToRelease p x × HasSeen v.events (n + 1) x k (length v.events) × (IsTrue blocks ↔ Blocks v.events q k (length v.events)) × Stays v v' × Tells v n p (shown.Look q) (seen.Blocks blocks) v'
 Carries v n p (act.See x) v' = (o : Owner) × (slice_get v.owners x ≡ Some o) × Stays v v' × Tells v n p (shown.See x) (seen.Owner (is_retired o) (length v.processes) (n + 1)) v'
 Carries v n p (act.Release x) v' = (MayRelease v n x × Owns v x own.Released v' × Tells v n p (shown.Release x) seen.Done v') ⊎ ((¬ MayRelease v n x) × Stays v v' × Tells v n p shown.Miss seen.Missed v')

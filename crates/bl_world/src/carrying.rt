@@ -146,6 +146,24 @@ impl Lists {
         self.own(index, at, Owner::Open, Act::Open(at), Seen::Done)
     }
 
+    /// The process retires a page.
+    fn retire(&mut self, index: usize, at: u32) -> Result<(), AllocError>
+        requires world { IsWorld (view_of self.old) }
+        requires started { index < length self.old.processes.items }
+        requires next { (p : Proc) → slice_get self.old.processes.items index ≡ Some p → (answer_of p ≡ None) × (next_of p ≡ act.Retire at) }
+        ensures ok { OnOk result ((p : Proc) → slice_get self.old.processes.items index ≡ Some p → Carries (view_of self.old) index p (act.Retire at) (view_of self.new)) }
+        ensures err { OnErr result (view_of self.new ≡ view_of self.old) }
+    {
+        let place = self.events.len();
+        self.own(
+            index,
+            at,
+            Owner::Retired(place),
+            Act::Retire(at),
+            Seen::Done,
+        )
+    }
+
     /// The process looks at the owner of a page.
     fn see(&mut self, index: usize, at: u32) -> Result<(), AllocError>
         requires world { IsWorld (view_of self.old) }
@@ -245,7 +263,7 @@ impl Lists {
             Action::Look(number) => self.look(index, number),
             Action::See(at) => self.see(index, at),
             Action::Release(at) => self.release(index, at),
-            Action::Retire(_) => unreachable!(),
+            Action::Retire(at) => self.retire(index, at),
         }
     }
 

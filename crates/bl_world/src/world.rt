@@ -31,6 +31,7 @@ fn key_of(process: &Proc) -> u64
         Proc::Delete(process) => process.key,
         Proc::Post(process) => process.key,
         Proc::Part(process) => process.from,
+        Proc::Compress(process) => process.key,
         Proc::Reclaim(_) => 0,
     }
 }
