@@ -90,10 +90,10 @@ squeeze_said level key got (LatchedRight f page) = refl
 squeeze_said level key got (PuttingFirst u) = refl
 squeeze_said level key got (PuttingParent u) = refl
 squeeze_said level key got (PuttingLast u) = refl
-squeeze_said level key got (Retiring at last) = refl
-squeeze_said level key got (OpeningRight at last) = refl
-squeeze_said level key got (OpeningLeft at last) = refl
-squeeze_said level key got (OpeningParent x last) = refl
+squeeze_said level key got (Retiring at end) = refl
+squeeze_said level key got (OpeningRight at end) = refl
+squeeze_said level key got (OpeningLeft at end) = refl
+squeeze_said level key got (OpeningParent x end) = refl
 
 -- Its own operation
 

@@ -95,10 +95,10 @@ squeeze_tree (LatchedRight f page) = tt
 squeeze_tree (PuttingFirst u) = put_tree u.gains u
 squeeze_tree (PuttingParent u) = tt
 squeeze_tree (PuttingLast u) = put_tree (other u.gains) u
-squeeze_tree (Retiring at last) = tt
-squeeze_tree (OpeningRight at last) = tt
-squeeze_tree (OpeningLeft at last) = tt
-squeeze_tree (OpeningParent x last) = tt
+squeeze_tree (Retiring at end) = tt
+squeeze_tree (OpeningRight at end) = tt
+squeeze_tree (OpeningLeft at end) = tt
+squeeze_tree (OpeningParent x end) = tt
 
 find_tree : (a : FindStage) → IsOfTree (find_next_in a)
 find_tree find.New = tt

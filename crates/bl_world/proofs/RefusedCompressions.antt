@@ -37,10 +37,10 @@ SqueezeRefused (LatchedRight f page) = ⊥
 SqueezeRefused (PuttingFirst u) = FateRefused u.fate
 SqueezeRefused (PuttingParent u) = FateRefused u.fate
 SqueezeRefused (PuttingLast u) = FateRefused u.fate
-SqueezeRefused (Retiring at last) = FateRefused last
-SqueezeRefused (OpeningRight at last) = FateRefused last
-SqueezeRefused (OpeningLeft at last) = FateRefused last
-SqueezeRefused (OpeningParent x last) = FateRefused last
+SqueezeRefused (Retiring at end) = FateRefused end
+SqueezeRefused (OpeningRight at end) = FateRefused end
+SqueezeRefused (OpeningLeft at end) = FateRefused end
+SqueezeRefused (OpeningParent x end) = FateRefused end
 
 abbrev pub PressNoRoom : CompressReply → Type 0
 PressNoRoom (pressed.Merged hint) = ⊥
@@ -68,10 +68,10 @@ links_not f c (LatchedRight g page) h r = h
 links_not f c (PuttingFirst u) h r = h
 links_not f c (PuttingParent u) h r = h
 links_not f c (PuttingLast u) h r = h
-links_not f c (Retiring at last) h r = h
-links_not f c (OpeningRight at last) h r = h
-links_not f c (OpeningLeft at last) h r = subst FateRefused h.2 r
-links_not f c (OpeningParent x last) h r = h
+links_not f c (Retiring at end) h r = h
+links_not f c (OpeningRight at end) h r = h
+links_not f c (OpeningLeft at end) h r = subst FateRefused h.2 r
+links_not f c (OpeningParent x end) h r = h
 
 decides_not : (f : Family) (c d : Page) (new : Compression) → Decides f c d new → SqueezeRefused new → ⊥
 decides_not f c d (LatchingLeft g) h r = h
@@ -81,17 +81,17 @@ decides_not f c d (LatchedRight g page) h r = h
 decides_not f c d (PuttingFirst u) h r = elim h [ inl m ↦ subst FateRefused m.1.fate r | inr e ↦ subst FateRefused e.fate r ]
 decides_not f c d (PuttingParent u) h r = h
 decides_not f c d (PuttingLast u) h r = h
-decides_not f c d (Retiring at last) h r = h
+decides_not f c d (Retiring at end) h r = h
 decides_not f c d (OpeningRight at (fate.Merged s)) h r = r
 decides_not f c d (OpeningRight at fate.Evened) h r = r
 decides_not f c d (OpeningRight at fate.Enough) h r = r
 decides_not f c d (OpeningRight at (fate.Unposted s)) h r = r
 decides_not f c d (OpeningRight at fate.Refused) h r = h
 decides_not f c d (OpeningRight at fate.Lost) h r = r
-decides_not f c d (OpeningLeft at last) h r = h
-decides_not f c d (OpeningParent x last) h r = h
+decides_not f c d (OpeningLeft at end) h r = h
+decides_not f c d (OpeningParent x end) h r = h
 
-after_refused : (at : Trio) (last : Fate) → SqueezeRefused (after_puts at last) → FateRefused last
+after_refused : (at : Trio) (end : Fate) → SqueezeRefused (after_puts at end) → FateRefused end
 after_refused at (fate.Merged hint) r = r
 after_refused at fate.Evened r = r
 after_refused at fate.Enough r = r
@@ -101,54 +101,54 @@ after_refused at fate.Lost r = r
 
 abbrev StepRefused : Compressed → Type 0
 StepRefused (step.On d) = SqueezeRefused d
-StepRefused (step.Over last) = FateRefused last
+StepRefused (step.Over end) = FateRefused end
 
 squeezes_refused : (c : Compression) (what : Seen) (new : Compressed) → Compresses c what new → StepRefused new → SqueezeRefused c ⊎ (what ≡ seen.Refused)
 squeezes_refused (LatchingLeft f) seen.Done (step.On d) h r = absurd (subst SqueezeRefused h r)
-squeezes_refused (LatchingLeft f) seen.Done (step.Over f1) h r = absurd h
+squeezes_refused (LatchingLeft f) seen.Done (step.Over o) h r = absurd h
 squeezes_refused (LatchingLeft f) (seen.Words y) new h r = absurd h
 squeezes_refused (LatchingLeft f) (seen.Took y) new h r = absurd h
 squeezes_refused (LatchingLeft f) (seen.Owner retired started own) new h r = absurd h
 squeezes_refused (LatchingLeft f) (seen.Blocks it) new h r = absurd h
 squeezes_refused (LatchingLeft f) seen.Missed (step.On d) h r = absurd (subst SqueezeRefused h r)
-squeezes_refused (LatchingLeft f) seen.Missed (step.Over f1) h r = absurd h
+squeezes_refused (LatchingLeft f) seen.Missed (step.Over o) h r = absurd h
 squeezes_refused (LatchingLeft f) seen.Refused new h r = absurd h
 squeezes_refused (LatchedLeft f) seen.Done new h r = absurd h
 squeezes_refused (LatchedLeft f) (seen.Words y) (step.On d) h r = absurd (links_not f y d h r)
-squeezes_refused (LatchedLeft f) (seen.Words y) (step.Over f1) h r = absurd h
+squeezes_refused (LatchedLeft f) (seen.Words y) (step.Over o) h r = absurd h
 squeezes_refused (LatchedLeft f) (seen.Took y) new h r = absurd h
 squeezes_refused (LatchedLeft f) (seen.Owner retired started own) new h r = absurd h
 squeezes_refused (LatchedLeft f) (seen.Blocks it) new h r = absurd h
 squeezes_refused (LatchedLeft f) seen.Missed new h r = absurd h
 squeezes_refused (LatchedLeft f) seen.Refused new h r = absurd h
 squeezes_refused (LatchingRight f page) seen.Done (step.On d) h r = absurd (subst SqueezeRefused h r)
-squeezes_refused (LatchingRight f page) seen.Done (step.Over f1) h r = absurd h
+squeezes_refused (LatchingRight f page) seen.Done (step.Over o) h r = absurd h
 squeezes_refused (LatchingRight f page) (seen.Words y) new h r = absurd h
 squeezes_refused (LatchingRight f page) (seen.Took y) new h r = absurd h
 squeezes_refused (LatchingRight f page) (seen.Owner retired started own) new h r = absurd h
 squeezes_refused (LatchingRight f page) (seen.Blocks it) new h r = absurd h
 squeezes_refused (LatchingRight f page) seen.Missed (step.On d) h r = absurd (subst SqueezeRefused h r)
-squeezes_refused (LatchingRight f page) seen.Missed (step.Over f1) h r = absurd h
+squeezes_refused (LatchingRight f page) seen.Missed (step.Over o) h r = absurd h
 squeezes_refused (LatchingRight f page) seen.Refused new h r = absurd h
 squeezes_refused (LatchedRight f page) seen.Done new h r = absurd h
 squeezes_refused (LatchedRight f page) (seen.Words y) (step.On d) h r = absurd (decides_not f page y d h r)
-squeezes_refused (LatchedRight f page) (seen.Words y) (step.Over f1) h r = absurd h
+squeezes_refused (LatchedRight f page) (seen.Words y) (step.Over o) h r = absurd h
 squeezes_refused (LatchedRight f page) (seen.Took y) new h r = absurd h
 squeezes_refused (LatchedRight f page) (seen.Owner retired started own) new h r = absurd h
 squeezes_refused (LatchedRight f page) (seen.Blocks it) new h r = absurd h
 squeezes_refused (LatchedRight f page) seen.Missed new h r = absurd h
 squeezes_refused (LatchedRight f page) seen.Refused new h r = absurd h
 squeezes_refused (PuttingFirst u) seen.Done (step.On d) h r = inl (subst SqueezeRefused h r)
-squeezes_refused (PuttingFirst u) seen.Done (step.Over f1) h r = absurd h
+squeezes_refused (PuttingFirst u) seen.Done (step.Over o) h r = absurd h
 squeezes_refused (PuttingFirst u) (seen.Words y) new h r = absurd h
 squeezes_refused (PuttingFirst u) (seen.Took y) new h r = absurd h
 squeezes_refused (PuttingFirst u) (seen.Owner retired started own) new h r = absurd h
 squeezes_refused (PuttingFirst u) (seen.Blocks it) new h r = absurd h
 squeezes_refused (PuttingFirst u) seen.Missed new h r = absurd h
 squeezes_refused (PuttingFirst u) seen.Refused (step.On d) h r = inr refl
-squeezes_refused (PuttingFirst u) seen.Refused (step.Over f1) h r = absurd h
+squeezes_refused (PuttingFirst u) seen.Refused (step.Over o) h r = absurd h
 squeezes_refused (PuttingParent u) seen.Done (step.On d) h r = inl (subst SqueezeRefused h r)
-squeezes_refused (PuttingParent u) seen.Done (step.Over f1) h r = absurd h
+squeezes_refused (PuttingParent u) seen.Done (step.Over o) h r = absurd h
 squeezes_refused (PuttingParent u) (seen.Words y) new h r = absurd h
 squeezes_refused (PuttingParent u) (seen.Took y) new h r = absurd h
 squeezes_refused (PuttingParent u) (seen.Owner retired started own) new h r = absurd h
@@ -156,45 +156,45 @@ squeezes_refused (PuttingParent u) (seen.Blocks it) new h r = absurd h
 squeezes_refused (PuttingParent u) seen.Missed new h r = absurd h
 squeezes_refused (PuttingParent u) seen.Refused new h r = absurd h
 squeezes_refused (PuttingLast u) seen.Done (step.On d) h r = inl (after_refused u.at u.fate (subst SqueezeRefused h r))
-squeezes_refused (PuttingLast u) seen.Done (step.Over f1) h r = absurd h
+squeezes_refused (PuttingLast u) seen.Done (step.Over o) h r = absurd h
 squeezes_refused (PuttingLast u) (seen.Words y) new h r = absurd h
 squeezes_refused (PuttingLast u) (seen.Took y) new h r = absurd h
 squeezes_refused (PuttingLast u) (seen.Owner retired started own) new h r = absurd h
 squeezes_refused (PuttingLast u) (seen.Blocks it) new h r = absurd h
 squeezes_refused (PuttingLast u) seen.Missed new h r = absurd h
 squeezes_refused (PuttingLast u) seen.Refused new h r = absurd h
-squeezes_refused (Retiring at last) seen.Done (step.On d) h r = inl (subst SqueezeRefused h r)
-squeezes_refused (Retiring at last) seen.Done (step.Over f1) h r = absurd h
-squeezes_refused (Retiring at last) (seen.Words y) new h r = absurd h
-squeezes_refused (Retiring at last) (seen.Took y) new h r = absurd h
-squeezes_refused (Retiring at last) (seen.Owner retired started own) new h r = absurd h
-squeezes_refused (Retiring at last) (seen.Blocks it) new h r = absurd h
-squeezes_refused (Retiring at last) seen.Missed new h r = absurd h
-squeezes_refused (Retiring at last) seen.Refused new h r = absurd h
-squeezes_refused (OpeningRight at last) seen.Done (step.On d) h r = inl (subst SqueezeRefused h r)
-squeezes_refused (OpeningRight at last) seen.Done (step.Over f1) h r = absurd h
-squeezes_refused (OpeningRight at last) (seen.Words y) new h r = absurd h
-squeezes_refused (OpeningRight at last) (seen.Took y) new h r = absurd h
-squeezes_refused (OpeningRight at last) (seen.Owner retired started own) new h r = absurd h
-squeezes_refused (OpeningRight at last) (seen.Blocks it) new h r = absurd h
-squeezes_refused (OpeningRight at last) seen.Missed new h r = absurd h
-squeezes_refused (OpeningRight at last) seen.Refused new h r = absurd h
-squeezes_refused (OpeningLeft at last) seen.Done (step.On d) h r = inl (subst SqueezeRefused h r)
-squeezes_refused (OpeningLeft at last) seen.Done (step.Over f1) h r = absurd h
-squeezes_refused (OpeningLeft at last) (seen.Words y) new h r = absurd h
-squeezes_refused (OpeningLeft at last) (seen.Took y) new h r = absurd h
-squeezes_refused (OpeningLeft at last) (seen.Owner retired started own) new h r = absurd h
-squeezes_refused (OpeningLeft at last) (seen.Blocks it) new h r = absurd h
-squeezes_refused (OpeningLeft at last) seen.Missed new h r = absurd h
-squeezes_refused (OpeningLeft at last) seen.Refused new h r = absurd h
-squeezes_refused (OpeningParent x last) seen.Done (step.On d) h r = absurd h
-squeezes_refused (OpeningParent x last) seen.Done (step.Over f1) h r = inl (subst FateRefused h r)
-squeezes_refused (OpeningParent x last) (seen.Words y) new h r = absurd h
-squeezes_refused (OpeningParent x last) (seen.Took y) new h r = absurd h
-squeezes_refused (OpeningParent x last) (seen.Owner retired started own) new h r = absurd h
-squeezes_refused (OpeningParent x last) (seen.Blocks it) new h r = absurd h
-squeezes_refused (OpeningParent x last) seen.Missed new h r = absurd h
-squeezes_refused (OpeningParent x last) seen.Refused new h r = absurd h
+squeezes_refused (Retiring at end) seen.Done (step.On d) h r = inl (subst SqueezeRefused h r)
+squeezes_refused (Retiring at end) seen.Done (step.Over o) h r = absurd h
+squeezes_refused (Retiring at end) (seen.Words y) new h r = absurd h
+squeezes_refused (Retiring at end) (seen.Took y) new h r = absurd h
+squeezes_refused (Retiring at end) (seen.Owner retired started own) new h r = absurd h
+squeezes_refused (Retiring at end) (seen.Blocks it) new h r = absurd h
+squeezes_refused (Retiring at end) seen.Missed new h r = absurd h
+squeezes_refused (Retiring at end) seen.Refused new h r = absurd h
+squeezes_refused (OpeningRight at end) seen.Done (step.On d) h r = inl (subst SqueezeRefused h r)
+squeezes_refused (OpeningRight at end) seen.Done (step.Over o) h r = absurd h
+squeezes_refused (OpeningRight at end) (seen.Words y) new h r = absurd h
+squeezes_refused (OpeningRight at end) (seen.Took y) new h r = absurd h
+squeezes_refused (OpeningRight at end) (seen.Owner retired started own) new h r = absurd h
+squeezes_refused (OpeningRight at end) (seen.Blocks it) new h r = absurd h
+squeezes_refused (OpeningRight at end) seen.Missed new h r = absurd h
+squeezes_refused (OpeningRight at end) seen.Refused new h r = absurd h
+squeezes_refused (OpeningLeft at end) seen.Done (step.On d) h r = inl (subst SqueezeRefused h r)
+squeezes_refused (OpeningLeft at end) seen.Done (step.Over o) h r = absurd h
+squeezes_refused (OpeningLeft at end) (seen.Words y) new h r = absurd h
+squeezes_refused (OpeningLeft at end) (seen.Took y) new h r = absurd h
+squeezes_refused (OpeningLeft at end) (seen.Owner retired started own) new h r = absurd h
+squeezes_refused (OpeningLeft at end) (seen.Blocks it) new h r = absurd h
+squeezes_refused (OpeningLeft at end) seen.Missed new h r = absurd h
+squeezes_refused (OpeningLeft at end) seen.Refused new h r = absurd h
+squeezes_refused (OpeningParent x end) seen.Done (step.On d) h r = absurd h
+squeezes_refused (OpeningParent x end) seen.Done (step.Over o) h r = inl (subst FateRefused h r)
+squeezes_refused (OpeningParent x end) (seen.Words y) new h r = absurd h
+squeezes_refused (OpeningParent x end) (seen.Took y) new h r = absurd h
+squeezes_refused (OpeningParent x end) (seen.Owner retired started own) new h r = absurd h
+squeezes_refused (OpeningParent x end) (seen.Blocks it) new h r = absurd h
+squeezes_refused (OpeningParent x end) seen.Missed new h r = absurd h
+squeezes_refused (OpeningParent x end) seen.Refused new h r = absurd h
 
 -- Steps of its process
 
@@ -208,10 +208,10 @@ arrives_not key x c (compress.Compressing (LatchedRight f page)) h r = h
 arrives_not key x c (compress.Compressing (PuttingFirst u)) h r = h
 arrives_not key x c (compress.Compressing (PuttingParent u)) h r = h
 arrives_not key x c (compress.Compressing (PuttingLast u)) h r = h
-arrives_not key x c (compress.Compressing (Retiring at last)) h r = h
-arrives_not key x c (compress.Compressing (OpeningRight at last)) h r = h
-arrives_not key x c (compress.Compressing (OpeningLeft at last)) h r = h
-arrives_not key x c (compress.Compressing (OpeningParent x last)) h r = h
+arrives_not key x c (compress.Compressing (Retiring at end)) h r = h
+arrives_not key x c (compress.Compressing (OpeningRight at end)) h r = h
+arrives_not key x c (compress.Compressing (OpeningLeft at end)) h r = h
+arrives_not key x c (compress.Compressing (OpeningParent y end)) h r = h
 arrives_not key x c (compress.Staying y) h r = r
 arrives_not key x c (compress.Ending s) h r = h
 arrives_not key x c (compress.Over s) h r = h
@@ -253,13 +253,13 @@ press_comes_not level key (way.Leaving x to) what new h r = nears_not level key 
 some_reply : (a b : CompressReply) → Some a ≡ Some b → PressNoRoom b → PressNoRoom a
 some_reply a b e r = (let f : b ≡ a = cc in subst PressNoRoom f r)
 
-refused_fate : (last : Fate) (r : CompressReply) → compress_reply last ≡ Some r → PressNoRoom r → FateRefused last
-refused_fate (fate.Merged hint) r e no = some_reply _ r e no
-refused_fate fate.Evened r e no = some_reply _ r e no
-refused_fate fate.Enough r e no = some_reply _ r e no
-refused_fate (fate.Unposted hint) r e no = some_reply _ r e no
-refused_fate fate.Refused r e no = tt
-refused_fate fate.Lost r e no = absurd (let f : None ≡ Some r = e in cc)
+refused_fate : (end : Fate) (r : CompressReply) → compress_reply end ≡ Some r → PressNoRoom r → FateRefused end
+refused_fate (fate.Merged hint) r e none = some_reply _ r e none
+refused_fate fate.Evened r e none = some_reply _ r e none
+refused_fate fate.Enough r e none = some_reply _ r e none
+refused_fate (fate.Unposted hint) r e none = some_reply _ r e none
+refused_fate fate.Refused r e none = tt
+refused_fate fate.Lost r e none = absurd (let f : None ≡ Some r = e in cc)
 
 pub compress_refused : (level key : ℕ) (a : CompressStage) (what : Seen) (b : CompressStage) → CompressGoes level key a what b → CompressRefused b → CompressRefused a ⊎ (what ≡ seen.Refused)
 compress_refused level key a what compress.New h r = absurd r
