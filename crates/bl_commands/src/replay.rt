@@ -2,7 +2,7 @@
 
 ghost use Rattle.std.specs.Prelude.{◌≡◌, ℕ, List, true, MatchResult};
 ghost use Rattle.std.specs.Io.KnownBytes.{Consumes, IsAtEnd};
-ghost use Rattle.bl_cli.specs.Replays.{Replays, StopsReplay};
+ghost use Rattle.bl_commands.specs.Replays.{Replays, StopsReplay};
 
 use crate::fault::CommandFault;
 use bl_model::Watched;

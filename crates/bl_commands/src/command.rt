@@ -1,7 +1,7 @@
 //! The command line.
 
 ghost use Rattle.std.specs.Prelude.{◌≡◌, ◌≤◌, ℕ, Some, None, IfOk};
-ghost use Rattle.bl_cli.specs.Limits.{IsWithinLimits};
+ghost use Rattle.bl_commands.specs.Limits.{IsWithinLimits};
 
 use crate::check::check_command;
 use crate::replay::replay_command;

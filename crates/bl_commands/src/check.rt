@@ -3,8 +3,8 @@
 ghost use Rattle.std.specs.Prelude.{◌≡◌, ◌↔◌, ◌++◌, ℕ, List, true, IfOk, IfErr, IsTrue, codes, decimal, string_bytes};
 ghost use Rattle.std.specs.Io.KnownBytes.{Appends};
 ghost use Rattle.bl_check.specs.Faults.{AreSoundImage};
-ghost use Rattle.bl_cli.specs.Checks.{report_text, fault_text, IsVerdict, ReadsAll, HasLength, CannotRead, ComesFrom, Leaves};
-ghost use Rattle.bl_cli.specs.declared.fault.CommandFault.TheVariants as command;
+ghost use Rattle.bl_commands.specs.Checks.{report_text, fault_text, IsVerdict, ReadsAll, HasLength, CannotRead, ComesFrom, Leaves};
+ghost use Rattle.bl_commands.specs.declared.fault.CommandFault.TheVariants as command;
 
 use crate::fault::CommandFault;
 use bl_check::{Fault, Report, check};

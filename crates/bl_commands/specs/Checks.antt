@@ -8,8 +8,8 @@ use Rattle.bl_check.specs.declared.report.Report.{Report}
 use Rattle.bl_check.specs.Faults.{Breaks}
 use Rattle.bl_check.specs.Reports.{IsReport}
 use Rattle.bl_check.specs.Rules.{AreSound}
-use Rattle.bl_cli.specs.declared.fault.CommandFault.{CommandFault}
-use Rattle.bl_cli.specs.declared.fault.CommandFault.TheVariants.{Read, Write, Memory, Script}
+use Rattle.bl_commands.specs.declared.fault.CommandFault.{CommandFault}
+use Rattle.bl_commands.specs.declared.fault.CommandFault.TheVariants.{Read, Write, Memory, Script}
 
 -- the line of a sound image
 abbrev pub report_text : Report → List ℕ

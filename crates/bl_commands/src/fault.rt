@@ -1,8 +1,8 @@
 //! Why a command ends early.
 
 ghost use Rattle.std.specs.Prelude.{◌≡◌};
-ghost use Rattle.bl_cli.specs.Statuses.{status_of, fault_of, fault_of_script, fault_of_replay, IsFaultOf};
-ghost use Rattle.bl_cli.specs.declared.fault.CommandFault.TheVariants.{Memory};
+ghost use Rattle.bl_commands.specs.Statuses.{status_of, fault_of, fault_of_script, fault_of_replay, IsFaultOf};
+ghost use Rattle.bl_commands.specs.declared.fault.CommandFault.TheVariants.{Memory};
 
 use bl_lines::ServeFault;
 use bl_replay::ReplayFault;

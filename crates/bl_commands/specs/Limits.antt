@@ -1,7 +1,7 @@
 -- The limits of the command line's options.
 use Rattle.std.specs.Prelude.{◌≡◌, ◌≤◌}
-use Rattle.bl_cli.specs.declared.command.Invocation.{Invocation}
-use Rattle.bl_cli.specs.declared.command.Invocation.TheVariants.{Serve, Check, Replay, Nothing}
+use Rattle.bl_commands.specs.declared.command.Invocation.{Invocation}
+use Rattle.bl_commands.specs.declared.command.Invocation.TheVariants.{Serve, Check, Replay, Nothing}
 
 -- 4 to 65,536 pages, one worker and no compressor so far
 abbrev pub IsWithinLimits : Invocation → Type 0

@@ -5,8 +5,8 @@ use Rattle.bl_model.specs.Stream.{StartsOut}
 use Rattle.bl_script.specs.declared.command.Command.{Command}
 use Rattle.bl_script.specs.Scripts.{IsScript, IsBadAt}
 use Rattle.bl_replay.specs.Plays.{few, PlaysOut, PlaysInto}
-use Rattle.bl_cli.specs.declared.fault.CommandFault.{CommandFault}
-use Rattle.bl_cli.specs.declared.fault.CommandFault.TheVariants.{Read, Write, Memory, Script}
+use Rattle.bl_commands.specs.declared.fault.CommandFault.{CommandFault}
+use Rattle.bl_commands.specs.declared.fault.CommandFault.TheVariants.{Read, Write, Memory, Script}
 
 -- All bytes are a script, and its text was written.
 pub record Replays (bytes : List ℕ) (at_end : Type 0) (old new : Option (List ℕ)) : Type 0 where

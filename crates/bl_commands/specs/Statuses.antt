@@ -9,8 +9,8 @@ use Rattle.bl_script.specs.declared.reading.ScriptFault.{ScriptFault}
 use Rattle.bl_script.specs.declared.reading.ScriptFault.TheVariants as script
 use Rattle.bl_replay.specs.declared.fault.ReplayFault.{ReplayFault}
 use Rattle.bl_replay.specs.declared.fault.ReplayFault.TheVariants as replaying
-use Rattle.bl_cli.specs.declared.fault.CommandFault.{CommandFault}
-use Rattle.bl_cli.specs.declared.fault.CommandFault.TheVariants as command
+use Rattle.bl_commands.specs.declared.fault.CommandFault.{CommandFault}
+use Rattle.bl_commands.specs.declared.fault.CommandFault.TheVariants as command
 
 -- 3 where reading or writing failed or a script was bad, 4 where there was no memory
 abbrev pub status_of : CommandFault → ℕ
