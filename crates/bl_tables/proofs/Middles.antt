@@ -17,11 +17,11 @@ use Rattle.bl_trails.specs.Moments.{Puts as PutsPage, After, IsLatch, IsMiddleBy
 use Rattle.bl_steps.specs.Worlds.{Middle, Know, World, nodes, HasMiddle, IsSure, IsGood}
 use Rattle.bl_starts.specs.Told.{TellsMiddles}
 use Rattle.bl_ways.specs.declared.approaching.Approach.TheVariants as way
-use Rattle.bl_ways.specs.declared.compressing.Puts.{Puts}
-use Rattle.bl_ways.specs.declared.compressing.Compression.TheVariants.{LatchingLeft, LatchedLeft, LatchingRight, LatchedRight, PuttingFirst, PuttingParent, PuttingLast, Retiring, OpeningRight, OpeningLeft, OpeningParent}
-use Rattle.bl_proc.specs.declared.squeezing.Compress.{Compress}
-use Rattle.bl_proc.specs.declared.squeezing.CompressStage.{CompressStage}
-use Rattle.bl_proc.specs.declared.squeezing.CompressStage.TheVariants as compress
+use Rattle.bl_compress.specs.declared.compressing.Puts.{Puts}
+use Rattle.bl_compress.specs.declared.compressing.Compression.TheVariants.{LatchingLeft, LatchedLeft, LatchingRight, LatchedRight, PuttingFirst, PuttingParent, PuttingLast, Retiring, OpeningRight, OpeningLeft, OpeningParent}
+use Rattle.bl_compress.specs.declared.squeezing.Compress.{Compress}
+use Rattle.bl_compress.specs.declared.squeezing.CompressStage.{CompressStage}
+use Rattle.bl_compress.specs.declared.squeezing.CompressStage.TheVariants as compress
 use Rattle.bl_proc.specs.declared.kinds.Proc.{Proc}
 use Rattle.bl_proc.specs.declared.kinds.Proc.TheVariants as proc
 use Rattle.bl_tables.specs.Compressing.{AreThree, IsToPut, left_now, right_now, know_squeeze}

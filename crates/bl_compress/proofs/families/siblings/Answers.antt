@@ -1,9 +1,9 @@
 use Rattle.std.proofs.Common.{◌≡◌, ◌<◌, ◌≤◌, ◌-◌, length, get_or, ap, ◌∙◌, sym, subst, arith}
 use Rattle.bl_page.specs.Pairs.{IsChild}
 use Rattle.bl_page.proofs.Lookups.{NameChildren-at}
-use Rattle.bl_ways.specs.Compressions.{right_place}
-use Rattle.bl_ways.proofs.Places.{right_place-some, listed_at, above_first, within_at}
-use Rattle.bl_ways.proofs.families.siblings.Goals as goal
+use Rattle.bl_compress.specs.Compressions.{right_place}
+use Rattle.bl_compress.proofs.Places.{right_place-some, listed_at, above_first, within_at}
+use Rattle.bl_compress.proofs.families.siblings.Goals as goal
 
 pub overflow_cast-at : goal.overflow_cast-at
 overflow_cast-at c =

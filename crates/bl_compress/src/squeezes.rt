@@ -4,16 +4,17 @@ ghost use Rattle.std.specs.Prelude.{◌≡◌, ◌<◌, ◌≤◌, None};
 ghost use Rattle.bl_page.specs.declared.page.Page.TheVariants as page;
 ghost use Rattle.bl_page.specs.Pairs.{IsWithin};
 ghost use Rattle.bl_ways.specs.declared.onwards.Onward.TheVariants as onward;
-ghost use Rattle.bl_proc.specs.declared.squeezing.CompressStage.TheVariants as compress_stage;
+ghost use Rattle.bl_compress.specs.declared.squeezing.CompressStage.TheVariants as compress_stage;
 ghost use Rattle.bl_ways.specs.Given.{Gives};
 ghost use Rattle.bl_ways.specs.Onwards.{Leads};
-ghost use Rattle.bl_proc.specs.Compresses.{compress_reply, compressed_answer, compress_next_in, compress_needs_in, compress_answer_in, CompressStarts, CompressArrives, CompressNears, CompressComes, CompressGoes, compress_next, compress_needs, compress_answer, CompressTakes};
+ghost use Rattle.bl_compress.specs.Compresses.{compress_reply, compressed_answer, compress_next_in, compress_needs_in, compress_answer_in, CompressStarts, CompressArrives, CompressNears, CompressComes, CompressGoes, compress_next, compress_needs, compress_answer, CompressTakes};
 
+use crate::compressing::{Compressed, Compression, Fate};
+use crate::families::siblings;
 use crate::squeezing::{Compress, CompressReply, CompressStage};
 use bl_page::{Inner, Page};
 use bl_ways::{
-    Action, Answer, Approach, Approached, Compressed, Compression, Fate, Process, Reader, Seen, Squeezed,
-    entered, levels_of, siblings,
+    Action, Answer, Approach, Approached, Process, Reader, Seen, Squeezed, entered, levels_of,
 };
 use std::mem;
 

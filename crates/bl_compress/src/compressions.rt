@@ -5,18 +5,14 @@ ghost use Rattle.bl_model.specs.Rows.{map_of};
 ghost use Rattle.bl_page.specs.Pairs.{IsChild, IsWithin};
 ghost use Rattle.bl_rearrange.specs.Rearranged.{high_of, right_of};
 ghost use Rattle.bl_rearrange.specs.Neighbours.{AreNeighbours, together};
-ghost use Rattle.bl_ways.specs.declared.compressing.Compression.TheVariants as compression;
+ghost use Rattle.bl_compress.specs.declared.compressing.Compression.TheVariants as compression;
 ghost use Rattle.bl_ways.specs.Given.{Gives};
-ghost use Rattle.bl_ways.specs.Compressions.{put_of, other, merge_hint, IsBuried, Merges, Relists, MayEven, Decides, Links, after_puts, compression_next, compression_needs, Compresses};
+ghost use Rattle.bl_compress.specs.Compressions.{put_of, other, merge_hint, IsBuried, Merges, Relists, MayEven, Decides, Links, after_puts, compression_next, compression_needs, Compresses};
 
-use crate::acts::{Action, Seen};
-use crate::answers::{Hint, Level};
-use crate::changes::count_of;
 use crate::compressing::{Compressed, Compression, Family, Fate, Puts, Trio};
-use crate::reading::listed;
-use crate::thin::{hint_of_thin, thin_low};
 use bl_page::{Dead, Inner, Page, is_within};
 use bl_rearrange::{Evened, Fitted, Side, evened, merged, with_pair, without};
+use bl_ways::{Action, Hint, Level, Seen, count_of, hint_of_thin, listed, thin_low};
 
 /// The page to the right, 0 for none.
 fn right_of(page: &Page) -> u32

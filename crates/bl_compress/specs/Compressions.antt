@@ -18,15 +18,15 @@ use Rattle.bl_ways.specs.declared.acts.Seen.{Seen}
 use Rattle.bl_ways.specs.declared.acts.Seen.TheVariants as seen
 use Rattle.bl_ways.specs.declared.answers.Hint.{Hint}
 use Rattle.bl_ways.specs.declared.answers.Hint.TheVariants as hint
-use Rattle.bl_ways.specs.declared.compressing.Trio.{Trio}
-use Rattle.bl_ways.specs.declared.compressing.Family.{Family}
-use Rattle.bl_ways.specs.declared.compressing.Puts.{Puts}
-use Rattle.bl_ways.specs.declared.compressing.Fate.{Fate}
-use Rattle.bl_ways.specs.declared.compressing.Fate.TheVariants.{Merged, Evened as EvenedOut, Enough, Unposted, Refused, Lost}
-use Rattle.bl_ways.specs.declared.compressing.Compression.{Compression}
-use Rattle.bl_ways.specs.declared.compressing.Compression.TheVariants.{LatchingLeft, LatchedLeft, LatchingRight, LatchedRight, PuttingFirst, PuttingParent, PuttingLast, Retiring, OpeningRight, OpeningLeft, OpeningParent}
-use Rattle.bl_ways.specs.declared.compressing.Compressed.{Compressed}
-use Rattle.bl_ways.specs.declared.compressing.Compressed.TheVariants.{On, Over}
+use Rattle.bl_compress.specs.declared.compressing.Trio.{Trio}
+use Rattle.bl_compress.specs.declared.compressing.Family.{Family}
+use Rattle.bl_compress.specs.declared.compressing.Puts.{Puts}
+use Rattle.bl_compress.specs.declared.compressing.Fate.{Fate}
+use Rattle.bl_compress.specs.declared.compressing.Fate.TheVariants.{Merged, Evened as EvenedOut, Enough, Unposted, Refused, Lost}
+use Rattle.bl_compress.specs.declared.compressing.Compression.{Compression}
+use Rattle.bl_compress.specs.declared.compressing.Compression.TheVariants.{LatchingLeft, LatchedLeft, LatchingRight, LatchedRight, PuttingFirst, PuttingParent, PuttingLast, Retiring, OpeningRight, OpeningLeft, OpeningParent}
+use Rattle.bl_compress.specs.declared.compressing.Compressed.{Compressed}
+use Rattle.bl_compress.specs.declared.compressing.Compressed.TheVariants.{On, Over}
 use Rattle.bl_ways.specs.Thin.{thin_low, thin_hint}
 
 -- The place of the right one of the two children: behind the child for the key, or that child's own where it is the last.

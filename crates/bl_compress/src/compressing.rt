@@ -4,9 +4,9 @@ ghost use Rattle.std.specs.Prelude.{◌≡◌, ◌<◌, Some};
 ghost use Rattle.bl_model.specs.Rows.{map_of};
 ghost use Rattle.bl_page.specs.Pairs.{IsWithin, IsWithin-prop, IsChild, IsChild-prop};
 
-use crate::answers::Hint;
 use bl_page::{Inner, Page};
 use bl_rearrange::Side;
+use bl_ways::Hint;
 
 /// The numbers of a parent and of two neighbouring children.
 #[derive(Clone, Copy)]

@@ -1,6 +1,6 @@
 use Rattle.std.proofs.Common.{◌≡◌, None, Some, sym, ◌∙◌, inl, inr}
-use Rattle.bl_ways.proofs.Looks.{look_is}
-use Rattle.bl_ways.proofs.compressions.relisted.Goals as goal
+use Rattle.bl_compress.proofs.Looks.{look_is}
+use Rattle.bl_compress.proofs.compressions.relisted.Goals as goal
 
 pub returns-in-Some : goal.returns-in-Some
 returns-in-Some c = inr (

@@ -2,7 +2,8 @@
 
 ghost use Rattle.std.specs.Prelude.{◌≡◌, ◌≤◌, ◌<◌};
 
-use bl_ways::{Approach, Compression, Hint};
+use crate::compressing::Compression;
+use bl_ways::{Approach, Hint};
 
 /// The compression of the children of a parent of that level, by a key that the parent covers.
 #[derive(Drop)]

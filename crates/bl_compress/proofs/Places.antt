@@ -5,7 +5,7 @@ use Rattle.std.proofs.lemmas.Bool.{cases_lt}
 use Rattle.bl_model.specs.Rows.{map_of}
 use Rattle.bl_page.specs.Pairs.{IsWithin, RisesFrom, AllWithin, BeginsWith, place}
 use Rattle.bl_page.proofs.Lookups.{place-le, place-some}
-use Rattle.bl_ways.specs.Compressions.{right_place}
+use Rattle.bl_compress.specs.Compressions.{right_place}
 
 pub right_place-some : (low k : ℕ) (pairs : List (ℕ × ℕ)) → BeginsWith low pairs → low ≤ k → 2 ≤ length pairs → 0 < right_place k pairs
 right_place-some low k pairs begins le two =

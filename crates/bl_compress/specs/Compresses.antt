@@ -14,18 +14,18 @@ use Rattle.bl_ways.specs.declared.answers.Squeezed.TheVariants as squeezed
 use Rattle.bl_ways.specs.declared.approaching.Approach.{Approach}
 use Rattle.bl_ways.specs.declared.approaching.Approach.TheVariants.{Start, At, Latching, Latched, Leaving}
 use Rattle.bl_ways.specs.declared.approaching.Approached.TheVariants as came
-use Rattle.bl_ways.specs.declared.compressing.Family.{Family}
-use Rattle.bl_ways.specs.declared.compressing.Fate.{Fate}
-use Rattle.bl_ways.specs.declared.compressing.Fate.TheVariants as fate
-use Rattle.bl_ways.specs.declared.compressing.Compression.TheVariants.{LatchingLeft}
-use Rattle.bl_ways.specs.declared.compressing.Compressed.TheVariants as step
-use Rattle.bl_proc.specs.declared.squeezing.Compress.{Compress}
-use Rattle.bl_proc.specs.declared.squeezing.CompressStage.{CompressStage}
-use Rattle.bl_proc.specs.declared.squeezing.CompressStage.TheVariants.{New, Coming, Compressing, Staying, Ending, Over}
-use Rattle.bl_proc.specs.declared.squeezing.CompressReply.{CompressReply}
-use Rattle.bl_proc.specs.declared.squeezing.CompressReply.TheVariants as reply
+use Rattle.bl_compress.specs.declared.compressing.Family.{Family}
+use Rattle.bl_compress.specs.declared.compressing.Fate.{Fate}
+use Rattle.bl_compress.specs.declared.compressing.Fate.TheVariants as fate
+use Rattle.bl_compress.specs.declared.compressing.Compression.TheVariants.{LatchingLeft}
+use Rattle.bl_compress.specs.declared.compressing.Compressed.TheVariants as step
+use Rattle.bl_compress.specs.declared.squeezing.Compress.{Compress}
+use Rattle.bl_compress.specs.declared.squeezing.CompressStage.{CompressStage}
+use Rattle.bl_compress.specs.declared.squeezing.CompressStage.TheVariants.{New, Coming, Compressing, Staying, Ending, Over}
+use Rattle.bl_compress.specs.declared.squeezing.CompressReply.{CompressReply}
+use Rattle.bl_compress.specs.declared.squeezing.CompressReply.TheVariants as reply
 use Rattle.bl_ways.specs.Approaches.{approach_next, Approaches}
-use Rattle.bl_ways.specs.Compressions.{AreSiblings, compression_next, compression_needs, Compresses}
+use Rattle.bl_compress.specs.Compressions.{AreSiblings, compression_next, compression_needs, Compresses}
 
 -- what a compression answers by what became of the children, if it does not begin again
 abbrev pub compress_reply : Fate → Option CompressReply

@@ -2,7 +2,7 @@
 
 ghost use Rattle.std.specs.Prelude.{◌≡◌, ◌<◌, length};
 ghost use Rattle.bl_page.specs.Pairs.{IsWithin};
-ghost use Rattle.bl_ways.specs.Compressions.{right_place, AreSiblings};
+ghost use Rattle.bl_compress.specs.Compressions.{right_place, AreSiblings};
 
 use crate::compressing::{Family, Trio};
 use bl_page::{Inner, place_of};
