@@ -13,5 +13,4 @@ mod squeezes;
 mod squeezing;
 
 pub use compressing::{Compressed, Compression, Family, Fate, Puts, Trio};
-pub use families::siblings;
 pub use squeezing::{Compress, CompressReply, CompressStage};
