@@ -1,4 +1,5 @@
--- What a process does next is possible: the pages that it gets are not released, and those that it puts or opens are its own.
+-- What a process does next is possible: the pages that it gets are not released, and those that it puts, opens or retires are
+-- its own.
 use Rattle.std.proofs.Common.{ℕ, ◌≡◌, ◌≢◌, ◌<◌, None, Some, Option, Bool, true, false, ap, sym, ◌∙◌}
 use Rattle.std.proofs.lemmas.Bool.{false≢true}
 use Rattle.bl_page.specs.declared.page.Page.{Page}
@@ -59,6 +60,7 @@ IsNear w p (act.Get x) = w.now.owner x ≢ Released
 IsNear w p (act.Put x c) = w.now.owner x ≡ Held p
 IsNear w p (act.Latch x) = w.status x ≢ Free
 IsNear w p (act.Open x) = w.now.owner x ≡ Held p
+IsNear w p (act.Retire x) = w.now.owner x ≡ Held p
 IsNear w p action = Unit {0}
 
 module _ {P : Type 0} (know : P → Know) (w : World P) (g : IsGood know w) (p : Name) where
@@ -146,7 +148,7 @@ module _ {P : Type 0} (know : P → Know) (w : World P) (g : IsGood know w) (p :
   squeeze_near level key got (PuttingFirst u) is = put_near u u.gains is.holds.1.0.owner is.holds.1.1.0.owner
   squeeze_near level key got (PuttingParent u) is = is.holds.0.owner
   squeeze_near level key got (PuttingLast u) is = put_near u (other u.gains) is.holds.1.0.owner is.holds.1.1.0.owner
-  squeeze_near level key got (Retiring t f) is = tt
+  squeeze_near level key got (Retiring t f) is = is.holds.1.1.0.owner
   squeeze_near level key got (OpeningRight t f) is = is.holds.1.1.0.owner
   squeeze_near level key got (OpeningLeft t f) is = is.holds.1.0.owner
   squeeze_near level key got (OpeningParent x f) is = is.holds.0.owner

@@ -15,6 +15,8 @@ use Rattle.bl_ways.specs.declared.answers.Answer.TheVariants as answer
 use Rattle.bl_ways.specs.declared.answers.Hint.{Hint}
 use Rattle.bl_ways.specs.declared.answers.Posted.{Posted}
 use Rattle.bl_proc.specs.declared.posting.Post.{Post}
+use Rattle.bl_ways.specs.declared.answers.Squeezed.{Squeezed}
+use Rattle.bl_compress.specs.declared.squeezing.Compress.{Compress}
 use Rattle.bl_ways.specs.declared.answers.Reclaimed.{Reclaimed}
 use Rattle.bl_proc.specs.declared.reclaiming.ReclaimStage.{ReclaimStage}
 use Rattle.bl_proc.specs.declared.reclaiming.ReclaimStage.TheVariants as reclaim
@@ -24,8 +26,10 @@ use Rattle.bl_proc.specs.declared.kinds.Proc.{Proc}
 use Rattle.bl_proc.specs.Processes.{answer_of}
 use Rattle.bl_tables.specs.Knowing.{Run, know_of, know}
 use Rattle.bl_tables.specs.Answers.{MeansPosted, MeansHint}
+use Rattle.bl_tables.specs.Squeezed.{MeansSqueezed}
 use Rattle.bl_tables.proofs.Logged.{bare_good}
 use Rattle.bl_tables.proofs.Answered.{post_means, post_hints}
+use Rattle.bl_tables.proofs.Pressed.{compress_means}
 use Rattle.bl_tables.proofs.Starting.{run_laws}
 use Rattle.bl_world.specs.Views.{View, name_of}
 use Rattle.bl_world.specs.Deeds.{Way}
@@ -102,6 +106,9 @@ module _ (v : View) (h : Has v) where
   hinted : (n : ℕ) (p : Post) (a : Posted) (hint : Option Hint) → slice_get v.processes n ≡ Some (proc.Post p) → answer_of (proc.Post p) ≡ Some (answer.Post a hint) → MeansHint p.level p.key a hint (marks_of (name_of (n + 1)) h.world.trail)
   hinted n p a hint stood e = subst (λ k. MeansHint p.level p.key a hint (marks_of (name_of k) h.world.trail)) (sym (one_more n)) (post_hints h.world (name_of (suc n)) p a hint h.good (h.runs n (proc.Post p) stood) e)
 
+  squeezed : (n : ℕ) (p : Compress) (a : Squeezed) (hint : Option Hint) → slice_get v.processes n ≡ Some (proc.Compress p) → answer_of (proc.Compress p) ≡ Some (answer.Compress a hint) → MeansSqueezed p.level p.key a hint (marks_of (name_of (n + 1)) h.world.trail)
+  squeezed n p a hint stood e = subst (λ k. MeansSqueezed p.level p.key a hint (marks_of (name_of k) h.world.trail)) (sym (one_more n)) (compress_means h.world (name_of (suc n)) p a hint h.good (h.runs n (proc.Compress p) stood) e)
+
   pub account : Way v → Account v
   account way =
       let w = h.world in
@@ -128,6 +135,7 @@ module _ (v : View) (h : Has v) where
         answers = answers;
         posted = posted;
         hinted = hinted;
+        squeezed = squeezed;
         ended = λ n p a stood ends e. (let x = ended n p a stood ends e in (x.0, x.1.0, x.1.1));
         reclaimed = λ n p a stood e. rw (one_more n) (over_means v.events (suc n) p.page (w.proc (name_of (suc n))).time p.stage a e (h.reclaiming n p stood));
         releases = h.releases;

@@ -5,7 +5,7 @@ use Rattle.std.proofs.lemmas.Option.{slice_get_within, get_or_from_slice_get}
 use Rattle.std.proofs.lemmas.List.{length-set}
 use Rattle.bl_page.specs.declared.page.Page.{Page}
 use Rattle.bl_page.specs.Machine.{State, Act as MachineAct}
-use Rattle.bl_page.specs.Machine.Owner.{Held as MachineHeld}
+use Rattle.bl_page.specs.Machine.Owner.{Held as MachineHeld, Retired as MachineRetired}
 use Rattle.bl_page.specs.Machine.{Owner as MachineOwner}
 use Rattle.bl_page.specs.Machine.Phase.{Running, Ended}
 use Rattle.bl_steps.proofs.After.{put_at, is_put_at, put_name, is_put_name}
@@ -154,6 +154,16 @@ module _ (pages : List Page) (owners : List Owner) (processes : List Proc) (even
       let s : State Page = record now { owner = put_at x MachineOwner.Open now.owner; clock = suc now.clock } in
       owns seen.Done _ x own.Open h within (λ q is. none_new seen.Done (act.Open x) next tt takes q is) (λ y e. absurd cc)
       (turned seen.Done (act.Open x) h s next takes tt tt (record { changes = (λ z. refl, is_put_at x MachineOwner.Open now.owner, λ q. refl); on = omega arith }))
+
+  -- a page is retired since this event
+  pub retires : (x : ℕ) → x < length owners → next_of p0 ≡ act.Retire x → Takes p0 seen.Done p1 → (h : HasWorld pages owners processes events) → Grows h pages (slice_set owners x (own.Retired (length events))) (slice_set processes n p1) (after_act (shown.Retire x))
+  retires x within next takes h =
+      let now = h.world.now in
+      let time = length events in
+      let clock : now.clock ≡ time = h.times.clock in
+      let s : State Page = record now { owner = put_at x (MachineRetired time) now.owner; clock = suc now.clock } in
+      owns seen.Done _ x (own.Retired time) h within (λ q is. none_new seen.Done (act.Retire x) next tt takes q is) (λ y e. absurd cc)
+      (turned seen.Done (act.Retire x) h s next takes tt tt (record { changes = (time, omega (arith, clock), omega (arith, clock), (λ z. refl, is_put_at x (MachineRetired time) now.owner, λ q. refl)); on = omega arith }))
 
   pub takes_page : (x : ℕ) → slice_get owners x ≡ Some own.Released → x < length pages → next_of p0 ≡ act.Take → Takes p0 (seen.Took x) p1 → (h : HasWorld pages owners processes events) → Grows h pages (slice_set owners x (own.Held (suc n))) (slice_set processes n p1) (after_act (shown.Take x))
   takes_page x free within next takes h =

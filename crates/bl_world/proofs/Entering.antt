@@ -6,15 +6,6 @@ use Rattle.bl_page.specs.Machine.{Name}
 use Rattle.bl_steps.proofs.After.{put_name, is_put_name}
 use Rattle.bl_starts.specs.Blank.{IsBlank}
 use Rattle.bl_ways.specs.declared.acts.Action.TheVariants as act
-use Rattle.bl_ways.specs.declared.approaching.Approach.{Approach}
-use Rattle.bl_ways.specs.declared.approaching.Approach.TheVariants as way
-use Rattle.bl_ways.specs.declared.changing.Change.{Change}
-use Rattle.bl_ways.specs.declared.changing.Change.TheVariants as change
-use Rattle.bl_ways.specs.declared.growing.Growth.{Growth}
-use Rattle.bl_ways.specs.declared.growing.Growth.TheVariants as growth
-use Rattle.bl_ways.specs.Approaches.{approach_next}
-use Rattle.bl_ways.specs.Changes.{change_next}
-use Rattle.bl_ways.specs.Growths.{growth_next}
 use Rattle.bl_proc.specs.declared.searching.FindStage.{FindStage}
 use Rattle.bl_proc.specs.declared.searching.FindStage.TheVariants as find
 use Rattle.bl_proc.specs.declared.parts.PartStage.{PartStage}
@@ -25,6 +16,8 @@ use Rattle.bl_proc.specs.declared.deleting.DeleteStage.{DeleteStage}
 use Rattle.bl_proc.specs.declared.deleting.DeleteStage.TheVariants as delete
 use Rattle.bl_proc.specs.declared.posting.PostStage.{PostStage}
 use Rattle.bl_proc.specs.declared.posting.PostStage.TheVariants as post
+use Rattle.bl_compress.specs.declared.squeezing.CompressStage.{CompressStage}
+use Rattle.bl_compress.specs.declared.squeezing.CompressStage.TheVariants as compress
 use Rattle.bl_proc.specs.declared.reclaiming.Reclaim.{Reclaim}
 use Rattle.bl_proc.specs.declared.reclaiming.ReclaimStage.{ReclaimStage}
 use Rattle.bl_proc.specs.declared.reclaiming.ReclaimStage.TheVariants as reclaim
@@ -36,8 +29,9 @@ use Rattle.bl_proc.specs.Parts.{part_next_in}
 use Rattle.bl_proc.specs.Inserts.{insert_next_in}
 use Rattle.bl_proc.specs.Deletes.{delete_next_in}
 use Rattle.bl_proc.specs.Posts.{post_next_in}
+use Rattle.bl_compress.specs.Compresses.{compress_next_in}
 use Rattle.bl_proc.specs.Reclaims.{reclaim_next_in}
-use Rattle.bl_tables.specs.Knowing.{Run, know_of, know_find, know_part, know_insert, know_delete, know_post, know_reclaim}
+use Rattle.bl_tables.specs.Knowing.{Run, know_of, know_find, know_part, know_insert, know_delete, know_post, know_compress, know_reclaim}
 use Rattle.bl_tables.proofs.Logged.{full_blank}
 use Rattle.bl_tables.proofs.Starting.{with_proc, enters_good}
 use Rattle.bl_world.specs.declared.turns.Event.{Event}
@@ -45,34 +39,10 @@ use Rattle.bl_world.specs.declared.owners.Owner.{Owner}
 use Rattle.bl_world.specs.Views.{name_of}
 use Rattle.bl_world.specs.Worlds.{key_in, IsUnknown, IsReclaiming, HasWorld}
 use Rattle.bl_world.proofs.Stands.{Grows, name_differs}
+use Rattle.bl_world.proofs.Begins.{approach_begins, change_begins, growth_begins, squeeze_begins}
 use Rattle.bl_world.proofs.Places.{push_cases, push_length}
 
 -- A process that is to begin has done nothing.
-
-approach_begins : {X : Type 0} (a : Approach) → approach_next a ≡ act.Begin → X
-approach_begins way.Start e = absurd cc
-approach_begins (way.At x) e = absurd cc
-approach_begins (way.Latching x) e = absurd cc
-approach_begins (way.Latched x) e = absurd cc
-approach_begins (way.Leaving x to) e = absurd cc
-
-change_begins : {X : Type 0} (c : Change) → change_next c ≡ act.Begin → X
-change_begins (change.Putting x page) e = absurd cc
-change_begins (change.Taking full) e = absurd cc
-change_begins (change.PuttingNew p) e = absurd cc
-change_begins (change.PuttingOld p) e = absurd cc
-change_begins (change.OpeningNew x new s) e = absurd cc
-change_begins (change.Opening x what) e = absurd cc
-
-growth_begins : {X : Type 0} (g : Growth) → growth_next g ≡ act.Begin → X
-growth_begins growth.Latching e = absurd cc
-growth_begins growth.Latched e = absurd cc
-growth_begins (growth.Taking r) e = absurd cc
-growth_begins (growth.PuttingTop r) e = absurd cc
-growth_begins (growth.PuttingAnchor r) e = absurd cc
-growth_begins (growth.OpeningTop x) e = absurd cc
-growth_begins growth.OpeningGrown e = absurd cc
-growth_begins growth.OpeningRefused e = absurd cc
 
 find_blank : (k : ℕ) (a : FindStage) → k < 2 ^ 64 → find_next_in a ≡ act.Begin → IsBlank (know_find k a)
 find_blank k find.New small e = record { stage = refl; said = refl; holds = refl; goes = refl; children = refl; passed = refl; sound = small; log = tt }
@@ -114,6 +84,14 @@ post_blank l k got child (post.Staying x r) small e = absurd cc
 post_blank l k got child (post.Ending r) small e = absurd cc
 post_blank l k got child (post.Over r) small e = absurd cc
 
+compress_blank : (l k : ℕ) (got : ℕ → Page) (a : CompressStage) → k < 2 ^ 64 → compress_next_in a ≡ act.Begin → IsBlank (know_compress l k got a)
+compress_blank l k got compress.New small e = record { stage = refl; said = refl; holds = refl; goes = refl; children = refl; passed = refl; sound = small; log = tt }
+compress_blank l k got (compress.Coming a) small e = approach_begins a e
+compress_blank l k got (compress.Compressing c) small e = squeeze_begins c e
+compress_blank l k got (compress.Staying x) small e = absurd cc
+compress_blank l k got (compress.Ending r) small e = absurd cc
+compress_blank l k got (compress.Over r) small e = absurd cc
+
 reclaim_begins : {X : Type 0} (page : ℕ) (a : ReclaimStage) → reclaim_next_in page a ≡ act.Begin → X
 reclaim_begins page reclaim.Seeing e = absurd cc
 reclaim_begins page (reclaim.Looking r) e = absurd cc
@@ -133,12 +111,14 @@ blank size got child time (proc.Insert p) small (inl e) = insert_blank p.key p.v
 blank size got child time (proc.Delete p) small (inl e) = delete_blank p.key got p.stage small e
 blank size got child time (proc.Post p) small (inl e) = post_blank p.level p.key got child p.stage small e
 blank size got child time (proc.Part p) small (inl e) = part_blank p.from p.stage small e
+blank size got child time (proc.Compress p) small (inl e) = compress_blank p.level p.key got p.stage small e
 blank size got child time (proc.Reclaim p) small (inl e) = reclaim_begins p.page p.stage e
 blank size got child time (proc.Find p) small (inr r) = absurd r.2
 blank size got child time (proc.Insert p) small (inr r) = absurd r.2
 blank size got child time (proc.Delete p) small (inr r) = absurd r.2
 blank size got child time (proc.Post p) small (inr r) = absurd r.2
 blank size got child time (proc.Part p) small (inr r) = absurd r.2
+blank size got child time (proc.Compress p) small (inr r) = absurd r.2
 blank size got child time (proc.Reclaim p) small (inr r) = reclaim_blank time p.stage r.2.1
 
 -- a process that is to release a page is to look at the owner of a page of the world

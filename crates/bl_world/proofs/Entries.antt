@@ -28,6 +28,11 @@ use Rattle.bl_proc.specs.declared.deleting.DeleteReply.TheVariants as deleted
 use Rattle.bl_proc.specs.declared.posting.PostStage.{PostStage}
 use Rattle.bl_proc.specs.declared.posting.PostStage.TheVariants as post
 use Rattle.bl_proc.specs.declared.posting.PostReply.TheVariants as listed
+use Rattle.bl_compress.specs.declared.compressing.Compression.{Compression}
+use Rattle.bl_compress.specs.declared.compressing.Compression.TheVariants.{LatchingLeft, LatchedLeft, LatchingRight, LatchedRight, PuttingFirst, PuttingParent, PuttingLast, Retiring, OpeningRight, OpeningLeft, OpeningParent}
+use Rattle.bl_compress.specs.declared.squeezing.CompressReply.TheVariants as pressed
+use Rattle.bl_compress.specs.declared.squeezing.CompressStage.{CompressStage}
+use Rattle.bl_compress.specs.declared.squeezing.CompressStage.TheVariants as compress
 use Rattle.bl_proc.specs.declared.reclaiming.ReclaimStage.{ReclaimStage}
 use Rattle.bl_proc.specs.declared.reclaiming.ReclaimStage.TheVariants as reclaim
 use Rattle.bl_proc.specs.declared.kinds.Proc.{Proc}
@@ -38,9 +43,11 @@ use Rattle.bl_proc.specs.Parts.{part_answer_in}
 use Rattle.bl_proc.specs.Inserts.{insert_answer_in}
 use Rattle.bl_proc.specs.Deletes.{delete_answer_in}
 use Rattle.bl_proc.specs.Posts.{post_answer_in}
+use Rattle.bl_compress.specs.Compresses.{compress_answer_in}
 use Rattle.bl_proc.specs.Reclaims.{reclaim_answer_in}
 use Rattle.bl_tables.specs.Tables.{Aim, know_approach, know_change}
-use Rattle.bl_tables.specs.Knowing.{know_of, know_find, know_part, know_insert, know_delete, know_post, know_reclaim, know_growth, insert_aim, delete_aim, post_aim}
+use Rattle.bl_tables.specs.Compressing.{know_squeeze}
+use Rattle.bl_tables.specs.Knowing.{know_of, know_find, know_part, know_insert, know_delete, know_post, know_compress, know_reclaim, know_growth, insert_aim, delete_aim, post_aim}
 use Rattle.bl_world.specs.Accounts.{op_of, HasEnd}
 
 none_said : {X : Type 0} (s : Said) → None ≡ Some s → X
@@ -74,6 +81,19 @@ growth_said level key got (growth.PuttingAnchor r) = refl
 growth_said level key got (growth.OpeningTop x) = refl
 growth_said level key got growth.OpeningGrown = refl
 growth_said level key got growth.OpeningRefused = refl
+
+squeeze_said : (level key : ℕ) (got : ℕ → Page) (c : Compression) → (know_squeeze level key got c).said ≡ None
+squeeze_said level key got (LatchingLeft f) = refl
+squeeze_said level key got (LatchedLeft f) = refl
+squeeze_said level key got (LatchingRight f page) = refl
+squeeze_said level key got (LatchedRight f page) = refl
+squeeze_said level key got (PuttingFirst u) = refl
+squeeze_said level key got (PuttingParent u) = refl
+squeeze_said level key got (PuttingLast u) = refl
+squeeze_said level key got (Retiring at end) = refl
+squeeze_said level key got (OpeningRight at end) = refl
+squeeze_said level key got (OpeningLeft at end) = refl
+squeeze_said level key got (OpeningParent x end) = refl
 
 -- Its own operation
 
@@ -117,6 +137,14 @@ post_none l k got child (post.Staying x r) s e = none_said s e
 post_none l k got child (post.Ending r) s e = none_said s e
 post_none l k got child (post.Over r) s e = none_said s e
 
+compress_none : {X : Type 0} (l k : ℕ) (got : ℕ → Page) (a : CompressStage) (s : Said) → (know_compress l k got a).said ≡ Some s → X
+compress_none l k got compress.New s e = none_said s e
+compress_none l k got (compress.Coming a) s e = none_said s (sym (approach_said l k a) ∙ e)
+compress_none l k got (compress.Compressing c) s e = none_said s (sym (squeeze_said l k got c) ∙ e)
+compress_none l k got (compress.Staying x) s e = none_said s e
+compress_none l k got (compress.Ending r) s e = none_said s e
+compress_none l k got (compress.Over r) s e = none_said s e
+
 reclaim_none : {X : Type 0} (time : ℕ) (a : ReclaimStage) (s : Said) → (know_reclaim time a).said ≡ Some s → X
 reclaim_none time reclaim.Seeing s e = none_said s e
 reclaim_none time (reclaim.Looking r) s e = none_said s e
@@ -129,6 +157,7 @@ said_op got child time (proc.Insert p) s e = insert_op p.key p.value got p.stage
 said_op got child time (proc.Delete p) s e = delete_op p.key got p.stage s e
 said_op got child time (proc.Post p) s e = post_none p.level p.key got child p.stage s e
 said_op got child time (proc.Part p) s e = part_op p.from p.stage s e
+said_op got child time (proc.Compress p) s e = compress_none p.level p.key got p.stage s e
 said_op got child time (proc.Reclaim p) s e = reclaim_none time p.stage s e
 
 -- What it answers
@@ -139,6 +168,7 @@ none_answer a e = absurd (let f : None ≡ Some a = e in cc)
 abbrev reply_in : Answer → Option Reply
 reply_in (answer.Op reply hint) = Some reply
 reply_in (answer.Post posted hint) = None
+reply_in (answer.Compress squeezed hint) = None
 reply_in (answer.Reclaim what) = None
 
 same_reply : (a b : Reply) (hint other : Option Hint) → Some (answer.Op a hint) ≡ Some (answer.Op b other) → a ≡ b
@@ -149,6 +179,9 @@ same_reply a b hint other e =
 
 no_post : {X : Type 0} (p : _) (b : Reply) (hint other : Option Hint) → Some (answer.Post p hint) ≡ Some (answer.Op b other) → X
 no_post p b hint other e = absurd (let f : answer.Post p hint ≡ answer.Op b other = cc in let g : None ≡ Some b = ap reply_in f in cc)
+
+no_press : {X : Type 0} (p : _) (b : Reply) (hint other : Option Hint) → Some (answer.Compress p hint) ≡ Some (answer.Op b other) → X
+no_press p b hint other e = absurd (let f : answer.Compress p hint ≡ answer.Op b other = cc in let g : None ≡ Some b = ap reply_in f in cc)
 
 -- it has said that reply to its operation
 pub record HasAnswered (said : Option Said) (reply : Reply) : Type 0 where
@@ -205,6 +238,19 @@ post_answered l (post.Over listed.Stale) reply hint e = no_post _ _ _ _ e
 post_answered l (post.Over listed.NoRoom) reply hint e = no_post _ _ _ _ e
 post_answered l (post.Over listed.TooTall) reply hint e = no_post _ _ _ _ e
 
+compress_answered : {X : Type 0} (a : CompressStage) (reply : Reply) (hint : Option Hint) → compress_answer_in a ≡ Some (answer.Op reply hint) → X
+compress_answered compress.New reply hint e = none_answer _ e
+compress_answered (compress.Coming a) reply hint e = none_answer _ e
+compress_answered (compress.Compressing c) reply hint e = none_answer _ e
+compress_answered (compress.Staying x) reply hint e = none_answer _ e
+compress_answered (compress.Ending r) reply hint e = none_answer _ e
+compress_answered (compress.Over (pressed.Merged h)) reply hint e = no_press _ _ _ _ e
+compress_answered (compress.Over pressed.Evened) reply hint e = no_press _ _ _ _ e
+compress_answered (compress.Over pressed.Enough) reply hint e = no_press _ _ _ _ e
+compress_answered (compress.Over pressed.Alone) reply hint e = no_press _ _ _ _ e
+compress_answered (compress.Over (pressed.Unposted h)) reply hint e = no_press _ _ _ _ e
+compress_answered (compress.Over pressed.NoRoom) reply hint e = no_press _ _ _ _ e
+
 reclaim_answered : {X : Type 0} (a : ReclaimStage) (reply : Reply) (hint : Option Hint) → reclaim_answer_in a ≡ Some (answer.Op reply hint) → X
 reclaim_answered reclaim.Seeing reply hint e = none_answer _ e
 reclaim_answered (reclaim.Looking r) reply hint e = none_answer _ e
@@ -217,6 +263,7 @@ answered_said got child time (proc.Insert p) reply hint e = insert_answered p.ke
 answered_said got child time (proc.Delete p) reply hint e = delete_answered p.key got p.stage reply hint e
 answered_said got child time (proc.Post p) reply hint e = post_answered p.level p.stage reply hint e
 answered_said got child time (proc.Part p) reply hint e = part_answered p.from p.stage reply hint e
+answered_said got child time (proc.Compress p) reply hint e = compress_answered p.stage reply hint e
 answered_said got child time (proc.Reclaim p) reply hint e = reclaim_answered p.stage reply hint e
 
 -- It has ended
@@ -261,10 +308,19 @@ post_late l k got child (post.Staying x r) b e = none_answer _ e
 post_late l k got child (post.Ending r) b e = none_answer _ e
 post_late l k got child (post.Over r) b e = refl
 
+compress_late : (l k : ℕ) (got : ℕ → Page) (a : CompressStage) (b : Answer) → compress_answer_in a ≡ Some b → (know_compress l k got a).stage ≡ Stage.Late
+compress_late l k got compress.New b e = none_answer _ e
+compress_late l k got (compress.Coming a) b e = none_answer _ e
+compress_late l k got (compress.Compressing c) b e = none_answer _ e
+compress_late l k got (compress.Staying x) b e = none_answer _ e
+compress_late l k got (compress.Ending r) b e = none_answer _ e
+compress_late l k got (compress.Over r) b e = refl
+
 pub answered_late : (got : ℕ → Page) (child time : ℕ) (p : Proc) (b : Answer) → HasEnd p → answer_of p ≡ Some b → (know_of got child time p).stage ≡ Stage.Late
 answered_late got child time (proc.Find p) b ends e = find_late p.key p.stage b e
 answered_late got child time (proc.Insert p) b ends e = insert_late p.key p.value got p.stage b e
 answered_late got child time (proc.Delete p) b ends e = delete_late p.key got p.stage b e
 answered_late got child time (proc.Post p) b ends e = post_late p.level p.key got child p.stage b e
 answered_late got child time (proc.Part p) b ends e = part_late p.from p.stage b e
+answered_late got child time (proc.Compress p) b ends e = compress_late p.level p.key got p.stage b e
 answered_late got child time (proc.Reclaim p) b ends e = absurd ends

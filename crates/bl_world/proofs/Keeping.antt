@@ -1,5 +1,5 @@
 -- Turns lead from lists of a world to lists of a world, and the trail goes on.
-use Rattle.std.proofs.Common.{ℕ, ◌≡◌, ◌+◌, ◌++◌, suc, Some, List, [], ◌∷◌, slice_get, slice_set, arith, ap, sym, ◌∙◌, refl, subst, inl, inr, append_assoc, append-nil}
+use Rattle.std.proofs.Common.{ℕ, ◌≡◌, ◌+◌, ◌++◌, suc, Some, List, [], ◌∷◌, length, slice_get, slice_set, arith, ap, sym, ◌∙◌, refl, subst, inl, inr, append_assoc, append-nil}
 use Rattle.std.proofs.lemmas.Option.{slice_get_within}
 use mathlib.Core.Logic.{∥∥₁_map}
 use Rattle.bl_page.specs.declared.page.Page.{Page}
@@ -18,7 +18,7 @@ use Rattle.bl_world.specs.Views.{View}
 use Rattle.bl_world.specs.Turns.{Stays, Puts, Owns, Tells, Idles, Carries, TurnsAt, TurnsTo, RunsTo}
 use Rattle.bl_world.specs.Worlds.{HasWorld, IsWorld}
 use Rattle.bl_world.proofs.Stands.{Grows}
-use Rattle.bl_world.proofs.Arms.{begins, ends, gets, misses, puts, latches, opens, takes_page, refuses_take, refuses_put, idles}
+use Rattle.bl_world.proofs.Arms.{begins, ends, gets, misses, puts, latches, opens, retires, takes_page, refuses_take, refuses_put, idles}
 use Rattle.bl_world.proofs.ReclaimArms.{sees, looks, frees, keeps}
 use Rattle.bl_world.proofs.Near.{within}
 use Rattle.bl_world.proofs.Reserving.{Reserves, reserves}
@@ -62,7 +62,7 @@ module _ (v v' : View) (n : ℕ) (p : Proc) (stood : slice_get v.processes n ≡
   ]
   carries_to (act.Open x) next c = owns_to _ _ x own.Open c.0 c.1 (opens v.pages v.owners v.processes v.events n p c.1.new stood x (omega (arith, h.paired, within v.pages v.owners v.processes v.events n p (act.Open x) stood next h)) next c.1.takes h)
   carries_to act.Take next c = absurd c
-  carries_to (act.Retire x) next c = absurd c
+  carries_to (act.Retire x) next c = owns_to _ _ x (own.Retired (length v.events)) c.0 c.1 (retires v.pages v.owners v.processes v.events n p c.1.new stood x (omega (arith, h.paired, within v.pages v.owners v.processes v.events n p (act.Retire x) stood next h)) next c.1.takes h)
   carries_to (act.Look q) next c = stays_to _ _ c.6 c.7 (looks v.pages v.owners v.processes v.events n p c.7.new stood c.0 c.1 q c.2 c.3 (rw (one_more n) at c.4) c.5 next c.7.takes h)
   carries_to (act.See x) next c = stays_to _ _ c.2 c.3 (sees v.pages v.owners v.processes v.events n p c.3.new stood x c.0 c.1 next (rw (one_more n) at c.3.takes) h)
   carries_to (act.Release x) next c = elim c [

@@ -1,4 +1,5 @@
 pub mod Places
+pub mod Begins
 pub mod Retired
 pub mod Times
 pub mod Reclaims
@@ -15,6 +16,7 @@ pub mod Keeping
 pub mod Runs
 pub mod Orders
 pub mod Entries
+pub mod RefusedCompressions
 pub mod Refusals
 pub mod RefusedTurns
 pub mod RefusedAnswers

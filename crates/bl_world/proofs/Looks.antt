@@ -12,6 +12,7 @@ use Rattle.bl_ways.specs.declared.growing.Growth.TheVariants as growth
 use Rattle.bl_ways.specs.Approaches.{approach_next}
 use Rattle.bl_ways.specs.Changes.{change_next}
 use Rattle.bl_ways.specs.Growths.{growth_next}
+use Rattle.bl_compress.specs.Compressions.{put_of, other, compression_next}
 use Rattle.bl_proc.specs.declared.searching.FindStage.{FindStage}
 use Rattle.bl_proc.specs.declared.searching.FindStage.TheVariants as find
 use Rattle.bl_proc.specs.declared.parts.PartStage.{PartStage}
@@ -22,6 +23,13 @@ use Rattle.bl_proc.specs.declared.deleting.DeleteStage.{DeleteStage}
 use Rattle.bl_proc.specs.declared.deleting.DeleteStage.TheVariants as delete
 use Rattle.bl_proc.specs.declared.posting.PostStage.{PostStage}
 use Rattle.bl_proc.specs.declared.posting.PostStage.TheVariants as post
+use Rattle.bl_rearrange.specs.declared.sides.Side.{Side}
+use Rattle.bl_rearrange.specs.declared.sides.Side.TheVariants as side
+use Rattle.bl_compress.specs.declared.compressing.Puts.{Puts}
+use Rattle.bl_compress.specs.declared.compressing.Compression.{Compression}
+use Rattle.bl_compress.specs.declared.compressing.Compression.TheVariants.{LatchingLeft, LatchedLeft, LatchingRight, LatchedRight, PuttingFirst, PuttingParent, PuttingLast, Retiring, OpeningRight, OpeningLeft, OpeningParent}
+use Rattle.bl_compress.specs.declared.squeezing.CompressStage.{CompressStage}
+use Rattle.bl_compress.specs.declared.squeezing.CompressStage.TheVariants as compress
 use Rattle.bl_proc.specs.declared.reclaiming.Reclaim.{Reclaim}
 use Rattle.bl_proc.specs.declared.reclaiming.ReclaimStage.{ReclaimStage}
 use Rattle.bl_proc.specs.declared.reclaiming.ReclaimStage.TheVariants as reclaim
@@ -32,6 +40,7 @@ use Rattle.bl_proc.specs.Parts.{part_next_in}
 use Rattle.bl_proc.specs.Inserts.{insert_next_in}
 use Rattle.bl_proc.specs.Deletes.{delete_next_in}
 use Rattle.bl_proc.specs.Posts.{post_next_in}
+use Rattle.bl_compress.specs.Compresses.{compress_next_in}
 use Rattle.bl_proc.specs.Reclaims.{reclaim_next_in}
 use Rattle.bl_proc.specs.Processes.{next_of, Takes}
 
@@ -74,6 +83,23 @@ growth_tree (growth.OpeningTop x) = tt
 growth_tree growth.OpeningGrown = tt
 growth_tree growth.OpeningRefused = tt
 
+put_tree : (sd : Side) (u : Puts) → IsOfTree (put_of sd u)
+put_tree side.Left u = tt
+put_tree side.Right u = tt
+
+squeeze_tree : (a : Compression) → IsOfTree (compression_next a)
+squeeze_tree (LatchingLeft f) = tt
+squeeze_tree (LatchedLeft f) = tt
+squeeze_tree (LatchingRight f page) = tt
+squeeze_tree (LatchedRight f page) = tt
+squeeze_tree (PuttingFirst u) = put_tree u.gains u
+squeeze_tree (PuttingParent u) = tt
+squeeze_tree (PuttingLast u) = put_tree (other u.gains) u
+squeeze_tree (Retiring at end) = tt
+squeeze_tree (OpeningRight at end) = tt
+squeeze_tree (OpeningLeft at end) = tt
+squeeze_tree (OpeningParent x end) = tt
+
 find_tree : (a : FindStage) → IsOfTree (find_next_in a)
 find_tree find.New = tt
 find_tree find.AtAnchor = tt
@@ -114,6 +140,14 @@ post_tree (post.Staying x r) = tt
 post_tree (post.Ending r) = tt
 post_tree (post.Over r) = tt
 
+compress_tree : (a : CompressStage) → IsOfTree (compress_next_in a)
+compress_tree compress.New = tt
+compress_tree (compress.Coming a) = approach_tree a
+compress_tree (compress.Compressing c) = squeeze_tree c
+compress_tree (compress.Staying x) = tt
+compress_tree (compress.Ending r) = tt
+compress_tree (compress.Over r) = tt
+
 reclaim_tree : (page : ℕ) (a : ReclaimStage) → IsOfTree (reclaim_next_in page a) → ⊥
 reclaim_tree page reclaim.Seeing h = h
 reclaim_tree page (reclaim.Looking r) h = h
@@ -126,6 +160,7 @@ reclaims (proc.Insert p) h = absurd (h (insert_tree p.stage))
 reclaims (proc.Delete p) h = absurd (h (delete_tree p.stage))
 reclaims (proc.Post p) h = absurd (h (post_tree p.stage))
 reclaims (proc.Part p) h = absurd (h (part_tree p.stage))
+reclaims (proc.Compress p) h = absurd (h (compress_tree p.stage))
 reclaims (proc.Reclaim p) h = (p, refl)
 
 -- what a process is told of an action on the tree makes none of this kind of it
@@ -135,6 +170,7 @@ takes_tree (proc.Insert p) what q h t = t
 takes_tree (proc.Delete p) what q h t = t
 takes_tree (proc.Post p) what q h t = t
 takes_tree (proc.Part p) what q h t = t
+takes_tree (proc.Compress p) what q h t = t
 takes_tree (proc.Reclaim p) what q h t = reclaim_tree p.page p.stage h
 
 pub see_page : (page x : ℕ) (a : ReclaimStage) → reclaim_next_in page a ≡ act.See x → page ≡ x

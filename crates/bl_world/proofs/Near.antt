@@ -36,6 +36,7 @@ release_only (proc.Insert q) x e = absurd e
 release_only (proc.Delete q) x e = absurd e
 release_only (proc.Post q) x e = absurd e
 release_only (proc.Part q) x e = absurd e
+release_only (proc.Compress q) x e = absurd e
 
 one_more : (n : ℕ) → n + 1 ≡ suc n
 one_more n = omega arith
@@ -46,6 +47,7 @@ IsWithin size (act.Get x) = x < size
 IsWithin size (act.Put x c) = x < size
 IsWithin size (act.Latch x) = x < size
 IsWithin size (act.Open x) = x < size
+IsWithin size (act.Retire x) = x < size
 IsWithin size (act.See x) = x < size
 IsWithin size (act.Release x) = x < size
 IsWithin size action = Unit {0}
@@ -76,7 +78,7 @@ within pages owners processes events n p0 action stood next h =
     by_action act.Begin e is = tt
     by_action act.End e is = tt
     by_action act.Take e is = tt
-    by_action (act.Retire x) e is = tt
+    by_action (act.Retire x) e is = small x (λ i. (let f = h.good.owned.free x i in cc))
     by_action (act.Look q) e is = tt
     by_action (act.See x) e is = its_page x (act.See x) e (λ z. z) (λ q f. see_page q.page x q.stage f)
     by_action (act.Release x) e is = its_page x (act.Release x) e (λ z. z) (λ q f. release_page q.page x q.stage f)
@@ -93,6 +95,9 @@ module _ (pages : List Page) (owners : List Owner) (processes : List Proc) (even
 
   pub open_within : next_of p0 ≡ act.Open x → x < length pages
   open_within next = ∥∥₁_elim h le_prop (λ h. within pages owners processes events n p0 (act.Open x) stood next h)
+
+  pub retire_within : next_of p0 ≡ act.Retire x → x < length pages
+  retire_within next = ∥∥₁_elim h le_prop (λ h. within pages owners processes events n p0 (act.Retire x) stood next h)
 
   pub see_within : next_of p0 ≡ act.See x → x < length pages
   see_within next = ∥∥₁_elim h le_prop (λ h. within pages owners processes events n p0 (act.See x) stood next h)

@@ -76,6 +76,7 @@ takes_reclaim old what (proc.Insert p) t = absurd t
 takes_reclaim old what (proc.Delete p) t = absurd t
 takes_reclaim old what (proc.Post p) t = absurd t
 takes_reclaim old what (proc.Part p) t = absurd t
+takes_reclaim old what (proc.Compress p) t = absurd t
 
 -- what is known of such a process that goes on, before and after
 record Goes (pages : List Page) (owners : List Owner) (processes : List Proc) (events : List Event) (n : ℕ) (p0 p1 : Proc) (action : Action) (what : Seen) (h : HasWorld pages owners processes events) : Type 0 where

@@ -27,6 +27,7 @@ use Rattle.bl_proc.specs.declared.posting.PostReply.{PostReply}
 use Rattle.bl_proc.specs.declared.posting.PostReply.TheVariants as listed
 use Rattle.bl_proc.specs.declared.kinds.Proc.{Proc}
 use Rattle.bl_proc.specs.declared.kinds.Proc.TheVariants as proc
+use Rattle.bl_world.proofs.RefusedCompressions.{CompressRefused}
 
 -- It goes on without room.
 abbrev pub OutcomeRefused : Outcome → Type 0
@@ -101,6 +102,7 @@ IsRefused (proc.Insert p) = InsertRefused p.stage
 IsRefused (proc.Delete p) = DeleteRefused p.stage
 IsRefused (proc.Post p) = PostRefused p.stage
 IsRefused (proc.Part p) = ⊥
+IsRefused (proc.Compress p) = CompressRefused p.stage
 IsRefused (proc.Reclaim p) = ⊥
 
 -- A change, and a growth

@@ -1,13 +1,7 @@
 -- A process that answers that there was no room goes on without room, and one that is to begin does not.
 use Rattle.std.proofs.Common.{ℕ, ◌≡◌, Some, None, subst}
 use Rattle.bl_ways.specs.declared.acts.Action.TheVariants as act
-use Rattle.bl_ways.specs.declared.changing.Change.{Change}
-use Rattle.bl_ways.specs.declared.changing.Change.TheVariants as change
-use Rattle.bl_ways.specs.declared.growing.Growth.{Growth}
-use Rattle.bl_ways.specs.declared.growing.Growth.TheVariants as growth
 use Rattle.bl_ways.specs.declared.answers.Answer.{Answer}
-use Rattle.bl_ways.specs.Changes.{change_next}
-use Rattle.bl_ways.specs.Growths.{growth_next}
 use Rattle.bl_proc.specs.declared.searching.FindStage.{FindStage}
 use Rattle.bl_proc.specs.declared.searching.FindStage.TheVariants as find
 use Rattle.bl_proc.specs.declared.parts.PartStage.{PartStage}
@@ -21,6 +15,9 @@ use Rattle.bl_proc.specs.declared.deleting.DeleteReply.TheVariants as deleted
 use Rattle.bl_proc.specs.declared.posting.PostStage.{PostStage}
 use Rattle.bl_proc.specs.declared.posting.PostStage.TheVariants as post
 use Rattle.bl_proc.specs.declared.posting.PostReply.TheVariants as listed
+use Rattle.bl_compress.specs.declared.squeezing.CompressReply.TheVariants as pressed
+use Rattle.bl_compress.specs.declared.squeezing.CompressStage.{CompressStage}
+use Rattle.bl_compress.specs.declared.squeezing.CompressStage.TheVariants as compress
 use Rattle.bl_proc.specs.declared.reclaiming.ReclaimStage.{ReclaimStage}
 use Rattle.bl_proc.specs.declared.reclaiming.ReclaimStage.TheVariants as reclaim
 use Rattle.bl_proc.specs.declared.kinds.Proc.{Proc}
@@ -31,8 +28,11 @@ use Rattle.bl_proc.specs.Parts.{part_answer_in}
 use Rattle.bl_proc.specs.Inserts.{insert_next_in, insert_answer_in}
 use Rattle.bl_proc.specs.Deletes.{delete_next_in, delete_answer_in}
 use Rattle.bl_proc.specs.Posts.{post_next_in, post_answer_in}
+use Rattle.bl_compress.specs.Compresses.{compress_next_in, compress_answer_in}
 use Rattle.bl_proc.specs.Reclaims.{reclaim_answer_in}
 use Rattle.bl_world.specs.Deeds.{IsNoRoom}
+use Rattle.bl_world.proofs.Begins.{change_begins, growth_begins, squeeze_begins}
+use Rattle.bl_world.proofs.RefusedCompressions.{CompressRefused}
 use Rattle.bl_world.proofs.Refusals.{InsertRefused, DeleteRefused, PostRefused, IsRefused}
 
 -- An answer
@@ -92,6 +92,19 @@ post_answers level (post.Over listed.Stale) b e r = no_room _ b e r
 post_answers level (post.Over listed.NoRoom) b e r = tt
 post_answers level (post.Over listed.TooTall) b e r = no_room _ b e r
 
+compress_answers : (a : CompressStage) (b : Answer) → compress_answer_in a ≡ Some b → IsNoRoom b → CompressRefused a
+compress_answers compress.New b e r = none_answer b e
+compress_answers (compress.Coming a) b e r = none_answer b e
+compress_answers (compress.Compressing c) b e r = none_answer b e
+compress_answers (compress.Staying x) b e r = none_answer b e
+compress_answers (compress.Ending s) b e r = none_answer b e
+compress_answers (compress.Over (pressed.Merged h)) b e r = no_room _ b e r
+compress_answers (compress.Over pressed.Evened) b e r = no_room _ b e r
+compress_answers (compress.Over pressed.Enough) b e r = no_room _ b e r
+compress_answers (compress.Over pressed.Alone) b e r = no_room _ b e r
+compress_answers (compress.Over (pressed.Unposted h)) b e r = no_room _ b e r
+compress_answers (compress.Over pressed.NoRoom) b e r = tt
+
 reclaim_answers : (a : ReclaimStage) (b : Answer) → reclaim_answer_in a ≡ Some b → IsNoRoom b → ⊥
 reclaim_answers reclaim.Seeing b e r = none_answer b e
 reclaim_answers (reclaim.Looking q) b e r = none_answer b e
@@ -104,33 +117,16 @@ answers_refused (proc.Insert p) a e r = insert_answers p.stage a e r
 answers_refused (proc.Delete p) a e r = delete_answers p.stage a e r
 answers_refused (proc.Post p) a e r = post_answers p.level p.stage a e r
 answers_refused (proc.Part p) a e r = part_answers p.stage a e r
+answers_refused (proc.Compress p) a e r = compress_answers p.stage a e r
 answers_refused (proc.Reclaim p) a e r = reclaim_answers p.stage a e r
 
 -- A process that is to begin was not refused.
-
-change_free : (c : Change) → change_next c ≡ act.Begin → ⊥
-change_free (change.Putting x page) e = cc
-change_free (change.Taking full) e = cc
-change_free (change.PuttingNew p) e = cc
-change_free (change.PuttingOld p) e = cc
-change_free (change.OpeningNew x new s) e = cc
-change_free (change.Opening x what) e = cc
-
-growth_free : (g : Growth) → growth_next g ≡ act.Begin → ⊥
-growth_free growth.Latching e = cc
-growth_free growth.Latched e = cc
-growth_free (growth.Taking r) e = cc
-growth_free (growth.PuttingTop r) e = cc
-growth_free (growth.PuttingAnchor r) e = cc
-growth_free (growth.OpeningTop x) e = cc
-growth_free growth.OpeningGrown e = cc
-growth_free growth.OpeningRefused e = cc
 
 insert_free : (a : InsertStage) → insert_next_in a ≡ act.Begin → InsertRefused a → ⊥
 insert_free insert.New e r = r
 insert_free (insert.Coming a) e r = r
 insert_free (insert.Present x v) e r = r
-insert_free (insert.Changing c) e r = change_free c e
+insert_free (insert.Changing c) e r = change_begins c e
 insert_free (insert.Ending x) e r = cc
 insert_free (insert.Over x) e r = cc
 
@@ -138,19 +134,27 @@ delete_free : (a : DeleteStage) → delete_next_in a ≡ act.Begin → DeleteRef
 delete_free delete.New e r = r
 delete_free (delete.Coming a) e r = r
 delete_free (delete.Absent x) e r = r
-delete_free (delete.Changing v c) e r = change_free c e
+delete_free (delete.Changing v c) e r = change_begins c e
 delete_free (delete.Ending x) e r = cc
 delete_free (delete.Over x) e r = cc
 
 post_free : (a : PostStage) → post_next_in a ≡ act.Begin → PostRefused a → ⊥
 post_free post.New e r = r
 post_free (post.Coming a) e r = r
-post_free (post.Growing g) e r = growth_free g e
+post_free (post.Growing g) e r = growth_begins g e
 post_free (post.Walking w) e r = r
-post_free (post.Changing c) e r = change_free c e
+post_free (post.Changing c) e r = change_begins c e
 post_free (post.Staying x s) e r = cc
 post_free (post.Ending x) e r = cc
 post_free (post.Over x) e r = cc
+
+compress_free : (a : CompressStage) → compress_next_in a ≡ act.Begin → CompressRefused a → ⊥
+compress_free compress.New e r = r
+compress_free (compress.Coming a) e r = r
+compress_free (compress.Compressing c) e r = squeeze_begins c e
+compress_free (compress.Staying x) e r = r
+compress_free (compress.Ending s) e r = cc
+compress_free (compress.Over s) e r = cc
 
 pub begins_free : (p : Proc) → next_of p ≡ act.Begin → IsRefused p → ⊥
 begins_free (proc.Find p) e r = r
@@ -158,6 +162,7 @@ begins_free (proc.Insert p) e r = insert_free p.stage e r
 begins_free (proc.Delete p) e r = delete_free p.stage e r
 begins_free (proc.Post p) e r = post_free p.stage e r
 begins_free (proc.Part p) e r = r
+begins_free (proc.Compress p) e r = compress_free p.stage e r
 begins_free (proc.Reclaim p) e r = r
 
 -- Nor is one that is to release a page.
@@ -168,3 +173,4 @@ reclaim_free x (proc.Insert p) e r = e
 reclaim_free x (proc.Delete p) e r = e
 reclaim_free x (proc.Post p) e r = e
 reclaim_free x (proc.Part p) e r = e
+reclaim_free x (proc.Compress p) e r = e

@@ -24,6 +24,7 @@ use Rattle.bl_proc.specs.Processes.{Takes}
 use Rattle.bl_proc.specs.Inserts.{InsertGoes, insert_reply}
 use Rattle.bl_proc.specs.Deletes.{DeleteGoes, delete_reply}
 use Rattle.bl_proc.specs.Posts.{PostComes, PostGoes, post_reply}
+use Rattle.bl_world.proofs.RefusedCompressions.{compress_refused}
 use Rattle.bl_world.proofs.Refusals.{OutcomeRefused, InsertNoRoom, InsertRefused, DeleteNoRoom, DeleteRefused, PostNoRoom, PostRefused, IsRefused, changes_refused, changes_over, grows_refused, grows_over, enters_not, drops_not}
 
 insert_outcome : (o : Outcome) → inserted.NoRoom ≡ insert_reply o → OutcomeRefused o
@@ -467,39 +468,34 @@ post_refused level key (post.Over r0) what (post.Ending listed.NoRoom) h r = abs
 post_refused level key (post.Over r0) what (post.Over listed.NoRoom) h r = absurd h
 
 pub takes_refused : (p : Proc) (what : Seen) (q : Proc) → Takes p what q → IsRefused q → IsRefused p ⊎ (what ≡ seen.Refused)
-takes_refused (proc.Insert p) what (proc.Insert q) t r = insert_refused p.key p.value p.stage what q.stage t.2 r
-takes_refused (proc.Delete p) what (proc.Delete q) t r = delete_refused p.key p.stage what q.stage t.1 r
-takes_refused (proc.Post p) what (proc.Post q) t r = post_refused p.level p.key p.stage what q.stage t.2 r
-takes_refused (proc.Find p) what (proc.Find q) t r = absurd r
-takes_refused (proc.Insert p) what (proc.Find q) t r = absurd r
-takes_refused (proc.Delete p) what (proc.Find q) t r = absurd r
-takes_refused (proc.Post p) what (proc.Find q) t r = absurd r
-takes_refused (proc.Find p) what (proc.Part q) t r = absurd r
-takes_refused (proc.Insert p) what (proc.Part q) t r = absurd r
-takes_refused (proc.Delete p) what (proc.Part q) t r = absurd r
-takes_refused (proc.Post p) what (proc.Part q) t r = absurd r
-takes_refused (proc.Part p) what (proc.Part q) t r = absurd r
-takes_refused (proc.Part p) what (proc.Find q) t r = absurd r
-takes_refused (proc.Part p) what (proc.Insert q) t r = absurd t
-takes_refused (proc.Part p) what (proc.Delete q) t r = absurd t
-takes_refused (proc.Part p) what (proc.Post q) t r = absurd t
-takes_refused (proc.Find p) what (proc.Reclaim q) t r = absurd r
-takes_refused (proc.Insert p) what (proc.Reclaim q) t r = absurd r
-takes_refused (proc.Delete p) what (proc.Reclaim q) t r = absurd r
-takes_refused (proc.Post p) what (proc.Reclaim q) t r = absurd r
-takes_refused (proc.Part p) what (proc.Reclaim q) t r = absurd r
-takes_refused (proc.Reclaim p) what (proc.Reclaim q) t r = absurd r
-takes_refused (proc.Reclaim p) what (proc.Find q) t r = absurd r
-takes_refused (proc.Reclaim p) what (proc.Part q) t r = absurd r
-takes_refused (proc.Reclaim p) what (proc.Insert q) t r = absurd t
-takes_refused (proc.Reclaim p) what (proc.Delete q) t r = absurd t
-takes_refused (proc.Reclaim p) what (proc.Post q) t r = absurd t
+takes_refused p what (proc.Find q) t r = absurd r
+takes_refused p what (proc.Part q) t r = absurd r
+takes_refused p what (proc.Reclaim q) t r = absurd r
 takes_refused (proc.Find p) what (proc.Insert q) t r = absurd t
-takes_refused (proc.Find p) what (proc.Delete q) t r = absurd t
-takes_refused (proc.Find p) what (proc.Post q) t r = absurd t
-takes_refused (proc.Insert p) what (proc.Delete q) t r = absurd t
-takes_refused (proc.Insert p) what (proc.Post q) t r = absurd t
+takes_refused (proc.Insert p) what (proc.Insert q) t r = insert_refused p.key p.value p.stage what q.stage t.2 r
 takes_refused (proc.Delete p) what (proc.Insert q) t r = absurd t
-takes_refused (proc.Delete p) what (proc.Post q) t r = absurd t
 takes_refused (proc.Post p) what (proc.Insert q) t r = absurd t
+takes_refused (proc.Part p) what (proc.Insert q) t r = absurd t
+takes_refused (proc.Compress p) what (proc.Insert q) t r = absurd t
+takes_refused (proc.Reclaim p) what (proc.Insert q) t r = absurd t
+takes_refused (proc.Find p) what (proc.Delete q) t r = absurd t
+takes_refused (proc.Insert p) what (proc.Delete q) t r = absurd t
+takes_refused (proc.Delete p) what (proc.Delete q) t r = delete_refused p.key p.stage what q.stage t.1 r
 takes_refused (proc.Post p) what (proc.Delete q) t r = absurd t
+takes_refused (proc.Part p) what (proc.Delete q) t r = absurd t
+takes_refused (proc.Compress p) what (proc.Delete q) t r = absurd t
+takes_refused (proc.Reclaim p) what (proc.Delete q) t r = absurd t
+takes_refused (proc.Find p) what (proc.Post q) t r = absurd t
+takes_refused (proc.Insert p) what (proc.Post q) t r = absurd t
+takes_refused (proc.Delete p) what (proc.Post q) t r = absurd t
+takes_refused (proc.Post p) what (proc.Post q) t r = post_refused p.level p.key p.stage what q.stage t.2 r
+takes_refused (proc.Part p) what (proc.Post q) t r = absurd t
+takes_refused (proc.Compress p) what (proc.Post q) t r = absurd t
+takes_refused (proc.Reclaim p) what (proc.Post q) t r = absurd t
+takes_refused (proc.Find p) what (proc.Compress q) t r = absurd t
+takes_refused (proc.Insert p) what (proc.Compress q) t r = absurd t
+takes_refused (proc.Delete p) what (proc.Compress q) t r = absurd t
+takes_refused (proc.Post p) what (proc.Compress q) t r = absurd t
+takes_refused (proc.Part p) what (proc.Compress q) t r = absurd t
+takes_refused (proc.Compress p) what (proc.Compress q) t r = compress_refused p.level p.key p.stage what q.stage t.2 r
+takes_refused (proc.Reclaim p) what (proc.Compress q) t r = absurd t

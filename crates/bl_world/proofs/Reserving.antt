@@ -9,18 +9,27 @@ use Rattle.bl_ways.specs.declared.growing.Growth.{Growth}
 use Rattle.bl_ways.specs.declared.growing.Growth.TheVariants as growth
 use Rattle.bl_ways.specs.Changes.{change_next, change_needs}
 use Rattle.bl_ways.specs.Growths.{growth_next, growth_needs}
+use Rattle.bl_compress.specs.Compressions.{put_of, compression_next, compression_needs}
 use Rattle.bl_proc.specs.declared.inserting.InsertStage.{InsertStage}
 use Rattle.bl_proc.specs.declared.inserting.InsertStage.TheVariants as insert
 use Rattle.bl_proc.specs.declared.deleting.DeleteStage.{DeleteStage}
 use Rattle.bl_proc.specs.declared.deleting.DeleteStage.TheVariants as delete
 use Rattle.bl_proc.specs.declared.posting.PostStage.{PostStage}
 use Rattle.bl_proc.specs.declared.posting.PostStage.TheVariants as post
+use Rattle.bl_rearrange.specs.declared.sides.Side.{Side}
+use Rattle.bl_rearrange.specs.declared.sides.Side.TheVariants as side
+use Rattle.bl_compress.specs.declared.compressing.Puts.{Puts}
+use Rattle.bl_compress.specs.declared.compressing.Compression.{Compression}
+use Rattle.bl_compress.specs.declared.compressing.Compression.TheVariants.{LatchingLeft, LatchedLeft, LatchingRight, LatchedRight, PuttingFirst, PuttingParent, PuttingLast, Retiring, OpeningRight, OpeningLeft, OpeningParent}
+use Rattle.bl_compress.specs.declared.squeezing.CompressStage.{CompressStage}
+use Rattle.bl_compress.specs.declared.squeezing.CompressStage.TheVariants as compress
 use Rattle.bl_proc.specs.declared.kinds.Proc.{Proc}
 use Rattle.bl_proc.specs.declared.kinds.Proc.TheVariants as proc
 use Rattle.bl_proc.specs.Processes.{next_of, needs_of}
 use Rattle.bl_proc.specs.Inserts.{insert_next_in, insert_needs_in}
 use Rattle.bl_proc.specs.Deletes.{delete_next_in, delete_needs_in}
 use Rattle.bl_proc.specs.Posts.{post_next_in, post_needs_in}
+use Rattle.bl_compress.specs.Compresses.{compress_next_in, compress_needs_in}
 
 abbrev pub Reserves : Action → Type 0
 Reserves act.Begin = ⊥
@@ -53,6 +62,23 @@ growth_reserves (growth.OpeningTop x) h = absurd (false≢true h)
 growth_reserves growth.OpeningGrown h = absurd (false≢true h)
 growth_reserves growth.OpeningRefused h = absurd (false≢true h)
 
+put_reserves : (sd : Side) (u : Puts) → Reserves (put_of sd u)
+put_reserves side.Left u = tt
+put_reserves side.Right u = tt
+
+squeeze_reserves : (c : Compression) → IsSome (compression_needs c) → Reserves (compression_next c)
+squeeze_reserves (LatchingLeft f) h = absurd (false≢true h)
+squeeze_reserves (LatchedLeft f) h = absurd (false≢true h)
+squeeze_reserves (LatchingRight f page) h = absurd (false≢true h)
+squeeze_reserves (LatchedRight f page) h = absurd (false≢true h)
+squeeze_reserves (PuttingFirst u) h = put_reserves u.gains u
+squeeze_reserves (PuttingParent u) h = absurd (false≢true h)
+squeeze_reserves (PuttingLast u) h = absurd (false≢true h)
+squeeze_reserves (Retiring at end) h = absurd (false≢true h)
+squeeze_reserves (OpeningRight at end) h = absurd (false≢true h)
+squeeze_reserves (OpeningLeft at end) h = absurd (false≢true h)
+squeeze_reserves (OpeningParent x end) h = absurd (false≢true h)
+
 insert_reserves : (a : InsertStage) → IsSome (insert_needs_in a) → Reserves (insert_next_in a)
 insert_reserves insert.New h = absurd (false≢true h)
 insert_reserves (insert.Coming a) h = absurd (false≢true h)
@@ -79,10 +105,19 @@ post_reserves (post.Staying x r) h = absurd (false≢true h)
 post_reserves (post.Ending r) h = absurd (false≢true h)
 post_reserves (post.Over r) h = absurd (false≢true h)
 
+compress_reserves : (a : CompressStage) → IsSome (compress_needs_in a) → Reserves (compress_next_in a)
+compress_reserves compress.New h = absurd (false≢true h)
+compress_reserves (compress.Coming a) h = absurd (false≢true h)
+compress_reserves (compress.Compressing c) h = squeeze_reserves c h
+compress_reserves (compress.Staying x) h = absurd (false≢true h)
+compress_reserves (compress.Ending r) h = absurd (false≢true h)
+compress_reserves (compress.Over r) h = absurd (false≢true h)
+
 pub reserves : (p : Proc) → IsSome (needs_of p) → Reserves (next_of p)
 reserves (proc.Find p) h = absurd (false≢true h)
 reserves (proc.Insert p) h = insert_reserves p.stage h
 reserves (proc.Delete p) h = delete_reserves p.stage h
 reserves (proc.Post p) h = post_reserves p.stage h
 reserves (proc.Part p) h = absurd (false≢true h)
+reserves (proc.Compress p) h = compress_reserves p.stage h
 reserves (proc.Reclaim p) h = absurd (false≢true h)

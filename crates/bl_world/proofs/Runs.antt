@@ -31,7 +31,7 @@ module _ (v v' : View) (n : ℕ) (p : Proc) where
   carried_count (act.Latch x) c = elim c [ inl l ↦ told_count l.2 | inr m ↦ told_count m.2 ]
   carried_count (act.Open x) c = told_count c.1
   carried_count act.Take c = absurd c
-  carried_count (act.Retire x) c = absurd c
+  carried_count (act.Retire x) c = told_count c.1
   carried_count (act.Look q) c = told_count c.7
   carried_count (act.See x) c = told_count c.3
   carried_count (act.Release x) c = elim c [ inl l ↦ told_count l.2 | inr m ↦ told_count m.2 ]
@@ -51,7 +51,7 @@ module _ (v v' : View) (n : ℕ) (p : Proc) where
   carried_size (act.Latch x) c = elim c [ inl l ↦ ap length l.1.0 | inr m ↦ ap length m.1.0 ]
   carried_size (act.Open x) c = ap length c.0.0
   carried_size act.Take c = absurd c
-  carried_size (act.Retire x) c = absurd c
+  carried_size (act.Retire x) c = ap length c.0.0
   carried_size (act.Look q) c = ap length c.6.0
   carried_size (act.See x) c = ap length c.2.0
   carried_size (act.Release x) c = elim c [ inl l ↦ ap length l.1.0 | inr m ↦ ap length m.1.0 ]

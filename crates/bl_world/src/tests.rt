@@ -3,7 +3,7 @@
 use crate::looking::{is_blocking, retirement_seen};
 use crate::{Act, Event, Turn, World, WorldFault};
 use bl_model::Reply;
-use bl_proc::{Answer, Hint, Level, Posted, Proc, Reclaimed};
+use bl_proc::{Answer, Hint, Level, Posted, Proc, Reclaimed, Squeezed};
 use std::alloc::Global;
 use std::test::Fail;
 
@@ -11,7 +11,7 @@ fn opened(alloc: Global, pages: u32) -> Result<World, Fail> {
     Ok(World::open(alloc, pages).ok().ok_or("no world")?)
 }
 
-fn find(world: &mut World, key: u64) -> Result<usize, Fail> {
+pub fn find(world: &mut World, key: u64) -> Result<usize, Fail> {
     Ok(world.start(Proc::find(key)).ok().ok_or("not started")?)
 }
 
@@ -40,12 +40,24 @@ fn post(world: &mut World, level: u32, key: u64) -> Result<usize, Fail> {
     )
 }
 
+pub fn compress(world: &mut World, level: u32, key: u64) -> Result<usize, Fail> {
+    if level == 0 || level > 12 {
+        return Err("no such level")?;
+    }
+    Ok(
+        world
+            .start(Proc::compress(level, key))
+            .ok()
+            .ok_or("not started")?,
+    )
+}
+
 fn run(world: &mut World, turns: &[Turn]) -> Result<(), Fail> {
     Ok(world.run(turns).ok().ok_or("not run")?)
 }
 
 /// That many steps of the process.
-fn step(world: &mut World, number: usize, count: usize) -> Result<(), Fail> {
+pub fn step(world: &mut World, number: usize, count: usize) -> Result<(), Fail> {
     for _ in 0..count {
         run(world, &[Turn::Step(number)])?;
     }
@@ -64,13 +76,13 @@ fn acts_of(alloc: Global, world: &World, number: usize) -> Result<Vec<Act>, Fail
 }
 
 /// These are the events of the process.
-fn did(alloc: Global, world: &World, number: usize, wanted: &[Act]) -> Result<bool, Fail> {
+pub fn did(alloc: Global, world: &World, number: usize, wanted: &[Act]) -> Result<bool, Fail> {
     let acts = acts_of(alloc, world, number)?;
     Ok(acts.as_slice() == wanted)
 }
 
 /// What an operation answers without a hint.
-fn plain(reply: Reply) -> Option<Answer> {
+pub fn plain(reply: Reply) -> Option<Answer> {
     Some(Answer::Op(reply, None))
 }
 
@@ -83,6 +95,11 @@ fn inserted_to_post(key: u64) -> Option<Answer> {
 /// What a post answers without a hint.
 fn listed(posted: Posted) -> Option<Answer> {
     Some(Answer::Post(posted, None))
+}
+
+/// What a compression answers without a hint.
+pub fn pressed(squeezed: Squeezed) -> Option<Answer> {
+    Some(Answer::Compress(squeezed, None))
 }
 
 /// Eight pages with the keys 1 to 14 in page 1, inserted by the processes 1 to 14, each of them alone; and the insertion of
@@ -629,6 +646,7 @@ fn hint_of(answer: Answer) -> Option<Hint> {
     match answer {
         Answer::Op(_, hint) => hint,
         Answer::Post(_, hint) => hint,
+        Answer::Compress(_, hint) => hint,
         Answer::Reclaim(_) => None,
     }
 }
@@ -762,7 +780,123 @@ fn leaves_that_become_thin(rt: HostRuntime) -> Result<(), Fail> {
     Ok(())
 }
 
-// Nothing retires a page here, so that each page is kept.
+/// The same world after the deletion of the key 9, which is process 17: page 2 has six rows.
+pub fn thinned(alloc: Global) -> Result<World, Fail> {
+    let mut world = posted(alloc)?;
+    let number = delete(&mut world, 9)?;
+    step(&mut world, number, 8)?;
+    Ok(world)
+}
+
+#[test]
+fn a_refused_merge_leaves_both_leaves(rt: HostRuntime) -> Result<(), Fail> {
+    let mut world = thinned(rt.alloc())?;
+    let number = compress(&mut world, 1, 9)?;
+    step(&mut world, number, 8)?;
+    run(&mut world, &[Turn::Refuse(number)])?;
+    step(&mut world, number, 4)?;
+    assert!(rt;
+        did(
+            rt.alloc(),
+            &world,
+            number,
+            &[
+                Act::Begin,
+                Act::Get(0),
+                Act::Latch(3),
+                Act::Get(3),
+                Act::Latch(1),
+                Act::Get(1),
+                Act::Latch(2),
+                Act::Get(2),
+                Act::Miss,
+                Act::Open(2),
+                Act::Open(1),
+                Act::Open(3),
+                Act::End
+            ]
+        )?
+    );
+    assert!(rt; world.answer(number) == pressed(Squeezed::NoRoom));
+    let search = find(&mut world, 12)?;
+    step(&mut world, search, 5)?;
+    assert!(rt;
+        did(
+            rt.alloc(),
+            &world,
+            search,
+            &[Act::Begin, Act::Get(0), Act::Get(3), Act::Get(2), Act::End]
+        )?
+    );
+    assert!(rt; world.answer(search) == plain(Reply::Found(120)));
+    Ok(())
+}
+
+// Page 1 has the keys 7 and 8, and page 2 those from 9 to 22.
+#[test]
+fn rows_move_to_the_left_beside_a_search(rt: HostRuntime) -> Result<(), Fail> {
+    let mut world = posted(rt.alloc())?;
+    for key in 16..23 {
+        let number = insert(&mut world, key, 10 * key)?;
+        step(&mut world, number, 8)?;
+    }
+    for key in 1..7 {
+        let number = delete(&mut world, key)?;
+        step(&mut world, number, 8)?;
+    }
+    let search = find(&mut world, 9)?;
+    step(&mut world, search, 3)?;
+    let number = compress(&mut world, 1, 0)?;
+    step(&mut world, number, 15)?;
+    assert!(rt;
+        did(
+            rt.alloc(),
+            &world,
+            number,
+            &[
+                Act::Begin,
+                Act::Get(0),
+                Act::Latch(3),
+                Act::Get(3),
+                Act::Latch(1),
+                Act::Get(1),
+                Act::Latch(2),
+                Act::Get(2),
+                Act::Put(1),
+                Act::Put(3),
+                Act::Put(2),
+                Act::Open(2),
+                Act::Open(1),
+                Act::Open(3),
+                Act::End
+            ]
+        )?
+    );
+    assert!(rt; world.answer(number) == pressed(Squeezed::Evened));
+    // what the search got of page 3 leads it to page 2, which begins past its key now
+    step(&mut world, search, 5)?;
+    assert!(rt;
+        did(
+            rt.alloc(),
+            &world,
+            search,
+            &[
+                Act::Begin,
+                Act::Get(0),
+                Act::Get(3),
+                Act::Get(2),
+                Act::Get(0),
+                Act::Get(3),
+                Act::Get(1),
+                Act::End
+            ]
+        )?
+    );
+    assert!(rt; world.answer(search) == plain(Reply::Found(90)));
+    Ok(())
+}
+
+// No compression has run, so that no page is retired.
 #[test]
 fn a_page_that_is_not_retired_is_kept(rt: HostRuntime) -> Result<(), Fail> {
     let Ok(mut world) = World::open(rt.alloc(), 4) else {

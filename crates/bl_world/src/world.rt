@@ -130,3 +130,5 @@ impl World {
 
 #[cfg(test)]
 mod random_tests;
+#[cfg(test)]
+mod retired_tests;

@@ -1,0 +1,60 @@
+-- A change, a growth or a compression of two children is never to begin: the process that carries it out has begun.
+use Rattle.std.proofs.Common.{◌≡◌}
+use Rattle.bl_ways.specs.declared.acts.Action.TheVariants as act
+use Rattle.bl_ways.specs.declared.approaching.Approach.{Approach}
+use Rattle.bl_ways.specs.declared.approaching.Approach.TheVariants as way
+use Rattle.bl_ways.specs.declared.changing.Change.{Change}
+use Rattle.bl_ways.specs.declared.changing.Change.TheVariants as change
+use Rattle.bl_ways.specs.declared.growing.Growth.{Growth}
+use Rattle.bl_ways.specs.declared.growing.Growth.TheVariants as growth
+use Rattle.bl_rearrange.specs.declared.sides.Side.{Side}
+use Rattle.bl_rearrange.specs.declared.sides.Side.TheVariants as side
+use Rattle.bl_compress.specs.declared.compressing.Puts.{Puts}
+use Rattle.bl_compress.specs.declared.compressing.Compression.{Compression}
+use Rattle.bl_compress.specs.declared.compressing.Compression.TheVariants.{LatchingLeft, LatchedLeft, LatchingRight, LatchedRight, PuttingFirst, PuttingParent, PuttingLast, Retiring, OpeningRight, OpeningLeft, OpeningParent}
+use Rattle.bl_ways.specs.Approaches.{approach_next}
+use Rattle.bl_ways.specs.Changes.{change_next}
+use Rattle.bl_ways.specs.Growths.{growth_next}
+use Rattle.bl_compress.specs.Compressions.{put_of, other, compression_next}
+
+pub approach_begins : {X : Type 0} (a : Approach) → approach_next a ≡ act.Begin → X
+approach_begins way.Start e = absurd cc
+approach_begins (way.At x) e = absurd cc
+approach_begins (way.Latching x) e = absurd cc
+approach_begins (way.Latched x) e = absurd cc
+approach_begins (way.Leaving x to) e = absurd cc
+
+pub change_begins : {X : Type 0} (c : Change) → change_next c ≡ act.Begin → X
+change_begins (change.Putting x page) e = absurd cc
+change_begins (change.Taking full) e = absurd cc
+change_begins (change.PuttingNew p) e = absurd cc
+change_begins (change.PuttingOld p) e = absurd cc
+change_begins (change.OpeningNew x new s) e = absurd cc
+change_begins (change.Opening x what) e = absurd cc
+
+pub growth_begins : {X : Type 0} (g : Growth) → growth_next g ≡ act.Begin → X
+growth_begins growth.Latching e = absurd cc
+growth_begins growth.Latched e = absurd cc
+growth_begins (growth.Taking r) e = absurd cc
+growth_begins (growth.PuttingTop r) e = absurd cc
+growth_begins (growth.PuttingAnchor r) e = absurd cc
+growth_begins (growth.OpeningTop x) e = absurd cc
+growth_begins growth.OpeningGrown e = absurd cc
+growth_begins growth.OpeningRefused e = absurd cc
+
+put_begins : {X : Type 0} (sd : Side) (u : Puts) → put_of sd u ≡ act.Begin → X
+put_begins side.Left u e = absurd cc
+put_begins side.Right u e = absurd cc
+
+pub squeeze_begins : {X : Type 0} (c : Compression) → compression_next c ≡ act.Begin → X
+squeeze_begins (LatchingLeft f) e = absurd cc
+squeeze_begins (LatchedLeft f) e = absurd cc
+squeeze_begins (LatchingRight f page) e = absurd cc
+squeeze_begins (LatchedRight f page) e = absurd cc
+squeeze_begins (PuttingFirst u) e = put_begins u.gains u e
+squeeze_begins (PuttingParent u) e = absurd cc
+squeeze_begins (PuttingLast u) e = put_begins (other u.gains) u e
+squeeze_begins (Retiring at end) e = absurd cc
+squeeze_begins (OpeningRight at end) e = absurd cc
+squeeze_begins (OpeningLeft at end) e = absurd cc
+squeeze_begins (OpeningParent x end) e = absurd cc

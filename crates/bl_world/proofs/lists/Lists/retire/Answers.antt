@@ -1,0 +1,17 @@
+use Rattle.std.proofs.Common.{arith, ◌≡◌, length}
+use Rattle.bl_world.proofs.Arms.{stands}
+use Rattle.bl_world.proofs.Near.{retire_within}
+use Rattle.bl_world.proofs.Outcomes.{ok_map}
+use Rattle.bl_world.proofs.lists.Lists.retire.Goals as goal
+
+pub own-requires-clause-within : goal.own-requires-clause-within
+own-requires-clause-within c =
+    let w = c.args.self.now in
+    let stood = stands w.processes.items c.args.index c.requires.started in
+    let within = retire_within w.pages.items w.owners.items w.processes.items w.events.items c.args.index stood.0 c.args.at stood.1 c.requires.world (c.requires.next stood.0 stood.1).1 in
+    omega (arith, within, w.paired)
+
+pub returns-clause-ok : goal.returns-clause-ok
+returns-clause-ok c = ok_map c.own.result (λ f p stood.
+    (let place : c.len-place.result ≡ length c.args.self.now.events.items = omega (arith, c.len-place.ensures) in
+    rw place at (f p stood))) c.own.ensures.ok
