@@ -1,32 +1,17 @@
-//! The program `blink`: its command line, its commands over readers and writers, and its words on standard error.
+//! The program `blink`: what its command line asks for, over the files of the system and its standard streams.
 //!
-//! Promised to whoever runs it: `serve` writes what is served for what it reads, over an index with one pass, `check` tells
-//! whether an image is sound, and `replay` prints one run of the script that it reads.
+//! Promised to whoever runs it: `serve` writes what is served for what it reads, over an index with one pass; and what
+//! `bl_commands` promises of `check` and `replay`.
 #![tactic(auto)]
 
-mod check;
-#[cfg(test)]
-mod check_tests;
-mod command;
-#[cfg(test)]
-mod compressions_tests;
-mod fault;
-mod replay;
-#[cfg(test)]
-mod replay_tests;
-#[cfg(test)]
-mod scripts_tests;
 mod serve;
 #[cfg(test)]
 mod tests;
 
+use bl_commands::{CommandFault, Invocation, check_file, read_words, replay_file};
 use bl_model::Watched;
-use check::check_file;
 use clap::Error;
 use clap::error::ErrorKind;
-use command::Invocation;
-use fault::CommandFault;
-use replay::replay_file;
 use serve::serve_index;
 use std::io;
 use std::process::ExitCode;
@@ -47,7 +32,7 @@ fn main(rt: HostRuntime) -> anyhow::Result<ExitCode> {
 fn carry_out<W: Wait>(rt: &HostRuntime, wait: &W) -> Result<ExitCode, CommandFault> {
     let alloc = rt.alloc();
     let words: Vec<String> = std::env::args(rt)?.collect(alloc)?;
-    match command::read_words(alloc, words.as_slice()) {
+    match read_words(alloc, words.as_slice()) {
         Ok(Invocation::Serve(options)) => {
             let mut reader = Watched::new(rt.stdin());
             let mut writer = Watched::new(io::writer(rt));

@@ -163,6 +163,7 @@ delete_only : (old : Delete) (what : Seen) (g : One (DeleteGoes old.key old.stag
 delete_only old what g (proc.Find f) t = absurd t
 delete_only old what g (proc.Part f) t = absurd t
 delete_only old what g (proc.Reclaim f) t = absurd t
+delete_only old what g (proc.Compress f) t = absurd t
 delete_only old what g (proc.Insert f) t = absurd t
 delete_only old what g (proc.Delete f) t = (let e = g.only f.stage t.1 in λ i. proc.Delete (record { key = t.0 i; stage = e i }))
 delete_only old what g (proc.Post f) t = absurd t

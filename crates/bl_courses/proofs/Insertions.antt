@@ -162,6 +162,7 @@ insert_only : (old : Insert) (what : Seen) (g : One (InsertGoes old.key old.valu
 insert_only old what g (proc.Find f) t = absurd t
 insert_only old what g (proc.Part f) t = absurd t
 insert_only old what g (proc.Reclaim f) t = absurd t
+insert_only old what g (proc.Compress f) t = absurd t
 insert_only old what g (proc.Insert f) t = (let e = g.only f.stage t.2 in λ i. proc.Insert (record { key = t.0 i; value = t.1 i; stage = e i }))
 insert_only old what g (proc.Delete f) t = absurd t
 insert_only old what g (proc.Post f) t = absurd t

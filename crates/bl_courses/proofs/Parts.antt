@@ -9,7 +9,7 @@ use Rattle.bl_ways.specs.declared.onwards.Onward.TheVariants.{Again, Right, Down
 use Rattle.bl_ways.specs.Given.{Gives}
 use Rattle.bl_ways.specs.Onwards.{top_of, Leads}
 use Rattle.bl_proc.specs.declared.kinds.Proc.{Proc}
-use Rattle.bl_proc.specs.declared.kinds.Proc.TheVariants.{Find, Insert, Delete, Post, Part, Reclaim}
+use Rattle.bl_proc.specs.declared.kinds.Proc.TheVariants.{Find, Insert, Delete, Post, Part, Compress, Reclaim}
 use Rattle.bl_proc.specs.declared.searching.FindStage.{FindStage}
 use Rattle.bl_proc.specs.declared.searching.FindStage.TheVariants as find
 use Rattle.bl_proc.specs.declared.parts.Part.{Part as PartState}
@@ -141,6 +141,7 @@ part_only old what g (Insert f) t = absurd t
 part_only old what g (Delete f) t = absurd t
 part_only old what g (Post f) t = absurd t
 part_only old what g (Reclaim f) t = absurd t
+part_only old what g (Compress f) t = absurd t
 
 pub part_goes : (old : PartState) (what : Seen) → part_answer_in old.stage ≡ None → Gives (part_next_in old.stage) None what → GoesOn (Part old) what
 part_goes old what running given =

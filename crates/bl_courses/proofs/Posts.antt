@@ -567,6 +567,7 @@ post_only : (old : Post) (what : Seen) (g : One (PostGoes old.level old.key old.
 post_only old what g (proc.Find f) t = absurd t
 post_only old what g (proc.Part f) t = absurd t
 post_only old what g (proc.Reclaim f) t = absurd t
+post_only old what g (proc.Compress f) t = absurd t
 post_only old what g (proc.Insert f) t = absurd t
 post_only old what g (proc.Delete f) t = absurd t
 post_only old what g (proc.Post f) t = (let e = g.only f.stage t.2 in λ i. proc.Post (record {

@@ -9,7 +9,7 @@ use Rattle.bl_ways.specs.declared.onwards.Onward.TheVariants.{Again, Right, Down
 use Rattle.bl_ways.specs.Given.{Gives}
 use Rattle.bl_ways.specs.Onwards.{top_of, Leads}
 use Rattle.bl_proc.specs.declared.kinds.Proc.{Proc}
-use Rattle.bl_proc.specs.declared.kinds.Proc.TheVariants.{Find, Insert, Delete, Post, Part, Reclaim}
+use Rattle.bl_proc.specs.declared.kinds.Proc.TheVariants.{Find, Insert, Delete, Post, Part, Compress, Reclaim}
 use Rattle.bl_proc.specs.declared.searching.Find.{Find as FindState}
 use Rattle.bl_proc.specs.declared.searching.FindStage.{FindStage}
 use Rattle.bl_proc.specs.declared.searching.FindStage.TheVariants.{New, AtAnchor, At, Ending, Over}
@@ -127,6 +127,7 @@ find_only old what g (Delete f) t = absurd t
 find_only old what g (Post f) t = absurd t
 find_only old what g (Part f) t = absurd t
 find_only old what g (Reclaim f) t = absurd t
+find_only old what g (Compress f) t = absurd t
 
 pub find_goes : (old : FindState) (what : Seen) → find_answer_in old.stage ≡ None → Gives (find_next_in old.stage) None what → GoesOn (Find old) what
 find_goes old what running given =

@@ -16,6 +16,10 @@ use Rattle.bl_proc.specs.declared.deleting.DeleteStage.{DeleteStage}
 use Rattle.bl_proc.specs.declared.deleting.DeleteStage.TheVariants as delete
 use Rattle.bl_proc.specs.declared.posting.PostStage.{PostStage}
 use Rattle.bl_proc.specs.declared.posting.PostStage.TheVariants as post
+use Rattle.bl_compress.specs.declared.compressing.Compression.{Compression}
+use Rattle.bl_compress.specs.declared.compressing.Compression.TheVariants as compression
+use Rattle.bl_compress.specs.declared.squeezing.CompressStage.{CompressStage}
+use Rattle.bl_compress.specs.declared.squeezing.CompressStage.TheVariants as compress
 use Rattle.bl_proc.specs.declared.kinds.Proc.{Proc}
 use Rattle.bl_proc.specs.declared.kinds.Proc.TheVariants as proc
 use Rattle.bl_proc.specs.Processes.{next_of, needs_of, answer_of}
@@ -66,12 +70,35 @@ post_frames (post.Staying x r) = 0
 post_frames (post.Ending r) = 0
 post_frames (post.Over r) = 0
 
+-- the puts of a compression that are still to come, once it has reserved for all three
+abbrev pub compression_frames : Compression → ℕ
+compression_frames (compression.LatchingLeft f) = 0
+compression_frames (compression.LatchedLeft f) = 0
+compression_frames (compression.LatchingRight f c) = 0
+compression_frames (compression.LatchedRight f c) = 0
+compression_frames (compression.PuttingFirst p) = 0
+compression_frames (compression.PuttingParent p) = 2
+compression_frames (compression.PuttingLast p) = 1
+compression_frames (compression.Retiring t fate) = 0
+compression_frames (compression.OpeningRight t fate) = 0
+compression_frames (compression.OpeningLeft t fate) = 0
+compression_frames (compression.OpeningParent x fate) = 0
+
+abbrev pub compress_frames : CompressStage → ℕ
+compress_frames compress.New = 0
+compress_frames (compress.Coming a) = 0
+compress_frames (compress.Compressing c) = compression_frames c
+compress_frames (compress.Staying x) = 0
+compress_frames (compress.Ending r) = 0
+compress_frames (compress.Over r) = 0
+
 abbrev pub frames_of : Proc → ℕ
 frames_of (proc.Find p) = 0
 frames_of (proc.Insert p) = insert_frames p.stage
 frames_of (proc.Delete p) = delete_frames p.stage
 frames_of (proc.Post p) = post_frames p.stage
 frames_of (proc.Part p) = 0
+frames_of (proc.Compress p) = compress_frames p.stage
 frames_of (proc.Reclaim p) = 0
 
 -- the operation that a process carries out, if it has one
@@ -81,6 +108,7 @@ op_of (proc.Insert p) = Some (op.Insert p.key p.value)
 op_of (proc.Delete p) = Some (op.Delete p.key)
 op_of (proc.Post p) = None
 op_of (proc.Part p) = Some (op.Part p.from)
+op_of (proc.Compress p) = None
 op_of (proc.Reclaim p) = None
 
 -- the level and the key of a post
@@ -90,6 +118,7 @@ work_of (proc.Insert p) = None
 work_of (proc.Delete p) = None
 work_of (proc.Post p) = Some (p.level, p.key)
 work_of (proc.Part p) = None
+work_of (proc.Compress p) = None
 work_of (proc.Reclaim p) = None
 
 -- A process that has so many frames: a put asks for one where it has none, and a take for a page and two frames. No

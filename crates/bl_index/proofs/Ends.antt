@@ -195,6 +195,13 @@ end_says (proc.Reclaim p) (proc.Post q) o reply hint i e t h = absurd t
 end_says (proc.Part p) (proc.Reclaim q) o reply hint i e t h = absurd t
 end_says (proc.Reclaim p) (proc.Part q) o reply hint i e t h = absurd t
 end_says (proc.Reclaim p) (proc.Reclaim q) o reply hint i e t h = cc
+end_says (proc.Find p) (proc.Compress q) o reply hint i e t h = absurd t
+end_says (proc.Insert p) (proc.Compress q) o reply hint i e t h = absurd t
+end_says (proc.Delete p) (proc.Compress q) o reply hint i e t h = absurd t
+end_says (proc.Post p) (proc.Compress q) o reply hint i e t h = absurd t
+end_says (proc.Part p) (proc.Compress q) o reply hint i e t h = absurd t
+end_says (proc.Reclaim p) (proc.Compress q) o reply hint i e t h = absurd t
+end_says (proc.Compress p) last o reply hint i e t h = cc
 end_says (proc.Part p) (proc.Part q) o reply hint i e t h = (let s = part_ends p.from p.stage q.stage reply hint e t.1 h in says_of (proc.Part p) o (op.Part p.from) reply s.0 (λ got child time. s.1) i)
 end_says (proc.Post p) (proc.Post q) o reply hint i e t h = cc
 
@@ -297,6 +304,13 @@ end_has (proc.Reclaim p) (proc.Post q) o i e t = absurd t
 end_has (proc.Part p) (proc.Reclaim q) o i e t = absurd t
 end_has (proc.Reclaim p) (proc.Part q) o i e t = absurd t
 end_has (proc.Reclaim p) (proc.Reclaim q) o i e t = cc
+end_has (proc.Find p) (proc.Compress q) o i e t = absurd t
+end_has (proc.Insert p) (proc.Compress q) o i e t = absurd t
+end_has (proc.Delete p) (proc.Compress q) o i e t = absurd t
+end_has (proc.Post p) (proc.Compress q) o i e t = absurd t
+end_has (proc.Part p) (proc.Compress q) o i e t = absurd t
+end_has (proc.Reclaim p) (proc.Compress q) o i e t = absurd t
+end_has (proc.Compress p) last o i e t = cc
 end_has (proc.Part p) (proc.Part q) o i e t = part_has p.from p.stage q.stage e t.1
 end_has (proc.Post p) (proc.Post q) o i e t = cc
 

@@ -110,6 +110,8 @@ posting (proc.Post p) (proc.Insert q) level key is e t = absurd t
 posting (proc.Post p) (proc.Delete q) level key is e t = absurd t
 posting (proc.Post p) (proc.Part q) level key is e t = absurd t
 posting (proc.Post p) (proc.Reclaim q) level key is e t = absurd t
+posting (proc.Post p) (proc.Compress q) level key is e t = absurd t
+posting (proc.Compress p) last level key is e t = absurd (let z = is in cc)
 posting (proc.Find p) last level key is e t = absurd (let z = is in cc)
 posting (proc.Insert p) last level key is e t = absurd (let z = is in cc)
 posting (proc.Delete p) last level key is e t = absurd (let z = is in cc)

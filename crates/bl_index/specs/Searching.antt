@@ -1,7 +1,7 @@
 -- A search and a part that go on, and the answers of an operation and of a post.
 use Rattle.std.specs.Prelude.{Option, None, Some}
 use Rattle.bl_ways.specs.declared.answers.Answer.{Answer}
-use Rattle.bl_ways.specs.declared.answers.Answer.TheVariants.{Op, Post, Reclaim}
+use Rattle.bl_ways.specs.declared.answers.Answer.TheVariants.{Op, Post, Compress, Reclaim}
 use Rattle.bl_proc.specs.declared.searching.FindStage.{FindStage}
 use Rattle.bl_proc.specs.declared.searching.FindStage.TheVariants.{New, AtAnchor, At, Ending, Over}
 use Rattle.bl_proc.specs.declared.parts.PartStage.{PartStage}
@@ -27,6 +27,7 @@ IsOpAnswer None = ⊥
 IsOpAnswer (Some (Op reply hint)) = Unit {0}
 IsOpAnswer (Some (Post what hint)) = ⊥
 IsOpAnswer (Some (Reclaim what)) = ⊥
+IsOpAnswer (Some (Compress what hint)) = ⊥
 
 -- the answer of a post
 abbrev pub IsPostAnswer : Option Answer → Type 0
@@ -34,3 +35,4 @@ IsPostAnswer None = ⊥
 IsPostAnswer (Some (Op reply hint)) = ⊥
 IsPostAnswer (Some (Post what hint)) = Unit {0}
 IsPostAnswer (Some (Reclaim what)) = ⊥
+IsPostAnswer (Some (Compress what hint)) = ⊥

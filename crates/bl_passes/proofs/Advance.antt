@@ -17,6 +17,7 @@ use Rattle.bl_tables.specs.Logs.{proc_log}
 use Rattle.bl_tables.specs.Turns.{Turned}
 use Rattle.bl_tables.specs.Knowing.{Run, bare as know}
 use Rattle.bl_tables.proofs.Near.{bare_near as near}
+use Rattle.bl_tables.proofs.Middles.{KeepsLogs}
 use Rattle.bl_store.specs.Pages.{Owner, Stage, Idle, Running, Pages, Stands}
 use Rattle.bl_passes.specs.declared.known.Mine.{Mine}
 use Rattle.bl_passes.specs.Noting.{trail_of, all_noted}
@@ -71,11 +72,11 @@ module _ (s : Pages Mine) (f : Fits s) (n m : ℕ) (st : Stage) (d : Mine) (at :
     busy = λ p since runs. subst (λ (z : List (Stage × Mine)). IsRun z p since) (sym hands) (runs_after s.hands n m st st' d next_known at refl f.world.now.phase s1.phase others f.busy current on p since (ap (λ (z : State Page). z.phase p) (sym t.now) ∙ runs));
   }
 
-  pub next_seen : IsSeen (trail_of next_known.trail)
-  next_seen = subst IsSeen (sym (trail_back t.next.trail)) (world_seen t.next t.good (subst Opening (sym t.extends.start) f.opening) (t.extends.first ∙ f.first))
+  pub next_seen : KeepsLogs t.next → IsSeen (trail_of next_known.trail)
+  next_seen logs = subst IsSeen (sym (trail_back t.next.trail)) (world_seen t.next t.good logs (subst Opening (sym t.extends.start) f.opening) (t.extends.first ∙ f.first))
 
-  pub next_notes : Notes n m a d next_known
-  next_notes =
+  pub next_notes : KeepsLogs t.next → Notes n m a d next_known
+  next_notes logs =
       let h = f.hands n st d at in
       let mk = turn_mark f.world f.good n m a s1 b t in
       record {
@@ -83,7 +84,7 @@ module _ (s : Pages Mine) (f : Fits s) (n m : ℕ) (st : Stage) (d : Mine) (at :
         last = mk;
         trail = trail_back t.next.trail ∙ (t.extends.trail ∙ (ap (λ (l : Trail). l ++ mk ∷ []) h.begins.1 ∙ append_assoc (trail_of d.trail) h.begins.0 (mk ∷ [])));
         event = refl;
-        seen = next_seen;
+        seen = next_seen logs;
         within = subst (AreWithin (length s.hands)) (sym (trail_back t.next.trail)) next_within;
         pass = refl;
         number = refl;

@@ -37,6 +37,7 @@ use Rattle.bl_passes.proofs.Entries.{own-mine}
 use Rattle.bl_passes.proofs.Stages.{pass_of, number_of, turn_mark}
 use Rattle.bl_passes.proofs.Doings.{log_after}
 use Rattle.bl_passes.proofs.Shown.{same_owner, other_owner, held_by}
+use Rattle.bl_passes.proofs.Logs.{next_logs}
 use Rattle.bl_passes.proofs.Advance.{next_known, advance, next_notes, next_near, next_own, next_stage}
 use Rattle.bl_passes.proofs.Turns.{turn_of, standing, is_named, turned, then_log}
 
@@ -130,7 +131,7 @@ begins_process l n d process next unborn course s g o at =
     let silent : entries_at p (know (w.proc p)).said ≡ [] = ap (entries_at p) (ap (λ (r : Run). (know r).said) here ∙ blank.said) in
     let was : own n w.trail ≡ past ++ entries_at p (know (w.proc p)).said = h.mine ∙ (sym (append-nil past) ∙ ap (λ (z : List Entry). past ++ z) (sym silent)) in
     let e : Mine = next_known s f n m Idle d at Act.Begin s1 b' t true past in
-    let notes : Notes n m Act.Begin d e = next_notes s f n m Idle d at Act.Begin s1 b' t true past in (
+    let notes : Notes n m Act.Begin d e = next_notes s f n m Idle d at Act.Begin s1 b' t true past (next_logs s f n m Act.Begin s1 b' t (λ z runs. log)) in (
       e,
       advance s f n m Idle d at Act.Begin s1 b' t true past (told s n (Running s.clock) e) (Running s.clock) refl refl (omega arith) (omega arith)
           (λ q ne. phase.others q ne) (λ x q ne z. z) g.pages
@@ -171,7 +172,7 @@ module _ (l : Layout) (n : ℕ) (d : Mine) (s : Pages Mine) (since : ℕ) (f : F
       let h = f.hands n (Running since) d at in
       let named = is_named s f n since d at in
       let e : Mine = next_known s f n d.number (Running since) d at (Act.End answer) s1 b t false d.past in
-      let notes : Notes n d.number (Act.End answer) d e = next_notes s f n d.number (Running since) d at (Act.End answer) s1 b t false d.past in
+      let notes : Notes n d.number (Act.End answer) d e = next_notes s f n d.number (Running since) d at (Act.End answer) s1 b t false d.past (next_logs s f n d.number (Act.End answer) s1 b t (λ z runs. absurd (let both : machine.Ended ≡ machine.Running z = sym phase.at ∙ (ap (λ (y : State Page). y.phase p) (sym t.now) ∙ runs) in cc))) in
       let mk = turn_mark w f.good n d.number (Act.End answer) s1 b t in
       let silent : t.said ≡ None = end_silent w.trail mk answer refl (subst IsMarked t.extends.trail t.good.recorded.marked) t.said refl in
       let kept : own n (trail_of e.trail) ≡ own n (trail_of d.trail) = ap (own n) (trail_back t.next.trail ∙ t.extends.trail) ∙ (own-mine n w.trail mk refl ∙ (ap (λ (z : Option Said). own n w.trail ++ entries_at p z) silent ∙ (append-nil (own n w.trail) ∙ h.mine))) in (

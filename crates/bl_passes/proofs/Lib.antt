@@ -3,6 +3,7 @@ pub mod Entries
 pub mod Within
 pub mod Marks
 pub mod Doings
+pub mod Logs
 pub mod Stages
 pub mod Sights
 pub mod Advance

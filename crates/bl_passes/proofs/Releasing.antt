@@ -14,6 +14,7 @@ use Rattle.bl_steps.proofs.After.{put_at, is_put_at}
 use Rattle.bl_tables.specs.Turns.{Does, Turned}
 use Rattle.bl_tables.specs.Knowing.{bare as know}
 use Rattle.bl_tables.proofs.Releasing.{release}
+use Rattle.bl_tables.proofs.Middles.{KeepsLogs}
 use Rattle.bl_layout.specs.declared.layout.Layout.{Layout}
 use Rattle.bl_store.specs.Pages.{Owner, Released, Held, Retired, Stage, Idle, Running, Pages, Stands, IsPage, AllBeganAfter, told, owned, Releases, Sweeps as SweepsIn}
 use Rattle.bl_passes.specs.declared.known.Mine.{Mine}
@@ -27,6 +28,7 @@ use Rattle.bl_passes.proofs.Marks.{each_append}
 use Rattle.bl_passes.proofs.Stages.{turn_mark, pass_of, number_of}
 use Rattle.bl_passes.proofs.Runners.{one_hand}
 use Rattle.bl_passes.proofs.Shown.{other_owner, held_by}
+use Rattle.bl_passes.proofs.Logs.{next_logs}
 use Rattle.bl_passes.proofs.Advance.{next_known, advance, next_notes, next_seen}
 
 -- the process is the last of the pass, or the next one
@@ -84,6 +86,17 @@ module _ (s : Pages Mine) (f : Fits s) (n m : ℕ) (d : Mine) (at : Stands s n I
         (λ z i. absurd (let both : Idle ≡ Running z = i in cc))
         (λ z runs. (let r = f.busy p z runs in let one : ◌≡◌ {A = Stage × Mine} (Idle, d) (Running z, r.0) = one_hand s.hands n (Idle, d) (Running z, r.0) at r.1 in ap (λ (v : Stage × Mine). v.0) one))
 
+    -- nor does it run
+    idle : (z : ℕ) → f.world.now.phase p ≢ machine.Running z
+    idle z runs = (
+        let r = f.busy p z runs in
+        let one : ◌≡◌ {A = Stage × Mine} (Idle, d) (Running z, r.0) = one_hand s.hands n (Idle, d) (Running z, r.0) at r.1 in
+        let both : Idle ≡ Running z = ap (λ (v : Stage × Mine). v.0) one in
+        cc)
+
+    then_logs : KeepsLogs turned.next
+    then_logs = next_logs s f n m (Act.Release x) freed (f.world.proc p) turned (λ z runs. absurd (idle z (ap (λ (v : State Page). v.phase p) (sym turned.now) ∙ runs)))
+
     then_sweeps : Sweeps n m (length s.hands) d then_known
     then_sweeps =
         let h = f.hands n Idle d at in
@@ -95,8 +108,8 @@ module _ (s : Pages Mine) (f : Fits s) (n m : ℕ) (d : Mine) (at : Stands s n I
           trail = trail ∙ (ap (λ (l : Trail). l ++ mk ∷ []) h.begins.1 ∙ append_assoc (trail_of d.trail) h.begins.0 (mk ∷ []));
           mine = each_append _ h.begins.0 (mk ∷ []) (Each-map _ _ h.begins.0 (λ (k : Mark) (ne : k.event.process.pass ≢ n) (e : k.event.process.pass ≡ n). absurd (ne e)) h.begins.2) ((λ e. (x, refl, silent)), tt);
           fresh = λ low. Each-map _ _ (trail_of d.trail) (λ (k : Mark) (up : k.event.process.pass ≡ n → k.event.process.number ≤ d.number) (e : k.event.process ≡ p). (let few = up (pass_of _ _ e) in let is : k.event.process.number ≡ m = number_of _ _ e in omega arith)) h.counted;
-          seen = next_seen s f n m Idle d at (Act.Release x) freed (f.world.proc p) turned false d.past;
-          within = (next_notes s f n m Idle d at (Act.Release x) freed (f.world.proc p) turned false d.past).within;
+          seen = next_seen s f n m Idle d at (Act.Release x) freed (f.world.proc p) turned false d.past then_logs;
+          within = (next_notes s f n m Idle d at (Act.Release x) freed (f.world.proc p) turned false d.past then_logs).within;
           own = ap (own n) trail ∙ (own-mine n f.world.trail mk refl ∙ (ap (λ (z : Option Said). own n f.world.trail ++ entries_at p z) silent ∙ (append-nil (own n f.world.trail) ∙ h.mine)));
           number = refl;
           runs = refl;

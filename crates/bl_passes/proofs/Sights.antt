@@ -14,14 +14,15 @@ use Rattle.bl_starts.specs.Opening.{Opening}
 use Rattle.bl_ways.specs.declared.acts.Action.{Action}
 use Rattle.bl_ways.specs.declared.acts.Action.TheVariants as action
 use Rattle.bl_tables.specs.Knowing.{Run, bare as know}
-use Rattle.bl_tables.proofs.Starting.{bare_laws as run_laws}
+use Rattle.bl_tables.proofs.Middles.{KeepsLogs}
+use Rattle.bl_tables.proofs.Starting.{bare_laws}
 use Rattle.bl_tables.proofs.Near.{IsNear as IsNearIn}
 use Rattle.bl_passes.specs.Seeing.{IsSeen}
 use Rattle.bl_passes.specs.Told.{IsNear}
 
 -- the trail of a good world that began with the opening index
-pub world_seen : (w : World Run) → IsGood know w → Opening w.start → w.first ≡ empty → IsSeen w.trail
-world_seen w good opening first =
+pub world_seen : (w : World Run) → IsGood know w → KeepsLogs w → Opening w.start → w.first ≡ empty → IsSeen w.trail
+world_seen w good logs opening first =
     let map : w.map 0 ≡ final_map empty (history_of w.trail) = λ i k. (good.recorded.map k ∙ ap (λ (z : Map). final_map z (history_of w.trail) k) first) i in
     record {
       start = w.start;
@@ -30,7 +31,7 @@ world_seen w good opening first =
       leads = good.recorded.leads;
       marked = good.recorded.marked;
       legal = subst (λ (z : Map). IsLegalFrom z (history_of w.trail)) first good.recorded.legal;
-      laws = subst (λ (z : Look). HasLaws w.now w.trail z) map (run_laws w good);
+      laws = subst (λ (z : Look). HasLaws w.now w.trail z) map (bare_laws w good logs);
     }
 
 module _ (w : World Run) (good : IsGood know w) (p : Name) where

@@ -72,7 +72,7 @@ first_good size wide = opening_good know opening_state size (λ p. fresh_run unb
 
 -- a pass that has done nothing has seen the opening index
 pub newcomer_seen : IsSeen []
-newcomer_seen = world_seen (first_world 4) (first_good 4 (omega arith)) opening_is refl
+newcomer_seen = world_seen (first_world 4) (first_good 4 (omega arith)) (λ p since runs. absurd (let both : machine.Waiting ≡ machine.Running since = runs in cc)) opening_is refl
 
 of_all : {A : Type 0} (n : ℕ) (a : A) (i : ℕ) (b : A) → get_elem? (replicate n a) i ≡ some b → a ≡ b
 of_all zero a i b e = absurd (some-ne-none b (sym e))

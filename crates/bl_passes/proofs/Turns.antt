@@ -24,6 +24,7 @@ use Rattle.bl_passes.specs.Fitting.{name, Shows, owner_in, IsAtStage, Fits}
 use Rattle.bl_passes.specs.Told.{Notes, Steps, Goes}
 use Rattle.bl_passes.proofs.Doings.{log_after}
 use Rattle.bl_passes.proofs.Shown.{same_owner}
+use Rattle.bl_passes.proofs.Logs.{next_logs}
 use Rattle.bl_passes.proofs.Advance.{next_known, advance, next_notes, next_near, next_own, next_stage}
 
 -- the turn of a process of that state
@@ -60,7 +61,7 @@ module _ (s : Pages Mine) (f : Fits s) (n since : ℕ) (d : Mine) (at : Stands s
     then_goes =
         let act = event_of (end_of_proc d.state) a what in
         let b = run_next f.world.now (f.world.proc mine) what course.new in
-        let notes : Notes n d.number act d then_known = next_notes s f n d.number (Running since) d at act s1 b turned true d.past in
+        let notes : Notes n d.number act d then_known = next_notes s f n d.number (Running since) d at act s1 b turned true d.past (next_logs s f n d.number act s1 b turned (λ z runs. then_log)) in
         let steps : Steps act d then_known = record {
           notes = subst (λ (z : ℕ). Notes z d.number act d then_known) (sym is_named.0) notes;
           runs = refl;

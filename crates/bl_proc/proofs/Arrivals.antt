@@ -10,14 +10,10 @@ use Rattle.bl_proc.specs.declared.deleting.DeleteStage.{DeleteStage}
 use Rattle.bl_proc.specs.declared.deleting.DeleteStage.TheVariants as delete
 use Rattle.bl_proc.specs.declared.posting.PostStage.{PostStage}
 use Rattle.bl_proc.specs.declared.posting.PostStage.TheVariants as post
-use Rattle.bl_ways.specs.declared.compressing.Compression.TheVariants as compression
-use Rattle.bl_proc.specs.declared.squeezing.CompressStage.{CompressStage}
-use Rattle.bl_proc.specs.declared.squeezing.CompressStage.TheVariants as compress
 use Rattle.bl_ways.specs.Approaches.{Approaches}
 use Rattle.bl_proc.specs.Inserts.{InsertArrives, InsertGoes}
 use Rattle.bl_proc.specs.Deletes.{DeleteArrives, DeleteGoes}
 use Rattle.bl_proc.specs.Posts.{PostArrives, PostNears}
-use Rattle.bl_proc.specs.Compresses.{CompressArrives, CompressNears}
 
 pub insert_arrives : (key value : ℕ) (a : Approach) (what : Seen) (x : ℕ) (c : Page) (new : InsertStage) → Approaches 0 key a what (came.Here x c) → InsertArrives key value x c new → InsertGoes key value (insert.Coming a) what new
 insert_arrives key value a what x c insert.New way at = absurd at
@@ -44,21 +40,3 @@ post_arrives level key a what x c (post.Changing change) way at = absurd at
 post_arrives level key a what x c (post.Staying y r) way at = (x, c, way, at)
 post_arrives level key a what x c (post.Ending r) way at = absurd at
 post_arrives level key a what x c (post.Over r) way at = absurd at
-
-pub compress_arrives : (level key : ℕ) (a : Approach) (what : Seen) (x : ℕ) (c : Page) (new : CompressStage) → Approaches level key a what (came.Here x c) → CompressArrives key x c new → CompressNears level key a what new
-compress_arrives level key a what x c compress.New way at = absurd at
-compress_arrives level key a what x c (compress.Coming b) way at = absurd at
-compress_arrives level key a what x c (compress.Compressing (compression.LatchingLeft f)) way at = (x, c, way, at)
-compress_arrives level key a what x c (compress.Compressing (compression.LatchedLeft f)) way at = absurd at
-compress_arrives level key a what x c (compress.Compressing (compression.LatchingRight f d)) way at = absurd at
-compress_arrives level key a what x c (compress.Compressing (compression.LatchedRight f d)) way at = absurd at
-compress_arrives level key a what x c (compress.Compressing (compression.PuttingFirst p)) way at = absurd at
-compress_arrives level key a what x c (compress.Compressing (compression.PuttingParent p)) way at = absurd at
-compress_arrives level key a what x c (compress.Compressing (compression.PuttingLast p)) way at = absurd at
-compress_arrives level key a what x c (compress.Compressing (compression.Retiring trio fate)) way at = absurd at
-compress_arrives level key a what x c (compress.Compressing (compression.OpeningRight trio fate)) way at = absurd at
-compress_arrives level key a what x c (compress.Compressing (compression.OpeningLeft trio fate)) way at = absurd at
-compress_arrives level key a what x c (compress.Compressing (compression.OpeningParent y fate)) way at = absurd at
-compress_arrives level key a what x c (compress.Staying y) way at = (x, c, way, at)
-compress_arrives level key a what x c (compress.Ending r) way at = absurd at
-compress_arrives level key a what x c (compress.Over r) way at = absurd at

@@ -4,6 +4,5 @@ pub mod Inserts
 pub mod Deletes
 pub mod Levels
 pub mod Posts
-pub mod Compresses
 pub mod Reclaims
 pub mod Processes

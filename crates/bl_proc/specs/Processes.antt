@@ -15,8 +15,8 @@ use Rattle.bl_proc.specs.Searches.{find_next, find_needs, find_answer, FindTakes
 use Rattle.bl_proc.specs.Inserts.{insert_next, insert_needs, insert_answer, InsertTakes}
 use Rattle.bl_proc.specs.Deletes.{delete_next, delete_needs, delete_answer, DeleteTakes}
 use Rattle.bl_proc.specs.Posts.{post_next, post_needs, post_answer, PostTakes}
-use Rattle.bl_proc.specs.declared.squeezing.CompressStage.TheVariants as compress
-use Rattle.bl_proc.specs.Compresses.{compress_next, compress_needs, compress_answer, CompressTakes}
+use Rattle.bl_compress.specs.declared.squeezing.CompressStage.TheVariants as compress
+use Rattle.bl_compress.specs.Compresses.{compress_next, compress_needs, compress_answer, CompressTakes}
 use Rattle.bl_proc.specs.Parts.{part_next, part_needs, part_answer, PartTakes}
 use Rattle.bl_proc.specs.Reclaims.{reclaim_next, reclaim_needs, reclaim_answer, ReclaimTakes}
 

@@ -10,7 +10,7 @@ use crate::parts::Part;
 use crate::posting::Post;
 use crate::reclaiming::Reclaim;
 use crate::searching::Find;
-use crate::squeezing::Compress;
+use bl_compress::Compress;
 use bl_ways::{Action, Answer, Process, Seen};
 
 /// A process of any kind.

@@ -15,10 +15,9 @@ mod posting;
 mod posts;
 mod reclaiming;
 mod searching;
-mod squeezes;
-mod squeezing;
 mod walking;
 
+pub use bl_compress::{Compress, CompressReply, CompressStage};
 pub use bl_ways::{
     Action, Answer, Hint, Level, Posted, Process, Reader, Reclaimed, Seen, Squeezed,
 };
@@ -29,7 +28,6 @@ pub use parts::{Part, PartRows, PartStage};
 pub use posting::{Post, PostReply, PostStage};
 pub use reclaiming::{Reclaim, ReclaimStage, Round};
 pub use searching::{Find, FindStage};
-pub use squeezing::{Compress, CompressReply, CompressStage};
 pub use walking::Walk;
 
 #[cfg(test)]

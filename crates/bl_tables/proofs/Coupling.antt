@@ -18,10 +18,10 @@ use Rattle.bl_puts.specs.Puts.{Owes}
 use Rattle.bl_puts.specs.Compressions.{Couples}
 use Rattle.bl_puts.proofs.Compressions.{PutsJoin-keeps, PutsLeftGain-keeps, PutsRightGain-keeps}
 use Rattle.bl_rearrange.specs.declared.sides.Side.TheVariants as side
-use Rattle.bl_ways.specs.declared.compressing.Trio.{Trio}
-use Rattle.bl_ways.specs.declared.compressing.Fate.{Fate}
-use Rattle.bl_ways.specs.declared.compressing.Puts.{Puts}
-use Rattle.bl_ways.specs.declared.compressing.Compression.TheVariants.{PuttingFirst, PuttingParent, Retiring, OpeningLeft}
+use Rattle.bl_compress.specs.declared.compressing.Trio.{Trio}
+use Rattle.bl_compress.specs.declared.compressing.Fate.{Fate}
+use Rattle.bl_compress.specs.declared.compressing.Puts.{Puts}
+use Rattle.bl_compress.specs.declared.compressing.Compression.TheVariants.{PuttingFirst, PuttingParent, Retiring, OpeningLeft}
 use Rattle.bl_tables.specs.Turns.{Does, Turned}
 use Rattle.bl_tables.specs.Compressing.{left_now, right_now, AreThree, IsToPut, ToMerge, ToEvenLeft, ToEvenRight, know_compression}
 use Rattle.bl_tables.proofs.Acts.{of_held, not_gone}

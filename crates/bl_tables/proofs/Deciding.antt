@@ -17,10 +17,10 @@ use Rattle.bl_trails.specs.Trails.{Mark}
 use Rattle.bl_steps.specs.Worlds.{Know, World, nodes, tree_of, IsSure, IsGood}
 use Rattle.bl_descents.proofs.Descents.{not_released}
 use Rattle.bl_puts.proofs.Neighbours.{meets}
-use Rattle.bl_ways.specs.declared.compressing.Trio.{Trio}
-use Rattle.bl_ways.specs.declared.compressing.Family.{Family}
-use Rattle.bl_ways.specs.declared.compressing.Puts.{Puts}
-use Rattle.bl_ways.specs.declared.compressing.Compression.TheVariants.{LatchedRight, PuttingFirst}
+use Rattle.bl_compress.specs.declared.compressing.Trio.{Trio}
+use Rattle.bl_compress.specs.declared.compressing.Family.{Family}
+use Rattle.bl_compress.specs.declared.compressing.Puts.{Puts}
+use Rattle.bl_compress.specs.declared.compressing.Compression.TheVariants.{LatchedRight, PuttingFirst}
 use Rattle.bl_tables.specs.Turns.{Does, Turned}
 use Rattle.bl_tables.specs.Compressing.{AreThree, IsToPut, ToMerge, ToEvenLeft, ToEvenRight, know_compression}
 use Rattle.bl_tables.proofs.Acts.{watched}

@@ -22,22 +22,22 @@ use Rattle.bl_ways.specs.declared.onwards.Onward.TheVariants.{Here}
 use Rattle.bl_ways.specs.declared.approaching.Approach.{Approach}
 use Rattle.bl_ways.specs.declared.approaching.Approach.TheVariants as way
 use Rattle.bl_ways.specs.declared.approaching.Approached.TheVariants as came
-use Rattle.bl_ways.specs.declared.compressing.Trio.{Trio}
-use Rattle.bl_ways.specs.declared.compressing.Family.{Family}
-use Rattle.bl_ways.specs.declared.compressing.Puts.{Puts}
-use Rattle.bl_ways.specs.declared.compressing.Fate.{Fate}
-use Rattle.bl_ways.specs.declared.compressing.Fate.TheVariants as fate
-use Rattle.bl_ways.specs.declared.compressing.Compression.{Compression}
-use Rattle.bl_ways.specs.declared.compressing.Compression.TheVariants.{LatchingLeft, LatchedLeft, LatchingRight, LatchedRight, PuttingFirst, PuttingParent, PuttingLast, Retiring, OpeningRight, OpeningLeft, OpeningParent}
-use Rattle.bl_ways.specs.declared.compressing.Compressed.TheVariants as step
+use Rattle.bl_compress.specs.declared.compressing.Trio.{Trio}
+use Rattle.bl_compress.specs.declared.compressing.Family.{Family}
+use Rattle.bl_compress.specs.declared.compressing.Puts.{Puts}
+use Rattle.bl_compress.specs.declared.compressing.Fate.{Fate}
+use Rattle.bl_compress.specs.declared.compressing.Fate.TheVariants as fate
+use Rattle.bl_compress.specs.declared.compressing.Compression.{Compression}
+use Rattle.bl_compress.specs.declared.compressing.Compression.TheVariants.{LatchingLeft, LatchedLeft, LatchingRight, LatchedRight, PuttingFirst, PuttingParent, PuttingLast, Retiring, OpeningRight, OpeningLeft, OpeningParent}
+use Rattle.bl_compress.specs.declared.compressing.Compressed.TheVariants as step
 use Rattle.bl_ways.specs.Onwards.{Leads}
 use Rattle.bl_ways.specs.Approaches.{approach_next, Approaches}
-use Rattle.bl_ways.specs.Compressions.{put_of, other, after_puts, AreSiblings, Merges, Evens, Links, Decides, compression_next, Compresses}
-use Rattle.bl_proc.specs.declared.squeezing.CompressReply.{CompressReply}
-use Rattle.bl_proc.specs.declared.squeezing.CompressReply.TheVariants as reply
-use Rattle.bl_proc.specs.declared.squeezing.CompressStage.{CompressStage}
-use Rattle.bl_proc.specs.declared.squeezing.CompressStage.TheVariants as compress
-use Rattle.bl_proc.specs.Compresses.{compress_reply, compress_next_in, CompressStarts, CompressArrives, CompressNears, CompressComes, CompressGoes}
+use Rattle.bl_compress.specs.Compressions.{put_of, other, after_puts, AreSiblings, Merges, Evens, Links, Decides, compression_next, Compresses}
+use Rattle.bl_compress.specs.declared.squeezing.CompressReply.{CompressReply}
+use Rattle.bl_compress.specs.declared.squeezing.CompressReply.TheVariants as reply
+use Rattle.bl_compress.specs.declared.squeezing.CompressStage.{CompressStage}
+use Rattle.bl_compress.specs.declared.squeezing.CompressStage.TheVariants as compress
+use Rattle.bl_compress.specs.Compresses.{compress_reply, compress_next_in, CompressStarts, CompressArrives, CompressNears, CompressComes, CompressGoes}
 use Rattle.bl_tables.specs.Turns.{event_of}
 use Rattle.bl_tables.specs.Squeezed.{acts_in, acts_of, Since, AtFamily, AtLeft, AtBoth, to_left, to_right, put_act, to_first, to_second, to_last, to_end, Once, IsToSqueeze, HasMissed}
 use Rattle.bl_tables.specs.Logs.{way_log, fate_log, squeeze_log, pressed_log, compress_log}

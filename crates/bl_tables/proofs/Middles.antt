@@ -6,6 +6,7 @@ use Rattle.std.proofs.lemmas.List.Elements.{Contains-push, Contains-push_cases, 
 use Rattle.bl_model.specs.declared.operation.Reply.{Reply}
 use Rattle.bl_page.specs.declared.page.Page.{Page}
 use Rattle.bl_page.specs.Machine.{Name, Act}
+use Rattle.bl_page.specs.Machine.Phase.{Running}
 use Rattle.bl_page.specs.Machine.Act.{Begin, End, Get, Put, Take, Latch, Retire, Look, Release, Miss}
 use Rattle.bl_tree.specs.Trees.Status.{Right}
 use Rattle.bl_laws.specs.Pages.{node_of}
@@ -16,17 +17,17 @@ use Rattle.bl_trails.specs.Moments.{Puts as PutsPage, After, IsLatch, IsMiddleBy
 use Rattle.bl_steps.specs.Worlds.{Middle, Know, World, nodes, HasMiddle, IsSure, IsGood}
 use Rattle.bl_starts.specs.Told.{TellsMiddles}
 use Rattle.bl_ways.specs.declared.approaching.Approach.TheVariants as way
-use Rattle.bl_ways.specs.declared.compressing.Puts.{Puts}
-use Rattle.bl_ways.specs.declared.compressing.Compression.TheVariants.{LatchingLeft, LatchedLeft, LatchingRight, LatchedRight, PuttingFirst, PuttingParent, PuttingLast, Retiring, OpeningRight, OpeningLeft, OpeningParent}
-use Rattle.bl_proc.specs.declared.squeezing.Compress.{Compress}
-use Rattle.bl_proc.specs.declared.squeezing.CompressStage.{CompressStage}
-use Rattle.bl_proc.specs.declared.squeezing.CompressStage.TheVariants as compress
+use Rattle.bl_compress.specs.declared.compressing.Puts.{Puts}
+use Rattle.bl_compress.specs.declared.compressing.Compression.TheVariants.{LatchingLeft, LatchedLeft, LatchingRight, LatchedRight, PuttingFirst, PuttingParent, PuttingLast, Retiring, OpeningRight, OpeningLeft, OpeningParent}
+use Rattle.bl_compress.specs.declared.squeezing.Compress.{Compress}
+use Rattle.bl_compress.specs.declared.squeezing.CompressStage.{CompressStage}
+use Rattle.bl_compress.specs.declared.squeezing.CompressStage.TheVariants as compress
 use Rattle.bl_proc.specs.declared.kinds.Proc.{Proc}
 use Rattle.bl_proc.specs.declared.kinds.Proc.TheVariants as proc
 use Rattle.bl_tables.specs.Compressing.{AreThree, IsToPut, left_now, right_now, know_squeeze}
 use Rattle.bl_tables.specs.Squeezed.{acts_in, acts_of, Since, put_act, to_first, to_second, IsToSqueeze}
 use Rattle.bl_tables.specs.Logs.{proc_log, compress_log}
-use Rattle.bl_tables.specs.Knowing.{Run, know_of, know_compress, know}
+use Rattle.bl_tables.specs.Knowing.{Run, know_of, know_compress, bare}
 use Rattle.bl_tables.proofs.Plain.{of_middle}
 
 -- all but a miss is done
@@ -177,8 +178,12 @@ abbrev part_of : (Middle → ℕ) → Option Middle → ℕ
 part_of f None = 0
 part_of f (Some m) = f m
 
-module _ (w : World Run) (g : IsGood know w) (x y : ℕ) (at : w.status y ≡ Right x) where
-  m : HasMiddle know w x y
+-- each process that runs has done what its state tells
+abbrev pub KeepsLogs : World Run → Type 0
+KeepsLogs w = (p : Name) (since : ℕ) → w.now.phase p ≡ Running since → proc_log (w.proc p).state (marks_of p w.trail)
+
+module _ (w : World Run) (g : IsGood bare w) (logs : KeepsLogs w) (x y : ℕ) (at : w.status y ≡ Right x) where
+  m : HasMiddle bare w x y
   m = g.middles x y at
 
   abbrev whole : Middle
@@ -188,12 +193,12 @@ module _ (w : World Run) (g : IsGood know w) (x y : ℕ) (at : w.status y ≡ Ri
   same_since : (level key : ℕ) (u : Puts) (tail : List (Act Page Reply)) {marks : Trail} (s : IsToSqueeze level key marks u (Get u.at.parent ∷ Latch u.at.left ∷ Get u.at.left ∷ Latch u.at.right ∷ Get u.at.right ∷ put_act u.gains u ∷ tail)) → Since marks s.family.at.parent (Get u.at.parent ∷ Latch u.at.left ∷ Get u.at.left ∷ Latch u.at.right ∷ Get u.at.right ∷ put_act u.gains u ∷ tail)
   same_since level key u tail s = s.both.left.family.since
 
-  by_stage : (level key : ℕ) (got : ℕ → Page) (stage : CompressStage) → (know_compress level key got stage).middle ≡ Some whole → IsSure w m.by (record (know_compress level key got stage) { log = compress_log level key stage }) → InMiddle w.now w.trail x y × (((nodes w.now y).shape.low ≡ w.sep y) ⊎ InEvening w.now w.trail y)
-  by_stage level key got (compress.Compressing (PuttingParent u)) e sure =
+  by_stage : (level key : ℕ) (got : ℕ → Page) (stage : CompressStage) → (know_compress level key got stage).middle ≡ Some whole → ((since : ℕ) → w.now.phase m.by ≡ Running since → compress_log level key stage (marks_of m.by w.trail)) → IsSure w m.by (know_compress level key got stage) → InMiddle w.now w.trail x y × (((nodes w.now y).shape.low ≡ w.sep y) ⊎ InEvening w.now w.trail y)
+  by_stage level key got (compress.Compressing (PuttingParent u)) e log sure =
       let left : u.at.left ≡ x = ap (part_of (λ z. z.left)) e in
       let right : u.at.right ≡ y = ap (part_of (λ z. z.right)) e in
       let three : AreThree u.at = sure.sound.1 in
-      let by : IsMiddleBy (marks_of m.by w.trail) u.at.left u.at.right = in_middle u three [] (λ a c. absurd (omega (arith, c.1))) (marks_of m.by w.trail) _ (same_since level key u [] sure.log) in
+      let by : IsMiddleBy (marks_of m.by w.trail) u.at.left u.at.right = in_middle u three [] (λ a c. absurd (omega (arith, c.1))) (marks_of m.by w.trail) _ (same_since level key u [] (log sure.stage.0 sure.stage.1)) in
       let middle : InMiddle w.now w.trail x y = subst (λ (z : ℕ × ℕ). InMiddle w.now w.trail z.0 z.1) (λ i. (left i, right i)) (record { holder = m.by; held = sure.holds.1.0.owner; held_right = sure.holds.1.1.0.owner; by = by }) in
       let right_page = sure.holds.1.1.0.page in
       let sep = sure.holds.1.1.0.sep in (
@@ -206,11 +211,11 @@ module _ (w : World Run) (g : IsGood know w) (x y : ℕ) (at : w.status y ≡ Ri
           ]
         ],
       )
-  by_stage level key got (compress.Compressing (PuttingLast u)) e sure =
+  by_stage level key got (compress.Compressing (PuttingLast u)) e log sure =
       let left : u.at.left ≡ x = ap (part_of (λ z. z.left)) e in
       let right : u.at.right ≡ y = ap (part_of (λ z. z.right)) e in
       let three : AreThree u.at = sure.sound.1 in
-      let by : IsMiddleBy (marks_of m.by w.trail) u.at.left u.at.right = in_middle u three (Put u.at.parent u.parent ∷ []) (λ a c. (u.parent, one_of (Put u.at.parent u.parent) a c)) (marks_of m.by w.trail) _ (same_since level key u (Put u.at.parent u.parent ∷ []) sure.log) in
+      let by : IsMiddleBy (marks_of m.by w.trail) u.at.left u.at.right = in_middle u three (Put u.at.parent u.parent ∷ []) (λ a c. (u.parent, one_of (Put u.at.parent u.parent) a c)) (marks_of m.by w.trail) _ (same_since level key u (Put u.at.parent u.parent ∷ []) (log sure.stage.0 sure.stage.1)) in
       let middle : InMiddle w.now w.trail x y = subst (λ (z : ℕ × ℕ). InMiddle w.now w.trail z.0 z.1) (λ i. (left i, right i)) (record { holder = m.by; held = sure.holds.1.0.owner; held_right = sure.holds.1.1.0.owner; by = by }) in
       let right_page = sure.holds.1.1.0.page in
       let sep = sure.holds.1.1.0.sep in (
@@ -226,35 +231,36 @@ module _ (w : World Run) (g : IsGood know w) (x y : ℕ) (at : w.status y ≡ Ri
     where
       one_of : (a b : Act Page Reply) → Contains (a ∷ []) b → b ≡ a
       one_of a b c = elim (cons_cases a [] b c) [ inl e ↦ sym e | inr n ↦ absurd (omega (arith, n.1)) ]
-  by_stage level key got (compress.Compressing (PuttingFirst u)) e sure = absurd (let f = e in cc)
-  by_stage level key got compress.New e sure = absurd (let f = e in cc)
-  by_stage level key got (compress.Staying z) e sure = absurd (let f = e in cc)
-  by_stage level key got (compress.Ending r) e sure = absurd (let f = e in cc)
-  by_stage level key got (compress.Over r) e sure = absurd (let f = e in cc)
-  by_stage level key got (compress.Coming way.Start) e sure = absurd (let f = e in cc)
-  by_stage level key got (compress.Coming (way.At z)) e sure = absurd (let f = e in cc)
-  by_stage level key got (compress.Coming (way.Latching z)) e sure = absurd (let f = e in cc)
-  by_stage level key got (compress.Coming (way.Latched z)) e sure = absurd (let f = e in cc)
-  by_stage level key got (compress.Coming (way.Leaving z None)) e sure = absurd (let f = e in cc)
-  by_stage level key got (compress.Coming (way.Leaving z (Some v))) e sure = absurd (let f = e in cc)
-  by_stage level key got (compress.Compressing (LatchingLeft f)) e sure = absurd (let f = e in cc)
-  by_stage level key got (compress.Compressing (LatchedLeft f)) e sure = absurd (let f = e in cc)
-  by_stage level key got (compress.Compressing (LatchingRight f c)) e sure = absurd (let f = e in cc)
-  by_stage level key got (compress.Compressing (LatchedRight f c)) e sure = absurd (let f = e in cc)
-  by_stage level key got (compress.Compressing (Retiring t f)) e sure = absurd (let f = e in cc)
-  by_stage level key got (compress.Compressing (OpeningRight t f)) e sure = absurd (let f = e in cc)
-  by_stage level key got (compress.Compressing (OpeningLeft t f)) e sure = absurd (let f = e in cc)
-  by_stage level key got (compress.Compressing (OpeningParent z f)) e sure = absurd (let f = e in cc)
+  by_stage level key got (compress.Compressing (PuttingFirst u)) e log sure = absurd (let f = e in cc)
+  by_stage level key got compress.New e log sure = absurd (let f = e in cc)
+  by_stage level key got (compress.Staying z) e log sure = absurd (let f = e in cc)
+  by_stage level key got (compress.Ending r) e log sure = absurd (let f = e in cc)
+  by_stage level key got (compress.Over r) e log sure = absurd (let f = e in cc)
+  by_stage level key got (compress.Coming way.Start) e log sure = absurd (let f = e in cc)
+  by_stage level key got (compress.Coming (way.At z)) e log sure = absurd (let f = e in cc)
+  by_stage level key got (compress.Coming (way.Latching z)) e log sure = absurd (let f = e in cc)
+  by_stage level key got (compress.Coming (way.Latched z)) e log sure = absurd (let f = e in cc)
+  by_stage level key got (compress.Coming (way.Leaving z None)) e log sure = absurd (let f = e in cc)
+  by_stage level key got (compress.Coming (way.Leaving z (Some v))) e log sure = absurd (let f = e in cc)
+  by_stage level key got (compress.Compressing (LatchingLeft f)) e log sure = absurd (let f = e in cc)
+  by_stage level key got (compress.Compressing (LatchedLeft f)) e log sure = absurd (let f = e in cc)
+  by_stage level key got (compress.Compressing (LatchingRight f c)) e log sure = absurd (let f = e in cc)
+  by_stage level key got (compress.Compressing (LatchedRight f c)) e log sure = absurd (let f = e in cc)
+  by_stage level key got (compress.Compressing (Retiring t f)) e log sure = absurd (let f = e in cc)
+  by_stage level key got (compress.Compressing (OpeningRight t f)) e log sure = absurd (let f = e in cc)
+  by_stage level key got (compress.Compressing (OpeningLeft t f)) e log sure = absurd (let f = e in cc)
+  by_stage level key got (compress.Compressing (OpeningParent z f)) e log sure = absurd (let f = e in cc)
 
   tells : InMiddle w.now w.trail x y × (((nodes w.now y).shape.low ≡ w.sep y) ⊎ InEvening w.now w.trail y)
   tells =
       let r = w.proc m.by in
       elim (of_middle r.got r.child r.time r.state) [
-        | inl none ↦ absurd (let i = m.is in let n : (know (w.proc m.by)).middle ≡ None = none in cc)
+        | inl none ↦ absurd (let i = m.is in let n : (bare (w.proc m.by)).middle ≡ None = none in cc)
         | inr a ↦ by_stage a.0.level a.0.key r.got a.0.stage
             (subst (λ s. (know_of r.got r.child r.time s).middle ≡ Some whole) a.1 m.is)
-            (subst (λ s. IsSure w m.by (record (know_of r.got r.child r.time s) { log = proc_log s })) a.1 (g.sure m.by))
+            (λ since runs. subst (λ s. proc_log s (marks_of m.by w.trail)) a.1 (logs m.by since runs))
+            (subst (λ s. IsSure w m.by (know_of r.got r.child r.time s)) a.1 (g.sure m.by))
       ]
 
-pub tells_middles : (w : World Run) → IsGood know w → TellsMiddles w
-tells_middles w g = record { middle = λ x y e. (tells w g x y e).0; evening = λ x y e. (tells w g x y e).1 }
+pub tells_middles : (w : World Run) → IsGood bare w → KeepsLogs w → TellsMiddles w
+tells_middles w g logs = record { middle = λ x y e. (tells w g logs x y e).0; evening = λ x y e. (tells w g logs x y e).1 }

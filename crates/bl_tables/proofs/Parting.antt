@@ -14,10 +14,10 @@ use Rattle.bl_steps.specs.Worlds.{Hold, Know, World, nodes, IsHeld, IsSure, IsGo
 use Rattle.bl_steps.proofs.After.{after, Extends-after, put_at}
 use Rattle.bl_puts.specs.Compressions.{Parts}
 use Rattle.bl_puts.proofs.Partings.{PutsRightLoss-keeps, PutsLeftLoss-keeps, PutsDead-keeps}
-use Rattle.bl_ways.specs.Compressions.{IsBuried}
-use Rattle.bl_ways.specs.declared.compressing.Fate.{Fate}
-use Rattle.bl_ways.specs.declared.compressing.Puts.{Puts}
-use Rattle.bl_ways.specs.declared.compressing.Compression.TheVariants.{PuttingLast, Retiring, OpeningRight}
+use Rattle.bl_compress.specs.Compressions.{IsBuried}
+use Rattle.bl_compress.specs.declared.compressing.Fate.{Fate}
+use Rattle.bl_compress.specs.declared.compressing.Puts.{Puts}
+use Rattle.bl_compress.specs.declared.compressing.Compression.TheVariants.{PuttingLast, Retiring, OpeningRight}
 use Rattle.bl_tables.specs.Turns.{Does, Turned}
 use Rattle.bl_tables.specs.Tables.{holds_live}
 use Rattle.bl_tables.specs.Compressing.{left_now, right_now, AreThree, IsToPut, ToMerge, ToEvenLeft, ToEvenRight, know_compression}

@@ -7,13 +7,13 @@ use Rattle.bl_ways.specs.declared.answers.Answer.{Answer}
 use Rattle.bl_ways.specs.declared.answers.Answer.TheVariants as answer
 use Rattle.bl_ways.specs.declared.answers.Hint.{Hint}
 use Rattle.bl_ways.specs.declared.answers.Squeezed.{Squeezed}
-use Rattle.bl_proc.specs.declared.squeezing.Compress.{Compress}
-use Rattle.bl_proc.specs.declared.squeezing.CompressReply.{CompressReply}
-use Rattle.bl_proc.specs.declared.squeezing.CompressReply.TheVariants as reply
-use Rattle.bl_proc.specs.declared.squeezing.CompressStage.{CompressStage}
-use Rattle.bl_proc.specs.declared.squeezing.CompressStage.TheVariants as compress
+use Rattle.bl_compress.specs.declared.squeezing.Compress.{Compress}
+use Rattle.bl_compress.specs.declared.squeezing.CompressReply.{CompressReply}
+use Rattle.bl_compress.specs.declared.squeezing.CompressReply.TheVariants as reply
+use Rattle.bl_compress.specs.declared.squeezing.CompressStage.{CompressStage}
+use Rattle.bl_compress.specs.declared.squeezing.CompressStage.TheVariants as compress
 use Rattle.bl_proc.specs.declared.kinds.Proc.TheVariants as proc
-use Rattle.bl_proc.specs.Compresses.{compressed_answer, compress_answer_in}
+use Rattle.bl_compress.specs.Compresses.{compressed_answer, compress_answer_in}
 use Rattle.bl_tables.specs.Squeezed.{MeansSqueezed}
 use Rattle.bl_tables.specs.Logs.{pressed_log, compress_log, proc_log}
 use Rattle.bl_tables.specs.Knowing.{Run, know}

@@ -21,19 +21,19 @@ use Rattle.bl_ways.specs.declared.onwards.Onward.TheVariants.{Here}
 use Rattle.bl_ways.specs.declared.approaching.Approach.{Approach}
 use Rattle.bl_ways.specs.declared.approaching.Approach.TheVariants as way
 use Rattle.bl_ways.specs.declared.approaching.Approached.TheVariants as came
-use Rattle.bl_ways.specs.declared.compressing.Family.{Family}
-use Rattle.bl_ways.specs.declared.compressing.Fate.{Fate}
-use Rattle.bl_ways.specs.declared.compressing.Compression.{Compression}
-use Rattle.bl_ways.specs.declared.compressing.Compression.TheVariants.{LatchingLeft, LatchedLeft, LatchingRight, LatchedRight, PuttingFirst, PuttingParent, PuttingLast, Retiring, OpeningRight, OpeningLeft, OpeningParent}
-use Rattle.bl_ways.specs.declared.compressing.Compressed.TheVariants as step
+use Rattle.bl_compress.specs.declared.compressing.Family.{Family}
+use Rattle.bl_compress.specs.declared.compressing.Fate.{Fate}
+use Rattle.bl_compress.specs.declared.compressing.Compression.{Compression}
+use Rattle.bl_compress.specs.declared.compressing.Compression.TheVariants.{LatchingLeft, LatchedLeft, LatchingRight, LatchedRight, PuttingFirst, PuttingParent, PuttingLast, Retiring, OpeningRight, OpeningLeft, OpeningParent}
+use Rattle.bl_compress.specs.declared.compressing.Compressed.TheVariants as step
 use Rattle.bl_ways.specs.Onwards.{Leads}
 use Rattle.bl_ways.specs.Approaches.{approach_next, Approaches}
-use Rattle.bl_ways.specs.Compressions.{right_place, AreSiblings, compression_next, Compresses}
-use Rattle.bl_ways.proofs.Places.{listed_at}
-use Rattle.bl_proc.specs.declared.squeezing.CompressStage.{CompressStage}
-use Rattle.bl_proc.specs.declared.squeezing.CompressStage.TheVariants as compress
-use Rattle.bl_proc.specs.declared.squeezing.CompressReply.TheVariants as reply
-use Rattle.bl_proc.specs.Compresses.{compress_next_in, CompressStarts, CompressArrives, CompressNears, CompressComes, CompressGoes}
+use Rattle.bl_compress.specs.Compressions.{right_place, AreSiblings, compression_next, Compresses}
+use Rattle.bl_compress.proofs.Places.{listed_at}
+use Rattle.bl_compress.specs.declared.squeezing.CompressStage.{CompressStage}
+use Rattle.bl_compress.specs.declared.squeezing.CompressStage.TheVariants as compress
+use Rattle.bl_compress.specs.declared.squeezing.CompressReply.TheVariants as reply
+use Rattle.bl_compress.specs.Compresses.{compress_next_in, CompressStarts, CompressArrives, CompressNears, CompressComes, CompressGoes}
 use Rattle.bl_tables.specs.Turns.{event_of, IsTold, Does, Turned}
 use Rattle.bl_tables.specs.Tables.{idle, holds_live, goes_to, know_approach}
 use Rattle.bl_tables.specs.Compressing.{know_squeeze}

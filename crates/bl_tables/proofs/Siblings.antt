@@ -17,10 +17,10 @@ use Rattle.bl_tree.specs.Moves.{IsJoin, IsRow, IsRelisted, IsLeftGain, IsRightLo
 use Rattle.bl_laws.specs.Pages.{node_of}
 use Rattle.bl_puts.proofs.Fitted.{look_of, frame_shape, end_is, fits_row, without_row}
 use Rattle.bl_puts.proofs.Neighbours.{meets, cover_of, merged_join, now_low, shares, evened_left, evened_right}
-use Rattle.bl_ways.specs.declared.compressing.Family.{Family}
-use Rattle.bl_ways.specs.declared.compressing.Puts.{Puts}
-use Rattle.bl_ways.specs.Compressions.{IsBuried, Merges, MayEven, Evens, Relists, IsFew, merge_hint}
-use Rattle.bl_ways.specs.declared.compressing.Trio.{Trio}
+use Rattle.bl_compress.specs.declared.compressing.Family.{Family}
+use Rattle.bl_compress.specs.declared.compressing.Puts.{Puts}
+use Rattle.bl_compress.specs.Compressions.{IsBuried, Merges, MayEven, Evens, Relists, IsFew, merge_hint}
+use Rattle.bl_compress.specs.declared.compressing.Trio.{Trio}
 use Rattle.bl_tables.specs.Compressing.{ToMerge, ToEvenLeft, ToEvenRight}
 use Rattle.bl_tables.proofs.Holdings.{covered_in}
 

@@ -13,15 +13,15 @@ use Rattle.bl_puts.proofs.Neighbours.{meets}
 use Rattle.bl_steps.specs.Worlds.{Know, World, IsSure, IsGood}
 use Rattle.bl_ways.specs.declared.acts.Seen.{Seen}
 use Rattle.bl_ways.specs.declared.acts.Seen.TheVariants as seen
-use Rattle.bl_ways.specs.declared.compressing.Trio.{Trio}
-use Rattle.bl_ways.specs.declared.compressing.Family.{Family}
-use Rattle.bl_ways.specs.declared.compressing.Puts.{Puts}
-use Rattle.bl_ways.specs.declared.compressing.Fate.{Fate}
-use Rattle.bl_ways.specs.declared.compressing.Fate.TheVariants as fate
-use Rattle.bl_ways.specs.declared.compressing.Compression.{Compression}
-use Rattle.bl_ways.specs.declared.compressing.Compression.TheVariants.{LatchingLeft, LatchedLeft, LatchingRight, LatchedRight, PuttingFirst, PuttingParent, PuttingLast, Retiring, OpeningRight, OpeningLeft, OpeningParent}
-use Rattle.bl_ways.specs.declared.compressing.Compressed.TheVariants as step
-use Rattle.bl_ways.specs.Compressions.{put_of, other, after_puts, compression_next, IsBuried, Merges, Evens, Links, Decides, Compresses}
+use Rattle.bl_compress.specs.declared.compressing.Trio.{Trio}
+use Rattle.bl_compress.specs.declared.compressing.Family.{Family}
+use Rattle.bl_compress.specs.declared.compressing.Puts.{Puts}
+use Rattle.bl_compress.specs.declared.compressing.Fate.{Fate}
+use Rattle.bl_compress.specs.declared.compressing.Fate.TheVariants as fate
+use Rattle.bl_compress.specs.declared.compressing.Compression.{Compression}
+use Rattle.bl_compress.specs.declared.compressing.Compression.TheVariants.{LatchingLeft, LatchedLeft, LatchingRight, LatchedRight, PuttingFirst, PuttingParent, PuttingLast, Retiring, OpeningRight, OpeningLeft, OpeningParent}
+use Rattle.bl_compress.specs.declared.compressing.Compressed.TheVariants as step
+use Rattle.bl_compress.specs.Compressions.{put_of, other, after_puts, compression_next, IsBuried, Merges, Evens, Links, Decides, Compresses}
 use Rattle.bl_tables.specs.Turns.{event_of, IsTold, Does, Turned}
 use Rattle.bl_tables.specs.Compressing.{AreThree, ToMerge, ToEvenLeft, ToEvenRight, got_three, know_compression, know_squeeze, compression_got}
 use Rattle.bl_tables.proofs.Compressing as on

@@ -13,12 +13,15 @@ use Rattle.bl_starts.proofs.WorldLaws.{laws}
 use Rattle.bl_tables.specs.Logs.{proc_log}
 use Rattle.bl_tables.specs.Knowing.{Run, bare, know}
 use Rattle.bl_tables.proofs.Plain.{plain}
-use Rattle.bl_tables.proofs.Middles.{tells_middles}
+use Rattle.bl_tables.proofs.Middles.{KeepsLogs, tells_middles}
 use Rattle.bl_tables.proofs.Logged.{bare_good, full_good, bare_blank, early_log}
 
 -- The laws of the tree hold in every good world of these processes.
+pub bare_laws : (w : World Run) → IsGood bare w → KeepsLogs w → HasLaws w.now w.trail (w.map 0)
+bare_laws w g logs = laws bare w (tells_middles w g logs) g
+
 pub run_laws : (w : World Run) → IsGood know w → HasLaws w.now w.trail (w.map 0)
-run_laws w g = laws know w (tells_middles w g) g
+run_laws w g = bare_laws w (bare_good w g) (λ p since runs. (g.sure p).log)
 
 -- the same world with another process at one name
 abbrev pub with_proc : World Run → Name → Run → World Run

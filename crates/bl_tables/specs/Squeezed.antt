@@ -15,12 +15,12 @@ use Rattle.bl_page.specs.declared.page.Inner.{Inner as InnerPage}
 use Rattle.bl_ways.specs.declared.answers.Hint.{Hint}
 use Rattle.bl_ways.specs.declared.answers.Squeezed.{Squeezed}
 use Rattle.bl_ways.specs.declared.answers.Squeezed.TheVariants as squeezed
-use Rattle.bl_ways.specs.declared.compressing.Trio.{Trio}
-use Rattle.bl_ways.specs.declared.compressing.Family.{Family}
-use Rattle.bl_ways.specs.declared.compressing.Puts.{Puts}
-use Rattle.bl_ways.specs.declared.compressing.Fate.TheVariants as fate
-use Rattle.bl_ways.specs.declared.compressing.Compression.TheVariants.{PuttingFirst, OpeningRight, OpeningLeft}
-use Rattle.bl_ways.specs.Compressions.{AreSiblings, Links, Decides, other}
+use Rattle.bl_compress.specs.declared.compressing.Trio.{Trio}
+use Rattle.bl_compress.specs.declared.compressing.Family.{Family}
+use Rattle.bl_compress.specs.declared.compressing.Puts.{Puts}
+use Rattle.bl_compress.specs.declared.compressing.Fate.TheVariants as fate
+use Rattle.bl_compress.specs.declared.compressing.Compression.TheVariants.{PuttingFirst, OpeningRight, OpeningLeft}
+use Rattle.bl_compress.specs.Compressions.{AreSiblings, Links, Decides, other}
 
 -- what was done, in its order; what was missed is left out
 abbrev pub acts_in : Act Page Reply → List (Act Page Reply)

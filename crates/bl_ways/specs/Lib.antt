@@ -6,4 +6,3 @@ pub mod Changes
 pub mod Growths
 pub mod Hints
 pub mod Thin
-pub mod Compressions

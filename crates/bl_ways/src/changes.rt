@@ -1,6 +1,6 @@
 //! The steps of a change.
 
-ghost use Rattle.std.specs.Prelude.{◌≡◌, ◌≤◌, None, length};
+ghost use Rattle.std.specs.Prelude.{◌≡◌, ◌≤◌, None};
 ghost use Rattle.bl_model.specs.Rows.{map_of};
 ghost use Rattle.bl_page.specs.Pages.{Covers};
 ghost use Rattle.bl_page.specs.Pairs.{IsChild};
@@ -13,19 +13,9 @@ ghost use Rattle.bl_ways.specs.Changes.{change_next, change_needs, EntersPair, D
 
 use crate::acts::{Action, Seen};
 use crate::changing::{Change, Changed, Full, Outcome, Parting};
+use crate::reading::count_of;
 use bl_page::Page;
 use bl_rearrange::{Fitted, with_pair, without};
-
-/// How many pairs the page has.
-pub(crate) fn count_of(page: &Page) -> usize
-    ensures { result ≡ length (pairs_of page.now) }
-{
-    match page {
-        Page::Leaf(leaf) => leaf.rows.len(),
-        Page::Inner(inner) => inner.children.len(),
-        Page::Anchor(_) | Page::Dead(_) => 0,
-    }
-}
 
 /// A pair is to enter the page.
 pub fn entering(at: u32, page: Page, key: u64, word: u64) -> Change

@@ -1,7 +1,8 @@
 //! What processes read of a page.
 
-ghost use Rattle.std.specs.Prelude.{◌≡◌};
+ghost use Rattle.std.specs.Prelude.{◌≡◌, length};
 ghost use Rattle.bl_laws.specs.Pages.{node_of, roots_of};
+ghost use Rattle.bl_rearrange.specs.Rearranged.{pairs_of};
 ghost use Rattle.bl_ways.specs.Onwards.{top_of};
 
 use bl_page::{Page, listed_with};
@@ -24,6 +25,17 @@ pub fn listed(page: &Page, key: u64) -> Option<u64>
         Page::Leaf(leaf) => leaf.row_of(key),
         Page::Inner(inner) => listed_with(inner.children.as_slice(), key),
         Page::Anchor(_) | Page::Dead(_) => None,
+    }
+}
+
+/// How many pairs the page has.
+pub fn count_of(page: &Page) -> usize
+    ensures { result ≡ length (pairs_of page.now) }
+{
+    match page {
+        Page::Leaf(leaf) => leaf.rows.len(),
+        Page::Inner(inner) => inner.children.len(),
+        Page::Anchor(_) | Page::Dead(_) => 0,
     }
 }
 

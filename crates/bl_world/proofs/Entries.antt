@@ -28,11 +28,11 @@ use Rattle.bl_proc.specs.declared.deleting.DeleteReply.TheVariants as deleted
 use Rattle.bl_proc.specs.declared.posting.PostStage.{PostStage}
 use Rattle.bl_proc.specs.declared.posting.PostStage.TheVariants as post
 use Rattle.bl_proc.specs.declared.posting.PostReply.TheVariants as listed
-use Rattle.bl_ways.specs.declared.compressing.Compression.{Compression}
-use Rattle.bl_ways.specs.declared.compressing.Compression.TheVariants.{LatchingLeft, LatchedLeft, LatchingRight, LatchedRight, PuttingFirst, PuttingParent, PuttingLast, Retiring, OpeningRight, OpeningLeft, OpeningParent}
-use Rattle.bl_proc.specs.declared.squeezing.CompressReply.TheVariants as pressed
-use Rattle.bl_proc.specs.declared.squeezing.CompressStage.{CompressStage}
-use Rattle.bl_proc.specs.declared.squeezing.CompressStage.TheVariants as compress
+use Rattle.bl_compress.specs.declared.compressing.Compression.{Compression}
+use Rattle.bl_compress.specs.declared.compressing.Compression.TheVariants.{LatchingLeft, LatchedLeft, LatchingRight, LatchedRight, PuttingFirst, PuttingParent, PuttingLast, Retiring, OpeningRight, OpeningLeft, OpeningParent}
+use Rattle.bl_compress.specs.declared.squeezing.CompressReply.TheVariants as pressed
+use Rattle.bl_compress.specs.declared.squeezing.CompressStage.{CompressStage}
+use Rattle.bl_compress.specs.declared.squeezing.CompressStage.TheVariants as compress
 use Rattle.bl_proc.specs.declared.reclaiming.ReclaimStage.{ReclaimStage}
 use Rattle.bl_proc.specs.declared.reclaiming.ReclaimStage.TheVariants as reclaim
 use Rattle.bl_proc.specs.declared.kinds.Proc.{Proc}
@@ -43,7 +43,7 @@ use Rattle.bl_proc.specs.Parts.{part_answer_in}
 use Rattle.bl_proc.specs.Inserts.{insert_answer_in}
 use Rattle.bl_proc.specs.Deletes.{delete_answer_in}
 use Rattle.bl_proc.specs.Posts.{post_answer_in}
-use Rattle.bl_proc.specs.Compresses.{compress_answer_in}
+use Rattle.bl_compress.specs.Compresses.{compress_answer_in}
 use Rattle.bl_proc.specs.Reclaims.{reclaim_answer_in}
 use Rattle.bl_tables.specs.Tables.{Aim, know_approach, know_change}
 use Rattle.bl_tables.specs.Compressing.{know_squeeze}

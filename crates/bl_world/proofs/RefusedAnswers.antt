@@ -15,9 +15,9 @@ use Rattle.bl_proc.specs.declared.deleting.DeleteReply.TheVariants as deleted
 use Rattle.bl_proc.specs.declared.posting.PostStage.{PostStage}
 use Rattle.bl_proc.specs.declared.posting.PostStage.TheVariants as post
 use Rattle.bl_proc.specs.declared.posting.PostReply.TheVariants as listed
-use Rattle.bl_proc.specs.declared.squeezing.CompressReply.TheVariants as pressed
-use Rattle.bl_proc.specs.declared.squeezing.CompressStage.{CompressStage}
-use Rattle.bl_proc.specs.declared.squeezing.CompressStage.TheVariants as compress
+use Rattle.bl_compress.specs.declared.squeezing.CompressReply.TheVariants as pressed
+use Rattle.bl_compress.specs.declared.squeezing.CompressStage.{CompressStage}
+use Rattle.bl_compress.specs.declared.squeezing.CompressStage.TheVariants as compress
 use Rattle.bl_proc.specs.declared.reclaiming.ReclaimStage.{ReclaimStage}
 use Rattle.bl_proc.specs.declared.reclaiming.ReclaimStage.TheVariants as reclaim
 use Rattle.bl_proc.specs.declared.kinds.Proc.{Proc}
@@ -28,7 +28,7 @@ use Rattle.bl_proc.specs.Parts.{part_answer_in}
 use Rattle.bl_proc.specs.Inserts.{insert_next_in, insert_answer_in}
 use Rattle.bl_proc.specs.Deletes.{delete_next_in, delete_answer_in}
 use Rattle.bl_proc.specs.Posts.{post_next_in, post_answer_in}
-use Rattle.bl_proc.specs.Compresses.{compress_next_in, compress_answer_in}
+use Rattle.bl_compress.specs.Compresses.{compress_next_in, compress_answer_in}
 use Rattle.bl_proc.specs.Reclaims.{reclaim_answer_in}
 use Rattle.bl_world.specs.Deeds.{IsNoRoom}
 use Rattle.bl_world.proofs.Begins.{change_begins, growth_begins, squeeze_begins}

@@ -5,20 +5,20 @@ use Rattle.bl_ways.specs.declared.acts.Seen.{Seen}
 use Rattle.bl_ways.specs.declared.acts.Seen.TheVariants as seen
 use Rattle.bl_ways.specs.declared.approaching.Approach.{Approach}
 use Rattle.bl_ways.specs.declared.approaching.Approach.TheVariants as way
-use Rattle.bl_ways.specs.declared.compressing.Trio.{Trio}
-use Rattle.bl_ways.specs.declared.compressing.Family.{Family}
-use Rattle.bl_ways.specs.declared.compressing.Fate.{Fate}
-use Rattle.bl_ways.specs.declared.compressing.Fate.TheVariants as fate
-use Rattle.bl_ways.specs.declared.compressing.Compression.{Compression}
-use Rattle.bl_ways.specs.declared.compressing.Compression.TheVariants.{LatchingLeft, LatchedLeft, LatchingRight, LatchedRight, PuttingFirst, PuttingParent, PuttingLast, Retiring, OpeningRight, OpeningLeft, OpeningParent}
-use Rattle.bl_ways.specs.declared.compressing.Compressed.{Compressed}
-use Rattle.bl_ways.specs.declared.compressing.Compressed.TheVariants as step
-use Rattle.bl_ways.specs.Compressions.{Links, Decides, after_puts, Compresses}
-use Rattle.bl_proc.specs.declared.squeezing.CompressReply.{CompressReply}
-use Rattle.bl_proc.specs.declared.squeezing.CompressReply.TheVariants as pressed
-use Rattle.bl_proc.specs.declared.squeezing.CompressStage.{CompressStage}
-use Rattle.bl_proc.specs.declared.squeezing.CompressStage.TheVariants as compress
-use Rattle.bl_proc.specs.Compresses.{compress_reply, CompressStarts, CompressArrives, CompressNears, CompressComes, CompressGoes}
+use Rattle.bl_compress.specs.declared.compressing.Trio.{Trio}
+use Rattle.bl_compress.specs.declared.compressing.Family.{Family}
+use Rattle.bl_compress.specs.declared.compressing.Fate.{Fate}
+use Rattle.bl_compress.specs.declared.compressing.Fate.TheVariants as fate
+use Rattle.bl_compress.specs.declared.compressing.Compression.{Compression}
+use Rattle.bl_compress.specs.declared.compressing.Compression.TheVariants.{LatchingLeft, LatchedLeft, LatchingRight, LatchedRight, PuttingFirst, PuttingParent, PuttingLast, Retiring, OpeningRight, OpeningLeft, OpeningParent}
+use Rattle.bl_compress.specs.declared.compressing.Compressed.{Compressed}
+use Rattle.bl_compress.specs.declared.compressing.Compressed.TheVariants as step
+use Rattle.bl_compress.specs.Compressions.{Links, Decides, after_puts, Compresses}
+use Rattle.bl_compress.specs.declared.squeezing.CompressReply.{CompressReply}
+use Rattle.bl_compress.specs.declared.squeezing.CompressReply.TheVariants as pressed
+use Rattle.bl_compress.specs.declared.squeezing.CompressStage.{CompressStage}
+use Rattle.bl_compress.specs.declared.squeezing.CompressStage.TheVariants as compress
+use Rattle.bl_compress.specs.Compresses.{compress_reply, CompressStarts, CompressArrives, CompressNears, CompressComes, CompressGoes}
 
 -- It goes on without room. Puts with such a fate count too, though none are ever decided.
 abbrev pub FateRefused : Fate → Type 0

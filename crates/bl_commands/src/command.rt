@@ -1,0 +1,97 @@
+//! The command line.
+
+ghost use Rattle.std.specs.Prelude.{◌≡◌, ◌≤◌, ℕ, Some, None, IfOk};
+ghost use Rattle.bl_commands.specs.Limits.{IsWithinLimits};
+
+use crate::check::check_command;
+use crate::replay::replay_command;
+use clap::{Arg, Command, Error, value_parser};
+use std::alloc::Global;
+
+/// The options of `serve`.
+#[derive(Clone, Copy, Debug, PartialEq, Eq)]
+pub struct ServeOptions {
+    /// Pages of the index, 4 to 65,536.
+    pub pages: u32,
+    /// Threads that serve. One, so far.
+    pub workers: u32,
+    /// Threads that compress. None, so far.
+    pub compressors: u32,
+}
+
+/// What the command line asks for.
+#[derive(Debug, PartialEq, Eq, Drop)]
+pub enum Invocation {
+    /// `blink serve`.
+    Serve(ServeOptions),
+    /// `blink check` of this file.
+    Check(String),
+    /// `blink replay` of this file.
+    Replay(String),
+    /// No command.
+    Nothing,
+}
+
+/// The value of an option, within its limits. clap has refused a value outside them; this keeps the limits also where its
+/// answer is not known to the proof.
+fn held(value: Option<u32>, default: u32, least: u32, most: u32) -> u32
+    requires { least ≤ most }
+    ensures within { (least ≤ result) × (result ≤ most) }
+    ensures kept { (v : ℕ) → value ≡ Some v → least ≤ v → v ≤ most → result ≡ v }
+    ensures absent { value ≡ None → least ≤ default → default ≤ most → result ≡ default }
+{
+    value.unwrap_or(default).clamp(least, most)
+}
+
+/// Reads the words of the command line, of which the first is the program's name. What clap refuses, or asks to be
+/// printed, is its error.
+pub fn read_words(alloc: Global, words: &[String]) -> Result<Invocation, Error>
+    ensures { IfOk result IsWithinLimits }
+{
+    let pages = Arg::new(alloc, "pages")
+        .long("pages")
+        .value_name("N")
+        .help("Pages of the index, 4 to 65536")
+        .value_parser(value_parser!(u32).range(4..=65536))
+        .default_value("1024");
+    let workers = Arg::new(alloc, "workers")
+        .long("workers")
+        .value_name("N")
+        .help("Threads that serve: 1 so far")
+        .value_parser(value_parser!(u32).range(1..=1))
+        .default_value("1");
+    let compressors = Arg::new(alloc, "compressors")
+        .long("compressors")
+        .value_name("N")
+        .help("Threads that compress: 0 so far")
+        .value_parser(value_parser!(u32).range(0..=0))
+        .default_value("0");
+    let serve = Command::new(alloc, "serve")
+        .about("Answers request lines from standard input")
+        .arg(pages)?
+        .arg(workers)?
+        .arg(compressors)?;
+    let blink = Command::new(alloc, "blink")
+        .about("A concurrent ordered index from u64 keys to u64 values, proved")
+        .subcommand_required(true)
+        .subcommand(serve)?
+        .subcommand(check_command(alloc)?)?
+        .subcommand(replay_command(alloc)?)?;
+    let matches = blink.try_get_matches_from(words)?;
+    match matches.subcommand() {
+        Some(("serve", found)) => Ok(Invocation::Serve(ServeOptions {
+            pages: held(found.get_one::<u32>("pages"), 1024, 4, 65536),
+            workers: held(found.get_one::<u32>("workers"), 1, 1, 1),
+            compressors: held(found.get_one::<u32>("compressors"), 0, 0, 0),
+        })),
+        Some(("check", found)) => match found.get_str("FILE") {
+            Some(file) => Ok(Invocation::Check(String::from_str(alloc, file)?)),
+            None => Ok(Invocation::Nothing),
+        },
+        Some(("replay", found)) => match found.get_str("FILE") {
+            Some(file) => Ok(Invocation::Replay(String::from_str(alloc, file)?)),
+            None => Ok(Invocation::Nothing),
+        },
+        _ => Ok(Invocation::Nothing),
+    }
+}

@@ -1,0 +1,16 @@
+use Rattle.std.proofs.Common.{◌≡◌, None, Some, sym, ◌∙◌, inl, inr}
+use Rattle.bl_compress.proofs.Looks.{look_is}
+use Rattle.bl_compress.proofs.compressions.relisted.Goals as goal
+
+pub returns-in-Some : goal.returns-in-Some
+returns-in-Some c = inr (
+  c.without-page.result,
+  c.without-page.ensures,
+  λ none.
+      let listed : c.listed.result ≡ None = c.listed.ensures ∙ look_is c.without-page.result c.args.new ∙ none in
+      let both : None ≡ Some _ = sym listed ∙ c.in-Some.is in
+      absurd (let z = both in cc),
+)
+
+pub returns : goal.returns
+returns c = (c.without-page.result, c.without-page.ensures, c.in-Fits.ensures)

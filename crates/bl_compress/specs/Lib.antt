@@ -1,0 +1,2 @@
+pub mod Compressions
+pub mod Compresses
