@@ -119,7 +119,7 @@ impl Tally {
         one_more(count);
     }
 
-    /// How many answers there were of the kind of which there were the fewest.
+    /// How many answers there were of the kind of which there were the fewest, beside compressions and releases.
     pub fn least(&self) -> u32 {
         let operations = self
             .found
@@ -130,14 +130,21 @@ impl Tally {
             .min(self.parts)
             .min(self.without_room);
         let posts = self.done.min(self.already).min(self.stale);
-        let compressions = self.merged.min(self.evened).min(self.enough);
-        let others = self.alone.min(self.unlisted).min(self.uncompressed);
+        operations.min(posts)
+    }
+
+    /// The same of compressions and releases, by their answers and by the way to them.
+    pub fn least_of_compressions(&self) -> u32 {
+        let done = self.merged.min(self.to_the_left).min(self.to_the_right);
+        let others = self.enough.min(self.alone).min(self.unlisted);
         let pages = self.released.min(self.kept).min(self.read);
-        operations
-            .min(posts)
-            .min(compressions)
-            .min(others)
+        done.min(others)
+            .min(self.uncompressed)
             .min(pages)
+            .min(self.missed)
+            .min(self.taken_again)
+            .min(self.dead_pages_got)
+            .min(self.waits)
     }
 
     pub fn hinted(&mut self, answer: &Answer, hint: &Hint) {
