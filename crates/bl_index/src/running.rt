@@ -17,6 +17,7 @@ ghost use Rattle.bl_index.specs.Runs.{IsOn, IsSince, IsWithin, Moves};
 
 use crate::index::Index;
 use crate::kinds::Kind;
+use crate::shown::Shown;
 use bl_passes::{Began, Ended, GaveUp, Got, Launch, Mine};
 use bl_proc::Seen;
 use bl_store::Hand;
@@ -53,14 +54,8 @@ impl Index {
         process.took(Seen::Done);
     }
 
-    /// The process gets the page, its words into the buffer.
-    pub(crate) fn read<P: Kind>(
-        &self,
-        hand: &mut Hand<Mine>,
-        process: &mut P,
-        page: u32,
-        words: &mut [u64; 32],
-    )
+    /// The process gets the page, and reads the words that it needs.
+    pub(crate) fn read<P: Kind>(&self, hand: &mut Hand<Mine>, process: &mut P, page: u32)
         requires own { IsOf self.now.store.table.shared.table_id self.now.store.layout hand.old.seat }
         requires running { IsRunning hand.old.seat }
         requires process { IsOn self.now.store.layout (known hand.old.seat) (P.proc_of process.old) }
@@ -70,8 +65,16 @@ impl Index {
         ensures moves { Moves (known hand.old.seat) (known hand.new.seat) }
         ensures takes { (c : PageIs) × P.Takes process.old (seen.Words c) process.new }
     {
-        self.store.get_into::<Got>(hand, page, words);
-        process.took_words(words);
+        match self.store.look::<Got>(hand, page) {
+            Some(sight) => {
+                let shown = Shown {
+                    store: &self.store,
+                    sight,
+                };
+                process.took_words(&shown, hand);
+            }
+            None => unreachable!(),
+        }
     }
 
     /// The process ends.
