@@ -65,11 +65,11 @@ impl Index {
         ensures moves { Moves (known hand.old.seat) (known hand.new.seat) }
         ensures takes { (c : PageIs) × P.Takes process.old (seen.Words c) process.new }
     {
-        match self.store.look::<Got>(hand, page) {
-            Some(sight) => {
+        match self.store.glance::<Got>(hand, page) {
+            Some(glance) => {
                 let shown = Shown {
                     store: &self.store,
-                    sight,
+                    glance,
                 };
                 process.took_words(&shown, hand);
             }

@@ -9,7 +9,7 @@ use Rattle.bl_store.specs.Told.{draft}
 use Rattle.bl_store.specs.declared.stock.Stock.{Stock}
 use Rattle.bl_store.specs.declared.stock.NoRoom.{NoRoom}
 use Rattle.bl_store.specs.declared.stock.NoRoom.TheVariants.{Pages, Frames, Clock}
-use Rattle.bl_store.specs.declared.store.Sight.{Sight}
+use Rattle.bl_store.specs.declared.store.Glance.{Glance}
 use Rattle.bl_store.specs.declared.view.Draft.{Draft}
 use Rattle.bl_store.specs.declared.view.Reading.{Reading}
 use Rattle.bl_store.specs.declared.view.Reading.TheVariants.{Nowhere, At}
@@ -72,13 +72,13 @@ module _ {D : Type 0} where
   read_words h = words_in h.me.0.reading
 
   -- the hand looked there last
-  abbrev pub ReadsFrom : Seat (Unit {0}) (View D) → Sight → Type 0
-  ReadsFrom h sight = BeginsAt h.me.0.layout sight.first h.me.0.reading
+  abbrev pub ReadsFrom : Seat (Unit {0}) (View D) → Glance → Type 0
+  ReadsFrom h glance = BeginsAt h.me.0.layout glance.first h.me.0.reading
 
   -- what a look at a page with these words gives
-  abbrev pub HasSeen : Option Sight → Seat (Unit {0}) (View D) → List ℕ → Type 0
+  abbrev pub HasSeen : Option Glance → Seat (Unit {0}) (View D) → List ℕ → Type 0
   HasSeen None h words = words ≡ replicate 32 0
-  HasSeen (Some sight) h words = ReadsFrom h sight × (words ≡ read_words h)
+  HasSeen (Some glance) h words = ReadsFrom h glance × (words ≡ read_words h)
 
   -- the hand has nothing reserved
   abbrev pub HasNoStock : Seat (Unit {0}) (View D) → Type 0

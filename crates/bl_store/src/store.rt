@@ -28,7 +28,7 @@ pub struct Hand<D> {
 
 /// Where the words of a page stand, which a hand has looked at.
 #[derive(Clone, Copy)]
-pub struct Sight {
+pub struct Glance {
     // The number of the first of them in the table.
     pub(crate) first: usize,
 }
@@ -92,7 +92,7 @@ impl<D, R: PageRule<D>, A: Allocator> Store<D, R, A> {
     /// Looks at a page, whose words are from now on those that it had at this one event, until the hand's next look.
     /// There is nothing to see of a page that was never put: its words are zeros.
     #[inline(always)]
-    pub fn look<M: PagePlay<D>>(&self, hand: &mut Hand<D>, page: u32) -> Option<Sight>
+    pub fn glance<M: PagePlay<D>>(&self, hand: &mut Hand<D>, page: u32) -> Option<Glance>
         requires own { IsOf self.now.table.shared.table_id self.now.layout hand.old.seat }
         requires running { IsRunning hand.old.seat }
         requires page { page < self.now.layout.pages }
@@ -108,22 +108,22 @@ impl<D, R: PageRule<D>, A: Allocator> Store<D, R, A> {
             None
         } else {
             let first = self.layout.frame_word((found - 1) as u32, 0);
-            Some(Sight { first })
+            Some(Glance { first })
         }
     }
 
     /// The word at a place of the page that the hand looked at last.
     #[inline(always)]
-    pub fn word(&self, hand: &mut Hand<D>, sight: Sight, place: usize) -> u64
+    pub fn word(&self, hand: &mut Hand<D>, glance: Glance, place: usize) -> u64
         requires own { IsOf self.now.table.shared.table_id self.now.layout hand.old.seat }
-        requires reads { ReadsFrom hand.old.seat sight }
+        requires reads { ReadsFrom hand.old.seat glance }
         requires place { place < 32 }
         ensures same { hand.new ≡ hand.old }
         ensures word { result ≡ slice_index (read_words hand.old.seat) place }
     {
         self.table
             .shared
-            .load::<Copy>(&mut hand.seat, sight.first + place)
+            .load::<Copy>(&mut hand.seat, glance.first + place)
     }
 
     /// The words of a page, which are those that it had at one event. A page that was never put has zeros.

@@ -7,8 +7,8 @@ use Rattle.bl_store.specs.Hands.{known}
 use Rattle.bl_passes.proofs.Pages.{gets_page}
 use Rattle.bl_index.proofs.index.Index.read.Goals as goal
 
-pub look-requires-clause-rule : goal.look-requires-clause-rule
-look-requires-clause-rule g c =
+pub glance-requires-clause-rule : goal.glance-requires-clause-rule
+glance-requires-clause-rule g c =
     let laws = g.met.P.Kind in
     gets_page _ _ (known c.args.hand.now.seat) c.requires.process.runs _ (ap next_of c.requires.process.state ∙ (laws.acts c.args.process.now ∙ c.requires.next.1))
     (λ p. subst (λ (z : Proc). GoesOn z (seen.Words p)) (sym c.requires.process.state) (laws.courses c.args.process.now (seen.Words p) c.requires.next.0 (rw c.requires.next.1 tt)))

@@ -7,7 +7,7 @@ use Rattle.bl_store.specs.Hands.{words_in}
 use Rattle.bl_store.specs.declared.view.Reading.TheVariants.{At}
 use Rattle.bl_store.proofs.Time.{looks}
 use Rattle.bl_store.proofs.Living.{live_hand}
-use Rattle.bl_store.proofs.store.Store.look.Goals as goal
+use Rattle.bl_store.proofs.store.Store.glance.Goals as goal
 
 pub load-found-requires : goal.load-found-requires
 load-found-requires g c = let st = c.args.self.now in let wide = st.wide in let own = c.args.hand.now.own in let passes = ap (λ (z : Layout). z.passes) st.key in let pages = ap (λ (z : Layout). z.pages) st.key in (
