@@ -25,6 +25,7 @@ use std::marker::Brand;
 
 impl Index {
     // Begins the process, which the first bound names beside its pass.
+    #[inline(always)]
     fn launch<J: Launch, P: Kind>(&self, hand: &mut Hand<Mine>, process: &P)
         requires own { IsOf self.now.store.table.shared.table_id self.now.store.layout hand.old.seat }
         requires idle { IsIdle hand.old.seat }
@@ -40,6 +41,7 @@ impl Index {
     }
 
     /// Begins the process.
+    #[inline(always)]
     pub(crate) fn begin<P: Kind>(&self, hand: &mut Hand<Mine>, process: &mut P)
         requires own { IsOf self.now.store.table.shared.table_id self.now.store.layout hand.old.seat }
         requires idle { IsIdle hand.old.seat }
@@ -55,6 +57,7 @@ impl Index {
     }
 
     /// The process gets the page, and reads the words that it needs.
+    #[inline(always)]
     pub(crate) fn read<P: Kind>(&self, hand: &mut Hand<Mine>, process: &mut P, page: u32)
         requires own { IsOf self.now.store.table.shared.table_id self.now.store.layout hand.old.seat }
         requires running { IsRunning hand.old.seat }
@@ -78,6 +81,7 @@ impl Index {
     }
 
     /// The process ends.
+    #[inline(always)]
     pub(crate) fn finish<P: Kind>(&self, hand: &mut Hand<Mine>, process: &mut P)
         requires own { IsOf self.now.store.table.shared.table_id self.now.store.layout hand.old.seat }
         requires running { IsRunning hand.old.seat }
@@ -95,6 +99,7 @@ impl Index {
     }
 
     /// A process that has said nothing and holds nothing ends at once.
+    #[inline(always)]
     pub(crate) fn give_up(&self, hand: &mut Hand<Mine>)
         requires own { IsOf self.now.store.table.shared.table_id self.now.store.layout hand.old.seat }
         requires running { IsRunning hand.old.seat }

@@ -115,6 +115,25 @@ abbrev pub count_to : ℕ → ℕ → List ℕ → ℕ
 count_to key zero words = 0
 count_to key (suc i) words = count_to key i words + (if nat_lt key (get_or words (4 + 2 * i) 0) then 0 else 1)
 
+-- whether a word is at or below the key, as a number
+abbrev pub counted : ℕ → ℕ → ℕ
+counted key word = if nat_lt key word then 0 else 1
+
+pub counted-one : (key word : ℕ) → word ≤ key → counted key word ≡ 1
+counted-one key word reached = let e : nat_lt key word ≡ false = grind (arith, reached) in grind (arith, e)
+
+pub counted-none : (key word : ℕ) → key < word → counted key word ≡ 0
+counted-none key word above = let e : nat_lt key word ≡ true = grind (arith, above) in grind (arith, e)
+
+-- two keys more
+pub count-two : (key i : ℕ) (words : List ℕ) → count_to key (2 * (i + 1)) words ≡ count_to key (2 * i) words + counted key (get_or words (4 + 4 * i) 0) + counted key (get_or words (6 + 4 * i) 0)
+count-two key i words =
+    let two : 2 * (i + 1) ≡ suc (suc (2 * i)) = omega arith in
+    let first : 4 + 2 * (2 * i) ≡ 4 + 4 * i = omega arith in
+    let second : 4 + 2 * suc (2 * i) ≡ 6 + 4 * i = omega arith in
+    ap (λ n. count_to key n words) two ∙ ap (λ j. count_to key (2 * i) words + counted key (get_or words j 0) + counted key (get_or words (4 + 2 * suc (2 * i)) 0)) first
+    ∙ ap (λ j. count_to key (2 * i) words + counted key (get_or words (4 + 4 * i) 0) + counted key (get_or words j 0)) second
+
 -- among the pairs these are all up to the place of the key
 pub count-pairs : (key i : ℕ) (words : List ℕ) → length words ≡ 32 → HasPairs words → i ≤ count_in words
     → (i ≤ place key (pairs_of words) → count_to key i words ≡ i) × (place key (pairs_of words) ≤ i → count_to key i words ≡ place key (pairs_of words))

@@ -66,6 +66,7 @@ fn went_on_in<W: WordSource>(source: &W, hand: &mut W::Hand, key: u64, at: u32) 
     }
 }
 
+#[inline(always)]
 fn went(key: u64, stage: FindStage, seen: &Seen) -> FindStage
     requires running { find_answer_in stage ≡ None }
     requires given { Gives (find_next_in stage) None seen.now }
@@ -123,6 +124,7 @@ impl Process for Find {
         }
     }
 
+    #[inline(always)]
     fn took(&mut self, seen: Seen) {
         self.stage = went(self.key, self.stage, &seen);
     }
