@@ -65,8 +65,8 @@ MayRelease v n x = (k : ℕ) × HasSeen v.events (n + 1) x k (length v.events) �
 
 -- What the process at place n does by its next action. The event is the one that the action names. Only a latch or a
 -- release can be missed: where the page is not open, or is not retired as the process has seen it, the event is a miss,
--- which the process is told. A look tells whether that other process blocks what the process has seen retired. A page is
--- retired by the event at that place.
+-- which the process is told. A look tells whether that other process blocks what the process has seen retired. What it retires
+-- is retired since this event.
 abbrev pub Carries : View → ℕ → Proc → Action → View → Type 0
 Carries v n p act.Begin v' = Stays v v' × Tells v n p shown.Begin seen.Done v'
 Carries v n p act.End v' = Stays v v' × Tells v n p shown.End seen.Done v'
