@@ -4,7 +4,7 @@ use Rattle.std.specs.Io.KnownBytes.{Appends}
 use Rattle.bl_model.specs.Stream.{StartsOut}
 use Rattle.bl_script.specs.declared.command.Command.{Command}
 use Rattle.bl_script.specs.Scripts.{IsScript, IsBadAt}
-use Rattle.bl_replay.specs.Plays.{few, PlaysOut, PlaysInto}
+use Rattle.bl_replay.specs.Plays.{all_kinds, PlaysOut, PlaysInto}
 use Rattle.bl_commands.specs.declared.fault.CommandFault.{CommandFault}
 use Rattle.bl_commands.specs.declared.fault.CommandFault.TheVariants.{Read, Write, Memory, Script}
 
@@ -12,7 +12,7 @@ use Rattle.bl_commands.specs.declared.fault.CommandFault.TheVariants.{Read, Writ
 pub record Replays (bytes : List ℕ) (at_end : Type 0) (old new : Option (List ℕ)) : Type 0 where
   pub pages : ℕ
   pub commands : List Command
-  pub script : IsScript few pages commands bytes
+  pub script : IsScript all_kinds pages commands bytes
   pub whole : at_end
   pub text : List ℕ
   pub played : PlaysOut pages commands text
@@ -22,7 +22,7 @@ pub record Replays (bytes : List ℕ) (at_end : Type 0) (old new : Option (List 
 pub record BreaksInto (bytes : List ℕ) (at_end : Type 0) (old new : Option (List ℕ)) : Type 0 where
   pub pages : ℕ
   pub commands : List Command
-  pub script : IsScript few pages commands bytes
+  pub script : IsScript all_kinds pages commands bytes
   pub whole : at_end
   pub text : List ℕ
   pub played : PlaysInto pages commands text
@@ -34,4 +34,4 @@ abbrev pub StopsReplay : CommandFault → List ℕ → Type 0 → Type 0 → Typ
 StopsReplay Read bytes at_end reader_failed writer_failed old new = reader_failed × (new ≡ old)
 StopsReplay Write bytes at_end reader_failed writer_failed old new = writer_failed × BreaksInto bytes at_end old new
 StopsReplay Memory bytes at_end reader_failed writer_failed old new = (new ≡ old) ⊎ BreaksInto bytes at_end old new
-StopsReplay (Script line) bytes at_end reader_failed writer_failed old new = IsBadAt few bytes at_end line × (new ≡ old)
+StopsReplay (Script line) bytes at_end reader_failed writer_failed old new = IsBadAt all_kinds bytes at_end line × (new ≡ old)

@@ -8,6 +8,8 @@ mod check;
 #[cfg(test)]
 mod check_tests;
 mod command;
+#[cfg(test)]
+mod compressions_tests;
 mod fault;
 mod replay;
 #[cfg(test)]

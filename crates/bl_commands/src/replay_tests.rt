@@ -73,7 +73,7 @@ fn words_and_numbers_that_are_bad(rt: HostRuntime) -> Result<(), Fail> {
         b"find 5\r\n",
     ];
     assert!(rt; are_bad(&rt, &words)?);
-    let numbers: [&[u8]; 9] = [
+    let numbers: [&[u8]; 10] = [
         b"find\n",
         b"find 05\n",
         b"find -5\n",
@@ -82,6 +82,7 @@ fn words_and_numbers_that_are_bad(rt: HostRuntime) -> Result<(), Fail> {
         b"delete 5 50\n",
         b"part\n",
         b"post 1\n",
+        b"compress 1\n",
         b"run 1\n",
     ];
     assert!(rt; are_bad(&rt, &numbers)?);
@@ -97,10 +98,13 @@ fn words_and_numbers_that_are_bad(rt: HostRuntime) -> Result<(), Fail> {
 
 #[test]
 fn levels_processes_and_pages_that_are_bad(rt: HostRuntime) -> Result<(), Fail> {
-    let lines: [&[u8]; 14] = [
+    let lines: [&[u8]; 17] = [
         b"post 0 5\n",
         b"post 13 5\n",
         b"post 4294967297 5\n",
+        b"compress 0 5\n",
+        b"compress 13 5\n",
+        b"compress 4294967297 5\n",
         b"turn 0\n",
         b"turn 2\n",
         b"turn 4294967297\n",
@@ -114,9 +118,6 @@ fn levels_processes_and_pages_that_are_bad(rt: HostRuntime) -> Result<(), Fail> 
         b"run 1 18446744073709551616\n",
     ];
     assert!(rt; are_bad(&rt, &lines)?);
-    // processes that no world has yet
-    let kinds: [&[u8]; 1] = [b"compress 1 5\n"];
-    assert!(rt; are_bad(&rt, &kinds)?);
     // before any process
     assert!(rt; is_bad_at(&rt, b"pages 4\nturn 1\nfind 5\n", 2));
     // the first bad line is named

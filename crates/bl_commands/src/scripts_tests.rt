@@ -6,7 +6,7 @@ use std::alloc::Global;
 use std::test::Fail;
 
 /// The script prints this, and no more.
-fn prints(alloc: Global, script: &str, wanted: &str) -> bool {
+pub fn prints(alloc: Global, script: &str, wanted: &str) -> bool {
     let mut writer = Watched::new(Vec::new(alloc));
     let result = replay_script(alloc, &mut Watched::new(script.as_bytes()), &mut writer);
     result == Ok(()) && writer.into_inner().as_slice() == wanted.as_bytes()
@@ -307,7 +307,8 @@ const DELETION_BELOW: [&str; 9] = [
     "answer deleted",
 ];
 
-/// The lines of a script that delete the keys 9 to 15, one after the other, and what they print. They empty page 2.
+/// The lines of a script that delete the keys 9 to 15, one after the other, and what they print. They empty page 2, which
+/// has six rows after the first, and is thin from then on.
 fn emptied(alloc: Global) -> Result<(String, String), Fail> {
     let mut lines = String::new(alloc);
     let mut wanted = String::new(alloc);
@@ -322,7 +323,7 @@ fn emptied(alloc: Global) -> Result<(String, String), Fail> {
             wanted.push_str(line.as_str())?;
             end = "\n";
         }
-        let line = format!(in alloc; " {value}\n")?;
+        let line = format!(in alloc; " {value} thin 1 9\n")?;
         wanted.push_str(line.as_str())?;
     }
     Ok((lines, wanted))

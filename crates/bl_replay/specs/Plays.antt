@@ -1,5 +1,5 @@
 -- What a script prints: the text of its commands, one after the other, on what stands in a world.
-use Rattle.std.specs.Prelude.{◌≡◌, ◌⊎◌, ℕ, ◌+◌, ◌≤◌, Option, Some, None, List, [], ◌∷◌, ◌++◌, true, false, slice_get}
+use Rattle.std.specs.Prelude.{◌≡◌, ◌⊎◌, ℕ, ◌+◌, ◌≤◌, Option, Some, None, List, [], ◌∷◌, ◌++◌, true, slice_get}
 use Rattle.bl_model.specs.declared.operation.Op.TheVariants as op
 use Rattle.bl_script.specs.declared.command.Start.{Start}
 use Rattle.bl_script.specs.declared.command.Start.TheVariants as start
@@ -10,7 +10,7 @@ use Rattle.bl_script.specs.Commands.{IsPageCount}
 use Rattle.bl_script.specs.Scripts.{AllStand}
 use Rattle.bl_ways.specs.declared.answers.Answer.{Answer}
 use Rattle.bl_proc.specs.declared.kinds.Proc.{Proc}
-use Rattle.bl_proc.specs.Processes.{answer_of, IsFind, IsInsert, IsDelete, IsPost, IsPart, IsReclaim}
+use Rattle.bl_proc.specs.Processes.{answer_of, IsFind, IsInsert, IsDelete, IsPost, IsPart, IsCompress, IsReclaim}
 use Rattle.bl_world.specs.declared.turns.Event.{Event}
 use Rattle.bl_world.specs.declared.turns.Turn.{Turn}
 use Rattle.bl_world.specs.declared.turns.Turn.TheVariants as turn
@@ -56,14 +56,14 @@ pub data PrintsTurns (number : ℕ) (v : View) : ℕ → List ℕ → View → T
   More : (count : ℕ) (text more : List ℕ) (mid v' : View) → PrintsTurns number v count text mid → HasAnswer mid number None → PrintsChosen mid number None more v'
       → PrintsTurns number v (count + 1) (text ++ more) v'
 
--- a process that a script starts, which has done nothing yet; no world has the kind compress yet
+-- a process that a script starts, which has done nothing yet
 abbrev pub IsStart : Start → Proc → Type 0
 IsStart (start.Operation (op.Find key)) p = IsFind key p
 IsStart (start.Operation (op.Insert key value)) p = IsInsert key value p
 IsStart (start.Operation (op.Delete key)) p = IsDelete key p
 IsStart (start.Operation (op.Part from)) p = IsPart from p
 IsStart (start.Post level key) p = IsPost level key p
-IsStart (start.Compress level key) p = ⊥
+IsStart (start.Compress level key) p = IsCompress level key p
 IsStart (start.Reclaim page) p = IsReclaim page p
 
 -- What one command does and prints. A run ends with its last turn, or when its process has answered.
@@ -93,10 +93,10 @@ PlaysOut pages commands text = (start : View) × (end : View) × IsOpening pages
 abbrev pub PlaysInto : ℕ → List Command → List ℕ → Type 0
 PlaysInto pages commands text = (text ≡ []) ⊎ ((start : View) × IsOpening pages start × BreaksOff start commands text)
 
--- all kinds but compressions
-abbrev pub few : Kinds
-few = record { part = true; compress = false; reclaim = true }
+-- the kinds of process that a script may start
+abbrev pub all_kinds : Kinds
+all_kinds = record { part = true; compress = true; reclaim = true }
 
 -- A script as it is read: each of its commands may stand where it does.
 abbrev pub MayPlay : ℕ → List Command → Type 0
-MayPlay pages commands = IsPageCount pages × AllStand few pages 0 commands
+MayPlay pages commands = IsPageCount pages × AllStand all_kinds pages 0 commands

@@ -7,6 +7,8 @@ use Rattle.bl_ways.specs.declared.answers.Hint.{Hint}
 use Rattle.bl_ways.specs.declared.answers.Hint.TheVariants as hint
 use Rattle.bl_ways.specs.declared.answers.Posted.{Posted}
 use Rattle.bl_ways.specs.declared.answers.Posted.TheVariants as posted
+use Rattle.bl_ways.specs.declared.answers.Squeezed.{Squeezed}
+use Rattle.bl_ways.specs.declared.answers.Squeezed.TheVariants as squeezed
 use Rattle.bl_ways.specs.declared.answers.Reclaimed.{Reclaimed}
 use Rattle.bl_ways.specs.declared.answers.Reclaimed.TheVariants as reclaimed
 use Rattle.bl_world.specs.declared.turns.Act.{Act}
@@ -46,6 +48,15 @@ posted_text posted.Stale = codes "stale"
 posted_text posted.NoRoom = codes "noroom"
 posted_text posted.TooTall = codes "tootall"
 
+-- what became of a compression
+abbrev pub squeezed_text : Squeezed → List ℕ
+squeezed_text squeezed.Merged = codes "merged"
+squeezed_text squeezed.Evened = codes "evened"
+squeezed_text squeezed.Enough = codes "enough"
+squeezed_text squeezed.Alone = codes "alone"
+squeezed_text squeezed.Unposted = codes "unposted"
+squeezed_text squeezed.NoRoom = codes "noroom"
+
 -- what became of a page that was to be released
 abbrev pub reclaimed_text : Reclaimed → List ℕ
 reclaimed_text reclaimed.Released = codes "released"
@@ -54,6 +65,7 @@ reclaimed_text reclaimed.Kept = codes "kept"
 abbrev pub answer_text : Answer → List ℕ
 answer_text (answer.Op reply hint) = reply_text reply ++ hint_text hint
 answer_text (answer.Post posted hint) = posted_text posted ++ hint_text hint
+answer_text (answer.Compress squeezed hint) = squeezed_text squeezed ++ hint_text hint
 answer_text (answer.Reclaim what) = reclaimed_text what
 
 -- the line of the answer of the process with that number

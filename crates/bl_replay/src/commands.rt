@@ -8,7 +8,7 @@ ghost use Rattle.bl_world.specs.Views.{View, view_of, number_in};
 ghost use Rattle.bl_world.specs.Turns.{IsStarted};
 ghost use Rattle.bl_world.specs.Deeds.{MayStart as MayBegin};
 ghost use Rattle.bl_replay.specs.declared.fault.ReplayFault.TheVariants as fault;
-ghost use Rattle.bl_replay.specs.Plays.{Prints, PrintsChosen, PrintsTurns, IsStart, Does, few};
+ghost use Rattle.bl_replay.specs.Plays.{Prints, PrintsChosen, PrintsTurns, IsStart, Does, all_kinds};
 ghost use Rattle.bl_replay.specs.Emits.{Emits, Partly};
 
 use crate::fault::ReplayFault;
@@ -22,9 +22,9 @@ use std::io::Write;
 
 /// The process that a script starts.
 fn process_of(start: Start) -> Proc
-    requires { (pages : ℕ) × MayStart few pages start }
+    requires { (pages : ℕ) × MayStart all_kinds pages start }
     ensures made { IsStart start result }
-    ensures begins { (v : View) → MayStart few (length v.pages) start → MayBegin v result }
+    ensures begins { (v : View) → MayStart all_kinds (length v.pages) start → MayBegin v result }
 {
     match start {
         Start::Operation(Op::Find(key)) => Proc::find(key),
@@ -32,14 +32,14 @@ fn process_of(start: Start) -> Proc
         Start::Operation(Op::Delete(key)) => Proc::delete(key),
         Start::Post { level, key } => Proc::post(level, key),
         Start::Operation(Op::Part(from)) => Proc::part(from),
+        Start::Compress { level, key } => Proc::compress(level, key),
         Start::Reclaim(page) => Proc::reclaim(page),
-        Start::Compress { .. } => unreachable!(),
     }
 }
 
 /// Starts a process.
 fn start(world: &mut World, start: Start) -> Result<(), ReplayFault>
-    requires { MayStart few (length world.old.lists.pages.items) start }
+    requires { MayStart all_kinds (length world.old.lists.pages.items) start }
     ensures ok { OnOk result (Does (view_of world.old.lists) (command.Start start) [] (view_of world.new.lists)) }
     ensures count { OnOk result (length world.new.lists.processes.items ≡ length world.old.lists.processes.items + 1) }
     ensures size { OnOk result (length world.new.lists.pages.items ≡ length world.old.lists.pages.items) }
@@ -133,7 +133,7 @@ pub fn play_command<W: Write>(
     pending: &mut Vec<u8>,
     writer: &mut Watched<W>,
 ) -> Result<(), ReplayFault>
-    requires { MayStand few (length world.old.lists.pages.items) (length world.old.lists.processes.items) command }
+    requires { MayStand all_kinds (length world.old.lists.pages.items) (length world.old.lists.processes.items) command }
     ensures ok { OnOk result ((text : List ℕ)
         × Does (view_of world.old.lists) command text (view_of world.new.lists)
         × Emits (W.contents writer.old.inner) (W.contents writer.new.inner) pending.old.items pending.new.items text) }

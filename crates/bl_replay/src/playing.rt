@@ -7,7 +7,7 @@ ghost use Rattle.bl_script.specs.Scripts.{AllStand};
 ghost use Rattle.bl_world.specs.Views.{view_of};
 ghost use Rattle.bl_world.specs.Accounts.{Account};
 ghost use Rattle.bl_replay.specs.declared.fault.ReplayFault.TheVariants as fault;
-ghost use Rattle.bl_replay.specs.Plays.{Plays, BreaksOff, PlaysOut, PlaysInto, MayPlay, few};
+ghost use Rattle.bl_replay.specs.Plays.{Plays, BreaksOff, PlaysOut, PlaysInto, MayPlay, all_kinds};
 ghost use Rattle.bl_replay.specs.Emits.{Emits};
 
 use crate::commands::play_command;
@@ -19,10 +19,10 @@ use bl_world::World;
 use std::alloc::Global;
 use std::io::Write;
 
-/// The kinds of process that a script may start, beside searches, insertions, deletions and posts.
+/// The kinds of process that a script may start, beside searches, insertions, deletions and posts: all.
 pub const PLAYED: Kinds = Kinds {
     part: true,
-    compress: false,
+    compress: true,
     reclaim: true,
 };
 
@@ -33,7 +33,7 @@ fn play_all<W: Write>(
     pending: &mut Vec<u8>,
     writer: &mut Watched<W>,
 ) -> Result<(), ReplayFault>
-    requires { AllStand few (length world.old.lists.pages.items) (length world.old.lists.processes.items) commands.now }
+    requires { AllStand all_kinds (length world.old.lists.pages.items) (length world.old.lists.processes.items) commands.now }
     ensures ok { OnOk result ((text : List ℕ)
         × Plays (view_of world.old.lists) commands.now text (view_of world.new.lists)
         × Emits (W.contents writer.old.inner) (W.contents writer.new.inner) pending.old.items pending.new.items text) }

@@ -1,10 +1,10 @@
 //! The printed form of events and answers.
 
 ghost use Rattle.std.specs.Prelude.{◌≡◌, ◌++◌, OnOk, Some};
-ghost use Rattle.bl_replay.specs.Texts.{act_text, event_line, hint_text, posted_text, reclaimed_text, answer_text, answer_line};
+ghost use Rattle.bl_replay.specs.Texts.{act_text, event_line, hint_text, posted_text, squeezed_text, reclaimed_text, answer_text, answer_line};
 
 use bl_lines::print::{push_number, push_reply};
-use bl_proc::{Answer, Hint, Posted, Reclaimed};
+use bl_proc::{Answer, Hint, Posted, Reclaimed, Squeezed};
 use bl_world::{Act, Event};
 use std::alloc::AllocError;
 
@@ -73,6 +73,20 @@ fn push_posted(out: &mut Vec<u8>, posted: Posted) -> Result<(), AllocError>
     }
 }
 
+/// Appends what became of a compression.
+fn push_squeezed(out: &mut Vec<u8>, squeezed: Squeezed) -> Result<(), AllocError>
+    ensures { OnOk result (out.new.items ≡ out.old.items ++ squeezed_text squeezed) }
+{
+    match squeezed {
+        Squeezed::Merged => out.extend_from_slice(b"merged"),
+        Squeezed::Evened => out.extend_from_slice(b"evened"),
+        Squeezed::Enough => out.extend_from_slice(b"enough"),
+        Squeezed::Alone => out.extend_from_slice(b"alone"),
+        Squeezed::Unposted => out.extend_from_slice(b"unposted"),
+        Squeezed::NoRoom => out.extend_from_slice(b"noroom"),
+    }
+}
+
 /// Appends what became of a page that was to be released.
 fn push_reclaimed(out: &mut Vec<u8>, what: Reclaimed) -> Result<(), AllocError>
     ensures { OnOk result (out.new.items ≡ out.old.items ++ reclaimed_text what) }
@@ -94,6 +108,10 @@ fn push_answer(out: &mut Vec<u8>, answer: &Answer) -> Result<(), AllocError>
         }
         Answer::Post(posted, hint) => {
             push_posted(out, *posted)?;
+            push_hint(out, hint)
+        }
+        Answer::Compress(squeezed, hint) => {
+            push_squeezed(out, *squeezed)?;
             push_hint(out, hint)
         }
         Answer::Reclaim(what) => push_reclaimed(out, *what),

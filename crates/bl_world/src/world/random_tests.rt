@@ -1,621 +1,20 @@
 //! Small worlds with processes of all kinds, in an order of turns that is drawn by lot. After each turn the laws of the tree
 //! are checked by plain walks over the pages, apart from all definitions and proofs.
 
-use crate::lists::Lists;
+mod running;
+mod squeezes;
+mod tally;
+mod trees;
+
 use crate::{Act, Event, Owner, Turn, World, WorldFault};
-use arrayvec::ArrayVec;
 use bl_model::{Next, Op, PlainMap, Reply};
-use bl_page::{Inner, Leaf, Page};
-use bl_proc::{Answer, Hint, Posted, Proc, Process, Reclaimed};
+use bl_page::Page;
+use bl_proc::{Answer, Posted, Proc, Process};
+use running::{Job, Running, hint_of, is_to_post};
+use squeezes::Squeeze;
 use std::alloc::Global;
-
-/// A law that is broken, in words.
-type Law = &'static str;
-
-fn holds(condition: bool, law: Law) -> Result<(), Law> {
-    if condition { Ok(()) } else { Err(law) }
-}
-
-fn add<T: Drop>(list: &mut Vec<T>, item: T) -> Result<(), Law> {
-    list.push(item).ok().ok_or("there is memory")
-}
-
-/// A page that the walk of a level has met.
-#[derive(Clone, Copy, PartialEq, Eq)]
-struct Met {
-    page: u32,
-    level: usize,
-    low: u64,
-    high: u64,
-    right: u32,
-}
-
-/// A child that an inner page lists.
-#[derive(Clone, Copy, PartialEq, Eq)]
-struct Listed {
-    level: usize,
-    key: u64,
-    child: u64,
-}
-
-/// What the walks along all levels have met.
-#[derive(Drop)]
-struct Tree {
-    levels: usize,
-    met: Vec<Met>,
-    listed: Vec<Listed>,
-    rows: Vec<(u64, u64)>,
-}
-
-fn keys_rise_within(pairs: &[(u64, u64)], low: u64, high: u64) -> Result<(), Law> {
-    let mut last = None;
-    for pair in pairs {
-        holds(Some(pair.0) > last, "the keys of a page rise")?;
-        holds(low <= pair.0, "no key is below the page")?;
-        holds(high == 0 || pair.0 < high, "no key is past the page")?;
-        last = Some(pair.0);
-    }
-    Ok(())
-}
-
-impl Tree {
-    fn meet_leaf(&mut self, level: usize, page: u32, leaf: &Leaf) -> Result<Met, Law> {
-        holds(level == 0, "a leaf is of level 0")?;
-        keys_rise_within(leaf.rows.as_slice(), leaf.low, leaf.high)?;
-        for row in leaf.rows.as_slice() {
-            add(&mut self.rows, *row)?;
-        }
-        Ok(Met {
-            page,
-            level,
-            low: leaf.low,
-            high: leaf.high,
-            right: leaf.right,
-        })
-    }
-
-    fn meet_inner(&mut self, level: usize, page: u32, inner: &Inner) -> Result<Met, Law> {
-        holds(level == inner.level as usize, "a page is of its level")?;
-        let children = inner.children.as_slice();
-        keys_rise_within(children, inner.low, inner.high)?;
-        let first = children.first().map(|child| child.0);
-        holds(
-            first == Some(inner.low),
-            "the first child begins with the page",
-        )?;
-        for child in children {
-            let listed = Listed {
-                level,
-                key: child.0,
-                child: child.1,
-            };
-            add(&mut self.listed, listed)?;
-        }
-        Ok(Met {
-            page,
-            level,
-            low: inner.low,
-            high: inner.high,
-            right: inner.right,
-        })
-    }
-
-    fn meet(&mut self, lists: &Lists, level: usize, at: u32) -> Result<Met, Law> {
-        for met in self.met.as_slice() {
-            holds(met.page != at, "no page is met twice")?;
-        }
-        let owner = lists.owners.as_slice().get(at as usize).copied();
-        holds(owner.is_some(), "a link is to a page")?;
-        holds(owner != Some(Owner::Released), "no released page is met")?;
-        let met = match lists.pages.as_slice().get(at as usize) {
-            Some(Page::Leaf(leaf)) => self.meet_leaf(level, at, leaf)?,
-            Some(Page::Inner(inner)) => self.meet_inner(level, at, inner)?,
-            _ => return Err("a level has leaves or inner pages"),
-        };
-        add(&mut self.met, met)?;
-        Ok(met)
-    }
-
-    fn walk_level(&mut self, lists: &Lists, level: usize, first: u32) -> Result<(), Law> {
-        let mut at = first;
-        let mut low = 0;
-        for _ in 0..lists.pages.len() {
-            let met = self.meet(lists, level, at)?;
-            holds(met.low == low, "a page begins where the one before it ends")?;
-            if met.high == 0 {
-                return holds(met.right == 0, "the last page has no link");
-            }
-            holds(low < met.high, "a page ends past its beginning")?;
-            at = met.right;
-            low = met.high;
-        }
-        Err("a level has an end")
-    }
-
-    /// A page of that level that begins with the key has been met.
-    fn has_low(&self, level: usize, key: u64) -> bool {
-        for met in self.met.as_slice() {
-            if met.level == level && met.low == key {
-                return true;
-            }
-        }
-        false
-    }
-
-    /// A page of that level lists the key.
-    fn lists(&self, level: usize, key: u64) -> bool {
-        for listed in self.listed.as_slice() {
-            if listed.level == level && listed.key == key {
-                return true;
-            }
-        }
-        false
-    }
-
-    /// The low of the leaf that is that page, if it has fewer than 7 rows and there are other leaves.
-    fn thin_low(&self, page: u32) -> Result<Option<u64>, Law> {
-        let mut found = None;
-        let mut leaves = 0u32;
-        for met in self.met.as_slice() {
-            if met.level == 0 {
-                one_more(&mut leaves);
-                if met.page == page {
-                    found = Some(*met);
-                }
-            }
-        }
-        let leaf = found.ok_or("rows are dropped from a leaf of the chain")?;
-        let mut rows = 0u32;
-        for row in self.rows.as_slice() {
-            if leaf.low <= row.0 && (leaf.high == 0 || row.0 < leaf.high) {
-                one_more(&mut rows);
-            }
-        }
-        if rows < 7 && leaves > 1 {
-            Ok(Some(leaf.low))
-        } else {
-            Ok(None)
-        }
-    }
-
-    /// The same pages are met with the same rows and children.
-    fn is_as(&self, other: &Tree) -> bool {
-        self.levels == other.levels
-            && self.met.as_slice() == other.met.as_slice()
-            && self.listed.as_slice() == other.listed.as_slice()
-            && self.rows.as_slice() == other.rows.as_slice()
-    }
-
-    fn has_child(&self, listed: Listed) -> bool {
-        for met in self.met.as_slice() {
-            if met.page as u64 == listed.child {
-                return met.level.wrapping_add(1) == listed.level && met.low == listed.key;
-            }
-        }
-        false
-    }
-
-    fn value_at(&self, key: u64) -> Option<u64> {
-        for row in self.rows.as_slice() {
-            if row.0 == key {
-                return Some(row.1);
-            }
-        }
-        None
-    }
-
-    /// The bound of the leaf that covers the key.
-    fn bound_at(&self, key: u64) -> u64 {
-        for met in self.met.as_slice() {
-            if met.level == 0 && met.low <= key && (met.high == 0 || key < met.high) {
-                return met.high;
-            }
-        }
-        0
-    }
-
-    /// What a part from that key may answer.
-    fn part_from(&self, from: u64) -> Reply {
-        let bound = self.bound_at(from);
-        let mut part = ArrayVec::new();
-        for row in self.rows.as_slice() {
-            if from <= row.0 && (bound == 0 || row.0 < bound) {
-                let _ = part.try_push(*row);
-            }
-        }
-        let next = if bound == 0 {
-            Next::End
-        } else {
-            Next::More(bound)
-        };
-        Reply::Rows(part, next)
-    }
-}
-
-/// The pages of all levels, walked from the anchor.
-fn walked(alloc: Global, lists: &Lists) -> Result<Tree, Law> {
-    let Some(Page::Anchor(anchor)) = lists.pages.as_slice().first() else {
-        return Err("page 0 is the anchor");
-    };
-    let mut tree = Tree {
-        levels: anchor.leftmost.as_slice().len(),
-        met: Vec::new(alloc),
-        listed: Vec::new(alloc),
-        rows: Vec::new(alloc),
-    };
-    for (level, first) in anchor.leftmost.as_slice().iter().enumerate() {
-        tree.walk_level(lists, level, *first)?;
-    }
-    for listed in tree.listed.as_slice() {
-        holds(tree.has_child(*listed), "a child is listed as it is")?;
-    }
-    keys_rise_within(tree.rows.as_slice(), 0, 0)?;
-    Ok(tree)
-}
-
-/// Where a lone descent for the key goes from a page. None where it has come to the leaf that covers the key.
-fn onwards(lists: &Lists, at: u32, key: u64) -> Result<Option<u32>, Law> {
-    match lists.pages.as_slice().get(at as usize) {
-        Some(Page::Leaf(leaf)) => {
-            holds(leaf.low <= key, "a descent comes to no leaf past its key")?;
-            if leaf.high == 0 || key < leaf.high {
-                return Ok(None);
-            }
-            Ok(Some(leaf.right))
-        }
-        Some(Page::Inner(inner)) => {
-            if inner.high != 0 && inner.high <= key {
-                return Ok(Some(inner.right));
-            }
-            let mut child = None;
-            for pair in inner.children.as_slice() {
-                if pair.0 <= key {
-                    child = u32::try_from(pair.1).ok();
-                }
-            }
-            holds(child.is_some(), "a descent comes to no page past its key")?;
-            Ok(child)
-        }
-        _ => Err("a descent goes by pages of the tree"),
-    }
-}
-
-/// A lone descent for the key comes to a leaf of the chain that covers it.
-fn descends(lists: &Lists, tree: &Tree, key: u64) -> Result<(), Law> {
-    let Some(Page::Anchor(anchor)) = lists.pages.as_slice().first() else {
-        return Err("page 0 is the anchor");
-    };
-    let mut at = anchor
-        .leftmost
-        .as_slice()
-        .last()
-        .copied()
-        .ok_or("there is a level")?;
-    for _ in 0..lists.pages.len() {
-        match onwards(lists, at, key)? {
-            Some(next) => at = next,
-            None => {
-                for met in tree.met.as_slice() {
-                    if met.page == at {
-                        return Ok(());
-                    }
-                }
-                return Err("a descent ends at a leaf of the chain");
-            }
-        }
-    }
-    Err("a descent ends")
-}
-
-/// What a process is to do.
-#[derive(Clone, Copy)]
-enum Job {
-    Find(u64),
-    Insert(u64, u64),
-    Delete(u64),
-    Post(u32, u64),
-    Part(u64),
-    Reclaim(u32),
-}
-
-/// A process that has not answered.
-#[derive(Drop)]
-struct Running {
-    number: usize,
-    job: Job,
-    begun: bool,
-    /// Something that it was about to reserve was refused.
-    refused: bool,
-    /// What it is to answer, since it has changed the tree.
-    own: Option<Answer>,
-    /// The low of the leaf that its deletion left thin.
-    thin: Option<u64>,
-    /// It is to release a page, and has seen that page: whether it was retired then.
-    saw_retired: Option<bool>,
-    /// It has released its page.
-    released: bool,
-    /// What was a right answer of an unchanged tree at some moment since it began.
-    right: Vec<Answer>,
-}
-
-/// How many answers of each kind there were, and what else was met.
-#[derive(Clone, Copy, Debug, PartialEq, Eq)]
-struct Tally {
-    found: u32,
-    absent: u32,
-    inserted: u32,
-    present: u32,
-    deleted: u32,
-    parts: u32,
-    without_room: u32,
-    done: u32,
-    already: u32,
-    stale: u32,
-    /// Posts that were refused.
-    unposted: u32,
-    /// Pages that were to be released, by what became of them.
-    released: u32,
-    kept: u32,
-    /// Deletions that left a thin leaf.
-    thin: u32,
-    /// Pages that were parted, by the level of the parent to which they are to be posted.
-    leaves_parted: u32,
-    inner_pages_parted: u32,
-    levels: usize,
-}
-
-/// Nothing was met.
-const NONE: Tally = Tally {
-    found: 0,
-    absent: 0,
-    inserted: 0,
-    present: 0,
-    deleted: 0,
-    parts: 0,
-    without_room: 0,
-    done: 0,
-    already: 0,
-    stale: 0,
-    unposted: 0,
-    released: 0,
-    kept: 0,
-    thin: 0,
-    leaves_parted: 0,
-    inner_pages_parted: 0,
-    levels: 0,
-};
-
-fn one_more(count: &mut u32) {
-    *count = count.saturating_add(1);
-}
-
-impl Tally {
-    fn answered(&mut self, answer: &Answer) {
-        let count = match answer {
-            Answer::Op(Reply::Found(_), _) => &mut self.found,
-            Answer::Op(Reply::Absent, _) => &mut self.absent,
-            Answer::Op(Reply::Inserted, _) => &mut self.inserted,
-            Answer::Op(Reply::Present(_), _) => &mut self.present,
-            Answer::Op(Reply::Deleted(_), _) => &mut self.deleted,
-            Answer::Op(Reply::Rows(_, _), _) => &mut self.parts,
-            Answer::Op(Reply::NoRoom, _) => &mut self.without_room,
-            Answer::Post(Posted::Done, _) => &mut self.done,
-            Answer::Post(Posted::Already, _) => &mut self.already,
-            Answer::Post(Posted::Stale, _) => &mut self.stale,
-            Answer::Post(_, _) => &mut self.unposted,
-            Answer::Reclaim(Reclaimed::Released) => &mut self.released,
-            Answer::Reclaim(Reclaimed::Kept) => &mut self.kept,
-        };
-        one_more(count);
-    }
-
-    /// How many answers there were of the kind of which there were the fewest.
-    fn least(&self) -> u32 {
-        let operations = self
-            .found
-            .min(self.absent)
-            .min(self.inserted)
-            .min(self.present)
-            .min(self.deleted)
-            .min(self.parts)
-            .min(self.without_room);
-        let posts = self.done.min(self.already).min(self.stale);
-        operations.min(posts).min(self.kept)
-    }
-
-    fn hinted(&mut self, hint: &Hint) {
-        if !is_to_post(hint) {
-            one_more(&mut self.thin);
-        } else if hint.level() == 1 {
-            one_more(&mut self.leaves_parted);
-        } else {
-            one_more(&mut self.inner_pages_parted);
-        }
-    }
-}
-
-/// What is a right answer in this tree, of a process that changes nothing.
-fn right_in(tree: &Tree, job: Job) -> Option<Answer> {
-    match job {
-        Job::Find(key) => match tree.value_at(key) {
-            Some(value) => Some(Answer::Op(Reply::Found(value), None)),
-            None => Some(Answer::Op(Reply::Absent, None)),
-        },
-        Job::Insert(key, _) => {
-            let value = tree.value_at(key)?;
-            Some(Answer::Op(Reply::Present(value), None))
-        }
-        Job::Delete(key) => match tree.value_at(key) {
-            Some(_) => None,
-            None => Some(Answer::Op(Reply::Absent, None)),
-        },
-        Job::Part(from) => Some(Answer::Op(tree.part_from(from), None)),
-        // it looks at owners, not at the tree
-        Job::Reclaim(_) => None,
-        Job::Post(level, key) => {
-            let level = level as usize;
-            if tree.lists(level, key) {
-                Some(Answer::Post(Posted::Already, None))
-            } else if tree.has_low(level.wrapping_sub(1), key) {
-                None
-            } else {
-                Some(Answer::Post(Posted::Stale, None))
-            }
-        }
-    }
-}
-
-fn without_hint(answer: Answer) -> Answer {
-    match answer {
-        Answer::Op(reply, _) => Answer::Op(reply, None),
-        Answer::Post(posted, _) => Answer::Post(posted, None),
-        Answer::Reclaim(what) => Answer::Reclaim(what),
-    }
-}
-
-fn hint_of(answer: &Answer) -> Option<Hint> {
-    match answer {
-        Answer::Op(_, hint) => *hint,
-        Answer::Post(_, hint) => *hint,
-        Answer::Reclaim(_) => None,
-    }
-}
-
-fn is_to_post(hint: &Hint) -> bool {
-    match hint {
-        Hint::Post { .. } => true,
-        Hint::Thin { .. } => false,
-    }
-}
-
-fn is_no_room(answer: &Answer) -> bool {
-    match answer {
-        Answer::Op(reply, _) => *reply == Reply::NoRoom,
-        Answer::Post(posted, _) => *posted == Posted::NoRoom,
-        Answer::Reclaim(_) => false,
-    }
-}
-
-impl Running {
-    /// Adds what is a right answer now.
-    fn look(&mut self, tree: &Tree) -> Result<(), Law> {
-        if !self.begun {
-            return Ok(());
-        }
-        let Some(right) = right_in(tree, self.job) else {
-            return Ok(());
-        };
-        if self.right.as_slice().last() == Some(&right) {
-            return Ok(());
-        }
-        add(&mut self.right, right)
-    }
-
-    /// It has done this in its turn, and that was the owner of the page that the event names.
-    fn note(&mut self, turn: Turn, act: Act, owner: Option<Owner>) -> Result<(), Law> {
-        if let Job::Reclaim(page) = self.job {
-            return self.note_of_page(page, turn, act, owner);
-        }
-        if act == Act::Begin {
-            self.begun = true;
-        }
-        match act {
-            Act::See(_) | Act::Look(_) | Act::Release(_) => Err("who looks is to release a page"),
-            _ => Ok(()),
-        }
-    }
-
-    /// It is to release this page, and has done this in its turn.
-    fn note_of_page(
-        &mut self,
-        page: u32,
-        turn: Turn,
-        act: Act,
-        owner: Option<Owner>,
-    ) -> Result<(), Law> {
-        let may_release = self.saw_retired == Some(true);
-        match act {
-            Act::See(at) => {
-                holds(at == page, "who is to release a page sees that page")?;
-                holds(self.saw_retired.is_none(), "a page is seen once")?;
-                self.saw_retired = Some(matches!(owner, Some(Owner::Retired(_))));
-                Ok(())
-            }
-            Act::Look(_) => holds(may_release, "who looks has seen a retired page"),
-            Act::Release(at) => {
-                self.released = true;
-                holds(
-                    may_release && at == page,
-                    "who releases a page has seen it retired",
-                )
-            }
-            Act::Miss => {
-                let is_step = matches!(turn, Turn::Step(_));
-                holds(may_release || !is_step, "the first step sees the page")
-            }
-            _ => Err("who is to release a page does nothing else"),
-        }
-    }
-
-    /// It has answered that this became of its page.
-    fn judge_of_page(&self, what: Reclaimed) -> Result<(), Law> {
-        match self.saw_retired {
-            None => Err("who answers for a page has seen it"),
-            Some(false) => holds(
-                what == Reclaimed::Kept,
-                "a page that is not retired is kept",
-            ),
-            Some(true) => {
-                let says_so = what == Reclaimed::Released;
-                holds(says_so == self.released, "who has released a page says so")
-            }
-        }
-    }
-
-    /// It has answered with this hint, or none.
-    fn judge_hint(&self, tree: &Tree, hint: Option<Hint>) -> Result<(), Law> {
-        let Some(hint) = hint else {
-            return holds(self.thin.is_none(), "who leaves a leaf thin hints so");
-        };
-        holds(self.own.is_some(), "who hints has changed a page")?;
-        if is_to_post(&hint) {
-            let is_deletion = matches!(self.job, Job::Delete(_));
-            holds(!is_deletion, "a deletion parts no page")?;
-            let below = (hint.level() as usize).wrapping_sub(1);
-            return holds(
-                tree.has_low(below, hint.key()),
-                "a hint to post names the low of a page",
-            );
-        }
-        holds(hint.level() == 1, "the parent of a thin leaf is of level 1")?;
-        holds(
-            self.thin == Some(hint.key()),
-            "a hint of a thin leaf names its low",
-        )
-    }
-
-    /// It has answered this.
-    fn judge(&self, tree: &Tree, answer: Answer) -> Result<(), Law> {
-        self.judge_hint(tree, hint_of(&answer))?;
-        if let Answer::Reclaim(what) = answer {
-            return self.judge_of_page(what);
-        }
-        holds(self.begun, "who answers has begun")?;
-        let answer = without_hint(answer);
-        if let Some(own) = &self.own {
-            return holds(answer == *own, "who has changed the tree answers so");
-        }
-        if is_no_room(&answer) {
-            return holds(self.refused, "who has no room was refused");
-        }
-        for right in self.right.as_slice() {
-            if answer == *right {
-                return Ok(());
-            }
-        }
-        Err("an answer was right at some moment since the process began")
-    }
-}
+use tally::{NONE, Tally, one_more};
+use trees::{Fresh, Law, Moment, Tree, add, descends, holds, is_same_page, leads_back, walked};
 
 /// Numbers that look random, each world's its own.
 #[derive(Drop)]
@@ -645,6 +44,11 @@ struct Size {
     /// How many processes run at a time at most.
     crowd: usize,
     turns: usize,
+    /// So many keys are inserted first.
+    filled: u64,
+    /// One of so many processes is to release a page, and one of so many where a page was just retired.
+    releases: u64,
+    releases_of_retired: u64,
 }
 
 /// A world under test.
@@ -657,7 +61,18 @@ struct Trial {
     tree: Tree,
     running: Vec<Running>,
     started: usize,
+    /// Levels and keys of hints to post, and of hints of thin pages.
     hints: Vec<(u32, u64)>,
+    thin: Vec<(u32, u64)>,
+    moment: Moment,
+    /// The process that goes on alone for so many turns.
+    alone: usize,
+    turns_alone: u64,
+    /// Pages that were retired and are to be released, and pages that were released.
+    retired: Vec<u32>,
+    released: Vec<u32>,
+    /// All pages, as the last put has left them.
+    pages: Vec<Page>,
     tally: Tally,
 }
 
@@ -692,13 +107,18 @@ fn number_of(turn: Turn) -> usize {
 fn page_of(act: Act) -> Option<u32> {
     match act {
         Act::Get(at) | Act::Put(at) | Act::Latch(at) | Act::Take(at) | Act::Open(at) => Some(at),
-        Act::See(at) | Act::Release(at) => Some(at),
+        Act::See(at) | Act::Release(at) | Act::Retire(at) => Some(at),
         _ => None,
     }
 }
 
-/// What becomes of the owner of the page that an event names.
-fn owns(event: Event, before: Option<Owner>, after: Option<Owner>) -> Result<(), Law> {
+/// What becomes of the owner of the page that the event at that place names.
+fn owns(
+    event: Event,
+    place: usize,
+    before: Option<Owner>,
+    after: Option<Owner>,
+) -> Result<(), Law> {
     let held = Some(Owner::Held(event.process));
     match event.act {
         Act::Get(_) => {
@@ -727,6 +147,10 @@ fn owns(event: Event, before: Option<Owner>, after: Option<Owner>) -> Result<(),
             holds(before.is_some(), "a page is seen that is there")?;
             holds(after == before, "who sees a page changes no owner")
         }
+        Act::Retire(_) => {
+            holds(before == held, "who retires a page holds it")?;
+            holds(after == Some(Owner::Retired(place)), "a page is retired")
+        }
         Act::Release(_) => {
             let was_retired = matches!(before, Some(Owner::Retired(_)));
             holds(was_retired, "a retired page is released")?;
@@ -741,7 +165,15 @@ impl Trial {
         let world = World::open(alloc, size.pages)
             .ok()
             .ok_or("there is memory")?;
-        let tree = walked(alloc, &world.lists)?;
+        let moment = Moment {
+            fresh: Vec::new(alloc),
+            compressing: Vec::new(alloc),
+        };
+        let tree = walked(alloc, &world.lists, &moment)?;
+        let mut pages = Vec::new(alloc);
+        for page in world.lists.pages.as_slice() {
+            add(&mut pages, page.copied())?;
+        }
         Ok(Trial {
             world,
             size,
@@ -751,6 +183,13 @@ impl Trial {
             running: Vec::new(alloc),
             started: 0,
             hints: Vec::new(alloc),
+            thin: Vec::new(alloc),
+            moment,
+            alone: 0,
+            turns_alone: 0,
+            retired: Vec::new(alloc),
+            released: Vec::new(alloc),
+            pages,
             tally: NONE,
         })
     }
@@ -776,40 +215,104 @@ impl Trial {
             1 => 2,
             _ => 1,
         };
-        let place = self.draws.below(self.tree.met.len() as u64);
+        let place = self.draws.below(self.tree.live.len() as u64);
         if way < 3
-            && let Some(met) = self.tree.met.as_slice().get(place as usize)
+            && let Some(live) = self.tree.live.as_slice().get(place as usize)
         {
-            return Job::Post(level, met.low);
+            return Job::Post(level, live.low);
         }
         let key = self.draw_key();
         Job::Post(level, key)
     }
 
-    fn draw_job(&mut self) -> Job {
+    /// A compression by a hint of a thin page, or of that page and the one before, or above some page, or by any key.
+    fn draw_compression(&mut self) -> Job {
+        let way = self.draws.below(4);
+        if way > 0
+            && let Some((level, key)) = self.thin.pop()
+        {
+            // the key before it is of the page to the left
+            let less = if way == 1 { 1 } else { 0 };
+            return Job::Compress(level, key.saturating_sub(less));
+        }
         let key = self.draw_key();
-        match self.draws.below(13) {
-            0 | 1 => Job::Find(key),
-            2 => Job::Part(key),
-            3 | 4 => self.draw_post(),
-            5 => {
-                let page = self.draws.below(self.size.pages as u64);
-                Job::Reclaim(u32::try_from(page).unwrap_or(0))
+        let place = self.draws.below(self.tree.live.len() as u64);
+        for live in self.tree.live.as_slice().iter().skip(place as usize) {
+            if way < 3 && !live.is_alone() {
+                let level = u32::try_from(live.level).unwrap_or(0).min(11);
+                return Job::Compress(level.saturating_add(1), live.low);
             }
-            _ => {
-                let is_growing = self.started.checked_div(self.size.season).unwrap_or(0) & 1 == 0;
-                let insertions = if is_growing { 15 } else { 6 };
-                if self.draws.below(16) < insertions {
-                    Job::Insert(key, self.started as u64)
-                } else {
-                    Job::Delete(key)
-                }
+        }
+        Job::Compress(1, key)
+    }
+
+    /// A release of a page that was retired, if there is one, or of any page.
+    fn draw_release(&mut self) -> Job {
+        if let Some(page) = self.retired.pop() {
+            // now and then there are two of them
+            if self.draws.below(4) == 0 {
+                let _ = self.retired.push(page);
             }
+            return Job::Reclaim(page);
+        }
+        let page = self.draws.below(self.size.pages as u64);
+        Job::Reclaim(u32::try_from(page).unwrap_or(0))
+    }
+
+    /// How many times insertions and deletions have prevailed in turn.
+    fn season(&self) -> usize {
+        self.started.checked_div(self.size.season).unwrap_or(0)
+    }
+
+    /// From which quarter of the rows most deletions are, by the season and the world.
+    fn quarter(&self) -> usize {
+        (self.season() / 2).wrapping_add(self.size.pages as usize) % 4
+    }
+
+    /// A key that has a value, of one of the four quarters of them, by the season; or any key.
+    fn draw_key_of_season(&mut self) -> u64 {
+        let key = self.draw_key();
+        let quarter = self.tree.rows.len() / 4;
+        let place = self.draws.below((quarter as u64).saturating_add(1)) as usize;
+        let first = quarter.saturating_mul(self.quarter());
+        match self.tree.rows.as_slice().get(first.saturating_add(place)) {
+            Some(row) if self.draws.below(8) > 0 => row.0,
+            _ => key,
         }
     }
 
-    fn start(&mut self, alloc: Global) -> Result<(), Law> {
-        let job = self.draw_job();
+    /// An insertion or a deletion, by the season.
+    fn draw_change(&mut self) -> Job {
+        let is_growing = self.season() & 1 == 0;
+        let insertions = if is_growing { 15 } else { 2 };
+        if self.draws.below(16) < insertions {
+            Job::Insert(self.draw_key(), self.started as u64)
+        } else {
+            Job::Delete(self.draw_key_of_season())
+        }
+    }
+
+    fn draw_job(&mut self) -> Job {
+        if !self.retired.is_empty() && self.draws.below(self.size.releases_of_retired) == 0 {
+            return self.draw_release();
+        }
+        if !self.thin.is_empty() && self.draws.below(3) == 0 {
+            return self.draw_compression();
+        }
+        if self.draws.below(self.size.releases) == 0 {
+            return self.draw_release();
+        }
+        let key = self.draw_key();
+        match self.draws.below(14) {
+            0 | 1 => Job::Find(key),
+            2 => Job::Part(key),
+            3 | 4 => self.draw_post(),
+            5 => self.draw_compression(),
+            _ => self.draw_change(),
+        }
+    }
+
+    fn start(&mut self, alloc: Global, job: Job) -> Result<(), Law> {
         let number = match job {
             Job::Find(key) => self.world.start(Proc::find(key)),
             Job::Insert(key, value) => self.world.start(Proc::insert(key, value)),
@@ -820,6 +323,12 @@ impl Trial {
                     return Err("a post is to a level of 1 to 12");
                 }
                 self.world.start(Proc::post(level, key))
+            }
+            Job::Compress(level, key) => {
+                if level == 0 || level > 12 {
+                    return Err("a compression is at a level of 1 to 12");
+                }
+                self.world.start(Proc::compress(level, key))
             }
             Job::Reclaim(page) => {
                 if page as usize >= self.world.lists.pages.len() {
@@ -834,28 +343,79 @@ impl Trial {
         let running = Running {
             number,
             job,
-            begun: false,
+            begun: None,
             refused: false,
             own: None,
             thin: None,
-            saw_retired: None,
+            parted: None,
+            squeeze: None,
+            evens: false,
+            retired: false,
+            saw: None,
+            started: 0,
+            looks: 0,
+            blocked: false,
+            missed: false,
             released: false,
             right: Vec::new(alloc),
         };
         add(&mut self.running, running)
     }
 
+    /// A process that runs, which now and then goes on alone for some time, or seldom any number.
+    fn draw_number(&mut self) -> usize {
+        if self.turns_alone > 0 && self.is_running(self.alone) {
+            self.turns_alone = self.turns_alone.saturating_sub(1);
+            return self.alone;
+        }
+        if self.draws.below(24) == 0 {
+            return self.draws.below(self.started.wrapping_add(3) as u64) as usize;
+        }
+        if self.draws.below(2) == 0
+            && let Some(number) = self.releasing()
+        {
+            return number;
+        }
+        let place = self.draws.below(self.running.len() as u64);
+        let Some(running) = self.running.as_slice().get(place as usize) else {
+            return self.started;
+        };
+        self.alone = running.number;
+        self.turns_alone = if self.draws.below(8) == 0 {
+            self.draws.below(160)
+        } else {
+            0
+        };
+        running.number
+    }
+
+    /// One that has seen a retired page.
+    fn releasing(&self) -> Option<usize> {
+        for running in self.running.as_slice() {
+            if running.saw.is_some() {
+                return Some(running.number);
+            }
+        }
+        None
+    }
+
+    fn is_running(&self, number: usize) -> bool {
+        for running in self.running.as_slice() {
+            if running.number == number {
+                return true;
+            }
+        }
+        false
+    }
+
     /// A turn of a process that runs, or now and then of any number.
     fn draw_turn(&mut self) -> Turn {
-        let place = self.draws.below(self.running.len() as u64);
-        let mut number = self.draws.below(self.started.wrapping_add(3) as u64) as usize;
-        if self.draws.below(24) != 0
-            && let Some(running) = self.running.as_slice().get(place as usize)
-        {
-            number = running.number;
-        }
+        let number = self.draw_number();
         let page = self.draws.below((self.size.pages as u64).wrapping_add(3));
         let page = u32::try_from(page).unwrap_or(0);
+        if self.is_reserving(number) && self.draws.below(8) == 0 {
+            return Turn::Refuse(number);
+        }
         match self.draws.below(32) {
             0 => Turn::Refuse(number),
             1 | 2 => Turn::Take(number, page),
@@ -902,8 +462,120 @@ impl Trial {
         Err("only a running process changes rows")
     }
 
-    /// The tree is now this one, after that event.
-    fn went_to(&mut self, alloc: Global, event: Event, tree: Tree) -> Result<(), Law> {
+    /// A process that puts this page compresses, and goes on with that.
+    fn puts_in_compression(&mut self, alloc: Global, number: usize, page: u32) -> Result<(), Law> {
+        for running in self.running.as_mut_slice() {
+            if running.number == number
+                && let Job::Compress(level, key) = running.job
+            {
+                if running.squeeze.is_none() {
+                    running.squeeze = Some(Squeeze::new(alloc, &self.tree, level, key)?);
+                    add(&mut self.moment.compressing, number)?;
+                }
+                if let Some(squeeze) = &mut running.squeeze {
+                    squeeze.puts(page)?;
+                    if squeeze.puts == 3 {
+                        self.moment.compressing.retain(|other| *other != number);
+                    }
+                }
+            }
+        }
+        Ok(())
+    }
+
+    /// The process has put a page that names its fresh one, which is of the tree from then on.
+    fn names_fresh(&mut self, number: usize, page: u32) -> Option<u32> {
+        let mut named = None;
+        for fresh in self.moment.fresh.as_slice() {
+            if fresh.holder == number && fresh.named_by == page {
+                named = Some(fresh.page);
+            }
+        }
+        if named.is_some() {
+            self.moment
+                .fresh
+                .retain(|fresh| fresh.holder != number || fresh.named_by != page);
+        }
+        named
+    }
+
+    /// The process has taken a page, while it held one.
+    fn takes(&mut self, number: usize, page: u32, before: &[Owner]) -> Result<(), Law> {
+        let mut named_by = None;
+        for (at, owner) in before.iter().enumerate() {
+            if *owner == Owner::Held(number) {
+                holds(named_by.is_none(), "who takes a page holds one")?;
+                named_by = u32::try_from(at).ok();
+            }
+        }
+        for released in self.released.as_slice() {
+            if *released == page {
+                one_more(&mut self.tally.taken_again);
+                break;
+            }
+        }
+        let named_by = named_by.ok_or("who takes a page holds one")?;
+        let fresh = Fresh {
+            page,
+            holder: number,
+            named_by,
+        };
+        add(&mut self.moment.fresh, fresh)
+    }
+
+    /// A post lists its key now; a compression has put all; and a page was parted from the one that was put.
+    fn has_put(
+        &mut self,
+        alloc: Global,
+        event: Event,
+        tree: &Tree,
+        named: Option<u32>,
+    ) -> Result<(), Law> {
+        for running in self.running.as_mut_slice() {
+            if running.number != event.process {
+                continue;
+            }
+            if let Job::Post(level, key) = running.job {
+                let level = level as usize;
+                // a new top level lists the key 0, which is no work of a post for that key
+                if key != 0 && tree.lists(level, key) && !self.tree.lists(level, key) {
+                    running.own = Some(Answer::Post(Posted::Done, None));
+                }
+            }
+            if let Some(page) = named
+                && event.act != Act::Put(0)
+            {
+                let live = tree.live_at(page).ok_or("a page that is named is live")?;
+                running.parted = Some((live.level.saturating_add(1), live.low));
+            }
+            if let Some(squeeze) = &running.squeeze
+                && squeeze.puts == 3
+            {
+                squeeze.is_done(alloc, &self.world.lists, tree)?;
+                running.own = Some(squeeze.answer_in(tree)?);
+                self.tally.squeezed(squeeze);
+            }
+        }
+        Ok(())
+    }
+
+    /// Those that the tree shows to be in the middle of an evening.
+    fn evens(&mut self, tree: &Tree) {
+        for running in self.running.as_mut_slice() {
+            for number in tree.evening.as_slice() {
+                running.evens = running.evens || running.number == *number;
+            }
+        }
+    }
+
+    /// The tree is now this one, after that event, by which a fresh page may have come to be named.
+    fn went_to(
+        &mut self,
+        alloc: Global,
+        event: Event,
+        tree: Tree,
+        named: Option<u32>,
+    ) -> Result<(), Law> {
         let puts = matches!(event.act, Act::Put(_));
         holds(puts || tree.is_as(&self.tree), "only a put changes pages")?;
         if tree.rows.as_slice() != self.tree.rows.as_slice() {
@@ -912,38 +584,155 @@ impl Trial {
             let same = rows.as_slice() == tree.rows.as_slice();
             holds(same, "the leaves have the rows of the map")?;
         }
-        for running in self.running.as_mut_slice() {
-            if running.number == event.process
-                && let Job::Post(level, key) = running.job
-            {
-                let level = level as usize;
-                // a new top level lists the key 0, which is no work of a post for that key
-                if key != 0 && tree.lists(level, key) && !self.tree.lists(level, key) {
-                    running.own = Some(Answer::Post(Posted::Done, None));
-                }
-            }
-            running.look(&tree)?;
+        if puts {
+            self.has_put(alloc, event, &tree, named)?;
         }
+        self.evens(&tree);
         self.tally.levels = self.tally.levels.max(tree.levels);
         self.tree = tree;
+        if puts {
+            for running in self.running.as_mut_slice() {
+                running.look(&self.tree)?;
+            }
+            self.all_descend()?;
+            self.dead_pages_lead_back()?;
+        }
         Ok(())
     }
 
-    /// What a process has done in this turn, and the owner before it of the page that the event names.
+    /// What a process has done in this turn by the event at that place, and the owner before it of the page that it names.
     fn note(
         &mut self,
         turn: Turn,
         act: Act,
+        place: usize,
         owner: Option<Owner>,
         refused: bool,
     ) -> Result<(), Law> {
         for running in self.running.as_mut_slice() {
             if running.number == number_of(turn) {
                 running.refused = running.refused || refused;
-                return running.note(turn, act, owner);
+                if let Act::See(_) = act {
+                    running.started = self.started;
+                }
+                running.note(turn, act, place, owner)?;
+                if matches!(act, Act::See(_) | Act::Look(_)) {
+                    running.looks_on();
+                }
+                if running.squeeze.is_none()
+                    && matches!(running.job, Job::Compress(_, _))
+                    && running.begun.is_some()
+                    && act == Act::Miss
+                    && matches!(turn, Turn::Step(_))
+                {
+                    one_more(&mut self.tally.waits);
+                }
+                return Ok(());
             }
         }
         holds(act == Act::Miss, "who has answered does nothing")
+    }
+
+    /// The process with that number may still read what was retired by the event at that place.
+    fn may_read(&self, number: usize, place: usize) -> bool {
+        for running in self.running.as_slice() {
+            if running.number == number
+                && let Some(begun) = running.begun
+            {
+                return begun < place;
+            }
+        }
+        false
+    }
+
+    /// A process may still read what was retired by the event at that place.
+    fn is_read(&self, place: usize) -> bool {
+        for running in self.running.as_slice() {
+            if self.may_read(running.number, place) {
+                return true;
+            }
+        }
+        false
+    }
+
+    /// Who looks at a process that may read its page is blocked.
+    fn looks_at(&mut self, number: usize, other: usize) {
+        let mut saw = None;
+        for running in self.running.as_slice() {
+            if running.number == number {
+                saw = running.saw;
+            }
+        }
+        if let Some(Owner::Retired(place)) = saw
+            && self.may_read(other, place)
+        {
+            one_more(&mut self.tally.read);
+            for running in self.running.as_mut_slice() {
+                running.blocked = running.blocked || running.number == number;
+            }
+        }
+    }
+
+    /// What this event does beside the tree, and who may do it. Gives the fresh page that it names.
+    fn follow(
+        &mut self,
+        alloc: Global,
+        event: Event,
+        before: &[Owner],
+    ) -> Result<Option<u32>, Law> {
+        let number = event.process;
+        match event.act {
+            Act::Take(page) => self.takes(number, page, before)?,
+            Act::Retire(page) => add(&mut self.retired, page)?,
+            Act::Put(page) => {
+                self.puts_in_compression(alloc, number, page)?;
+                return Ok(self.names_fresh(number, page));
+            }
+            Act::Look(other) => self.looks_at(number, other),
+            Act::Latch(_) => return self.latches(number, before).map(|_| None),
+            Act::Release(page) => {
+                if let Some(Owner::Retired(place)) = before.get(page as usize).copied() {
+                    holds(!self.is_read(place), "no page is released that may be read")?;
+                }
+                add(&mut self.released, page)?;
+            }
+            Act::Get(page) => {
+                if let Some(Page::Dead(_)) = self.world.lists.pages.as_slice().get(page as usize) {
+                    one_more(&mut self.tally.dead_pages_got);
+                }
+            }
+            _ => {}
+        }
+        Ok(None)
+    }
+
+    /// Who latches a page holds none, or compresses and holds two at most.
+    fn latches(&self, number: usize, before: &[Owner]) -> Result<(), Law> {
+        let mut held = 0usize;
+        for owner in before {
+            if *owner == Owner::Held(number) {
+                held = held.saturating_add(1);
+            }
+        }
+        for running in self.running.as_slice() {
+            if running.number == number && matches!(running.job, Job::Compress(_, _)) {
+                return holds(held < 3, "who compresses latches three pages");
+            }
+        }
+        holds(held == 0, "who latches a page holds none")
+    }
+
+    /// Dead pages that may be read lead to live ones.
+    fn dead_pages_lead_back(&self) -> Result<(), Law> {
+        for (at, owner) in self.world.lists.owners.as_slice().iter().enumerate() {
+            if let Owner::Retired(place) = owner
+                && self.is_read(*place)
+            {
+                let page = u32::try_from(at).ok().ok_or("a page has a number")?;
+                leads_back(&self.world.lists, &self.tree, page)?;
+            }
+        }
+        Ok(())
     }
 
     /// Processes that have answered run no more.
@@ -959,20 +748,29 @@ impl Trial {
                 )?;
                 self.tally.answered(&answer);
                 if let Some(hint) = hint_of(&answer) {
-                    self.tally.hinted(&hint);
+                    self.tally.hinted(&answer, &hint);
                     if is_to_post(&hint) {
                         add(&mut self.hints, (hint.level(), hint.key()))?;
+                    } else {
+                        add(&mut self.thin, (hint.level(), hint.key()))?;
                     }
                 }
-                running.judge(&self.tree, answer)?;
+                if running.missed {
+                    one_more(&mut self.tally.missed);
+                }
+                running.judge(answer)?;
                 if place < self.running.len() {
                     self.running.remove(place);
                 }
                 return Ok(());
             }
             holds(
-                running.saw_retired != Some(false),
+                running.saw.is_none() || matches!(running.saw, Some(Owner::Retired(_))),
                 "who sees a page that is not retired answers in that turn",
+            )?;
+            holds(
+                !running.blocked && !running.missed,
+                "who may not release a page answers in that turn",
             )?;
         }
         Ok(())
@@ -1045,19 +843,69 @@ impl Trial {
             event.process == number,
             "an event is of the process whose turn it is",
         )?;
+        self.went_on(alloc, turn, event, before.as_slice(), refused)
+    }
+
+    /// All that is to hold after the last event, before which these were the owners.
+    fn went_on(
+        &mut self,
+        alloc: Global,
+        turn: Turn,
+        event: Event,
+        before: &[Owner],
+        refused: bool,
+    ) -> Result<(), Law> {
+        let place = self.world.steps().len().wrapping_sub(1);
         let page = page_of(event.act);
-        let old = page.and_then(|at| before.as_slice().get(at as usize).copied());
-        owns(event, old, self.owner_of(page))?;
-        self.keeps_owners(before.as_slice(), page)?;
-        self.note(turn, event.act, old, refused)?;
-        let tree = walked(alloc, &self.world.lists)?;
-        self.went_to(alloc, event, tree)?;
-        self.judge(number)?;
-        self.are_held_by_running()?;
-        match event.act {
-            Act::Put(_) => self.all_descend(),
-            _ => Ok(()),
+        let old = page.and_then(|at| before.get(at as usize).copied());
+        owns(event, place, old, self.owner_of(page))?;
+        self.keeps_owners(before, page)?;
+        self.note(turn, event.act, place, old, refused)?;
+        if event.act == Act::Miss {
+            self.turns_alone = 0;
         }
+        let named = self.follow(alloc, event, before)?;
+        self.keeps_pages(event.act)?;
+        match event.act {
+            Act::Put(_) | Act::Open(_) | Act::Take(_) | Act::Retire(_) | Act::Release(_) => {
+                let tree = walked(alloc, &self.world.lists, &self.moment)?;
+                self.went_to(alloc, event, tree, named)?;
+            }
+            Act::Begin => self.looks_from(event.process)?,
+            _ => {}
+        }
+        self.judge(event.process)?;
+        self.are_held_by_running()
+    }
+
+    /// No page has changed but the one that an event puts.
+    fn keeps_pages(&mut self, act: Act) -> Result<(), Law> {
+        let pages = self.world.lists.pages.as_slice();
+        holds(
+            pages.len() == self.pages.len(),
+            "there are as many pages as before",
+        )?;
+        for (at, old) in self.pages.as_mut_slice().iter_mut().enumerate() {
+            let page = pages.get(at).ok_or("there are as many pages as before")?;
+            if let Act::Put(put) = act
+                && put as usize == at
+            {
+                *old = page.copied();
+            } else {
+                holds(is_same_page(page, old), "only a put changes pages")?;
+            }
+        }
+        Ok(())
+    }
+
+    /// The process begins in this tree.
+    fn looks_from(&mut self, number: usize) -> Result<(), Law> {
+        for running in self.running.as_mut_slice() {
+            if running.number == number {
+                running.look(&self.tree)?;
+            }
+        }
+        Ok(())
     }
 
     fn all_descend(&self) -> Result<(), Law> {
@@ -1067,11 +915,39 @@ impl Trial {
         descends(&self.world.lists, &self.tree, u64::MAX)
     }
 
+    /// A process that is alone, up to its answer.
+    fn carry_out(&mut self, alloc: Global, job: Job) -> Result<(), Law> {
+        self.start(alloc, job)?;
+        for _ in 0..100 {
+            let Some(running) = self.running.as_slice().first() else {
+                return Ok(());
+            };
+            let turn = self.world.turn_of(running.number, None);
+            self.give(alloc, turn)?;
+        }
+        Err("a process that is alone answers")
+    }
+
+    /// Inserts even keys in rising order, and posts what they part.
+    fn fill(&mut self, alloc: Global) -> Result<(), Law> {
+        for count in 0..self.size.filled {
+            self.carry_out(alloc, Job::Insert(count.saturating_mul(2), count))?;
+            for _ in 0..12 {
+                if let Some((level, key)) = self.hints.pop() {
+                    self.carry_out(alloc, Job::Post(level, key))?;
+                }
+            }
+        }
+        Ok(())
+    }
+
     /// All turns of a world, and then turns for all that run until each has answered.
     fn play(&mut self, alloc: Global) -> Result<(), Law> {
+        self.fill(alloc)?;
         for _ in 0..self.size.turns {
             if self.running.len() < self.size.crowd && self.draws.below(3) == 0 {
-                self.start(alloc)?;
+                let job = self.draw_job();
+                self.start(alloc, job)?;
             }
             let turn = self.draw_turn();
             self.give(alloc, turn)?;
@@ -1107,39 +983,53 @@ fn broken(alloc: Global, seed: u64, size: Size, tally: &mut Tally) -> Option<(us
 #[test]
 fn small_worlds_keep_the_laws(rt: HostRuntime) {
     let mut tally = NONE;
-    for seed in 0..27u64 {
+    for seed in 0..54u64 {
+        let pages = 4 + (seed % 9) as u32;
         let size = Size {
-            pages: 4 + (seed % 9) as u32,
-            keys: 41,
-            season: 64,
+            pages,
+            keys: 72,
+            season: 40,
             crowd: 2 + (seed % 7) as usize,
-            turns: 2000,
+            turns: 800,
+            filled: 14 + 3 * u64::from(pages),
+            releases: 48,
+            releases_of_retired: 3,
         };
         let law = broken(rt.alloc(), seed, size, &mut tally);
         assert_eq!(rt; law, None, "world {seed}");
     }
-    // each kind of answer was met, and pages were parted
+    // each kind of answer was met, pages were parted and evened both ways, dead pages were read, and pages came back
     assert!(rt; tally.least() > 9, "{tally:?}");
     assert!(rt; tally.unposted > 9, "{tally:?}");
     assert!(rt; tally.leaves_parted > 9, "{tally:?}");
     assert!(rt; tally.thin > 9, "{tally:?}");
+    assert!(rt; tally.to_the_left.min(tally.to_the_right) > 9, "{tally:?}");
+    assert!(rt; tally.dead_pages_got > 9, "{tally:?}");
+    assert!(rt; tally.taken_again > 9, "{tally:?}");
+    assert!(rt; tally.missed > 0, "{tally:?}");
+    assert!(rt; tally.waits > 9, "{tally:?}");
 }
 
 #[test]
 fn wide_worlds_keep_the_laws(rt: HostRuntime) {
     let mut tally = NONE;
-    for seed in 0..2u64 {
+    for seed in 0..3u64 {
         let size = Size {
-            pages: 64,
-            keys: 300,
-            season: 700,
+            pages: 48,
+            keys: 320,
+            season: 170,
             crowd: 6,
-            turns: 9000,
+            turns: 3500,
+            filled: 150,
+            releases: 500,
+            releases_of_retired: 40,
         };
         let law = broken(rt.alloc(), seed, size, &mut tally);
         assert_eq!(rt; law, None, "world {seed}");
     }
-    assert!(rt; tally.least() > 9, "{tally:?}");
     assert!(rt; tally.inner_pages_parted > 0, "{tally:?}");
     assert!(rt; tally.levels > 2, "{tally:?}");
+    assert!(rt; tally.inner_pages_merged > 0, "{tally:?}");
+    assert!(rt; tally.inner_pages_evened > 0, "{tally:?}");
+    assert!(rt; tally.thin_inner_pages > 0, "{tally:?}");
 }

@@ -4,7 +4,7 @@ use Rattle.bl_model.specs.declared.operation.Op.TheVariants as op
 use Rattle.bl_script.specs.declared.command.Start.TheVariants as start
 use Rattle.bl_script.specs.declared.command.Command.TheVariants as command
 use Rattle.bl_world.specs.Views.{view_of}
-use Rattle.bl_replay.specs.Plays.{few}
+use Rattle.bl_replay.specs.Plays.{all_kinds}
 use Rattle.bl_replay.specs.Plays.Plays.{Nothing}
 use Rattle.bl_replay.proofs.Emitting.{emits_start, emits_more, emits_stop, err_of}
 use Rattle.bl_replay.proofs.Following.{stands_sized, plays_further, started_further, breaks_off}
@@ -18,7 +18,7 @@ play_command-requires g c =
     let i = c.loop-command.command-index in
     let commands = c.args.commands.now in
     let at = slice_get-get_or commands i (command.Start (start.Operation (op.Find 0))) (omega (arith, c.loop-command-test.true)) in
-    stands_sized few (length c.args.world.now.lists.pages.items) _ (length c.args.world.now.lists.processes.items) _ commands i _ c.loop-command.invariant.size c.loop-command.invariant.count c.requires at
+    stands_sized all_kinds (length c.args.world.now.lists.pages.items) _ (length c.args.world.now.lists.processes.items) _ commands i _ c.loop-command.invariant.size c.loop-command.invariant.count c.requires at
 
 pub returns-in_err-play_command-clause-err : goal.returns-in_err-play_command-clause-err
 returns-in_err-play_command-clause-err g c =

@@ -1,0 +1,315 @@
+//! Processes that run, and what they may do and answer.
+
+use super::squeezes::{Squeeze, rights_of};
+use super::trees::{Law, Tree, add, holds};
+use crate::{Act, Owner, Turn};
+use bl_model::Reply;
+use bl_proc::{Answer, Hint, Posted, Reclaimed, Squeezed};
+
+/// What a process is to do.
+#[derive(Clone, Copy)]
+pub enum Job {
+    Find(u64),
+    Insert(u64, u64),
+    Delete(u64),
+    Post(u32, u64),
+    Part(u64),
+    Compress(u32, u64),
+    Reclaim(u32),
+}
+
+/// A process that has not answered.
+#[derive(Drop)]
+pub struct Running {
+    pub number: usize,
+    pub job: Job,
+    /// The event by which it began.
+    pub begun: Option<usize>,
+    /// Something that it was about to reserve was refused.
+    pub refused: bool,
+    /// What it is to answer, since it has changed the tree.
+    pub own: Option<Answer>,
+    /// The low of the leaf that its deletion left thin.
+    pub thin: Option<u64>,
+    /// The level and the low of the page that it has parted from another one.
+    pub parted: Option<(usize, u64)>,
+    /// It compresses, and has put a page.
+    pub squeeze: Option<Squeeze>,
+    /// Its children have shown that it is in the middle of an evening.
+    pub evens: bool,
+    /// It has retired a page.
+    pub retired: bool,
+    /// It is to release a page, and the owner that it has seen; how many processes had been started then; and the process at
+    /// which it is to look next.
+    pub saw: Option<Owner>,
+    pub started: usize,
+    pub looks: usize,
+    /// It has looked at a process that may read its page; its release missed; it has released its page.
+    pub blocked: bool,
+    pub missed: bool,
+    pub released: bool,
+    /// What was a right answer of an unchanged tree at some moment since it began.
+    pub right: Vec<Answer>,
+}
+
+/// Adds what are right answers in this tree, of a process that changes nothing.
+fn rights_in(tree: &Tree, job: Job, right: &mut Vec<Answer>) -> Result<(), Law> {
+    match job {
+        Job::Find(key) => match tree.value_at(key) {
+            Some(value) => add(right, Answer::Op(Reply::Found(value), None)),
+            None => add(right, Answer::Op(Reply::Absent, None)),
+        },
+        Job::Insert(key, _) => match tree.value_at(key) {
+            Some(value) => add(right, Answer::Op(Reply::Present(value), None)),
+            None => Ok(()),
+        },
+        Job::Delete(key) => match tree.value_at(key) {
+            Some(_) => Ok(()),
+            None => add(right, Answer::Op(Reply::Absent, None)),
+        },
+        Job::Part(from) => {
+            for live in tree.live.as_slice() {
+                if live.level == 0 && live.covers(from) {
+                    add(right, Answer::Op(tree.part_from(from, live), None))?;
+                }
+            }
+            Ok(())
+        }
+        // it looks at owners, not at the tree
+        Job::Reclaim(_) => Ok(()),
+        Job::Compress(level, key) => rights_of(tree, level, key, right),
+        Job::Post(level, key) => {
+            let level = level as usize;
+            if tree.lists(level, key) {
+                add(right, Answer::Post(Posted::Already, None))
+            } else if tree.has_low(level.wrapping_sub(1), key) {
+                Ok(())
+            } else {
+                add(right, Answer::Post(Posted::Stale, None))
+            }
+        }
+    }
+}
+
+/// The answer, of an operation or a post without its hint.
+fn without_hint(answer: Answer) -> Answer {
+    match answer {
+        Answer::Op(reply, _) => Answer::Op(reply, None),
+        Answer::Post(posted, _) => Answer::Post(posted, None),
+        Answer::Compress(squeezed, hint) => Answer::Compress(squeezed, hint),
+        Answer::Reclaim(what) => Answer::Reclaim(what),
+    }
+}
+
+pub fn hint_of(answer: &Answer) -> Option<Hint> {
+    match answer {
+        Answer::Op(_, hint) => *hint,
+        Answer::Post(_, hint) => *hint,
+        Answer::Compress(_, hint) => *hint,
+        Answer::Reclaim(_) => None,
+    }
+}
+
+pub fn is_to_post(hint: &Hint) -> bool {
+    match hint {
+        Hint::Post { .. } => true,
+        Hint::Thin { .. } => false,
+    }
+}
+
+fn is_no_room(answer: &Answer) -> bool {
+    match answer {
+        Answer::Op(reply, _) => *reply == Reply::NoRoom,
+        Answer::Post(posted, _) => *posted == Posted::NoRoom,
+        Answer::Compress(squeezed, _) => *squeezed == Squeezed::NoRoom,
+        Answer::Reclaim(_) => false,
+    }
+}
+
+fn is_retired(owner: Option<Owner>) -> bool {
+    matches!(owner, Some(Owner::Retired(_)))
+}
+
+impl Running {
+    /// Adds what is a right answer now.
+    pub fn look(&mut self, tree: &Tree) -> Result<(), Law> {
+        if self.begun.is_none() {
+            return Ok(());
+        }
+        let before = self.right.len();
+        rights_in(tree, self.job, &mut self.right)?;
+        // the same as the last one need not stand there twice
+        if self.right.len() == before.saturating_add(1)
+            && before > 0
+            && self.right.as_slice().get(before)
+                == self.right.as_slice().get(before.wrapping_sub(1))
+        {
+            self.right.pop();
+        }
+        Ok(())
+    }
+
+    /// It has done this in its turn by the event at that place, and that was the owner of the page that the event names.
+    pub fn note(
+        &mut self,
+        turn: Turn,
+        act: Act,
+        place: usize,
+        owner: Option<Owner>,
+    ) -> Result<(), Law> {
+        if let Job::Reclaim(page) = self.job {
+            return self.note_of_page(page, turn, act, owner);
+        }
+        match act {
+            Act::Begin => {
+                holds(self.begun.is_none(), "a process begins once")?;
+                self.begun = Some(place);
+                Ok(())
+            }
+            Act::See(_) | Act::Look(_) | Act::Release(_) => Err("who looks is to release a page"),
+            Act::Retire(page) => {
+                self.retired = true;
+                let is_own = match &self.squeeze {
+                    Some(squeeze) => squeeze.retires(page),
+                    None => false,
+                };
+                holds(
+                    is_own,
+                    "who has merged retires the dead page, and nobody else",
+                )
+            }
+            _ => Ok(()),
+        }
+    }
+
+    /// It is to release this page, and has done this in its turn.
+    fn note_of_page(
+        &mut self,
+        page: u32,
+        turn: Turn,
+        act: Act,
+        owner: Option<Owner>,
+    ) -> Result<(), Law> {
+        let may_release = is_retired(self.saw) && !self.blocked && !self.missed;
+        let has_looked = self.looks > self.started;
+        match act {
+            Act::See(at) => {
+                holds(at == page, "who is to release a page sees that page")?;
+                holds(self.saw.is_none(), "a page is seen once")?;
+                self.saw = owner;
+                Ok(())
+            }
+            Act::Look(number) => {
+                holds(may_release, "who looks has seen a retired page")?;
+                holds(
+                    number == self.looks,
+                    "each process is looked at, by rising number",
+                )
+            }
+            Act::Release(at) => {
+                self.released = true;
+                holds(
+                    may_release && has_looked && at == page,
+                    "who releases a page has seen it retired, and looked at all",
+                )?;
+                holds(
+                    owner == self.saw,
+                    "a page is released from the retirement that was seen",
+                )
+            }
+            Act::Miss => {
+                if matches!(turn, Turn::Step(_)) {
+                    holds(may_release && has_looked, "a release alone is missed")?;
+                    self.missed = true;
+                }
+                Ok(())
+            }
+            _ => Err("who is to release a page does nothing else"),
+        }
+    }
+
+    /// It has come to the number at which it is to look next.
+    pub fn looks_on(&mut self) {
+        self.looks = self.looks.saturating_add(1);
+        if self.looks == self.number {
+            self.looks = self.looks.saturating_add(1);
+        }
+    }
+
+    /// It has answered that this became of its page.
+    fn judge_of_page(&self, what: Reclaimed) -> Result<(), Law> {
+        holds(self.saw.is_some(), "who answers for a page has seen it")?;
+        if what == Reclaimed::Released {
+            return holds(self.released, "who has released a page says so");
+        }
+        holds(
+            !self.released && (!is_retired(self.saw) || self.blocked || self.missed),
+            "a page is kept that is not retired, or may be read, or was released before",
+        )
+    }
+
+    /// It has answered with this hint, or none.
+    fn judge_hint(&self, hint: Option<Hint>) -> Result<(), Law> {
+        let Some(hint) = hint else {
+            holds(self.parted.is_none(), "who parts a page hints so")?;
+            return holds(self.thin.is_none(), "who leaves a leaf thin hints so");
+        };
+        holds(self.own.is_some(), "who hints has changed a page")?;
+        if is_to_post(&hint) {
+            let named = Some((hint.level() as usize, hint.key()));
+            return holds(
+                named == self.parted,
+                "a hint to post names the page that was parted",
+            );
+        }
+        holds(hint.level() == 1, "the parent of a thin leaf is of level 1")?;
+        holds(
+            self.thin == Some(hint.key()),
+            "a hint of a thin leaf names its low",
+        )
+    }
+
+    /// It has answered this, of a compression.
+    fn judge_of_children(&self, what: Squeezed) -> Result<(), Law> {
+        let puts = match &self.squeeze {
+            Some(squeeze) => squeeze.puts,
+            None => 0,
+        };
+        let has_put = what == Squeezed::Merged || what == Squeezed::Evened;
+        holds(
+            puts == if has_put { 3 } else { 0 },
+            "a compression is done whole",
+        )?;
+        holds(
+            !self.evens || what == Squeezed::Evened,
+            "a child begins before its key in an evening alone",
+        )?;
+        holds(
+            self.retired == (what == Squeezed::Merged),
+            "a merge retires the dead page",
+        )
+    }
+
+    /// It has answered this.
+    pub fn judge(&self, answer: Answer) -> Result<(), Law> {
+        match &answer {
+            Answer::Reclaim(what) => return self.judge_of_page(*what),
+            Answer::Compress(what, _) => self.judge_of_children(*what)?,
+            _ => self.judge_hint(hint_of(&answer))?,
+        }
+        holds(self.begun.is_some(), "who answers has begun")?;
+        let answer = without_hint(answer);
+        if let Some(own) = &self.own {
+            return holds(answer == *own, "who has changed the tree answers so");
+        }
+        if is_no_room(&answer) {
+            return holds(self.refused, "who has no room was refused");
+        }
+        for right in self.right.as_slice() {
+            if answer == *right {
+                return Ok(());
+            }
+        }
+        Err("an answer was right at some moment since the process began")
+    }
+}

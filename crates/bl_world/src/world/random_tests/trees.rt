@@ -1,0 +1,513 @@
+//! The laws of the tree, by plain walks over the pages. They hold at every moment, also in the middle of the work of any
+//! process, with these exceptions and no others: a page is fresh, and not of the tree yet, until the page is put that is to
+//! name it; and while a process is between the first and the last put of a compression, two pages that it holds may cover a
+//! key in common, and a child that it holds may begin before the key by which it is listed, which is so in an evening alone.
+
+use crate::Owner;
+use crate::lists::Lists;
+use arrayvec::ArrayVec;
+use bl_model::{Next, Reply};
+use bl_page::{Inner, Leaf, Page};
+use std::alloc::Global;
+
+/// A law that is broken, in words.
+pub type Law = &'static str;
+
+pub fn holds(condition: bool, law: Law) -> Result<(), Law> {
+    if condition { Ok(()) } else { Err(law) }
+}
+
+pub fn add<T: Drop>(list: &mut Vec<T>, item: T) -> Result<(), Law> {
+    list.push(item).ok().ok_or("there is memory")
+}
+
+/// A page that was taken and is to be named by another one, which the same process holds.
+#[derive(Clone, Copy, PartialEq, Eq)]
+pub struct Fresh {
+    pub page: u32,
+    pub holder: usize,
+    pub named_by: u32,
+}
+
+/// Where processes stand with work that changes more than one page.
+#[derive(Drop)]
+pub struct Moment {
+    pub fresh: Vec<Fresh>,
+    /// Numbers of those that are between the first and the last put of a compression.
+    pub compressing: Vec<usize>,
+}
+
+impl Moment {
+    pub fn is_fresh(&self, page: u32) -> bool {
+        for fresh in self.fresh.as_slice() {
+            if fresh.page == page {
+                return true;
+            }
+        }
+        false
+    }
+
+    /// The number of the process that holds the page and is in the middle of a compression.
+    fn compressor_of(&self, lists: &Lists, page: u32) -> Option<usize> {
+        let owner = lists.owners.as_slice().get(page as usize).copied();
+        for number in self.compressing.as_slice() {
+            if owner == Some(Owner::Held(*number)) {
+                return Some(*number);
+            }
+        }
+        None
+    }
+
+    /// One process holds both pages, and is in the middle of a compression.
+    fn compresses_both(&self, lists: &Lists, page: u32, other: u32) -> bool {
+        let compressor = self.compressor_of(lists, page);
+        compressor.is_some() && compressor == self.compressor_of(lists, other)
+    }
+}
+
+/// A live page: a leaf or an inner page that is open or held, and not fresh.
+#[derive(Clone, Copy, PartialEq, Eq)]
+pub struct Live {
+    pub page: u32,
+    pub level: usize,
+    pub low: u64,
+    pub high: u64,
+    pub right: u32,
+    /// How many pairs it has.
+    pub count: usize,
+}
+
+impl Live {
+    pub fn covers(&self, key: u64) -> bool {
+        self.low <= key && (self.high == 0 || key < self.high)
+    }
+
+    pub fn is_alone(&self) -> bool {
+        self.low == 0 && self.high == 0
+    }
+
+    /// They are of one level and cover a key in common.
+    fn overlaps(&self, other: &Live) -> bool {
+        let low = self.low.max(other.low);
+        self.level == other.level && self.covers(low) && other.covers(low)
+    }
+}
+
+/// A child that a live inner page lists.
+#[derive(Clone, Copy, PartialEq, Eq)]
+pub struct Listed {
+    pub level: usize,
+    pub parent: u32,
+    pub key: u64,
+    pub child: u64,
+}
+
+/// What stands on the live pages.
+#[derive(Drop)]
+pub struct Tree {
+    pub levels: usize,
+    pub live: Vec<Live>,
+    pub listed: Vec<Listed>,
+    /// The rows of the leaves along their chain, each key by the first leaf that covers it.
+    pub rows: Vec<(u64, u64)>,
+    /// Numbers of processes that are in the middle of an evening, as their children show.
+    pub evening: Vec<usize>,
+}
+
+fn keys_rise_within(pairs: &[(u64, u64)], low: u64, high: u64) -> Result<(), Law> {
+    let mut last = None;
+    for pair in pairs {
+        holds(Some(pair.0) > last, "the keys of a page rise")?;
+        holds(low <= pair.0, "no key is below the page")?;
+        holds(high == 0 || pair.0 < high, "no key is past the page")?;
+        last = Some(pair.0);
+    }
+    Ok(())
+}
+
+fn live_leaf(page: u32, leaf: &Leaf) -> Result<Live, Law> {
+    keys_rise_within(leaf.rows.as_slice(), leaf.low, leaf.high)?;
+    Ok(Live {
+        page,
+        level: 0,
+        low: leaf.low,
+        high: leaf.high,
+        right: leaf.right,
+        count: leaf.rows.as_slice().len(),
+    })
+}
+
+fn live_inner(page: u32, inner: &Inner) -> Result<Live, Law> {
+    let children = inner.children.as_slice();
+    keys_rise_within(children, inner.low, inner.high)?;
+    holds(
+        children.first().map(|child| child.0) == Some(inner.low),
+        "the first child begins with the page",
+    )?;
+    Ok(Live {
+        page,
+        level: inner.level as usize,
+        low: inner.low,
+        high: inner.high,
+        right: inner.right,
+        count: children.len(),
+    })
+}
+
+impl Tree {
+    /// Adds a page that is open or held, and not fresh.
+    fn enter(&mut self, page: u32, owner: Owner, words: &Page) -> Result<(), Law> {
+        match words {
+            Page::Leaf(leaf) => {
+                let live = live_leaf(page, leaf)?;
+                add(&mut self.live, live)
+            }
+            Page::Inner(inner) => {
+                let live = live_inner(page, inner)?;
+                add(&mut self.live, live)?;
+                for child in inner.children.as_slice() {
+                    let listed = Listed {
+                        level: live.level,
+                        parent: page,
+                        key: child.0,
+                        child: child.1,
+                    };
+                    add(&mut self.listed, listed)?;
+                }
+                Ok(())
+            }
+            Page::Dead(_) => holds(owner != Owner::Open, "a dead page is not open"),
+            Page::Anchor(_) => holds(page == 0, "page 0 alone is the anchor"),
+        }
+    }
+
+    fn enter_all(&mut self, lists: &Lists, moment: &Moment) -> Result<(), Law> {
+        for (at, owner) in lists.owners.as_slice().iter().enumerate() {
+            let page = u32::try_from(at).ok().ok_or("a page has a number")?;
+            if matches!(*owner, Owner::Open | Owner::Held(_))
+                && !moment.is_fresh(page)
+                && let Some(words) = lists.pages.as_slice().get(at)
+            {
+                self.enter(page, *owner, words)?;
+            }
+        }
+        Ok(())
+    }
+
+    /// The live page with that number.
+    pub fn live_at(&self, page: u32) -> Option<Live> {
+        for live in self.live.as_slice() {
+            if live.page == page {
+                return Some(*live);
+            }
+        }
+        None
+    }
+
+    /// Two pages that cover a key in common are in the hands of one compression, and each is of a level of the tree.
+    fn overlap_in_compressions_alone(&self, lists: &Lists, moment: &Moment) -> Result<(), Law> {
+        for (at, live) in self.live.as_slice().iter().enumerate() {
+            holds(live.level < self.levels, "a page is of a level of the tree")?;
+            for other in self.live.as_slice().iter().skip(at.saturating_add(1)) {
+                holds(
+                    !live.overlaps(other) || moment.compresses_both(lists, live.page, other.page),
+                    "two pages of a level cover no key in common",
+                )?;
+            }
+        }
+        Ok(())
+    }
+
+    /// Adds the rows of a leaf from that key on.
+    fn meet_rows(&mut self, lists: &Lists, page: u32, from: u64) -> Result<(), Law> {
+        if let Some(Page::Leaf(leaf)) = lists.pages.as_slice().get(page as usize) {
+            for row in leaf.rows.as_slice() {
+                if from <= row.0 {
+                    add(&mut self.rows, *row)?;
+                }
+            }
+        }
+        Ok(())
+    }
+
+    /// The pages of a level, from its leftmost one by the links.
+    fn walk_level(
+        &mut self,
+        lists: &Lists,
+        moment: &Moment,
+        level: usize,
+        first: u32,
+    ) -> Result<(), Law> {
+        let mut at = first;
+        let mut before = first;
+        let mut from = 0;
+        for _ in 0..lists.pages.len() {
+            let live = self.live_at(at).ok_or("a chain goes by live pages")?;
+            holds(live.level == level, "a page is of its level")?;
+            holds(
+                live.low == from || (live.low < from && moment.compresses_both(lists, before, at)),
+                "a page begins where the one before it ends",
+            )?;
+            self.meet_rows(lists, at, from)?;
+            if live.high == 0 {
+                return holds(live.right == 0, "the last page has no link");
+            }
+            holds(from < live.high, "a page ends past its beginning")?;
+            before = at;
+            at = live.right;
+            from = live.high;
+        }
+        Err("a level has an end")
+    }
+
+    /// A child is live, a level below, and begins with the key by which it is listed, or before it in an evening.
+    fn is_child(&mut self, lists: &Lists, moment: &Moment, listed: Listed) -> Result<(), Law> {
+        let child = u32::try_from(listed.child).ok();
+        let child = child.ok_or("a child has a number")?;
+        let live = self.live_at(child).ok_or("a child is live")?;
+        holds(
+            live.level.wrapping_add(1) == listed.level,
+            "a child is one level lower",
+        )?;
+        holds(live.low <= listed.key, "a child begins with its key")?;
+        if live.low == listed.key {
+            return Ok(());
+        }
+        let compressor = moment.compressor_of(lists, child);
+        let compressor = compressor.ok_or("a child begins with its key")?;
+        add(&mut self.evening, compressor)
+    }
+
+    fn children_are_listed(&mut self, lists: &Lists, moment: &Moment) -> Result<(), Law> {
+        for at in 0..self.listed.len() {
+            if let Some(listed) = self.listed.as_slice().get(at).copied() {
+                self.is_child(lists, moment, listed)?;
+            }
+        }
+        Ok(())
+    }
+
+    /// The leaf has the rows of the keys that it covers.
+    fn agrees(&self, live: &Live, leaf: &Leaf) -> Result<(), Law> {
+        let mut rows = leaf.rows.as_slice().iter();
+        for row in self.rows.as_slice() {
+            if live.covers(row.0) {
+                holds(
+                    rows.next() == Some(row),
+                    "a leaf has the rows of the keys that it covers",
+                )?;
+            }
+        }
+        holds(rows.next().is_none(), "leaves agree on their rows")
+    }
+
+    /// Each leaf has the rows of the keys that it covers.
+    fn leaves_agree(&self, lists: &Lists) -> Result<(), Law> {
+        for live in self.live.as_slice() {
+            if let Some(Page::Leaf(leaf)) = lists.pages.as_slice().get(live.page as usize) {
+                self.agrees(live, leaf)?;
+            }
+        }
+        Ok(())
+    }
+
+    /// A page of that level begins with the key.
+    pub fn has_low(&self, level: usize, key: u64) -> bool {
+        for live in self.live.as_slice() {
+            if live.level == level && live.low == key {
+                return true;
+            }
+        }
+        false
+    }
+
+    /// A page of that level lists the key.
+    pub fn lists(&self, level: usize, key: u64) -> bool {
+        for listed in self.listed.as_slice() {
+            if listed.level == level && listed.key == key {
+                return true;
+            }
+        }
+        false
+    }
+
+    /// The low of the page, if it has fewer than 7 pairs and is not alone on its level.
+    pub fn thin_low(&self, page: u32) -> Result<Option<u64>, Law> {
+        let live = self.live_at(page).ok_or("a page that is put is live")?;
+        Ok(if live.count < 7 && !live.is_alone() {
+            Some(live.low)
+        } else {
+            None
+        })
+    }
+
+    /// The same pages are live, with the same rows and children.
+    pub fn is_as(&self, other: &Tree) -> bool {
+        self.levels == other.levels
+            && self.live.as_slice() == other.live.as_slice()
+            && self.listed.as_slice() == other.listed.as_slice()
+            && self.rows.as_slice() == other.rows.as_slice()
+    }
+
+    pub fn value_at(&self, key: u64) -> Option<u64> {
+        for row in self.rows.as_slice() {
+            if row.0 == key {
+                return Some(row.1);
+            }
+        }
+        None
+    }
+
+    /// What a part from that key may answer at that leaf.
+    pub fn part_from(&self, from: u64, leaf: &Live) -> Reply {
+        let mut part = ArrayVec::new();
+        for row in self.rows.as_slice() {
+            if from <= row.0 && leaf.covers(row.0) {
+                let _ = part.try_push(*row);
+            }
+        }
+        let next = if leaf.high == 0 {
+            Next::End
+        } else {
+            Next::More(leaf.high)
+        };
+        Reply::Rows(part, next)
+    }
+
+    /// The pairs of a live page: the rows of a leaf, or the keys and numbers of children.
+    pub fn pairs_of(&self, alloc: Global, live: &Live) -> Result<Vec<(u64, u64)>, Law> {
+        let mut pairs = Vec::new(alloc);
+        for row in self.rows.as_slice() {
+            if live.level == 0 && live.covers(row.0) {
+                add(&mut pairs, *row)?;
+            }
+        }
+        for listed in self.listed.as_slice() {
+            if live.level > 0 && listed.parent == live.page {
+                add(&mut pairs, (listed.key, listed.child))?;
+            }
+        }
+        Ok(pairs)
+    }
+}
+
+/// What stands on the pages, which keep the laws at that moment.
+pub fn walked(alloc: Global, lists: &Lists, moment: &Moment) -> Result<Tree, Law> {
+    let Some(Page::Anchor(anchor)) = lists.pages.as_slice().first() else {
+        return Err("page 0 is the anchor");
+    };
+    let mut tree = Tree {
+        levels: anchor.leftmost.as_slice().len(),
+        live: Vec::new(alloc),
+        listed: Vec::new(alloc),
+        rows: Vec::new(alloc),
+        evening: Vec::new(alloc),
+    };
+    tree.enter_all(lists, moment)?;
+    tree.overlap_in_compressions_alone(lists, moment)?;
+    for (level, first) in anchor.leftmost.as_slice().iter().enumerate() {
+        tree.walk_level(lists, moment, level, *first)?;
+    }
+    tree.children_are_listed(lists, moment)?;
+    keys_rise_within(tree.rows.as_slice(), 0, 0)?;
+    tree.leaves_agree(lists)?;
+    Ok(tree)
+}
+
+/// Where a lone descent for the key goes from a page. None where it has come to the leaf that covers the key.
+fn onwards(lists: &Lists, at: u32, key: u64) -> Result<Option<u32>, Law> {
+    match lists.pages.as_slice().get(at as usize) {
+        Some(Page::Leaf(leaf)) => {
+            holds(leaf.low <= key, "a descent comes to no page past its key")?;
+            if leaf.high == 0 || key < leaf.high {
+                return Ok(None);
+            }
+            Ok(Some(leaf.right))
+        }
+        Some(Page::Inner(inner)) => {
+            if inner.high != 0 && inner.high <= key {
+                return Ok(Some(inner.right));
+            }
+            let mut child = None;
+            for pair in inner.children.as_slice() {
+                if pair.0 <= key {
+                    child = u32::try_from(pair.1).ok();
+                }
+            }
+            holds(child.is_some(), "a descent comes to no page past its key")?;
+            Ok(child)
+        }
+        Some(Page::Dead(dead)) => Ok(Some(dead.right)),
+        _ => Err("a descent goes by pages of the tree"),
+    }
+}
+
+/// A lone descent for the key comes to a live leaf that covers it, and to no page twice.
+pub fn descends(lists: &Lists, tree: &Tree, key: u64) -> Result<(), Law> {
+    let Some(Page::Anchor(anchor)) = lists.pages.as_slice().first() else {
+        return Err("page 0 is the anchor");
+    };
+    let mut at = anchor
+        .leftmost
+        .as_slice()
+        .last()
+        .copied()
+        .ok_or("there is a level")?;
+    for _ in 0..lists.pages.len() {
+        match onwards(lists, at, key)? {
+            Some(next) => at = next,
+            None => {
+                return holds(tree.live_at(at).is_some(), "a descent ends at a live leaf");
+            }
+        }
+    }
+    Err("a descent ends")
+}
+
+/// From a dead page the links lead to a live page of its level. That one may begin later, after an evening; then a search
+/// starts again.
+pub fn leads_back(lists: &Lists, tree: &Tree, dead: u32) -> Result<(), Law> {
+    let Some(Page::Dead(first)) = lists.pages.as_slice().get(dead as usize) else {
+        return Err("a retired page is dead");
+    };
+    let mut at = first.right;
+    for _ in 0..lists.pages.len() {
+        match lists.pages.as_slice().get(at as usize) {
+            Some(Page::Dead(next)) => at = next.right,
+            _ => {
+                let live = tree.live_at(at).ok_or("a dead page leads to a live one")?;
+                return holds(
+                    live.level == first.level as usize,
+                    "a dead page leads to one of its level",
+                );
+            }
+        }
+    }
+    Err("a dead page leads to a live one")
+}
+
+/// The pages are the same.
+pub fn is_same_page(page: &Page, other: &Page) -> bool {
+    match (page, other) {
+        (Page::Leaf(page), Page::Leaf(other)) => {
+            page.low == other.low
+                && page.high == other.high
+                && page.right == other.right
+                && page.rows.as_slice() == other.rows.as_slice()
+        }
+        (Page::Inner(page), Page::Inner(other)) => {
+            page.level == other.level
+                && page.low == other.low
+                && page.high == other.high
+                && page.right == other.right
+                && page.children.as_slice() == other.children.as_slice()
+        }
+        (Page::Dead(page), Page::Dead(other)) => {
+            page.level == other.level && page.low == other.low && page.right == other.right
+        }
+        (Page::Anchor(page), Page::Anchor(other)) => {
+            page.leftmost.as_slice() == other.leftmost.as_slice()
+        }
+        _ => false,
+    }
+}
