@@ -5,7 +5,7 @@ use Rattle.bl_model.specs.declared.operation.Op.TheVariants as op
 use Rattle.bl_model.specs.declared.operation.Reply.{Reply}
 use Rattle.bl_model.specs.declared.operation.Reply.TheVariants.{Rows}
 use Rattle.bl_page.specs.declared.page.Page.{Page}
-use Rattle.bl_trails.specs.Trails.{Said}
+use Rattle.bl_trails.specs.Trails.{Said, marks_of}
 use Rattle.bl_ways.specs.declared.acts.Action.TheVariants as act
 use Rattle.bl_ways.specs.declared.acts.Seen.TheVariants as seen
 use Rattle.bl_ways.specs.declared.answers.Hint.{Hint}
@@ -37,6 +37,8 @@ use Rattle.bl_proc.specs.Deletes.{deleted_answer, delete_next_in, delete_answer_
 use Rattle.bl_proc.specs.Searches.{found_answer, find_next_in, find_answer_in, FindGoes}
 use Rattle.bl_proc.specs.Parts.{part_next_in, part_answer_in, PartGoes}
 use Rattle.bl_proc.specs.Processes.{next_of, answer_of, Takes}
+use Rattle.bl_tables.specs.Hinted.{MeansBeside}
+use Rattle.bl_tables.proofs.Beside.{beside_means}
 use Rattle.bl_tables.specs.Knowing.{Run, bare as know, know_of, inserted_reply, deleted_reply, found_reply, know_find, know_part, know_insert, know_delete, find_end, part_end, insert_end, delete_end, end_of_proc}
 use Rattle.bl_courses.specs.Frames.{op_of}
 use Rattle.bl_passes.specs.declared.known.Mine.{Mine}
@@ -160,7 +162,7 @@ says_of before o o' reply end said e = record {
   said = λ r h. ap (λ (z : Proc). (know_of r.got r.child r.time z).said) h ∙ (said r.got r.child r.time ∙ ap (λ (z : Operation). Some (record { op = z; reply = reply })) (op_one e));
 }
 
-end_says : (before last : Proc) (o : Operation) (reply : Reply) (hint : Option Hint) → op_of before ≡ Some o → next_of before ≡ act.End → Takes before seen.Done last → answer_of last ≡ Some (Op reply hint) → Says before o reply
+pub end_says : (before last : Proc) (o : Operation) (reply : Reply) (hint : Option Hint) → op_of before ≡ Some o → next_of before ≡ act.End → Takes before seen.Done last → answer_of last ≡ Some (Op reply hint) → Says before o reply
 end_says (proc.Find p) (proc.Find q) o reply hint i e t h = (let s = find_ends p.key p.stage q.stage reply hint e t.1 h in says_of (proc.Find p) o (op.Find p.key) reply s.0 (λ got child time. s.1) i)
 end_says (proc.Find p) (proc.Insert q) o reply hint i e t h = absurd t
 end_says (proc.Find p) (proc.Delete q) o reply hint i e t h = absurd t
@@ -205,7 +207,11 @@ end_says (proc.Compress p) last o reply hint i e t h = cc
 end_says (proc.Part p) (proc.Part q) o reply hint i e t h = (let s = part_ends p.from p.stage q.stage reply hint e t.1 h in says_of (proc.Part p) o (op.Part p.from) reply s.0 (λ got child time. s.1) i)
 end_says (proc.Post p) (proc.Post q) o reply hint i e t h = cc
 
-pub op_answered : (pass : ℕ) (old e : Mine) (first last : Proc) (o : Operation) (reply : Reply) (hint : Option Hint) → IsDone pass old e first last → op_of first ≡ Some o → answer_of last ≡ Some (Op reply hint) → Answers pass o reply (trail_of old.trail) (trail_of e.trail)
+-- the hint beside its reply means what it has put
+pub op_beside : (pass : ℕ) (old e : Mine) (first last : Proc) (reply : Reply) (hint : Option Hint) → IsDone pass old e first last → answer_of last ≡ Some (Op reply hint) → MeansBeside last reply hint (marks_of (name pass (old.number + 1)) (trail_of e.trail))
+op_beside pass old e first last reply hint d answer = beside_means last reply hint (marks_of (name pass (old.number + 1)) (trail_of e.trail)) answer d.log
+
+abbrev pub op_answered : (pass : ℕ) (old e : Mine) (first last : Proc) (o : Operation) (reply : Reply) (hint : Option Hint) → IsDone pass old e first last → op_of first ≡ Some o → answer_of last ≡ Some (Op reply hint) → Answers pass o reply (trail_of old.trail) (trail_of e.trail)
 op_answered pass old e first last o reply hint d is answer =
     let s = end_says d.before last o reply hint (d.op ∙ is) d.at_end d.takes answer in
     record {

@@ -3,6 +3,7 @@ use Rattle.std.specs.Prelude.{◌≡◌, ◌≢◌, ℕ, ◌++◌, Option, Some,
 use Rattle.bl_model.specs.Map.{Map, empty}
 use Rattle.bl_model.specs.History.{final_map}
 use Rattle.bl_model.specs.declared.operation.Op.{Op}
+use Rattle.bl_model.specs.declared.operation.Op.TheVariants as op
 use Rattle.bl_model.specs.declared.operation.Reply.{Reply}
 use Rattle.bl_page.specs.Machine.{Name}
 use Rattle.bl_trails.specs.Trails.{Mark, Trail, history_of, marks_of}
@@ -10,6 +11,7 @@ use Rattle.bl_steps.specs.Worlds.{Each}
 use Rattle.bl_ways.specs.declared.answers.Hint.{Hint}
 use Rattle.bl_ways.specs.declared.answers.Posted.{Posted}
 use Rattle.bl_tables.specs.Answers.{MeansPosted, MeansHint}
+use Rattle.bl_tables.specs.Hinted.{MeansInserted, MeansDeleted}
 use Rattle.bl_store.specs.Hands.{known, IsOf}
 use Rattle.bl_passes.specs.Noting.{trail_of}
 use Rattle.bl_passes.specs.Seeing.{IsSeen, own, Holds}
@@ -79,6 +81,16 @@ pub record Sweeps (pass : ℕ) (old new : Trail) : Type 0 where
 pub record MayAnswer (pass : ℕ) (op : Op) (result : Result Reply OutOfTurns) (old new : Trail) : Type 0 where
   pub answered : IfOk result (λ reply. Answers pass op reply old new)
   pub refused : IfErr result (λ fault. Adds pass old new)
+
+-- An insertion is answered, and the hint beside its reply means what its process has put.
+pub record Inserts (pass key value : ℕ) (reply : Reply) (next : Option Hint) (old new : Trail) : Type 0 where
+  pub answers : Answers pass (op.Insert key value) reply old new
+  pub hint : MeansInserted reply next (marks_of (name pass answers.number) new)
+
+-- The same of a deletion.
+pub record Deletes (pass key : ℕ) (reply : Reply) (next : Option Hint) (old new : Trail) : Type 0 where
+  pub answers : Answers pass (op.Delete key) reply old new
+  pub hint : MeansDeleted reply next (marks_of (name pass answers.number) new)
 
 -- A post is answered: it says nothing of the map, and what its process has done is what its answer and its hint mean.
 pub record Posts (pass level key : ℕ) (answer : Posted) (next : Option Hint) (old new : Trail) : Type 0 where

@@ -1,7 +1,6 @@
 //! Insertions and deletions.
 
 ghost use Rattle.std.specs.Prelude.{◌≡◌, None, Some, false};
-ghost use Rattle.bl_model.specs.declared.operation.Op.TheVariants as op;
 ghost use Rattle.bl_ways.specs.declared.acts.Action.TheVariants as act;
 ghost use Rattle.bl_ways.specs.declared.answers.Answer.TheVariants as answers;
 ghost use Rattle.bl_index.specs.Searching.{IsOpAnswer};
@@ -33,9 +32,9 @@ pub(crate) fn answered(answer: Option<Answer>) -> (Reply, Option<Hint>)
 }
 
 impl Index {
-    ghost use Rattle.bl_index.specs.Calls.{IsPassOf, IsSamePass, number_of, trail, Answers};
+    ghost use Rattle.bl_index.specs.Calls.{IsPassOf, IsSamePass, number_of, trail, Inserts, Deletes};
 
-    /// Puts the value at the key, where the key has none. Where a page was parted, there is a hint to post.
+    /// Puts the value at the key, where the key has none. Where the leaf was parted, there is a hint to post its upper part.
     pub fn insert<R: Wait>(
         &self,
         rt: &R,
@@ -45,7 +44,7 @@ impl Index {
     ) -> (Reply, Option<Hint>)
         requires { IsPassOf self.now pass.old }
         ensures same { IsSamePass pass.old pass.new }
-        ensures answers { Answers (number_of pass.old) (op.Insert key value) result.0 (trail pass.old) (trail pass.new) }
+        ensures inserts { Inserts (number_of pass.old) key value result.0 result.1 (trail pass.old) (trail pass.new) }
     {
         let process = self.carry_out(rt, &mut pass.hand, Insert::new(key, value));
         answered(process.answer())
@@ -55,7 +54,7 @@ impl Index {
     pub fn delete<R: Wait>(&self, rt: &R, pass: &mut Pass, key: u64) -> (Reply, Option<Hint>)
         requires { IsPassOf self.now pass.old }
         ensures same { IsSamePass pass.old pass.new }
-        ensures answers { Answers (number_of pass.old) (op.Delete key) result.0 (trail pass.old) (trail pass.new) }
+        ensures deletes { Deletes (number_of pass.old) key result.0 result.1 (trail pass.old) (trail pass.new) }
     {
         let process = self.carry_out(rt, &mut pass.hand, Delete::new(key));
         answered(process.answer())

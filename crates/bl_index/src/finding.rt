@@ -19,6 +19,7 @@ use bl_proc::{Find, FindStage};
 use bl_store::Hand;
 
 /// What a search answers.
+#[inline(always)]
 fn reply_of(value: Option<u64>) -> Reply
     ensures { result ≡ found_reply value }
 {
@@ -29,6 +30,7 @@ fn reply_of(value: Option<u64>) -> Reply
 }
 
 /// The page that a search is to get next.
+#[inline(always)]
 fn page_of(stage: FindStage) -> u32
     requires { IsSearching stage }
     ensures { find_next_in stage ≡ act.Get result }
@@ -44,6 +46,7 @@ impl Index {
     ghost use Rattle.bl_index.specs.Calls.{IsPassOf, IsSamePass, number_of, trail, MayAnswer};
 
     /// The value of a key, or that the key is absent. It gets at most so many pages, the anchor included.
+    #[inline(always)]
     pub fn find(&self, pass: &mut Pass, key: u64, turns: u32) -> Result<Reply, OutOfTurns>
         requires { IsPassOf self.now pass.old }
         ensures same { IsSamePass pass.old pass.new }
@@ -52,6 +55,7 @@ impl Index {
         self.find_by(&mut pass.hand, key, turns)
     }
 
+    #[inline(always)]
     fn find_by(&self, hand: &mut Hand<Mine>, key: u64, turns: u32) -> Result<Reply, OutOfTurns>
         requires own { IsOf self.now.store.table.shared.table_id self.now.store.layout hand.old.seat }
         requires idle { IsIdle hand.old.seat }
@@ -63,11 +67,10 @@ impl Index {
         ensures answers { MayAnswer hand.old.number (op.Find key) result (trail_of (known hand.old.seat).trail) (trail_of (known hand.new.seat).trail) }
     {
         let mut process = Find::new(key);
-        let mut words = [0; 32];
         self.begin(hand, &mut process);
         for _ in 0..turns {
             let page = page_of(process.stage);
-            self.read(hand, &mut process, page, &mut words);
+            self.read(hand, &mut process, page);
             if let FindStage::Ending(value) = process.stage {
                 self.finish(hand, &mut process);
                 return Ok(reply_of(value));

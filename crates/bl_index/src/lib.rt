@@ -17,6 +17,7 @@ mod listing;
 mod opening;
 mod posting;
 mod running;
+mod shown;
 mod stepping;
 mod sweeping;
 

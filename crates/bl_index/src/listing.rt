@@ -54,11 +54,10 @@ impl Index {
         ensures answers { MayAnswer hand.old.number (op.Part from) result (trail_of (known hand.old.seat).trail) (trail_of (known hand.new.seat).trail) }
     {
         let mut process = Part::new(from);
-        let mut words = [0; 32];
         self.begin(hand, &mut process);
         for _ in 0..turns {
             let page = page_of(&process.stage);
-            self.read(hand, &mut process, page, &mut words);
+            self.read(hand, &mut process, page);
             if let PartStage::Ending(_) = &process.stage {
                 self.finish(hand, &mut process);
                 let (reply, _) = answered(process.answer());

@@ -17,6 +17,7 @@ ghost use Rattle.bl_index.specs.Runs.{IsOn, IsSince, IsWithin, Moves};
 
 use crate::index::Index;
 use crate::kinds::Kind;
+use crate::shown::Shown;
 use bl_passes::{Began, Ended, GaveUp, Got, Launch, Mine};
 use bl_proc::Seen;
 use bl_store::Hand;
@@ -24,6 +25,7 @@ use std::marker::Brand;
 
 impl Index {
     // Begins the process, which the first bound names beside its pass.
+    #[inline(always)]
     fn launch<J: Launch, P: Kind>(&self, hand: &mut Hand<Mine>, process: &P)
         requires own { IsOf self.now.store.table.shared.table_id self.now.store.layout hand.old.seat }
         requires idle { IsIdle hand.old.seat }
@@ -39,6 +41,7 @@ impl Index {
     }
 
     /// Begins the process.
+    #[inline(always)]
     pub(crate) fn begin<P: Kind>(&self, hand: &mut Hand<Mine>, process: &mut P)
         requires own { IsOf self.now.store.table.shared.table_id self.now.store.layout hand.old.seat }
         requires idle { IsIdle hand.old.seat }
@@ -53,14 +56,9 @@ impl Index {
         process.took(Seen::Done);
     }
 
-    /// The process gets the page, its words into the buffer.
-    pub(crate) fn read<P: Kind>(
-        &self,
-        hand: &mut Hand<Mine>,
-        process: &mut P,
-        page: u32,
-        words: &mut [u64; 32],
-    )
+    /// The process gets the page, and reads the words that it needs.
+    #[inline(always)]
+    pub(crate) fn read<P: Kind>(&self, hand: &mut Hand<Mine>, process: &mut P, page: u32)
         requires own { IsOf self.now.store.table.shared.table_id self.now.store.layout hand.old.seat }
         requires running { IsRunning hand.old.seat }
         requires process { IsOn self.now.store.layout (known hand.old.seat) (P.proc_of process.old) }
@@ -70,11 +68,20 @@ impl Index {
         ensures moves { Moves (known hand.old.seat) (known hand.new.seat) }
         ensures takes { (c : PageIs) × P.Takes process.old (seen.Words c) process.new }
     {
-        self.store.get_into::<Got>(hand, page, words);
-        process.took_words(words);
+        match self.store.glance::<Got>(hand, page) {
+            Some(glance) => {
+                let shown = Shown {
+                    store: &self.store,
+                    glance,
+                };
+                process.took_words(&shown, hand);
+            }
+            None => unreachable!(),
+        }
     }
 
     /// The process ends.
+    #[inline(always)]
     pub(crate) fn finish<P: Kind>(&self, hand: &mut Hand<Mine>, process: &mut P)
         requires own { IsOf self.now.store.table.shared.table_id self.now.store.layout hand.old.seat }
         requires running { IsRunning hand.old.seat }
@@ -92,6 +99,7 @@ impl Index {
     }
 
     /// A process that has said nothing and holds nothing ends at once.
+    #[inline(always)]
     pub(crate) fn give_up(&self, hand: &mut Hand<Mine>)
         requires own { IsOf self.now.store.table.shared.table_id self.now.store.layout hand.old.seat }
         requires running { IsRunning hand.old.seat }

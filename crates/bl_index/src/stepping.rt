@@ -194,7 +194,7 @@ impl Index {
     {
         match process.next() {
             Action::Get(page) => {
-                self.read(hand, process, page, &mut [0; 32]);
+                self.read(hand, process, page);
                 Stepped::On(held)
             }
             Action::Latch(page) => {

@@ -1,11 +1,11 @@
 -- Places of keys in pairs that rise, and these pairs in words.
 use Rattle.std.proofs.Common.{◌≡◌, ◌≢◌, ℕ, zero, suc, ◌+◌, ◌*◌, ◌-◌, ◌<◌, ◌≤◌, List, [], ◌∷◌, length, get_or, drop, Option, Some, None, true, false, refl, ap, sym, ◌∙◌, inl, inr, arith}
-use Rattle.std.specs.Prelude.{nat_lt}
+use Rattle.std.specs.Prelude.{nat_lt, if◌then◌else◌}
 use Rattle.std.proofs.lemmas.Bool.{cases_lt}
 use Rattle.std.proofs.lemmas.List.{get_or-drop, length-drop}
 use Rattle.bl_model.specs.Rows.{map_of}
 use Rattle.bl_page.specs.Pairs.{RisesFrom, place}
-use Rattle.bl_page.specs.Faults.{pairs_in}
+use Rattle.bl_page.specs.Faults.{pairs_in, count_in, pairs_of, HasPairs}
 use Rattle.bl_page.proofs.Lookups.{map_of_below, place-le}
 use Rattle.bl_page.proofs.Spelled.{length-pairs_in}
 
@@ -109,3 +109,79 @@ pair-before words n p long few some within =
     let key : 4 + 2 * (p - 1) ≡ 2 + 2 * p = omega (arith, some) in
     let word : 5 + 2 * (p - 1) ≡ 3 + 2 * p = omega (arith, some) in
     (ap (λ pair. pair.0) at ∙ ap (λ j. get_or words j 0) key, ap (λ pair. pair.1) at ∙ ap (λ j. get_or words j 0) word)
+
+-- how many of the first keys in words are at or below a key, and zeros with them
+abbrev pub count_to : ℕ → ℕ → List ℕ → ℕ
+count_to key zero words = 0
+count_to key (suc i) words = count_to key i words + (if nat_lt key (get_or words (4 + 2 * i) 0) then 0 else 1)
+
+-- whether a word is at or below the key, as a number
+abbrev pub counted : ℕ → ℕ → ℕ
+counted key word = if nat_lt key word then 0 else 1
+
+pub counted-one : (key word : ℕ) → word ≤ key → counted key word ≡ 1
+counted-one key word reached = let e : nat_lt key word ≡ false = grind (arith, reached) in grind (arith, e)
+
+pub counted-none : (key word : ℕ) → key < word → counted key word ≡ 0
+counted-none key word above = let e : nat_lt key word ≡ true = grind (arith, above) in grind (arith, e)
+
+-- two keys more
+pub count-two : (key i : ℕ) (words : List ℕ) → count_to key (2 * (i + 1)) words ≡ count_to key (2 * i) words + counted key (get_or words (4 + 4 * i) 0) + counted key (get_or words (6 + 4 * i) 0)
+count-two key i words =
+    let two : 2 * (i + 1) ≡ suc (suc (2 * i)) = omega arith in
+    let first : 4 + 2 * (2 * i) ≡ 4 + 4 * i = omega arith in
+    let second : 4 + 2 * suc (2 * i) ≡ 6 + 4 * i = omega arith in
+    ap (λ n. count_to key n words) two ∙ ap (λ j. count_to key (2 * i) words + counted key (get_or words j 0) + counted key (get_or words (4 + 2 * suc (2 * i)) 0)) first
+    ∙ ap (λ j. count_to key (2 * i) words + counted key (get_or words (4 + 4 * i) 0) + counted key (get_or words j 0)) second
+
+-- among the pairs these are all up to the place of the key
+pub count-pairs : (key i : ℕ) (words : List ℕ) → length words ≡ 32 → HasPairs words → i ≤ count_in words
+    → (i ≤ place key (pairs_of words) → count_to key i words ≡ i) × (place key (pairs_of words) ≤ i → count_to key i words ≡ place key (pairs_of words))
+count-pairs key zero words long has within = ((λ h. refl), λ h. omega (arith, h))
+count-pairs key (suc i) words long has within =
+    let n = count_in words in
+    let few = has.few in
+    let before = count-pairs key i words long has (omega arith) in
+    let at : key_at (pairs_of words) i ≡ get_or words (4 + 2 * i) 0 = ap (λ pair. pair.0) (pairs-at n i words long few (omega arith)) in
+    let low : i < length (pairs_of words) = omega (arith, pairs-length n words long few) in
+    elim (cases_lt key (get_or words (4 + 2 * i) 0)) [
+      | inl above ↦
+          let e : nat_lt key (get_or words (4 + 2 * i) 0) ≡ true = grind (arith, above) in
+          let step : count_to key (suc i) words ≡ count_to key i words = grind (arith, e) in
+          let most = place-below key i (pairs_of words) low (omega (arith, at, above)) in
+          ((λ h. absurd (omega (arith, h, most))), λ h. step ∙ before.1 most)
+      | inr reached ↦
+          let e : nat_lt key (get_or words (4 + 2 * i) 0) ≡ false = grind (arith, reached) in
+          let step : count_to key (suc i) words ≡ count_to key i words + 1 = grind (arith, e) in
+          let past = place-above 0 key i (pairs_of words) has.rises low (omega (arith, at, reached)) in
+          let all = before.0 (omega (arith, past)) in
+          ((λ h. omega (arith, step, all)), λ h. omega (arith, step, all, past, h))
+    ]
+
+-- behind them each zero counts
+pub count-rest : (key j : ℕ) (words : List ℕ) → length words ≡ 32 → HasPairs words → count_in words + j ≤ 14
+    → count_to key (count_in words + j) words ≡ place key (pairs_of words) + j
+count-rest key zero words long has within =
+    let n = count_in words in
+    let most : place key (pairs_of words) ≤ n = omega (arith, place-le key (pairs_of words), pairs-length n words long has.few) in
+    let all = (count-pairs key n words long has (omega arith)).1 most in
+    let e : n + 0 ≡ n = omega arith in
+    let f : place key (pairs_of words) + 0 ≡ place key (pairs_of words) = omega arith in
+    ap (λ i. count_to key i words) e ∙ all ∙ sym f
+count-rest key (suc j) words long has within =
+    let n = count_in words in
+    let before = count-rest key j words long has (omega arith) in
+    let none : get_or words (4 + 2 * (n + j)) 0 ≡ 0 = has.rest (4 + 2 * (n + j)) (omega arith) (omega arith) in
+    let e : nat_lt key (get_or words (4 + 2 * (n + j)) 0) ≡ false = grind (arith, none) in
+    let step : count_to key (suc (n + j)) words ≡ count_to key (n + j) words + 1 = grind (arith, e) in
+    let is : n + suc j ≡ suc (n + j) = omega arith in
+    ap (λ i. count_to key i words) is ∙ step ∙ omega (arith, before)
+
+pub count-all : (key : ℕ) (words : List ℕ) → length words ≡ 32 → HasPairs words → count_to key 14 words + count_in words ≡ place key (pairs_of words) + 14
+count-all key words long has =
+    let n = count_in words in
+    let few = has.few in
+    let whole : n + (14 - n) ≡ 14 = omega arith in
+    let all = count-rest key (14 - n) words long has (omega arith) in
+    let moved : count_to key 14 words ≡ count_to key (n + (14 - n)) words = ap (λ i. count_to key i words) (sym whole) in
+    omega (arith, all, moved, few)

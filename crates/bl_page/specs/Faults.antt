@@ -37,6 +37,12 @@ pairs_in (suc n) (key ∷ word ∷ words) = (key, word) ∷ pairs_in n words
 abbrev pub pairs_of : List ℕ → List (ℕ × ℕ)
 pairs_of words = pairs_in (count_in words) (drop 4 words)
 
+-- Words in which a key can be sought: the pairs fit, their keys rise, and zeros stand behind them.
+pub record HasPairs (words : List ℕ) : Type 0 where
+  pub few : count_in words ≤ 14
+  pub rises : RisesFrom 0 (pairs_of words)
+  pub rest : (i : ℕ) → 4 + 2 * count_in words ≤ i → i < 32 → slice_index words i ≡ 0
+
 -- how many words the entries take
 abbrev pub width : Kind → ℕ → ℕ
 width Anchor count = count

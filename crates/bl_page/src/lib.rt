@@ -7,6 +7,7 @@ mod page;
 mod pairs;
 mod reading;
 mod seeking;
+mod source;
 mod words;
 
 pub use keys::is_within;
@@ -14,6 +15,7 @@ pub use page::{Anchor, Dead, Inner, Leaf, Page, Pairs, WordFault};
 pub use pairs::{listed_with, place_of};
 pub use reading::from_words;
 pub use seeking::{child_in, listed_in};
+pub use source::{WordSource, words_from};
 pub use words::{KIND_UNIT, LEVEL_UNIT};
 
 #[cfg(test)]

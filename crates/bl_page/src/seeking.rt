@@ -1,54 +1,70 @@
-//! What the words of a page list with a key, sought by halving, without a page being made of them.
+//! What the words of a page list with a key, without a page being made of them.
 
 ghost use Rattle.std.specs.Prelude.{◌≡◌, ◌≤◌, slice_index};
 ghost use Rattle.bl_model.specs.Rows.{map_of};
-ghost use Rattle.bl_page.specs.Pairs.{RisesFrom, BeginsWith, NameChildren, IsChildFor, place};
-ghost use Rattle.bl_page.specs.Faults.{count_in, pairs_of};
+ghost use Rattle.bl_page.specs.Pairs.{BeginsWith, NameChildren, IsChildFor, place};
+ghost use Rattle.bl_page.specs.Faults.{count_in, pairs_of, HasPairs};
 
-use crate::words::LEVEL_UNIT;
+use crate::source::WordSource;
 
-/// How many keys are at or below a key.
-fn place_in(words: &[u64; 32], key: u64) -> usize
-    requires few { count_in words.now ≤ 14 }
-    requires rises { RisesFrom 0 (pairs_of words.now) }
-    ensures place { result ≡ place key (pairs_of words.now) }
-    ensures within { result ≤ 14 }
+/// How many keys are at or below a key, where there are so many. The zeros behind the pairs are counted too, and then taken
+/// off: a loop without branches takes less time than one that halves. Every other key is counted by those above: where all
+/// are added, the compiler gathers the comparisons into a vector one by one, which takes twice as long.
+#[inline(always)]
+fn place_in<W: WordSource>(source: &W, hand: &mut W::Hand, count: usize, key: u64) -> usize
+    requires sees { W.Sees source.now hand.old }
+    requires count { count ≡ count_in (W.shown source.now hand.old) }
+    requires pairs { HasPairs (W.shown source.now hand.old) }
+    ensures same { hand.new ≡ hand.old }
+    ensures place { result ≡ place key (pairs_of (W.shown source.now hand.old)) }
+    ensures within { result ≤ count }
 {
-    let mut least = 0;
-    let mut most = (words[0] % LEVEL_UNIT) as usize;
-    while least < most {
-        let middle = (least + most) / 2;
-        if key < words[4 + 2 * middle] {
-            most = middle;
-        } else {
-            least = middle + 1;
+    let mut reached = 7;
+    for i in 0..7 {
+        if source.word(hand, 4 + 4 * i) <= key {
+            reached += 1;
+        }
+        if key < source.word(hand, 6 + 4 * i) {
+            reached -= 1;
         }
     }
-    least
+    reached + count - 14
 }
 
-/// What the words of a leaf or an inner page list with a key.
-pub fn listed_in(words: &[u64; 32], key: u64) -> Option<u64>
-    requires few { count_in words.now ≤ 14 }
-    requires rises { RisesFrom 0 (pairs_of words.now) }
-    ensures { result ≡ map_of (pairs_of words.now) key }
+/// What the words of a leaf or an inner page with so many pairs list with a key.
+#[inline(always)]
+pub fn listed_in<W: WordSource>(
+    source: &W,
+    hand: &mut W::Hand,
+    count: usize,
+    key: u64,
+) -> Option<u64>
+    requires sees { W.Sees source.now hand.old }
+    requires count { count ≡ count_in (W.shown source.now hand.old) }
+    requires pairs { HasPairs (W.shown source.now hand.old) }
+    ensures same { hand.new ≡ hand.old }
+    ensures listed { result ≡ map_of (pairs_of (W.shown source.now hand.old)) key }
 {
-    let place = place_in(words, key);
-    if place > 0 && words[2 + 2 * place] == key {
-        Some(words[3 + 2 * place])
+    let place = place_in(source, hand, count, key);
+    if place > 0 && source.word(hand, 2 + 2 * place) == key {
+        Some(source.word(hand, 3 + 2 * place))
     } else {
         None
     }
 }
 
-/// The child of the greatest key that is not above a covered key, in the words of an inner page.
-pub fn child_in(words: &[u64; 32], key: u64) -> u32
-    requires few { count_in words.now ≤ 14 }
-    requires rises { RisesFrom 0 (pairs_of words.now) }
-    requires first { BeginsWith (slice_index words.now 1) (pairs_of words.now) }
-    requires pages { NameChildren (pairs_of words.now) }
-    requires covers { slice_index words.now 1 ≤ key }
-    ensures { IsChildFor (pairs_of words.now) key result }
+/// The child of the greatest key that is not above a covered key, in the words of an inner page with so many pairs.
+#[inline(always)]
+pub fn child_in<W: WordSource>(source: &W, hand: &mut W::Hand, count: usize, key: u64) -> u32
+    requires sees { W.Sees source.now hand.old }
+    requires count { count ≡ count_in (W.shown source.now hand.old) }
+    requires pairs { HasPairs (W.shown source.now hand.old) }
+    requires first { BeginsWith (slice_index (W.shown source.now hand.old) 1) (pairs_of (W.shown source.now hand.old)) }
+    requires pages { NameChildren (pairs_of (W.shown source.now hand.old)) }
+    requires covers { slice_index (W.shown source.now hand.old) 1 ≤ key }
+    ensures same { hand.new ≡ hand.old }
+    ensures child { IsChildFor (pairs_of (W.shown source.now hand.old)) key result }
 {
-    words[3 + 2 * place_in(words, key)] as u32
+    let place = place_in(source, hand, count, key);
+    source.word(hand, 3 + 2 * place) as u32
 }

@@ -9,7 +9,7 @@ ghost use Rattle.bl_ways.specs.Given.{Gives};
 ghost use Rattle.bl_proc.specs.Searches.{find_next_in, find_answer_in, find_next, find_needs, find_answer, FindGoes, FindTakes};
 
 use bl_model::Reply;
-use bl_page::Page;
+use bl_page::{Page, WordSource};
 use bl_ways::{
     Action, Answer, Onward, Process, Reader, Seen, listed, row_in, top_in, top_page, way_from,
     way_in,
@@ -49,13 +49,16 @@ fn went_on(key: u64, at: u32, page: &Page) -> FindStage
 }
 
 /// The same by the page's words.
-fn went_on_in(key: u64, at: u32, words: &[u64; 32]) -> FindStage
-    requires { (c : PageIs) × (words.now ≡ words_of c) }
-    ensures { (c : PageIs) → words.now ≡ words_of c → FindGoes key (find_stage.At at) (seen.Words c) result }
+#[inline(always)]
+fn went_on_in<W: WordSource>(source: &W, hand: &mut W::Hand, key: u64, at: u32) -> FindStage
+    requires sees { W.Sees source.now hand.old }
+    requires page { (c : PageIs) × (W.shown source.now hand.old ≡ words_of c) }
+    ensures same { hand.new ≡ hand.old }
+    ensures goes { (c : PageIs) → W.shown source.now hand.old ≡ words_of c → FindGoes key (find_stage.At at) (seen.Words c) result }
 {
-    match way_in(words, key, 0) {
+    match way_in(source, hand, key, 0) {
         Onward::Right(next) | Onward::Down(next) => FindStage::At(next),
-        Onward::Here => FindStage::Ending(row_in(words, key)),
+        Onward::Here => FindStage::Ending(row_in(source, hand, key)),
         Onward::Again => {
             // The key has gone to the left since its parent was read.
             FindStage::AtAnchor
@@ -63,6 +66,7 @@ fn went_on_in(key: u64, at: u32, words: &[u64; 32]) -> FindStage
     }
 }
 
+#[inline(always)]
 fn went(key: u64, stage: FindStage, seen: &Seen) -> FindStage
     requires running { find_answer_in stage ≡ None }
     requires given { Gives (find_next_in stage) None seen.now }
@@ -120,17 +124,19 @@ impl Process for Find {
         }
     }
 
+    #[inline(always)]
     fn took(&mut self, seen: Seen) {
         self.stage = went(self.key, self.stage, &seen);
     }
 }
 
 impl Reader for Find {
-    // A search makes no page of the words: most of its time would go there.
-    fn took_words(&mut self, words: &[u64; 32]) {
+    // A search makes no page of the words, and reads only those that it needs: most of its time would go there.
+    #[inline(always)]
+    fn took_words<W: WordSource>(&mut self, source: &W, hand: &mut W::Hand) {
         self.stage = match self.stage {
-            FindStage::AtAnchor => FindStage::At(top_in(words)),
-            FindStage::At(at) => went_on_in(self.key, at, words),
+            FindStage::AtAnchor => FindStage::At(top_in(source, hand)),
+            FindStage::At(at) => went_on_in(source, hand, self.key, at),
             _ => unreachable!(),
         };
     }

@@ -120,7 +120,7 @@ fn turn_by_words(tree: &Tree, find: &mut Find) -> Result<Did, Fail> {
     match find.next() {
         Action::Get(at) => {
             let page = tree.pages.get(at as usize).ok_or("no such page")?;
-            find.took_words(&page.to_words());
+            find.took_words(&page.to_words(), &mut ());
             Ok(Did::Get(at))
         }
         Action::Begin => {

@@ -1,15 +1,18 @@
 -- What a caller sees of a hand.
-use Rattle.std.specs.Prelude.{◌≡◌, ◌⊎◌, ℕ, zero, suc, ◌<◌, ◌≤◌, List, [], ◌∷◌, length, slice_index}
+use Rattle.std.specs.Prelude.{Option, None, Some, ◌≡◌, ◌⊎◌, ℕ, zero, suc, ◌<◌, ◌≤◌, List, [], ◌∷◌, length, replicate, slice_index}
 use Rattle.atomic_table.specs.Seated.{TableId}
 use Rattle.atomic_table.specs.declared.shared.Seat.{Seat}
 use Rattle.bl_layout.specs.declared.layout.Layout.{Layout}
 use Rattle.bl_layout.specs.Words.{frame_count}
-use Rattle.bl_store.specs.Frames.{owner_at, state_at}
+use Rattle.bl_store.specs.Frames.{owner_at, state_at, place_at}
 use Rattle.bl_store.specs.Told.{draft}
 use Rattle.bl_store.specs.declared.stock.Stock.{Stock}
 use Rattle.bl_store.specs.declared.stock.NoRoom.{NoRoom}
 use Rattle.bl_store.specs.declared.stock.NoRoom.TheVariants.{Pages, Frames, Clock}
+use Rattle.bl_store.specs.declared.store.Glance.{Glance}
 use Rattle.bl_store.specs.declared.view.Draft.{Draft}
+use Rattle.bl_store.specs.declared.view.Reading.{Reading}
+use Rattle.bl_store.specs.declared.view.Reading.TheVariants.{Nowhere, At}
 use Rattle.bl_store.specs.declared.view.View.{View}
 use Rattle.bl_store.specs.declared.view.Stamp.TheVariants.{Out, In}
 
@@ -22,6 +25,15 @@ Has (y ∷ ys) x = (x ≡ y) ⊎ Has ys x
 abbrev pub drafts : List ℕ → ℕ → List Draft
 drafts fs zero = []
 drafts fs (suc n) = draft (slice_index fs n) [] ∷ drafts fs n
+
+-- the words of the frame that is read
+abbrev pub words_in : Reading → List ℕ
+words_in Nowhere = []
+words_in (At f xs) = xs
+
+-- these are 32 words of the table, from `first` on
+abbrev pub BeginsAt : Layout → ℕ → Reading → Type 0
+BeginsAt l first reading = (f : ℕ) × (reading ≡ At f (words_in reading)) × (f < frame_count l) × (length (words_in reading) ≡ 32) × (first ≡ place_at l f 0)
 
 module _ {D : Type 0} where
   -- what the hand knows
@@ -54,6 +66,19 @@ module _ {D : Type 0} where
   -- the same frames are reserved, with leave for as many puts and retirements
   abbrev pub IsSameStock : Seat (Unit {0}) (View D) → Seat (Unit {0}) (View D) → Type 0
   IsSameStock h h' = (h'.me.0.stock ≡ h.me.0.stock) × (h'.me.0.puts ≡ h.me.0.puts) × (h'.me.0.retires ≡ h.me.0.retires)
+
+  -- the words of the page that the hand looked at last
+  abbrev pub read_words : Seat (Unit {0}) (View D) → List ℕ
+  read_words h = words_in h.me.0.reading
+
+  -- the hand looked there last
+  abbrev pub ReadsFrom : Seat (Unit {0}) (View D) → Glance → Type 0
+  ReadsFrom h glance = BeginsAt h.me.0.layout glance.first h.me.0.reading
+
+  -- what a look at a page with these words gives
+  abbrev pub HasSeen : Option Glance → Seat (Unit {0}) (View D) → List ℕ → Type 0
+  HasSeen None h words = words ≡ replicate 32 0
+  HasSeen (Some glance) h words = ReadsFrom h glance × (words ≡ read_words h)
 
   -- the hand has nothing reserved
   abbrev pub HasNoStock : Seat (Unit {0}) (View D) → Type 0

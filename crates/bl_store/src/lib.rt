@@ -30,5 +30,5 @@ mod view;
 
 pub use rule::{MeetPlay, PagePlay, PageRule, SweepPlay, TimePlay};
 pub use stock::{NoRoom, Stock};
-pub use store::{Hand, Store};
+pub use store::{Glance, Hand, Store};
 pub use view::{Draft, Dropping, Framed, Reading, Sealing, Stamp, Sweep, View};

@@ -1,8 +1,8 @@
 //! The store, and the calls that begin and end a process and read pages.
-ghost use Rattle.std.specs.Prelude.{◌≡◌, ◌≢◌, ℕ, ◌+◌, ◌*◌, ◌<◌, ◌≤◌, true, false, List, [], length};
+ghost use Rattle.std.specs.Prelude.{◌≡◌, ◌≢◌, ℕ, ◌+◌, ◌*◌, ◌<◌, ◌≤◌, true, false, List, [], length, slice_index};
 ghost use Rattle.bl_layout.specs.Words.{frame_count, word_count};
 ghost use Rattle.bl_store.specs.Pages.{Owner, Begins, Ends, Gets};
-ghost use Rattle.bl_store.specs.Hands.{known, IsOf, IsIdle, IsRunning, IsSameHand, IsSameStage, IsSameStock};
+ghost use Rattle.bl_store.specs.Hands.{known, read_words, IsOf, IsIdle, IsRunning, IsSameHand, IsSameStage, IsSameStock, ReadsFrom, HasSeen};
 ghost use Rattle.bl_store.specs.declared.view.Reading.TheVariants.{At};
 ghost use Rattle.bl_store.specs.declared.view.Sealing.TheVariants.{Unsealed};
 
@@ -24,6 +24,13 @@ pub struct Hand<D> {
     // The owner word at which its next sweep begins, counted from page 0.
     pub(crate) owner: u32,
     pub ghost own: { (number ≡ seat.me.0.number) × (number < seat.me.0.layout.passes) × (seat.me.0.sealing ≡ Unsealed) × (seat.me.1 ≡ []) },
+}
+
+/// Where the words of a page stand, which a hand has looked at.
+#[derive(Clone, Copy)]
+pub struct Glance {
+    // The number of the first of them in the table.
+    pub(crate) first: usize,
 }
 
 /// Pages that threads share. D is what a hand knows, and R the user's rule.
@@ -80,6 +87,43 @@ impl<D, R: PageRule<D>, A: Allocator> Store<D, R, A> {
         self.table
             .shared
             .store::<Leave<M>>(&mut hand.seat, process, 0);
+    }
+
+    /// Looks at a page, whose words are from now on those that it had at this one event, until the hand's next look.
+    /// There is nothing to see of a page that was never put: its words are zeros.
+    #[inline(always)]
+    pub fn glance<M: PagePlay<D>>(&self, hand: &mut Hand<D>, page: u32) -> Option<Glance>
+        requires own { IsOf self.now.table.shared.table_id self.now.layout hand.old.seat }
+        requires running { IsRunning hand.old.seat }
+        requires page { page < self.now.layout.pages }
+        requires rule { Gets R.holds self.now.layout hand.old.number (known hand.old.seat) page M.then }
+        ensures same { IsSameHand hand.old.seat hand.new.seat × IsSameStage hand.old.seat hand.new.seat × IsSameStock hand.old.seat hand.new.seat }
+        ensures told { (owner : Owner) × (words : List ℕ) × HasSeen result hand.new.seat words × M.then (known hand.old.seat) page owner words (known hand.new.seat) }
+    {
+        let found = self
+            .table
+            .shared
+            .load::<Look<M>>(&mut hand.seat, self.layout.page(page));
+        if found == 0 {
+            None
+        } else {
+            let first = self.layout.frame_word((found - 1) as u32, 0);
+            Some(Glance { first })
+        }
+    }
+
+    /// The word at a place of the page that the hand looked at last.
+    #[inline(always)]
+    pub fn word(&self, hand: &mut Hand<D>, glance: Glance, place: usize) -> u64
+        requires own { IsOf self.now.table.shared.table_id self.now.layout hand.old.seat }
+        requires reads { ReadsFrom hand.old.seat glance }
+        requires place { place < 32 }
+        ensures same { hand.new ≡ hand.old }
+        ensures word { result ≡ slice_index (read_words hand.old.seat) place }
+    {
+        self.table
+            .shared
+            .load::<Copy>(&mut hand.seat, glance.first + place)
     }
 
     /// The words of a page, which are those that it had at one event. A page that was never put has zeros.

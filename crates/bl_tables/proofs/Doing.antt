@@ -118,7 +118,7 @@ module _ (ms : Trail) (m : Mark) where
   once_now h = record { until = more; after = []; split = sym (append-nil more); no_more = refl; is = h }
 
   module _ (level key : ℕ) where
-    fate_on : (last : Fate) → put_in m.event.act ≡ [] → fate_log level key last ms → fate_log level key last more
+    fate_on : (ended : Fate) → put_in m.event.act ≡ [] → fate_log level key ended ms → fate_log level key ended more
     fate_on (fate.Merged hint) put h = once_on put h
     fate_on fate.Evened put h = once_on put h
     fate_on fate.Enough put h = once_on put h
@@ -137,7 +137,7 @@ module _ (ms : Trail) (m : Mark) where
     same_reply : (r r' : CompressReply) → Some r ≡ Some r' → r ≡ r'
     same_reply r r' e = cc
 
-    fate_pressed : (last : Fate) (r : CompressReply) → compress_reply last ≡ Some r → fate_log level key last more → pressed_log level key r more
+    fate_pressed : (ended : Fate) (r : CompressReply) → compress_reply ended ≡ Some r → fate_log level key ended more → pressed_log level key r more
     fate_pressed (fate.Merged hint) r e h = subst (λ z. pressed_log level key z more) (same_reply _ _ e) h
     fate_pressed fate.Evened r e h = subst (λ z. pressed_log level key z more) (same_reply _ _ e) h
     fate_pressed fate.Enough r e h = subst (λ z. pressed_log level key z more) (same_reply _ _ e) h
@@ -153,14 +153,14 @@ module _ (ms : Trail) (m : Mark) where
     ]
 
     -- the right one was retired
-    retired_on : (at : Trio) (last : Fate) → m.event.act ≡ Retire at.right → squeeze_log level key (Retiring at last) ms → fate_log level key last more
-    retired_on at last did (u, same, h, is, one) =
+    retired_on : (at : Trio) (ended : Fate) → m.event.act ≡ Retire at.right → squeeze_log level key (Retiring at ended) ms → fate_log level key ended more
+    retired_on at ended did (u, same, h, is, one) =
         let e : acts_in m.event.act ≡ Retire u.at.right ∷ [] = ap acts_in did ∙ ap (λ (t : Trio). Retire t.right ∷ []) (sym same) in
         subst (λ z. fate_log level key z more) (sym one.1) (once_now (u, puts_on (Retire u.at.right ∷ []) e h, is ∙ one.1))
 
     links_on : (f : Family) (c : Page) (d : Compression) → Links f c d → m.event.act ≡ Get f.at.left → m.saw ≡ Some c → AtFamily level key ms f (Get f.at.parent ∷ Latch f.at.left ∷ []) → squeeze_log level key d more
     links_on f c (LatchingRight h page) t did saw log = rw (← t.0, ← t.1) at (left_got c did saw log)
-    links_on f c (OpeningLeft at last) t did saw log = subst (λ z. fate_log level key z more) (sym t.2) (once_now (f, c, left_got c did saw log, (refl, t.1, refl)))
+    links_on f c (OpeningLeft at ended) t did saw log = subst (λ z. fate_log level key z more) (sym t.2) (once_now (f, c, left_got c did saw log, (refl, t.1, refl)))
     links_on f c (LatchingLeft h) t did saw log = absurd t
     links_on f c (LatchedLeft h) t did saw log = absurd t
     links_on f c (LatchedRight h page) t did saw log = absurd t
@@ -202,9 +202,9 @@ module _ (ms : Trail) (m : Mark) where
     squeeze_on (PuttingFirst u) d seen.Refused t did saw h = subst (λ z. squeeze_log level key z more) (sym t) (once_now (record { until = ms; mark = m; split = refl; miss = did ∙ refused_event u.gains u; puts = u; is = h }))
     squeeze_on (PuttingParent u) d seen.Done t did saw h = subst (λ z. squeeze_log level key z more) (sym t) (puts_on (Put u.at.parent u.parent ∷ []) (ap acts_in did) h)
     squeeze_on (PuttingLast u) d seen.Done t did saw h = subst (λ z. squeeze_log level key z more) (sym t) (last_on u (puts_on (put_act (other u.gains) u ∷ []) (ap acts_in (did ∙ put_event (other u.gains) u) ∙ act_put (other u.gains) u) h))
-    squeeze_on (Retiring at last) d seen.Done t did saw h = subst (λ z. squeeze_log level key z more) (sym t) (retired_on at last did h)
-    squeeze_on (OpeningRight at last) d seen.Done t did saw h = subst (λ z. squeeze_log level key z more) (sym t) (fate_on last (ap put_in did) h)
-    squeeze_on (OpeningLeft at last) d seen.Done t did saw h = subst (λ z. squeeze_log level key z more) (sym t) (fate_on last (ap put_in did) h)
+    squeeze_on (Retiring at ended) d seen.Done t did saw h = subst (λ z. squeeze_log level key z more) (sym t) (retired_on at ended did h)
+    squeeze_on (OpeningRight at ended) d seen.Done t did saw h = subst (λ z. squeeze_log level key z more) (sym t) (fate_on ended (ap put_in did) h)
+    squeeze_on (OpeningLeft at ended) d seen.Done t did saw h = subst (λ z. squeeze_log level key z more) (sym t) (fate_on ended (ap put_in did) h)
     squeeze_on (LatchingLeft f) d (seen.Words y) t did saw h = absurd t
     squeeze_on (LatchingLeft f) d (seen.Took n) t did saw h = absurd t
     squeeze_on (LatchingLeft f) d (seen.Owner retired started own) t did saw h = absurd t
@@ -270,8 +270,8 @@ module _ (ms : Trail) (m : Mark) where
     squeeze_on (OpeningParent x fa) d seen.Missed t did saw h = absurd t
     squeeze_on (OpeningParent x fa) d seen.Refused t did saw h = absurd t
 
-    over_on : (c : Compression) (what : Seen) (last : Fate) → Compresses c what (step.Over last) → m.event.act ≡ event_of None (compression_next c) what → squeeze_log level key c ms → fate_log level key last more
-    over_on (OpeningParent x last) seen.Done same t did h = subst (λ z. fate_log level key z more) (sym t) (fate_on last (ap put_in did) h)
+    over_on : (c : Compression) (what : Seen) (ended : Fate) → Compresses c what (step.Over ended) → m.event.act ≡ event_of None (compression_next c) what → squeeze_log level key c ms → fate_log level key ended more
+    over_on (OpeningParent x ended) seen.Done same t did h = subst (λ z. fate_log level key z more) (sym t) (fate_on ended (ap put_in did) h)
     over_on (LatchingLeft h) seen.Done same t did log = absurd t
     over_on (LatchingLeft h) (seen.Words y) same t did log = absurd t
     over_on (LatchingLeft h) (seen.Took n) same t did log = absurd t
@@ -393,7 +393,7 @@ module _ (ms : Trail) (m : Mark) where
       way_on a way.Start what t did = tt
       way_on a (way.At x) what t did = tt
       way_on a (way.Latching x) what t did = tt
-      way_on a (way.Latched x) what t did = since_now x (latched_on ms m level key least a x what t did)
+      way_on a (way.Latched x) what t did = since_now x (latched_on m level key a x what t did)
       way_on a (way.Leaving x to) what t did = tt
 
       here_on : (a : Approach) (new : CompressStage) (what : Seen) → ((y : ℕ) × (d : Page) × Approaches level key a what (came.Here y d) × CompressArrives key y d new) → m.event.act ≡ event_of None (approach_next a) what → ((x : ℕ) (e : Page) → m.event.act ≡ Get x → what ≡ seen.Words e → m.saw ≡ Some e) → way_log a ms → compress_log level key new more
@@ -448,8 +448,8 @@ module _ (ms : Trail) (m : Mark) where
       compress_on compress.New (compress.Coming v) seen.Done t did saw h = subst (λ z. way_log z more) (sym t) tt
       compress_on (compress.Coming a) a' what t did saw h = come_on a a' what t did saw h
       compress_on (compress.Compressing c) (compress.Compressing d) what t did saw h = squeeze_on c d what t did saw h
-      compress_on (compress.Compressing c) (compress.Coming a) what (last, t, none, start) did saw h = subst (λ z. way_log z more) (sym start) tt
-      compress_on (compress.Compressing c) (compress.Ending r) what (last, t, some) did saw h = fate_pressed last r some (over_on c what last t did h)
+      compress_on (compress.Compressing c) (compress.Coming a) what (ended, t, none, start) did saw h = subst (λ z. way_log z more) (sym start) tt
+      compress_on (compress.Compressing c) (compress.Ending r) what (ended, t, some) did saw h = fate_pressed ended r some (over_on c what ended t did h)
       compress_on (compress.Staying x) (compress.Ending r) seen.Done t did saw h = subst (λ z. pressed_log level key z more) (sym t) (once_on (ap put_in did) h)
       compress_on (compress.Ending r) (compress.Over r') seen.Done t did saw h = subst (λ z. pressed_log level key z more) (sym t) (pressed_on r (ap put_in did) h)
       compress_on compress.New compress.New seen.Done t did saw h = absurd t
@@ -511,10 +511,10 @@ module _ (ms : Trail) (m : Mark) where
     squeeze_stays (PuttingFirst u) h = puts_on [] (ap acts_in did) h
     squeeze_stays (PuttingParent u) h = puts_on [] (ap acts_in did) h
     squeeze_stays (PuttingLast u) h = puts_on [] (ap acts_in did) h
-    squeeze_stays (Retiring at last) (u, same, h, is, one) = (u, same, puts_on [] (ap acts_in did) h, is, one)
-    squeeze_stays (OpeningRight at last) h = fate_on level key last (ap put_in did) h
-    squeeze_stays (OpeningLeft at last) h = fate_on level key last (ap put_in did) h
-    squeeze_stays (OpeningParent x last) h = fate_on level key last (ap put_in did) h
+    squeeze_stays (Retiring at ended) (u, same, h, is, one) = (u, same, puts_on [] (ap acts_in did) h, is, one)
+    squeeze_stays (OpeningRight at ended) h = fate_on level key ended (ap put_in did) h
+    squeeze_stays (OpeningLeft at ended) h = fate_on level key ended (ap put_in did) h
+    squeeze_stays (OpeningParent x ended) h = fate_on level key ended (ap put_in did) h
 
     way_stays : (a : Approach) → way_log a ms → way_log a more
     way_stays way.Start h = tt

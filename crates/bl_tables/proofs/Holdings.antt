@@ -18,7 +18,7 @@ use Rattle.bl_trails.specs.Meanings.{HasGot, put_in, puts_of, UnderLatch, ListTo
 use Rattle.bl_trails.proofs.Meant.{puts_of-push, got_on, got_last}
 use Rattle.bl_tables.specs.Logs.{Holding, HoldsParent, HoldsBoth, IsToPut}
 
-none_of : (mark : Mark) → Contains [] mark → ⊥
+pub none_of : (mark : Mark) → Contains [] mark → ⊥
 none_of mark c = absurd (omega (arith, c.1))
 
 module _ (ms : Trail) (m : Mark) where

@@ -12,6 +12,7 @@ pub mod Deleting
 pub mod Growing
 pub mod Posting
 pub mod Reclaiming
+pub mod Putting
 pub mod Plain
 pub mod Doing
 pub mod Middles
@@ -20,6 +21,7 @@ pub mod Near
 pub mod Turning
 pub mod Starting
 pub mod Answered
+pub mod Beside
 pub mod Pressed
 pub mod Gets
 pub mod GivingUp

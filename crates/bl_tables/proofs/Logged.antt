@@ -20,6 +20,10 @@ use Rattle.bl_ways.specs.declared.changing.Change.{Change}
 use Rattle.bl_ways.specs.declared.changing.Change.TheVariants as change
 use Rattle.bl_ways.specs.declared.growing.Growth.{Growth}
 use Rattle.bl_ways.specs.declared.growing.Growth.TheVariants as growth
+use Rattle.bl_proc.specs.declared.inserting.InsertStage.{InsertStage}
+use Rattle.bl_proc.specs.declared.inserting.InsertStage.TheVariants as insert
+use Rattle.bl_proc.specs.declared.deleting.DeleteStage.{DeleteStage}
+use Rattle.bl_proc.specs.declared.deleting.DeleteStage.TheVariants as delete
 use Rattle.bl_proc.specs.declared.posting.PostStage.{PostStage}
 use Rattle.bl_proc.specs.declared.posting.PostStage.TheVariants as post
 use Rattle.bl_compress.specs.declared.compressing.Compression.TheVariants.{LatchingLeft, LatchedLeft, LatchingRight, LatchedRight, PuttingFirst, PuttingParent, PuttingLast, Retiring, OpeningRight, OpeningLeft, OpeningParent}
@@ -30,11 +34,12 @@ use Rattle.bl_proc.specs.declared.kinds.Proc.TheVariants.{Find, Insert, Delete, 
 use Rattle.bl_proc.specs.Processes.{next_of, Takes}
 use Rattle.bl_tables.specs.Turns.{event_of, IsTold, Turned}
 use Rattle.bl_tables.specs.Tables.{know_approach, know_change}
-use Rattle.bl_tables.specs.Logs.{proc_log, post_log, compress_log}
-use Rattle.bl_tables.specs.Knowing.{Run, know_of, bare, know, know_growth, know_post, know_compress, post_aim, end_of_proc, run_next}
+use Rattle.bl_tables.specs.Logs.{proc_log, insert_log, delete_log, post_log, compress_log}
+use Rattle.bl_tables.specs.Knowing.{Run, know_of, bare, know, know_insert, know_delete, know_growth, know_post, know_compress, post_aim, end_of_proc, run_next}
 use Rattle.bl_tables.proofs.Plain.{plain}
 use Rattle.bl_tables.proofs.Logging.{post_on, post_stays}
 use Rattle.bl_tables.proofs.Doing.{compress_on, compress_stays}
+use Rattle.bl_tables.proofs.Putting.{insert_on, insert_stays, delete_on, delete_stays}
 
 pub bare_good : (w : World Run) → IsGood know w → IsGood bare w
 bare_good w g = record {
@@ -163,10 +168,44 @@ early_press level key got (compress.Staying x) e marks = absurd (let f = e in cc
 early_press level key got (compress.Ending r) e marks = absurd (let f = e in cc)
 early_press level key got (compress.Over r) e marks = absurd (let f = e in cc)
 
+early_insert : (key value : ℕ) (got : ℕ → Page) (a : InsertStage) → (know_insert key value got a).stage ≡ Stage.Early → (marks : Trail) → insert_log a marks
+early_insert key value got insert.New e marks = tt
+early_insert key value got (insert.Present x there) e marks = tt
+early_insert key value got (insert.Coming way.Start) e marks = tt
+early_insert key value got (insert.Coming (way.At x)) e marks = tt
+early_insert key value got (insert.Coming (way.Latching x)) e marks = tt
+early_insert key value got (insert.Coming (way.Leaving x to)) e marks = tt
+early_insert key value got (insert.Coming (way.Latched x)) e marks = absurd (let f = e in cc)
+early_insert key value got (insert.Changing (change.Putting x page)) e marks = absurd (let f = e in cc)
+early_insert key value got (insert.Changing (change.Taking full)) e marks = absurd (let f = e in cc)
+early_insert key value got (insert.Changing (change.PuttingNew p)) e marks = absurd (let f = e in cc)
+early_insert key value got (insert.Changing (change.PuttingOld p)) e marks = absurd (let f = e in cc)
+early_insert key value got (insert.Changing (change.OpeningNew x new separator)) e marks = absurd (let f = e in cc)
+early_insert key value got (insert.Changing (change.Opening x o)) e marks = absurd (let f = e in cc)
+early_insert key value got (insert.Ending r) e marks = absurd (let f = e in cc)
+early_insert key value got (insert.Over r) e marks = absurd (let f = e in cc)
+
+early_delete : (key : ℕ) (got : ℕ → Page) (a : DeleteStage) → (know_delete key got a).stage ≡ Stage.Early → (marks : Trail) → delete_log a marks
+early_delete key got delete.New e marks = tt
+early_delete key got (delete.Absent x) e marks = tt
+early_delete key got (delete.Coming way.Start) e marks = tt
+early_delete key got (delete.Coming (way.At x)) e marks = tt
+early_delete key got (delete.Coming (way.Latching x)) e marks = tt
+early_delete key got (delete.Coming (way.Leaving x to)) e marks = tt
+early_delete key got (delete.Coming (way.Latched x)) e marks = absurd (let f = e in cc)
+early_delete key got (delete.Changing v (change.Putting x page)) e marks = absurd (let f = e in cc)
+early_delete key got (delete.Changing v (change.Taking full)) e marks = absurd (let f = e in cc)
+early_delete key got (delete.Changing v (change.PuttingNew p)) e marks = absurd (let f = e in cc)
+early_delete key got (delete.Changing v (change.PuttingOld p)) e marks = absurd (let f = e in cc)
+early_delete key got (delete.Changing v (change.OpeningNew x new separator)) e marks = absurd (let f = e in cc)
+early_delete key got (delete.Changing v (change.Opening x o)) e marks = absurd (let f = e in cc)
+early_delete key got (delete.Ending r) e marks = absurd (let f = e in cc)
+early_delete key got (delete.Over r) e marks = absurd (let f = e in cc)
+
 early_state : (got : ℕ → Page) (child time : ℕ) (a : Proc) → (know_of got child time a).stage ≡ Stage.Early → (marks : Trail) → proc_log a marks
 early_state got child time (Find a) e marks = tt
-early_state got child time (Insert a) e marks = tt
-early_state got child time (Delete a) e marks = tt
+early_state got child time (Insert a) e marks = early_insert a.key a.value got a.stage e marks
+early_state got child time (Delete a) e marks = early_delete a.key got a.stage e marks
 early_state got child time (Post a) e marks = early_post a.level a.key got child a.stage e marks
 early_state got child time (Part a) e marks = tt
 early_state got child time (Compress a) e marks = early_press a.level a.key got a.stage e marks
@@ -290,24 +329,24 @@ log_turn (Insert a) (Post c) what marks m t did saw h = absurd t
 log_turn (Delete a) (Post c) what marks m t did saw h = absurd t
 log_turn (Part a) (Post c) what marks m t did saw h = absurd t
 log_turn (Find a) (Find c) what marks m t did saw h = tt
-log_turn (Find a) (Insert c) what marks m t did saw h = tt
-log_turn (Find a) (Delete c) what marks m t did saw h = tt
+log_turn (Find a) (Insert c) what marks m t did saw h = absurd t
+log_turn (Find a) (Delete c) what marks m t did saw h = absurd t
 log_turn (Insert a) (Find c) what marks m t did saw h = tt
-log_turn (Insert a) (Insert c) what marks m t did saw h = tt
-log_turn (Insert a) (Delete c) what marks m t did saw h = tt
+log_turn (Insert a) (Insert c) what marks m t did saw h = insert_on marks m a.key a.value a.stage c.stage what t.2 did h
+log_turn (Insert a) (Delete c) what marks m t did saw h = absurd t
 log_turn (Delete a) (Find c) what marks m t did saw h = tt
-log_turn (Delete a) (Insert c) what marks m t did saw h = tt
-log_turn (Delete a) (Delete c) what marks m t did saw h = tt
+log_turn (Delete a) (Insert c) what marks m t did saw h = absurd t
+log_turn (Delete a) (Delete c) what marks m t did saw h = delete_on marks m a.key a.stage c.stage what t.1 did h
 log_turn (Post a) (Find c) what marks m t did saw h = tt
-log_turn (Post a) (Insert c) what marks m t did saw h = tt
-log_turn (Post a) (Delete c) what marks m t did saw h = tt
+log_turn (Post a) (Insert c) what marks m t did saw h = absurd t
+log_turn (Post a) (Delete c) what marks m t did saw h = absurd t
 log_turn (Find a) (Part c) what marks m t did saw h = tt
 log_turn (Insert a) (Part c) what marks m t did saw h = tt
 log_turn (Delete a) (Part c) what marks m t did saw h = tt
 log_turn (Post a) (Part c) what marks m t did saw h = tt
 log_turn (Part a) (Find c) what marks m t did saw h = tt
-log_turn (Part a) (Insert c) what marks m t did saw h = tt
-log_turn (Part a) (Delete c) what marks m t did saw h = tt
+log_turn (Part a) (Insert c) what marks m t did saw h = absurd t
+log_turn (Part a) (Delete c) what marks m t did saw h = absurd t
 log_turn (Part a) (Part c) what marks m t did saw h = tt
 log_turn (Find a) (Reclaim c) what marks m t did saw h = tt
 log_turn (Insert a) (Reclaim c) what marks m t did saw h = tt
@@ -317,17 +356,17 @@ log_turn (Part a) (Reclaim c) what marks m t did saw h = tt
 log_turn (Reclaim a) (Reclaim c) what marks m t did saw h = tt
 log_turn (Reclaim a) (Post c) what marks m t did saw h = absurd t
 log_turn (Reclaim a) (Find c) what marks m t did saw h = tt
-log_turn (Reclaim a) (Insert c) what marks m t did saw h = tt
-log_turn (Reclaim a) (Delete c) what marks m t did saw h = tt
+log_turn (Reclaim a) (Insert c) what marks m t did saw h = absurd t
+log_turn (Reclaim a) (Delete c) what marks m t did saw h = absurd t
 log_turn (Reclaim a) (Part c) what marks m t did saw h = tt
 log_turn (Compress a) (Compress c) what marks m t did saw h =
     subst (λ l. compress_log l c.key c.stage (marks ++ m ∷ [])) (sym t.0) (subst (λ k. compress_log a.level k c.stage (marks ++ m ∷ [])) (sym t.1) (compress_on marks m a.level a.key a.least a.stage c.stage what t.2 did saw h))
 log_turn (Find a) (Compress c) what marks m t did saw h = absurd t
 log_turn (Compress a) (Find c) what marks m t did saw h = tt
 log_turn (Insert a) (Compress c) what marks m t did saw h = absurd t
-log_turn (Compress a) (Insert c) what marks m t did saw h = tt
+log_turn (Compress a) (Insert c) what marks m t did saw h = absurd t
 log_turn (Delete a) (Compress c) what marks m t did saw h = absurd t
-log_turn (Compress a) (Delete c) what marks m t did saw h = tt
+log_turn (Compress a) (Delete c) what marks m t did saw h = absurd t
 log_turn (Post a) (Compress c) what marks m t did saw h = absurd t
 log_turn (Compress a) (Post c) what marks m t did saw h = absurd t
 log_turn (Part a) (Compress c) what marks m t did saw h = absurd t
@@ -337,8 +376,8 @@ log_turn (Compress a) (Reclaim c) what marks m t did saw h = tt
 
 log_stays : (old : Proc) (marks : Trail) (m : Mark) → m.event.act ≡ Miss → proc_log old marks → proc_log old (marks ++ m ∷ [])
 log_stays (Find a) marks m did h = tt
-log_stays (Insert a) marks m did h = tt
-log_stays (Delete a) marks m did h = tt
+log_stays (Insert a) marks m did h = insert_stays marks m (λ x l. (let e = sym did ∙ l in cc)) (ap put_in did) a.stage h
+log_stays (Delete a) marks m did h = delete_stays marks m (λ x l. (let e = sym did ∙ l in cc)) (ap put_in did) a.stage h
 log_stays (Part a) marks m did h = tt
 log_stays (Compress a) marks m did h = compress_stays marks m a.level a.key did a.stage h
 log_stays (Reclaim a) marks m did h = tt

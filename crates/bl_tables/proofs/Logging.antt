@@ -50,28 +50,7 @@ no_latched level x c Here y h = h
 same_latched : (x y : ℕ) → way.Latched y ≡ way.Latched x → x ≡ y
 same_latched x y e = cc
 
-module _ (marks : Trail) (m : Mark) (level key : ℕ) (least : 0 < level) where
-  abbrev more : Trail
-  more = marks ++ m ∷ []
-
-  -- an answer goes on meaning what it meant
-  pub reply_on : (r : PostReply) → reply_log level key r marks → reply_log level key r more
-  reply_on (reply.Done s) h = parted_on marks m h
-  reply_on reply.Already h = already_on marks m h
-  reply_on reply.Stale h = stale_on marks m h
-  reply_on reply.NoRoom h = no_room_on marks m h
-  reply_on reply.TooTall h = tall_on marks m h
-
-  outcome_on : (o : Outcome) → outcome_log level key o marks → outcome_log level key o more
-  outcome_on outcome.Changed h = parted_on marks m h
-  outcome_on (outcome.Parted s) h = parted_on marks m h
-  outcome_on outcome.Refused h = no_room_on marks m h
-
-  outcome_reply : (o : Outcome) → outcome_log level key o more → reply_log level key (post_reply o) more
-  outcome_reply outcome.Changed h = h
-  outcome_reply (outcome.Parted s) h = h
-  outcome_reply outcome.Refused h = h
-
+module _ (m : Mark) (level key : ℕ) where
   -- on the way a page is held from its latch on
   pub latched_on : (a : Approach) (y : ℕ) (what : Seen) → Approaches level key a what (came.On (way.Latched y)) → m.event.act ≡ event_of None (approach_next a) what → m.event.act ≡ Latch y
   latched_on way.Start y seen.Done t did = absurd t
@@ -117,11 +96,33 @@ module _ (marks : Trail) (m : Mark) (level key : ℕ) (least : 0 < level) where
   latched_on (way.Leaving x (Some z)) y seen.Missed t did = absurd t
   latched_on (way.Leaving x (Some z)) y seen.Refused t did = absurd t
 
+module _ (marks : Trail) (m : Mark) (level key : ℕ) (least : 0 < level) where
+  abbrev more : Trail
+  more = marks ++ m ∷ []
+
+  -- an answer goes on meaning what it meant
+  pub reply_on : (r : PostReply) → reply_log level key r marks → reply_log level key r more
+  reply_on (reply.Done s) h = parted_on marks m h
+  reply_on reply.Already h = already_on marks m h
+  reply_on reply.Stale h = stale_on marks m h
+  reply_on reply.NoRoom h = no_room_on marks m h
+  reply_on reply.TooTall h = tall_on marks m h
+
+  outcome_on : (o : Outcome) → outcome_log level key o marks → outcome_log level key o more
+  outcome_on outcome.Changed h = parted_on marks m h
+  outcome_on (outcome.Parted s) h = parted_on marks m h
+  outcome_on outcome.Refused h = no_room_on marks m h
+
+  outcome_reply : (o : Outcome) → outcome_log level key o more → reply_log level key (post_reply o) more
+  outcome_reply outcome.Changed h = h
+  outcome_reply (outcome.Parted s) h = h
+  outcome_reply outcome.Refused h = h
+
   approach_on : (a b : Approach) (what : Seen) → Approaches level key a what (came.On b) → m.event.act ≡ event_of None (approach_next a) what → approach_log b more
   approach_on a way.Start what t did = tt
   approach_on a (way.At x) what t did = tt
   approach_on a (way.Latching x) what t did = tt
-  approach_on a (way.Latched x) what t did = held_now marks m x (latched_on a x what t did)
+  approach_on a (way.Latched x) what t did = held_now marks m x (latched_on m level key a x what t did)
   approach_on a (way.Leaving x to) what t did = tt
 
   -- at the parent

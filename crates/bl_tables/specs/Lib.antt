@@ -1,4 +1,5 @@
 pub mod Turns
+pub mod Hinted
 pub mod Logs
 pub mod Answers
 pub mod Tables

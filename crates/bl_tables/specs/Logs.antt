@@ -1,4 +1,4 @@
--- What a post or a compression has done so far, in each of its states: enough to tell in the end what its answer means.
+-- What a process has done so far, in each of its states: enough to tell in the end what its answer and its hint mean.
 use Rattle.std.specs.Prelude.{◌≡◌, ◌≢◌, ℕ, suc, Option, None, Some, ◌++◌, List, [], ◌∷◌, Contains}
 use Rattle.bl_page.specs.declared.page.Page.{Page}
 use Rattle.bl_page.specs.declared.page.Page.TheVariants.{Inner}
@@ -32,6 +32,17 @@ use Rattle.bl_compress.specs.declared.squeezing.CompressReply.TheVariants as pre
 use Rattle.bl_compress.specs.declared.squeezing.CompressStage.{CompressStage}
 use Rattle.bl_compress.specs.declared.squeezing.CompressStage.TheVariants as compress
 use Rattle.bl_tables.specs.Squeezed.{Since, AtFamily, AtLeft, to_left, to_right, to_first, to_second, to_last, IsToSqueeze, MeansMerged, MeansEvened, MeansEnough, MeansUnposted, MeansAlone, MeansNoPlace}
+use Rattle.bl_proc.specs.declared.inserting.InsertReply.{InsertReply}
+use Rattle.bl_proc.specs.declared.inserting.InsertReply.TheVariants as inserted
+use Rattle.bl_proc.specs.declared.inserting.InsertStage.{InsertStage}
+use Rattle.bl_proc.specs.declared.inserting.InsertStage.TheVariants as insert
+use Rattle.bl_proc.specs.declared.deleting.Removed.{Removed}
+use Rattle.bl_proc.specs.declared.deleting.DeleteReply.{DeleteReply}
+use Rattle.bl_proc.specs.declared.deleting.DeleteReply.TheVariants as deleted
+use Rattle.bl_proc.specs.declared.deleting.DeleteStage.{DeleteStage}
+use Rattle.bl_proc.specs.declared.deleting.DeleteStage.TheVariants as delete
+use Rattle.bl_ways.specs.Thin.{thin_low}
+use Rattle.bl_tables.specs.Hinted.{PutSince, HasParted}
 use Rattle.bl_proc.specs.declared.kinds.Proc.{Proc}
 use Rattle.bl_proc.specs.declared.kinds.Proc.TheVariants as proc
 
@@ -117,6 +128,61 @@ post_log level key (post.Staying x r) marks = reply_log level key r marks
 post_log level key (post.Ending r) marks = reply_log level key r marks
 post_log level key (post.Over r) marks = reply_log level key r marks
 
+-- Insertions and deletions: what was put is whole, and so, or it is in parts, if it may be.
+
+abbrev pub put_log : (Page → Type 0) → Type 0 → Outcome → Trail → Type 0
+put_log Whole Parts outcome.Changed marks = (page : Page) × PutSince marks (page ∷ []) × Whole page
+put_log Whole Parts (outcome.Parted separator) marks = HasParted (Some separator) marks × Parts
+put_log Whole Parts outcome.Refused marks = Unit {0}
+
+abbrev pub entry_log : (Page → Type 0) → Type 0 → Change → Trail → Type 0
+entry_log Whole Parts (change.Putting x page) marks = PutSince marks [] × Whole page
+entry_log Whole Parts (change.Taking full) marks = PutSince marks [] × Parts
+entry_log Whole Parts (change.PuttingNew p) marks = PutSince marks [] × ((node_of p.right).shape.low ≡ p.separator) × Parts
+entry_log Whole Parts (change.PuttingOld p) marks = PutSince marks (p.right ∷ []) × ((node_of p.right).shape.low ≡ p.separator) × Parts
+entry_log Whole Parts (change.OpeningNew x new separator) marks = put_log Whole Parts (outcome.Parted separator) marks
+entry_log Whole Parts (change.Opening x o) marks = put_log Whole Parts o marks
+
+abbrev pub coming_log : Approach → Trail → Type 0
+coming_log way.Start marks = Unit {0}
+coming_log (way.At x) marks = Unit {0}
+coming_log (way.Latching x) marks = Unit {0}
+coming_log (way.Latched x) marks = PutSince marks []
+coming_log (way.Leaving x to) marks = Unit {0}
+
+abbrev pub AnyPage : Page → Type 0
+AnyPage page = Unit {0}
+
+abbrev pub inserted_log : InsertReply → Trail → Type 0
+inserted_log (inserted.Inserted separator) marks = HasParted separator marks
+inserted_log (inserted.Present there) marks = Unit {0}
+inserted_log inserted.NoRoom marks = Unit {0}
+
+abbrev pub insert_log : InsertStage → Trail → Type 0
+insert_log insert.New marks = Unit {0}
+insert_log (insert.Coming a) marks = coming_log a marks
+insert_log (insert.Present x there) marks = Unit {0}
+insert_log (insert.Changing c) marks = entry_log AnyPage (Unit {0}) c marks
+insert_log (insert.Ending r) marks = inserted_log r marks
+insert_log (insert.Over r) marks = inserted_log r marks
+
+-- the page is thin as the deletion says
+abbrev pub IsThinAs : Removed → Page → Type 0
+IsThinAs removed page = removed.thin ≡ thin_low page
+
+abbrev pub deleted_log : DeleteReply → Trail → Type 0
+deleted_log (deleted.Deleted removed) marks = (page : Page) × PutSince marks (page ∷ []) × IsThinAs removed page
+deleted_log deleted.Absent marks = Unit {0}
+deleted_log deleted.NoRoom marks = Unit {0}
+
+abbrev pub delete_log : DeleteStage → Trail → Type 0
+delete_log delete.New marks = Unit {0}
+delete_log (delete.Coming a) marks = coming_log a marks
+delete_log (delete.Absent x) marks = Unit {0}
+delete_log (delete.Changing removed c) marks = entry_log (IsThinAs removed) ⊥ c marks
+delete_log (delete.Ending r) marks = deleted_log r marks
+delete_log (delete.Over r) marks = deleted_log r marks
+
 -- Compressions
 
 abbrev pub way_log : Approach → Trail → Type 0
@@ -165,8 +231,8 @@ compress_log level key (compress.Over r) marks = pressed_log level key r marks
 
 abbrev pub proc_log : Proc → Trail → Type 0
 proc_log (proc.Find p) marks = Unit {0}
-proc_log (proc.Insert p) marks = Unit {0}
-proc_log (proc.Delete p) marks = Unit {0}
+proc_log (proc.Insert p) marks = insert_log p.stage marks
+proc_log (proc.Delete p) marks = delete_log p.stage marks
 proc_log (proc.Post p) marks = post_log p.level p.key p.stage marks
 proc_log (proc.Part p) marks = Unit {0}
 proc_log (proc.Compress p) marks = compress_log p.level p.key p.stage marks

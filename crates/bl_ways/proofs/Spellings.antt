@@ -4,21 +4,21 @@ use Rattle.std.proofs.lemmas.List.{get_or-drop, get_or-take}
 use Rattle.bl_model.specs.Rows.{map_of}
 use Rattle.bl_page.specs.declared.page.Page.{Page}
 use Rattle.bl_page.specs.declared.page.Page.TheVariants as page
-use Rattle.bl_page.specs.Pairs.{end_of, RisesFrom, BeginsWith, NameChildren, AreChildren, IsChild}
+use Rattle.bl_page.specs.Pairs.{end_of, BeginsWith, NameChildren, AreChildren, IsChild}
 use Rattle.bl_page.specs.Words.{words_of}
-use Rattle.bl_page.specs.Faults.{Kind, IsOf, kind_in, level_in, count_in, pairs_of}
+use Rattle.bl_page.specs.Faults.{Kind, IsOf, kind_in, level_in, count_in, pairs_of, HasPairs}
 use Rattle.bl_page.proofs.FaultLemmas.{kind_of, fits, head-level, head-count}
 use Rattle.bl_page.proofs.Once.{rows_again, children_again, leftmost_again}
 use Rattle.bl_page.proofs.PagesIn.{AreChildren-at}
 use Rattle.bl_laws.specs.Pages.{node_of, roots_of, IsTreePage}
 use Rattle.bl_ways.specs.Onwards.{top_of}
 
--- the pairs of a leaf or an inner page rise, and are what it lists
-pub tree_rises : (c : Page) (words : List ℕ) → IsTreePage c → words ≡ words_of c → RisesFrom 0 (pairs_of words)
-tree_rises (page.Anchor a) words tree e = absurd tree
-tree_rises (page.Leaf l) words tree e = subst (λ w. RisesFrom 0 (pairs_of w)) (sym e) (fits (page.Leaf l)).order
-tree_rises (page.Inner n) words tree e = subst (λ w. RisesFrom 0 (pairs_of w)) (sym e) (fits (page.Inner n)).order
-tree_rises (page.Dead d) words tree e = absurd tree
+-- a key can be sought in the words of a leaf or an inner page, and what is found is what the page lists
+pub tree_pairs : (c : Page) (words : List ℕ) → IsTreePage c → words ≡ words_of c → HasPairs words
+tree_pairs (page.Anchor a) words tree e = absurd tree
+tree_pairs (page.Leaf l) words tree e = let fit = fits (page.Leaf l) in subst HasPairs (sym e) record { few = fit.count; rises = fit.order; rest = fit.rest }
+tree_pairs (page.Inner n) words tree e = let fit = fits (page.Inner n) in subst HasPairs (sym e) record { few = fit.count.1; rises = fit.order; rest = fit.rest }
+tree_pairs (page.Dead d) words tree e = absurd tree
 
 pub tree_lists : (c : Page) (words : List ℕ) → IsTreePage c → words ≡ words_of c → map_of (pairs_of words) ≡ (node_of c).look
 tree_lists (page.Anchor a) words tree e = absurd tree

@@ -12,7 +12,7 @@ ghost use Rattle.bl_page.specs.Words.{words_of};
 
 use crate::acts::{Action, Seen};
 use crate::answers::Answer;
-use bl_page::from_words;
+use bl_page::{WordSource, from_words, words_from};
 
 /// A process of one kind: whoever runs it asks for its next action, carries it out, and tells it what the action gave,
 /// until it answers.
@@ -52,13 +52,15 @@ pub trait Process {
 /// A process of a kind that gets pages, and may be told of one by its words.
 pub trait Reader: Process {
     /// Goes on by the page that it got, by the page's words.
-    fn took_words(&mut self, words: &[u64; 32])
+    fn took_words<W: WordSource>(&mut self, source: &W, hand: &mut W::Hand)
+        requires sees { W.Sees source.now hand.old }
         requires running { Self.Process.answer_of self.old ≡ None }
         requires gets { (x : ℕ) × (Self.Process.next_of self.old ≡ act.Get x) }
-        requires page { (c : Page) × (words.now ≡ words_of c) }
-        ensures { (c : Page) → words.now ≡ words_of c → Self.Process.Takes self.old (seen.Words c) self.new }
+        requires page { (c : Page) × (W.shown source.now hand.old ≡ words_of c) }
+        ensures same { hand.new ≡ hand.old }
+        ensures takes { (c : Page) → W.shown source.now hand.old ≡ words_of c → Self.Process.Takes self.old (seen.Words c) self.new }
     {
-        match from_words(words) {
+        match from_words(&words_from(source, hand)) {
             Ok(page) => self.took(Seen::Words(page)),
             Err(_) => unreachable!(),
         }

@@ -29,6 +29,9 @@ use Rattle.bl_tables.specs.Answers.{MeansPosted, MeansHint}
 use Rattle.bl_tables.specs.Squeezed.{MeansSqueezed}
 use Rattle.bl_tables.proofs.Logged.{bare_good}
 use Rattle.bl_tables.proofs.Answered.{post_means, post_hints}
+use Rattle.bl_tables.proofs.Beside.{beside_means}
+use Rattle.bl_tables.specs.Hinted.{MeansBeside}
+use Rattle.bl_tables.specs.Logs.{proc_log}
 use Rattle.bl_tables.proofs.Pressed.{compress_means}
 use Rattle.bl_tables.proofs.Starting.{run_laws}
 use Rattle.bl_world.specs.Views.{View, name_of}
@@ -106,6 +109,11 @@ module _ (v : View) (h : Has v) where
   hinted : (n : ℕ) (p : Post) (a : Posted) (hint : Option Hint) → slice_get v.processes n ≡ Some (proc.Post p) → answer_of (proc.Post p) ≡ Some (answer.Post a hint) → MeansHint p.level p.key a hint (marks_of (name_of (n + 1)) h.world.trail)
   hinted n p a hint stood e = subst (λ k. MeansHint p.level p.key a hint (marks_of (name_of k) h.world.trail)) (sym (one_more n)) (post_hints h.world (name_of (suc n)) p a hint h.good (h.runs n (proc.Post p) stood) e)
 
+  beside : (n : ℕ) (p : Proc) (reply : _) (hint : Option Hint) → slice_get v.processes n ≡ Some p → answer_of p ≡ Some (answer.Op reply hint) → MeansBeside p reply hint (marks_of (name_of (n + 1)) h.world.trail)
+  beside n p reply hint stood e =
+      let log : proc_log p (marks_of (name_of (suc n)) h.world.trail) = subst (λ z. proc_log z (marks_of (name_of (suc n)) h.world.trail)) (h.runs n p stood) (h.good.sure (name_of (suc n))).log in
+      subst (λ k. MeansBeside p reply hint (marks_of (name_of k) h.world.trail)) (sym (one_more n)) (beside_means p reply hint (marks_of (name_of (suc n)) h.world.trail) e log)
+
   squeezed : (n : ℕ) (p : Compress) (a : Squeezed) (hint : Option Hint) → slice_get v.processes n ≡ Some (proc.Compress p) → answer_of (proc.Compress p) ≡ Some (answer.Compress a hint) → MeansSqueezed p.level p.key a hint (marks_of (name_of (n + 1)) h.world.trail)
   squeezed n p a hint stood e = subst (λ k. MeansSqueezed p.level p.key a hint (marks_of (name_of k) h.world.trail)) (sym (one_more n)) (compress_means h.world (name_of (suc n)) p a hint h.good (h.runs n (proc.Compress p) stood) e)
 
@@ -135,6 +143,7 @@ module _ (v : View) (h : Has v) where
         answers = answers;
         posted = posted;
         hinted = hinted;
+        beside = beside;
         squeezed = squeezed;
         ended = λ n p a stood ends e. (let x = ended n p a stood ends e in (x.0, x.1.0, x.1.1));
         reclaimed = λ n p a stood e. rw (one_more n) (over_means v.events (suc n) p.page (w.proc (name_of (suc n))).time p.stage a e (h.reclaiming n p stood));

@@ -1,10 +1,6 @@
-use Rattle.std.proofs.Common.{◌≡◌, ◌-◌, ◌≤◌}
-use Rattle.bl_page.specs.Pairs.{place}
-use Rattle.bl_page.specs.Faults.{count_in, pairs_of}
+use Rattle.std.proofs.Common.{◌≡◌, ◌+◌, ◌*◌, ◌≤◌}
+use Rattle.bl_page.proofs.Halving.{count_to}
 use Rattle.bl_page.proofs.seeking.place_in.Given as goal
 
-abbrev pub invariant-loop-least : goal.invariant-loop-least
-invariant-loop-least l = (l.least ≤ place l.key (pairs_of l.words)) × (place l.key (pairs_of l.words) ≤ l.most) × (l.most ≤ count_in l.words)
-
-abbrev pub decreases-loop-least : goal.decreases-loop-least
-decreases-loop-least l = l.most - l.least
+abbrev pub invariant-loop-i : goal.invariant-loop-i
+invariant-loop-i g l = (l.hand ≡ l.fn.hand) × (l.reached + l.i ≡ 7 + count_to l.fn.key (2 * l.i) (g.W.WordSource.shown l.fn.source l.fn.hand)) × (l.reached ≤ 7 + l.i)

@@ -1,4 +1,5 @@
+use Rattle.std.proofs.Common.{◌≡◌, ap, ◌∙◌}
 use Rattle.bl_proc.proofs.searching.went_on_in.Goals as goal
 
-pub row_in-requires : goal.row_in-requires
-row_in-requires c = (c.requires.0, (c.in-Here.ensures c.requires.0 c.requires.1).0, c.requires.1)
+pub row_in-requires-clause-page : goal.row_in-requires-clause-page
+row_in-requires-clause-page g c = (c.requires.page.0, (c.in-Here.ensures.leads c.requires.page.0 c.requires.page.1).0, ap (λ hand. g.W.WordSource.shown c.args.source.now hand) c.in-Here.ensures.same ∙ c.requires.page.1)

@@ -1,13 +1,14 @@
 use Rattle.std.proofs.Common.{◌≡◌, ap, sym, subst, ◌∙◌}
 use Rattle.bl_page.proofs.Once.{once}
+use Rattle.bl_page.specs.Faults.{HasPairs}
 use Rattle.bl_laws.specs.Pages.{IsTreePage}
-use Rattle.bl_ways.proofs.Spellings.{tree_rises, tree_lists}
+use Rattle.bl_ways.proofs.Spellings.{tree_pairs, tree_lists}
 use Rattle.bl_ways.proofs.spelled.row_in.Goals as goal
 
-pub listed_in-requires-clause-rises : goal.listed_in-requires-clause-rises
-listed_in-requires-clause-rises c = tree_rises c.requires.0 c.args.words.now c.requires.1 c.requires.2
+pub listed_in-requires-clause-pairs : goal.listed_in-requires-clause-pairs
+listed_in-requires-clause-pairs g c = subst (λ hand. HasPairs (g.W.WordSource.shown c.args.source.now hand)) (sym c.word.ensures.same) (tree_pairs c.requires.page.0 (g.W.WordSource.shown c.args.source.now c.args.hand.now) c.requires.page.1 c.requires.page.2)
 
-pub returns : goal.returns
-returns c = λ p e.
-    let same = once c.requires.0 p (sym c.requires.2 ∙ e) in
-    c.listed_in.ensures ∙ ap (λ look. look c.args.key) (tree_lists p c.args.words.now (subst IsTreePage same c.requires.1) e)
+pub returns-clause-row : goal.returns-clause-row
+returns-clause-row g c = λ p e.
+    let same = once c.requires.page.0 p (sym c.requires.page.2 ∙ e) in
+    c.listed_in.ensures.listed ∙ ap (λ look. look c.args.key) (tree_lists p (g.W.WordSource.shown c.args.source.now c.word.new.hand) (subst IsTreePage same c.requires.page.1) (ap (λ hand. g.W.WordSource.shown c.args.source.now hand) c.word.ensures.same ∙ e))

@@ -1,6 +1,11 @@
-use Rattle.std.proofs.Common.{◌≡◌}
+use Rattle.std.proofs.Common.{◌≡◌, ◌/◌, ◌^◌, ap, ◌∙◌, arith}
 use Rattle.bl_ways.proofs.Spellings.{tree_by_kind}
 use Rattle.bl_ways.proofs.spelled.way_in.Goals as goal
 
-pub way_within-requires : goal.way_within-requires
-way_within-requires c = (c.requires.0, tree_by_kind c.requires.0 c.args.words.now c.requires.1 c.if-kind-eq1.false c.if-kind-eq4.false, c.requires.1)
+pub way_within-requires-clause-page : goal.way_within-requires-clause-page
+way_within-requires-clause-page g c =
+    let head = c.word-head.ensures.word in (
+      c.requires.page.0,
+      tree_by_kind c.requires.page.0 (g.W.WordSource.shown c.args.source.now c.args.hand.now) c.requires.page.1 (λ is. c.if-kind-eq1.false (ap (λ w. w / 2 ^ 32) head ∙ is)) (λ is. c.if-kind-eq4.false (ap (λ w. w / 2 ^ 32) head ∙ is)),
+      ap (λ hand. g.W.WordSource.shown c.args.source.now hand) c.word-head.ensures.same ∙ c.requires.page.1,
+    )

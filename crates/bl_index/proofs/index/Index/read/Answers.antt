@@ -7,11 +7,14 @@ use Rattle.bl_store.specs.Hands.{known}
 use Rattle.bl_passes.proofs.Pages.{gets_page}
 use Rattle.bl_index.proofs.index.Index.read.Goals as goal
 
-pub get_into-requires-clause-rule : goal.get_into-requires-clause-rule
-get_into-requires-clause-rule g c =
+pub glance-requires-clause-rule : goal.glance-requires-clause-rule
+glance-requires-clause-rule g c =
     let laws = g.met.P.Kind in
     gets_page _ _ (known c.args.hand.now.seat) c.requires.process.runs _ (ap next_of c.requires.process.state ∙ (laws.acts c.args.process.now ∙ c.requires.next.1))
     (λ p. subst (λ (z : Proc). GoesOn z (seen.Words p)) (sym c.requires.process.state) (laws.courses c.args.process.now (seen.Words p) c.requires.next.0 (rw c.requires.next.1 tt)))
 
+pub took_words-requires-clause-page : goal.took_words-requires-clause-page
+took_words-requires-clause-page g c = let told = c.in-Some.ensures.told in let page = told.3 in (page.0, sym told.2.1 ∙ page.1)
+
 pub returns-clause-takes : goal.returns-clause-takes
-returns-clause-takes g c = let told = c.get_into.ensures.told.1 in (told.0, c.took_words.ensures told.0 told.1)
+returns-clause-takes g c = let told = c.in-Some.ensures.told in let page = told.3 in (page.0, c.took_words.ensures.takes page.0 (sym told.2.1 ∙ page.1))

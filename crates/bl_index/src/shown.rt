@@ -1,0 +1,31 @@
+//! The words of a page that a hand has looked at.
+
+ghost use Rattle.std.specs.Prelude.{◌≡◌};
+
+use bl_page::WordSource;
+use bl_passes::{Mine, Passes};
+use bl_store::{Glance, Hand, Store};
+
+/// A page that a hand of the store has looked at.
+#[derive(Clone, Copy)]
+pub(crate) struct Shown<'a> {
+    pub(crate) store: &'a Store<Mine, Passes>,
+    pub(crate) glance: Glance,
+}
+
+impl WordSource for Shown<'_> {
+    ghost use Rattle.bl_store.specs.Hands.{read_words, IsOf, ReadsFrom};
+
+    type Hand = Hand<Mine>;
+
+    ghost shown = { λ source hand. read_words hand.seat };
+
+    ghost Sees = { λ source hand. IsOf source.store.now.table.shared.table_id source.store.now.layout hand.seat × ReadsFrom hand.seat source.glance };
+
+    ghost long = { λ source hand sees. sees.1.3 };
+
+    #[inline(always)]
+    fn word(&self, hand: &mut Hand<Mine>, place: usize) -> u64 {
+        self.store.word(hand, self.glance, place)
+    }
+}
