@@ -152,3 +152,10 @@ fn copies_of_pages(rt: HostRuntime) -> Result<(), Fail> {
     }
     Ok(())
 }
+
+#[test]
+fn words_are_read_one_by_one(rt: HostRuntime) {
+    let source = words(&[LEAF + 1, 0, 0, 0, 5, 50]);
+    let read = words_from(&source, &mut ());
+    assert!(rt; read.as_slice() == source.as_slice());
+}
