@@ -865,7 +865,8 @@ impl Trial {
         self.keeps_pages(event.act)?;
         match event.act {
             Act::Put(_) | Act::Open(_) | Act::Take(_) | Act::Retire(_) | Act::Release(_) => {
-                let tree = walked(alloc, &self.world.lists, &self.moment)?;
+                let world = &self.world;
+                let tree = walked(alloc, &world.lists, &self.moment)?;
                 self.went_to(alloc, event, tree, named)?;
             }
             Act::Begin => self.looks_from(event.process)?,
@@ -877,7 +878,8 @@ impl Trial {
 
     /// No page has changed but the one that an event puts.
     fn keeps_pages(&mut self, act: Act) -> Result<(), Law> {
-        let pages = self.world.lists.pages.as_slice();
+        let world = &self.world;
+        let pages = world.lists.pages.as_slice();
         holds(
             pages.len() == self.pages.len(),
             "there are as many pages as before",
