@@ -66,17 +66,18 @@ impl Play {
 
     /// Insertions of the keys from the first to the last into that leaf, with ten times the key.
     fn inserts(&mut self, process: u64, first: u64, last: u64, leaf: u32) -> Result<(), Fail> {
-        for key in first..last + 1 {
-            let value = 10 * key;
+        for key in first..last.wrapping_add(1) {
+            let value = key.wrapping_mul(10);
             let line = format!(in self.alloc; "insert {key} {value}")?;
-            self.changes(process + (key - first), line.as_str(), leaf, "inserted")?;
+            let place = key.wrapping_sub(first);
+            self.changes(process.wrapping_add(place), line.as_str(), leaf, "inserted")?;
         }
         Ok(())
     }
 
     /// A deletion of that key, which has ten times the key as its value, from that leaf, with a hint or none.
     fn deletes(&mut self, process: u64, key: u64, leaf: u32, hint: &str) -> Result<(), Fail> {
-        let value = 10 * key;
+        let value = key.wrapping_mul(10);
         let line = format!(in self.alloc; "delete {key}")?;
         let answer = format!(in self.alloc; "deleted {value}{hint}")?;
         self.changes(process, line.as_str(), leaf, answer.as_str())
@@ -98,8 +99,8 @@ impl Play {
 fn posted(alloc: Global, pages: u32, gap: u64) -> Result<Play, Fail> {
     let mut play = Play::new(alloc, pages)?;
     for place in 1..16u64 {
-        let key = gap * place;
-        let value = 10 * key;
+        let key = gap.wrapping_mul(place);
+        let value = key.wrapping_mul(10);
         let line = format!(in alloc; "insert {key} {value}")?;
         play.starts(line.as_str())?;
         if place < 15 {
@@ -109,7 +110,7 @@ fn posted(alloc: Global, pages: u32, gap: u64) -> Result<Play, Fail> {
             )?;
         }
     }
-    let key = 9 * gap;
+    let key = gap.wrapping_mul(9);
     let acts = format!(in alloc;
         "begin,get 0,latch 1,get 1,take 2,put 2,put 1,open 2,open 1,end,answer inserted post 1 {key}"
     )?;
@@ -195,7 +196,7 @@ fn searches_beside_a_merge(rt: HostRuntime) -> Result<(), Fail> {
 /// The acts of a process that sees page 2 and looks at the processes up to that number, and then this.
 fn looks(alloc: Global, last: u64, end: &str) -> Result<String, Fail> {
     let mut acts = String::from_str(alloc, "see 2,")?;
-    for process in 1..last + 1 {
+    for process in 1..last.wrapping_add(1) {
         let look = format!(in alloc; "look {process},")?;
         acts.push_str(look.as_str())?;
     }
@@ -280,9 +281,9 @@ fn rows_that_move_right(rt: HostRuntime) -> Result<(), Fail> {
 fn upper_full(alloc: Global, deleted: u64) -> Result<Play, Fail> {
     let mut play = posted(alloc, 8, 1)?;
     play.inserts(17, 16, 22, 2)?;
-    for key in 1..deleted + 1 {
+    for key in 1..deleted.wrapping_add(1) {
         let hint = if key == 1 { "" } else { " thin 1 0" };
-        play.deletes(23 + key, key, 1, hint)?;
+        play.deletes(key.wrapping_add(23), key, 1, hint)?;
     }
     Ok(play)
 }
@@ -480,14 +481,18 @@ fn a_merged_leaf_that_is_thin(rt: HostRuntime) -> Result<(), Fail> {
 
 /// The number of the leaf that begins with 8 times the place and 1.
 fn leaf_at(place: u32) -> u32 {
-    if place < 2 { place + 1 } else { place + 2 }
+    if place < 2 {
+        place + 1
+    } else {
+        place.wrapping_add(2)
+    }
 }
 
 /// The leaf at that place has seven rows. Seven more fill it, and one parts it; all that by processes from that number on.
 fn parts_the_last(play: &mut Play, place: u32, process: u64) -> Result<(), Fail> {
     let low = 8 * u64::from(place) + 1;
     let leaf = leaf_at(place);
-    let new = leaf_at(place + 1);
+    let new = leaf_at(place.wrapping_add(1));
     play.inserts(process, low + 7, low + 13, leaf)?;
     let last = low + 14;
     let value = 10 * last;
@@ -496,7 +501,7 @@ fn parts_the_last(play: &mut Play, place: u32, process: u64) -> Result<(), Fail>
     let acts = format!(in play.alloc;
         "begin,get 0,get 3,latch {leaf},get {leaf},take {new},put {new},put {leaf},open {new},open {leaf},end,answer inserted post 1 {key}"
     )?;
-    play.plays(process + 7, line.as_str(), acts.as_str())
+    play.plays(process.wrapping_add(7), line.as_str(), acts.as_str())
 }
 
 /// The keys 1 to 119 in 15 leaves of eight rows, but the last of seven: page 3 is the parent of eight, page 17 that of seven,

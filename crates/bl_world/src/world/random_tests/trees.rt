@@ -289,16 +289,17 @@ impl Tree {
 
     /// The leaf has the rows of the keys that it covers.
     fn agrees(&self, live: &Live, leaf: &Leaf) -> Result<(), Law> {
-        let mut rows = leaf.rows.as_slice().iter();
+        let mut place = 0usize;
         for row in self.rows.as_slice() {
             if live.covers(row.0) {
                 holds(
-                    rows.next() == Some(row),
+                    leaf.rows.as_slice().get(place) == Some(row),
                     "a leaf has the rows of the keys that it covers",
                 )?;
+                place = place.wrapping_add(1);
             }
         }
-        holds(rows.next().is_none(), "leaves agree on their rows")
+        holds(place == leaf.rows.len(), "leaves agree on their rows")
     }
 
     /// Each leaf has the rows of the keys that it covers.
