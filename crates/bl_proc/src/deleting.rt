@@ -11,10 +11,10 @@ ghost use Rattle.bl_ways.specs.Onwards.{Leads};
 ghost use Rattle.bl_proc.specs.Deletes.{delete_reply, thin_after, deleted_answer, delete_next_in, delete_needs_in, delete_answer_in, DeleteArrives, DeleteGoes, delete_next, delete_needs, delete_answer, DeleteTakes};
 
 use bl_model::Reply;
-use bl_page::Page;
+use bl_page::{Page, WordSource};
 use bl_ways::{
     Action, Answer, Approach, Approached, Change, Changed, Level, Outcome, Process, Reader, Seen,
-    dropping, hint_of_thin, listed, thin_low,
+    dropping, hint_of_thin, listed, thin_low, took_page,
 };
 use std::mem;
 
@@ -211,4 +211,16 @@ impl Process for Delete {
     }
 }
 
-impl Reader for Delete {}
+impl Reader for Delete {
+    // No page is made of the words on the way to the leaf.
+    #[inline(always)]
+    fn took_words<W: WordSource>(&mut self, source: &W, hand: &mut W::Hand) {
+        match &self.stage {
+            DeleteStage::Coming(approach) if approach.is_to_look() => {
+                let approach = approach.took_words(0, self.key, source, hand);
+                self.stage = DeleteStage::Coming(approach);
+            }
+            _ => took_page(self, source, hand),
+        }
+    }
+}

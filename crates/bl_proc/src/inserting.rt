@@ -14,10 +14,10 @@ ghost use Rattle.bl_ways.specs.Onwards.{Leads};
 ghost use Rattle.bl_ways.specs.declared.onwards.Onward.TheVariants as onward;
 
 use bl_model::Reply;
-use bl_page::Page;
+use bl_page::{Page, WordSource};
 use bl_ways::{
     Action, Answer, Approach, Approached, Change, Changed, Hint, Level, Outcome, Process, Reader,
-    Seen, entering, listed,
+    Seen, entering, listed, took_page,
 };
 use std::mem;
 
@@ -198,4 +198,16 @@ impl Process for Insert {
     }
 }
 
-impl Reader for Insert {}
+impl Reader for Insert {
+    // No page is made of the words on the way to the leaf.
+    #[inline(always)]
+    fn took_words<W: WordSource>(&mut self, source: &W, hand: &mut W::Hand) {
+        match &self.stage {
+            InsertStage::Coming(approach) if approach.is_to_look() => {
+                let approach = approach.took_words(0, self.key, source, hand);
+                self.stage = InsertStage::Coming(approach);
+            }
+            _ => took_page(self, source, hand),
+        }
+    }
+}

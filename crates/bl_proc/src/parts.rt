@@ -14,8 +14,10 @@ ghost use Rattle.bl_proc.specs.Parts.{GoesOnAt, IsPartOf, part_next_in, part_ans
 
 use arrayvec::ArrayVec;
 use bl_model::{Next, Reply};
-use bl_page::{Page, Pairs};
-use bl_ways::{Action, Answer, Onward, Process, Reader, Seen, top_page, way_from};
+use bl_page::{Page, Pairs, WordSource};
+use bl_ways::{
+    Action, Answer, Onward, Process, Reader, Seen, took_page, top_in, top_page, way_from, way_in,
+};
 use std::mem;
 
 /// A process that lists the pairs of one leaf from a key on.
@@ -188,4 +190,18 @@ impl Process for Part {
     }
 }
 
-impl Reader for Part {}
+impl Reader for Part {
+    // Only of the leaf's words a page is made.
+    #[inline(always)]
+    fn took_words<W: WordSource>(&mut self, source: &W, hand: &mut W::Hand) {
+        match &self.stage {
+            PartStage::AtAnchor => self.stage = PartStage::At(top_in(source, hand)),
+            PartStage::At(_) => match way_in(source, hand, self.from, 0) {
+                Onward::Again => self.stage = PartStage::AtAnchor,
+                Onward::Right(next) | Onward::Down(next) => self.stage = PartStage::At(next),
+                Onward::Here => took_page(self, source, hand),
+            },
+            _ => unreachable!(),
+        }
+    }
+}

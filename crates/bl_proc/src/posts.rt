@@ -14,10 +14,10 @@ ghost use Rattle.bl_proc.specs.Posts.{post_reply, posted_answer, post_next_in, p
 use crate::inserting::hint_to_post;
 use crate::posting::{Post, PostReply, PostStage};
 use crate::walking::Walk;
-use bl_page::{Inner, Page, listed_with};
+use bl_page::{Inner, Page, WordSource, listed_with};
 use bl_ways::{
     Action, Answer, Approach, Approached, Change, Changed, Grew, Growth, Level, Onward, Outcome,
-    Posted, Process, Reader, Seen, entered, entering, levels_of, low_of, way_from,
+    Posted, Process, Reader, Seen, entered, entering, levels_of, low_of, took_page, way_from,
 };
 use std::mem;
 
@@ -288,4 +288,16 @@ impl Process for Post {
     }
 }
 
-impl Reader for Post {}
+impl Reader for Post {
+    // No page is made of the words on the way from the top of the tree to the parent.
+    #[inline(always)]
+    fn took_words<W: WordSource>(&mut self, source: &W, hand: &mut W::Hand) {
+        match &self.stage {
+            PostStage::Coming(Approach::At(at)) => {
+                let approach = Approach::At(*at).took_words(self.level, self.key, source, hand);
+                self.stage = PostStage::Coming(approach);
+            }
+            _ => took_page(self, source, hand),
+        }
+    }
+}

@@ -82,23 +82,25 @@ impl<D, R: PageRule<D>> Store<D, R, Global> {
         for number in 1..passes {
             let rest = self.table.shared.split_seat::<Deal>(&mut seat);
             let mine = mem::replace(&mut seat, rest);
-            hands.push(Hand::of(mine, number - 1))?;
+            hands.push(Hand::of(mine, number - 1, self.layout))?;
         }
-        hands.push(Hand::of(seat, passes - 1))?;
+        hands.push(Hand::of(seat, passes - 1, self.layout))?;
         Ok(hands)
     }
 }
 
 impl<D> Hand<D> {
-    fn of(seat: Seat<(), View<D>>, number: u32) -> Hand<D>
+    // Hands begin far apart in the frames and in the owners, so that two threads seldom write to one cache line.
+    fn of(seat: Seat<(), View<D>>, number: u32, layout: Layout) -> Hand<D>
         requires { (number ≡ seat.me.0.number) × (number < seat.me.0.layout.passes) × (seat.me.0.sealing ≡ Unsealed) × (seat.me.1 ≡ []) }
         ensures { (result.number ≡ number) × (result.seat ≡ seat) }
     {
+        let frames = layout.frames();
         Hand {
             seat,
             number,
-            frame: 0,
-            owner: 0,
+            frame: number.wrapping_mul(frames / layout.passes),
+            owner: number.wrapping_mul((layout.pages + frames) / layout.passes),
         }
     }
 }

@@ -109,6 +109,11 @@ impl<D, R: PageRule<D>, A: Allocator> Store<D, R, A> {
             .table
             .shared
             .compare_exchange::<Release>(&mut hand.seat, word, state, 0);
-        found == state
+        if found != state {
+            return false;
+        }
+        // Low frames are used again first, so that the frames in use lie close together and stay in the cache.
+        hand.frame = hand.frame.min(at - self.layout.pages);
+        true
     }
 }

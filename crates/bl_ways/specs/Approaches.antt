@@ -22,6 +22,14 @@ approach_next (Latching x) = act.Latch x
 approach_next (Latched x) = act.Get x
 approach_next (Leaving x to) = act.Open x
 
+-- it is to get a page, and holds none
+abbrev pub IsToLook : Approach → Type 0
+IsToLook Start = Unit {0}
+IsToLook (At x) = Unit {0}
+IsToLook (Latching x) = ⊥
+IsToLook (Latched x) = ⊥
+IsToLook (Leaving x to) = ⊥
+
 -- From the anchor: to the leftmost page of the top level, which is latched where it is the writer's own level. Where the
 -- tree has no such level, the anchor again.
 abbrev pub Enters : ℕ → Roots → Approach → Type 0

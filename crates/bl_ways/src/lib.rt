@@ -12,12 +12,15 @@ mod answers;
 mod approaching;
 mod changes;
 mod changing;
+mod descending;
 mod growing;
 mod growths;
 mod machine;
 mod onwards;
 mod reading;
 mod spelled;
+#[cfg(test)]
+mod spelled_tests;
 mod thin;
 
 pub use acts::{Action, Seen};
@@ -26,8 +29,8 @@ pub use approaching::{Approach, Approached, entered};
 pub use changes::{dropping, entering};
 pub use changing::{Change, Changed, Full, Outcome, Parting};
 pub use growing::{Grew, Growth, Raising, Rise};
-pub use machine::{Process, Reader};
+pub use machine::{Process, Reader, took_page};
 pub use onwards::{Onward, way_from};
 pub use reading::{count_of, level_of, levels_of, listed, low_of, top_page};
-pub use spelled::{row_in, top_in, way_in};
+pub use spelled::{level_in, levels_in, row_in, top_in, way_in};
 pub use thin::{hint_of_thin, thin_low};

@@ -60,9 +60,21 @@ pub trait Reader: Process {
         ensures same { hand.new ≡ hand.old }
         ensures takes { (c : Page) → W.shown source.now hand.old ≡ words_of c → Self.Process.Takes self.old (seen.Words c) self.new }
     {
-        match from_words(&words_from(source, hand)) {
-            Ok(page) => self.took(Seen::Words(page)),
-            Err(_) => unreachable!(),
-        }
+        took_page(self, source, hand);
+    }
+}
+
+/// A process goes on by the page that it got, which is made of the page's words.
+pub fn took_page<P: Process, W: WordSource>(process: &mut P, source: &W, hand: &mut W::Hand)
+    requires sees { W.Sees source.now hand.old }
+    requires running { P.answer_of process.old ≡ None }
+    requires gets { (x : ℕ) × (P.next_of process.old ≡ act.Get x) }
+    requires page { (c : Page) × (W.shown source.now hand.old ≡ words_of c) }
+    ensures same { hand.new ≡ hand.old }
+    ensures takes { (c : Page) → W.shown source.now hand.old ≡ words_of c → P.Takes process.old (seen.Words c) process.new }
+{
+    match from_words(&words_from(source, hand)) {
+        Ok(page) => process.took(Seen::Words(page)),
+        Err(_) => unreachable!(),
     }
 }

@@ -87,3 +87,30 @@ pub fn top_in<W: WordSource>(source: &W, hand: &mut W::Hand) -> u32
         0
     }
 }
+
+/// How many levels the tree has, by the anchor's words.
+#[inline(always)]
+pub fn levels_in<W: WordSource>(source: &W, hand: &mut W::Hand) -> u32
+    requires sees { W.Sees source.now hand.old }
+    requires page { (c : Page) × (W.shown source.now hand.old ≡ words_of c) }
+    ensures same { hand.new ≡ hand.old }
+    ensures levels { (c : Page) → W.shown source.now hand.old ≡ words_of c → result ≡ (roots_of c).levels }
+{
+    let head = source.word(hand, 0);
+    if head / KIND_UNIT == 1 {
+        (head % LEVEL_UNIT) as u32
+    } else {
+        0
+    }
+}
+
+/// The level of the page with these words: that of a leaf is 0, and so is that of the anchor.
+#[inline(always)]
+pub fn level_in<W: WordSource>(source: &W, hand: &mut W::Hand) -> u32
+    requires sees { W.Sees source.now hand.old }
+    requires page { (c : Page) × (W.shown source.now hand.old ≡ words_of c) }
+    ensures same { hand.new ≡ hand.old }
+    ensures level { (c : Page) → W.shown source.now hand.old ≡ words_of c → result ≡ (node_of c).shape.level }
+{
+    (source.word(hand, 0) / LEVEL_UNIT % LEVEL_UNIT) as u32
+}

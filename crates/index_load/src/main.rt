@@ -25,6 +25,10 @@ struct Load {
     ghost threads_within: { (1 ≤ threads) × (threads ≤ 4) },
 }
 
+/// The number of the first pass that works. The passes before it make the frames begin with a cache line where the system's
+/// allocator puts a large block 16 bytes behind the begin of a line, as glibc's does.
+const FIRST: usize = 5;
+
 /// The parts of a load, one after another.
 #[derive(Clone, Copy)]
 enum Part {
@@ -157,16 +161,35 @@ fn run<R: Threads + Wait + Sync>(
     done.load(Ordering::SeqCst)
 }
 
+// Every eighth pass from the back. A begin and an end write to a word of their pass, these words follow each other, and a
+// cache line holds eight words: so no two of these passes write to one line.
+fn every_eighth(alloc: Global, index: &Index, passes: Vec<Pass>) -> Option<Vec<Pass>>
+    requires { All (IsPassOf index.now) passes.items }
+    ensures { IfSome result (λ v. All (IsPassOf index.now) v.items) }
+{
+    let mut passes = passes;
+    let mut apart = Vec::new(alloc);
+    while let Some(pass) = passes.pop() {
+        if passes.len() % 8 == FIRST {
+            apart.push(pass).ok()?;
+        }
+    }
+    Some(apart)
+}
+
 // The largest index, with a pass for each thread.
 fn opened(alloc: Global, threads: u32) -> Option<(Index, Vec<Pass>)>
     ensures { IfSome result (λ t. All (IsPassOf t.0) t.1.items) }
 {
     let config = Config {
         pages: 65_536,
-        passes: threads,
+        passes: 8 * threads + FIRST as u32,
     };
     match Index::open(alloc, config) {
-        Ok((index, passes)) => Some((index, passes)),
+        Ok((index, passes)) => {
+            let apart = every_eighth(alloc, &index, passes)?;
+            Some((index, apart))
+        }
         Err(_) => None,
     }
 }
