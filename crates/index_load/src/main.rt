@@ -178,12 +178,12 @@ fn every_eighth(alloc: Global, index: &Index, passes: Vec<Pass>) -> Option<Vec<P
 }
 
 // The largest index, with a pass for each thread.
-fn opened(alloc: Global, threads: u32) -> Option<(Index, Vec<Pass>)>
+fn opened(alloc: Global, load: Load) -> Option<(Index, Vec<Pass>)>
     ensures { IfSome result (λ t. All (IsPassOf t.0) t.1.items) }
 {
     let config = Config {
         pages: 65_536,
-        passes: 8 * threads + FIRST as u32,
+        passes: 8 * load.threads + FIRST as u32,
     };
     match Index::open(alloc, config) {
         Ok((index, passes)) => {
@@ -200,7 +200,7 @@ fn main(rt: HostRuntime) -> anyhow::Result<()> {
         eprintln!(&rt; "usage: index_load ROWS THREADS FINDS MIXED")?;
         return Ok(());
     };
-    let Some((index, mut passes)) = opened(rt.alloc(), load.threads) else {
+    let Some((index, mut passes)) = opened(rt.alloc(), load) else {
         eprintln!(&rt; "out of memory")?;
         return Ok(());
     };
