@@ -15,3 +15,5 @@ pub mod Posts
 pub mod Following
 pub mod PostsFollowing
 pub mod PartsFollowing
+pub mod Neighbours
+pub mod Families
