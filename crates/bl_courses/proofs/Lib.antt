@@ -17,3 +17,4 @@ pub mod PostsFollowing
 pub mod PartsFollowing
 pub mod Neighbours
 pub mod Families
+pub mod Relistings
