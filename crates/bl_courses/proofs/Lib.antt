@@ -18,3 +18,4 @@ pub mod PartsFollowing
 pub mod Neighbours
 pub mod Families
 pub mod Relistings
+pub mod Decisions
