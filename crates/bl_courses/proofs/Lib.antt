@@ -19,3 +19,4 @@ pub mod Neighbours
 pub mod Families
 pub mod Relistings
 pub mod Decisions
+pub mod CompressionSteps
