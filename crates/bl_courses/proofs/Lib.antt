@@ -20,3 +20,4 @@ pub mod Families
 pub mod Relistings
 pub mod Decisions
 pub mod CompressionSteps
+pub mod Compressions
