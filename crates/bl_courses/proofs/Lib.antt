@@ -21,3 +21,4 @@ pub mod Relistings
 pub mod Decisions
 pub mod CompressionSteps
 pub mod Compressions
+pub mod CompressionsFollowing
