@@ -8,7 +8,6 @@ use Rattle.bl_rearrange.specs.declared.sides.Side.TheVariants as side
 use Rattle.bl_ways.specs.declared.acts.Seen.{Seen}
 use Rattle.bl_ways.specs.declared.acts.Seen.TheVariants as seen
 use Rattle.bl_ways.specs.Given.{Gives}
-use Rattle.bl_compress.specs.declared.compressing.Trio.{Trio}
 use Rattle.bl_compress.specs.declared.compressing.Family.{Family}
 use Rattle.bl_compress.specs.declared.compressing.Puts.{Puts}
 use Rattle.bl_compress.specs.declared.compressing.Fate.{Fate}
@@ -17,7 +16,7 @@ use Rattle.bl_compress.specs.declared.compressing.Compression.{Compression}
 use Rattle.bl_compress.specs.declared.compressing.Compression.TheVariants.{LatchingLeft, LatchedLeft, LatchingRight, LatchedRight, PuttingFirst, PuttingParent, PuttingLast, Retiring, OpeningRight, OpeningLeft, OpeningParent}
 use Rattle.bl_compress.specs.declared.compressing.Compressed.{Compressed}
 use Rattle.bl_compress.specs.declared.compressing.Compressed.TheVariants.{On, Over}
-use Rattle.bl_compress.specs.Compressions.{put_of, other, after_puts, compression_next, compression_needs, Links, Decides, Compresses}
+use Rattle.bl_compress.specs.Compressions.{put_of, other, after_puts, compression_next, compression_needs, Compresses}
 use Rattle.bl_courses.specs.One.{One}
 use Rattle.bl_courses.proofs.Decisions.{link_one, decide_one}
 

@@ -1,5 +1,5 @@
 -- A process that compresses goes on, and in one way.
-use Rattle.std.proofs.Common.{ℕ, ◌≡◌, ◌≢◌, ◌<◌, ◌≤◌, length, Option, Some, None, refl, sym, ap, ◌∙◌, subst, inl, inr, arith}
+use Rattle.std.proofs.Common.{ℕ, ◌≡◌, ◌<◌, ◌≤◌, length, Option, Some, None, refl, sym, ap, ◌∙◌, subst, inl, inr, arith}
 use Rattle.std.specs.Coded.{le_prop}
 use Rattle.std.proofs.lemmas.Bool.{cases_lt}
 use mathlib.Core.HLevel.{is_prop→PathP}
@@ -29,7 +29,7 @@ use Rattle.bl_compress.specs.declared.squeezing.CompressStage.{CompressStage}
 use Rattle.bl_compress.specs.declared.squeezing.CompressStage.TheVariants.{New, Coming, Compressing, Staying, Ending, Over}
 use Rattle.bl_compress.specs.declared.squeezing.CompressReply.{CompressReply}
 use Rattle.bl_compress.specs.declared.squeezing.CompressReply.TheVariants as reply
-use Rattle.bl_compress.specs.Compressions.{IsFamily, AreSiblings, Compresses}
+use Rattle.bl_compress.specs.Compressions.{AreSiblings, Compresses}
 use Rattle.bl_compress.specs.Compresses.{compress_reply, compress_next_in, compress_needs_in, compress_answer_in, CompressStarts, CompressArrives, CompressNears, CompressComes, CompressGoes}
 use Rattle.bl_compress.proofs.Arrivals.{compress_arrives}
 use Rattle.bl_proc.specs.declared.kinds.Proc.{Proc}
@@ -105,8 +105,8 @@ module _ (key x : ℕ) (parent : Inner) where
       new = Staying x;
       goes = (refl, (parent, refl, few));
       only = arrives_by key x (page.Inner parent) (λ z. z ≡ Staying x)
-      (λ g other e s. absurd (let two = (siblings other (Some g) e s).0 in omega arith))
-      (λ other e s. refl);
+          (λ g other e s. absurd (let two = (siblings other (Some g) e s).0 in omega arith))
+          (λ other e s. refl);
     }
     | inr two ↦ (
         let f = family_some x key parent in_it two in
@@ -114,8 +114,8 @@ module _ (key x : ℕ) (parent : Inner) where
           new = Compressing (LatchingLeft f.0);
           goes = (parent, refl, (two, f.1));
           only = arrives_by key x (page.Inner parent) (λ z. z ≡ Compressing (LatchingLeft f.0))
-          (λ g other e s. ap (λ (z : Family). Compressing (LatchingLeft z)) (family_one x key parent g f.0 (siblings other (Some g) e s).1 f.1))
-          (λ other e s. absurd (let few = siblings other None e s in omega arith));
+              (λ g other e s. ap (λ (z : Family). Compressing (LatchingLeft z)) (family_one x key parent g f.0 (siblings other (Some g) e s).1 f.1))
+              (λ other e s. absurd (let few = siblings other None e s in omega arith));
         })
   ]
 
@@ -147,7 +147,7 @@ module _ (level key : ℕ) (a : Approach) (what : Seen) where
         new = one.new;
         goes = compress_arrives level key a what x c one.new h one.goes;
         only = nears_by (λ z. z ≡ one.new) (λ d t. absurd (not_both d x c (is (came.On d) t)))
-        (λ other y d t arrived. (let e = is (came.Here y d) t in one.only other (subst (λ (z : ℕ × Page). CompressArrives key z.0 z.1 other) (λ i. (came_at y x d c e i, came_as y x d c e i)) arrived)));
+            (λ other y d t arrived. (let e = is (came.Here y d) t in one.only other (subst (λ (z : ℕ × Page). CompressArrives key z.0 z.1 other) (λ i. (came_at y x d c e i, came_as y x d c e i)) arrived)));
       }
 
   near_one : 0 < level → Gives (approach_next a) None what → One (CompressNears level key a what)

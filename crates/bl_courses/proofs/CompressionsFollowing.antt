@@ -1,5 +1,5 @@
 -- What a process that compresses wants, and what follows.
-use Rattle.std.proofs.Common.{ℕ, suc, ◌≡◌, ◌≢◌, Option, Some, None, refl, sym, ap, ◌∙◌, subst, arith}
+use Rattle.std.proofs.Common.{ℕ, suc, ◌≡◌, ◌≢◌, Some, None, refl, sym, ap, ◌∙◌, subst, arith}
 use Rattle.bl_page.specs.declared.page.Page.{Page}
 use Rattle.bl_rearrange.specs.declared.sides.Side.{Side}
 use Rattle.bl_rearrange.specs.declared.sides.Side.TheVariants as side

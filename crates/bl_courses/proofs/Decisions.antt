@@ -1,10 +1,9 @@
 -- What is done with two children that are held and were got: there is one thing to do.
-use Rattle.std.proofs.Common.{ℕ, ◌≡◌, ◌≢◌, ◌+◌, ◌<◌, ◌≤◌, length, Option, Some, None, refl, sym, ap, ◌∙◌, subst, inl, inr, arith}
+use Rattle.std.proofs.Common.{ℕ, ◌≡◌, ◌≢◌, ◌<◌, ◌≤◌, length, Option, Some, None, refl, sym, ap, ◌∙◌, subst, inl, inr, arith}
 use Rattle.std.specs.Prelude.{◌⊎◌}
 use Rattle.std.proofs.lemmas.Bool.{cases_lt, cases_eq}
 use Rattle.bl_page.specs.declared.page.Page.{Page}
 use Rattle.bl_page.specs.declared.page.Page.TheVariants.{Inner as InnerPage}
-use Rattle.bl_rearrange.specs.declared.sides.Side.{Side}
 use Rattle.bl_rearrange.specs.declared.sides.Side.TheVariants as side
 use Rattle.bl_rearrange.specs.declared.sides.Evened.{Evened}
 use Rattle.bl_rearrange.specs.Neighbours.{AreNeighbours, together, IsEvened}
@@ -122,11 +121,11 @@ module _ (f : Family) (c d : Page) where
     new = OpeningRight f.at Lost;
     goes = (refl, inl differ);
     only = decides_by (λ z. z ≡ OpeningRight f.at Lost)
-    (λ p n m. absurd (differ n))
-    (λ p v. absurd (differ v.may.neighbours))
-    (λ at a n past left right. absurd (differ n))
-    (λ at a n. ap (λ (z : Trio). OpeningRight z Lost) a)
-    (λ at a may u. ap (λ (z : Trio). OpeningRight z Lost) a);
+        (λ p n m. absurd (differ n))
+        (λ p v. absurd (differ v.may.neighbours))
+        (λ at a n past left right. absurd (differ n))
+        (λ at a n. ap (λ (z : Trio). OpeningRight z Lost) a)
+        (λ at a may u. ap (λ (z : Trio). OpeningRight z Lost) a);
   }
 
   decide_merge : AreNeighbours c d → together c d ≤ 14 → One (Decides f c d)
@@ -140,11 +139,11 @@ module _ (f : Family) (c d : Page) where
         new = PuttingFirst p;
         goes = inl (n, m);
         only = decides_by (λ z. z ≡ PuttingFirst p)
-        (λ q also s. ap PuttingFirst (merges_one q p s m))
-        (λ q v. absurd (let past = v.may.past in omega arith))
-        (λ at a also past left_many right_many. absurd (omega arith))
-        (λ at a differ. absurd (differ n))
-        (λ at a may u. absurd (let past = may.past in omega arith));
+            (λ q also s. ap PuttingFirst (merges_one q p s m))
+            (λ q v. absurd (let past = v.may.past in omega arith))
+            (λ at a also past left_many right_many. absurd (omega arith))
+            (λ at a differ. absurd (differ n))
+            (λ at a may u. absurd (let past = may.past in omega arith));
       }
 
   decide_even : MayEven c d → (p : Puts) → Evens f c d p → One (Decides f c d)
@@ -152,11 +151,11 @@ module _ (f : Family) (c d : Page) where
     new = PuttingFirst p;
     goes = inr v;
     only = decides_by (λ z. z ≡ PuttingFirst p)
-    (λ q n m. absurd (let fit = m.left.0 in let past = may.past in omega arith))
-    (λ q u. ap PuttingFirst (evens_one q p u v))
-    (λ at a n past left right. absurd (both_few may.few left right))
-    (λ at a differ. absurd (differ may.neighbours))
-    (λ at a also u. absurd (evens_apart p v u));
+        (λ q n m. absurd (let fit = m.left.0 in let past = may.past in omega arith))
+        (λ q u. ap PuttingFirst (evens_one q p u v))
+        (λ at a n past left right. absurd (both_few may.few left right))
+        (λ at a differ. absurd (differ may.neighbours))
+        (λ at a also u. absurd (evens_apart p v u));
   }
 
   decide_lost : MayEven c d → IsUnlisted → One (Decides f c d)
@@ -164,11 +163,11 @@ module _ (f : Family) (c d : Page) where
     new = OpeningRight f.at Lost;
     goes = (refl, inr (may, u));
     only = decides_by (λ z. z ≡ OpeningRight f.at Lost)
-    (λ q n m. absurd (let fit = m.left.0 in let past = may.past in omega arith))
-    (λ q v. absurd (evens_apart q v u))
-    (λ at a n past left right. absurd (both_few may.few left right))
-    (λ at a differ. ap (λ (z : Trio). OpeningRight z Lost) a)
-    (λ at a also w. ap (λ (z : Trio). OpeningRight z Lost) a);
+        (λ q n m. absurd (let fit = m.left.0 in let past = may.past in omega arith))
+        (λ q v. absurd (evens_apart q v u))
+        (λ at a n past left right. absurd (both_few may.few left right))
+        (λ at a differ. ap (λ (z : Trio). OpeningRight z Lost) a)
+        (λ at a also w. ap (λ (z : Trio). OpeningRight z Lost) a);
   }
 
   decide_enough : AreNeighbours c d → 14 < together c d → ¬ IsFew c → ¬ IsFew d → One (Decides f c d)
@@ -176,11 +175,11 @@ module _ (f : Family) (c d : Page) where
     new = OpeningRight f.at Enough;
     goes = (refl, n, past, left, right);
     only = decides_by (λ z. z ≡ OpeningRight f.at Enough)
-    (λ q also m. absurd (let fit = m.left.0 in omega arith))
-    (λ q v. absurd (both_few v.may.few left right))
-    (λ at a also more l r. ap (λ (z : Trio). OpeningRight z Enough) a)
-    (λ at a differ. absurd (differ n))
-    (λ at a may u. absurd (both_few may.few left right));
+        (λ q also m. absurd (let fit = m.left.0 in omega arith))
+        (λ q v. absurd (both_few v.may.few left right))
+        (λ at a also more l r. ap (λ (z : Trio). OpeningRight z Enough) a)
+        (λ at a differ. absurd (differ n))
+        (λ at a may u. absurd (both_few may.few left right));
   }
 
   decide_by : MayEven c d → (e : Evened) → IsEvened c d e → (r : Option Page) → Relists f.parent f.key e.separator f.at.right r → One (Decides f c d)

@@ -23,13 +23,13 @@ use Rattle.bl_courses.proofs.Rows.{front_one, back_one}
 pub neighbours_or : (c d : Page) → AreNeighbours c d ⊎ (¬ AreNeighbours c d)
 neighbours_or (Leaf l) (Leaf r) = elim (cases_eq l.high 0) [
   | inl none ↦ inr (λ n. n.0 none)
-  | inr some ↦ elim (cases_eq r.low l.high) [ | inl e ↦ inl (some, e) | inr differ ↦ inr (λ n. differ n.1) ]
+  | inr some ↦ elim (cases_eq r.low l.high) [ inl e ↦ inl (some, e) | inr differ ↦ inr (λ n. differ n.1) ]
 ]
 neighbours_or (Inner l) (Inner r) = elim (cases_eq r.level l.level) [
   | inr differ ↦ inr (λ n. differ n.0)
   | inl same ↦ elim (cases_eq l.high 0) [
     | inl none ↦ inr (λ n. n.1 none)
-    | inr some ↦ elim (cases_eq r.low l.high) [ | inl e ↦ inl (same, some, e) | inr differ ↦ inr (λ n. differ n.2) ]
+    | inr some ↦ elim (cases_eq r.low l.high) [ inl e ↦ inl (same, some, e) | inr differ ↦ inr (λ n. differ n.2) ]
   ]
 ]
 neighbours_or (Leaf l) (Anchor a) = inr (λ n. n)
@@ -144,7 +144,7 @@ record HasShares (low middle high : ℕ) (left right : List (ℕ × ℕ)) : Type
   pub moves : Gains gains (length left) (length lower) middle (get_or upper 0 (0, 0)).0
 
 moved : (had has : ℕ) → (s : Side) × MovesTo s had has
-moved had has = elim (cases_lt has had) [ | inl lt ↦ (side.Right, lt) | inr ge ↦ (side.Left, ge) ]
+moved had has = elim (cases_lt has had) [ inl lt ↦ (side.Right, lt) | inr ge ↦ (side.Left, ge) ]
 
 shared : (low middle high : ℕ) (left right : List (ℕ × ℕ)) → AreSides low middle high left right → length left ≤ 14 → length right ≤ 14 → 14 < length left + length right → HasShares low middle high left right
 shared low middle high left right sides left_few right_few past =
