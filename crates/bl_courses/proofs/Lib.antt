@@ -15,3 +15,10 @@ pub mod Posts
 pub mod Following
 pub mod PostsFollowing
 pub mod PartsFollowing
+pub mod Neighbours
+pub mod Families
+pub mod Relistings
+pub mod Decisions
+pub mod CompressionSteps
+pub mod Compressions
+pub mod CompressionsFollowing
