@@ -38,7 +38,7 @@ approach_wants (way.Latched x) needs = refl
 approach_wants (way.Leaving x to) needs = refl
 
 pub change_wants : (c : Change) → Wants (change_next c) (change_needs c) (change_frames c)
-change_wants (change.Putting u v) = (refl, refl, refl)
+change_wants (change.Putting u v) = (refl, refl, omega arith)
 change_wants (change.Taking u) = (refl, refl, refl)
 change_wants (change.PuttingNew u) = (λ e. omega arith)
 change_wants (change.PuttingOld u) = (λ e. omega arith)
@@ -79,7 +79,7 @@ delete_wants p = wants p.stage
 
 -- a change that goes on, and one that is over
 pub change_leaves : (c d : Change) (what : Seen) → Changes c what (changed.On d) → Leaves (change_next c) (change_needs c) what (change_frames c) (change_frames d)
-change_leaves (change.Putting u v) d' seen.Done t = ap change_frames t
+change_leaves (change.Putting u v) d' seen.Done t = ap (λ (z : Change). suc (change_frames z)) t
 change_leaves (change.Putting u v) d' (seen.Words q) t = absurd t
 change_leaves (change.Putting u v) d' (seen.Took y) t = absurd t
 change_leaves (change.Putting u v) d' (seen.Owner retired started own) t = absurd t

@@ -1,5 +1,5 @@
 -- What a process has reserved, what it asks for, and what does not change from one action to the next.
-use Rattle.std.specs.Prelude.{◌≡◌, ◌≢◌, ℕ, suc, Option, Some, None}
+use Rattle.std.specs.Prelude.{◌≡◌, ◌≢◌, ◌≤◌, ℕ, suc, Option, Some, None}
 use Rattle.bl_model.specs.declared.operation.Op.{Op}
 use Rattle.bl_model.specs.declared.operation.Op.TheVariants as op
 use Rattle.bl_ways.specs.declared.acts.Action.{Action}
@@ -111,21 +111,21 @@ op_of (proc.Part p) = Some (op.Part p.from)
 op_of (proc.Compress p) = None
 op_of (proc.Reclaim p) = None
 
--- the level and the key of a post
+-- the level and the key of a post or a compression
 abbrev pub work_of : Proc → Option (ℕ × ℕ)
 work_of (proc.Find p) = None
 work_of (proc.Insert p) = None
 work_of (proc.Delete p) = None
 work_of (proc.Post p) = Some (p.level, p.key)
 work_of (proc.Part p) = None
-work_of (proc.Compress p) = None
+work_of (proc.Compress p) = Some (p.level, p.key)
 work_of (proc.Reclaim p) = None
 
--- A process that has so many frames: a put asks for one where it has none, and a take for a page and two frames. No
--- kind retires, and an index has sweeps for those that look or release.
+-- A process that has so many frames: a put asks for some where it has none, and a take for a page and two frames. An index
+-- has sweeps for those that look or release.
 abbrev pub Wants : Action → Option (ℕ × ℕ) → ℕ → Type 0
 Wants (act.Put x page) None frames = frames ≢ 0
-Wants (act.Put x page) (Some ask) frames = (frames ≡ 0) × (ask.0 ≡ 0) × (ask.1 ≡ 1)
+Wants (act.Put x page) (Some ask) frames = (frames ≡ 0) × (ask.0 ≡ 0) × (1 ≤ ask.1)
 Wants act.Take (Some ask) frames = (frames ≡ 0) × (ask.0 ≡ 1) × (ask.1 ≡ 2)
 Wants act.Take None frames = ⊥
 Wants act.Begin needs frames = frames ≡ 0
@@ -133,7 +133,7 @@ Wants act.End needs frames = frames ≡ 0
 Wants (act.Get x) needs frames = frames ≡ 0
 Wants (act.Latch x) needs frames = frames ≡ 0
 Wants (act.Open x) needs frames = frames ≡ 0
-Wants (act.Retire x) needs frames = ⊥
+Wants (act.Retire x) needs frames = frames ≡ 0
 Wants (act.Look p) needs frames = ⊥
 Wants (act.See x) needs frames = ⊥
 Wants (act.Release x) needs frames = ⊥
@@ -141,6 +141,7 @@ Wants (act.Release x) needs frames = ⊥
 -- How many frames are left then.
 abbrev pub Leaves : Action → Option (ℕ × ℕ) → Seen → ℕ → ℕ → Type 0
 Leaves (act.Put x page) None what before after = before ≡ suc after
+Leaves (act.Put x page) (Some ask) seen.Done before after = suc after ≡ ask.1
 Leaves (act.Put x page) (Some ask) what before after = after ≡ 0
 Leaves act.Take needs (seen.Took y) before after = after ≡ 2
 Leaves act.Take needs what before after = after ≡ 0
@@ -149,7 +150,7 @@ Leaves act.End needs what before after = after ≡ 0
 Leaves (act.Get x) needs what before after = after ≡ 0
 Leaves (act.Latch x) needs what before after = after ≡ 0
 Leaves (act.Open x) needs what before after = after ≡ 0
-Leaves (act.Retire x) needs what before after = Unit {0}
+Leaves (act.Retire x) needs what before after = after ≡ 0
 Leaves (act.Look p) needs what before after = Unit {0}
 Leaves (act.See x) needs what before after = Unit {0}
 Leaves (act.Release x) needs what before after = Unit {0}
