@@ -15,3 +15,4 @@ pub mod Posts
 pub mod Following
 pub mod PostsFollowing
 pub mod PartsFollowing
+pub mod Retirements
