@@ -120,7 +120,7 @@ module _ (old : Action) (what : Seen) where
   put_none side.Left p = tt
   put_none side.Right p = tt
 
-put_done : (s : Side) (p : Puts) → IsPutDone (put_of s p) seen.Done
+pub put_done : (s : Side) (p : Puts) → IsPutDone (put_of s p) seen.Done
 put_done side.Left p = tt
 put_done side.Right p = tt
 

@@ -132,7 +132,7 @@ module _ (l : Layout) (n : ℕ) (d : Mine) (runs : d.runs ≡ true) where
       let s1 : State Page = record w.now { owner = put_at x (machine.Retired s.clock) w.now.owner; clock = s.clock + 1 } in
       let low : w.now.clock ≤ s.clock = f.clock in
       let does : Does w.now p (Act.Retire x) s1 = record {
-        changes = (s.clock, low, omega arith, λ z. refl, is_put_at x (machine.Retired s.clock) w.now.owner, λ q. refl);
+        changes = (s.clock, low, omega arith, (λ z. refl, is_put_at x (machine.Retired s.clock) w.now.owner, λ q. refl));
         on = omega arith;
       } in
       let t = turned s f n since d at' seen.Done course (act.Retire x) next s1 tt tt does in
