@@ -106,7 +106,7 @@ pub record Merges (f : Family) (c d : Page) (p : Puts) : Type 0 where
 -- The parent lists the child by the new key in place of the old one. It does so where it covers the new key and, without the
 -- old one, does not list it.
 abbrev pub Relists : Inner → ℕ → ℕ → ℕ → Option Page → Type 0
-Relists parent old new child (Some page) = (middle : Page) × IsWithout (InnerPage parent) old middle × IsFitted middle new child 0 (Fits page)
+Relists parent old new child (Some page) = (middle : Page) × IsWithout (InnerPage parent) old middle × IsFitted middle new child 0 (Fits page) × (map_of (pairs_of middle) new ≡ None)
 Relists parent old new child None = (¬ IsWithin parent.low parent.high new) ⊎ ((middle : Page) × IsWithout (InnerPage parent) old middle × (map_of (pairs_of middle) new ≢ None))
 
 abbrev pub IsFew : Page → Type 0

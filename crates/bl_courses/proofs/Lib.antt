@@ -15,4 +15,11 @@ pub mod Posts
 pub mod Following
 pub mod PostsFollowing
 pub mod PartsFollowing
+pub mod Neighbours
+pub mod Families
+pub mod Relistings
+pub mod Decisions
+pub mod CompressionSteps
+pub mod Compressions
+pub mod CompressionsFollowing
 pub mod Retirements

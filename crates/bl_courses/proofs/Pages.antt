@@ -25,7 +25,7 @@ rising (Leaf l) = l.order
 rising (Inner i) = i.order
 rising (Dead d) = tt
 
-within : (c : Page) → AllWithin (low_of c) (high_of c) (pairs_of c)
+pub within : (c : Page) → AllWithin (low_of c) (high_of c) (pairs_of c)
 within (Anchor a) = tt
 within (Leaf l) = l.cover
 within (Inner i) = i.cover
@@ -51,7 +51,7 @@ now_one low high right (Anchor c) p q a b e = absurd a
 now_one low high right (Dead c) p q a b e = absurd a
 
 -- such a page has these bounds
-now_bounds : (low high right : ℕ) (c p : Page) → IsNow low high right c p → (low_of p ≡ low) × (high_of p ≡ high)
+pub now_bounds : (low high right : ℕ) (c p : Page) → IsNow low high right c p → (low_of p ≡ low) × (high_of p ≡ high)
 now_bounds low high right (Leaf c) (Leaf p) a = (a.0, a.1)
 now_bounds low high right (Inner c) (Inner p) a = (a.1, a.2)
 now_bounds low high right (Leaf c) (Anchor p) a = absurd a
@@ -104,7 +104,7 @@ fits_some (Dead d) key word new in_it absent may room = absurd in_it
 
 -- One pair more, where it is full.
 
-begins : (separator : ℕ) (xs : List (ℕ × ℕ)) → BeginsWith separator xs → separator ≡ (get_or xs 0 (0, 0)).0
+pub begins : (separator : ℕ) (xs : List (ℕ × ℕ)) → BeginsWith separator xs → separator ≡ (get_or xs 0 (0, 0)).0
 begins separator [] h = absurd h
 begins separator (x ∷ xs) h = sym h
 

@@ -1,5 +1,5 @@
 -- A part goes on, and in one way: on its way down as a search does.
-use Rattle.std.proofs.Common.{ℕ, ◌≡◌, None, ap, refl, inl, inr, subst}
+use Rattle.std.proofs.Common.{ℕ, ◌≡◌, None, ap, refl, inl, inr}
 use Rattle.bl_page.specs.declared.page.Page.{Page}
 use Rattle.bl_laws.specs.Pages.{node_of, roots_of}
 use Rattle.bl_ways.specs.declared.acts.Seen.{Seen}

@@ -47,7 +47,7 @@ use Rattle.bl_proc.specs.Processes.{Takes}
 use Rattle.bl_proc.proofs.Named.{listed-child}
 use Rattle.bl_courses.specs.Courses.{GoesOn}
 use Rattle.bl_courses.specs.One.{One}
-use Rattle.bl_courses.proofs.Cases.{came_on, came_at, came_as, not_both, on_one, over_one, not_over}
+use Rattle.bl_courses.proofs.Cases.{inner_one, came_on, came_at, came_as, not_both, on_one, over_one, not_over}
 use Rattle.bl_courses.proofs.Onwards.{leads_some, leads_one, child_of, child_one, right_small}
 use Rattle.bl_courses.proofs.Ways.{approach_one, here_leads}
 use Rattle.bl_courses.proofs.Changes.{enter_one, change_one}
@@ -63,9 +63,6 @@ walk_same a b at key parent child = λ i. record {
   unlisted = is_prop→PathP (λ i. map_of (parent i).children.items (key i) ≡ None) (λ i. hlevel props) a.unlisted b.unlisted i;
   names = is_prop→PathP (λ i. IsChild (child i)) (λ i. IsChild-prop (child i)) a.names b.names i;
 }
-
-inner_one : (a b : Inner) → page.Inner a ≡ page.Inner b → a ≡ b
-inner_one a b e = cc
 
 -- At the anchor.
 module _ (level key : ℕ) (c : Page) where

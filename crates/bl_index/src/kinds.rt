@@ -1,6 +1,6 @@
 //! Kinds of processes, each by its own type.
 
-use bl_proc::{Delete, Find, Insert, Part, Post, Process, Reader};
+use bl_proc::{Compress, Delete, Find, Insert, Part, Post, Process, Reader};
 
 /// A kind of process that the index carries out: each is one of the kinds that the world of processes knows, and goes on
 /// in one way.
@@ -162,4 +162,30 @@ impl Kind for Part {
     ghost follows = { part_follows };
 
     ghost retires = { part_retires };
+}
+
+impl Kind for Compress {
+    ghost use Rattle.std.specs.Prelude.{refl};
+    ghost use Rattle.bl_proc.specs.declared.kinds.Proc.TheVariants as proc;
+    ghost use Rattle.bl_courses.proofs.Compressions.{compress_goes};
+    ghost use Rattle.bl_courses.proofs.CompressionsFollowing.{compress_wants, compress_follows};
+    ghost use Rattle.bl_courses.proofs.Retirements.{compress_retires};
+
+    ghost proc_of = { λ p. proc.Compress p };
+
+    ghost acts = { λ p. refl };
+
+    ghost asks = { λ p. refl };
+
+    ghost answers = { λ p. refl };
+
+    ghost goes = { λ p q what t. t };
+
+    ghost courses = { compress_goes };
+
+    ghost wants = { compress_wants };
+
+    ghost follows = { compress_follows };
+
+    ghost retires = { compress_retires };
 }

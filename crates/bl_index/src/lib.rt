@@ -9,6 +9,7 @@
 #![tactic(auto)]
 
 mod changing;
+mod compressing;
 mod config;
 mod finding;
 mod index;

@@ -13,4 +13,6 @@ returns-in-Some c = inr (
 )
 
 pub returns : goal.returns
-returns c = (c.without-page.result, c.without-page.ensures, c.in-Fits.ensures)
+returns c =
+    let absent = sym (look_is c.without-page.result c.args.new) ∙ (sym c.listed.ensures ∙ c.in_default.is) in
+    (c.without-page.result, c.without-page.ensures, c.in-Fits.ensures, absent)

@@ -1,0 +1,464 @@
+-- What a process that compresses wants, and what follows.
+use Rattle.std.proofs.Common.{ℕ, suc, ◌≡◌, ◌≢◌, Some, None, refl, sym, ap, ◌∙◌, subst, arith}
+use Rattle.bl_page.specs.declared.page.Page.{Page}
+use Rattle.bl_rearrange.specs.declared.sides.Side.{Side}
+use Rattle.bl_rearrange.specs.declared.sides.Side.TheVariants as side
+use Rattle.bl_ways.specs.declared.acts.Action.TheVariants as act
+use Rattle.bl_ways.specs.declared.acts.Seen.{Seen}
+use Rattle.bl_ways.specs.declared.acts.Seen.TheVariants as seen
+use Rattle.bl_ways.specs.declared.approaching.Approach.{Approach}
+use Rattle.bl_ways.specs.declared.approaching.Approach.TheVariants as way
+use Rattle.bl_ways.specs.Approaches.{approach_next}
+use Rattle.bl_compress.specs.declared.compressing.Trio.{Trio}
+use Rattle.bl_compress.specs.declared.compressing.Family.{Family}
+use Rattle.bl_compress.specs.declared.compressing.Puts.{Puts}
+use Rattle.bl_compress.specs.declared.compressing.Fate.{Fate}
+use Rattle.bl_compress.specs.declared.compressing.Fate.TheVariants as fate
+use Rattle.bl_compress.specs.declared.compressing.Compression.{Compression}
+use Rattle.bl_compress.specs.declared.compressing.Compression.TheVariants as step
+use Rattle.bl_compress.specs.declared.compressing.Compressed.TheVariants as compressed
+use Rattle.bl_compress.specs.declared.squeezing.Compress.{Compress}
+use Rattle.bl_compress.specs.declared.squeezing.CompressStage.{CompressStage}
+use Rattle.bl_compress.specs.declared.squeezing.CompressStage.TheVariants as compress
+use Rattle.bl_compress.specs.Compressions.{put_of, other, after_puts, compression_next, compression_needs, Links, Decides, Compresses}
+use Rattle.bl_compress.specs.Compresses.{compress_next_in, compress_needs_in, compress_answer_in, CompressArrives, CompressGoes}
+use Rattle.bl_proc.specs.declared.kinds.Proc.TheVariants as proc
+use Rattle.bl_proc.specs.Processes.{Takes}
+use Rattle.bl_courses.specs.Frames.{compression_frames, compress_frames, Wants, Leaves, Follows}
+use Rattle.bl_courses.proofs.Following.{approach_wants, approach_leaves, not_begin_way}
+
+-- the put of a child, whichever it is
+first_wants : (s : Side) (p : Puts) → Wants (put_of s p) (Some (0, 3)) 0
+first_wants side.Left p = (refl, refl, omega arith, omega arith)
+first_wants side.Right p = (refl, refl, omega arith, omega arith)
+
+last_wants : (s : Side) (p : Puts) → Wants (put_of s p) None 1
+last_wants side.Left p = λ e. omega arith
+last_wants side.Right p = λ e. omega arith
+
+first_leaves : (s : Side) (p : Puts) (after : ℕ) → after ≡ 2 → Leaves (put_of s p) (Some (0, 3)) seen.Done 0 after
+first_leaves side.Left p after e = ap suc e
+first_leaves side.Right p after e = ap suc e
+
+first_refused : (s : Side) (p : Puts) (after : ℕ) → after ≡ 0 → Leaves (put_of s p) (Some (0, 3)) seen.Refused 0 after
+first_refused side.Left p after e = e
+first_refused side.Right p after e = e
+
+last_leaves : (s : Side) (p : Puts) (after : ℕ) → after ≡ 0 → Leaves (put_of s p) None seen.Done 1 after
+last_leaves side.Left p after e = sym (ap suc e)
+last_leaves side.Right p after e = sym (ap suc e)
+
+put_not_begin : (s : Side) (p : Puts) → put_of s p ≢ act.Begin
+put_not_begin side.Left p e = cc
+put_not_begin side.Right p e = cc
+
+compression_wants : (c : Compression) → Wants (compression_next c) (compression_needs c) (compression_frames c)
+compression_wants (step.LatchingLeft f) = refl
+compression_wants (step.LatchedLeft f) = refl
+compression_wants (step.LatchingRight f d) = refl
+compression_wants (step.LatchedRight f d) = refl
+compression_wants (step.PuttingFirst p) = first_wants p.gains p
+compression_wants (step.PuttingParent p) = λ e. omega arith
+compression_wants (step.PuttingLast p) = last_wants (other p.gains) p
+compression_wants (step.Retiring at z) = refl
+compression_wants (step.OpeningRight at z) = refl
+compression_wants (step.OpeningLeft at z) = refl
+compression_wants (step.OpeningParent x z) = refl
+
+pub compress_wants : (p : Compress) → Wants (compress_next_in p.stage) (compress_needs_in p.stage) (compress_frames p.stage)
+compress_wants p = wants p.stage
+  where
+    wants : (a : CompressStage) → Wants (compress_next_in a) (compress_needs_in a) (compress_frames a)
+    wants compress.New = refl
+    wants (compress.Coming a) = approach_wants a None
+    wants (compress.Compressing c) = compression_wants c
+    wants (compress.Staying x) = refl
+    wants (compress.Ending r) = refl
+    wants (compress.Over r) = refl
+
+-- No frames are left but between the puts.
+links_frames : (f : Family) (c : Page) (e : Compression) → Links f c e → compression_frames e ≡ 0
+links_frames f c (step.LatchingLeft g) t = absurd t
+links_frames f c (step.LatchedLeft g) t = absurd t
+links_frames f c (step.LatchingRight g page) t = refl
+links_frames f c (step.LatchedRight g page) t = absurd t
+links_frames f c (step.PuttingFirst p) t = absurd t
+links_frames f c (step.PuttingParent p) t = absurd t
+links_frames f c (step.PuttingLast p) t = absurd t
+links_frames f c (step.Retiring at became) t = absurd t
+links_frames f c (step.OpeningRight at became) t = absurd t
+links_frames f c (step.OpeningLeft at became) t = refl
+links_frames f c (step.OpeningParent y became) t = absurd t
+
+decides_frames : (f : Family) (c d : Page) (e : Compression) → Decides f c d e → compression_frames e ≡ 0
+decides_frames f c d (step.LatchingLeft g) t = absurd t
+decides_frames f c d (step.LatchedLeft g) t = absurd t
+decides_frames f c d (step.LatchingRight g page) t = absurd t
+decides_frames f c d (step.LatchedRight g page) t = absurd t
+decides_frames f c d (step.PuttingFirst p) t = refl
+decides_frames f c d (step.PuttingParent p) t = absurd t
+decides_frames f c d (step.PuttingLast p) t = absurd t
+decides_frames f c d (step.Retiring at became) t = absurd t
+decides_frames f c d (step.OpeningRight at (fate.Merged h)) t = absurd t
+decides_frames f c d (step.OpeningRight at fate.Evened) t = absurd t
+decides_frames f c d (step.OpeningRight at fate.Enough) t = refl
+decides_frames f c d (step.OpeningRight at (fate.Unposted h)) t = absurd t
+decides_frames f c d (step.OpeningRight at fate.Refused) t = absurd t
+decides_frames f c d (step.OpeningRight at fate.Lost) t = refl
+decides_frames f c d (step.OpeningLeft at became) t = absurd t
+decides_frames f c d (step.OpeningParent y became) t = absurd t
+
+arrives_frames : (key x : ℕ) (c : Page) (e : Compression) → CompressArrives key x c (compress.Compressing e) → compression_frames e ≡ 0
+arrives_frames key x c (step.LatchingLeft g) t = refl
+arrives_frames key x c (step.LatchedLeft g) t = absurd t
+arrives_frames key x c (step.LatchingRight g page) t = absurd t
+arrives_frames key x c (step.LatchedRight g page) t = absurd t
+arrives_frames key x c (step.PuttingFirst p) t = absurd t
+arrives_frames key x c (step.PuttingParent p) t = absurd t
+arrives_frames key x c (step.PuttingLast p) t = absurd t
+arrives_frames key x c (step.Retiring at became) t = absurd t
+arrives_frames key x c (step.OpeningRight at became) t = absurd t
+arrives_frames key x c (step.OpeningLeft at became) t = absurd t
+arrives_frames key x c (step.OpeningParent y became) t = absurd t
+
+after_frames : (at : Trio) (became : Fate) → compression_frames (after_puts at became) ≡ 0
+after_frames at (fate.Merged h) = refl
+after_frames at fate.Evened = refl
+after_frames at fate.Enough = refl
+after_frames at (fate.Unposted h) = refl
+after_frames at fate.Refused = refl
+after_frames at fate.Lost = refl
+
+-- a compression of two children that goes on, and one that is over
+compression_leaves : (c e : Compression) (what : Seen) → Compresses c what (compressed.On e) → Leaves (compression_next c) (compression_needs c) what (compression_frames c) (compression_frames e)
+compression_leaves (step.LatchingLeft f) e seen.Done t = ap compression_frames t
+compression_leaves (step.LatchingLeft f) e (seen.Words c) t = absurd t
+compression_leaves (step.LatchingLeft f) e (seen.Took y) t = absurd t
+compression_leaves (step.LatchingLeft f) e (seen.Owner retired started own) t = absurd t
+compression_leaves (step.LatchingLeft f) e (seen.Blocks b) t = absurd t
+compression_leaves (step.LatchingLeft f) e seen.Missed t = ap compression_frames t
+compression_leaves (step.LatchingLeft f) e seen.Refused t = absurd t
+compression_leaves (step.LatchedLeft f) e seen.Done t = absurd t
+compression_leaves (step.LatchedLeft f) e (seen.Words c) t = links_frames f c e t
+compression_leaves (step.LatchedLeft f) e (seen.Took y) t = absurd t
+compression_leaves (step.LatchedLeft f) e (seen.Owner retired started own) t = absurd t
+compression_leaves (step.LatchedLeft f) e (seen.Blocks b) t = absurd t
+compression_leaves (step.LatchedLeft f) e seen.Missed t = absurd t
+compression_leaves (step.LatchedLeft f) e seen.Refused t = absurd t
+compression_leaves (step.LatchingRight f d) e seen.Done t = ap compression_frames t
+compression_leaves (step.LatchingRight f d) e (seen.Words c) t = absurd t
+compression_leaves (step.LatchingRight f d) e (seen.Took y) t = absurd t
+compression_leaves (step.LatchingRight f d) e (seen.Owner retired started own) t = absurd t
+compression_leaves (step.LatchingRight f d) e (seen.Blocks b) t = absurd t
+compression_leaves (step.LatchingRight f d) e seen.Missed t = ap compression_frames t
+compression_leaves (step.LatchingRight f d) e seen.Refused t = absurd t
+compression_leaves (step.LatchedRight f d) e seen.Done t = absurd t
+compression_leaves (step.LatchedRight f d) e (seen.Words c) t = decides_frames f d c e t
+compression_leaves (step.LatchedRight f d) e (seen.Took y) t = absurd t
+compression_leaves (step.LatchedRight f d) e (seen.Owner retired started own) t = absurd t
+compression_leaves (step.LatchedRight f d) e (seen.Blocks b) t = absurd t
+compression_leaves (step.LatchedRight f d) e seen.Missed t = absurd t
+compression_leaves (step.LatchedRight f d) e seen.Refused t = absurd t
+compression_leaves (step.PuttingFirst p) e seen.Done t = first_leaves p.gains p (compression_frames e) (ap compression_frames t)
+compression_leaves (step.PuttingFirst p) e (seen.Words c) t = absurd t
+compression_leaves (step.PuttingFirst p) e (seen.Took y) t = absurd t
+compression_leaves (step.PuttingFirst p) e (seen.Owner retired started own) t = absurd t
+compression_leaves (step.PuttingFirst p) e (seen.Blocks b) t = absurd t
+compression_leaves (step.PuttingFirst p) e seen.Missed t = absurd t
+compression_leaves (step.PuttingFirst p) e seen.Refused t = first_refused p.gains p (compression_frames e) (ap compression_frames t)
+compression_leaves (step.PuttingParent p) e seen.Done t = sym (ap (λ (n : Compression). suc (compression_frames n)) t)
+compression_leaves (step.PuttingParent p) e (seen.Words c) t = absurd t
+compression_leaves (step.PuttingParent p) e (seen.Took y) t = absurd t
+compression_leaves (step.PuttingParent p) e (seen.Owner retired started own) t = absurd t
+compression_leaves (step.PuttingParent p) e (seen.Blocks b) t = absurd t
+compression_leaves (step.PuttingParent p) e seen.Missed t = absurd t
+compression_leaves (step.PuttingParent p) e seen.Refused t = absurd t
+compression_leaves (step.PuttingLast p) e seen.Done t = last_leaves (other p.gains) p (compression_frames e) (ap compression_frames t ∙ after_frames p.at p.fate)
+compression_leaves (step.PuttingLast p) e (seen.Words c) t = absurd t
+compression_leaves (step.PuttingLast p) e (seen.Took y) t = absurd t
+compression_leaves (step.PuttingLast p) e (seen.Owner retired started own) t = absurd t
+compression_leaves (step.PuttingLast p) e (seen.Blocks b) t = absurd t
+compression_leaves (step.PuttingLast p) e seen.Missed t = absurd t
+compression_leaves (step.PuttingLast p) e seen.Refused t = absurd t
+compression_leaves (step.Retiring at z) e seen.Done t = ap compression_frames t
+compression_leaves (step.Retiring at z) e (seen.Words c) t = absurd t
+compression_leaves (step.Retiring at z) e (seen.Took y) t = absurd t
+compression_leaves (step.Retiring at z) e (seen.Owner retired started own) t = absurd t
+compression_leaves (step.Retiring at z) e (seen.Blocks b) t = absurd t
+compression_leaves (step.Retiring at z) e seen.Missed t = absurd t
+compression_leaves (step.Retiring at z) e seen.Refused t = absurd t
+compression_leaves (step.OpeningRight at z) e seen.Done t = ap compression_frames t
+compression_leaves (step.OpeningRight at z) e (seen.Words c) t = absurd t
+compression_leaves (step.OpeningRight at z) e (seen.Took y) t = absurd t
+compression_leaves (step.OpeningRight at z) e (seen.Owner retired started own) t = absurd t
+compression_leaves (step.OpeningRight at z) e (seen.Blocks b) t = absurd t
+compression_leaves (step.OpeningRight at z) e seen.Missed t = absurd t
+compression_leaves (step.OpeningRight at z) e seen.Refused t = absurd t
+compression_leaves (step.OpeningLeft at z) e seen.Done t = ap compression_frames t
+compression_leaves (step.OpeningLeft at z) e (seen.Words c) t = absurd t
+compression_leaves (step.OpeningLeft at z) e (seen.Took y) t = absurd t
+compression_leaves (step.OpeningLeft at z) e (seen.Owner retired started own) t = absurd t
+compression_leaves (step.OpeningLeft at z) e (seen.Blocks b) t = absurd t
+compression_leaves (step.OpeningLeft at z) e seen.Missed t = absurd t
+compression_leaves (step.OpeningLeft at z) e seen.Refused t = absurd t
+compression_leaves (step.OpeningParent x z) e seen.Done t = absurd t
+compression_leaves (step.OpeningParent x z) e (seen.Words c) t = absurd t
+compression_leaves (step.OpeningParent x z) e (seen.Took y) t = absurd t
+compression_leaves (step.OpeningParent x z) e (seen.Owner retired started own) t = absurd t
+compression_leaves (step.OpeningParent x z) e (seen.Blocks b) t = absurd t
+compression_leaves (step.OpeningParent x z) e seen.Missed t = absurd t
+compression_leaves (step.OpeningParent x z) e seen.Refused t = absurd t
+
+compression_over : (c : Compression) (became : Fate) (what : Seen) → Compresses c what (compressed.Over became) → Leaves (compression_next c) (compression_needs c) what (compression_frames c) 0
+compression_over (step.LatchingLeft f) became seen.Done t = absurd t
+compression_over (step.LatchingLeft f) became (seen.Words c) t = absurd t
+compression_over (step.LatchingLeft f) became (seen.Took y) t = absurd t
+compression_over (step.LatchingLeft f) became (seen.Owner retired started own) t = absurd t
+compression_over (step.LatchingLeft f) became (seen.Blocks b) t = absurd t
+compression_over (step.LatchingLeft f) became seen.Missed t = absurd t
+compression_over (step.LatchingLeft f) became seen.Refused t = absurd t
+compression_over (step.LatchedLeft f) became seen.Done t = absurd t
+compression_over (step.LatchedLeft f) became (seen.Words c) t = absurd t
+compression_over (step.LatchedLeft f) became (seen.Took y) t = absurd t
+compression_over (step.LatchedLeft f) became (seen.Owner retired started own) t = absurd t
+compression_over (step.LatchedLeft f) became (seen.Blocks b) t = absurd t
+compression_over (step.LatchedLeft f) became seen.Missed t = absurd t
+compression_over (step.LatchedLeft f) became seen.Refused t = absurd t
+compression_over (step.LatchingRight f d) became seen.Done t = absurd t
+compression_over (step.LatchingRight f d) became (seen.Words c) t = absurd t
+compression_over (step.LatchingRight f d) became (seen.Took y) t = absurd t
+compression_over (step.LatchingRight f d) became (seen.Owner retired started own) t = absurd t
+compression_over (step.LatchingRight f d) became (seen.Blocks b) t = absurd t
+compression_over (step.LatchingRight f d) became seen.Missed t = absurd t
+compression_over (step.LatchingRight f d) became seen.Refused t = absurd t
+compression_over (step.LatchedRight f d) became seen.Done t = absurd t
+compression_over (step.LatchedRight f d) became (seen.Words c) t = absurd t
+compression_over (step.LatchedRight f d) became (seen.Took y) t = absurd t
+compression_over (step.LatchedRight f d) became (seen.Owner retired started own) t = absurd t
+compression_over (step.LatchedRight f d) became (seen.Blocks b) t = absurd t
+compression_over (step.LatchedRight f d) became seen.Missed t = absurd t
+compression_over (step.LatchedRight f d) became seen.Refused t = absurd t
+compression_over (step.PuttingFirst p) became seen.Done t = absurd t
+compression_over (step.PuttingFirst p) became (seen.Words c) t = absurd t
+compression_over (step.PuttingFirst p) became (seen.Took y) t = absurd t
+compression_over (step.PuttingFirst p) became (seen.Owner retired started own) t = absurd t
+compression_over (step.PuttingFirst p) became (seen.Blocks b) t = absurd t
+compression_over (step.PuttingFirst p) became seen.Missed t = absurd t
+compression_over (step.PuttingFirst p) became seen.Refused t = absurd t
+compression_over (step.PuttingParent p) became seen.Done t = absurd t
+compression_over (step.PuttingParent p) became (seen.Words c) t = absurd t
+compression_over (step.PuttingParent p) became (seen.Took y) t = absurd t
+compression_over (step.PuttingParent p) became (seen.Owner retired started own) t = absurd t
+compression_over (step.PuttingParent p) became (seen.Blocks b) t = absurd t
+compression_over (step.PuttingParent p) became seen.Missed t = absurd t
+compression_over (step.PuttingParent p) became seen.Refused t = absurd t
+compression_over (step.PuttingLast p) became seen.Done t = absurd t
+compression_over (step.PuttingLast p) became (seen.Words c) t = absurd t
+compression_over (step.PuttingLast p) became (seen.Took y) t = absurd t
+compression_over (step.PuttingLast p) became (seen.Owner retired started own) t = absurd t
+compression_over (step.PuttingLast p) became (seen.Blocks b) t = absurd t
+compression_over (step.PuttingLast p) became seen.Missed t = absurd t
+compression_over (step.PuttingLast p) became seen.Refused t = absurd t
+compression_over (step.Retiring at z) became seen.Done t = absurd t
+compression_over (step.Retiring at z) became (seen.Words c) t = absurd t
+compression_over (step.Retiring at z) became (seen.Took y) t = absurd t
+compression_over (step.Retiring at z) became (seen.Owner retired started own) t = absurd t
+compression_over (step.Retiring at z) became (seen.Blocks b) t = absurd t
+compression_over (step.Retiring at z) became seen.Missed t = absurd t
+compression_over (step.Retiring at z) became seen.Refused t = absurd t
+compression_over (step.OpeningRight at z) became seen.Done t = absurd t
+compression_over (step.OpeningRight at z) became (seen.Words c) t = absurd t
+compression_over (step.OpeningRight at z) became (seen.Took y) t = absurd t
+compression_over (step.OpeningRight at z) became (seen.Owner retired started own) t = absurd t
+compression_over (step.OpeningRight at z) became (seen.Blocks b) t = absurd t
+compression_over (step.OpeningRight at z) became seen.Missed t = absurd t
+compression_over (step.OpeningRight at z) became seen.Refused t = absurd t
+compression_over (step.OpeningLeft at z) became seen.Done t = absurd t
+compression_over (step.OpeningLeft at z) became (seen.Words c) t = absurd t
+compression_over (step.OpeningLeft at z) became (seen.Took y) t = absurd t
+compression_over (step.OpeningLeft at z) became (seen.Owner retired started own) t = absurd t
+compression_over (step.OpeningLeft at z) became (seen.Blocks b) t = absurd t
+compression_over (step.OpeningLeft at z) became seen.Missed t = absurd t
+compression_over (step.OpeningLeft at z) became seen.Refused t = absurd t
+compression_over (step.OpeningParent x z) became seen.Done t = refl
+compression_over (step.OpeningParent x z) became (seen.Words c) t = absurd t
+compression_over (step.OpeningParent x z) became (seen.Took y) t = absurd t
+compression_over (step.OpeningParent x z) became (seen.Owner retired started own) t = absurd t
+compression_over (step.OpeningParent x z) became (seen.Blocks b) t = absurd t
+compression_over (step.OpeningParent x z) became seen.Missed t = absurd t
+compression_over (step.OpeningParent x z) became seen.Refused t = absurd t
+
+not_begin_step : (c : Compression) → compression_next c ≢ act.Begin
+not_begin_step (step.LatchingLeft f) e = cc
+not_begin_step (step.LatchedLeft f) e = cc
+not_begin_step (step.LatchingRight f d) e = cc
+not_begin_step (step.LatchedRight f d) e = cc
+not_begin_step (step.PuttingFirst p) e = put_not_begin p.gains p e
+not_begin_step (step.PuttingParent p) e = cc
+not_begin_step (step.PuttingLast p) e = put_not_begin (other p.gains) p e
+not_begin_step (step.Retiring at z) e = cc
+not_begin_step (step.OpeningRight at z) e = cc
+not_begin_step (step.OpeningLeft at z) e = cc
+not_begin_step (step.OpeningParent x z) e = cc
+
+-- on the way, no frames are there, and none come with the parent
+came_leaves : (key x : ℕ) (c : Page) (a : Approach) (what : Seen) (e : Compression) → CompressArrives key x c (compress.Compressing e) → Leaves (approach_next a) None what 0 (compression_frames e)
+came_leaves key x c a what e t = subst (λ (z : ℕ). Leaves (approach_next a) None what 0 z) (sym (arrives_frames key x c e t)) (approach_leaves a what)
+
+compress_leaves : (level key : ℕ) (a b : CompressStage) (what : Seen) → CompressGoes level key a what b → Leaves (compress_next_in a) (compress_needs_in a) what (compress_frames a) (compress_frames b)
+compress_leaves level key (compress.Coming a) compress.New what t = approach_leaves a what
+compress_leaves level key (compress.Coming a) (compress.Coming n) what t = approach_leaves a what
+compress_leaves level key (compress.Coming way.Start) (compress.Compressing e) seen.Done t = absurd t
+compress_leaves level key (compress.Coming way.Start) (compress.Compressing e) (seen.Words c) t = absurd t
+compress_leaves level key (compress.Coming way.Start) (compress.Compressing e) (seen.Took y) t = absurd t
+compress_leaves level key (compress.Coming way.Start) (compress.Compressing e) (seen.Owner retired started own) t = absurd t
+compress_leaves level key (compress.Coming way.Start) (compress.Compressing e) (seen.Blocks b) t = absurd t
+compress_leaves level key (compress.Coming way.Start) (compress.Compressing e) seen.Missed t = absurd t
+compress_leaves level key (compress.Coming way.Start) (compress.Compressing e) seen.Refused t = absurd t
+compress_leaves level key (compress.Coming (way.At z)) (compress.Compressing e) what t = came_leaves key t.0 t.1 (way.At z) what e t.3
+compress_leaves level key (compress.Coming (way.Latching z)) (compress.Compressing e) what t = came_leaves key t.0 t.1 (way.Latching z) what e t.3
+compress_leaves level key (compress.Coming (way.Latched z)) (compress.Compressing e) what t = came_leaves key t.0 t.1 (way.Latched z) what e t.3
+compress_leaves level key (compress.Coming (way.Leaving z to)) (compress.Compressing e) what t = came_leaves key t.0 t.1 (way.Leaving z to) what e t.3
+compress_leaves level key (compress.Coming a) (compress.Staying m) what t = approach_leaves a what
+compress_leaves level key (compress.Coming a) (compress.Ending r) what t = approach_leaves a what
+compress_leaves level key (compress.Coming a) (compress.Over r) what t = approach_leaves a what
+compress_leaves level key (compress.Compressing c) compress.New what t = absurd t
+compress_leaves level key (compress.Compressing c) (compress.Coming n) what t = compression_over c t.0 what t.1
+compress_leaves level key (compress.Compressing c) (compress.Compressing e) what t = compression_leaves c e what t
+compress_leaves level key (compress.Compressing c) (compress.Staying m) what t = absurd t
+compress_leaves level key (compress.Compressing c) (compress.Ending r) what t = compression_over c t.0 what t.1
+compress_leaves level key (compress.Compressing c) (compress.Over r) what t = absurd t
+compress_leaves level key compress.New compress.New seen.Done t = absurd t
+compress_leaves level key compress.New (compress.Coming n) seen.Done t = refl
+compress_leaves level key compress.New (compress.Compressing e) seen.Done t = absurd t
+compress_leaves level key compress.New (compress.Staying m) seen.Done t = absurd t
+compress_leaves level key compress.New (compress.Ending r) seen.Done t = absurd t
+compress_leaves level key compress.New (compress.Over r) seen.Done t = absurd t
+compress_leaves level key compress.New new (seen.Words c) t = absurd t
+compress_leaves level key compress.New new (seen.Took y) t = absurd t
+compress_leaves level key compress.New new (seen.Owner retired started own) t = absurd t
+compress_leaves level key compress.New new (seen.Blocks b) t = absurd t
+compress_leaves level key compress.New new seen.Missed t = absurd t
+compress_leaves level key compress.New new seen.Refused t = absurd t
+compress_leaves level key (compress.Staying x) compress.New seen.Done t = absurd t
+compress_leaves level key (compress.Staying x) (compress.Coming n) seen.Done t = absurd t
+compress_leaves level key (compress.Staying x) (compress.Compressing e) seen.Done t = absurd t
+compress_leaves level key (compress.Staying x) (compress.Staying m) seen.Done t = absurd t
+compress_leaves level key (compress.Staying x) (compress.Ending r) seen.Done t = refl
+compress_leaves level key (compress.Staying x) (compress.Over r) seen.Done t = absurd t
+compress_leaves level key (compress.Staying x) new (seen.Words c) t = absurd t
+compress_leaves level key (compress.Staying x) new (seen.Took y) t = absurd t
+compress_leaves level key (compress.Staying x) new (seen.Owner retired started own) t = absurd t
+compress_leaves level key (compress.Staying x) new (seen.Blocks b) t = absurd t
+compress_leaves level key (compress.Staying x) new seen.Missed t = absurd t
+compress_leaves level key (compress.Staying x) new seen.Refused t = absurd t
+compress_leaves level key (compress.Ending q) compress.New seen.Done t = absurd t
+compress_leaves level key (compress.Ending q) (compress.Coming n) seen.Done t = absurd t
+compress_leaves level key (compress.Ending q) (compress.Compressing e) seen.Done t = absurd t
+compress_leaves level key (compress.Ending q) (compress.Staying m) seen.Done t = absurd t
+compress_leaves level key (compress.Ending q) (compress.Ending r) seen.Done t = absurd t
+compress_leaves level key (compress.Ending q) (compress.Over r) seen.Done t = refl
+compress_leaves level key (compress.Ending q) new (seen.Words c) t = absurd t
+compress_leaves level key (compress.Ending q) new (seen.Took y) t = absurd t
+compress_leaves level key (compress.Ending q) new (seen.Owner retired started own) t = absurd t
+compress_leaves level key (compress.Ending q) new (seen.Blocks b) t = absurd t
+compress_leaves level key (compress.Ending q) new seen.Missed t = absurd t
+compress_leaves level key (compress.Ending q) new seen.Refused t = absurd t
+compress_leaves level key (compress.Over q) new seen.Done t = absurd t
+compress_leaves level key (compress.Over q) new (seen.Words c) t = absurd t
+compress_leaves level key (compress.Over q) new (seen.Took y) t = absurd t
+compress_leaves level key (compress.Over q) new (seen.Owner retired started own) t = absurd t
+compress_leaves level key (compress.Over q) new (seen.Blocks b) t = absurd t
+compress_leaves level key (compress.Over q) new seen.Missed t = absurd t
+compress_leaves level key (compress.Over q) new seen.Refused t = absurd t
+
+compress_begun : (level key : ℕ) (a b : CompressStage) (what : Seen) → CompressGoes level key a what b → compress_next_in b ≢ act.Begin
+compress_begun level key (compress.Coming way.Start) compress.New seen.Done t = absurd t
+compress_begun level key (compress.Coming way.Start) compress.New (seen.Words c) t = absurd t
+compress_begun level key (compress.Coming way.Start) compress.New (seen.Took y) t = absurd t
+compress_begun level key (compress.Coming way.Start) compress.New (seen.Owner retired started own) t = absurd t
+compress_begun level key (compress.Coming way.Start) compress.New (seen.Blocks b) t = absurd t
+compress_begun level key (compress.Coming way.Start) compress.New seen.Missed t = absurd t
+compress_begun level key (compress.Coming way.Start) compress.New seen.Refused t = absurd t
+compress_begun level key (compress.Coming (way.At z)) compress.New what t = absurd t.3
+compress_begun level key (compress.Coming (way.Latching z)) compress.New what t = absurd t.3
+compress_begun level key (compress.Coming (way.Latched z)) compress.New what t = absurd t.3
+compress_begun level key (compress.Coming (way.Leaving z to)) compress.New what t = absurd t.3
+compress_begun level key (compress.Compressing c) compress.New what t = absurd t
+compress_begun level key compress.New compress.New seen.Done t = absurd t
+compress_begun level key compress.New compress.New (seen.Words c) t = absurd t
+compress_begun level key compress.New compress.New (seen.Took y) t = absurd t
+compress_begun level key compress.New compress.New (seen.Owner retired started own) t = absurd t
+compress_begun level key compress.New compress.New (seen.Blocks b) t = absurd t
+compress_begun level key compress.New compress.New seen.Missed t = absurd t
+compress_begun level key compress.New compress.New seen.Refused t = absurd t
+compress_begun level key (compress.Staying x) compress.New seen.Done t = absurd t
+compress_begun level key (compress.Staying x) compress.New (seen.Words c) t = absurd t
+compress_begun level key (compress.Staying x) compress.New (seen.Took y) t = absurd t
+compress_begun level key (compress.Staying x) compress.New (seen.Owner retired started own) t = absurd t
+compress_begun level key (compress.Staying x) compress.New (seen.Blocks b) t = absurd t
+compress_begun level key (compress.Staying x) compress.New seen.Missed t = absurd t
+compress_begun level key (compress.Staying x) compress.New seen.Refused t = absurd t
+compress_begun level key (compress.Ending q) compress.New seen.Done t = absurd t
+compress_begun level key (compress.Ending q) compress.New (seen.Words c) t = absurd t
+compress_begun level key (compress.Ending q) compress.New (seen.Took y) t = absurd t
+compress_begun level key (compress.Ending q) compress.New (seen.Owner retired started own) t = absurd t
+compress_begun level key (compress.Ending q) compress.New (seen.Blocks b) t = absurd t
+compress_begun level key (compress.Ending q) compress.New seen.Missed t = absurd t
+compress_begun level key (compress.Ending q) compress.New seen.Refused t = absurd t
+compress_begun level key (compress.Over q) compress.New seen.Done t = absurd t
+compress_begun level key (compress.Over q) compress.New (seen.Words c) t = absurd t
+compress_begun level key (compress.Over q) compress.New (seen.Took y) t = absurd t
+compress_begun level key (compress.Over q) compress.New (seen.Owner retired started own) t = absurd t
+compress_begun level key (compress.Over q) compress.New (seen.Blocks b) t = absurd t
+compress_begun level key (compress.Over q) compress.New seen.Missed t = absurd t
+compress_begun level key (compress.Over q) compress.New seen.Refused t = absurd t
+compress_begun level key a (compress.Coming n) what t = not_begin_way n
+compress_begun level key a (compress.Compressing e) what t = not_begin_step e
+compress_begun level key a (compress.Staying m) what t = λ z. cc
+compress_begun level key a (compress.Ending r) what t = λ z. cc
+compress_begun level key a (compress.Over r) what t = λ z. cc
+
+compress_running : (level key : ℕ) (a b : CompressStage) (what : Seen) → CompressGoes level key a what b → compress_next_in a ≢ act.End → compress_answer_in b ≡ None
+compress_running level key a compress.New what t ne = refl
+compress_running level key a (compress.Coming n) what t ne = refl
+compress_running level key a (compress.Compressing e) what t ne = refl
+compress_running level key a (compress.Staying m) what t ne = refl
+compress_running level key a (compress.Ending r) what t ne = refl
+compress_running level key (compress.Coming way.Start) (compress.Over r) seen.Done t ne = absurd t
+compress_running level key (compress.Coming way.Start) (compress.Over r) (seen.Words c) t ne = absurd t
+compress_running level key (compress.Coming way.Start) (compress.Over r) (seen.Took y) t ne = absurd t
+compress_running level key (compress.Coming way.Start) (compress.Over r) (seen.Owner retired started own) t ne = absurd t
+compress_running level key (compress.Coming way.Start) (compress.Over r) (seen.Blocks b) t ne = absurd t
+compress_running level key (compress.Coming way.Start) (compress.Over r) seen.Missed t ne = absurd t
+compress_running level key (compress.Coming way.Start) (compress.Over r) seen.Refused t ne = absurd t
+compress_running level key (compress.Coming (way.At z)) (compress.Over r) what t ne = absurd t.3
+compress_running level key (compress.Coming (way.Latching z)) (compress.Over r) what t ne = absurd t.3
+compress_running level key (compress.Coming (way.Latched z)) (compress.Over r) what t ne = absurd t.3
+compress_running level key (compress.Coming (way.Leaving z to)) (compress.Over r) what t ne = absurd t.3
+compress_running level key (compress.Compressing c) (compress.Over r) what t ne = absurd t
+compress_running level key compress.New (compress.Over r) seen.Done t ne = absurd t
+compress_running level key compress.New (compress.Over r) (seen.Words c) t ne = absurd t
+compress_running level key compress.New (compress.Over r) (seen.Took y) t ne = absurd t
+compress_running level key compress.New (compress.Over r) (seen.Owner retired started own) t ne = absurd t
+compress_running level key compress.New (compress.Over r) (seen.Blocks b) t ne = absurd t
+compress_running level key compress.New (compress.Over r) seen.Missed t ne = absurd t
+compress_running level key compress.New (compress.Over r) seen.Refused t ne = absurd t
+compress_running level key (compress.Staying x) (compress.Over r) seen.Done t ne = absurd t
+compress_running level key (compress.Staying x) (compress.Over r) (seen.Words c) t ne = absurd t
+compress_running level key (compress.Staying x) (compress.Over r) (seen.Took y) t ne = absurd t
+compress_running level key (compress.Staying x) (compress.Over r) (seen.Owner retired started own) t ne = absurd t
+compress_running level key (compress.Staying x) (compress.Over r) (seen.Blocks b) t ne = absurd t
+compress_running level key (compress.Staying x) (compress.Over r) seen.Missed t ne = absurd t
+compress_running level key (compress.Staying x) (compress.Over r) seen.Refused t ne = absurd t
+compress_running level key (compress.Ending q) (compress.Over r) what t ne = absurd (ne refl)
+compress_running level key (compress.Over q) (compress.Over r) what t ne = absurd (ne refl)
+
+pub compress_follows : (p q : Compress) (what : Seen) → Takes (proc.Compress p) what (proc.Compress q) → Follows (proc.Compress p) what (proc.Compress q)
+compress_follows p q what t = record {
+  frames = compress_leaves p.level p.key p.stage q.stage what t.2;
+  begun = compress_begun p.level p.key p.stage q.stage what t.2;
+  op = refl;
+  work = λ i. Some (t.0 i, t.1 i);
+  running = compress_running p.level p.key p.stage q.stage what t.2;
+}
