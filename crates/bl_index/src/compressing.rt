@@ -29,12 +29,7 @@ impl Index {
     /// serves again after a sweep. Else it evens them out where one of them has few. A hint of either kind will do, and a
     /// late or repeated one does no harm. After a merge there is a hint where the parent is thin now, or else the one child;
     /// and where a page between the two is not yet listed, a hint to post that first.
-    pub fn compress<R: Wait>(
-        &self,
-        rt: &R,
-        pass: &mut Pass,
-        hint: Hint,
-    ) -> (Squeezed, Option<Hint>)
+    pub fn compress<R: Wait>(&self, rt: &R, pass: &mut Pass, hint: Hint) -> (Squeezed, Option<Hint>)
         requires own { IsPassOf self.now pass.old }
         ensures same { IsSamePass pass.old pass.new }
         ensures compresses { Compresses (number_of pass.old) (level_of hint) (key_of hint) result.0 result.1 (trail pass.old) (trail pass.new) }

@@ -358,7 +358,7 @@ fn posts_meet_want_of_frames(rt: HostRuntime) -> Result<(), Fail> {
     Ok(())
 }
 
-// Inserts so many keys by tens, from 10 on, and lists the upper leaf.
+// Keys 10 to 150 by tens are in two leaves, and the upper one is listed.
 fn two_leaves<R: Wait>(rt: &R, index: &Index, pass: &mut Pass) -> Posted
     requires { IsPassOf index.now pass.old }
     ensures { IsSamePass pass.old pass.new }
