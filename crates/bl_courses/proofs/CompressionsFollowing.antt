@@ -29,8 +29,8 @@ use Rattle.bl_courses.proofs.Following.{approach_wants, approach_leaves, not_beg
 
 -- the put of a child, whichever it is
 first_wants : (s : Side) (p : Puts) → Wants (put_of s p) (Some (0, 3)) 0
-first_wants side.Left p = (refl, refl, omega arith)
-first_wants side.Right p = (refl, refl, omega arith)
+first_wants side.Left p = (refl, refl, omega arith, omega arith)
+first_wants side.Right p = (refl, refl, omega arith, omega arith)
 
 last_wants : (s : Side) (p : Puts) → Wants (put_of s p) None 1
 last_wants side.Left p = λ e. omega arith

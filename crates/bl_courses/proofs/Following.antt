@@ -38,7 +38,7 @@ approach_wants (way.Latched x) needs = refl
 approach_wants (way.Leaving x to) needs = refl
 
 pub change_wants : (c : Change) → Wants (change_next c) (change_needs c) (change_frames c)
-change_wants (change.Putting u v) = (refl, refl, omega arith)
+change_wants (change.Putting u v) = (refl, refl, omega arith, omega arith)
 change_wants (change.Taking u) = (refl, refl, refl)
 change_wants (change.PuttingNew u) = (λ e. omega arith)
 change_wants (change.PuttingOld u) = (λ e. omega arith)

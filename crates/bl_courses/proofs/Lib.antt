@@ -22,3 +22,4 @@ pub mod Decisions
 pub mod CompressionSteps
 pub mod Compressions
 pub mod CompressionsFollowing
+pub mod Retirements

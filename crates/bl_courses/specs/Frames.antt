@@ -121,11 +121,11 @@ work_of (proc.Part p) = None
 work_of (proc.Compress p) = Some (p.level, p.key)
 work_of (proc.Reclaim p) = None
 
--- A process that has so many frames: a put asks for some where it has none, and a take for a page and two frames. An index
--- has sweeps for those that look or release.
+-- A process that has so many frames: a put asks for some, up to three, where it has none, and a take for a page and two
+-- frames. An index has sweeps for those that look or release.
 abbrev pub Wants : Action → Option (ℕ × ℕ) → ℕ → Type 0
 Wants (act.Put x page) None frames = frames ≢ 0
-Wants (act.Put x page) (Some ask) frames = (frames ≡ 0) × (ask.0 ≡ 0) × (1 ≤ ask.1)
+Wants (act.Put x page) (Some ask) frames = (frames ≡ 0) × (ask.0 ≡ 0) × (1 ≤ ask.1) × (ask.1 ≤ 3)
 Wants act.Take (Some ask) frames = (frames ≡ 0) × (ask.0 ≡ 1) × (ask.1 ≡ 2)
 Wants act.Take None frames = ⊥
 Wants act.Begin needs frames = frames ≡ 0

@@ -1,3 +1,4 @@
 pub mod Courses
 pub mod One
 pub mod Frames
+pub mod Retirements

@@ -10,4 +10,6 @@ pub mod Ends
 pub mod Withins
 pub mod Alone
 pub mod Released
+pub mod Quiet
 pub mod Posted
+pub mod Pressed

@@ -26,23 +26,19 @@ use Rattle.bl_proc.specs.declared.posting.PostStage.{PostStage}
 use Rattle.bl_proc.specs.declared.posting.PostStage.TheVariants as post
 use Rattle.bl_proc.specs.declared.kinds.Proc.{Proc}
 use Rattle.bl_proc.specs.declared.kinds.Proc.TheVariants as proc
-use Rattle.bl_proc.specs.Posts.{post_next_in, post_answer_in, PostGoes}
-use Rattle.bl_proc.specs.Processes.{next_of, answer_of, Takes}
-use Rattle.bl_trails.specs.Meanings.{MeansParted}
+use Rattle.bl_proc.specs.Posts.{post_next_in, post_answer_in, post_answer, PostGoes}
+use Rattle.bl_proc.specs.Processes.{next_of, Takes}
 use Rattle.bl_tables.specs.Answers.{MeansPosted, MeansHint}
-use Rattle.bl_tables.specs.Logs.{post_log, proc_log}
-use Rattle.bl_tables.specs.Knowing.{Run, bare as know, know_of, know_post, end_of_proc}
+use Rattle.bl_tables.specs.Knowing.{know_of, know_post}
 use Rattle.bl_tables.proofs.Answered.{stage_means, stage_hints}
 use Rattle.bl_courses.specs.Frames.{work_of}
 use Rattle.bl_passes.specs.declared.known.Mine.{Mine}
 use Rattle.bl_passes.specs.Noting.{trail_of}
-use Rattle.bl_passes.specs.Seeing.{own}
 use Rattle.bl_passes.specs.Fitting.{name}
-use Rattle.bl_passes.specs.Told.{Finishes}
 use Rattle.bl_index.specs.Calls.{Posts}
 use Rattle.bl_index.specs.Runs.{IsDone}
 use Rattle.bl_index.specs.Searching.{IsPostAnswer}
-use Rattle.bl_index.proofs.Calls.{since_end, since_said}
+use Rattle.bl_index.proofs.Quiet.{first_of, second_of, quiet_adds}
 use Rattle.bl_index.proofs.Ends.{not_end_way, not_end}
 
 not_end_growth : (g : Growth) → growth_next g ≢ act.End
@@ -87,59 +83,34 @@ answers_at_end at level key (post.Ending r) (post.Over reply.NoRoom) e t = tt
 answers_at_end at level key (post.Ending r) (post.Over reply.TooTall) e t = tt
 
 -- a post that ends at its next action, and is then q
-pub record IsPosting (before last : Proc) (level key : ℕ) : Type 0 where
+pub record IsPosting (before : Proc) (q : Post) (level key : ℕ) : Type 0 where
   pub old : Post
-  pub new : Post
   pub before_is : before ≡ proc.Post old
-  pub last_is : last ≡ proc.Post new
-  pub level_is : new.level ≡ level
-  pub key_is : new.key ≡ key
+  pub level_is : q.level ≡ level
+  pub key_is : q.key ≡ key
   pub at_end : post_next_in old.stage ≡ act.End
-  pub goes : PostGoes old.level old.key old.stage seen.Done new.stage
+  pub goes : PostGoes old.level old.key old.stage seen.Done q.stage
 
-first_of : {a b c d : ℕ} → ◌≡◌ {A = Option (ℕ × ℕ)} (Some (a, b)) (Some (c, d)) → a ≡ c
-first_of {a} {b} {c} {d} e = (let both : ◌≡◌ {A = ℕ × ℕ} (a, b) (c, d) = cc in ap (λ (z : ℕ × ℕ). z.0) both)
+posting : (before : Proc) (q : Post) (level key : ℕ) → work_of before ≡ Some (level, key) → next_of before ≡ act.End → Takes before seen.Done (proc.Post q) → IsPosting before q level key
+posting (proc.Post p) q level key is e t = record { old = p; before_is = refl; level_is = t.0 ∙ first_of is; key_is = t.1 ∙ second_of is; at_end = e; goes = t.2 }
+posting (proc.Find p) q level key is e t = absurd t
+posting (proc.Insert p) q level key is e t = absurd t
+posting (proc.Delete p) q level key is e t = absurd t
+posting (proc.Part p) q level key is e t = absurd t
+posting (proc.Compress p) q level key is e t = absurd t
+posting (proc.Reclaim p) q level key is e t = absurd t
 
-second_of : {a b c d : ℕ} → ◌≡◌ {A = Option (ℕ × ℕ)} (Some (a, b)) (Some (c, d)) → b ≡ d
-second_of {a} {b} {c} {d} e = (let both : ◌≡◌ {A = ℕ × ℕ} (a, b) (c, d) = cc in ap (λ (z : ℕ × ℕ). z.1) both)
+pub post_has_answer : (pass : ℕ) (old e : Mine) (first : Proc) (q : Post) (level key : ℕ) → IsDone pass old e first (proc.Post q) → work_of first ≡ Some (level, key) → (what : Option Answer) → what ≡ post_answer q → IsPostAnswer what
+post_has_answer pass old e first q level key d is what a =
+    let p = posting d.before q level key (d.work ∙ is) d.at_end d.takes in
+    subst IsPostAnswer (sym a) (answers_at_end q.level p.old.level p.old.key p.old.stage q.stage p.at_end p.goes)
 
-posting : (before last : Proc) (level key : ℕ) → work_of before ≡ Some (level, key) → next_of before ≡ act.End → Takes before seen.Done last → IsPosting before last level key
-posting (proc.Post p) (proc.Post q) level key is e t = record { old = p; new = q; before_is = refl; last_is = refl; level_is = t.0 ∙ first_of is; key_is = t.1 ∙ second_of is; at_end = e; goes = t.2 }
-posting (proc.Post p) (proc.Find q) level key is e t = absurd t
-posting (proc.Post p) (proc.Insert q) level key is e t = absurd t
-posting (proc.Post p) (proc.Delete q) level key is e t = absurd t
-posting (proc.Post p) (proc.Part q) level key is e t = absurd t
-posting (proc.Post p) (proc.Reclaim q) level key is e t = absurd t
-posting (proc.Post p) (proc.Compress q) level key is e t = absurd t
-posting (proc.Compress p) last level key is e t = absurd (let z = is in cc)
-posting (proc.Find p) last level key is e t = absurd (let z = is in cc)
-posting (proc.Insert p) last level key is e t = absurd (let z = is in cc)
-posting (proc.Delete p) last level key is e t = absurd (let z = is in cc)
-posting (proc.Part p) last level key is e t = absurd (let z = is in cc)
-posting (proc.Reclaim p) last level key is e t = absurd (let z = is in cc)
-
-pub post_has_answer : (pass : ℕ) (old e : Mine) (first last : Proc) (level key : ℕ) → IsDone pass old e first last → work_of first ≡ Some (level, key) → (what : Option Answer) → what ≡ answer_of last → IsPostAnswer what
-post_has_answer pass old e first last level key d is what a =
-    let p = posting d.before last level key (d.work ∙ is) d.at_end d.takes in
-    subst IsPostAnswer (sym (a ∙ ap answer_of p.last_is)) (answers_at_end p.new.level p.old.level p.old.key p.old.stage p.new.stage p.at_end p.goes)
-
-pub post_answered : (pass : ℕ) (old e : Mine) (first last : Proc) (level key : ℕ) (what : Posted) (next : Option Hint) → IsDone pass old e first last → work_of first ≡ Some (level, key) → answer_of last ≡ Some (answer.Post what next) → Posts pass level key what next (trail_of old.trail) (trail_of e.trail)
-post_answered pass old e first last level key what next d is a =
-    let p = posting d.before last level key (d.work ∙ is) d.at_end d.takes in
-    let q = p.new in
-    let state = d.state ∙ p.before_is in
-    let told : Finishes None d.d e = subst (λ (z : Proc). Finishes (end_of_proc z) d.d e) p.before_is d.told in
-    let says : (r : Run) → r.state ≡ d.d.state → (know r).said ≡ None = λ r h. ap (λ (z : Proc). (know_of r.got r.child r.time z).said) (h ∙ state) ∙ silent_at_end p.old.level p.old.key r.got r.child p.old.stage p.at_end in
+pub post_answered : (pass : ℕ) (old e : Mine) (first : Proc) (q : Post) (level key : ℕ) (what : Posted) (next : Option Hint) → IsDone pass old e first (proc.Post q) → work_of first ≡ Some (level, key) → post_answer q ≡ Some (answer.Post what next) → Posts pass level key what next (trail_of old.trail) (trail_of e.trail)
+post_answered pass old e first q level key what next d is a =
+    let p = posting d.before q level key (d.work ∙ is) d.at_end d.takes in
     let marks : Trail = marks_of (name pass (old.number + 1)) (trail_of e.trail) in
-    let log : post_log q.level q.key q.stage marks = subst (λ (z : Proc). proc_log z marks) p.last_is d.log in
-    let answered : post_answer_in q.level q.stage ≡ Some (answer.Post what next) = sym (ap answer_of p.last_is) ∙ a in
     record {
-      adds = record {
-        number = old.number + 1;
-        holds = since_end pass None old d.d e d.since told;
-        seen = d.told.notes.seen;
-        none = since_said pass None old d.d e None d.since told says ∙ append-nil (own pass (trail_of old.trail));
-      };
-      means = subst (λ (z : ℕ × ℕ). MeansPosted z.0 z.1 what marks) (λ i. (p.level_is i, p.key_is i)) (stage_means q.level q.key q.stage what next marks answered log);
-      hint = subst (λ (z : ℕ × ℕ). MeansHint z.0 z.1 what next marks) (λ i. (p.level_is i, p.key_is i)) (stage_hints q.level q.key q.stage what next marks answered log);
+      adds = quiet_adds pass old e first (proc.Post q) (proc.Post p.old) d p.before_is refl (λ r h. ap (λ (z : Proc). (know_of r.got r.child r.time z).said) h ∙ silent_at_end p.old.level p.old.key r.got r.child p.old.stage p.at_end);
+      means = subst (λ (z : ℕ × ℕ). MeansPosted z.0 z.1 what marks) (λ i. (p.level_is i, p.key_is i)) (stage_means q.level q.key q.stage what next marks a d.log);
+      hint = subst (λ (z : ℕ × ℕ). MeansHint z.0 z.1 what next marks) (λ i. (p.level_is i, p.key_is i)) (stage_hints q.level q.key q.stage what next marks a d.log);
     }

@@ -10,8 +10,10 @@ use Rattle.bl_trails.specs.Trails.{Mark, Trail, history_of, marks_of}
 use Rattle.bl_steps.specs.Worlds.{Each}
 use Rattle.bl_ways.specs.declared.answers.Hint.{Hint}
 use Rattle.bl_ways.specs.declared.answers.Posted.{Posted}
+use Rattle.bl_ways.specs.declared.answers.Squeezed.{Squeezed}
 use Rattle.bl_tables.specs.Answers.{MeansPosted, MeansHint}
 use Rattle.bl_tables.specs.Hinted.{MeansInserted, MeansDeleted}
+use Rattle.bl_tables.specs.Squeezed.{MeansSqueezed}
 use Rattle.bl_store.specs.Hands.{known, IsOf}
 use Rattle.bl_passes.specs.Noting.{trail_of}
 use Rattle.bl_passes.specs.Seeing.{IsSeen, own, Holds}
@@ -97,3 +99,9 @@ pub record Posts (pass level key : ℕ) (answer : Posted) (next : Option Hint) (
   pub adds : Adds pass old new
   pub means : MeansPosted level key answer (marks_of (name pass adds.number) new)
   pub hint : MeansHint level key answer next (marks_of (name pass adds.number) new)
+
+-- A compression is answered: it says nothing of the map, and what its process has done is what its answer means with the hint
+-- beside it.
+pub record Compresses (pass level key : ℕ) (answer : Squeezed) (next : Option Hint) (old new : Trail) : Type 0 where
+  pub adds : Adds pass old new
+  pub means : MeansSqueezed level key answer next (marks_of (name pass adds.number) new)

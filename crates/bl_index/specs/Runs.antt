@@ -4,7 +4,7 @@ use Rattle.atomic_table.specs.declared.shared.Seat.{Seat}
 use Rattle.bl_layout.specs.declared.layout.Layout.{Layout}
 use Rattle.bl_store.specs.declared.view.View.{View}
 use Rattle.bl_store.specs.declared.stock.Stock.{Stock}
-use Rattle.bl_store.specs.Hands.{HasNoStock, IsStockOf}
+use Rattle.bl_store.specs.Hands.{HasNoStock, IsStockOf, MayRetire}
 use Rattle.bl_ways.specs.declared.acts.Action.TheVariants as act
 use Rattle.bl_ways.specs.declared.acts.Seen.TheVariants as seen
 use Rattle.bl_tables.specs.Knowing.{end_of_proc}
@@ -52,10 +52,11 @@ IsWithin h = AreWithin h.me.0.layout.passes (trail_of (known h).trail)
 abbrev pub Moves : Mine → Mine → Type 0
 Moves d e = (act : Act _ _) × Steps act d e
 
--- the hand has so many frames left, in that stock if it has one
-abbrev pub HasFrames : Seat (Unit {0}) (View Mine) → Option Stock → ℕ → Type 0
-HasFrames h None many = (many ≡ 0) × HasNoStock h
-HasFrames h (Some stock) many = IsStockOf h stock × (stock.count ≡ many)
+-- The hand has reserved what this process has left: so many frames, in a stock if it has one, and with that leave to retire a
+-- page. A process that is to retire one has a stock.
+abbrev pub HasReserved : Seat (Unit {0}) (View Mine) → Option Stock → Proc → Type 0
+HasReserved h None p = (frames_of p ≡ 0) × HasNoStock h × ((x : ℕ) → next_of p ≢ act.Retire x)
+HasReserved h (Some stock) p = IsStockOf h stock × (stock.count ≡ frames_of p) × MayRetire h
 
 -- The process that was begun as first has ended as last, and has done what its answer means.
 pub record IsDone (pass : ℕ) (old e : Mine) (first last : Proc) : Type 0 where
@@ -72,5 +73,5 @@ pub record IsDone (pass : ℕ) (old e : Mine) (first last : Proc) : Type 0 where
 
 -- After a step of the process p, which is then q: it has gone on by one event; or it is to end, and nothing has happened.
 abbrev pub IsAfter : Layout → Seat (Unit {0}) (View Mine) → Seat (Unit {0}) (View Mine) → Proc → Proc → Stepped → Type 0
-IsAfter l h h' p q (On held) = IsOn l (known h') q × Moves (known h) (known h') × HasFrames h' held (frames_of q) × ((what : Seen) × Follows p what q) × (next_of p ≢ act.End)
+IsAfter l h h' p q (On held) = IsOn l (known h') q × Moves (known h) (known h') × HasReserved h' held q × ((what : Seen) × Follows p what q) × (next_of p ≢ act.End)
 IsAfter l h h' p q AtEnd = (next_of p ≡ act.End) × (q ≡ p) × (known h' ≡ known h) × HasNoStock h'

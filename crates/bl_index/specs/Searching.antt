@@ -1,4 +1,4 @@
--- A search and a part that go on, and the answers of an operation and of a post.
+-- A search and a part that go on, and the answers of an operation, of a post and of a compression.
 use Rattle.std.specs.Prelude.{Option, None, Some}
 use Rattle.bl_ways.specs.declared.answers.Answer.{Answer}
 use Rattle.bl_ways.specs.declared.answers.Answer.TheVariants.{Op, Post, Compress, Reclaim}
@@ -36,3 +36,11 @@ IsPostAnswer (Some (Op reply hint)) = ⊥
 IsPostAnswer (Some (Post what hint)) = Unit {0}
 IsPostAnswer (Some (Reclaim what)) = ⊥
 IsPostAnswer (Some (Compress what hint)) = ⊥
+
+-- the answer of a compression
+abbrev pub IsCompressAnswer : Option Answer → Type 0
+IsCompressAnswer None = ⊥
+IsCompressAnswer (Some (Op reply hint)) = ⊥
+IsCompressAnswer (Some (Post what hint)) = ⊥
+IsCompressAnswer (Some (Reclaim what)) = ⊥
+IsCompressAnswer (Some (Compress what hint)) = Unit {0}

@@ -1,6 +1,6 @@
 //! Kinds of processes, each by its own type.
 
-use bl_proc::{Delete, Find, Insert, Part, Post, Process, Reader};
+use bl_proc::{Compress, Delete, Find, Insert, Part, Post, Process, Reader};
 
 /// A kind of process that the index carries out: each is one of the kinds that the world of processes knows, and goes on
 /// in one way.
@@ -12,6 +12,7 @@ pub(crate) trait Kind: Process + Reader {
     ghost use Rattle.bl_proc.specs.Processes.{next_of as next_in, needs_of as needs_in, answer_of as answer_in, Takes as TakesIn};
     ghost use Rattle.bl_courses.specs.Courses.{GoesOn};
     ghost use Rattle.bl_courses.specs.Frames.{frames_of, Wants, Follows};
+    ghost use Rattle.bl_courses.specs.Retirements.{RetiresAfter};
 
     // The same process as one of any kind.
     ghost proc_of: { Self → Proc };
@@ -29,6 +30,8 @@ pub(crate) trait Kind: Process + Reader {
     ghost wants: { (p : Self) → Wants (next_in (proc_of p)) (needs_in (proc_of p)) (frames_of (proc_of p)) };
 
     ghost follows: { (p q : Self) (what : Seen) → Self.Process.Takes p what q → Follows (proc_of p) what (proc_of q) };
+
+    ghost retires: { (p q : Self) (what : Seen) → Self.Process.Takes p what q → RetiresAfter (next_in (proc_of p)) what (next_in (proc_of q)) };
 }
 
 impl Kind for Find {
@@ -36,6 +39,7 @@ impl Kind for Find {
     ghost use Rattle.bl_proc.specs.declared.kinds.Proc.TheVariants as proc;
     ghost use Rattle.bl_courses.proofs.Searches.{find_goes};
     ghost use Rattle.bl_courses.proofs.Following.{find_wants, find_follows};
+    ghost use Rattle.bl_courses.proofs.Retirements.{find_retires};
 
     ghost proc_of = { λ p. proc.Find p };
 
@@ -52,6 +56,8 @@ impl Kind for Find {
     ghost wants = { find_wants };
 
     ghost follows = { find_follows };
+
+    ghost retires = { find_retires };
 }
 
 impl Kind for Insert {
@@ -59,6 +65,7 @@ impl Kind for Insert {
     ghost use Rattle.bl_proc.specs.declared.kinds.Proc.TheVariants as proc;
     ghost use Rattle.bl_courses.proofs.Insertions.{insert_goes};
     ghost use Rattle.bl_courses.proofs.Following.{insert_wants, insert_follows};
+    ghost use Rattle.bl_courses.proofs.Retirements.{insert_retires};
 
     ghost proc_of = { λ p. proc.Insert p };
 
@@ -75,6 +82,8 @@ impl Kind for Insert {
     ghost wants = { insert_wants };
 
     ghost follows = { insert_follows };
+
+    ghost retires = { insert_retires };
 }
 
 impl Kind for Delete {
@@ -82,6 +91,7 @@ impl Kind for Delete {
     ghost use Rattle.bl_proc.specs.declared.kinds.Proc.TheVariants as proc;
     ghost use Rattle.bl_courses.proofs.Deletions.{delete_goes};
     ghost use Rattle.bl_courses.proofs.Following.{delete_wants, delete_follows};
+    ghost use Rattle.bl_courses.proofs.Retirements.{delete_retires};
 
     ghost proc_of = { λ p. proc.Delete p };
 
@@ -98,6 +108,8 @@ impl Kind for Delete {
     ghost wants = { delete_wants };
 
     ghost follows = { delete_follows };
+
+    ghost retires = { delete_retires };
 }
 
 impl Kind for Post {
@@ -105,6 +117,7 @@ impl Kind for Post {
     ghost use Rattle.bl_proc.specs.declared.kinds.Proc.TheVariants as proc;
     ghost use Rattle.bl_courses.proofs.Posts.{post_goes};
     ghost use Rattle.bl_courses.proofs.PostsFollowing.{post_wants, post_follows};
+    ghost use Rattle.bl_courses.proofs.Retirements.{post_retires};
 
     ghost proc_of = { λ p. proc.Post p };
 
@@ -121,6 +134,8 @@ impl Kind for Post {
     ghost wants = { post_wants };
 
     ghost follows = { post_follows };
+
+    ghost retires = { post_retires };
 }
 
 impl Kind for Part {
@@ -128,6 +143,7 @@ impl Kind for Part {
     ghost use Rattle.bl_proc.specs.declared.kinds.Proc.TheVariants as proc;
     ghost use Rattle.bl_courses.proofs.Parts.{part_goes};
     ghost use Rattle.bl_courses.proofs.PartsFollowing.{part_wants, part_follows};
+    ghost use Rattle.bl_courses.proofs.Retirements.{part_retires};
 
     ghost proc_of = { λ p. proc.Part p };
 
@@ -144,4 +160,32 @@ impl Kind for Part {
     ghost wants = { part_wants };
 
     ghost follows = { part_follows };
+
+    ghost retires = { part_retires };
+}
+
+impl Kind for Compress {
+    ghost use Rattle.std.specs.Prelude.{refl};
+    ghost use Rattle.bl_proc.specs.declared.kinds.Proc.TheVariants as proc;
+    ghost use Rattle.bl_courses.proofs.Compressions.{compress_goes};
+    ghost use Rattle.bl_courses.proofs.CompressionsFollowing.{compress_wants, compress_follows};
+    ghost use Rattle.bl_courses.proofs.Retirements.{compress_retires};
+
+    ghost proc_of = { λ p. proc.Compress p };
+
+    ghost acts = { λ p. refl };
+
+    ghost asks = { λ p. refl };
+
+    ghost answers = { λ p. refl };
+
+    ghost goes = { λ p q what t. t };
+
+    ghost courses = { compress_goes };
+
+    ghost wants = { compress_wants };
+
+    ghost follows = { compress_follows };
+
+    ghost retires = { compress_retires };
 }

@@ -1,14 +1,16 @@
 //! An ordered index from `u64` keys to `u64` values that many threads use at once: the B-link tree of Lehman and Yao,
-//! "Efficient locking for concurrent operations on B-trees" (ACM TODS 6(4), 1981), with the inserter of Sagiv,
-//! "Concurrent operations on B*-trees with overtaking" (JCSS 33, 1986), over a store of pages.
+//! "Efficient locking for concurrent operations on B-trees" (ACM TODS 6(4), 1981), with the inserter and the
+//! compression of Sagiv, "Concurrent operations on B*-trees with overtaking" (JCSS 33, 1986), over a store of pages.
 //!
 //! Each thread works with a [`Pass`], which knows all that has happened in the index up to its own last event. Promised
 //! to its caller: after each call there is one legal list of events and one legal history of the map, in which each
 //! answer stands at its point; both begin with those that the pass knew before, and the call's own entry is the only new
-//! one of this pass. A post and a sweep have no entry; what a post answers, and its hint, mean what it did.
+//! one of this pass. A post, a compression and a sweep have no entry; what a post or a compression answers, and its hint,
+//! mean what it did.
 #![tactic(auto)]
 
 mod changing;
+mod compressing;
 mod config;
 mod finding;
 mod index;

@@ -1,17 +1,16 @@
-//! Steps of a writer: it latches, puts, takes and opens pages.
+//! Steps of a writer: it latches, puts, takes, opens and retires pages.
 
-ghost use Rattle.std.specs.Prelude.{◌≡◌, ◌≢◌, ◌+◌, ◌<◌, None, Some};
+ghost use Rattle.std.specs.Prelude.{◌≡◌, ◌≢◌, ◌+◌, ◌<◌, ◌≤◌, None, Some};
 ghost use Rattle.bl_ways.specs.declared.acts.Action.TheVariants as act;
 ghost use Rattle.bl_ways.specs.declared.acts.Seen.{Seen as SeenIs};
 ghost use Rattle.bl_ways.specs.declared.acts.Seen.TheVariants as seen;
-ghost use Rattle.bl_store.specs.Hands.{known, IsOf, IsRunning, IsSameHand, IsSameStage, IsSameStock, HasNoStock, IsStockOf};
-ghost use Rattle.bl_courses.specs.Frames.{frames_of};
-ghost use Rattle.bl_index.specs.Runs.{IsOn, Moves, HasFrames, IsAfter};
+ghost use Rattle.bl_store.specs.Hands.{known, IsOf, IsRunning, IsSameHand, IsSameStage, IsSameStock, HasNoStock, IsStockOf, MayRetire};
+ghost use Rattle.bl_index.specs.Runs.{IsOn, Moves, HasReserved, IsAfter};
 
 use crate::index::Index;
 use crate::kinds::Kind;
 use bl_page::Page;
-use bl_passes::{Mine, Opened, Put, Refused, Took, Tried};
+use bl_passes::{Mine, Opened, Put, Refused, Retired, Took, Tried};
 use bl_proc::{Action, Process, Seen};
 use bl_store::{Hand, Stock};
 use crossbeam_utils::Backoff;
@@ -62,6 +61,24 @@ impl Index {
         process.took(Seen::Done);
     }
 
+    /// The process retires the page, with the leave that it has from its reservation.
+    fn retire_page<P: Kind>(&self, hand: &mut Hand<Mine>, process: &mut P, page: u32)
+        requires own { IsOf self.now.store.table.shared.table_id self.now.store.layout hand.old.seat }
+        requires running { IsRunning hand.old.seat }
+        requires process { IsOn self.now.store.layout (known hand.old.seat) (P.proc_of process.old) }
+        requires next { (P.answer_of process.old ≡ None) × (P.next_of process.old ≡ act.Retire page) }
+        requires leave { MayRetire hand.old.seat }
+        requires empty { HasNoStock hand.old.seat }
+        ensures same { IsSameHand hand.old.seat hand.new.seat × IsSameStage hand.old.seat hand.new.seat }
+        ensures process { IsOn self.now.store.layout (known hand.new.seat) (P.proc_of process.new) }
+        ensures moves { Moves (known hand.old.seat) (known hand.new.seat) }
+        ensures takes { (what : SeenIs) × P.Takes process.old what process.new }
+        ensures stock { HasNoStock hand.new.seat }
+    {
+        self.store.retire::<Retired>(hand, page);
+        process.took(Seen::Done);
+    }
+
     /// The process puts the page, with a frame of the stock.
     fn put_with<P: Kind>(
         &self,
@@ -75,12 +92,12 @@ impl Index {
         requires running { IsRunning hand.old.seat }
         requires process { IsOn self.now.store.layout (known hand.old.seat) (P.proc_of process.old) }
         requires next { (P.answer_of process.old ≡ None) × (P.next_of process.old ≡ act.Put page contents.now) }
-        requires stock { IsStockOf hand.old.seat stock × (0 < stock.count) }
+        requires stock { IsStockOf hand.old.seat stock × (0 < stock.count) × MayRetire hand.old.seat }
         ensures same { IsSameHand hand.old.seat hand.new.seat × IsSameStage hand.old.seat hand.new.seat }
         ensures process { IsOn self.now.store.layout (known hand.new.seat) (P.proc_of process.new) }
         ensures moves { Moves (known hand.old.seat) (known hand.new.seat) }
         ensures takes { P.Takes process.old seen.Done process.new }
-        ensures stock { IsStockOf hand.new.seat result × (result.count + 1 ≡ stock.count) }
+        ensures stock { IsStockOf hand.new.seat result × (result.count + 1 ≡ stock.count) × MayRetire hand.new.seat }
     {
         let mut stock = stock;
         self.store
@@ -89,27 +106,28 @@ impl Index {
         stock
     }
 
-    /// The process reserves a frame and puts the page, or is refused.
+    /// The process reserves so many frames and puts the page with the first of them, or is refused.
     fn put_first<P: Kind>(
         &self,
         hand: &mut Hand<Mine>,
         process: &mut P,
         page: u32,
         contents: &Page,
+        frames: u32,
     ) -> Option<Stock>
         requires own { IsOf self.now.store.table.shared.table_id self.now.store.layout hand.old.seat }
         requires running { IsRunning hand.old.seat }
         requires process { IsOn self.now.store.layout (known hand.old.seat) (P.proc_of process.old) }
         requires next { (P.answer_of process.old ≡ None) × (P.next_of process.old ≡ act.Put page contents.now) }
-        requires needs { P.needs_of process.old ≡ Some (0, 1) }
+        requires needs { (P.needs_of process.old ≡ Some (0, frames)) × (0 < frames) × (frames ≤ 3) }
         requires empty { HasNoStock hand.old.seat }
         ensures same { IsSameHand hand.old.seat hand.new.seat × IsSameStage hand.old.seat hand.new.seat }
         ensures process { IsOn self.now.store.layout (known hand.new.seat) (P.proc_of process.new) }
         ensures moves { Moves (known hand.old.seat) (known hand.new.seat) }
         ensures takes { (what : SeenIs) × P.Takes process.old what process.new }
-        ensures stock { HasFrames hand.new.seat result 0 }
+        ensures stock { HasReserved hand.new.seat result (P.proc_of process.new) }
     {
-        match self.store.reserve::<Took, Refused>(hand, 0, 1) {
+        match self.store.reserve::<Took, Refused>(hand, 0, frames) {
             Ok(stock) => Some(self.put_with(hand, process, page, contents, stock)),
             Err(_) => {
                 process.took(Seen::Refused);
@@ -130,7 +148,7 @@ impl Index {
         ensures process { IsOn self.now.store.layout (known hand.new.seat) (P.proc_of process.new) }
         ensures moves { Moves (known hand.old.seat) (known hand.new.seat) }
         ensures takes { (what : SeenIs) × P.Takes process.old what process.new }
-        ensures stock { HasFrames hand.new.seat result (frames_of (P.proc_of process.new)) }
+        ensures stock { HasReserved hand.new.seat result (P.proc_of process.new) }
     {
         match self.store.reserve::<Took, Refused>(hand, 1, 2) {
             Ok(stock) => match stock.page() {
@@ -160,15 +178,15 @@ impl Index {
         requires running { IsRunning hand.old.seat }
         requires process { IsOn self.now.store.layout (known hand.old.seat) (P.proc_of process.old) }
         requires next { (P.answer_of process.old ≡ None) × (P.next_of process.old ≡ act.Put page contents.now) }
-        requires stock { HasFrames hand.old.seat held (frames_of (P.proc_of process.old)) }
+        requires stock { HasReserved hand.old.seat held (P.proc_of process.old) }
         ensures same { IsSameHand hand.old.seat hand.new.seat × IsSameStage hand.old.seat hand.new.seat }
         ensures process { IsOn self.now.store.layout (known hand.new.seat) (P.proc_of process.new) }
         ensures moves { Moves (known hand.old.seat) (known hand.new.seat) }
         ensures takes { (what : SeenIs) × P.Takes process.old what process.new }
-        ensures stock { HasFrames hand.new.seat result (frames_of (P.proc_of process.new)) }
+        ensures stock { HasReserved hand.new.seat result (P.proc_of process.new) }
     {
-        if process.needs().is_some() {
-            return self.put_first(hand, process, page, contents);
+        if let Some((_, frames)) = process.needs() {
+            return self.put_first(hand, process, page, contents, frames);
         }
         match held {
             Some(stock) => Some(self.put_with(hand, process, page, contents, stock)),
@@ -188,7 +206,7 @@ impl Index {
         requires running { IsRunning hand.old.seat }
         requires process { IsOn self.now.store.layout (known hand.old.seat) (P.proc_of process.old) }
         requires going { (P.answer_of process.old ≡ None) × (P.next_of process.old ≢ act.Begin) }
-        requires stock { HasFrames hand.old.seat held (frames_of (P.proc_of process.old)) }
+        requires stock { HasReserved hand.old.seat held (P.proc_of process.old) }
         ensures same { IsSameHand hand.old.seat hand.new.seat × IsSameStage hand.old.seat hand.new.seat }
         ensures after { IsAfter self.now.store.layout hand.old.seat hand.new.seat (P.proc_of process.old) (P.proc_of process.new) result }
     {
@@ -209,6 +227,10 @@ impl Index {
                 Stepped::On(self.put(hand, process, page, &contents, held))
             }
             Action::Take => Stepped::On(self.take(hand, process)),
+            Action::Retire(page) => {
+                self.retire_page(hand, process, page);
+                Stepped::On(None)
+            }
             Action::End => Stepped::AtEnd,
             _ => unreachable!(),
         }

@@ -1,10 +1,10 @@
 ghost use Rattle.std.specs.Prelude.{IfSome, ◌<◌, ◌≤◌};
-ghost use Rattle.bl_index.specs.Calls.{IsPassOf};
+ghost use Rattle.bl_index.specs.Calls.{IsPassOf, IsSamePass};
 
 use crate::{Config, Index, OpenFault, OutOfTurns, Pass};
 use arrayvec::ArrayVec;
 use bl_model::{Next, Reply};
-use bl_proc::{Find, Hint, Level, Posted};
+use bl_proc::{Find, Hint, Level, Posted, Squeezed};
 use std::alloc::Global;
 use std::sync::Wait;
 use std::test::Fail;
@@ -21,6 +21,15 @@ fn hint_to_post(level: u32, key: u64) -> Hint
 {
     let level = Level::new(level);
     Hint::Post { level, key }
+}
+
+/// The hint that the page of the key has few pairs, whose parent is of that level.
+fn thin_hint(level: u32, key: u64) -> Hint
+    requires least { 0 < level }
+    requires most { level ≤ 12 }
+{
+    let level = Level::new(level);
+    Hint::Thin { level, key }
 }
 
 fn one_pass(alloc: Global, pages: u32) -> Option<(Index, Pass)>
@@ -346,6 +355,168 @@ fn posts_meet_want_of_frames(rt: HostRuntime) -> Result<(), Fail> {
     assert!(rt; matches!(refused, (Posted::NoRoom, None)));
     let found = index.find(&mut pass, 12, 2);
     assert!(rt; matches!(found, Ok(Reply::Found(120))));
+    Ok(())
+}
+
+// Keys 10 to 150 by tens are in two leaves, and the upper one is listed.
+fn two_leaves<R: Wait>(rt: &R, index: &Index, pass: &mut Pass) -> Posted
+    requires { IsPassOf index.now pass.old }
+    ensures { IsSamePass pass.old pass.new }
+{
+    for ten in 1..16u64 {
+        let _reply = index.insert(rt, pass, 10 * ten, 100 * ten);
+    }
+    let (posted, _hint) = index.post(rt, pass, hint_to_post(1, 90));
+    posted
+}
+
+// Keys 1 to 15 are in two leaves, and a deletion leaves the upper one thin: the two are merged. The sweep after that releases
+// three frames and the upper leaf's page.
+#[test]
+fn compressions_merge(rt: HostRuntime) -> Result<(), Fail> {
+    let Some((index, mut one, mut two)) = two_passes(rt.alloc(), 8) else {
+        assert!(rt; false);
+        return Ok(());
+    };
+    for key in 1..16 {
+        let (reply, _hint) = index.insert(&rt, &mut one, key, 10 * key);
+        assert!(rt; matches!(reply, Reply::Inserted));
+    }
+    let done = index.post(&rt, &mut one, hint_to_post(1, 9));
+    assert!(rt; matches!(done, (Posted::Done, None)));
+    let enough = index.compress(&rt, &mut two, thin_hint(1, 9));
+    assert!(rt; matches!(enough, (Squeezed::Enough, None)));
+    let (gone, hint) = index.delete(&rt, &mut one, 9);
+    assert!(rt; matches!(gone, Reply::Deleted(90)));
+    assert!(rt; hint == Some(thin_hint(1, 9)));
+    let released = index.sweep(&mut one);
+    assert!(rt; released == 18);
+    let merged = index.compress(&rt, &mut two, thin_hint(1, 9));
+    assert!(rt; matches!(merged, (Squeezed::Merged, None)));
+    let released = index.sweep(&mut one);
+    assert!(rt; released == 4);
+    let found = index.find(&mut one, 12, 3);
+    assert!(rt; matches!(found, Ok(Reply::Found(120))));
+    let again = index.compress(&rt, &mut one, thin_hint(1, 9));
+    assert!(rt; matches!(again, (Squeezed::Alone, None)));
+    Ok(())
+}
+
+// A search that began before the merge holds the sweep back until it has ended.
+#[test]
+fn searches_hold_back_merged_pages(rt: HostRuntime) -> Result<(), Fail> {
+    let Some((index, one, mut two)) = two_passes(rt.alloc(), 8) else {
+        assert!(rt; false);
+        return Ok(());
+    };
+    let done = two_leaves(&rt, &index, &mut two);
+    assert!(rt; matches!(done, Posted::Done));
+    let (gone, hint) = index.delete(&rt, &mut two, 90);
+    assert!(rt; matches!(gone, Reply::Deleted(900)));
+    let released = index.sweep(&mut two);
+    assert!(rt; released == 18);
+    let mut hand = one.hand;
+    let mut find = Find::new(120);
+    index.begin(&mut hand, &mut find);
+    let Some(hint) = hint else {
+        assert!(rt; false);
+        return Ok(());
+    };
+    let merged = index.compress(&rt, &mut two, hint);
+    assert!(rt; matches!(merged, (Squeezed::Merged, None)));
+    let released = index.sweep(&mut two);
+    assert!(rt; released == 0);
+    index.give_up(&mut hand);
+    let released = index.sweep(&mut two);
+    assert!(rt; released == 4);
+    Ok(())
+}
+
+// Of sixteen rows the lower leaf has fourteen: each gets eight. Before a sweep all 32 frames are taken, four of them in use.
+#[test]
+fn compressions_even_out(rt: HostRuntime) -> Result<(), Fail> {
+    let Some((index, mut pass, _other)) = two_passes(rt.alloc(), 8) else {
+        assert!(rt; false);
+        return Ok(());
+    };
+    let done = two_leaves(&rt, &index, &mut pass);
+    assert!(rt; matches!(done, Posted::Done));
+    for ten in 11..16u64 {
+        if ten != 14 {
+            let (gone, _hint) = index.delete(&rt, &mut pass, 10 * ten);
+            assert!(rt; matches!(gone, Reply::Deleted(_)));
+        }
+    }
+    let (gone, hint) = index.delete(&rt, &mut pass, 140);
+    assert!(rt; matches!(gone, Reply::Deleted(1400)));
+    assert!(rt; hint == Some(thin_hint(1, 90)));
+    for key in 11..17 {
+        let (reply, _hint) = index.insert(&rt, &mut pass, key, 10 * key);
+        assert!(rt; matches!(reply, Reply::Inserted));
+    }
+    let refused = index.compress(&rt, &mut pass, thin_hint(1, 90));
+    assert!(rt; matches!(refused, (Squeezed::NoRoom, None)));
+    let released = index.sweep(&mut pass);
+    assert!(rt; released == 28);
+    let evened = index.compress(&rt, &mut pass, thin_hint(1, 90));
+    assert!(rt; matches!(evened, (Squeezed::Evened, None)));
+    let lower = [
+        (10, 100),
+        (11, 110),
+        (12, 120),
+        (13, 130),
+        (14, 140),
+        (15, 150),
+        (16, 160),
+        (20, 200),
+    ];
+    let part = index.part(&mut pass, 0, 3);
+    assert!(rt; lists(part, &lower, Next::More(30)));
+    let upper = [
+        (30, 300),
+        (40, 400),
+        (50, 500),
+        (60, 600),
+        (70, 700),
+        (80, 800),
+        (90, 900),
+        (100, 1000),
+    ];
+    let part = index.part(&mut pass, 30, 3);
+    assert!(rt; lists(part, &upper, Next::End));
+    Ok(())
+}
+
+// The lower leaf was parted, and its upper part is not posted: that is to be done first.
+#[test]
+fn compressions_ask_for_a_post(rt: HostRuntime) -> Result<(), Fail> {
+    let Some((index, mut pass, _other)) = two_passes(rt.alloc(), 8) else {
+        assert!(rt; false);
+        return Ok(());
+    };
+    let done = two_leaves(&rt, &index, &mut pass);
+    assert!(rt; matches!(done, Posted::Done));
+    for key in 11..18 {
+        let (reply, _hint) = index.insert(&rt, &mut pass, key, 10 * key);
+        assert!(rt; matches!(reply, Reply::Inserted));
+    }
+    let (what, hint) = index.compress(&rt, &mut pass, thin_hint(1, 90));
+    assert!(rt; matches!(what, Squeezed::Unposted));
+    assert!(rt; hint == Some(hint_to_post(1, 20)));
+    Ok(())
+}
+
+// An opening index has no parent.
+#[test]
+fn compressions_of_one_leaf(rt: HostRuntime) -> Result<(), Fail> {
+    let Some((index, mut pass)) = one_pass(rt.alloc(), 8) else {
+        assert!(rt; false);
+        return Ok(());
+    };
+    let alone = index.compress(&rt, &mut pass, thin_hint(1, 5));
+    assert!(rt; matches!(alone, (Squeezed::Alone, None)));
+    let high = index.compress(&rt, &mut pass, hint_to_post(12, 5));
+    assert!(rt; matches!(high, (Squeezed::Alone, None)));
     Ok(())
 }
 

@@ -22,10 +22,10 @@ use Rattle.bl_tables.specs.Knowing.{Run, bare as know, end_of_proc}
 use Rattle.bl_tables.proofs.Gets.{IsGot, got_next_is}
 use Rattle.bl_courses.specs.Courses.{GoesOn}
 use Rattle.bl_layout.specs.declared.layout.Layout.{Layout}
-use Rattle.bl_store.specs.Pages.{Owner, Released, Open, Held, Stage, Running, Pages, Stands, IsPage, IsOrderly, told, owned, written, Gets, Puts, Takes, Latches, Misses, Opens, Refuses}
+use Rattle.bl_store.specs.Pages.{Owner, Released, Open, Held, Retired, Stage, Running, Pages, Stands, IsPage, IsOrderly, later, told, owned, written, Gets, Puts, Takes, Latches, Misses, Opens, Retires, Refuses}
 use Rattle.bl_passes.specs.declared.known.Mine.{Mine}
 use Rattle.bl_passes.specs.Fitting.{name, Shows, owner_in, Fits}
-use Rattle.bl_passes.specs.Told.{Goes, gets, puts, opens, takes, tries, refuses}
+use Rattle.bl_passes.specs.Told.{Goes, gets, puts, opens, retires, takes, tries, refuses}
 use Rattle.bl_passes.proofs.Shown.{at_below, set_there, shows_words, got_words, is_held, is_open, is_released, held_by}
 use Rattle.bl_passes.proofs.Turns.{mine, standing, turned, then_known, then_goes, then_fits, runs_on}
 
@@ -37,15 +37,15 @@ unmoved s f n since d at what c a next said shown does = (
   then_goes s f n since d at what c a next f.world.now said shown does,
 )
 
--- an event by which a page gets another owner
-moved : (s : Pages Mine) (f : Fits s) (n since : ℕ) (d : Mine) → Stands s n (Running since) d → (what : Seen) → GoesOn d.state what → (a : Action) → next_of d.state ≡ a → (x : ℕ) (was o : Owner) → get_elem? s.owners x ≡ some was → (o' : machine.Owner) → o' ≡ owner_in s.hands o → ((q : Name) → q ≢ name n d.number → o' ≢ machine.Held q) → IsTold f.world.now f.world.size a what → IsShown f.world.now (name n d.number) (f.world.proc (name n d.number)).time a what
-    → Does f.world.now (name n d.number) (event_of (end_of_proc d.state) a what) (record f.world.now { owner = put_at x o' f.world.now.owner })
-    → (e : Mine) × Fits (told (owned s x o) n (Running since) e) × Goes what d e
-moved s f n since d at what c a next x was o here o' is else said shown does =
-    let s1 : State Page = record f.world.now { owner = put_at x o' f.world.now.owner } in
+-- an event by which a page gets another owner, and the time may pass
+moved_by : (s : Pages Mine) (f : Fits s) (n since : ℕ) (d : Mine) → Stands s n (Running since) d → (what : Seen) → GoesOn d.state what → (a : Action) → next_of d.state ≡ a → (x : ℕ) (was o : Owner) → get_elem? s.owners x ≡ some was → (o' : machine.Owner) → o' ≡ owner_in s.hands o → ((q : Name) → q ≢ name n d.number → o' ≢ machine.Held q) → (time then : ℕ) → time ≤ then → IsTold f.world.now f.world.size a what → IsShown f.world.now (name n d.number) (f.world.proc (name n d.number)).time a what
+    → Does f.world.now (name n d.number) (event_of (end_of_proc d.state) a what) (record f.world.now { owner = put_at x o' f.world.now.owner; clock = time })
+    → (e : Mine) × Fits (told (record (owned s x o) { clock = then }) n (Running since) e) × Goes what d e
+moved_by s f n since d at what c a next x was o here o' is else time then le said shown does =
+    let s1 : State Page = record f.world.now { owner = put_at x o' f.world.now.owner; clock = time } in
     let put = is_put_at x o' f.world.now.owner in (
       then_known s f n since d at what c a next s1 said shown does,
-      then_fits s f n since d at what c a next s1 said shown does (owned s x o) refl refl f.clock (λ q. refl)
+      then_fits s f n since d at what c a next s1 said shown does (record (owned s x o) { clock = then }) refl refl le (λ q. refl)
           (λ y q ne e. ⊎_elim
           (λ (z : y ≡ x). absurd (else q ne (sym put.at ∙ (ap (put_at x o' f.world.now.owner) (sym z) ∙ e))))
           (λ (z : y ≢ x). sym (put.others y z) ∙ e)
@@ -63,6 +63,11 @@ moved s f n since d at what c a next x was o here o' is else said shown does =
     either_page zero (suc x) = inr (λ e. omega arith)
     either_page (suc y) zero = inr (λ e. omega arith)
     either_page (suc y) (suc x) = ⊎_elim (λ e. inl (ap suc e)) (λ ne. inr (λ e. ne (omega arith))) (either_page y x)
+
+moved : (s : Pages Mine) (f : Fits s) (n since : ℕ) (d : Mine) → Stands s n (Running since) d → (what : Seen) → GoesOn d.state what → (a : Action) → next_of d.state ≡ a → (x : ℕ) (was o : Owner) → get_elem? s.owners x ≡ some was → (o' : machine.Owner) → o' ≡ owner_in s.hands o → ((q : Name) → q ≢ name n d.number → o' ≢ machine.Held q) → IsTold f.world.now f.world.size a what → IsShown f.world.now (name n d.number) (f.world.proc (name n d.number)).time a what
+    → Does f.world.now (name n d.number) (event_of (end_of_proc d.state) a what) (record f.world.now { owner = put_at x o' f.world.now.owner })
+    → (e : Mine) × Fits (told (owned s x o) n (Running since) e) × Goes what d e
+moved s f n since d at what c a next x was o here o' is else said shown does = moved_by s f n since d at what c a next x was o here o' is else f.world.now.clock s.clock f.clock said shown does
 
 -- where the hand runs its process
 running : (R : Stage → Type 0) (s : Pages Mine) (f : Fits s) (n : ℕ) (st : Stage) (d : Mine) → d.runs ≡ true → Stands s n st d → ((since : ℕ) → Stands s n (Running since) d → R (Running since)) → R st
@@ -116,6 +121,23 @@ module _ (l : Layout) (n : ℕ) (d : Mine) (runs : d.runs ≡ true) where
       let t = turned s f n since d at' seen.Done course (act.Open x) next (record w.now { owner = put_at x machine.Owner.Open w.now.owner }) tt tt does in
       let can : w.now.owner x ≡ machine.Held p = t.extends.steps.enabled in
       let u = moved s f n since d at' seen.Done course (act.Open x) next x owner Open page.1 machine.Owner.Open refl (λ q ne e. let z : machine.Owner.Open ≡ machine.Held q = e in cc) tt tt does in
+      (is_held s.hands n d.number owner (sym (f.owners x owner page.1) ∙ can), u.0, u.1, u.2))
+
+  -- it is retired at the time of the store's clock, which the world's has not passed
+  pub retires_page : (x : ℕ) → next_of d.state ≡ act.Retire x → GoesOn d.state seen.Done → Retires Fits l n d x retires
+  retires_page x next course s st words owner f o at page =
+      running (λ sg. (owner ≡ Held n) × (e : Mine) × Fits (told (later (owned s x (Retired s.clock))) n sg e) × retires d s.clock e) s f n st d runs at (λ since at'.
+      let w = f.world in
+      let p = name n d.number in
+      let s1 : State Page = record w.now { owner = put_at x (machine.Retired s.clock) w.now.owner; clock = s.clock + 1 } in
+      let low : w.now.clock ≤ s.clock = f.clock in
+      let does : Does w.now p (Act.Retire x) s1 = record {
+        changes = (s.clock, low, omega arith, (λ z. refl, is_put_at x (machine.Retired s.clock) w.now.owner, λ q. refl));
+        on = omega arith;
+      } in
+      let t = turned s f n since d at' seen.Done course (act.Retire x) next s1 tt tt does in
+      let can : w.now.owner x ≡ machine.Held p = t.extends.steps.enabled in
+      let u = moved_by s f n since d at' seen.Done course (act.Retire x) next x owner (Retired s.clock) page.1 (machine.Retired s.clock) refl (λ q ne e. let z : machine.Retired s.clock ≡ machine.Held q = e in cc) (s.clock + 1) (s.clock + 1) (omega arith) tt tt does in
       (is_held s.hands n d.number owner (sym (f.owners x owner page.1) ∙ can), u.0, u.1, u.2))
 
   pub latches_page : (x : ℕ) → next_of d.state ≡ act.Latch x → GoesOn d.state seen.Done → Latches Fits l n d x tries

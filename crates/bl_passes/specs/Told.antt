@@ -23,7 +23,7 @@ use Rattle.bl_passes.specs.Noting.{trail_of}
 use Rattle.bl_passes.specs.Seeing.{IsSeen, AreWithin, own}
 use Rattle.bl_passes.specs.Fitting.{name}
 
--- the page that a process is to get, latch, put or open is one of so many
+-- the page that a process is to get, latch, put, open or retire is one of so many
 abbrev pub IsNear : ℕ → Action → Type 0
 IsNear pages (action.Get x) = x < pages
 IsNear pages (action.Put x c) = x < pages
@@ -32,7 +32,7 @@ IsNear pages (action.Open x) = x < pages
 IsNear pages action.Begin = Unit {0}
 IsNear pages action.End = Unit {0}
 IsNear pages action.Take = Unit {0}
-IsNear pages (action.Retire x) = Unit {0}
+IsNear pages (action.Retire x) = x < pages
 IsNear pages (action.Look p) = Unit {0}
 IsNear pages (action.See x) = Unit {0}
 IsNear pages (action.Release x) = Unit {0}
@@ -84,6 +84,9 @@ takes d x owner words e = Goes (seen.Took x) d e
 
 abbrev pub tries : Mine → ℕ → Owner → List ℕ → Mine → Type 0
 tries d x owner words e = (owner ≡ Open → Goes seen.Done d e) × (owner ≢ Open → Goes seen.Missed d e)
+
+abbrev pub retires : Mine → ℕ → Mine → Type 0
+retires d now e = Goes seen.Done d e
 
 abbrev pub refuses : Mine → ℕ → Mine → Type 0
 refuses d now e = Goes seen.Refused d e

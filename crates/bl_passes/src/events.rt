@@ -1,7 +1,7 @@
 //! What each event tells the pass that makes it.
 
 ghost use Rattle.std.specs.Prelude.{ℕ};
-ghost use Rattle.bl_passes.specs.Told.{begins, ends, gives_up, gets, puts, takes, tries, opens, refuses, sweeps};
+ghost use Rattle.bl_passes.specs.Told.{begins, ends, gives_up, gets, puts, takes, tries, opens, retires, refuses, sweeps};
 
 use crate::known::Mine;
 use bl_store::{PagePlay, SweepPlay, TimePlay};
@@ -88,6 +88,13 @@ pub struct Opened;
 
 impl PagePlay<Mine> for Opened {
     ghost then = { opens };
+}
+
+/// A page was retired.
+pub struct Retired;
+
+impl TimePlay<Mine> for Retired {
+    ghost then = { retires };
 }
 
 /// A reservation was refused.

@@ -11,7 +11,7 @@ mod known;
 mod rule;
 
 pub use events::{
-    Began, Ended, GaveUp, Got, Launch, Opened, Put, Refused, Sweeper, Swept, Took, Tried,
+    Began, Ended, GaveUp, Got, Launch, Opened, Put, Refused, Retired, Sweeper, Swept, Took, Tried,
 };
 pub use known::{Deed, Mine, Noted, Spoken, Who};
 pub use rule::Passes;

@@ -39,7 +39,7 @@ reply_means level key reply.NoRoom q h marks e log = to_answer level key _ q _ h
 some_answer : (a b : Answer) → Some a ≡ Some b → a ≡ b
 some_answer a b e = cc
 
-stage_means : (level key : ℕ) (stage : CompressStage) (q : Squeezed) (h : Option Hint) (marks : Trail) → compress_answer_in stage ≡ Some (answer.Compress q h) → compress_log level key stage marks → MeansSqueezed level key q h marks
+pub stage_means : (level key : ℕ) (stage : CompressStage) (q : Squeezed) (h : Option Hint) (marks : Trail) → compress_answer_in stage ≡ Some (answer.Compress q h) → compress_log level key stage marks → MeansSqueezed level key q h marks
 stage_means level key (compress.Over r) q h marks e log = reply_means level key r q h marks (some_answer _ _ e) log
 stage_means level key compress.New q h marks e log = absurd (let f = e in cc)
 stage_means level key (compress.Coming a) q h marks e log = absurd (let f = e in cc)

@@ -18,5 +18,5 @@ loop-preserved g c =
       going = (sym (laws.answers c.step.new.process) ∙ follows.running after.4, λ e. follows.begun (laws.acts c.step.new.process ∙ e));
       op = follows.op ∙ inv.op;
       work = follows.work ∙ inv.work;
-      frames = after.2;
+      reserved = after.2;
     }

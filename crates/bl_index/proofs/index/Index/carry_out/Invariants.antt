@@ -1,8 +1,8 @@
 use Rattle.std.proofs.Common.{◌≡◌, ◌≢◌, None}
 use Rattle.bl_ways.specs.declared.acts.Action.TheVariants as act
 use Rattle.bl_store.specs.Hands.{known, IsRunning, IsSameHand}
-use Rattle.bl_courses.specs.Frames.{frames_of, op_of, work_of}
-use Rattle.bl_index.specs.Runs.{IsOn, IsSince, HasFrames}
+use Rattle.bl_courses.specs.Frames.{op_of, work_of}
+use Rattle.bl_index.specs.Runs.{IsOn, IsSince, HasReserved}
 use Rattle.bl_index.proofs.index.Index.carry_out.Given as goal
 
 abbrev pub invariant-loop : goal.invariant-loop
@@ -14,5 +14,5 @@ invariant-loop g l = record {
   going : (g.P.Process.answer_of l.process ≡ None) × (g.P.Process.next_of l.process ≢ act.Begin);
   op : op_of (g.P.Kind.proc_of l.process) ≡ op_of (g.P.Kind.proc_of l.fn.process);
   work : work_of (g.P.Kind.proc_of l.process) ≡ work_of (g.P.Kind.proc_of l.fn.process);
-  frames : HasFrames l.hand.seat l.held (frames_of (g.P.Kind.proc_of l.process));
+  reserved : HasReserved l.hand.seat l.held (g.P.Kind.proc_of l.process);
 }

@@ -8,4 +8,4 @@ use Rattle.bl_passes.proofs.Pages.{refuses_put}
 use Rattle.bl_index.proofs.index.Index.put_first.Goals as goal
 
 pub reserve-requires-clause-refuses : goal.reserve-requires-clause-refuses
-reserve-requires-clause-refuses g c = let laws = g.met.P.Kind in refuses_put _ _ (known c.args.hand.now.seat) c.requires.process.runs _ c.args.contents.now (ap next_of c.requires.process.state ∙ (laws.acts c.args.process.now ∙ c.requires.next.1)) (subst (λ (z : Proc). GoesOn z seen.Refused) (sym c.requires.process.state) (laws.courses c.args.process.now seen.Refused c.requires.next.0 (rw (c.requires.next.1, c.requires.needs) refl)))
+reserve-requires-clause-refuses g c = let laws = g.met.P.Kind in refuses_put _ _ (known c.args.hand.now.seat) c.requires.process.runs _ c.args.contents.now (ap next_of c.requires.process.state ∙ (laws.acts c.args.process.now ∙ c.requires.next.1)) (subst (λ (z : Proc). GoesOn z seen.Refused) (sym c.requires.process.state) (laws.courses c.args.process.now seen.Refused c.requires.next.0 (rw (c.requires.next.1, c.requires.needs.0) refl)))

@@ -1,0 +1,110 @@
+-- What a compression tells its caller.
+use Rattle.std.proofs.Common.{ℕ, ◌≡◌, ◌≢◌, ◌+◌, Option, Some, None, refl, sym, ap, ◌∙◌, subst}
+use Rattle.bl_page.specs.declared.page.Page.{Page}
+use Rattle.bl_trails.specs.Trails.{Trail, marks_of}
+use Rattle.bl_ways.specs.declared.acts.Action.{Action}
+use Rattle.bl_ways.specs.declared.acts.Action.TheVariants as act
+use Rattle.bl_ways.specs.declared.acts.Seen.TheVariants as seen
+use Rattle.bl_ways.specs.declared.answers.Hint.{Hint}
+use Rattle.bl_ways.specs.declared.answers.Squeezed.{Squeezed}
+use Rattle.bl_ways.specs.declared.answers.Answer.{Answer}
+use Rattle.bl_ways.specs.declared.answers.Answer.TheVariants as answer
+use Rattle.bl_compress.specs.declared.compressing.Compression.{Compression}
+use Rattle.bl_compress.specs.declared.compressing.Compression.TheVariants.{LatchingLeft, LatchedLeft, LatchingRight, LatchedRight, PuttingFirst, PuttingParent, PuttingLast, Retiring, OpeningRight, OpeningLeft, OpeningParent}
+use Rattle.bl_compress.specs.declared.squeezing.Compress.{Compress}
+use Rattle.bl_compress.specs.declared.squeezing.CompressReply.TheVariants as reply
+use Rattle.bl_compress.specs.declared.squeezing.CompressStage.{CompressStage}
+use Rattle.bl_compress.specs.declared.squeezing.CompressStage.TheVariants as compress
+use Rattle.bl_compress.specs.Compressions.{put_of, other, compression_next}
+use Rattle.bl_compress.specs.Compresses.{compress_next_in, compress_answer_in, compress_answer, CompressGoes}
+use Rattle.bl_proc.specs.declared.kinds.Proc.{Proc}
+use Rattle.bl_proc.specs.declared.kinds.Proc.TheVariants as proc
+use Rattle.bl_proc.specs.Processes.{next_of, Takes}
+use Rattle.bl_tables.specs.Squeezed.{MeansSqueezed}
+use Rattle.bl_tables.specs.Knowing.{know_of, know_compress}
+use Rattle.bl_tables.proofs.Pressed.{stage_means}
+use Rattle.bl_courses.specs.Frames.{work_of}
+use Rattle.bl_courses.specs.Retirements.{IsPutDone}
+use Rattle.bl_courses.proofs.Retirements.{put_done}
+use Rattle.bl_passes.specs.declared.known.Mine.{Mine}
+use Rattle.bl_passes.specs.Noting.{trail_of}
+use Rattle.bl_passes.specs.Fitting.{name}
+use Rattle.bl_index.specs.Calls.{Compresses}
+use Rattle.bl_index.specs.Runs.{IsDone}
+use Rattle.bl_index.specs.Searching.{IsCompressAnswer}
+use Rattle.bl_index.proofs.Quiet.{first_of, second_of, quiet_adds}
+use Rattle.bl_index.proofs.Ends.{not_end_way}
+
+not_end_put : (a : Action) → IsPutDone a seen.Done → a ≢ act.End
+not_end_put a put e = subst (λ (z : Action). IsPutDone z seen.Done) e put
+
+not_end_compression : (c : Compression) → compression_next c ≢ act.End
+not_end_compression (LatchingLeft f) e = cc
+not_end_compression (LatchedLeft f) e = cc
+not_end_compression (LatchingRight f c) e = cc
+not_end_compression (LatchedRight f c) e = cc
+not_end_compression (PuttingFirst p) e = not_end_put (put_of p.gains p) (put_done p.gains p) e
+not_end_compression (PuttingParent p) e = cc
+not_end_compression (PuttingLast p) e = not_end_put (put_of (other p.gains) p) (put_done (other p.gains) p) e
+not_end_compression (Retiring at fate) e = cc
+not_end_compression (OpeningRight at fate) e = cc
+not_end_compression (OpeningLeft at fate) e = cc
+not_end_compression (OpeningParent x fate) e = cc
+
+silent_at_end : (level key : ℕ) (got : ℕ → Page) (a : CompressStage) → compress_next_in a ≡ act.End → (know_compress level key got a).said ≡ None
+silent_at_end level key got compress.New e = cc
+silent_at_end level key got (compress.Coming a) e = absurd (not_end_way a e)
+silent_at_end level key got (compress.Compressing c) e = absurd (not_end_compression c e)
+silent_at_end level key got (compress.Staying x) e = cc
+silent_at_end level key got (compress.Ending r) e = refl
+silent_at_end level key got (compress.Over r) e = refl
+
+answers_at_end : (level key : ℕ) (a b : CompressStage) → compress_next_in a ≡ act.End → CompressGoes level key a seen.Done b → IsCompressAnswer (compress_answer_in b)
+answers_at_end level key compress.New b e t = cc
+answers_at_end level key (compress.Coming a) b e t = absurd (not_end_way a e)
+answers_at_end level key (compress.Compressing c) b e t = absurd (not_end_compression c e)
+answers_at_end level key (compress.Staying x) b e t = cc
+answers_at_end level key (compress.Over r) b e t = absurd t
+answers_at_end level key (compress.Ending r) compress.New e t = absurd t
+answers_at_end level key (compress.Ending r) (compress.Coming a) e t = absurd t
+answers_at_end level key (compress.Ending r) (compress.Compressing c) e t = absurd t
+answers_at_end level key (compress.Ending r) (compress.Staying x) e t = absurd t
+answers_at_end level key (compress.Ending r) (compress.Ending q) e t = absurd t
+answers_at_end level key (compress.Ending r) (compress.Over (reply.Merged hint)) e t = tt
+answers_at_end level key (compress.Ending r) (compress.Over reply.Evened) e t = tt
+answers_at_end level key (compress.Ending r) (compress.Over reply.Enough) e t = tt
+answers_at_end level key (compress.Ending r) (compress.Over reply.Alone) e t = tt
+answers_at_end level key (compress.Ending r) (compress.Over (reply.Unposted hint)) e t = tt
+answers_at_end level key (compress.Ending r) (compress.Over reply.NoRoom) e t = tt
+
+-- a compression that ends at its next action, and is then q
+record IsPressing (before : Proc) (q : Compress) (level key : ℕ) : Type 0 where
+  pub old : Compress
+  pub before_is : before ≡ proc.Compress old
+  pub level_is : q.level ≡ level
+  pub key_is : q.key ≡ key
+  pub at_end : compress_next_in old.stage ≡ act.End
+  pub goes : CompressGoes old.level old.key old.stage seen.Done q.stage
+
+pressing : (before : Proc) (q : Compress) (level key : ℕ) → work_of before ≡ Some (level, key) → next_of before ≡ act.End → Takes before seen.Done (proc.Compress q) → IsPressing before q level key
+pressing (proc.Compress p) q level key is e t = record { old = p; before_is = refl; level_is = t.0 ∙ first_of is; key_is = t.1 ∙ second_of is; at_end = e; goes = t.2 }
+pressing (proc.Find p) q level key is e t = absurd t
+pressing (proc.Insert p) q level key is e t = absurd t
+pressing (proc.Delete p) q level key is e t = absurd t
+pressing (proc.Part p) q level key is e t = absurd t
+pressing (proc.Post p) q level key is e t = absurd t
+pressing (proc.Reclaim p) q level key is e t = absurd t
+
+pub compress_has_answer : (pass : ℕ) (old e : Mine) (first : Proc) (q : Compress) (level key : ℕ) → IsDone pass old e first (proc.Compress q) → work_of first ≡ Some (level, key) → (what : Option Answer) → what ≡ compress_answer q → IsCompressAnswer what
+compress_has_answer pass old e first q level key d is what a =
+    let p = pressing d.before q level key (d.work ∙ is) d.at_end d.takes in
+    subst IsCompressAnswer (sym a) (answers_at_end p.old.level p.old.key p.old.stage q.stage p.at_end p.goes)
+
+pub compress_answered : (pass : ℕ) (old e : Mine) (first : Proc) (q : Compress) (level key : ℕ) (what : Squeezed) (next : Option Hint) → IsDone pass old e first (proc.Compress q) → work_of first ≡ Some (level, key) → compress_answer q ≡ Some (answer.Compress what next) → Compresses pass level key what next (trail_of old.trail) (trail_of e.trail)
+compress_answered pass old e first q level key what next d is a =
+    let p = pressing d.before q level key (d.work ∙ is) d.at_end d.takes in
+    let marks : Trail = marks_of (name pass (old.number + 1)) (trail_of e.trail) in
+    record {
+      adds = quiet_adds pass old e first (proc.Compress q) (proc.Compress p.old) d p.before_is refl (λ r h. ap (λ (z : Proc). (know_of r.got r.child r.time z).said) h ∙ silent_at_end p.old.level p.old.key r.got p.old.stage p.at_end);
+      means = subst (λ (z : ℕ × ℕ). MeansSqueezed z.0 z.1 what next marks) (λ i. (p.level_is i, p.key_is i)) (stage_means q.level q.key q.stage what next marks a d.log);
+    }

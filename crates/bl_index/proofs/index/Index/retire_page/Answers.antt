@@ -1,0 +1,11 @@
+use Rattle.std.proofs.Common.{◌≡◌, ℕ, refl, ap, sym, ◌∙◌, subst}
+use Rattle.bl_ways.specs.declared.acts.Seen.TheVariants as seen
+use Rattle.bl_proc.specs.declared.kinds.Proc.{Proc}
+use Rattle.bl_proc.specs.Processes.{next_of}
+use Rattle.bl_courses.specs.Courses.{GoesOn}
+use Rattle.bl_store.specs.Hands.{known}
+use Rattle.bl_passes.proofs.Pages.{retires_page}
+use Rattle.bl_index.proofs.index.Index.retire_page.Goals as goal
+
+pub retire-requires-clause-rule : goal.retire-requires-clause-rule
+retire-requires-clause-rule g c = let laws = g.met.P.Kind in retires_page _ _ (known c.args.hand.now.seat) c.requires.process.runs _ (ap next_of c.requires.process.state ∙ (laws.acts c.args.process.now ∙ c.requires.next.1)) (subst (λ (z : Proc). GoesOn z seen.Done) (sym c.requires.process.state) (laws.courses c.args.process.now seen.Done c.requires.next.0 (rw c.requires.next.1 tt)))

@@ -1,0 +1,41 @@
+//! Compressions.
+
+ghost use Rattle.std.specs.Prelude.{◌≡◌, Some};
+ghost use Rattle.bl_ways.specs.declared.answers.Answer.TheVariants as answers;
+ghost use Rattle.bl_index.specs.Searching.{IsCompressAnswer};
+ghost use Rattle.bl_ways.specs.Hints.{level_of, key_of};
+
+use crate::index::{Index, Pass};
+use bl_proc::{Answer, Compress, Hint, Process, Squeezed};
+use std::sync::Wait;
+
+/// What became of a compression, and its hint.
+fn squeezed(answer: Option<Answer>) -> (Squeezed, Option<Hint>)
+    requires { IsCompressAnswer answer }
+    ensures { answer ≡ Some (answers.Compress result.0 result.1) }
+{
+    match answer {
+        Some(Answer::Compress(squeezed, hint)) => (squeezed, hint),
+        _ => unreachable!(),
+    }
+}
+
+impl Index {
+    ghost use Rattle.bl_index.specs.Calls.{IsPassOf, IsSamePass, number_of, trail, Compresses};
+
+    /// Makes room where deletions left pages with few pairs, while other threads read and write: Sagiv, "Concurrent
+    /// operations on B*-trees with overtaking" (JCSS 33, 1986). In the parent of the hint's level it takes the child that
+    /// covers the hint's key and a neighbour. It merges the two where one page holds all their pairs; the other page then
+    /// serves again after a sweep. Else it evens them out where one of them has few. A hint of either kind will do, and a
+    /// late or repeated one does no harm. After a merge there is a hint where the parent is thin now, or else the one child;
+    /// and where a page between the two is not yet listed, a hint to post that first.
+    pub fn compress<R: Wait>(&self, rt: &R, pass: &mut Pass, hint: Hint) -> (Squeezed, Option<Hint>)
+        requires own { IsPassOf self.now pass.old }
+        ensures same { IsSamePass pass.old pass.new }
+        ensures compresses { Compresses (number_of pass.old) (level_of hint) (key_of hint) result.0 result.1 (trail pass.old) (trail pass.new) }
+    {
+        let compress = Compress::new(hint.level(), hint.key());
+        let process = self.carry_out(rt, &mut pass.hand, compress);
+        squeezed(process.answer())
+    }
+}
