@@ -215,12 +215,12 @@ impl Reader for Delete {
     // No page is made of the words on the way to the leaf.
     #[inline(always)]
     fn took_words<W: WordSource>(&mut self, source: &W, hand: &mut W::Hand) {
-        match &self.stage {
-            DeleteStage::Coming(approach) if approach.is_to_look() => {
-                let approach = approach.took_words(0, self.key, source, hand);
-                self.stage = DeleteStage::Coming(approach);
+        if let DeleteStage::Coming(approach) = &mut self.stage {
+            if approach.is_to_look() {
+                *approach = approach.took_words(0, self.key, source, hand);
+                return;
             }
-            _ => took_page(self, source, hand),
         }
+        took_page(self, source, hand);
     }
 }

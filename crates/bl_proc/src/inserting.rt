@@ -202,12 +202,12 @@ impl Reader for Insert {
     // No page is made of the words on the way to the leaf.
     #[inline(always)]
     fn took_words<W: WordSource>(&mut self, source: &W, hand: &mut W::Hand) {
-        match &self.stage {
-            InsertStage::Coming(approach) if approach.is_to_look() => {
-                let approach = approach.took_words(0, self.key, source, hand);
-                self.stage = InsertStage::Coming(approach);
+        if let InsertStage::Coming(approach) = &mut self.stage {
+            if approach.is_to_look() {
+                *approach = approach.took_words(0, self.key, source, hand);
+                return;
             }
-            _ => took_page(self, source, hand),
         }
+        took_page(self, source, hand);
     }
 }

@@ -292,12 +292,12 @@ impl Reader for Post {
     // No page is made of the words on the way from the top of the tree to the parent.
     #[inline(always)]
     fn took_words<W: WordSource>(&mut self, source: &W, hand: &mut W::Hand) {
-        match &self.stage {
-            PostStage::Coming(Approach::At(at)) => {
-                let approach = Approach::At(*at).took_words(self.level, self.key, source, hand);
-                self.stage = PostStage::Coming(approach);
+        if let PostStage::Coming(approach) = &mut self.stage {
+            if let Approach::At(_) = approach {
+                *approach = approach.took_words(self.level, self.key, source, hand);
+                return;
             }
-            _ => took_page(self, source, hand),
         }
+        took_page(self, source, hand);
     }
 }

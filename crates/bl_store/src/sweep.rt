@@ -14,6 +14,20 @@ use std::sync::atomic::Ordering;
 /// How many owner words a sweep looks at, or all where there are fewer.
 const LOOKS: u32 = 64;
 
+/// The number that lies so many behind another one, where the last is followed by 0. A remainder takes longer.
+#[inline(always)]
+fn behind(first: u32, steps: u32, many: u32) -> u32
+    requires { (first < many) × (steps ≤ many) × (many ≤ 1000000) }
+    ensures within { result < many }
+    ensures place { result ≡ (first + steps) % many }
+{
+    if first + steps < many {
+        first + steps
+    } else {
+        first + steps - many
+    }
+}
+
 impl<D, R: PageRule<D>, A: Allocator> Store<D, R, A> {
     /// Releases pages and frames that were retired before each process began that still runs. Returns how many.
     ///
@@ -33,14 +47,14 @@ impl<D, R: PageRule<D>, A: Allocator> Store<D, R, A> {
         let mut any = false;
         for i in 0..looks {
             let state = self.table.shared.peek(
-                self.layout.page_owner(0) + ((first + i) % owners) as usize,
+                self.layout.page_owner(0) + behind(first, i, owners) as usize,
             );
             if state % 4 == 3 {
                 states[i as usize] = state;
                 any = true;
             }
         }
-        hand.owner = (first + looks) % owners;
+        hand.owner = behind(first, looks, owners);
         if !any {
             return 0;
         }
@@ -49,7 +63,7 @@ impl<D, R: PageRule<D>, A: Allocator> Store<D, R, A> {
         for i in 0..looks {
             let state = states[i as usize];
             if state % 4 == 3 && state / 4 < oldest {
-                let at = (first + i) % owners;
+                let at = behind(first, i, owners);
                 if self.release::<M>(hand, at, state, oldest) {
                     released += 1;
                 }
