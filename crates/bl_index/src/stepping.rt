@@ -25,6 +25,7 @@ pub(crate) enum Stepped {
 
 impl Index {
     /// The process tries to latch the page. After a miss the thread pauses.
+    #[inline(never)]
     fn latch<P: Kind>(&self, hand: &mut Hand<Mine>, process: &mut P, page: u32, backoff: &Backoff)
         requires own { IsOf self.now.store.table.shared.table_id self.now.store.layout hand.old.seat }
         requires running { IsRunning hand.old.seat }
@@ -46,6 +47,7 @@ impl Index {
     }
 
     /// The process opens the page.
+    #[inline(never)]
     fn open_page<P: Kind>(&self, hand: &mut Hand<Mine>, process: &mut P, page: u32)
         requires own { IsOf self.now.store.table.shared.table_id self.now.store.layout hand.old.seat }
         requires running { IsRunning hand.old.seat }
@@ -62,6 +64,7 @@ impl Index {
     }
 
     /// The process retires the page, with the leave that it has from its reservation.
+    #[inline(never)]
     fn retire_page<P: Kind>(&self, hand: &mut Hand<Mine>, process: &mut P, page: u32)
         requires own { IsOf self.now.store.table.shared.table_id self.now.store.layout hand.old.seat }
         requires running { IsRunning hand.old.seat }
@@ -137,6 +140,7 @@ impl Index {
     }
 
     /// The process reserves a page and two frames, or is refused.
+    #[inline(never)]
     fn take<P: Kind>(&self, hand: &mut Hand<Mine>, process: &mut P) -> Option<Stock>
         requires own { IsOf self.now.store.table.shared.table_id self.now.store.layout hand.old.seat }
         requires running { IsRunning hand.old.seat }
@@ -166,6 +170,7 @@ impl Index {
     }
 
     /// The process puts the page, with what it has reserved or reserves now.
+    #[inline(never)]
     fn put<P: Kind>(
         &self,
         hand: &mut Hand<Mine>,

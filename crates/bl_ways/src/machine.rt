@@ -65,6 +65,8 @@ pub trait Reader: Process {
 }
 
 /// A process goes on by the page that it got, which is made of the page's words.
+// Its locals have pages in them, and are zero-filled wherever it is inlined, whether they are used or not.
+#[inline(never)]
 pub fn took_page<P: Process, W: WordSource>(process: &mut P, source: &W, hand: &mut W::Hand)
     requires sees { W.Sees source.now hand.old }
     requires running { P.answer_of process.old ≡ None }
