@@ -1,7 +1,6 @@
 -- A page is retired right after a put: of the kinds of an index, a compression alone retires one.
 use Rattle.std.proofs.Common.{ℕ, ◌≡◌, refl, subst}
 use Rattle.bl_ways.specs.declared.acts.Action.{Action}
-use Rattle.bl_ways.specs.declared.acts.Action.TheVariants as act
 use Rattle.bl_ways.specs.declared.acts.Seen.{Seen}
 use Rattle.bl_ways.specs.declared.acts.Seen.TheVariants as seen
 use Rattle.bl_ways.specs.declared.approaching.Approach.{Approach}

@@ -5,7 +5,6 @@ pub mod Searches
 pub mod Listings
 pub mod Firsts
 pub mod Taken
-pub mod Stocks
 pub mod Ends
 pub mod Withins
 pub mod Alone

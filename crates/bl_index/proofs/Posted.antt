@@ -1,25 +1,16 @@
 -- What a post tells its caller.
-use Rattle.std.proofs.Common.{ℕ, ◌≡◌, ◌≢◌, ◌+◌, ◌<◌, Option, Some, None, refl, sym, ap, ◌∙◌, subst, append-nil, arith}
-use Rattle.std.specs.Prelude.{IfSome}
+use Rattle.std.proofs.Common.{ℕ, ◌≡◌, ◌≢◌, ◌+◌, Option, Some, None, refl, sym, ap, ◌∙◌, subst}
 use Rattle.bl_page.specs.declared.page.Page.{Page}
-use Rattle.bl_page.specs.declared.page.Page.TheVariants.{Anchor, Leaf, Inner, Dead}
-use Rattle.bl_laws.specs.Pages.{node_of}
-use Rattle.bl_model.specs.declared.operation.Reply.{Reply}
 use Rattle.bl_trails.specs.Trails.{Trail, marks_of}
 use Rattle.bl_ways.specs.declared.acts.Action.TheVariants as act
 use Rattle.bl_ways.specs.declared.acts.Seen.TheVariants as seen
 use Rattle.bl_ways.specs.declared.answers.Hint.{Hint}
 use Rattle.bl_ways.specs.declared.answers.Posted.{Posted}
-use Rattle.bl_ways.specs.declared.answers.Posted.TheVariants as posted
 use Rattle.bl_ways.specs.declared.answers.Answer.{Answer}
 use Rattle.bl_ways.specs.declared.answers.Answer.TheVariants as answer
 use Rattle.bl_ways.specs.declared.growing.Growth.{Growth}
 use Rattle.bl_ways.specs.declared.growing.Growth.TheVariants as growth
 use Rattle.bl_ways.specs.Growths.{growth_next}
-use Rattle.bl_proc.specs.declared.inserting.InsertStage.{InsertStage}
-use Rattle.bl_proc.specs.declared.inserting.InsertStage.TheVariants as insert
-use Rattle.bl_proc.specs.declared.inserting.InsertReply.TheVariants as inserted
-use Rattle.bl_proc.specs.Inserts.{post_hint, insert_answer_in}
 use Rattle.bl_proc.specs.declared.posting.Post.{Post}
 use Rattle.bl_proc.specs.declared.posting.PostReply.TheVariants as reply
 use Rattle.bl_proc.specs.declared.posting.PostStage.{PostStage}
