@@ -1,6 +1,7 @@
-//! Four threads with a pass each share an index. They insert keys of their own, and each key is found; then all four delete
-//! each key and search for it, and their replies are counted against what any order allows. What it prints is the same
-//! whatever the schedule.
+//! Four threads with a pass each share an index. They insert keys of their own, and each key is found. Then each deletes nine
+//! tenths of its keys, follows the hints that deletions and compressions give, so that pages are merged and evened out under
+//! the searches of the others, and finds the keys that it has kept. At last all four delete each key and search for it, and
+//! their replies are counted against what any order allows. What it prints is the same whatever the schedule.
 //!
 //! No order can answer otherwise, by the contracts of the calls: the run shows that the compiled code keeps them.
 #![tactic(auto)]
@@ -10,6 +11,7 @@ ghost use Rattle.bl_index.specs.Calls.{IsPassOf};
 
 use bl_index::{Config, Index, Pass};
 use bl_model::Reply;
+use bl_proc::{Hint, Squeezed};
 use bl_worker::{delete, find, insert};
 use std::alloc::Global;
 use std::sync::Wait;
@@ -23,12 +25,19 @@ const ROWS: u64 = 20_000;
 /// How many threads there are.
 const THREADS: u64 = 4;
 
+/// Of so many rows of a thread the first is kept while the tree shrinks.
+const KEPT: u64 = 10;
+
+/// How many levels a tree may have: a merge is followed by at most one on each.
+const LEVELS: u32 = 12;
+
 /// What the threads have been answered.
 #[derive(Drop)]
 struct Counts {
     inserted: AtomicU64,
     deleted: AtomicU64,
     absent: AtomicU64,
+    merged: AtomicU64,
     // Replies that no order allows.
     wrong: AtomicU64,
 }
@@ -47,6 +56,53 @@ fn fill<R: Wait>(rt: &R, index: &Index, pass: &mut Pass, place: usize, counts: &
         let key = THREADS * row + first;
         match insert(rt, index, pass, key, key + 1) {
             Reply::Inserted => count(&counts.inserted),
+            _ => count(&counts.wrong),
+        }
+    }
+}
+
+// Follows a hint, and those that following it gives: a page that is not listed yet is posted, one with few pairs is merged or
+// evened out.
+fn follow<R: Wait>(rt: &R, index: &Index, pass: &mut Pass, hint: Option<Hint>, counts: &Counts)
+    requires { IsPassOf index.now pass.old }
+    ensures { IsPassOf index.now pass.new }
+{
+    let mut hint = hint;
+    for _level in 0..LEVELS {
+        let Some(next) = hint else {
+            return;
+        };
+        if let Hint::Post { .. } = next {
+            hint = index.post(rt, pass, next).1;
+        } else {
+            let (squeezed, more) = index.compress(rt, pass, next);
+            if let Squeezed::Merged = squeezed {
+                count(&counts.merged);
+            }
+            hint = more;
+        }
+    }
+}
+
+// Deletes the thread's keys but every tenth, which it finds after each deletion.
+fn shrink<R: Wait>(rt: &R, index: &Index, pass: &mut Pass, place: usize, counts: &Counts)
+    requires { IsPassOf index.now pass.old }
+    ensures { IsPassOf index.now pass.new }
+{
+    let first = place as u64 % THREADS;
+    for row in 0..ROWS {
+        if row % KEPT != 0 {
+            let key = THREADS * row + first;
+            let (reply, hint) = index.delete(rt, pass, key);
+            match reply {
+                Reply::Deleted(value) if value == key + 1 => count(&counts.deleted),
+                _ => count(&counts.wrong),
+            }
+            follow(rt, index, pass, hint, counts);
+        }
+        let kept = THREADS * (row - row % KEPT) + first;
+        match find(rt, index, pass, kept) {
+            Reply::Found(value) if value == kept + 1 => {}
             _ => count(&counts.wrong),
         }
     }
@@ -89,6 +145,7 @@ fn found<R: Wait>(rt: &R, index: &Index, pass: &mut Pass) -> u64
 #[derive(Clone, Copy)]
 enum Work {
     Fill,
+    Shrink,
     Clear,
 }
 
@@ -110,6 +167,7 @@ fn race<R: Threads + Wait + Sync>(
         &|place, pass| {
             match work {
                 Work::Fill => fill(rt, index, pass, place, counts),
+                Work::Shrink => shrink(rt, index, pass, place, counts),
                 Work::Clear => clear(rt, index, pass, counts),
             }
         },
@@ -142,12 +200,18 @@ fn main(rt: HostRuntime) -> anyhow::Result<()> {
         inserted: AtomicU64::new(0),
         deleted: AtomicU64::new(0),
         absent: AtomicU64::new(0),
+        merged: AtomicU64::new(0),
         wrong: AtomicU64::new(0),
     };
     race(&rt, &index, passes.as_mut_slice(), Work::Fill, &counts);
     let inserted = counts.inserted.load(Ordering::SeqCst);
     let there = found(&rt, &index, &mut last);
     println!(rt; "inserted {inserted}, found {there}")?;
+    race(&rt, &index, passes.as_mut_slice(), Work::Shrink, &counts);
+    let deleted = counts.deleted.load(Ordering::SeqCst);
+    let some = counts.merged.load(Ordering::SeqCst) > 0;
+    let kept = found(&rt, &index, &mut last);
+    println!(rt; "deleted {deleted}, merged {some}, found {kept}")?;
     race(&rt, &index, passes.as_mut_slice(), Work::Clear, &counts);
     let deleted = counts.deleted.load(Ordering::SeqCst);
     let absent = counts.absent.load(Ordering::SeqCst);
