@@ -5,17 +5,9 @@
 #![tactic(auto)]
 
 mod check;
-#[cfg(test)]
-mod check_tests;
 mod command;
-#[cfg(test)]
-mod compressions_tests;
 mod fault;
 mod replay;
-#[cfg(test)]
-mod replay_tests;
-#[cfg(test)]
-mod scripts_tests;
 #[cfg(test)]
 mod tests;
 

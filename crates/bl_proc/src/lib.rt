@@ -29,6 +29,3 @@ pub use posting::{Post, PostReply, PostStage};
 pub use reclaiming::{Reclaim, ReclaimStage, Round};
 pub use searching::{Find, FindStage};
 pub use walking::Walk;
-
-#[cfg(test)]
-mod tests;

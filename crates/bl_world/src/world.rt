@@ -127,8 +127,3 @@ impl World {
         self.lists.processes[number - 1].answer()
     }
 }
-
-#[cfg(test)]
-mod random_tests;
-#[cfg(test)]
-mod retired_tests;

@@ -9,11 +9,13 @@ ghost use mathlib.Core.Option.{some};
 ghost use lib.ListN.{get_elem?};
 ghost use Rattle.bl_store.specs.Opening.{IsDealt};
 ghost use Rattle.bl_store.specs.Closing.{HasEach};
-ghost use Rattle.bl_store.specs.Hands.{known, IsOf, IsIdle, IsRunning, IsSameHand, IsSameStage, IsSameStock, HasNoStock, IsStockOf, MayRetire};
+ghost use Rattle.bl_store.specs.Hands.{known, IsOf, IsIdle, IsRunning, IsSameHand, IsSameStage, IsSameStock, HasNoStock, HasSeen, IsStockOf, MayRetire};
 ghost use Rattle.bl_store.specs.Pages.{Pages};
 ghost use Rattle.one_page.specs.Holding.{AllSame, Fits, IsApart, IsFresh, holding, same_apart, same_at_time, saw, took, tried, lost, lost_at_time, same_after};
 
-use bl_store::{Hand, MeetPlay, NoRoom, PagePlay, PageRule, Stock, Store, SweepPlay, TimePlay};
+use bl_store::{
+    Glance, Hand, MeetPlay, NoRoom, PagePlay, PageRule, Stock, Store, SweepPlay, TimePlay,
+};
 use std::alloc::{AllocError, Global};
 
 #[cfg(test)]
@@ -167,6 +169,18 @@ pub fn look(store: &Held, hand: &mut Hand<Mine>, page: u32) -> [u64; 32]
     ensures whole { AllSame result }
 {
     store.get::<Saw>(hand, page)
+}
+
+/// Looks at page 0 or 1, whose words are all of one put, without a copy of them. Until the hand's next look
+/// `Store::word` gives each of them.
+pub fn glance(store: &Held, hand: &mut Hand<Mine>, page: u32) -> Option<Glance>
+    requires own { IsOf store.now.table.shared.table_id store.now.layout hand.old.seat }
+    requires running { IsRunning hand.old.seat }
+    requires page { page < 2 }
+    ensures same { IsSameHand hand.old.seat hand.new.seat × IsSameStage hand.old.seat hand.new.seat × IsSameStock hand.old.seat hand.new.seat × (known hand.new.seat ≡ known hand.old.seat) }
+    ensures whole { (words : List ℕ) × HasSeen result hand.new.seat words × AllSame words }
+{
+    store.glance::<Saw>(hand, page)
 }
 
 /// Latches page 0 or 1, where it is open.

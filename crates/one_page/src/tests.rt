@@ -1,8 +1,8 @@
 ghost use Rattle.one_page.specs.Holding.{IsFresh};
 
 use crate::{
-    begin, change, end, fill, latch, look, meet, open, read_once, reserve, retire, shut, sweep,
-    two_hands,
+    begin, change, end, fill, glance, latch, look, meet, open, read_once, reserve, retire, shut,
+    sweep, two_hands,
 };
 use bl_store::NoRoom;
 use std::test::Fail;
@@ -28,6 +28,30 @@ fn latches_refuse_a_second_hand(rt: HostRuntime) -> Result<(), Fail> {
     { read_once(&store, &mut two, 1) };
     let (words, ()) = thread::join(&rt, reader, || ());
     assert!(rt; words == [7; 32]);
+    Ok(())
+}
+
+// What a hand has glanced at stays as it was, also where another hand puts the page, until the hand's next glance.
+#[test]
+fn glances_show_one_put(rt: HostRuntime) -> Result<(), Fail> {
+    let (store, mut one, mut two) = two_hands(rt.alloc(), 4)?;
+    begin(&store, &mut one);
+    let Some(first) = glance(&store, &mut one, 1) else {
+        assert!(rt; false);
+        return Ok(());
+    };
+    let changed = change(&store, &mut two, 1, 7);
+    let least = store.word(&mut one, first, 0);
+    let last = store.word(&mut one, first, 31);
+    assert!(rt; changed && least == 1 && last == 1);
+    let Some(second) = glance(&store, &mut one, 1) else {
+        assert!(rt; false);
+        return Ok(());
+    };
+    let least = store.word(&mut one, second, 0);
+    let last = store.word(&mut one, second, 31);
+    assert!(rt; least == 7 && last == 7);
+    end(&store, &mut one);
     Ok(())
 }
 

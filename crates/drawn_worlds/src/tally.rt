@@ -1,9 +1,8 @@
 //! How often each kind of thing was met.
 
-use super::running::is_to_post;
-use super::squeezes::{Squeeze, Way};
 use bl_model::Reply;
 use bl_proc::{Answer, Hint, Posted, Reclaimed, Squeezed};
+use world_walks::{Squeeze, Way, is_to_post};
 
 /// How many answers of each kind there were, and what else was met.
 #[derive(Clone, Copy, Debug, PartialEq, Eq)]

@@ -1,7 +1,7 @@
 //! What a compression is to do, by the pages before its first put.
 
-use super::trees::{Law, Listed, Live, Tree, add, holds};
 use crate::lists::Lists;
+use crate::trees::{Law, Listed, Live, Tree, add, holds};
 use bl_page::Page;
 use bl_proc::{Answer, Hint, Level, Squeezed};
 use std::alloc::Global;

@@ -1,20 +1,30 @@
 //! Pages that a merge retires, and their release.
 
-use crate::tests::{compress, did, find, plain, pressed, step, thinned};
-use crate::{Act, World};
+use crate::worlds::{compress, did, find, opened, plain, pressed, step, thinned};
 use bl_model::Reply;
-use bl_proc::{Answer, Proc, Reclaimed, Squeezed};
+use bl_proc::{Answer, Reclaimed, Squeezed};
+use bl_world::Act;
 use std::test::Fail;
+use world_walks::SizedWorld;
 
-fn reclaim(world: &mut World, page: u32) -> Result<usize, Fail> {
-    if page as usize >= world.lists.pages.len() {
-        return Err("no such page")?;
-    }
-    Ok(world.start(Proc::reclaim(page)).ok().ok_or("not started")?)
+fn reclaim(world: &mut SizedWorld, page: u32) -> Result<usize, Fail> {
+    Ok(world.reclaim(page).ok().ok_or("not started")?)
 }
 
 fn reclaimed(what: Reclaimed) -> Option<Answer> {
     Some(Answer::Reclaim(what))
+}
+
+// No compression has run, so that no page is retired.
+#[test]
+fn a_page_that_is_not_retired_is_kept(rt: HostRuntime) -> Result<(), Fail> {
+    let mut world = opened(rt.alloc(), 4)?;
+    let number = reclaim(&mut world, 3)?;
+    assert!(rt; world.answer(number).is_none());
+    step(&mut world, number, 2)?;
+    assert!(rt; did(rt.alloc(), &world, number, &[Act::See(3), Act::Miss])?);
+    assert!(rt; world.answer(number) == reclaimed(Reclaimed::Kept));
+    Ok(())
 }
 
 // Pages 1 and 2 have fourteen rows together.

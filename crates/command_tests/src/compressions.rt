@@ -1,6 +1,6 @@
-//! Worked scripts with compressions, and all that they print. The same scripts stand in the folder `scripts`.
+//! Worked scripts with compressions, and all that they print. The same scripts stand in `bl_cli/scripts`.
 
-use crate::scripts_tests::prints;
+use crate::scripts::prints;
 use std::alloc::Global;
 use std::test::Fail;
 

@@ -1,12 +1,12 @@
 //! Processes that run alone, one event after the other, over plain pages.
 
-use crate::{
-    Action, Answer, Find, Hint, Level, Post, Posted, Proc, Process, Reader, Reclaim, Reclaimed,
-    Seen, Squeezed,
-};
 use arrayvec::ArrayVec;
 use bl_model::{Next, Reply};
 use bl_page::{Page, from_words};
+use bl_proc::{
+    Action, Answer, Find, Hint, Level, Post, Posted, Proc, Process, Reader, Reclaim, Reclaimed,
+    Seen, Squeezed,
+};
 use std::alloc::Global;
 use std::test::Fail;
 

@@ -3,11 +3,11 @@
 //! name it; and while a process is between the first and the last put of a compression, two pages that it holds may cover a
 //! key in common, and a child that it holds may begin before the key by which it is listed, which is so in an evening alone.
 
-use crate::Owner;
 use crate::lists::Lists;
 use arrayvec::ArrayVec;
 use bl_model::{Next, Reply};
 use bl_page::{Inner, Leaf, Page};
+use bl_world::Owner;
 use std::alloc::Global;
 
 /// A law that is broken, in words.

@@ -1,8 +1,6 @@
 //! The command `check` over bytes, over streams that fail, and over paths that are no file.
 
-use crate::check::{check_file, check_image};
-use crate::command::{Invocation, read_words};
-use crate::fault::CommandFault;
+use bl_commands::{CommandFault, Invocation, check_file, check_image, read_words};
 use bl_model::Watched;
 use std::alloc::Global;
 use std::io;

@@ -1,8 +1,6 @@
 //! The command `replay` over bytes.
 
-use crate::command::{Invocation, read_words};
-use crate::fault::CommandFault;
-use crate::replay::{replay_file, replay_script};
+use bl_commands::{CommandFault, Invocation, read_words, replay_file, replay_script};
 use bl_model::Watched;
 use std::alloc::Global;
 use std::io;

@@ -1,10 +1,10 @@
 //! Processes that run, and what they may do and answer.
 
-use super::squeezes::{Squeeze, rights_of};
-use super::trees::{Law, Tree, add, holds};
-use crate::{Act, Owner, Turn};
+use crate::squeezes::{Squeeze, rights_of};
+use crate::trees::{Law, Tree, add, holds};
 use bl_model::Reply;
 use bl_proc::{Answer, Hint, Posted, Reclaimed, Squeezed};
+use bl_world::{Act, Owner, Turn};
 
 /// What a process is to do.
 #[derive(Clone, Copy)]

@@ -1,6 +1,6 @@
-//! Worked scripts with all that they print. The same scripts stand in the folder `scripts`.
+//! Worked scripts with all that they print. The same scripts stand in `bl_cli/scripts`.
 
-use crate::replay::replay_script;
+use bl_commands::replay_script;
 use bl_model::Watched;
 use std::alloc::Global;
 use std::test::Fail;

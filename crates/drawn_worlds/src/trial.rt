@@ -1,20 +1,21 @@
 //! Small worlds with processes of all kinds, in an order of turns that is drawn by lot. After each turn the laws of the tree
 //! are checked by plain walks over the pages, apart from all definitions and proofs.
 
-mod running;
-mod squeezes;
-mod tally;
-mod trees;
+ghost use Rattle.std.specs.Prelude.{◌≡◌};
+ghost use Rattle.bl_ways.specs.declared.acts.Action.TheVariants as act;
+ghost use Rattle.bl_proc.specs.Processes.{next_of};
 
-use crate::{Act, Event, Owner, Turn, World, WorldFault};
+use crate::model::Model;
+use crate::tally::{NONE, Tally, one_more};
 use bl_model::{Next, Op, PlainMap, Reply};
 use bl_page::Page;
-use bl_proc::{Answer, Posted, Proc, Process};
-use running::{Job, Running, hint_of, is_to_post};
-use squeezes::Squeeze;
+use bl_proc::{Answer, Posted, Proc};
+use bl_world::{Act, Event, Owner, Turn, WorldFault};
 use std::alloc::Global;
-use tally::{NONE, Tally, one_more};
-use trees::{Fresh, Law, Moment, Tree, add, descends, holds, is_same_page, leads_back, walked};
+use world_walks::{
+    Fresh, Job, Law, Moment, Running, SizedWorld, Squeeze, Tree, add, descends, hint_of, holds,
+    is_same_page, is_to_post, leads_back, walked,
+};
 
 /// Numbers that look random, each world's its own.
 #[derive(Drop)]
@@ -54,7 +55,9 @@ struct Size {
 /// A world under test.
 #[derive(Drop)]
 struct Trial {
-    world: World,
+    world: SizedWorld,
+    /// The same world, carried out plainly.
+    model: Model,
     size: Size,
     draws: Draws,
     map: PlainMap,
@@ -162,20 +165,22 @@ fn owns(
 
 impl Trial {
     fn new(alloc: Global, seed: u64, size: Size) -> Result<Trial, Law> {
-        let world = World::open(alloc, size.pages)
+        let world = SizedWorld::open(alloc, size.pages)
             .ok()
             .ok_or("there is memory")?;
+        let model = Model::new(alloc, size.pages)?;
         let moment = Moment {
             fresh: Vec::new(alloc),
             compressing: Vec::new(alloc),
         };
-        let tree = walked(alloc, &world.lists, &moment)?;
+        let tree = walked(alloc, &model.lists, &moment)?;
         let mut pages = Vec::new(alloc);
-        for page in world.lists.pages.as_slice() {
+        for page in model.lists.pages.as_slice() {
             add(&mut pages, page.copied())?;
         }
         Ok(Trial {
             world,
+            model,
             size,
             draws: Draws { state: seed },
             map: PlainMap::new(alloc),
@@ -309,32 +314,46 @@ impl Trial {
         }
     }
 
-    fn start(&mut self, alloc: Global, job: Job) -> Result<(), Law> {
-        let number = match job {
-            Job::Find(key) => self.world.start(Proc::find(key)),
-            Job::Insert(key, value) => self.world.start(Proc::insert(key, value)),
-            Job::Delete(key) => self.world.start(Proc::delete(key)),
-            Job::Part(from) => self.world.start(Proc::part(from)),
+    /// Starts a process that is to begin, in the world and in its model.
+    fn begin(&mut self, process: Proc, same: Proc) -> Result<usize, Law>
+        requires { next_of process ≡ act.Begin }
+    {
+        self.model.start(same)?;
+        self.world.start(process).ok().ok_or("there is memory")
+    }
+
+    /// The number of the process that is to do this.
+    fn enter(&mut self, job: Job) -> Result<usize, Law> {
+        match job {
+            Job::Find(key) => self.begin(Proc::find(key), Proc::find(key)),
+            Job::Insert(key, value) => self.begin(
+                Proc::insert(key, value),
+                Proc::insert(key, value),
+            ),
+            Job::Delete(key) => self.begin(Proc::delete(key), Proc::delete(key)),
+            Job::Part(from) => self.begin(Proc::part(from), Proc::part(from)),
             Job::Post(level, key) => {
                 if level == 0 || level > 12 {
                     return Err("a post is to a level of 1 to 12");
                 }
-                self.world.start(Proc::post(level, key))
+                self.begin(Proc::post(level, key), Proc::post(level, key))
             }
             Job::Compress(level, key) => {
                 if level == 0 || level > 12 {
                     return Err("a compression is at a level of 1 to 12");
                 }
-                self.world.start(Proc::compress(level, key))
+                self.begin(Proc::compress(level, key), Proc::compress(level, key))
             }
             Job::Reclaim(page) => {
-                if page as usize >= self.world.lists.pages.len() {
-                    return Err("a page of the world is to be released");
-                }
-                self.world.start(Proc::reclaim(page))
+                self.model.start(Proc::reclaim(page))?;
+                let number = self.world.reclaim(page).ok();
+                number.ok_or("a page of the world is to be released")
             }
-        };
-        let number = number.ok().ok_or("there is memory")?;
+        }
+    }
+
+    fn start(&mut self, alloc: Global, job: Job) -> Result<(), Law> {
+        let number = self.enter(job)?;
         self.started = self.started.wrapping_add(1);
         holds(number == self.started, "processes count from 1")?;
         let running = Running {
@@ -424,16 +443,7 @@ impl Trial {
 
     /// The process with that number is about to reserve something.
     fn is_reserving(&self, number: usize) -> bool {
-        match self
-            .world
-            .lists
-            .processes
-            .as_slice()
-            .get(number.wrapping_sub(1))
-        {
-            Some(process) => process.answer().is_none() && process.needs().is_some(),
-            None => false,
-        }
+        self.model.is_reserving(number)
     }
 
     /// The rows have changed to those of this tree by that event.
@@ -548,7 +558,7 @@ impl Trial {
             if let Some(squeeze) = &running.squeeze
                 && squeeze.puts == 3
             {
-                squeeze.is_done(alloc, &self.world.lists, tree)?;
+                squeeze.is_done(alloc, &self.model.lists, tree)?;
                 running.own = Some(squeeze.answer_in(tree)?);
                 self.tally.squeezed(squeeze);
             }
@@ -694,7 +704,7 @@ impl Trial {
                 add(&mut self.released, page)?;
             }
             Act::Get(page) => {
-                if let Some(Page::Dead(_)) = self.world.lists.pages.as_slice().get(page as usize) {
+                if let Some(Page::Dead(_)) = self.model.lists.pages.as_slice().get(page as usize) {
                     one_more(&mut self.tally.dead_pages_got);
                 }
             }
@@ -721,12 +731,12 @@ impl Trial {
 
     /// Dead pages that may be read lead to live ones.
     fn dead_pages_lead_back(&self) -> Result<(), Law> {
-        for (at, owner) in self.world.lists.owners.as_slice().iter().enumerate() {
+        for (at, owner) in self.model.lists.owners.as_slice().iter().enumerate() {
             if let Owner::Retired(place) = owner
                 && self.is_read(*place)
             {
                 let page = u32::try_from(at).ok().ok_or("a page has a number")?;
-                leads_back(&self.world.lists, &self.tree, page)?;
+                leads_back(&self.model.lists, &self.tree, page)?;
             }
         }
         Ok(())
@@ -775,12 +785,12 @@ impl Trial {
 
     fn owner_of(&self, page: Option<u32>) -> Option<Owner> {
         let at = page?;
-        self.world.lists.owners.as_slice().get(at as usize).copied()
+        self.model.lists.owners.as_slice().get(at as usize).copied()
     }
 
     /// A page that is held is held by a process that runs.
     fn are_held_by_running(&self) -> Result<(), Law> {
-        for owner in self.world.lists.owners.as_slice() {
+        for owner in self.model.lists.owners.as_slice() {
             if let Owner::Held(number) = owner {
                 let mut runs = false;
                 for running in self.running.as_slice() {
@@ -794,7 +804,7 @@ impl Trial {
 
     /// No page but those that an event names has got another owner.
     fn keeps_owners(&self, before: &[Owner], named: Option<u32>) -> Result<(), Law> {
-        let after = self.world.lists.owners.as_slice();
+        let after = self.model.lists.owners.as_slice();
         holds(
             after.len() == before.len(),
             "there are as many pages as before",
@@ -815,7 +825,7 @@ impl Trial {
         let number = number_of(turn);
         let events = self.world.steps().len();
         let refused = matches!(turn, Turn::Refuse(_)) && self.is_reserving(number);
-        let before = Vec::from_slice(alloc, self.world.lists.owners.as_slice());
+        let before = Vec::from_slice(alloc, self.model.lists.owners.as_slice());
         let before = before.ok().ok_or("there is memory")?;
         let ran = self.world.run(&[turn]);
         if number == 0 || number > self.started {
@@ -840,7 +850,19 @@ impl Trial {
             event.process == number,
             "an event is of the process whose turn it is",
         )?;
+        self.models(turn, event, events)?;
         self.went_on(alloc, turn, event, before.as_slice(), refused)
+    }
+
+    /// The model takes the same turn, with the same event at that place and the same answer.
+    fn models(&mut self, turn: Turn, event: Event, place: usize) -> Result<(), Law> {
+        let act = self.model.turn(turn, event.process, place)?;
+        holds(act == event.act, "an event is that of the model")?;
+        let answer = self.model.answer(event.process);
+        holds(
+            answer == self.world.answer(event.process),
+            "an answer is that of the model",
+        )
     }
 
     /// All that is to hold after the last event, before which these were the owners.
@@ -865,8 +887,7 @@ impl Trial {
         self.keeps_pages(event.act)?;
         match event.act {
             Act::Put(_) | Act::Open(_) | Act::Take(_) | Act::Retire(_) | Act::Release(_) => {
-                let world = &self.world;
-                let tree = walked(alloc, &world.lists, &self.moment)?;
+                let tree = walked(alloc, &self.model.lists, &self.moment)?;
                 self.went_to(alloc, event, tree, named)?;
             }
             Act::Begin => self.looks_from(event.process)?,
@@ -878,8 +899,7 @@ impl Trial {
 
     /// No page has changed but the one that an event puts.
     fn keeps_pages(&mut self, act: Act) -> Result<(), Law> {
-        let world = &self.world;
-        let pages = world.lists.pages.as_slice();
+        let pages = self.model.lists.pages.as_slice();
         holds(
             pages.len() == self.pages.len(),
             "there are as many pages as before",
@@ -909,9 +929,9 @@ impl Trial {
 
     fn all_descend(&self) -> Result<(), Law> {
         for key in 0..self.size.keys {
-            descends(&self.world.lists, &self.tree, key)?;
+            descends(&self.model.lists, &self.tree, key)?;
         }
-        descends(&self.world.lists, &self.tree, u64::MAX)
+        descends(&self.model.lists, &self.tree, u64::MAX)
     }
 
     /// A process that is alone, up to its answer.
@@ -940,6 +960,18 @@ impl Trial {
         Ok(())
     }
 
+    /// Reads each leaf by a part of the map, so that the world shows what stands on its own pages in the end.
+    fn read_all(&mut self, alloc: Global) -> Result<(), Law> {
+        for place in 0..self.tree.live.len() {
+            if let Some(live) = self.tree.live.as_slice().get(place).copied()
+                && live.level == 0
+            {
+                self.carry_out(alloc, Job::Part(live.low))?;
+            }
+        }
+        Ok(())
+    }
+
     /// All turns of a world, and then turns for all that run until each has answered.
     fn play(&mut self, alloc: Global) -> Result<(), Law> {
         self.fill(alloc)?;
@@ -954,7 +986,7 @@ impl Trial {
         for round in 0..10_000usize {
             let place = round.checked_rem(self.running.len()).unwrap_or(0);
             let Some(running) = self.running.as_slice().get(place) else {
-                return Ok(());
+                return self.read_all(alloc);
             };
             let turn = self.world.turn_of(running.number, None);
             self.give(alloc, turn)?;
