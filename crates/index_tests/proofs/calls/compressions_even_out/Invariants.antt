@@ -1,5 +1,5 @@
 use Rattle.bl_index.specs.Calls.{IsPassOf}
-use Rattle.bl_index.proofs.tests.compressions_even_out.Given as goal
+use Rattle.index_tests.proofs.calls.compressions_even_out.Given as goal
 
 abbrev pub invariant-loop-ten : goal.invariant-loop-ten
 invariant-loop-ten g l = IsPassOf l.index l.pass

@@ -1,0 +1,9 @@
+//! Tests of the calls of an index: searches, parts, insertions, deletions, posts, compressions and sweeps, of one thread and of
+//! two, with want of pages and of frames.
+//!
+//! They stand apart from `bl_index`, and nothing else uses them: whatever is built on the index need not wait until these tests
+//! are proved. The tests that stop a process on its way stay there.
+#![tactic(auto)]
+
+#[cfg(test)]
+mod calls;
