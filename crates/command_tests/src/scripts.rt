@@ -6,7 +6,7 @@ use std::alloc::Global;
 use std::test::Fail;
 
 /// The script prints this, and no more.
-pub fn prints(alloc: Global, script: &str, wanted: &str) -> bool {
+pub(crate) fn prints(alloc: Global, script: &str, wanted: &str) -> bool {
     let mut writer = Watched::new(Vec::new(alloc));
     let result = replay_script(alloc, &mut Watched::new(script.as_bytes()), &mut writer);
     result == Ok(()) && writer.into_inner().as_slice() == wanted.as_bytes()

@@ -39,7 +39,7 @@ impl Spans {
 
 /// What stands in a world.
 #[derive(Drop)]
-pub struct Model {
+pub(crate) struct Model {
     pub lists: Lists,
     processes: Vec<Proc>,
     spans: Spans,
@@ -56,23 +56,21 @@ fn page(front: &[u64]) -> Result<Page, Law> {
 
 /// The process becomes the page's holder, if that is open.
 fn latches(lists: &mut Lists, at: u32, number: usize) -> Result<bool, Law> {
-    if lists.owner(at)? != Owner::Open {
-        return Ok(false);
+    let is_open = lists.owner(at)? == Owner::Open;
+    if is_open {
+        lists.own(at, Owner::Held(number))?;
     }
-    lists.own(at, Owner::Held(number))?;
-    Ok(true)
+    Ok(is_open)
 }
 
 /// The page is one that may be taken, if it is retired as the process has seen it.
 fn releases(lists: &mut Lists, at: u32, span: &Span) -> Result<bool, Law> {
-    let Some(saw) = span.saw else {
-        return Err("who releases a page has seen it");
-    };
-    if lists.owner(at)? != Owner::Retired(saw) {
-        return Ok(false);
+    let saw = span.saw.ok_or("who releases a page has seen it")?;
+    let is_retired = lists.owner(at)? == Owner::Retired(saw);
+    if is_retired {
+        lists.own(at, Owner::Released)?;
     }
-    lists.own(at, Owner::Released)?;
-    Ok(true)
+    Ok(is_retired)
 }
 
 /// The process looks at the page's owner: is it retired?
@@ -188,7 +186,7 @@ fn refuse(process: &mut Proc) {
 
 impl Model {
     /// The opening index of that many pages: page 0 names page 1 as the only one, which is an empty leaf.
-    pub fn new(alloc: Global, count: u32) -> Result<Model, Law> {
+    pub(crate) fn new(alloc: Global, count: u32) -> Result<Model, Law> {
         let mut pages = Vec::new(alloc);
         add(&mut pages, page(&[(1 << 32) + 1, 0, 0, 0, 1])?)?;
         for _ in 1..count {
@@ -203,7 +201,7 @@ impl Model {
         })
     }
 
-    pub fn start(&mut self, process: Proc) -> Result<(), Law> {
+    pub(crate) fn start(&mut self, process: Proc) -> Result<(), Law> {
         let span = Span {
             begun: None,
             ended: false,
@@ -214,7 +212,7 @@ impl Model {
     }
 
     /// A turn, as the event at that place.
-    pub fn turn(&mut self, turn: Turn, number: usize, place: usize) -> Result<Act, Law> {
+    pub(crate) fn turn(&mut self, turn: Turn, number: usize, place: usize) -> Result<Act, Law> {
         let process = self
             .processes
             .as_mut_slice()
@@ -240,12 +238,12 @@ impl Model {
         self.processes.as_slice().get(number.wrapping_sub(1))
     }
 
-    pub fn answer(&self, number: usize) -> Option<Answer> {
+    pub(crate) fn answer(&self, number: usize) -> Option<Answer> {
         self.process(number)?.answer()
     }
 
     /// The process with that number is about to reserve something.
-    pub fn is_reserving(&self, number: usize) -> bool {
+    pub(crate) fn is_reserving(&self, number: usize) -> bool {
         match self.process(number) {
             Some(process) => process.answer().is_none() && process.needs().is_some(),
             None => false,

@@ -6,7 +6,7 @@ use world_walks::{Squeeze, Way, is_to_post};
 
 /// How many answers of each kind there were, and what else was met.
 #[derive(Clone, Copy, Debug, PartialEq, Eq)]
-pub struct Tally {
+pub(crate) struct Tally {
     found: u32,
     absent: u32,
     inserted: u32,
@@ -52,7 +52,7 @@ pub struct Tally {
 }
 
 /// Nothing was met.
-pub const NONE: Tally = Tally {
+pub(crate) const NONE: Tally = Tally {
     found: 0,
     absent: 0,
     inserted: 0,
@@ -88,12 +88,12 @@ pub const NONE: Tally = Tally {
     levels: 0,
 };
 
-pub fn one_more(count: &mut u32) {
+pub(crate) fn one_more(count: &mut u32) {
     *count = count.saturating_add(1);
 }
 
 impl Tally {
-    pub fn answered(&mut self, answer: &Answer) {
+    pub(crate) fn answered(&mut self, answer: &Answer) {
         let count = match answer {
             Answer::Op(Reply::Found(_), _) => &mut self.found,
             Answer::Op(Reply::Absent, _) => &mut self.absent,
@@ -119,7 +119,7 @@ impl Tally {
     }
 
     /// How many answers there were of the kind of which there were the fewest, beside compressions and releases.
-    pub fn least(&self) -> u32 {
+    pub(crate) fn least(&self) -> u32 {
         let operations = self
             .found
             .min(self.absent)
@@ -133,7 +133,7 @@ impl Tally {
     }
 
     /// The same of compressions and releases, by their answers and by the way to them.
-    pub fn least_of_compressions(&self) -> u32 {
+    pub(crate) fn least_of_compressions(&self) -> u32 {
         let done = self.merged.min(self.to_the_left).min(self.to_the_right);
         let others = self.enough.min(self.alone).min(self.unlisted);
         let pages = self.released.min(self.kept).min(self.read);
@@ -146,7 +146,7 @@ impl Tally {
             .min(self.waits)
     }
 
-    pub fn hinted(&mut self, answer: &Answer, hint: &Hint) {
+    pub(crate) fn hinted(&mut self, answer: &Answer, hint: &Hint) {
         let posts = is_to_post(hint);
         let count = match (answer, posts, hint.level() == 1) {
             // a leaf that another process has parted
@@ -160,7 +160,7 @@ impl Tally {
     }
 
     /// A compression has put all.
-    pub fn squeezed(&mut self, squeeze: &Squeeze) {
+    pub(crate) fn squeezed(&mut self, squeeze: &Squeeze) {
         let is_inner = squeeze.level() > 0;
         match squeeze.way() {
             Way::Merged => {

@@ -124,10 +124,11 @@ fn owns(
 ) -> Result<(), Law> {
     let held = Some(Owner::Held(event.process));
     match event.act {
-        Act::Get(_) => {
-            holds(before.is_some(), "a page is got that is there")?;
-            holds(before != Some(Owner::Released), "no released page is got")?;
-            holds(after == before, "a get changes no owner")
+        Act::Get(_) | Act::See(_) => {
+            let may = before != Some(Owner::Released) || matches!(event.act, Act::See(_));
+            holds(may, "no released page is got")?;
+            holds(before.is_some(), "a page is got or seen that is there")?;
+            holds(after == before, "who gets or sees a page changes no owner")
         }
         Act::Put(_) => {
             holds(before == held, "who puts a page holds it")?;
@@ -145,10 +146,6 @@ fn owns(
         Act::Open(_) => {
             holds(before == held, "who opens a page holds it")?;
             holds(after == Some(Owner::Open), "a page is opened")
-        }
-        Act::See(_) => {
-            holds(before.is_some(), "a page is seen that is there")?;
-            holds(after == before, "who sees a page changes no owner")
         }
         Act::Retire(_) => {
             holds(before == held, "who retires a page holds it")?;
@@ -792,11 +789,7 @@ impl Trial {
     fn are_held_by_running(&self) -> Result<(), Law> {
         for owner in self.model.lists.owners.as_slice() {
             if let Owner::Held(number) = owner {
-                let mut runs = false;
-                for running in self.running.as_slice() {
-                    runs = runs || running.number == *number;
-                }
-                holds(runs, "who holds a page runs")?;
+                holds(self.is_running(*number), "who holds a page runs")?;
             }
         }
         Ok(())

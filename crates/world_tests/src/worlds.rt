@@ -7,15 +7,15 @@ use std::alloc::Global;
 use std::test::Fail;
 use world_walks::SizedWorld;
 
-pub fn opened(alloc: Global, pages: u32) -> Result<SizedWorld, Fail> {
+pub(crate) fn opened(alloc: Global, pages: u32) -> Result<SizedWorld, Fail> {
     Ok(SizedWorld::open(alloc, pages).ok().ok_or("no world")?)
 }
 
-pub fn find(world: &mut SizedWorld, key: u64) -> Result<usize, Fail> {
+pub(crate) fn find(world: &mut SizedWorld, key: u64) -> Result<usize, Fail> {
     Ok(world.start(Proc::find(key)).ok().ok_or("not started")?)
 }
 
-pub fn insert(world: &mut SizedWorld, key: u64, value: u64) -> Result<usize, Fail> {
+pub(crate) fn insert(world: &mut SizedWorld, key: u64, value: u64) -> Result<usize, Fail> {
     Ok(
         world
             .start(Proc::insert(key, value))
@@ -24,11 +24,11 @@ pub fn insert(world: &mut SizedWorld, key: u64, value: u64) -> Result<usize, Fai
     )
 }
 
-pub fn delete(world: &mut SizedWorld, key: u64) -> Result<usize, Fail> {
+pub(crate) fn delete(world: &mut SizedWorld, key: u64) -> Result<usize, Fail> {
     Ok(world.start(Proc::delete(key)).ok().ok_or("not started")?)
 }
 
-pub fn post(world: &mut SizedWorld, level: u32, key: u64) -> Result<usize, Fail> {
+pub(crate) fn post(world: &mut SizedWorld, level: u32, key: u64) -> Result<usize, Fail> {
     if level == 0 || level > 12 {
         return Err("no such level")?;
     }
@@ -40,7 +40,7 @@ pub fn post(world: &mut SizedWorld, level: u32, key: u64) -> Result<usize, Fail>
     )
 }
 
-pub fn compress(world: &mut SizedWorld, level: u32, key: u64) -> Result<usize, Fail> {
+pub(crate) fn compress(world: &mut SizedWorld, level: u32, key: u64) -> Result<usize, Fail> {
     if level == 0 || level > 12 {
         return Err("no such level")?;
     }
@@ -52,12 +52,12 @@ pub fn compress(world: &mut SizedWorld, level: u32, key: u64) -> Result<usize, F
     )
 }
 
-pub fn run(world: &mut SizedWorld, turns: &[Turn]) -> Result<(), Fail> {
+pub(crate) fn run(world: &mut SizedWorld, turns: &[Turn]) -> Result<(), Fail> {
     Ok(world.run(turns).ok().ok_or("not run")?)
 }
 
 /// That many steps of the process.
-pub fn step(world: &mut SizedWorld, number: usize, count: usize) -> Result<(), Fail> {
+pub(crate) fn step(world: &mut SizedWorld, number: usize, count: usize) -> Result<(), Fail> {
     for _ in 0..count {
         run(world, &[Turn::Step(number)])?;
     }
@@ -65,7 +65,7 @@ pub fn step(world: &mut SizedWorld, number: usize, count: usize) -> Result<(), F
 }
 
 /// The events of one process.
-pub fn acts_of(alloc: Global, world: &SizedWorld, number: usize) -> Result<Vec<Act>, Fail> {
+pub(crate) fn acts_of(alloc: Global, world: &SizedWorld, number: usize) -> Result<Vec<Act>, Fail> {
     let mut acts = Vec::new(alloc);
     for event in world.steps() {
         if event.process == number {
@@ -76,35 +76,35 @@ pub fn acts_of(alloc: Global, world: &SizedWorld, number: usize) -> Result<Vec<A
 }
 
 /// These are the events of the process.
-pub fn did(alloc: Global, world: &SizedWorld, number: usize, wanted: &[Act]) -> Result<bool, Fail> {
+pub(crate) fn did(alloc: Global, world: &SizedWorld, number: usize, wanted: &[Act]) -> Result<bool, Fail> {
     let acts = acts_of(alloc, world, number)?;
     Ok(acts.as_slice() == wanted)
 }
 
 /// What an operation answers without a hint.
-pub fn plain(reply: Reply) -> Option<Answer> {
+pub(crate) fn plain(reply: Reply) -> Option<Answer> {
     Some(Answer::Op(reply, None))
 }
 
 /// What an insertion answers that has parted its leaf at that key.
-pub fn inserted_to_post(key: u64) -> Option<Answer> {
+pub(crate) fn inserted_to_post(key: u64) -> Option<Answer> {
     let level = Level::new(1);
     Some(Answer::Op(Reply::Inserted, Some(Hint::Post { level, key })))
 }
 
 /// What a post answers without a hint.
-pub fn listed(posted: Posted) -> Option<Answer> {
+pub(crate) fn listed(posted: Posted) -> Option<Answer> {
     Some(Answer::Post(posted, None))
 }
 
 /// What a compression answers without a hint.
-pub fn pressed(squeezed: Squeezed) -> Option<Answer> {
+pub(crate) fn pressed(squeezed: Squeezed) -> Option<Answer> {
     Some(Answer::Compress(squeezed, None))
 }
 
 /// Eight pages with the keys 1 to 14 in page 1, inserted by the processes 1 to 14, each of them alone; and the insertion of
 /// the key 15, which is to begin. Values are ten times the key.
-pub fn filled(alloc: Global) -> Result<SizedWorld, Fail> {
+pub(crate) fn filled(alloc: Global) -> Result<SizedWorld, Fail> {
     let mut world = opened(alloc, 8)?;
     for key in 1..15 {
         let number = insert(&mut world, key, 10 * key)?;
@@ -115,7 +115,7 @@ pub fn filled(alloc: Global) -> Result<SizedWorld, Fail> {
 }
 
 /// The same world after the split.
-pub fn split(alloc: Global) -> Result<SizedWorld, Fail> {
+pub(crate) fn split(alloc: Global) -> Result<SizedWorld, Fail> {
     let mut world = filled(alloc)?;
     step(&mut world, 15, 4)?;
     run(&mut world, &[Turn::Take(15, 2)])?;
@@ -124,7 +124,7 @@ pub fn split(alloc: Global) -> Result<SizedWorld, Fail> {
 }
 
 /// The same world after the post of the key 9, which is process 16.
-pub fn posted(alloc: Global) -> Result<SizedWorld, Fail> {
+pub(crate) fn posted(alloc: Global) -> Result<SizedWorld, Fail> {
     let mut world = split(alloc)?;
     let number = post(&mut world, 1, 9)?;
     step(&mut world, number, 4)?;
@@ -134,7 +134,7 @@ pub fn posted(alloc: Global) -> Result<SizedWorld, Fail> {
 }
 
 /// The same world after the deletion of the key 9, which is process 17: page 2 has six rows.
-pub fn thinned(alloc: Global) -> Result<SizedWorld, Fail> {
+pub(crate) fn thinned(alloc: Global) -> Result<SizedWorld, Fail> {
     let mut world = posted(alloc)?;
     let number = delete(&mut world, 9)?;
     step(&mut world, number, 8)?;
