@@ -76,7 +76,12 @@ pub(crate) fn acts_of(alloc: Global, world: &SizedWorld, number: usize) -> Resul
 }
 
 /// These are the events of the process.
-pub(crate) fn did(alloc: Global, world: &SizedWorld, number: usize, wanted: &[Act]) -> Result<bool, Fail> {
+pub(crate) fn did(
+    alloc: Global,
+    world: &SizedWorld,
+    number: usize,
+    wanted: &[Act],
+) -> Result<bool, Fail> {
     let acts = acts_of(alloc, world, number)?;
     Ok(acts.as_slice() == wanted)
 }
