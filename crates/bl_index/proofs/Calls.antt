@@ -18,7 +18,7 @@ use Rattle.bl_passes.specs.Told.{HasOwn, Notes, Steps, Begins, Finishes}
 use Rattle.bl_index.specs.Runs.{IsSince}
 
 -- an event stays where it is when others follow
-does_on : (xs ys : Trail) (i : ℕ) (p : Name) (a : Act Page Reply) → DoesAt xs i p a → DoesAt (xs ++ ys) i p a
+pub does_on : (xs ys : Trail) (i : ℕ) (p : Name) (a : Act Page Reply) → DoesAt xs i p a → DoesAt (xs ++ ys) i p a
 does_on xs [] i p a h = record { mark = h.mark; is = ap (λ (z : Trail). slice_get z i) (append_none xs) ∙ h.is; event = h.event }
   where
     append_none : (xs : Trail) → xs ++ [] ≡ xs

@@ -12,3 +12,4 @@ pub mod Released
 pub mod Quiet
 pub mod Posted
 pub mod Pressed
+pub mod Paces

@@ -1,5 +1,5 @@
 -- What a part tells its caller.
-use Rattle.std.proofs.Common.{ℕ, ◌≡◌, ◌≢◌, None, refl, ap}
+use Rattle.std.proofs.Common.{ℕ, ◌≡◌, ◌≢◌, None, refl, ap, sym, subst}
 use Rattle.bl_ways.specs.declared.acts.Action.TheVariants as act
 use Rattle.bl_ways.specs.declared.acts.Seen.{Seen}
 use Rattle.bl_ways.specs.declared.acts.Seen.TheVariants as seen
@@ -11,6 +11,7 @@ use Rattle.bl_proc.specs.declared.parts.PartStage.{PartStage}
 use Rattle.bl_proc.specs.declared.parts.PartStage.TheVariants.{New, AtAnchor, At, Ending, Over}
 use Rattle.bl_proc.specs.Parts.{part_next_in, part_answer_in}
 use Rattle.bl_proc.specs.Processes.{Takes}
+use Rattle.bl_bounds.specs.Searches.{IsSearch, IsUnderWay}
 use Rattle.bl_tables.specs.Knowing.{know_part, end_of_proc}
 use Rattle.bl_courses.proofs.PartsFollowing.{part_follows}
 use Rattle.bl_passes.specs.declared.known.Mine.{Mine}
@@ -46,6 +47,23 @@ silent from (Over r) is = absurd is
 
 pub part_may_give_up : (p : Part) (state : Proc) → state ≡ proc.Part p → IsListing p.stage → MayGiveUp state
 part_may_give_up p state e is = may_give_up state (proc.Part p) e (λ got child time. silent p.from p.stage is)
+
+-- and it is under way
+parts_on : (p : Part) → IsListing p.stage → IsUnderWay (proc.Part p)
+parts_on p is = by_stage p p.stage refl is
+  where
+    by_stage : (p : Part) (a : PartStage) → p.stage ≡ a → IsListing p.stage → IsUnderWay (proc.Part p)
+    by_stage p New e is = absurd (rw e at is)
+    by_stage p AtAnchor e is = rw e tt
+    by_stage p (At x) e is = rw e tt
+    by_stage p (Ending r) e is = absurd (rw e at is)
+    by_stage p (Over r) e is = absurd (rw e at is)
+
+pub part_under_way : (p : Part) (state : Proc) → state ≡ proc.Part p → IsListing p.stage → IsUnderWay state
+part_under_way p state e is = subst IsUnderWay (sym e) (parts_on p is)
+
+pub part_is_search : (p : Part) (state : Proc) → state ≡ proc.Part p → IsSearch state
+part_is_search p state e = subst IsSearch (sym e) tt
 
 -- a part that has found its leaf, and has ended
 pub part_done : (pass : ℕ) (old d e : Mine) (p q : Part) (rows : PartRows) → IsSince pass old d → d.state ≡ proc.Part p → p.stage ≡ Ending rows → Finishes (end_of_proc (proc.Part p)) d e → Takes (proc.Part p) seen.Done (proc.Part q) → IsDone pass old e (proc.Part p) (proc.Part q)

@@ -13,6 +13,7 @@ use Rattle.bl_proc.specs.declared.searching.Find.{Find as FindState}
 use Rattle.bl_proc.specs.declared.searching.FindStage.{FindStage}
 use Rattle.bl_proc.specs.declared.searching.FindStage.TheVariants.{New, AtAnchor, At, Ending, Over}
 use Rattle.bl_proc.specs.Searches.{FindGoes}
+use Rattle.bl_bounds.specs.Searches.{IsSearch, IsUnderWay}
 use Rattle.bl_tables.specs.Knowing.{Run, bare as know, know_of, know_find, found, found_reply, end_of_proc}
 use Rattle.bl_passes.specs.declared.known.Mine.{Mine}
 use Rattle.bl_passes.specs.Noting.{trail_of}
@@ -41,7 +42,7 @@ searches_on key New new c is t ne = absurd is
 searches_on key (Ending v) new c is t ne = absurd is
 searches_on key (Over v) new c is t ne = absurd is
 
-knows : (p : FindState) (r : Run) → r.state ≡ Find p → know r ≡ know_find p.key p.stage
+pub knows : (p : FindState) (r : Run) → r.state ≡ Find p → know r ≡ know_find p.key p.stage
 knows p r e = ap (know_of r.got r.child r.time) e
 
 silent : (key : ℕ) (a : FindStage) → IsSearching a → IsSilent (know_find key a)
@@ -54,8 +55,25 @@ silent key (Over v) is = absurd is
 pub find_may_give_up : (p : FindState) (state : Proc) → state ≡ Find p → IsSearching p.stage → MayGiveUp state
 find_may_give_up p state e is = may_give_up state (Find p) e (λ got child time. silent p.key p.stage is)
 
+-- and it is under way
+finds_on : (p : FindState) → IsSearching p.stage → IsUnderWay (Find p)
+finds_on p is = by_stage p p.stage refl is
+  where
+    by_stage : (p : FindState) (a : FindStage) → p.stage ≡ a → IsSearching p.stage → IsUnderWay (Find p)
+    by_stage p New e is = absurd (rw e at is)
+    by_stage p AtAnchor e is = rw e tt
+    by_stage p (At x) e is = rw e tt
+    by_stage p (Ending v) e is = absurd (rw e at is)
+    by_stage p (Over v) e is = absurd (rw e at is)
+
+pub find_under_way : (p : FindState) (state : Proc) → state ≡ Find p → IsSearching p.stage → IsUnderWay state
+find_under_way p state e is = subst IsUnderWay (sym e) (finds_on p is)
+
+pub find_is_search : (p : FindState) (state : Proc) → state ≡ Find p → IsSearch state
+find_is_search p state e = subst IsSearch (sym e) tt
+
 -- a search that has found its leaf
-pub find_answers : (pass : ℕ) (old d e : Mine) (p : FindState) (key : ℕ) (value : Option ℕ) (reply : Reply) → IsSince pass old d → d.state ≡ Find p → p.key ≡ key → p.stage ≡ Ending value → Finishes (end_of_proc (Find p)) d e → reply ≡ found_reply value → Answers pass (op.Find key) reply (trail_of old.trail) (trail_of e.trail)
+abbrev pub find_answers : (pass : ℕ) (old d e : Mine) (p : FindState) (key : ℕ) (value : Option ℕ) (reply : Reply) → IsSince pass old d → d.state ≡ Find p → p.key ≡ key → p.stage ≡ Ending value → Finishes (end_of_proc (Find p)) d e → reply ≡ found_reply value → Answers pass (op.Find key) reply (trail_of old.trail) (trail_of e.trail)
 find_answers pass old d e p key value reply s state is_key is_stage t is =
     let same : p ≡ record { key = key; stage = Ending value } = λ i. record { key = is_key i; stage = is_stage i } in
     let answer : end_of_proc (Find p) ≡ Some reply = ap (λ (z : FindState). end_of_proc (Find z)) same ∙ ap (λ (z : Reply). Some z) (sym is) in

@@ -30,7 +30,7 @@ may_give_up state process is silent = record {
     here : (r : Run) → r.state ≡ state → IsSilent (know_of r.got r.child r.time r.state)
     here r e = subst (λ (z : Proc). IsSilent (know_of r.got r.child r.time z)) (sym (e ∙ is)) (silent r.got r.child r.time)
 
-pub gives_up : (pass : ℕ) (old d e : Mine) → IsSince pass old d → MayGiveUp d.state → Finishes None d e → Adds pass (trail_of old.trail) (trail_of e.trail)
+abbrev pub gives_up : (pass : ℕ) (old d e : Mine) → IsSince pass old d → MayGiveUp d.state → Finishes None d e → Adds pass (trail_of old.trail) (trail_of e.trail)
 gives_up pass old d e s may t = record {
   number = old.number + 1;
   holds = since_end pass None old d e s t;

@@ -8,6 +8,7 @@ use Rattle.bl_model.specs.declared.operation.Reply.{Reply}
 use Rattle.bl_page.specs.Machine.{Name}
 use Rattle.bl_trails.specs.Trails.{Mark, Trail, history_of, marks_of}
 use Rattle.bl_steps.specs.Worlds.{Each}
+use Rattle.bl_bounds.specs.Bounds.{gets_of, IsWithinBound, IsBelowBound}
 use Rattle.bl_ways.specs.declared.answers.Hint.{Hint}
 use Rattle.bl_ways.specs.declared.answers.Posted.{Posted}
 use Rattle.bl_ways.specs.declared.answers.Squeezed.{Squeezed}
@@ -79,10 +80,22 @@ pub record Sweeps (pass : ℕ) (old new : Trail) : Type 0 where
   pub seen : IsSeen old → IsSeen new
   pub none : own pass new ≡ own pass old
 
--- A search is answered, or runs out of turns and says nothing.
-pub record MayAnswer (pass : ℕ) (op : Op) (result : Result Reply OutOfTurns) (old new : Trail) : Type 0 where
-  pub answered : IfOk result (λ reply. Answers pass op reply old new)
-  pub refused : IfErr result (λ fault. Adds pass old new)
+-- A search of an index of so many pages is answered. At every moment it had got no more pages than its bound.
+pub record Finds (pages pass : ℕ) (op : Op) (reply : Reply) (old new : Trail) : Type 0 where
+  pub answers : Answers pass op reply old new
+  pub bounded : IsWithinBound pages (name pass answers.number) new
+
+-- It ran out of so many turns and said nothing: it has got so many pages, which are fewer than its bound.
+pub record RunsOut (pages pass turns : ℕ) (old new : Trail) : Type 0 where
+  pub adds : Adds pass old new
+  pub bounded : IsWithinBound pages (name pass adds.number) new
+  pub gets : gets_of (name pass adds.number) new ≡ turns
+  pub below : IsBelowBound pages (name pass adds.number) new
+
+-- A search is answered, or runs out of turns.
+pub record MayAnswer (pages pass turns : ℕ) (op : Op) (result : Result Reply OutOfTurns) (old new : Trail) : Type 0 where
+  pub answered : IfOk result (λ reply. Finds pages pass op reply old new)
+  pub refused : IfErr result (λ fault. RunsOut pages pass turns old new)
 
 -- An insertion is answered, and the hint beside its reply means what its process has put.
 pub record Inserts (pass key value : ℕ) (reply : Reply) (next : Option Hint) (old new : Trail) : Type 0 where

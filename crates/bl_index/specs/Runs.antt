@@ -17,6 +17,7 @@ use Rattle.bl_index.specs.declared.stepping.Stepped.TheVariants.{On, AtEnd}
 use Rattle.bl_page.specs.Machine.{Act}
 use Rattle.bl_page.specs.Machine.Act.{Begin}
 use Rattle.bl_trails.specs.Trails.{Trail, DoesAt, marks_of}
+use Rattle.bl_bounds.specs.Bounds.{gets_of, IsWithinBound, IsBelowBound}
 use Rattle.bl_proc.specs.declared.kinds.Proc.{Proc}
 use Rattle.bl_proc.specs.Processes.{next_of, Takes}
 use Rattle.bl_passes.specs.declared.known.Mine.{Mine}
@@ -75,3 +76,11 @@ pub record IsDone (pass : ℕ) (old e : Mine) (first last : Proc) : Type 0 where
 abbrev pub IsAfter : Layout → Seat (Unit {0}) (View Mine) → Seat (Unit {0}) (View Mine) → Proc → Proc → Stepped → Type 0
 IsAfter l h h' p q (On held) = IsOn l (known h') q × Moves (known h) (known h') × HasReserved h' held q × ((what : Seen) × Follows p what q) × (next_of p ≢ act.End)
 IsAfter l h h' p q AtEnd = (next_of p ≡ act.End) × (q ≡ p) × (known h' ≡ known h) × HasNoStock h'
+
+-- A search that the pass began as its process of that number has got so many pages, within its bound, and may get one more.
+pub record IsAtTurn (pages pass number turns : ℕ) (trail : Trail) : Type 0 where
+  pub begin : ℕ
+  pub begun : DoesAt trail begin (name pass number) Begin
+  pub bounded : IsWithinBound pages (name pass number) trail
+  pub below : IsBelowBound pages (name pass number) trail
+  pub gets : gets_of (name pass number) trail ≡ turns

@@ -4,6 +4,7 @@ ghost use Rattle.std.specs.Prelude.{◌≡◌, ◌+◌, ◌<◌, None};
 ghost use Rattle.bl_ways.specs.declared.acts.Action.TheVariants as act;
 ghost use Rattle.bl_ways.specs.declared.acts.Seen.TheVariants as seen;
 ghost use Rattle.bl_page.specs.declared.page.Page.{Page as PageIs};
+ghost use Rattle.bl_page.specs.Machine.Act.{Get};
 ghost use Rattle.bl_proc.specs.Processes.{next_of};
 ghost use Rattle.bl_courses.specs.Courses.{GoesOn};
 ghost use Rattle.bl_tables.specs.Knowing.{end_of_proc};
@@ -12,7 +13,7 @@ ghost use Rattle.bl_trails.specs.Trails.{marks_of};
 ghost use Rattle.bl_passes.specs.Noting.{trail_of};
 ghost use Rattle.bl_passes.specs.Fitting.{name};
 ghost use Rattle.bl_store.specs.Hands.{known, IsOf, IsIdle, IsRunning, IsSameHand, IsSameStage, IsSameStock};
-ghost use Rattle.bl_passes.specs.Told.{Begins, Finishes, IsUnborn, MayGiveUp};
+ghost use Rattle.bl_passes.specs.Told.{Begins, Steps, Finishes, IsUnborn, MayGiveUp};
 ghost use Rattle.bl_index.specs.Runs.{IsOn, IsSince, IsWithin, Moves};
 
 use crate::index::Index;
@@ -50,6 +51,7 @@ impl Index {
         ensures running { IsRunning hand.new.seat }
         ensures process { IsOn self.now.store.layout (known hand.new.seat) (P.proc_of process.new) }
         ensures begun { IsSince hand.old.number (known hand.old.seat) (known hand.new.seat) }
+        ensures told { Begins hand.old.number self.now.store.layout.pages self.now.store.layout.passes (P.proc_of process.old) (known hand.old.seat) (known hand.new.seat) }
         ensures takes { P.Takes process.old seen.Done process.new }
     {
         self.launch::<Brand, P>(hand, process);
@@ -65,6 +67,7 @@ impl Index {
         requires next { (P.answer_of process.old ≡ None) × (P.next_of process.old ≡ act.Get page) }
         ensures same { IsSameHand hand.old.seat hand.new.seat × IsSameStage hand.old.seat hand.new.seat × IsSameStock hand.old.seat hand.new.seat }
         ensures process { IsOn self.now.store.layout (known hand.new.seat) (P.proc_of process.new) }
+        ensures got { Steps (Get page) (known hand.old.seat) (known hand.new.seat) }
         ensures moves { Moves (known hand.old.seat) (known hand.new.seat) }
         ensures takes { (c : PageIs) × P.Takes process.old (seen.Words c) process.new }
     {

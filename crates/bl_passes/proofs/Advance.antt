@@ -18,6 +18,10 @@ use Rattle.bl_tables.specs.Turns.{Turned}
 use Rattle.bl_tables.specs.Knowing.{Run, bare as know}
 use Rattle.bl_tables.proofs.Near.{bare_near as near}
 use Rattle.bl_tables.proofs.Middles.{KeepsLogs}
+use Rattle.bl_bounds.specs.Bounds.{IsWithinBound, IsBelowBound}
+use Rattle.bl_bounds.specs.Searches.{IsSearch, IsUnderWay}
+use Rattle.bl_bounds.specs.Paces.{AllKept}
+use Rattle.bl_bounds.proofs.Bounded.{search_within, search_below}
 use Rattle.bl_store.specs.Pages.{Owner, Stage, Idle, Running, Pages, Stands}
 use Rattle.bl_passes.specs.declared.known.Mine.{Mine}
 use Rattle.bl_passes.specs.Noting.{trail_of, all_noted}
@@ -42,7 +46,7 @@ module _ (s : Pages Mine) (f : Fits s) (n m : ℕ) (st : Stage) (d : Mine) (at :
   hands_same : (s' : Pages Mine) (st' : Stage) → s'.hands ≡ set s.hands n (st', next_known) → length s'.hands ≡ length s.hands
   hands_same s' st' hands = ap length hands ∙ length-set s.hands n (st', next_known)
 
-  pub advance : (s' : Pages Mine) (st' : Stage) → s'.hands ≡ set s.hands n (st', next_known) → length s'.contents ≡ length s.contents → d.number ≤ m → s1.clock ≤ s'.clock
+  pub advance : AllKept t.next → (s' : Pages Mine) (st' : Stage) → s'.hands ≡ set s.hands n (st', next_known) → length s'.contents ≡ length s.contents → d.number ≤ m → s1.clock ≤ s'.clock
       → ((q : Name) → q ≢ name n m → s1.phase q ≡ f.world.now.phase q)
       → ((x : ℕ) (q : Name) → q ≢ name n m → s1.owner x ≡ machine.Held q → f.world.now.owner x ≡ machine.Held q)
       → ((x : ℕ) (words : List ℕ) → get_elem? s'.contents x ≡ some words → Shows x words (s1.contents x))
@@ -51,9 +55,10 @@ module _ (s : Pages Mine) (f : Fits s) (n m : ℕ) (st : Stage) (d : Mine) (at :
       → ((since : ℕ) → st ≡ Running since → m ≡ d.number)
       → ((since : ℕ) → s1.phase (name n m) ≡ machine.Running since → st' ≡ Running since)
       → Fits s'
-  advance s' st' hands size le clock others kept pages owners stage current on = record {
+  advance kept_bounds s' st' hands size le clock others kept pages owners stage current on = record {
     world = t.next;
     good = t.good;
+    kept = kept_bounds;
     opening = subst Opening (sym t.extends.start) f.opening;
     first = t.extends.first ∙ f.first;
     size = t.extends.size ∙ (f.size ∙ sym size);
@@ -75,8 +80,8 @@ module _ (s : Pages Mine) (f : Fits s) (n m : ℕ) (st : Stage) (d : Mine) (at :
   pub next_seen : KeepsLogs t.next → IsSeen (trail_of next_known.trail)
   next_seen logs = subst IsSeen (sym (trail_back t.next.trail)) (world_seen t.next t.good logs (subst Opening (sym t.extends.start) f.opening) (t.extends.first ∙ f.first))
 
-  pub next_notes : KeepsLogs t.next → Notes n m a d next_known
-  next_notes logs =
+  pub next_notes : KeepsLogs t.next → AllKept t.next → Notes n m a d next_known
+  next_notes logs kept_bounds =
       let h = f.hands n st d at in
       let mk = turn_mark f.world f.good n m a s1 b t in
       record {
@@ -88,6 +93,9 @@ module _ (s : Pages Mine) (f : Fits s) (n m : ℕ) (st : Stage) (d : Mine) (at :
         within = subst (AreWithin (length s.hands)) (sym (trail_back t.next.trail)) next_within;
         pass = refl;
         number = refl;
+        others = h.begins.2;
+        bounded = λ search. subst (IsWithinBound f.world.size (name n m)) (sym (trail_back t.next.trail)) (subst (λ (z : ℕ). IsWithinBound z (name n m) t.next.trail) t.extends.size (search_within t.next (name n m) t.good kept_bounds (subst (λ (r : Run). IsSearch r.state) (sym t.extends.proc.at) search)));
+        below = λ search. subst (IsBelowBound f.world.size (name n m)) (sym (trail_back t.next.trail)) (subst (λ (z : ℕ). IsBelowBound z (name n m) t.next.trail) t.extends.size (search_below t.next (name n m) kept_bounds (subst (λ (r : Run). IsUnderWay r.state) (sym t.extends.proc.at) search)));
       }
 
   pub next_near : IsNear next_known.pages (next_of next_known.state)

@@ -24,6 +24,9 @@ use Rattle.bl_tables.specs.Knowing.{Run, bare as know, know_of, end_of_proc, run
 use Rattle.bl_tables.proofs.Starting.{with_proc, bare_enters_good as enters_good}
 use Rattle.bl_tables.proofs.Logged.{early_log}
 use Rattle.bl_tables.proofs.GivingUp.{given_up, give_up}
+use Rattle.bl_bounds.specs.Paces.{AllKept}
+use Rattle.bl_bounds.proofs.Turns.{state_kept}
+use Rattle.bl_bounds.proofs.Bounded.{left_kept, enter_kept}
 use Rattle.bl_courses.specs.Courses.{GoesOn}
 use Rattle.bl_layout.specs.declared.layout.Layout.{Layout}
 use Rattle.bl_store.specs.Pages.{Owner, Held, Stage, Idle, Running, Pages, Stands, IsOrderly, HoldsNone, told, Begins as BeginsIn, Ends}
@@ -39,7 +42,7 @@ use Rattle.bl_passes.proofs.Doings.{log_after}
 use Rattle.bl_passes.proofs.Shown.{same_owner, other_owner, held_by}
 use Rattle.bl_passes.proofs.Logs.{next_logs}
 use Rattle.bl_passes.proofs.Advance.{next_known, advance, next_notes, next_near, next_own, next_stage}
-use Rattle.bl_passes.proofs.Turns.{turn_of, standing, is_named, turned, then_log}
+use Rattle.bl_passes.proofs.Turns.{turn_of, standing, is_named, turned, then_log, then_kept}
 
 -- Before a process begins, it stands in the world as one that has done nothing.
 module _ (s : Pages Mine) (f : Fits s) (n : ℕ) (d : Mine) (at : Stands s n Idle d) (b : Run) (blank : IsBlank (know b)) where
@@ -82,6 +85,7 @@ module _ (s : Pages Mine) (f : Fits s) (n : ℕ) (d : Mine) (at : Stands s n Idl
   entered = record {
     world = entered_world;
     good = (let h = (f.hands n Idle d at).later (d.number + 1) (omega arith) in enters_good f.world next_name b f.good h.0 h.1 blank);
+    kept = enter_kept f.world next_name b blank.stage f.kept;
     opening = f.opening;
     first = f.first;
     size = f.size;
@@ -124,6 +128,7 @@ begins_process l n d process next unborn course s g o at =
     let does : Does w.now p Act.Begin s1 = record { changes = (λ x. refl, λ x. refl, (s.clock, g.clock, omega arith, phase)); on = g.clock } in
     let t : Turned know w p Act.Begin s1 (run_next w.now (w.proc p) seen.Done course.new) = turn_of w p process seen.Done s1 f.good (ap (λ (r : Run). r.state) here) course act.Begin next tt tt does in
     let b' = run_next w.now (w.proc p) seen.Done course.new in
+    let kept : AllKept t.next = state_kept w t.next p process b' seen.Done act.Begin _ refl (ap (λ (r : Run). r.state) here) next t.extends f.good t.good course.takes tt f.kept in
     let h = g.hands n Idle d at in
     let early : proc_log process (marks_of p w.trail) = early_log b blank.stage (marks_of p w.trail) in
     let log : proc_log course.new (marks_of p t.next.trail) = log_after w p process seen.Done course act.Begin s1 b' t next tt early in
@@ -131,9 +136,9 @@ begins_process l n d process next unborn course s g o at =
     let silent : entries_at p (know (w.proc p)).said ≡ [] = ap (entries_at p) (ap (λ (r : Run). (know r).said) here ∙ blank.said) in
     let was : own n w.trail ≡ past ++ entries_at p (know (w.proc p)).said = h.mine ∙ (sym (append-nil past) ∙ ap (λ (z : List Entry). past ++ z) (sym silent)) in
     let e : Mine = next_known s f n m Idle d at Act.Begin s1 b' t true past in
-    let notes : Notes n m Act.Begin d e = next_notes s f n m Idle d at Act.Begin s1 b' t true past (next_logs s f n m Act.Begin s1 b' t (λ z runs. log)) in (
+    let notes : Notes n m Act.Begin d e = next_notes s f n m Idle d at Act.Begin s1 b' t true past (next_logs s f n m Act.Begin s1 b' t (λ z runs. log)) kept in (
       e,
-      advance s f n m Idle d at Act.Begin s1 b' t true past (told s n (Running s.clock) e) (Running s.clock) refl refl (omega arith) (omega arith)
+      advance s f n m Idle d at Act.Begin s1 b' t true past kept (told s n (Running s.clock) e) (Running s.clock) refl refl (omega arith) (omega arith)
           (λ q ne. phase.others q ne) (λ x q ne z. z) g.pages
           (λ x own_ z. g.owners x own_ z ∙ sym (other_owner s.hands n (Running s.clock, e) own_ (λ is. h.stage.1 x (g.owners x own_ z ∙ (ap (owner_in s.hands) is ∙ held_by s.hands n (Idle, d) at)))))
           (next_stage s f n m Idle d at Act.Begin s1 b' t true past s.clock refl (λ z. omega arith) phase.at was log)
@@ -145,6 +150,7 @@ begins_process l n d process next unborn course s g o at =
         pages = g.size ∙ o.contents;
         passes = o.hands;
         past = refl;
+        fresh = h.counted;
         own = next_own s f n m Idle d at Act.Begin s1 b' t true past was;
         near = next_near s f n m Idle d at Act.Begin s1 b' t true past;
         course = course;
@@ -162,8 +168,8 @@ end_silent trail m answer is marked (Some said) e = (
 
 module _ (l : Layout) (n : ℕ) (d : Mine) (s : Pages Mine) (since : ℕ) (f : Fits s) (o : IsOrderly l s) (at : Stands s n (Running since) d) (answer : Option Reply) (b : Run)
     (t : Turned know f.world (name n d.number) (Act.End answer) (record f.world.now { phase = put_name (name n d.number) machine.Ended f.world.now.phase }) b) where
-  pub finishes : HoldsNone s n × (e : Mine) × Fits (told s n Idle e) × Finishes answer d e × (trail_of e.trail ≡ t.next.trail)
-  finishes =
+  pub finishes : AllKept t.next → HoldsNone s n × (e : Mine) × Fits (told s n Idle e) × Finishes answer d e × (trail_of e.trail ≡ t.next.trail)
+  finishes searches =
       let w = f.world in
       let p = name n d.number in
       let s1 : State Page = record w.now { phase = put_name p machine.Ended w.now.phase } in
@@ -172,13 +178,13 @@ module _ (l : Layout) (n : ℕ) (d : Mine) (s : Pages Mine) (since : ℕ) (f : F
       let h = f.hands n (Running since) d at in
       let named = is_named s f n since d at in
       let e : Mine = next_known s f n d.number (Running since) d at (Act.End answer) s1 b t false d.past in
-      let notes : Notes n d.number (Act.End answer) d e = next_notes s f n d.number (Running since) d at (Act.End answer) s1 b t false d.past (next_logs s f n d.number (Act.End answer) s1 b t (λ z runs. absurd (let both : machine.Ended ≡ machine.Running z = sym phase.at ∙ (ap (λ (y : State Page). y.phase p) (sym t.now) ∙ runs) in cc))) in
+      let notes : Notes n d.number (Act.End answer) d e = next_notes s f n d.number (Running since) d at (Act.End answer) s1 b t false d.past (next_logs s f n d.number (Act.End answer) s1 b t (λ z runs. absurd (let both : machine.Ended ≡ machine.Running z = sym phase.at ∙ (ap (λ (y : State Page). y.phase p) (sym t.now) ∙ runs) in cc))) searches in
       let mk = turn_mark w f.good n d.number (Act.End answer) s1 b t in
       let silent : t.said ≡ None = end_silent w.trail mk answer refl (subst IsMarked t.extends.trail t.good.recorded.marked) t.said refl in
       let kept : own n (trail_of e.trail) ≡ own n (trail_of d.trail) = ap (own n) (trail_back t.next.trail ∙ t.extends.trail) ∙ (own-mine n w.trail mk refl ∙ (ap (λ (z : Option Said). own n w.trail ++ entries_at p z) silent ∙ (append-nil (own n w.trail) ∙ h.mine))) in (
         λ x z. can.1 x (f.owners x (Held n) z ∙ held_by s.hands n (Running since, d) at),
         e,
-        advance s f n d.number (Running since) d at (Act.End answer) s1 b t false d.past (told s n Idle e) Idle refl refl (omega arith) f.clock
+        advance s f n d.number (Running since) d at (Act.End answer) s1 b t false d.past searches (told s n Idle e) Idle refl refl (omega arith) f.clock
             (λ q ne. phase.others q ne) (λ x q ne z. z) f.pages
             (λ x own_ z. f.owners x own_ z ∙ sym (same_owner s.hands n (Running since, d) (Idle, e) own_ at refl))
             (refl, λ x z. can.1 x (ap (λ (y : State Page). y.owner x) (sym t.now) ∙ z))
@@ -200,7 +206,7 @@ ends_process l n d next course s since f o at =
     let p = name n d.number in
     let s1 : State Page = record w.now { phase = put_name p machine.Ended w.now.phase } in
     let does : Does w.now p (Act.End (end_of_proc d.state)) s1 = record { changes = (λ x. refl, λ x. refl, is_put_name p machine.Ended w.now.phase); on = omega arith } in
-    let z = finishes l n d s since f o at (end_of_proc d.state) _ (turned s f n since d at seen.Done course act.End next s1 tt tt does) in
+    let z = finishes l n d s since f o at (end_of_proc d.state) _ (turned s f n since d at seen.Done course act.End next s1 tt tt does) (then_kept s f n since d at seen.Done course act.End next s1 tt tt does) in
     let named = is_named s f n since d at in
     let log = then_log s f n since d at seen.Done course act.End next s1 tt tt does in (
       z.0,
@@ -217,5 +223,6 @@ gives_up_process l n d may s since f o at =
     let r = w.proc p in
     let s1 : State Page = record w.now { phase = put_name p machine.Ended w.now.phase } in
     let does : Does w.now p (Act.End None) s1 = record { changes = (λ x. refl, λ x. refl, is_put_name p machine.Ended w.now.phase); on = omega arith } in
-    let z = finishes l n d s since f o at None _ (give_up w p s1 f.good (may.busy r is) (may.silent r is) (may.empty r is) (may.no_middle r is) does) in
+    let t : Turned know w p (Act.End None) s1 (given_up r) = give_up w p s1 f.good (may.busy r is) (may.silent r is) (may.empty r is) (may.no_middle r is) does in
+    let z = finishes l n d s since f o at None _ t (left_kept w t.next _ (given_up r) t.extends f.good t.good refl f.kept) in
     (z.0, z.1, z.2, z.3)

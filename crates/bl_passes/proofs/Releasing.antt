@@ -15,6 +15,8 @@ use Rattle.bl_tables.specs.Turns.{Does, Turned}
 use Rattle.bl_tables.specs.Knowing.{bare as know}
 use Rattle.bl_tables.proofs.Releasing.{release}
 use Rattle.bl_tables.proofs.Middles.{KeepsLogs}
+use Rattle.bl_bounds.specs.Paces.{AllKept}
+use Rattle.bl_bounds.proofs.Bounded.{idle_kept}
 use Rattle.bl_layout.specs.declared.layout.Layout.{Layout}
 use Rattle.bl_store.specs.Pages.{Owner, Released, Held, Retired, Stage, Idle, Running, Pages, Stands, IsPage, AllBeganAfter, told, owned, Releases, Sweeps as SweepsIn}
 use Rattle.bl_passes.specs.declared.known.Mine.{Mine}
@@ -59,6 +61,10 @@ module _ (s : Pages Mine) (f : Fits s) (n m : ℕ) (d : Mine) (at : Stands s n I
     abbrev turned : Turned know f.world p (Act.Release x) freed (f.world.proc p)
     turned = (release f.world p x freed f.good can does).0
 
+    -- each search keeps its bound
+    then_kept : AllKept turned.next
+    then_kept = idle_kept f.world turned.next _ turned.extends f.good turned.good refl refl f.kept
+
     abbrev then_known : Mine
     then_known = next_known s f n m Idle d at (Act.Release x) freed (f.world.proc p) turned false d.past
 
@@ -80,7 +86,7 @@ module _ (s : Pages Mine) (f : Fits s) (n m : ℕ) (d : Mine) (at : Stands s n I
         (at_set s.owners x y Released o e)
 
     then_fits : Fits (told (owned s x Released) n Idle then_known)
-    then_fits = advance s f n m Idle d at (Act.Release x) freed (f.world.proc p) turned false d.past (told (owned s x Released) n Idle then_known) Idle refl refl (elim next [ inl e ↦ omega arith | inr e ↦ omega arith ]) f.clock
+    then_fits = advance s f n m Idle d at (Act.Release x) freed (f.world.proc p) turned false d.past then_kept (told (owned s x Released) n Idle then_known) Idle refl refl (elim next [ inl e ↦ omega arith | inr e ↦ omega arith ]) f.clock
         (λ q ne. refl) (λ y q ne e. held_before y q e) f.pages owners_after
         (refl, λ y z. empty y (held_before y p (ap (λ (v : State Page). v.owner y) (sym turned.now) ∙ z)))
         (λ z i. absurd (let both : Idle ≡ Running z = i in cc))
@@ -109,7 +115,7 @@ module _ (s : Pages Mine) (f : Fits s) (n m : ℕ) (d : Mine) (at : Stands s n I
           mine = each_append _ h.begins.0 (mk ∷ []) (Each-map _ _ h.begins.0 (λ (k : Mark) (ne : k.event.process.pass ≢ n) (e : k.event.process.pass ≡ n). absurd (ne e)) h.begins.2) ((λ e. (x, refl, silent)), tt);
           fresh = λ low. Each-map _ _ (trail_of d.trail) (λ (k : Mark) (up : k.event.process.pass ≡ n → k.event.process.number ≤ d.number) (e : k.event.process ≡ p). (let few = up (pass_of _ _ e) in let is : k.event.process.number ≡ m = number_of _ _ e in omega arith)) h.counted;
           seen = next_seen s f n m Idle d at (Act.Release x) freed (f.world.proc p) turned false d.past then_logs;
-          within = (next_notes s f n m Idle d at (Act.Release x) freed (f.world.proc p) turned false d.past then_logs).within;
+          within = (next_notes s f n m Idle d at (Act.Release x) freed (f.world.proc p) turned false d.past then_logs then_kept).within;
           own = ap (own n) trail ∙ (own-mine n f.world.trail mk refl ∙ (ap (λ (z : Option Said). own n f.world.trail ++ entries_at p z) silent ∙ (append-nil (own n f.world.trail) ∙ h.mine)));
           number = refl;
           runs = refl;

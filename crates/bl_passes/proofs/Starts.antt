@@ -13,6 +13,7 @@ use Rattle.bl_starts.specs.Blank.{IsBlank}
 use Rattle.bl_starts.specs.Opening.{Opening}
 use Rattle.bl_starts.proofs.Starts.{opening_world, opening_good}
 use Rattle.bl_tables.specs.Knowing.{Run, bare as know}
+use Rattle.bl_bounds.proofs.Bounded.{first_kept}
 use Rattle.bl_store.specs.Pages.{Owner, Released, Open, Stage, Idle, Running, Pages, Stands}
 use Rattle.bl_store.specs.Opening.{is_blank, first_owner, first_pages}
 use Rattle.bl_passes.specs.declared.known.Mine.{Mine}
@@ -116,6 +117,7 @@ module _ (contents : List (List ℕ)) (o : AreOpening contents) where
   starts passes = record {
     world = first_world (length contents);
     good = let many = o.many in first_good (length contents) (omega arith);
+    kept = first_kept (first_world (length contents)) (λ p. blank_is.stage);
     opening = opening_is;
     first = refl;
     size = refl;

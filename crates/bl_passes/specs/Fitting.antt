@@ -17,6 +17,7 @@ use Rattle.bl_proc.specs.declared.kinds.Proc.TheVariants.{Find}
 use Rattle.bl_proc.specs.declared.searching.FindStage.TheVariants as find
 use Rattle.bl_tables.specs.Knowing.{Run, bare as know}
 use Rattle.bl_tables.specs.Logs.{proc_log}
+use Rattle.bl_bounds.specs.Paces.{AllKept}
 use Rattle.bl_store.specs.Pages.{Owner, Released, Open, Held, Retired, Stage, Idle, Running, Pages, Stands}
 use Rattle.bl_passes.specs.declared.known.Mine.{Mine}
 use Rattle.bl_passes.specs.Noting.{trail_of}
@@ -84,11 +85,12 @@ pub record IsHand (w : World Run) (n : ℕ) (st : Stage) (d : Mine) : Type 0 whe
 abbrev pub IsRun : List (Stage × Mine) → Name → ℕ → Type 0
 IsRun hands p since = (d : Mine) × (get_elem? hands p.pass ≡ some (Running since, d)) × (p.number ≡ d.number)
 
--- One good world that began with the opening index has the pages and owners of the store, and knows each hand. No process
+-- One good world that began with the opening index, in which each search keeps its bound, has the pages and owners of the store, and knows each hand. No process
 -- runs there but those that hands run.
 pub record Fits (s : Pages Mine) : Type 0 where
   pub world : World Run
   pub good : IsGood know world
+  pub kept : AllKept world
   pub opening : Opening world.start
   pub first : world.first ≡ empty
   pub size : world.size ≡ length s.contents

@@ -14,6 +14,8 @@ use Rattle.bl_proc.specs.Processes.{next_of}
 use Rattle.bl_tables.specs.Logs.{proc_log}
 use Rattle.bl_tables.specs.Turns.{event_of}
 use Rattle.bl_tables.specs.Knowing.{Run, bare as know, end_of_proc}
+use Rattle.bl_bounds.specs.Bounds.{IsWithinBound, IsBelowBound}
+use Rattle.bl_bounds.specs.Searches.{IsSearch, IsUnderWay}
 use Rattle.bl_steps.specs.Worlds.{Stage, Each}
 use Rattle.bl_starts.specs.Blank.{IsBlank}
 use Rattle.bl_courses.specs.Courses.{GoesOn}
@@ -21,7 +23,7 @@ use Rattle.bl_store.specs.Pages.{Owner, Open}
 use Rattle.bl_passes.specs.declared.known.Mine.{Mine}
 use Rattle.bl_passes.specs.Noting.{trail_of}
 use Rattle.bl_passes.specs.Seeing.{IsSeen, AreWithin, own}
-use Rattle.bl_passes.specs.Fitting.{name}
+use Rattle.bl_passes.specs.Fitting.{name, AreElse, AreUpTo}
 
 -- the page that a process is to get, latch, put, open or retire is one of so many
 abbrev pub IsNear : ℕ → Action → Type 0
@@ -43,7 +45,8 @@ pub record HasOwn (d : Mine) : Type 0 where
   pub state : run.state ≡ d.state
   pub own : own d.pass (trail_of d.trail) ≡ d.past ++ entries_at (name d.pass d.number) (know run).said
 
--- One event of the pass's process of that count, after all that the pass knew: e is what it knows then.
+-- One event of the pass's process of that count, after all that the pass knew and events of others: e is what it knows then.
+-- Where the process is a search, it has been within its bound at every moment, and below it while it is to get another page.
 pub record Notes (by count : ℕ) (act : Act Page Reply) (d e : Mine) : Type 0 where
   pub between : Trail
   pub last : Mark
@@ -53,6 +56,9 @@ pub record Notes (by count : ℕ) (act : Act Page Reply) (d e : Mine) : Type 0 w
   pub within : AreWithin e.passes (trail_of e.trail)
   pub pass : e.pass ≡ by
   pub number : e.number ≡ count
+  pub others : AreElse by between
+  pub bounded : IsSearch e.state → IsWithinBound e.pages (name by count) (trail_of e.trail)
+  pub below : IsUnderWay e.state → IsBelowBound e.pages (name by count) (trail_of e.trail)
 
 -- the process goes on by one event
 pub record Steps (act : Act Page Reply) (d e : Mine) : Type 0 where
@@ -98,6 +104,7 @@ pub record Begins (by many among : ℕ) (process : Proc) (d e : Mine) : Type 0 w
   pub pages : e.pages ≡ many
   pub passes : e.passes ≡ among
   pub past : e.past ≡ own by (trail_of d.trail)
+  pub fresh : AreUpTo by d.number (trail_of d.trail)
   pub own : HasOwn e
   pub near : IsNear e.pages (next_of e.state)
   pub course : GoesOn process seen.Done

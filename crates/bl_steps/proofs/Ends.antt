@@ -42,6 +42,8 @@ pub record Turns {P : Type 0} (know : P → Know) (w w' : World P) (m : Mark) (b
   pub recorded : IsRecorded w'
   -- what p may get, if it runs now, it may get from a dead page on
   pub leads : (x : ℕ) → w.status x ≡ Gone → MayGet w' m.event.process x → MayGet w' m.event.process (nodes w.now x).shape.right × ((nodes w.now (nodes w.now x).shape.right).shape.level ≡ (nodes w.now x).shape.level)
+  -- and no page that is retired
+  pub unretired : (x time : ℕ) → MayGet w' m.event.process x → w.now.owner x ≡ Retired time → ⊥
   pub passed : (s : Passed) → IsPassed w (Some s) → IsPassed w' (Some s)
 
 turns_keeps : {P : Type 0} (know : P → Know) (w w' : World P) (m : Mark) (b : P) (phase : Phase) → Turns know w w' m b phase → IsGood know w → IsGood know w'
@@ -79,6 +81,10 @@ turns_keeps know w w' m b phase s g =
               | inr i ↦ let k = old.leads q (may_back q x i m) in rw (node x) (may q (nodes w.now x).shape.right i k.0, ap (λ v. v.shape.level) (node (nodes w.now x).shape.right) ∙ k.1)
             ];
             not_yet = λ q held. let k = old.not_yet q (sym (s.owner x) ∙ held) in rw (node x) (s.owner _ ∙ k.0, rw s.ghost.status k.1, ap (λ v. v.shape.level) (node (nodes w.now x).shape.right) ∙ k.2);
+            later = λ q time next m e. rw (node x) (λ f. elim (name_cases q p) [
+              | inl i ↦ absurd (s.unretired x time (rw i at m) (sym (s.owner x) ∙ e))
+              | inr i ↦ old.later q time next (may_back q x i m) (sym (s.owner x) ∙ e) (sym (s.owner (nodes w.now x).shape.right) ∙ f)
+            ]);
           };
       middles = λ x y h. let o : w.status y ≡ _ = rw s.ghost.status at h in let i = g.middles x y o in middles_step know w w' m b x y s.extends s.middle i (λ z k l. (s.owner z ∙ k, ap (λ f. f z) s.ghost.status, node z)) o;
       sure = all_sure know w w' m b s.extends (record {
@@ -129,6 +135,12 @@ Begins-keeps know w w' p b s g =
             let le = h.kept o.0 (change.1 x ∙ o.1) in
             omega (arith, change.2.1))
       ];
+      unretired = λ x time h o.
+          let f : Running h.since ≡ Running change.2.0 = sym h.runs ∙ change.2.3.at in
+          let v : h.since ≡ change.2.0 = cc in
+          let before = (g.owned.retired x time o).1 in
+          let after = h.kept time (change.1 x ∙ o) in
+          absurd (omega (arith, change.2.1));
       passed = λ a h. (
         omega (arith, h.0),
         λ q since below runs. elim (name_cases q p) [
@@ -163,6 +175,7 @@ Finishes-keeps know w w' p answer b s g =
       own = s.own;
       recorded = record_end w w' p answer b s.extends s.told (λ k. ap (λ f. f 0 k) s.ghost.map) g.recorded;
       leads = λ x d h. (let f : Running h.since ≡ Ended = sym h.runs ∙ change.2.at in cc);
+      unretired = λ x time h o. (let f : Running h.since ≡ Ended = sym h.runs ∙ change.2.at in cc);
       passed = λ a h. (
         omega (arith, h.0),
         λ q since below runs. elim (name_cases q p) [

@@ -215,6 +215,22 @@ Retires-keeps know w w' p x b s g =
           let v = sym (back y (not_x y (Held q) held (λ e. cc))) ∙ held in
           let k = old.not_yet q v in
           rw (node y) (back _ (live_was_not _ k.1) ∙ k.0, rw s.status k.1, ap (λ v. v.shape.level) (node (nodes w.now y).shape.right) ∙ k.2);
+      later = λ q time next m e. rw (node y) (λ f. elim (cases_eq y x) [
+        | inl i ↦
+            let k = old.not_yet p (ap w.now.owner i ∙ was) in
+            let v : Held p ≡ Retired next = sym k.0 ∙ (sym (back (nodes w.now y).shape.right (live_was_not (nodes w.now y).shape.right k.1)) ∙ f) in
+            absurd (cc v)
+        | inr i ↦
+            let was_retired : w.now.owner y ≡ Retired time = sym (back y i) ∙ e in
+            elim (cases_eq (nodes w.now y).shape.right x) [
+              | inl j ↦
+                  let v : Retired next ≡ Retired change.0 = sym f ∙ (ap w'.now.owner j ∙ owner.at) in
+                  let u : next ≡ change.0 = cc in
+                  let before = (g.owned.retired y time was_retired).1 in
+                  omega (arith, change.1)
+              | inr j ↦ old.later q time next (may_back q y m) was_retired (sym (back (nodes w.now y).shape.right j) ∙ f)
+            ]
+      ]);
     })
     (λ a y h.
     let o : w.status y ≡ Right a = rw s.status at h in
@@ -313,6 +329,7 @@ Releases-keeps know w w' p x b s g =
       not_yet = λ q held.
           let k = old.not_yet q (sym (back y n) ∙ held) in
           rw (node y) (back _ (live_was_not _ k.1) ∙ k.0, rw (u.others _ (live_was_not _ k.1)) k.1, ap (λ v. v.shape.level) (node (nodes w.now y).shape.right) ∙ k.2);
+      later = λ q time next m e. rw (node y) (λ f. old.later q time next (may_back q y n m) (sym (back y n) ∙ e) (sym (back (nodes w.now y).shape.right (not_x (nodes w.now y).shape.right (Retired next) f (λ v. cc))) ∙ f));
     })
     (λ a y h.
     let o = sym (u.others y (status_not y (Right a) h (λ e. cc))) ∙ h in

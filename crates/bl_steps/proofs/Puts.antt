@@ -131,6 +131,7 @@ Puts-keeps know w w' p x c said b s g =
             end = d.end;
             leads = λ q may. (record { since = may.since; runs = may.runs; was = was_live (w'.status (nodes w'.now x).shape.right) d.alive; kept = λ t e. (let f : Retired t ≡ Held p = sym e ∙ (back (nodes w'.now x).shape.right ∙ d.held) in cc) }, d.level);
             not_yet = λ q e. let v : q ≡ p = same_owner p q (w'.now.owner x) (back x ∙ held_x) e in (back (nodes w'.now x).shape.right ∙ (d.held ∙ ap Held (sym v)), d.alive, d.level);
+            later = λ q time next may e f. (let v : Retired time ≡ Held p = sym e ∙ (back x ∙ held_x) in absurd (cc v));
           })
       | inr i ↦
           let o = sym (s.status y i) ∙ h in

@@ -63,4 +63,5 @@ module _ {P : Type 0} (w w' : World P) (s : Steady w w') where
             let now = yet q held in
             let old = h.not_yet q now.0 in
             rw n (now.1, now.2, s.level (nodes w.now x).shape.right (was_live (w.status (nodes w.now x).shape.right) old.1) ∙ old.2);
+        later = λ p time next may e. rw n (λ f. h.later p time next (may_before p x was may) (s.retired_back x time e) (s.retired_back (nodes w.now x).shape.right next f));
       }

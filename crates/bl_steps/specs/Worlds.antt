@@ -168,11 +168,13 @@ pub record HasMiddle {P : Type 0} (know : P → Know) (w : World P) (x y : ℕ) 
   pub parent_covers : Covers (nodes w.now parent).shape (nodes w.now y).shape.low
 
 -- A dead page leads to the left, to a page that is or was of its level, and whoever may get the one may get the other. Until
--- it is retired, one process holds both.
+-- it is retired, one process holds both; so the page that it leads to is retired later, if it is, and dead pages lead in no
+-- circle.
 pub record IsGone {P : Type 0} (w : World P) (x : ℕ) : Type 0 where
   pub end : (nodes w.now x).shape.end ≡ 0
   pub leads : (p : Name) → MayGet w p x → MayGet w p (nodes w.now x).shape.right × ((nodes w.now (nodes w.now x).shape.right).shape.level ≡ (nodes w.now x).shape.level)
   pub not_yet : (q : Name) → w.now.owner x ≡ Held q → (w.now.owner (nodes w.now x).shape.right ≡ Held q) × IsLive (w.status (nodes w.now x).shape.right) × ((nodes w.now (nodes w.now x).shape.right).shape.level ≡ (nodes w.now x).shape.level)
+  pub later : (p : Name) (time next : ℕ) → MayGet w p x → w.now.owner x ≡ Retired time → w.now.owner (nodes w.now x).shape.right ≡ Retired next → time < next
 
 -- owners and ghost statuses belong together
 pub record AreOwned {P : Type 0} (know : P → Know) (w : World P) : Type 0 where

@@ -34,12 +34,16 @@ use Rattle.bl_tables.specs.Hinted.{MeansBeside}
 use Rattle.bl_tables.specs.Logs.{proc_log}
 use Rattle.bl_tables.proofs.Pressed.{compress_means}
 use Rattle.bl_tables.proofs.Starting.{run_laws}
+use Rattle.bl_bounds.specs.Bounds.{IsWithinBound}
+use Rattle.bl_bounds.specs.Searches.{IsSearch}
+use Rattle.bl_bounds.proofs.Bounded.{search_within}
 use Rattle.bl_world.specs.Views.{View, name_of}
 use Rattle.bl_world.specs.Deeds.{Way}
 use Rattle.bl_world.specs.Retirements.{MeansReclaimed}
 use Rattle.bl_world.specs.declared.turns.Event.{Event}
 use Rattle.bl_world.specs.Accounts.{op_of, HasEnd, Answers, IsOwn, Account, Continues}
 use Rattle.bl_world.specs.Worlds.{IsReclaiming, IsWorld}
+use Rattle.bl_world.specs.Lone.{IsLoneWalk, HasWalk}
 use Rattle.bl_world.proofs.Arms.{stands}
 use Rattle.bl_world.proofs.ReclaimArms.{named}
 use Rattle.bl_world.proofs.Moments.{world_map}
@@ -117,6 +121,12 @@ module _ (v : View) (h : Has v) where
   squeezed : (n : ℕ) (p : Compress) (a : Squeezed) (hint : Option Hint) → slice_get v.processes n ≡ Some (proc.Compress p) → answer_of (proc.Compress p) ≡ Some (answer.Compress a hint) → MeansSqueezed p.level p.key a hint (marks_of (name_of (n + 1)) h.world.trail)
   squeezed n p a hint stood e = subst (λ k. MeansSqueezed p.level p.key a hint (marks_of (name_of k) h.world.trail)) (sym (one_more n)) (compress_means h.world (name_of (suc n)) p a hint h.good (h.runs n (proc.Compress p) stood) e)
 
+  bounded : (n : ℕ) (p : Proc) → slice_get v.processes n ≡ Some p → IsSearch p → IsWithinBound (length v.pages) (name_of (n + 1)) h.world.trail
+  bounded n p stood search =
+      let name = name_of (suc n) in
+      let within = search_within h.world name (bare_good h.world h.good) h.kept (subst IsSearch (sym (h.runs n p stood)) search) in
+      subst (λ k. IsWithinBound (length v.pages) (name_of k) h.world.trail) (sym (one_more n)) (subst (λ k. IsWithinBound k name h.world.trail) h.size within)
+
   pub account : Way v → Account v
   account way =
       let w = h.world in
@@ -148,6 +158,7 @@ module _ (v : View) (h : Has v) where
         ended = λ n p a stood ends e. (let x = ended n p a stood ends e in (x.0, x.1.0, x.1.1));
         reclaimed = λ n p a stood e. rw (one_more n) (over_means v.events (suc n) p.page (w.proc (name_of (suc n))).time p.stage a e (h.reclaiming n p stood));
         releases = h.releases;
+        bounded = bounded;
         refused = λ way n p a stood e no. first_refused way.size way.opened v way.deeds n way.opening way.led (record { process = p; stood = stood; refused = answers_refused p a e no });
       }
 
@@ -160,3 +171,8 @@ unfolding account
 continues v v' h way grows on = ∥∥₁_elim h squash₁ (λ h. ∥∥₁_map way (λ way.
     (let g = grows h in
     record { before = account v h way; after = account v' g.0 (on way); more = g.1.0; goes_on = g.1.1 })))
+
+-- the lone walk of a key, as the account tells it
+pub lone : (v : View) (key leaf gets : ℕ) → ∥ HasWalk v key leaf gets ∥₁ → ∥ Way v ∥₁ → ∥ IsLoneWalk v key leaf gets ∥₁
+unfolding account
+lone v key leaf gets h way = ∥∥₁_elim h squash₁ (λ h. ∥∥₁_map way (λ way. (record { account = account v h.has way; walk = h.walk; ends = h.ends; count = h.count })))

@@ -17,9 +17,9 @@ use Rattle.bl_proc.specs.declared.reclaiming.Reclaim.{Reclaim}
 use Rattle.bl_proc.specs.declared.kinds.Proc.{Proc}
 use Rattle.bl_proc.specs.declared.kinds.Proc.TheVariants as proc
 use Rattle.bl_proc.specs.Processes.{next_of, Takes}
-use Rattle.bl_tables.specs.Turns.{event_of, IsTold, IsShown, Does, Turned}
+use Rattle.bl_tables.specs.Turns.{event_of, IsTold, IsShown, Does}
 use Rattle.bl_tables.specs.Knowing.{know, end_of_proc, run_next}
-use Rattle.bl_tables.proofs.Turning.{turn, idle_turn}
+use Rattle.bl_bounds.proofs.Turns.{Paced, paced_turn, paced_idle}
 use Rattle.bl_world.specs.declared.turns.Act.{Act}
 use Rattle.bl_world.specs.declared.turns.Act.TheVariants as shown
 use Rattle.bl_world.specs.declared.turns.Event.{Event}
@@ -61,15 +61,15 @@ module _ (pages : List Page) (owners : List Owner) (processes : List Proc) (even
   abbrev pub after_act : Act → List Event
   after_act act = events ++ record { process = suc n; act = act } ∷ []
 
-  pub turned : (what : Seen) (action : Action) (h : HasWorld pages owners processes events) (s : State Page) → next_of p0 ≡ action → Takes p0 what p1 → IsTold h.world.now h.world.size action what → IsShown h.world.now (name_of (suc n)) (h.world.proc (name_of (suc n))).time action what → Does h.world.now (name_of (suc n)) (event_of (end_of_proc p0) action what) s → Turned know h.world (name_of (suc n)) (event_of (end_of_proc p0) action what) s (run_next h.world.now (h.world.proc (name_of (suc n))) what p1)
+  pub turned : (what : Seen) (action : Action) (h : HasWorld pages owners processes events) (s : State Page) → next_of p0 ≡ action → Takes p0 what p1 → IsTold h.world.now h.world.size action what → IsShown h.world.now (name_of (suc n)) (h.world.proc (name_of (suc n))).time action what → Does h.world.now (name_of (suc n)) (event_of (end_of_proc p0) action what) s → Paced h.world (name_of (suc n)) (event_of (end_of_proc p0) action what) s (run_next h.world.now (h.world.proc (name_of (suc n))) what p1)
   turned what action h s next takes =
       let w = h.world in
       let p = name_of (suc n) in
       let time = (w.proc p).time in
       let is : (w.proc p).state ≡ p0 = h.runs n p0 stood in
-      let by_state : (z : Proc) → (w.proc p).state ≡ z → Takes z what p1 → IsTold w.now w.size (next_of z) what → IsShown w.now p time (next_of z) what → Does w.now p (event_of (end_of_proc z) (next_of z) what) s → Turned know w p (event_of (end_of_proc z) (next_of z) what) s (run_next w.now (w.proc p) what p1) =
-      λ z e. subst (λ z. Takes z what p1 → IsTold w.now w.size (next_of z) what → IsShown w.now p time (next_of z) what → Does w.now p (event_of (end_of_proc z) (next_of z) what) s → Turned know w p (event_of (end_of_proc z) (next_of z) what) s (run_next w.now (w.proc p) what p1)) e (λ t told shown does. turn w p (w.proc p) p1 what s refl h.good t told shown does) in
-      subst (λ a. IsTold w.now w.size a what → IsShown w.now p time a what → Does w.now p (event_of (end_of_proc p0) a what) s → Turned know w p (event_of (end_of_proc p0) a what) s (run_next w.now (w.proc p) what p1)) next (by_state p0 is takes)
+      let by_state : (z : Proc) → (w.proc p).state ≡ z → Takes z what p1 → IsTold w.now w.size (next_of z) what → IsShown w.now p time (next_of z) what → Does w.now p (event_of (end_of_proc z) (next_of z) what) s → Paced w p (event_of (end_of_proc z) (next_of z) what) s (run_next w.now (w.proc p) what p1) =
+      λ z e. subst (λ z. Takes z what p1 → IsTold w.now w.size (next_of z) what → IsShown w.now p time (next_of z) what → Does w.now p (event_of (end_of_proc z) (next_of z) what) s → Paced w p (event_of (end_of_proc z) (next_of z) what) s (run_next w.now (w.proc p) what p1)) e (λ t told shown does. paced_turn w p (w.proc p) p1 what s refl h.good t told shown does) in
+      subst (λ a. IsTold w.now w.size a what → IsShown w.now p time a what → Does w.now p (event_of (end_of_proc p0) a what) s → Paced w p (event_of (end_of_proc p0) a what) s (run_next w.now (w.proc p) what p1)) next (by_state p0 is takes)
 
   -- who stands there after it
   pub now_is : (p : Proc) → slice_get (slice_set processes n p1) n ≡ Some p → p1 ≡ p
@@ -80,7 +80,7 @@ module _ (pages : List Page) (owners : List Owner) (processes : List Proc) (even
   none_new what action next tree takes q is = absurd (takes_tree p0 what q (subst IsOfTree (sym next) tree) (subst (Takes p0 what) (now_is (proc.Reclaim q) is) takes))
 
   -- the pages and owners are as they were
-  pub stay : (what : Seen) (a : MachineAct Page _) (h : HasWorld pages owners processes events) (s : State Page) → s.contents ≡ h.world.now.contents → s.owner ≡ h.world.now.owner → s.clock ≡ suc h.world.now.clock → ((q : Reclaim) → slice_get (slice_set processes n p1) n ≡ Some (proc.Reclaim q) → (q.page < length pages) × IsReclaiming (after_act (act_shown a)) (suc n) q.page (run_next h.world.now (h.world.proc (name_of (suc n))) what p1).time q.stage) → ((x : ℕ) → act_shown a ≡ shown.Release x → (k : ℕ) × HasSeen events (suc n) x k (length events) × IsRetired events x k (length events)) → Turned know h.world (name_of (suc n)) a s (run_next h.world.now (h.world.proc (name_of (suc n))) what p1) → Grows h pages owners (slice_set processes n p1) (after_act (act_shown a))
+  pub stay : (what : Seen) (a : MachineAct Page _) (h : HasWorld pages owners processes events) (s : State Page) → s.contents ≡ h.world.now.contents → s.owner ≡ h.world.now.owner → s.clock ≡ suc h.world.now.clock → ((q : Reclaim) → slice_get (slice_set processes n p1) n ≡ Some (proc.Reclaim q) → (q.page < length pages) × IsReclaiming (after_act (act_shown a)) (suc n) q.page (run_next h.world.now (h.world.proc (name_of (suc n))) what p1).time q.stage) → ((x : ℕ) → act_shown a ≡ shown.Release x → (k : ℕ) × HasSeen events (suc n) x k (length events) × IsRetired events x k (length events)) → Paced h.world (name_of (suc n)) a s (run_next h.world.now (h.world.proc (name_of (suc n))) what p1) → Grows h pages owners (slice_set processes n p1) (after_act (act_shown a))
   stay what a h s contents owner on mine releases t =
       turned_lists pages pages owners owners processes (slice_set processes n p1) events n a s _ h (slice_get_within processes n p0 stood) refl refl (length-set processes n p1)
       (λ x c is. ap (λ f. f x) contents ∙ h.contents x c is)
@@ -130,7 +130,7 @@ module _ (pages : List Page) (owners : List Owner) (processes : List Proc) (even
       (turned seen.Done (act.Put x c) h s next takes tt tt (record { changes = (changed, λ z. refl, λ q. refl); on = omega arith }))
 
   -- a page gets another owner
-  pub owns : (what : Seen) (a : MachineAct Page _) (x : ℕ) (o : Owner) (h : HasWorld pages owners processes events) → x < length owners → ((q : Reclaim) → slice_get (slice_set processes n p1) n ≡ Some (proc.Reclaim q) → (q.page < length pages) × IsReclaiming (after_act (act_shown a)) (suc n) q.page (run_next h.world.now (h.world.proc (name_of (suc n))) what p1).time q.stage) → ((y : ℕ) → act_shown a ≡ shown.Release y → (k : ℕ) × HasSeen events (suc n) y k (length events) × IsRetired events y k (length events)) → Turned know h.world (name_of (suc n)) a (record h.world.now { owner = put_at x (owner_of o) h.world.now.owner; clock = suc h.world.now.clock }) (run_next h.world.now (h.world.proc (name_of (suc n))) what p1) → Grows h pages (slice_set owners x o) (slice_set processes n p1) (after_act (act_shown a))
+  pub owns : (what : Seen) (a : MachineAct Page _) (x : ℕ) (o : Owner) (h : HasWorld pages owners processes events) → x < length owners → ((q : Reclaim) → slice_get (slice_set processes n p1) n ≡ Some (proc.Reclaim q) → (q.page < length pages) × IsReclaiming (after_act (act_shown a)) (suc n) q.page (run_next h.world.now (h.world.proc (name_of (suc n))) what p1).time q.stage) → ((y : ℕ) → act_shown a ≡ shown.Release y → (k : ℕ) × HasSeen events (suc n) y k (length events) × IsRetired events y k (length events)) → Paced h.world (name_of (suc n)) a (record h.world.now { owner = put_at x (owner_of o) h.world.now.owner; clock = suc h.world.now.clock }) (run_next h.world.now (h.world.proc (name_of (suc n))) what p1) → Grows h pages (slice_set owners x o) (slice_set processes n p1) (after_act (act_shown a))
   owns what a x o h within mine releases t =
       let now = h.world.now in
       let s : State Page = record now { owner = put_at x (owner_of o) now.owner; clock = suc now.clock } in
@@ -199,7 +199,7 @@ idles pages owners processes events n within h =
     (λ x c is. h.contents x c is) (λ x o is. h.owner x o is) (λ p is. h.runs n p is) (λ i ne. refl) refl
     (λ q is. (h.inside n q is, reclaiming_on events _ (suc n) q.page (h.world.proc (name_of (suc n))).time q.stage (λ s. miss_not_see (ap (λ z. z.act) (same_some _ _ (sym (push_new events _) ∙ s)))) (h.reclaiming n q is)))
     (λ x e. absurd cc)
-    (idle_turn h.world (name_of (suc n)) s h.good (record { changes = (λ x. refl, λ x. refl, λ q. refl); on = omega arith }))
+    (paced_idle h.world (name_of (suc n)) s h.good (record { changes = (λ x. refl, λ x. refl, λ q. refl); on = omega arith }))
 
 -- what stands at a place within a list
 pub stands : {A : Type 0} (xs : List A) (n : ℕ) → n < length xs → (a : A) × (slice_get xs n ≡ Some a)

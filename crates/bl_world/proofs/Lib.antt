@@ -27,3 +27,4 @@ pub mod Going
 pub mod Openings
 pub mod Laying
 pub mod Examples
+pub mod Walks

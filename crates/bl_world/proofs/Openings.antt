@@ -15,6 +15,7 @@ use Rattle.bl_ways.specs.Growths.{IsAnchor}
 use Rattle.bl_proc.specs.declared.kinds.Proc.{Proc}
 use Rattle.bl_proc.specs.declared.kinds.Proc.TheVariants as proc
 use Rattle.bl_proc.specs.declared.searching.FindStage.TheVariants as find
+use Rattle.bl_bounds.proofs.Bounded.{first_kept}
 use Rattle.bl_tables.specs.Knowing.{Run, know}
 use Rattle.bl_world.specs.declared.turns.Act.{Act}
 use Rattle.bl_world.specs.declared.turns.Event.{Event}
@@ -75,6 +76,7 @@ opens size v wide o =
     record {
       world = opening_world now size (λ p. nobody leaf);
       good = good;
+      kept = first_kept (opening_world now size (λ p. nobody leaf)) (λ p. (nobody_blank leaf).stage);
       opening = opening;
       first = refl;
       size = sym o.count;

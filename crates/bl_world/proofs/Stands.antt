@@ -9,8 +9,8 @@ use Rattle.bl_trails.specs.Trails.{Mark, Trail, events_of}
 use Rattle.bl_proc.specs.declared.reclaiming.Reclaim.{Reclaim}
 use Rattle.bl_proc.specs.declared.kinds.Proc.{Proc}
 use Rattle.bl_proc.specs.declared.kinds.Proc.TheVariants as proc
-use Rattle.bl_tables.specs.Turns.{Turned}
 use Rattle.bl_tables.specs.Knowing.{Run, know}
+use Rattle.bl_bounds.proofs.Turns.{Paced}
 use Rattle.bl_world.specs.declared.turns.Act.{Act}
 use Rattle.bl_world.specs.declared.turns.Act.TheVariants as shown
 use Rattle.bl_world.specs.declared.turns.Event.{Event}
@@ -60,21 +60,22 @@ abbrev pub Grows : {pages : List Page} {owners : List Owner} {processes : List P
 Grows h pages owners processes events = (after : HasWorld pages owners processes events) × ((more : Trail) × (after.world.trail ≡ h.world.trail ++ more))
 
 -- After one turn of process n the lists are those of the world after it.
-pub turned_lists : (pages pages' : List Page) (owners owners' : List Owner) (processes processes' : List Proc) (events : List Event) (n : ℕ) (a : MachineAct Page Reply) (s : State Page) (b : Run) → (h : HasWorld pages owners processes events) → n < length processes → length pages' ≡ length pages → length owners' ≡ length owners → length processes' ≡ length processes → ((x : ℕ) (c : Page) → slice_get pages' x ≡ Some c → s.contents x ≡ c) → ((x : ℕ) (o : Owner) → slice_get owners' x ≡ Some o → s.owner x ≡ owner_of o) → ((p : Proc) → slice_get processes' n ≡ Some p → b.state ≡ p) → ((i : ℕ) → i ≢ n → slice_get processes' i ≡ slice_get processes i) → s.clock ≡ suc h.world.now.clock → ((q : Reclaim) → slice_get processes' n ≡ Some (proc.Reclaim q) → (q.page < length pages) × IsReclaiming (events ++ record { process = suc n; act = act_shown a } ∷ []) (suc n) q.page b.time q.stage) → ((x : ℕ) → act_shown a ≡ shown.Release x → (k : ℕ) × HasSeen events (suc n) x k (length events) × IsRetired events x k (length events)) → Turned know h.world (name_of (suc n)) a s b → Grows h pages' owners' processes' (events ++ record { process = suc n; act = act_shown a } ∷ [])
+pub turned_lists : (pages pages' : List Page) (owners owners' : List Owner) (processes processes' : List Proc) (events : List Event) (n : ℕ) (a : MachineAct Page Reply) (s : State Page) (b : Run) → (h : HasWorld pages owners processes events) → n < length processes → length pages' ≡ length pages → length owners' ≡ length owners → length processes' ≡ length processes → ((x : ℕ) (c : Page) → slice_get pages' x ≡ Some c → s.contents x ≡ c) → ((x : ℕ) (o : Owner) → slice_get owners' x ≡ Some o → s.owner x ≡ owner_of o) → ((p : Proc) → slice_get processes' n ≡ Some p → b.state ≡ p) → ((i : ℕ) → i ≢ n → slice_get processes' i ≡ slice_get processes i) → s.clock ≡ suc h.world.now.clock → ((q : Reclaim) → slice_get processes' n ≡ Some (proc.Reclaim q) → (q.page < length pages) × IsReclaiming (events ++ record { process = suc n; act = act_shown a } ∷ []) (suc n) q.page b.time q.stage) → ((x : ℕ) → act_shown a ≡ shown.Release x → (k : ℕ) × HasSeen events (suc n) x k (length events) × IsRetired events x k (length events)) → Paced h.world (name_of (suc n)) a s b → Grows h pages' owners' processes' (events ++ record { process = suc n; act = act_shown a } ∷ [])
 turned_lists pages pages' owners owners' processes processes' events n a s b h here count pairs many contents owner new rest on mine releases t =
     let p = name_of (suc n) in
     let old = h.world in
-    let next = t.next in
-    let e = t.extends in (
+    let next = t.turned.next in
+    let e = t.turned.extends in (
       record {
         world = next;
-        good = t.good;
+        good = t.turned.good;
+        kept = t.kept h.kept;
         opening = rw e.start h.opening;
         first = e.first ∙ h.first;
         size = e.size ∙ (h.size ∙ sym count);
         paired = pairs ∙ (h.paired ∙ sym count);
-        contents = λ x c i. ap (λ z. z.contents x) t.now ∙ contents x c i;
-        owner = λ x o i. ap (λ z. z.owner x) t.now ∙ owner x o i;
+        contents = λ x c i. ap (λ z. z.contents x) t.turned.now ∙ contents x c i;
+        owner = λ x o i. ap (λ z. z.owner x) t.turned.now ∙ owner x o i;
         runs = λ i c is. elim (cases_eq i n) [
           | inl eq ↦ ap (λ z. (next.proc (name_of (suc z))).state) eq ∙ (ap (λ r. r.state) e.proc.at ∙ new c (sym (ap (slice_get processes') eq) ∙ is))
           | inr ne ↦ ap (λ r. r.state) (e.proc.others (name_of (suc i)) (name_differs i n ne)) ∙ h.runs i c (sym (rest i ne) ∙ is)
@@ -88,8 +89,8 @@ turned_lists pages pages' owners owners' processes processes' events n a s b h h
           | inl is_old ↦ h.numbered i k is_old
           | inr is_new ↦ ap (λ z. z.event.process.number) is_new.1
         ];
-        moments = moments_on old.start next.start old.trail next.trail _ e.start e.trail h.moments (world_moment next t.good (e.first ∙ h.first));
-        times = times_on old next events n a e.steps.enabled e.steps.changes (ap (λ z. z.clock) t.now ∙ on) h.times;
+        moments = moments_on old.start next.start old.trail next.trail _ e.start e.trail h.moments (world_moment next t.turned.good (e.first ∙ h.first));
+        times = times_on old next events n a e.steps.enabled e.steps.changes (ap (λ z. z.clock) t.turned.now ∙ on) h.times;
         inside = λ i q is. elim (cases_eq i n) [
           | inl eq ↦ rw count (mine q (sym (ap (slice_get processes') eq) ∙ is)).0
           | inr ne ↦ rw count (h.inside i q (sym (rest i ne) ∙ is))

@@ -27,6 +27,8 @@ use Rattle.bl_proc.specs.declared.kinds.Proc.TheVariants as proc
 use Rattle.bl_proc.specs.Processes.{answer_of}
 use Rattle.bl_tables.specs.Answers.{MeansPosted, MeansHint}
 use Rattle.bl_tables.specs.Hinted.{MeansBeside}
+use Rattle.bl_bounds.specs.Bounds.{IsWithinBound}
+use Rattle.bl_bounds.specs.Searches.{IsSearch}
 use Rattle.bl_world.specs.declared.owners.Owner.{Owner}
 use Rattle.bl_world.specs.Views.{View, name_of, owner_of, events_shown}
 use Rattle.bl_world.specs.Retirements.{MeansReclaimed, ReleasesSeen}
@@ -125,6 +127,8 @@ pub record Account (v : View) : Type 0 where
   -- so does the answer of a process that was to release a page; and each release is of the retirement that its process saw
   pub reclaimed : (n : ℕ) (p : Reclaim) (a : Reclaimed) → slice_get v.processes n ≡ Some (proc.Reclaim p) → answer_of (proc.Reclaim p) ≡ Some (answer.Reclaim a) → MeansReclaimed v.events (n + 1) p.page a
   pub releases : ReleasesSeen v.events
+  -- a search, and a part, gets no more pages than its bound beside the puts of others, at every moment so far
+  pub bounded : (n : ℕ) (p : Proc) → slice_get v.processes n ≡ Some p → IsSearch p → IsWithinBound (length v.pages) (name_of (n + 1)) trail
   -- whichever the turns were: a process answers that there was no room only where one of them was a fit refusal of it
   pub refused : (way : Way v) (n : ℕ) (p : Proc) (a : Answer) → slice_get v.processes n ≡ Some p → answer_of p ≡ Some a → IsNoRoom a → WasRefused way.opened way.deeds n
 

@@ -5,3 +5,4 @@ pub mod Deeds
 pub mod Accounts
 pub mod Worlds
 pub mod Choices
+pub mod Lone

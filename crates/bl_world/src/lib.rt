@@ -11,6 +11,7 @@ mod looking;
 mod opening;
 mod owners;
 mod turns;
+mod walking;
 mod world;
 
 pub use owners::Owner;

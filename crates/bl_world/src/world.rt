@@ -45,6 +45,7 @@ impl World {
     ghost use Rattle.bl_world.specs.Deeds.{IsOpening, MayStart, Starts};
     ghost use Rattle.bl_world.specs.Choices.{Chooses};
     ghost use Rattle.bl_world.specs.Accounts.{Account, Continues};
+    ghost use Rattle.bl_world.specs.Lone.{IsLoneWalk};
 
     /// A world with the opening index of that many pages, 4 to 65,536: page 0 names one level, page 1 is an empty leaf, and
     /// all other pages are released. Any other number is `BadPages`.
@@ -113,6 +114,14 @@ impl World {
         ensures account { ∥ Account (view_of self.now.lists) ∥₁ }
     {
         self.lists.events.as_slice()
+    }
+
+    /// The leaf at which a search for the key would end if nothing changed meanwhile, and how many pages it would get, page 0
+    /// included.
+    pub fn lone_walk(&self, key: u64) -> (u32, u32)
+        ensures { ∥ IsLoneWalk (view_of self.now.lists) key result.0 result.1 ∥₁ }
+    {
+        self.lists.walk(key)
     }
 
     /// The answer of the process with that number, if it was started and has ended.

@@ -8,11 +8,11 @@ loop-init g c = record { same = search rules; adds = nothing _ _ }
 pub loop-preserved : goal.loop-preserved
 loop-preserved g c = record {
   same = search rules;
-  adds = then_adds _ _ _ _ c.loop.invariant.adds (call_adds _ _ _ _ c.loop.invariant.same.2 c.in_default.ensures.answers.refused);
+  adds = then_adds _ _ _ _ c.loop.invariant.adds (call_adds _ _ _ _ c.loop.invariant.same.2 c.in_default.ensures.answers.refused.adds);
 }
 
 pub returns-in-Ok-clause-works : goal.returns-in-Ok-clause-works
 returns-in-Ok-clause-works g c =
-    let found = call_works _ _ _ _ _ _ c.loop.invariant.same.2 c.in-Ok.ensures.answers.answered in
+    let found = call_works _ _ _ _ _ _ c.loop.invariant.same.2 c.in-Ok.ensures.answers.answered.answers in
     let swept = sweep_adds _ _ _ _ (c.find.ensures.same.2 ∙ c.loop.invariant.same.2) c.sweep.ensures.sweeps in
     works_on _ _ _ _ _ _ (adds_works _ _ _ _ _ _ c.loop.invariant.adds found) swept

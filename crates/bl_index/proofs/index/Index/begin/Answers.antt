@@ -19,3 +19,6 @@ returns-clause-process g c =
 
 pub returns-clause-begun : goal.returns-clause-begun
 returns-clause-begun g c = since_begin _ _ _ _ _ _ c.launch.ensures.told
+
+pub returns-clause-told : goal.returns-clause-told
+returns-clause-told g c = c.launch.ensures.told

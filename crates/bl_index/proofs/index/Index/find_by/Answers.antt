@@ -1,38 +1,69 @@
-use Rattle.std.proofs.Common.{rules, ◌≡◌, ◌∙◌, sym, Option, ℕ}
-use Rattle.bl_proc.specs.declared.searching.FindStage.TheVariants.{Ending}
-use Rattle.bl_store.specs.Hands.{known}
+use Rattle.std.proofs.Common.{rules, ◌≡◌, ◌∙◌, sym, None, ℕ, arith}
+use Rattle.bl_index.specs.Searching.{IsSearching}
 use Rattle.bl_index.proofs.Calls.{since_step}
 use Rattle.bl_index.proofs.Silent.{gives_up}
-use Rattle.bl_index.proofs.Searches.{searches_on, find_may_give_up, find_answers}
+use Rattle.bl_index.proofs.Searches.{searches_on, find_under_way, find_is_search, find_may_give_up, find_answers}
+use Rattle.bl_index.proofs.Paces.{at_begin, at_step, at_found, at_end}
 use Rattle.bl_index.proofs.index.Index.find_by.Goals as goal
 
-pub loop-preserved : goal.loop-preserved
-loop-preserved c =
-    let inv = c.loop.invariant in
-    let takes = c.read.ensures.takes in
+pub loop-turn-init : goal.loop-turn-init
+loop-turn-init c =
+    let going : IsSearching c.begin.new.process.stage = search rules in
+    let state = c.begin.ensures.process.state in
     record {
       same = search rules;
       running = search rules;
-      process = c.read.ensures.process;
+      process = c.begin.ensures.process;
+      since = c.begin.ensures.begun;
+      key = search rules;
+      going = going;
+      turn = at_begin _ _ _ _ _ _ c.begin.ensures.told (find_is_search _ _ state) (find_under_way _ _ state going);
+    }
+
+pub loop-turn-preserved : goal.loop-turn-preserved
+loop-turn-preserved c =
+    let inv = c.loop-turn.invariant in
+    let takes = c.read.ensures.takes in
+    let process = c.read.ensures.process in
+    let going = searches_on _ _ _ takes.0 inv.going takes.1.1 c.in_default.not-Ending in
+    record {
+      same = search rules;
+      running = search rules;
+      process = process;
       since = since_step _ _ _ _ _ inv.since c.read.ensures.moves.1;
       key = takes.1.0 ∙ inv.key;
-      going = searches_on _ _ _ takes.0 inv.going takes.1.1 c.in_default.not-Ending;
+      going = going;
+      turn = at_step _ _ _ _ _ inv.since.named inv.since.number inv.turn _ _ process.pages c.read.ensures.got (find_is_search _ _ process.state) (find_under_way _ _ process.state going);
     }
 
 pub returns-in-Ending-clause-answers : goal.returns-in-Ending-clause-answers
 returns-in-Ending-clause-answers c =
-    let inv = c.loop.invariant in
+    let inv = c.loop-turn.invariant in
     let takes = c.read.ensures.takes in
+    let process = c.read.ensures.process in
     let since = since_step _ _ _ _ _ inv.since c.read.ensures.moves.1 in
     record {
-      answered = find_answers _ _ _ _ c.read.new.process c.args.key c.in-Ending.value c.reply_of.result since c.read.ensures.process.state (takes.1.0 ∙ inv.key) c.in-Ending.is c.finish.ensures.told c.reply_of.ensures;
+      answered = record {
+        answers = find_answers _ _ _ _ c.read.new.process c.args.key c.in-Ending.value c.reply_of.result since process.state (takes.1.0 ∙ inv.key) c.in-Ending.is c.finish.ensures.told c.reply_of.ensures;
+        bounded = at_found _ _ _ _ _ inv.since.named inv.since.number inv.turn _ _ _ _ process.pages since.named since.number c.read.ensures.got (find_is_search _ _ process.state) c.finish.ensures.told;
+      };
       refused = tt;
     }
 
 pub returns-clause-answers : goal.returns-clause-answers
 returns-clause-answers c =
-    let inv = c.loop.invariant in
-    record { answered = tt; refused = gives_up _ _ _ _ inv.since (find_may_give_up c.loop.process _ inv.process.state inv.going) c.give_up.ensures.told }
+    let inv = c.loop-turn.invariant in
+    let end = at_end _ _ _ _ _ inv.since.named inv.since.number inv.turn None _ c.give_up.ensures.told in
+    let all : c.loop-turn._turn ≡ c.args.turns = omega arith in
+    record {
+      answered = tt;
+      refused = record {
+        adds = gives_up _ _ _ _ inv.since (find_may_give_up c.loop-turn.process _ inv.process.state inv.going) c.give_up.ensures.told;
+        bounded = end.0;
+        gets = end.1 ∙ all;
+        below = end.2;
+      };
+    }
 
 pub give_up-requires-clause-may : goal.give_up-requires-clause-may
-give_up-requires-clause-may c = find_may_give_up c.loop.process _ c.loop.invariant.process.state c.loop.invariant.going
+give_up-requires-clause-may c = find_may_give_up c.loop-turn.process _ c.loop-turn.invariant.process.state c.loop-turn.invariant.going

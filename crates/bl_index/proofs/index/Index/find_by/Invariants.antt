@@ -1,16 +1,18 @@
-use Rattle.std.proofs.Common.{◌≡◌}
+use Rattle.std.proofs.Common.{◌≡◌, ◌+◌}
 use Rattle.bl_store.specs.Hands.{known, IsRunning, IsSameHand, IsSameStock}
 use Rattle.bl_proc.specs.declared.kinds.Proc.TheVariants as proc
-use Rattle.bl_index.specs.Runs.{IsOn, IsSince}
+use Rattle.bl_passes.specs.Noting.{trail_of}
+use Rattle.bl_index.specs.Runs.{IsOn, IsSince, IsAtTurn}
 use Rattle.bl_index.specs.Searching.{IsSearching}
 use Rattle.bl_index.proofs.index.Index.find_by.Given as goal
 
-abbrev pub invariant-loop : goal.invariant-loop
-invariant-loop l = record {
+abbrev pub invariant-loop-turn : goal.invariant-loop-turn
+invariant-loop-turn l = record {
   same : IsSameHand l.fn.hand.seat l.hand.seat × IsSameStock l.fn.hand.seat l.hand.seat;
   running : IsRunning l.hand.seat;
   process : IsOn l.self.store.layout (known l.hand.seat) (proc.Find l.process);
   since : IsSince l.fn.hand.number (known l.fn.hand.seat) (known l.hand.seat);
   key : l.process.key ≡ l.fn.key;
   going : IsSearching l.process.stage;
+  turn : IsAtTurn l.self.store.layout.pages l.fn.hand.number ((known l.fn.hand.seat).number + 1) l._turn (trail_of (known l.hand.seat).trail);
 }

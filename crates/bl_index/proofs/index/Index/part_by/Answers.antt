@@ -1,38 +1,71 @@
-use Rattle.std.proofs.Common.{rules, ◌∙◌, sym, ap, Some, ℕ}
+use Rattle.std.proofs.Common.{rules, ◌≡◌, ◌∙◌, sym, ap, Some, None, ℕ, arith}
 use Rattle.bl_model.specs.declared.operation.Op.TheVariants as op
+use Rattle.bl_index.specs.Searching.{IsListing}
 use Rattle.bl_index.proofs.Calls.{since_step}
 use Rattle.bl_index.proofs.Ends.{op_answered}
 use Rattle.bl_index.proofs.Silent.{gives_up}
-use Rattle.bl_index.proofs.Listings.{lists_on, part_may_give_up, part_done}
+use Rattle.bl_index.proofs.Listings.{lists_on, part_under_way, part_is_search, part_may_give_up, part_done}
+use Rattle.bl_index.proofs.Paces.{at_begin, at_step, at_found, at_end}
 use Rattle.bl_index.proofs.index.Index.part_by.Goals as goal
 
-pub loop-preserved : goal.loop-preserved
-loop-preserved c =
-    let inv = c.loop.invariant in
-    let takes = c.read.ensures.takes in
+pub loop-turn-init : goal.loop-turn-init
+loop-turn-init c =
+    let going : IsListing c.begin.new.process.stage = search rules in
+    let state = c.begin.ensures.process.state in
     record {
       same = search rules;
       running = search rules;
-      process = c.read.ensures.process;
+      process = c.begin.ensures.process;
+      since = c.begin.ensures.begun;
+      from = search rules;
+      going = going;
+      turn = at_begin _ _ _ _ _ _ c.begin.ensures.told (part_is_search _ _ state) (part_under_way _ _ state going);
+    }
+
+pub loop-turn-preserved : goal.loop-turn-preserved
+loop-turn-preserved c =
+    let inv = c.loop-turn.invariant in
+    let takes = c.read.ensures.takes in
+    let process = c.read.ensures.process in
+    let going = lists_on _ _ _ inv.going takes.1 c.in_default.not-Ending in
+    record {
+      same = search rules;
+      running = search rules;
+      process = process;
       since = since_step _ _ _ _ _ inv.since c.read.ensures.moves.1;
       from = takes.1.0 ∙ inv.from;
-      going = lists_on _ _ _ inv.going takes.1 c.in_default.not-Ending;
+      going = going;
+      turn = at_step _ _ _ _ _ inv.since.named inv.since.number inv.turn _ _ process.pages c.read.ensures.got (part_is_search _ _ process.state) (part_under_way _ _ process.state going);
     }
 
 pub returns-in-Ending-clause-answers : goal.returns-in-Ending-clause-answers
 returns-in-Ending-clause-answers c =
-    let inv = c.loop.invariant in
+    let inv = c.loop-turn.invariant in
+    let process = c.read.ensures.process in
     let since = since_step _ _ _ _ _ inv.since c.read.ensures.moves.1 in
-    let done = part_done _ _ _ _ c.read.new.process c.finish.new.process _ since c.read.ensures.process.state c.in-Ending.is c.finish.ensures.told c.finish.ensures.takes in
+    let done = part_done _ _ _ _ c.read.new.process c.finish.new.process _ since process.state c.in-Ending.is c.finish.ensures.told c.finish.ensures.takes in
     record {
-      answered = op_answered _ _ _ _ _ _ _ _ done (ap (λ (k : ℕ). Some (op.Part k)) (c.read.ensures.takes.1.0 ∙ inv.from)) (sym c.answer.ensures ∙ c.answered-reply.ensures);
+      answered = record {
+        answers = op_answered _ _ _ _ _ _ _ _ done (ap (λ (k : ℕ). Some (op.Part k)) (c.read.ensures.takes.1.0 ∙ inv.from)) (sym c.answer.ensures ∙ c.answered-reply.ensures);
+        bounded = at_found _ _ _ _ _ inv.since.named inv.since.number inv.turn _ _ _ _ process.pages since.named since.number c.read.ensures.got (part_is_search _ _ process.state) c.finish.ensures.told;
+      };
       refused = tt;
     }
 
 pub returns-clause-answers : goal.returns-clause-answers
 returns-clause-answers c =
-    let inv = c.loop.invariant in
-    record { answered = tt; refused = gives_up _ _ _ _ inv.since (part_may_give_up c.loop.process _ inv.process.state inv.going) c.give_up.ensures.told }
+    let inv = c.loop-turn.invariant in
+    let end = at_end _ _ _ _ _ inv.since.named inv.since.number inv.turn None _ c.give_up.ensures.told in
+    let all : c.loop-turn._turn ≡ c.args.turns = omega arith in
+    record {
+      answered = tt;
+      refused = record {
+        adds = gives_up _ _ _ _ inv.since (part_may_give_up c.loop-turn.process _ inv.process.state inv.going) c.give_up.ensures.told;
+        bounded = end.0;
+        gets = end.1 ∙ all;
+        below = end.2;
+      };
+    }
 
 pub give_up-requires-clause-may : goal.give_up-requires-clause-may
-give_up-requires-clause-may c = part_may_give_up c.loop.process _ c.loop.invariant.process.state c.loop.invariant.going
+give_up-requires-clause-may c = part_may_give_up c.loop-turn.process _ c.loop-turn.invariant.process.state c.loop-turn.invariant.going

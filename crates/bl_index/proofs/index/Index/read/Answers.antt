@@ -1,9 +1,17 @@
 use Rattle.std.proofs.Common.{◌≡◌, ap, sym, ◌∙◌, subst}
+use Rattle.bl_page.specs.Machine.Act.{Get}
+use Rattle.bl_ways.specs.declared.acts.Action.{Action}
+use Rattle.bl_ways.specs.declared.acts.Action.TheVariants as act
 use Rattle.bl_ways.specs.declared.acts.Seen.TheVariants as seen
 use Rattle.bl_proc.specs.declared.kinds.Proc.{Proc}
 use Rattle.bl_proc.specs.Processes.{next_of}
 use Rattle.bl_courses.specs.Courses.{GoesOn}
 use Rattle.bl_store.specs.Hands.{known}
+use Rattle.bl_store.specs.declared.store.Hand.{Hand}
+use Rattle.bl_tables.specs.Turns.{event_of}
+use Rattle.bl_tables.specs.Knowing.{end_of_proc}
+use Rattle.bl_passes.specs.declared.known.Mine.{Mine}
+use Rattle.bl_passes.specs.Told.{Steps}
 use Rattle.bl_passes.proofs.Pages.{gets_page}
 use Rattle.bl_index.proofs.index.Index.read.Goals as goal
 
@@ -18,3 +26,10 @@ took_words-requires-clause-page g c = let told = c.in-Some.ensures.told in let p
 
 pub returns-clause-takes : goal.returns-clause-takes
 returns-clause-takes g c = let told = c.in-Some.ensures.told in let page = told.3 in (page.0, c.took_words.ensures.takes page.0 (sym told.2.1 ∙ page.1))
+
+pub returns-clause-got : goal.returns-clause-got
+returns-clause-got g c =
+    let page = c.in-Some.ensures.told.3 in
+    let next : next_of (known c.args.hand.now.seat).state ≡ act.Get c.args.page = ap next_of c.requires.process.state ∙ (g.met.P.Kind.acts c.args.process.now ∙ c.requires.next.1) in
+    let steps : Steps (Get c.args.page) (known c.args.hand.now.seat) (known c.glance.new.hand.seat) = subst (λ (a : Action). Steps (event_of (end_of_proc (known c.args.hand.now.seat).state) a (seen.Words page.0)) (known c.args.hand.now.seat) (known c.glance.new.hand.seat)) next page.2.steps in
+    subst (λ (h : Hand Mine). Steps (Get c.args.page) (known c.args.hand.now.seat) (known h.seat)) (sym c.took_words.ensures.same) steps

@@ -1,0 +1,330 @@
+-- What a process holds at its latches, by its kind.
+use Rattle.std.proofs.Common.{ℕ, ◌≡◌, ◌≢◌, ◌⊎◌, ◌<◌, ◌++◌, Option, Some, zero, suc, List, [], ◌∷◌, length, take, slice_get, arith, ap, sym, ◌∙◌, refl, inl, inr, subst}
+use Rattle.bl_model.specs.declared.operation.Reply.{Reply}
+use Rattle.bl_page.specs.declared.page.Page.{Page}
+use Rattle.bl_page.specs.Machine.{Name}
+use Rattle.bl_page.specs.Machine.Act.{Put, Take, Latch, Miss}
+use Rattle.bl_trails.specs.Trails.{Mark, Trail, marks_of}
+use Rattle.bl_trails.proofs.Pushes.{name_cases, marks_of-own, marks_of-other}
+use Rattle.bl_steps.specs.Worlds.{World, Hold, Holds, IsGood, Extends}
+use Rattle.bl_ways.specs.declared.acts.Action.{Action}
+use Rattle.bl_ways.specs.declared.acts.Action.TheVariants as act
+use Rattle.bl_ways.specs.declared.acts.Seen.{Seen}
+use Rattle.bl_ways.specs.declared.acts.Seen.TheVariants as seen
+use Rattle.bl_ways.specs.declared.approaching.Approach.{Approach}
+use Rattle.bl_ways.specs.declared.approaching.Approach.TheVariants as way
+use Rattle.bl_ways.specs.declared.changing.Change.{Change}
+use Rattle.bl_ways.specs.declared.changing.Change.TheVariants as change
+use Rattle.bl_ways.specs.declared.growing.Growth.{Growth}
+use Rattle.bl_ways.specs.declared.growing.Growth.TheVariants as growth
+use Rattle.bl_ways.specs.Approaches.{approach_next}
+use Rattle.bl_ways.specs.Changes.{change_next}
+use Rattle.bl_ways.specs.Growths.{growth_next}
+use Rattle.bl_rearrange.specs.declared.sides.Side.{Side}
+use Rattle.bl_rearrange.specs.declared.sides.Side.TheVariants as side
+use Rattle.bl_compress.specs.declared.compressing.Puts.{Puts}
+use Rattle.bl_compress.specs.declared.compressing.Compression.{Compression}
+use Rattle.bl_compress.specs.declared.compressing.Compression.TheVariants.{LatchingLeft, LatchedLeft, LatchingRight, LatchedRight, PuttingFirst, PuttingParent, PuttingLast, Retiring, OpeningRight, OpeningLeft, OpeningParent}
+use Rattle.bl_compress.specs.declared.squeezing.CompressStage.{CompressStage}
+use Rattle.bl_compress.specs.declared.squeezing.CompressStage.TheVariants as compress
+use Rattle.bl_compress.specs.Compressions.{put_of, other, compression_next}
+use Rattle.bl_compress.specs.Compresses.{compress_next_in}
+use Rattle.bl_proc.specs.declared.searching.FindStage.{FindStage}
+use Rattle.bl_proc.specs.declared.searching.FindStage.TheVariants as find
+use Rattle.bl_proc.specs.declared.parts.PartStage.{PartStage}
+use Rattle.bl_proc.specs.declared.parts.PartStage.TheVariants as part
+use Rattle.bl_proc.specs.declared.inserting.InsertStage.{InsertStage}
+use Rattle.bl_proc.specs.declared.inserting.InsertStage.TheVariants as insert
+use Rattle.bl_proc.specs.declared.deleting.DeleteStage.{DeleteStage}
+use Rattle.bl_proc.specs.declared.deleting.DeleteStage.TheVariants as delete
+use Rattle.bl_proc.specs.declared.posting.PostStage.{PostStage}
+use Rattle.bl_proc.specs.declared.posting.PostStage.TheVariants as post
+use Rattle.bl_proc.specs.declared.kinds.Proc.{Proc}
+use Rattle.bl_proc.specs.declared.kinds.Proc.TheVariants as proc
+use Rattle.bl_proc.specs.Searches.{find_next_in}
+use Rattle.bl_proc.specs.Parts.{part_next_in}
+use Rattle.bl_proc.specs.Inserts.{insert_next_in}
+use Rattle.bl_proc.specs.Deletes.{delete_next_in}
+use Rattle.bl_proc.specs.Posts.{post_next_in}
+use Rattle.bl_proc.specs.Processes.{next_of, Takes}
+use Rattle.bl_tables.specs.Turns.{event_of}
+use Rattle.bl_tables.specs.Tables.{know_approach}
+use Rattle.bl_tables.specs.Compressing.{know_squeeze}
+use Rattle.bl_tables.specs.Knowing.{Run, know_growth, know_insert, know_delete, know_post, know_compress, know_of, bare, end_of_proc}
+use Rattle.bl_steps.proofs.After.{is_put_name}
+use Rattle.bl_tables.proofs.Starting.{with_proc}
+use Rattle.bl_bounds.specs.Latches.{Keeps, LatchesAlone, LatchesBeside, OnlyLooks, IsTidy, AllTidy}
+use Rattle.bl_bounds.proofs.Counts.{take_front}
+use Rattle.bl_bounds.proofs.Held.{AllOwned}
+
+-- A list goes on by one mark
+
+push_cases : (xs : Trail) (m : Mark) (i : ℕ) (n : Mark) → slice_get (xs ++ m ∷ []) i ≡ Some n → (slice_get xs i ≡ Some n × (i < length xs)) ⊎ ((i ≡ length xs) × (m ≡ n))
+push_cases [] m zero n h = inr (refl, (let f = h in cc))
+push_cases [] m (suc i) n h = cc (h)
+push_cases (d ∷ xs) m zero n h = inl (h, omega arith)
+push_cases (d ∷ xs) m (suc i) n h = elim (push_cases xs m i n h) [
+  | inl e ↦ inl (e.0, omega (arith, e.1))
+  | inr e ↦ inr (ap suc e.0, e.1)
+]
+
+take_now : (xs : Trail) (m : Mark) (i : ℕ) → i ≡ length xs → take i (xs ++ m ∷ []) ≡ xs
+take_now xs m i e = ap (λ n. take n (xs ++ m ∷ [])) e ∙ (take_front xs m (length xs) (omega arith) ∙ whole xs)
+  where
+    whole : (ys : Trail) → take (length ys) ys ≡ ys
+    whole [] = refl
+    whole (y ∷ ys) = ap (λ z. y ∷ z) (whole ys)
+
+module _ (marks : Trail) (m : Mark) where
+  alone_on : LatchesAlone marks → ((x y : ℕ) → m.event.act ≡ Latch x → Keeps marks y → ⊥) → LatchesAlone (marks ++ m ∷ [])
+  alone_on h now i n x y is does keeps = elim (push_cases marks m i n is) [
+    | inl e ↦ h i n x y e.0 does (subst (λ t. Keeps t y) (take_front marks m i (omega (arith, e.1))) keeps)
+    | inr e ↦ now x y (ap (λ (v : Mark). v.event.act) e.1 ∙ does) (subst (λ t. Keeps t y) (take_now marks m i e.0) keeps)
+  ]
+
+  beside_on : LatchesBeside marks → ((x : ℕ) → m.event.act ≡ Latch x → (a : ℕ) × (b : ℕ) × ((y : ℕ) → Keeps marks y → (y ≡ a) ⊎ (y ≡ b))) → LatchesBeside (marks ++ m ∷ [])
+  beside_on h now i n x is does = elim (push_cases marks m i n is) [
+    | inl e ↦ (let r = h i n x e.0 does in (r.0, r.1, λ y keeps. r.2 y (subst (λ t. Keeps t y) (take_front marks m i (omega (arith, e.1))) keeps)))
+    | inr e ↦ (let r = now x (ap (λ (v : Mark). v.event.act) e.1 ∙ does) in (r.0, r.1, λ y keeps. r.2 y (subst (λ t. Keeps t y) (take_now marks m i e.0) keeps)))
+  ]
+
+  looks_on : OnlyLooks marks → ((x : ℕ) → (m.event.act ≢ Latch x) × (m.event.act ≢ Take x) × ((c : Page) → m.event.act ≢ Put x c)) → OnlyLooks (marks ++ m ∷ [])
+  looks_on h now i n x is = elim (push_cases marks m i n is) [
+    | inl e ↦ h i n x e.0
+    | inr e ↦ (let r = now x in let same = ap (λ (v : Mark). v.event.act) e.1 in (λ f. r.0 (same ∙ f), λ f. r.1 (same ∙ f), λ c f. r.2 c (same ∙ f)))
+  ]
+
+-- An event latches where the action does
+
+latch_next : (reply : Option Reply) (a : Action) (what : Seen) (x : ℕ) → event_of reply a what ≡ Latch x → a ≡ act.Latch x
+latch_next reply act.Begin seen.Done x e = absurd (let f = e in cc)
+latch_next reply act.End seen.Done x e = absurd (let f = e in cc)
+latch_next reply (act.Get y) (seen.Words c') x e = absurd (let f = e in cc)
+latch_next reply (act.Put y d) seen.Done x e = absurd (let f = e in cc)
+latch_next reply (act.Latch y) seen.Done x e = ap act.Latch (let f = e in cc)
+latch_next reply act.Take (seen.Took y) x e = absurd (let f = e in cc)
+latch_next reply (act.Open y) seen.Done x e = absurd (let f = e in cc)
+latch_next reply (act.Retire y) seen.Done x e = absurd (let f = e in cc)
+latch_next reply (act.Look y) (seen.Blocks it) x e = absurd (let f = e in cc)
+latch_next reply (act.See y) (seen.Owner retired started own) x e = absurd (let f = e in cc)
+latch_next reply (act.Release y) seen.Done x e = absurd (let f = e in cc)
+latch_next reply a what x e = absurd (let f = e in cc)
+
+take_next : (reply : Option Reply) (a : Action) (what : Seen) (x : ℕ) → event_of reply a what ≡ Take x → a ≡ act.Take
+take_next reply act.Begin seen.Done x e = absurd (let f = e in cc)
+take_next reply act.End seen.Done x e = absurd (let f = e in cc)
+take_next reply (act.Get y) (seen.Words c') x e = absurd (let f = e in cc)
+take_next reply (act.Put y d) seen.Done x e = absurd (let f = e in cc)
+take_next reply (act.Latch y) seen.Done x e = absurd (let f = e in cc)
+take_next reply act.Take (seen.Took y) x e = refl
+take_next reply (act.Open y) seen.Done x e = absurd (let f = e in cc)
+take_next reply (act.Retire y) seen.Done x e = absurd (let f = e in cc)
+take_next reply (act.Look y) (seen.Blocks it) x e = absurd (let f = e in cc)
+take_next reply (act.See y) (seen.Owner retired started own) x e = absurd (let f = e in cc)
+take_next reply (act.Release y) seen.Done x e = absurd (let f = e in cc)
+take_next reply a what x e = absurd (let f = e in cc)
+
+put_next : (reply : Option Reply) (a : Action) (what : Seen) (x : ℕ) (c : Page) → event_of reply a what ≡ Put x c → a ≡ act.Put x c
+put_next reply act.Begin seen.Done x c e = absurd (let f = e in cc)
+put_next reply act.End seen.Done x c e = absurd (let f = e in cc)
+put_next reply (act.Get y) (seen.Words c') x c e = absurd (let f = e in cc)
+put_next reply (act.Put y d) seen.Done x c e = (let f : y ≡ x = (let g = e in cc) in let h : d ≡ c = (let g = e in cc) in λ i. act.Put (f i) (h i))
+put_next reply (act.Latch y) seen.Done x c e = absurd (let f = e in cc)
+put_next reply act.Take (seen.Took y) x c e = absurd (let f = e in cc)
+put_next reply (act.Open y) seen.Done x c e = absurd (let f = e in cc)
+put_next reply (act.Retire y) seen.Done x c e = absurd (let f = e in cc)
+put_next reply (act.Look y) (seen.Blocks it) x c e = absurd (let f = e in cc)
+put_next reply (act.See y) (seen.Owner retired started own) x c e = absurd (let f = e in cc)
+put_next reply (act.Release y) seen.Done x c e = absurd (let f = e in cc)
+put_next reply a what x c e = absurd (let f = e in cc)
+
+-- What it holds then
+
+approach_alone : (level key : ℕ) (a : Approach) (x : ℕ) → approach_next a ≡ act.Latch x → (know_approach level key a).holds ≡ []
+approach_alone level key way.Start x e = cc (e)
+approach_alone level key (way.At y) x e = cc (e)
+approach_alone level key (way.Latching y) x e = refl
+approach_alone level key (way.Latched y) x e = absurd (cc e)
+approach_alone level key (way.Leaving y to) x e = absurd (cc e)
+
+change_never : (c : Change) (x : ℕ) → change_next c ≢ act.Latch x
+change_never (change.Putting y page) x e = cc
+change_never (change.Taking full) x e = cc
+change_never (change.PuttingNew p) x e = cc
+change_never (change.PuttingOld p) x e = cc
+change_never (change.OpeningNew y new separator) x e = cc
+change_never (change.Opening y what) x e = cc
+
+growth_alone : (level key : ℕ) (got : ℕ → Page) (g : Growth) (x : ℕ) → growth_next g ≡ act.Latch x → (know_growth level key got g).holds ≡ []
+growth_alone level key got growth.Latching x e = refl
+growth_alone level key got growth.Latched x e = absurd (cc e)
+growth_alone level key got (growth.Taking rise) x e = absurd (cc e)
+growth_alone level key got (growth.PuttingTop r) x e = absurd (cc e)
+growth_alone level key got (growth.PuttingAnchor r) x e = absurd (cc e)
+growth_alone level key got (growth.OpeningTop y) x e = absurd (cc e)
+growth_alone level key got growth.OpeningGrown x e = absurd (cc e)
+growth_alone level key got growth.OpeningRefused x e = absurd (cc e)
+
+insert_alone : (key value : ℕ) (got : ℕ → Page) (a : InsertStage) (x : ℕ) → insert_next_in a ≡ act.Latch x → (know_insert key value got a).holds ≡ []
+insert_alone key value got insert.New x e = refl
+insert_alone key value got (insert.Coming a) x e = approach_alone 0 key a x e
+insert_alone key value got (insert.Present y v) x e = absurd (cc e)
+insert_alone key value got (insert.Changing c) x e = absurd (change_never c x e)
+insert_alone key value got (insert.Ending r) x e = refl
+insert_alone key value got (insert.Over r) x e = refl
+
+delete_alone : (key : ℕ) (got : ℕ → Page) (a : DeleteStage) (x : ℕ) → delete_next_in a ≡ act.Latch x → (know_delete key got a).holds ≡ []
+delete_alone key got delete.New x e = refl
+delete_alone key got (delete.Coming a) x e = approach_alone 0 key a x e
+delete_alone key got (delete.Absent y) x e = absurd (cc e)
+delete_alone key got (delete.Changing v c) x e = absurd (change_never c x e)
+delete_alone key got (delete.Ending r) x e = refl
+delete_alone key got (delete.Over r) x e = refl
+
+post_alone : (level key : ℕ) (got : ℕ → Page) (child : ℕ) (a : PostStage) (x : ℕ) → post_next_in a ≡ act.Latch x → (know_post level key got child a).holds ≡ []
+post_alone level key got child post.New x e = refl
+post_alone level key got child (post.Coming a) x e = approach_alone level key a x e
+post_alone level key got child (post.Growing g) x e = growth_alone level key got g x e
+post_alone level key got child (post.Walking w) x e = absurd (cc e)
+post_alone level key got child (post.Changing c) x e = absurd (change_never c x e)
+post_alone level key got child (post.Staying y r) x e = absurd (cc e)
+post_alone level key got child (post.Ending r) x e = refl
+post_alone level key got child (post.Over r) x e = refl
+
+-- these two pages at most
+abbrev AreTwo : List Hold → Type 0
+AreTwo holds = (a : ℕ) × (b : ℕ) × ((y : ℕ) → Holds holds y → (y ≡ a) ⊎ (y ≡ b))
+
+put_never : (sd : Side) (p : Puts) (x : ℕ) → put_of sd p ≢ act.Latch x
+put_never side.Left p x e = cc
+put_never side.Right p x e = cc
+
+squeeze_two : (level key : ℕ) (got : ℕ → Page) (c : Compression) (x : ℕ) → compression_next c ≡ act.Latch x → AreTwo (know_squeeze level key got c).holds
+squeeze_two level key got (LatchingLeft f) x e = (f.at.parent, f.at.parent, λ y h. elim h [ inl i ↦ inl (sym i) | inr n ↦ absurd n ])
+squeeze_two level key got (LatchedLeft f) x e = absurd (cc e)
+squeeze_two level key got (LatchingRight f c) x e = (f.at.parent, f.at.left, λ y h. elim h [ inl i ↦ inl (sym i) | inr n ↦ elim n [ inl j ↦ inr (sym j) | inr o ↦ absurd o ] ])
+squeeze_two level key got (LatchedRight f c) x e = absurd (cc e)
+squeeze_two level key got (PuttingFirst p) x e = absurd (put_never p.gains p x e)
+squeeze_two level key got (PuttingParent p) x e = absurd (cc e)
+squeeze_two level key got (PuttingLast p) x e = absurd (put_never (other p.gains) p x e)
+squeeze_two level key got (Retiring t f) x e = absurd (cc e)
+squeeze_two level key got (OpeningRight t f) x e = absurd (cc e)
+squeeze_two level key got (OpeningLeft t f) x e = absurd (cc e)
+squeeze_two level key got (OpeningParent y f) x e = absurd (cc e)
+
+no_two : (holds : List Hold) → holds ≡ [] → AreTwo holds
+no_two holds e = (0, 0, λ y h. absurd (subst (λ hs. Holds hs y) e h))
+
+compress_two : (level key : ℕ) (got : ℕ → Page) (a : CompressStage) (x : ℕ) → compress_next_in a ≡ act.Latch x → AreTwo (know_compress level key got a).holds
+compress_two level key got compress.New x e = absurd (cc e)
+compress_two level key got (compress.Coming a) x e = no_two (know_approach level key a).holds (approach_alone level key a x e)
+compress_two level key got (compress.Compressing c) x e = squeeze_two level key got c x e
+compress_two level key got (compress.Staying y) x e = absurd (cc e)
+compress_two level key got (compress.Ending r) x e = absurd (cc e)
+compress_two level key got (compress.Over r) x e = absurd (cc e)
+
+find_looks : (a : FindStage) → ((x : ℕ) → find_next_in a ≢ act.Latch x) × (find_next_in a ≢ act.Take) × ((x : ℕ) (c : Page) → find_next_in a ≢ act.Put x c)
+find_looks find.New = (λ x e. cc, λ e. cc, λ x c e. cc)
+find_looks find.AtAnchor = (λ x e. cc, λ e. cc, λ x c e. cc)
+find_looks (find.At y) = (λ x e. cc, λ e. cc, λ x c e. cc)
+find_looks (find.Ending v) = (λ x e. cc, λ e. cc, λ x c e. cc)
+find_looks (find.Over v) = (λ x e. cc, λ e. cc, λ x c e. cc)
+
+part_looks : (a : PartStage) → ((x : ℕ) → part_next_in a ≢ act.Latch x) × (part_next_in a ≢ act.Take) × ((x : ℕ) (c : Page) → part_next_in a ≢ act.Put x c)
+part_looks part.New = (λ x e. cc, λ e. cc, λ x c e. cc)
+part_looks part.AtAnchor = (λ x e. cc, λ e. cc, λ x c e. cc)
+part_looks (part.At y) = (λ x e. cc, λ e. cc, λ x c e. cc)
+part_looks (part.Ending r) = (λ x e. cc, λ e. cc, λ x c e. cc)
+part_looks (part.Over r) = (λ x e. cc, λ e. cc, λ x c e. cc)
+
+-- One turn
+
+-- what the process holds is what it knows to hold
+module _ (w : World Run) (p : Name) (g : IsGood bare w) (owned : AllOwned w) where
+  none_kept : (got : ℕ → Page) (child time : ℕ) (a : Proc) → bare (w.proc p) ≡ know_of got child time a → (know_of got child time a).holds ≡ [] → (y : ℕ) → Keeps (marks_of p w.trail) y → ⊥
+  none_kept got child time a is none y keeps = subst (λ hs. Holds hs y) (ap (λ k. k.holds) is ∙ none) (g.owned.held y p (owned p y keeps))
+
+  two_kept : AreTwo (bare (w.proc p)).holds → (a : ℕ) × (b : ℕ) × ((y : ℕ) → Keeps (marks_of p w.trail) y → (y ≡ a) ⊎ (y ≡ b))
+  two_kept two = (two.0, two.1, λ y keeps. two.2 y (g.owned.held y p (owned p y keeps)))
+
+  alone_turn : (m : Mark) → LatchesAlone (marks_of p w.trail) → ((x : ℕ) → m.event.act ≡ Latch x → (bare (w.proc p)).holds ≡ []) → LatchesAlone (marks_of p w.trail ++ m ∷ [])
+  alone_turn m h none = alone_on (marks_of p w.trail) m h (λ x y e keeps. subst (λ hs. Holds hs y) (none x e) (g.owned.held y p (owned p y keeps)))
+
+  beside_turn : (m : Mark) → LatchesBeside (marks_of p w.trail) → ((x : ℕ) → m.event.act ≡ Latch x → AreTwo (bare (w.proc p)).holds) → LatchesBeside (marks_of p w.trail ++ m ∷ [])
+  beside_turn m h two = beside_on (marks_of p w.trail) m h (λ x e. two_kept (two x e))
+
+  looks_turn : (m : Mark) → OnlyLooks (marks_of p w.trail) → ((x : ℕ) → (m.event.act ≢ Latch x) × (m.event.act ≢ Take x) × ((c : Page) → m.event.act ≢ Put x c)) → OnlyLooks (marks_of p w.trail ++ m ∷ [])
+  looks_turn m h none = looks_on (marks_of p w.trail) m h none
+
+  -- of a process of that state, which is told something of its next action
+  state_turn : (m : Mark) (got : ℕ → Page) (child time : ℕ) (old new : Proc) (what : Seen) → bare (w.proc p) ≡ know_of got child time old → Takes old what new → m.event.act ≡ event_of (end_of_proc old) (next_of old) what → IsTidy old (marks_of p w.trail) → IsTidy new (marks_of p w.trail ++ m ∷ [])
+  state_turn m got child time (proc.Find a) (proc.Find c) what is t e h = looks_turn m h (λ x. (let l = find_looks a.stage in (λ f. l.0 x (latch_next _ _ what x (sym e ∙ f)), λ f. l.1 (take_next _ _ what x (sym e ∙ f)), λ d f. l.2 x d (put_next _ _ what x d (sym e ∙ f)))))
+  state_turn m got child time (proc.Part a) (proc.Part c) what is t e h = looks_turn m h (λ x. (let l = part_looks a.stage in (λ f. l.0 x (latch_next _ _ what x (sym e ∙ f)), λ f. l.1 (take_next _ _ what x (sym e ∙ f)), λ d f. l.2 x d (put_next _ _ what x d (sym e ∙ f)))))
+  state_turn m got child time (proc.Insert a) (proc.Insert c) what is t e h = alone_turn m h (λ x f. ap (λ k. k.holds) is ∙ insert_alone a.key a.value got a.stage x (latch_next _ _ what x (sym e ∙ f)))
+  state_turn m got child time (proc.Delete a) (proc.Delete c) what is t e h = alone_turn m h (λ x f. ap (λ k. k.holds) is ∙ delete_alone a.key got a.stage x (latch_next _ _ what x (sym e ∙ f)))
+  state_turn m got child time (proc.Post a) (proc.Post c) what is t e h = alone_turn m h (λ x f. ap (λ k. k.holds) is ∙ post_alone a.level a.key got child a.stage x (latch_next _ _ what x (sym e ∙ f)))
+  state_turn m got child time (proc.Compress a) (proc.Compress c) what is t e h = beside_turn m h (λ x f. subst AreTwo (sym (ap (λ k. k.holds) is)) (compress_two a.level a.key got a.stage x (latch_next _ _ what x (sym e ∙ f))))
+  state_turn m got child time (proc.Reclaim a) (proc.Reclaim c) what is t e h = tt
+  state_turn m got child time old new what is t e h = absurd t
+
+  -- a miss of any process
+  still_turn : (m : Mark) (a : Proc) → m.event.act ≡ Miss → IsTidy a (marks_of p w.trail) → IsTidy a (marks_of p w.trail ++ m ∷ [])
+  still_turn m (proc.Find a) e h = looks_turn m h (λ x. (λ f. (let v = sym e ∙ f in cc), λ f. (let v = sym e ∙ f in cc), λ c f. (let v = sym e ∙ f in cc)))
+  still_turn m (proc.Part a) e h = looks_turn m h (λ x. (λ f. (let v = sym e ∙ f in cc), λ f. (let v = sym e ∙ f in cc), λ c f. (let v = sym e ∙ f in cc)))
+  still_turn m (proc.Insert a) e h = alone_turn m h (λ x f. absurd (let v = sym e ∙ f in cc))
+  still_turn m (proc.Delete a) e h = alone_turn m h (λ x f. absurd (let v = sym e ∙ f in cc))
+  still_turn m (proc.Post a) e h = alone_turn m h (λ x f. absurd (let v = sym e ∙ f in cc))
+  still_turn m (proc.Compress a) e h = beside_turn m h (λ x f. absurd (let v = sym e ∙ f in cc))
+  still_turn m (proc.Reclaim a) e h = tt
+
+-- what the others have done stays
+tidy_on : (w w' : World Run) (m : Mark) (b : Run) → Extends w w' m b → ((p : Name) → p ≡ m.event.process → IsTidy b.state (marks_of p w.trail ++ m ∷ [])) → AllTidy w → AllTidy w'
+tidy_on w w' m b e own all p = elim (name_cases m.event.process p) [
+  | inl i ↦
+      let marks : marks_of p w'.trail ≡ marks_of p w.trail ++ m ∷ [] = ap (marks_of p) e.trail ∙ marks_of-own p w.trail m i in
+      let proc : w'.proc p ≡ b = ap w'.proc (sym i) ∙ e.proc.at in
+      subst (λ (r : Run). IsTidy r.state (marks_of p w'.trail)) (sym proc) (subst (IsTidy b.state) (sym marks) (own p (sym i)))
+  | inr n ↦
+      let marks : marks_of p w'.trail ≡ marks_of p w.trail = ap (marks_of p) e.trail ∙ marks_of-other p w.trail m n in
+      let proc : w'.proc p ≡ w.proc p = e.proc.others p (λ i. n (sym i)) in
+      subst (λ (r : Run). IsTidy r.state (marks_of p w'.trail)) (sym proc) (subst (IsTidy (w.proc p).state) (sym marks) (all p))
+]
+
+-- A turn of a process that is told something of its next action.
+pub tidy_turn : (w w' : World Run) (m : Mark) (b : Run) (what : Seen) → Extends w w' m b → IsGood bare w → AllOwned w → Takes (w.proc m.event.process).state what b.state → m.event.act ≡ event_of (end_of_proc (w.proc m.event.process).state) (next_of (w.proc m.event.process).state) what → AllTidy w → AllTidy w'
+tidy_turn w w' m b what e g owned t does all =
+    let r = w.proc m.event.process in
+    tidy_on w w' m b e (λ p i. subst (λ q. IsTidy b.state (marks_of q w.trail ++ m ∷ [])) (sym i) (state_turn w m.event.process g owned m r.got r.child r.time r.state b.state what refl t does (all m.event.process))) all
+
+-- A miss that changes nothing.
+pub tidy_miss : (w w' : World Run) (m : Mark) → Extends w w' m (w.proc m.event.process) → IsGood bare w → AllOwned w → m.event.act ≡ Miss → AllTidy w → AllTidy w'
+tidy_miss w w' m e g owned does all = tidy_on w w' m (w.proc m.event.process) e (λ p i. subst (λ q. IsTidy (w.proc m.event.process).state (marks_of q w.trail ++ m ∷ [])) (sym i) (still_turn w m.event.process g owned m (w.proc m.event.process).state does (all m.event.process))) all
+
+-- A process that has done nothing yet
+
+none_at : (i : ℕ) (m : Mark) → slice_get {X = Mark} [] i ≡ Some m → ⊥
+none_at i m e = absurd (cc e)
+
+nothing_done : (a : Proc) (marks : Trail) → marks ≡ [] → IsTidy a marks
+nothing_done (proc.Find a) marks e = λ i m x is. absurd (none_at i m (sym (ap (λ (t : Trail). slice_get t i) e) ∙ is))
+nothing_done (proc.Part a) marks e = λ i m x is. absurd (none_at i m (sym (ap (λ (t : Trail). slice_get t i) e) ∙ is))
+nothing_done (proc.Insert a) marks e = λ i m x y is does keeps. none_at i m (sym (ap (λ (t : Trail). slice_get t i) e) ∙ is)
+nothing_done (proc.Delete a) marks e = λ i m x y is does keeps. none_at i m (sym (ap (λ (t : Trail). slice_get t i) e) ∙ is)
+nothing_done (proc.Post a) marks e = λ i m x y is does keeps. none_at i m (sym (ap (λ (t : Trail). slice_get t i) e) ∙ is)
+nothing_done (proc.Compress a) marks e = λ i m x is does. absurd (none_at i m (sym (ap (λ (t : Trail). slice_get t i) e) ∙ is))
+nothing_done (proc.Reclaim a) marks e = tt
+
+-- enters a world
+pub tidy_enter : (w : World Run) (p : Name) (b : Run) → marks_of p w.trail ≡ [] → AllTidy w → AllTidy (with_proc w p b)
+tidy_enter w p b none all q = elim (name_cases q p) [
+  | inl i ↦ subst (λ (r : Run). IsTidy r.state (marks_of q w.trail)) (sym (ap (with_proc w p b).proc i ∙ (is_put_name p b w.proc).at)) (nothing_done b.state (marks_of q w.trail) (ap (λ n. marks_of n w.trail) i ∙ none))
+  | inr n ↦ subst (λ (r : Run). IsTidy r.state (marks_of q w.trail)) (sym ((is_put_name p b w.proc).others q n)) (all q)
+]
+
+-- A world in which nothing has happened.
+pub tidy_first : (w : World Run) → w.trail ≡ [] → AllTidy w
+tidy_first w e p = nothing_done (w.proc p).state (marks_of p w.trail) (ap (marks_of p) e)
+
+-- Who only looks latches alone: a search that gives up is a post that is over.
+pub looks_alone : (marks : Trail) → OnlyLooks marks → LatchesAlone marks
+looks_alone marks h i m x y is does keeps = (h i m x is).0 does

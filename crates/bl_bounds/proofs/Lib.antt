@@ -1,0 +1,10 @@
+pub mod Counts
+pub mod Ahead
+pub mod Reach
+pub mod Spending
+pub mod Keeping
+pub mod Bounded
+pub mod Turns
+pub mod Others
+pub mod Held
+pub mod Latching
