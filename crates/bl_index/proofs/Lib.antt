@@ -13,3 +13,4 @@ pub mod Quiet
 pub mod Posted
 pub mod Pressed
 pub mod Paces
+pub mod Learning

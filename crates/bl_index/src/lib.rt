@@ -16,6 +16,7 @@ mod finding;
 mod index;
 mod kinds;
 mod listing;
+mod meeting;
 mod opening;
 mod posting;
 mod running;

@@ -1,0 +1,150 @@
+-- A pass that knows more of what has happened: this keeps the rule.
+use Rattle.std.proofs.Common.{ℕ, Bool, ◌≡◌, ◌≢◌, ◌⊎◌, ◌+◌, ◌<◌, ◌≤◌, ◌++◌, Option, List, [], ◌∷◌, length, set, refl, sym, ap, ◌∙◌, subst, ⊎_elim, inl, inr, arith, append-nil, append_assoc}
+use Rattle.std.proofs.lemmas.Bool.{cases_eq}
+use Rattle.std.proofs.lemmas.List.{append_cancel_left}
+use mathlib.Core.Option.{some}
+use lib.ListN.{get_elem?}
+use Rattle.std.proofs.Math.ListN.{length-set}
+use Rattle.atomic_table.proofs.Lists.{at_set, set_else}
+use Rattle.bl_model.specs.declared.operation.Entry.{Entry}
+use Rattle.bl_page.specs.Machine.{Name}
+use Rattle.bl_page.specs.Machine as machine
+use Rattle.bl_trails.specs.Trails.{Mark, Trail, marks_of}
+use Rattle.bl_steps.specs.Worlds.{World, Each}
+use Rattle.bl_steps.proofs.Frames.{Each-map}
+use Rattle.bl_proc.specs.declared.kinds.Proc.{Proc}
+use Rattle.bl_tables.specs.Knowing.{Run, bare as know}
+use Rattle.bl_tables.specs.Logs.{proc_log}
+use Rattle.bl_tables.proofs.Middles.{KeepsLogs}
+use Rattle.bl_layout.specs.declared.layout.Layout.{Layout}
+use Rattle.bl_store.specs.Pages.{Owner, Stage, Idle, Running, Pages, Stands, told, Meets}
+use Rattle.bl_passes.specs.declared.known.Mine.{Mine}
+use Rattle.bl_passes.specs.Noting.{trail_of, all_noted}
+use Rattle.bl_passes.specs.Seeing.{IsSeen, AreWithin, own, GoesOnFrom}
+use Rattle.bl_passes.specs.Fitting.{name, owner_in, AreElse, AreUpTo, IsAtStage, IsHand, IsRun, Fits}
+use Rattle.bl_passes.proofs.Notings.{trail_back}
+use Rattle.bl_passes.proofs.Entries.{own-other}
+use Rattle.bl_passes.proofs.Marks.{each_append}
+use Rattle.bl_passes.proofs.Sights.{world_seen}
+use Rattle.bl_passes.proofs.Shown.{same_owner, set_there}
+use Rattle.bl_passes.proofs.Runners.{one_hand}
+use Rattle.bl_index.specs.Meetings.{Learns, Hears, Learned, learned, Heard, heard}
+
+-- ---- events of other passes
+
+pub own_else : (pass : ℕ) (trail rest : Trail) → AreElse pass rest → own pass (trail ++ rest) ≡ own pass trail
+own_else pass trail [] none = ap (own pass) (append-nil trail)
+own_else pass trail (m ∷ rest) none = ap (own pass) (sym (append_assoc trail (m ∷ []) rest)) ∙ (own_else pass (trail ++ m ∷ []) rest none.1 ∙ own-other pass trail m none.0)
+
+each_parts : {A : Type 0} (P : A → Type 0) (xs ys : List A) → Each P (xs ++ ys) → Each P xs × Each P ys
+each_parts P [] ys h = (tt, h)
+each_parts P (x ∷ xs) ys h = let r = each_parts P xs ys h.1 in ((h.0, r.0), r.1)
+
+up_to_more : (pass number : ℕ) (old rest : Trail) → AreUpTo pass number old → AreElse pass rest → AreUpTo pass number (old ++ rest)
+up_to_more pass number old rest up other = each_append _ old rest up (Each-map _ _ rest (λ (k : Mark) (h : k.event.process.pass ≢ pass) (e : k.event.process.pass ≡ pass). absurd (h e)) other)
+
+fits_logs : (s : Pages Mine) (f : Fits s) → KeepsLogs f.world
+fits_logs s f p since runs =
+    let r = f.busy p since runs in
+    let d : Mine = r.0 in
+    let at = (f.hands p.pass (Running since) d r.1).stage in
+    let is : p ≡ name p.pass d.number = λ i. name p.pass (r.2 i) in
+    let log : proc_log (f.world.proc (name p.pass d.number)).state (marks_of (name p.pass d.number) f.world.trail) = subst (λ (z : Proc). proc_log z (marks_of (name p.pass d.number) f.world.trail)) (sym at.3) at.5 in
+    subst (λ (z : Name). proc_log (f.world.proc z).state (marks_of z f.world.trail)) (sym is) log
+
+-- ---- one hand knows more
+
+module _ (s : Pages Mine) (f : Fits s) (n : ℕ) (st : Stage) (d : Mine) (at : Stands s n st d) (d' : Mine) (number : d'.number ≡ d.number) (passes : d'.passes ≡ d.passes) (hand : IsHand f.world n st d') where
+  abbrev after : List (Stage × Mine)
+  after = set s.hands n (st, d')
+
+  runs_in : (p : Name) (since : ℕ) → IsRun s.hands p since → IsRun after p since
+  runs_in p since r = elim (cases_eq p.pass n) [
+    | inl e ↦
+        let one : ◌≡◌ {A = Stage × Mine} (st, d) (Running since, r.0) = one_hand s.hands n (st, d) (Running since, r.0) at (ap (get_elem? s.hands) (sym e) ∙ r.1) in
+        let here : get_elem? after n ≡ some (st, d') = set_there s.hands n (st, d) (st, d') at in (
+          d',
+          ap (get_elem? after) e ∙ (here ∙ ap (λ (z : Stage × Mine). some (z.0, d')) one),
+          r.2 ∙ (ap (λ (z : Stage × Mine). z.1.number) (sym one) ∙ sym number),
+        )
+    | inr ne ↦ (r.0, set_else s.hands n p.pass (st, d') ne ∙ r.1, r.2)
+  ]
+
+  pub knows_more : Fits (told s n st d')
+  knows_more = record {
+    world = f.world;
+    good = f.good;
+    opening = f.opening;
+    first = f.first;
+    size = f.size;
+    clock = f.clock;
+    pages = f.pages;
+    owners = λ x o e. f.owners x o e ∙ sym (same_owner s.hands n (st, d) (st, d') o at number);
+    hands = λ k sg g at_k. ⊎_elim
+        (λ (z : (k ≡ n) × ((st, d') ≡ (sg, g))). subst (λ (u : ℕ × (Stage × Mine)). IsHand f.world u.0 u.1.0 u.1.1) (λ i. (sym z.0 i, z.1 i)) hand)
+        (λ (z : (k ≢ n) × (get_elem? s.hands k ≡ some (sg, g))). f.hands k sg g z.1)
+        (at_set s.hands n k (st, d') (sg, g) at_k);
+    within = subst (λ (z : ℕ). AreWithin z f.world.trail) (sym (length-set s.hands n (st, d'))) f.within;
+    counts = λ k sg g at_k begun. ⊎_elim
+        (λ (z : (k ≡ n) × ((st, d') ≡ (sg, g))). let same : d' ≡ g = ap (λ (u : Stage × Mine). u.1) z.1 in
+            ap (λ (u : Mine). u.passes) (sym same) ∙ (passes ∙ (f.counts n st d at (λ none. begun (ap (λ (u : Mine). u.number) (sym same) ∙ (number ∙ none))) ∙ sym (length-set s.hands n (st, d')))))
+        (λ (z : (k ≢ n) × (get_elem? s.hands k ≡ some (sg, g))). f.counts k sg g z.1 begun ∙ sym (length-set s.hands n (st, d')))
+        (at_set s.hands n k (st, d') (sg, g) at_k);
+    busy = λ p since runs. runs_in p since (f.busy p since runs);
+  }
+
+-- a hand that knows the trail up to a place behind which no event is of its pass
+module _ (w : World Run) (n : ℕ) (d : Mine) (trail : List _) (more : Trail) (is : trail_of trail ≡ trail_of d.trail ++ more) (rest : Trail) (all : w.trail ≡ trail_of trail ++ rest) (other : AreElse n more) (behind : AreElse n rest) where
+  stage_same : (st : Stage) → IsAtStage w n st d → IsAtStage w n st (record d { trail = trail })
+  stage_same Idle h = h
+  stage_same (Running since) h = h
+
+  pub hand_more : (st : Stage) → IsHand w n st d → IsHand w n st (record d { trail = trail })
+  hand_more st h = record {
+    named = h.named;
+    stage = stage_same st h.stage;
+    later = h.later;
+    begins = (rest, all, behind);
+    counted = subst (AreUpTo n d.number) (sym is) (up_to_more n d.number (trail_of d.trail) more h.counted other);
+    mine = ap (own n) all ∙ own_else n (trail_of trail) rest behind;
+  }
+
+-- ---- it learns all that has happened
+
+pub learns_all : (l : Layout) (n m : ℕ) (d e : Mine) → Meets Fits l n d m e (learned n m l.passes)
+learns_all l n m d e s st f o at at_m ne =
+    let w = f.world in let h = f.hands n st d at in let k = f.hands m Idle e at_m in let whole : trail_of (all_noted w.trail) ≡ w.trail = trail_back w.trail in
+    let mine : trail_of (all_noted w.trail) ≡ trail_of d.trail ++ h.begins.0 = whole ∙ h.begins.1 in
+    let theirs : trail_of (all_noted w.trail) ≡ trail_of e.trail ++ k.begins.0 = whole ∙ k.begins.1 in
+    let d' : Mine = record d { trail = all_noted w.trail } in (
+      d',
+      knows_more s f n st d at d' refl refl (hand_more w n d (all_noted w.trail) h.begins.0 mine [] (sym (append-nil (trail_of (all_noted w.trail)) ∙ whole)) h.begins.2 tt st h),
+      record {
+        learns = record {
+          begins = (h.begins.0, mine);
+          begins_theirs = (k.begins.0, theirs);
+          none = ap (own n) whole ∙ h.mine;
+          none_theirs = ap (own m) whole ∙ k.mine;
+        };
+        seen = subst IsSeen (sym whole) (world_seen w f.good (fits_logs s f) f.opening f.first);
+        within = subst (λ (z : ℕ). AreWithin z (trail_of (all_noted w.trail))) o.hands (subst (AreWithin (length s.hands)) (sym whole) f.within);
+        runs = refl;
+      },
+    )
+
+-- ---- it is told what another knows
+
+pub hears_all : (l : Layout) (n m : ℕ) (d e : Mine) → GoesOnFrom (trail_of d.trail) (trail_of e.trail) → Meets Fits l n d m e (heard n)
+hears_all l n m d e on s st f o at at_m ne =
+    let w = f.world in let h = f.hands n st d at in let k = f.hands m Idle e at_m in let more : Trail = on.0 in
+    let rest : h.begins.0 ≡ more ++ k.begins.0 = append_cancel_left (trail_of d.trail) h.begins.0 (more ++ k.begins.0)
+        (sym h.begins.1 ∙ (k.begins.1 ∙ (ap (λ (z : Trail). z ++ k.begins.0) on.1 ∙ append_assoc (trail_of d.trail) more k.begins.0))) in
+    let parts = each_parts _ more k.begins.0 (subst (AreElse n) rest h.begins.2) in
+    let d' : Mine = record d { trail = e.trail } in (
+      d',
+      knows_more s f n st d at d' refl refl (hand_more w n d e.trail more on.1 k.begins.0 k.begins.1 parts.0 parts.1 st h),
+      record {
+        hears = record { is = refl; none = ap (own n) on.1 ∙ own_else n (trail_of d.trail) more parts.0 };
+        runs = refl;
+      },
+    )

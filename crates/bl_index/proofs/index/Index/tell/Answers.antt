@@ -1,0 +1,29 @@
+use Rattle.std.proofs.Common.{sym, ap, subst, ◌∙◌}
+use Rattle.bl_layout.specs.declared.layout.Layout.{Layout}
+use Rattle.bl_trails.specs.Trails.{Trail}
+use Rattle.bl_store.specs.Hands.{known}
+use Rattle.bl_passes.specs.declared.known.Mine.{Mine}
+use Rattle.bl_passes.specs.Noting.{trail_of}
+use Rattle.bl_passes.specs.Seeing.{IsSeen, AreWithin}
+use Rattle.bl_index.proofs.index.Index.tell.Goals as goal
+
+pub invariant_of-pass : goal.invariant_of-pass
+invariant_of-pass c = let e = c.tell_by.ensures in record {
+  idle = e.same.1 ∙ c.args.pass.now.idle;
+  empty = e.same.2.0 ∙ c.args.pass.now.empty;
+  within = subst (λ (z : Layout × Trail). AreWithin z.0.passes z.1) (λ i. ((c.requires.own.1.1 ∙ sym (e.same.0.1 ∙ c.requires.own.0.1)) i, sym e.told.hears.is i)) c.args.other.now.within;
+  rests = e.told.runs ∙ c.args.pass.now.rests;
+  seen = subst (λ (z : Trail). ∥ IsSeen z ∥₁) (sym e.told.hears.is) c.args.other.now.seen;
+}
+
+pub invariant_of-other : goal.invariant_of-other
+invariant_of-other c = let e = c.tell_by.ensures in record {
+  idle = e.other.1;
+  empty = e.other.2;
+  within = subst (λ (z : Layout × Mine). AreWithin z.0.passes (trail_of z.1.trail)) (λ i. (sym e.other.0.1 i, sym e.other.3 i)) c.args.other.now.within;
+  rests = ap (λ (z : Mine). z.runs) e.other.3 ∙ c.args.other.now.rests;
+  seen = subst (λ (z : Mine). ∥ IsSeen (trail_of z.trail) ∥₁) (sym e.other.3) c.args.other.now.seen;
+}
+
+pub returns-clause-hears : goal.returns-clause-hears
+returns-clause-hears c = c.tell_by.ensures.told.hears

@@ -1,0 +1,36 @@
+-- What passes learn of each other. It is no event.
+use Rattle.std.specs.Prelude.{◌≡◌, ℕ}
+use Rattle.bl_trails.specs.Trails.{Trail}
+use Rattle.bl_passes.specs.declared.known.Mine.{Mine}
+use Rattle.bl_passes.specs.Noting.{trail_of}
+use Rattle.bl_passes.specs.Seeing.{IsSeen, AreWithin, own, GoesOnFrom}
+
+-- What the pass has seen begins with what both had seen, and has the entries of these two passes that they knew, and no
+-- others of theirs.
+pub record Learns (pass other : ℕ) (old theirs new : Trail) : Type 0 where
+  pub begins : GoesOnFrom old new
+  pub begins_theirs : GoesOnFrom theirs new
+  pub none : own pass new ≡ own pass old
+  pub none_theirs : own other new ≡ own other theirs
+
+-- The pass has seen what the other has seen, which has no further entry of this pass.
+pub record Hears (pass : ℕ) (old theirs new : Trail) : Type 0 where
+  pub is : new ≡ theirs
+  pub none : own pass new ≡ own pass old
+
+-- of what the pass knew, what the other knows, and what the pass knows then
+pub record Learned (pass other among : ℕ) (d e f : Mine) : Type 0 where
+  pub learns : Learns pass other (trail_of d.trail) (trail_of e.trail) (trail_of f.trail)
+  pub seen : IsSeen (trail_of f.trail)
+  pub within : AreWithin among (trail_of f.trail)
+  pub runs : f.runs ≡ d.runs
+
+abbrev pub learned : ℕ → ℕ → ℕ → Mine → Mine → Mine → Type 0
+learned pass other among d e f = Learned pass other among d e f
+
+pub record Heard (pass : ℕ) (d e f : Mine) : Type 0 where
+  pub hears : Hears pass (trail_of d.trail) (trail_of e.trail) (trail_of f.trail)
+  pub runs : f.runs ≡ d.runs
+
+abbrev pub heard : ℕ → Mine → Mine → Mine → Type 0
+heard pass d e f = Heard pass d e f

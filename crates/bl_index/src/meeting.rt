@@ -1,0 +1,97 @@
+//! A pass learns of another, or is told what another knows.
+
+ghost use Rattle.std.specs.Prelude.{◌≡◌, ℕ, false};
+ghost use Rattle.bl_store.specs.Hands.{known, IsOf, IsIdle, HasNoStock, IsSameHand, IsSameStage, IsSameStock};
+ghost use Rattle.bl_passes.specs.Noting.{trail_of};
+ghost use Rattle.bl_passes.specs.Seeing.{GoesOnFrom};
+ghost use Rattle.bl_index.specs.Runs.{IsWithin};
+ghost use Rattle.bl_index.specs.Meetings.{learned, heard};
+
+use crate::index::{Index, Pass};
+use bl_passes::Mine;
+use bl_store::{Hand, MeetPlay};
+use std::marker::{Brand, PhantomData};
+
+/// Which pass learns of which other, and how many passes there are.
+pub(crate) trait Meeting {
+    ghost pass: { ℕ };
+
+    ghost other: { ℕ };
+
+    ghost passes: { ℕ };
+}
+
+impl Meeting for Brand {
+    ghost pass = { 0 };
+
+    ghost other = { 0 };
+
+    ghost passes = { 0 };
+}
+
+/// A pass learns all that has happened.
+pub(crate) struct Learned<J> {
+    meeting: PhantomData<J>,
+}
+
+impl<J: Meeting> MeetPlay<Mine> for Learned<J> {
+    ghost then = { learned J.pass J.other J.passes };
+}
+
+/// A pass is told what another knows.
+pub(crate) struct Heard<J> {
+    meeting: PhantomData<J>,
+}
+
+impl<J: Meeting> MeetPlay<Mine> for Heard<J> {
+    ghost then = { heard J.pass };
+}
+
+impl Index {
+    ghost use Rattle.bl_index.specs.Calls.{IsPassOf, IsSamePass, number_of, trail};
+    ghost use Rattle.bl_index.specs.Meetings.{Learns, Hears};
+
+    /// The pass learns all that has happened in the index, and so all that the other one knows.
+    pub fn learn(&self, pass: &mut Pass, other: &mut Pass)
+        requires own { IsPassOf self.now pass.old × IsPassOf self.now other.old }
+        ensures same { IsSamePass pass.old pass.new }
+        ensures other { IsSamePass other.old other.new × (trail other.new ≡ trail other.old) }
+        ensures learns { Learns (number_of pass.old) (number_of other.old) (trail pass.old) (trail other.old) (trail pass.new) }
+    {
+        self.learn_by::<Brand>(&mut pass.hand, &mut other.hand);
+    }
+
+    fn learn_by<J: Meeting>(&self, hand: &mut Hand<Mine>, other: &mut Hand<Mine>)
+        requires own { IsOf self.now.store.table.shared.table_id self.now.store.layout hand.old.seat × IsOf self.now.store.table.shared.table_id self.now.store.layout other.old.seat }
+        requires idle { IsIdle other.old.seat × HasNoStock other.old.seat }
+        requires names { (hand.old.number ≡ J.pass) × (other.old.number ≡ J.other) × (self.now.store.layout.passes ≡ J.passes) }
+        ensures same { IsSameHand hand.old.seat hand.new.seat × IsSameStage hand.old.seat hand.new.seat × IsSameStock hand.old.seat hand.new.seat }
+        ensures other { IsSameHand other.old.seat other.new.seat × IsIdle other.new.seat × HasNoStock other.new.seat × (known other.new.seat ≡ known other.old.seat) }
+        ensures told { learned J.pass J.other J.passes (known hand.old.seat) (known other.old.seat) (known hand.new.seat) }
+    {
+        self.store.meet::<Learned<J>>(hand, other);
+    }
+
+    /// The pass is told what the other one knows, which begins with what it knew.
+    pub fn tell(&self, pass: &mut Pass, other: &mut Pass)
+        requires own { IsPassOf self.now pass.old × IsPassOf self.now other.old }
+        requires begins { GoesOnFrom (trail pass.old) (trail other.old) }
+        ensures same { IsSamePass pass.old pass.new }
+        ensures other { IsSamePass other.old other.new × (trail other.new ≡ trail other.old) }
+        ensures hears { Hears (number_of pass.old) (trail pass.old) (trail other.old) (trail pass.new) }
+    {
+        self.tell_by::<Brand>(&mut pass.hand, &mut other.hand);
+    }
+
+    fn tell_by<J: Meeting>(&self, hand: &mut Hand<Mine>, other: &mut Hand<Mine>)
+        requires own { IsOf self.now.store.table.shared.table_id self.now.store.layout hand.old.seat × IsOf self.now.store.table.shared.table_id self.now.store.layout other.old.seat }
+        requires idle { IsIdle other.old.seat × HasNoStock other.old.seat }
+        requires names { hand.old.number ≡ J.pass }
+        requires begins { GoesOnFrom (trail_of (known hand.old.seat).trail) (trail_of (known other.old.seat).trail) }
+        ensures same { IsSameHand hand.old.seat hand.new.seat × IsSameStage hand.old.seat hand.new.seat × IsSameStock hand.old.seat hand.new.seat }
+        ensures other { IsSameHand other.old.seat other.new.seat × IsIdle other.new.seat × HasNoStock other.new.seat × (known other.new.seat ≡ known other.old.seat) }
+        ensures told { heard J.pass (known hand.old.seat) (known other.old.seat) (known hand.new.seat) }
+    {
+        self.store.meet::<Heard<J>>(hand, other);
+    }
+}

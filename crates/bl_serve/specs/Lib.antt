@@ -1,0 +1,4 @@
+pub mod Answering
+pub mod Turns
+pub mod Joining
+pub mod Rounds
