@@ -67,8 +67,8 @@ module _ {D : Type 0} (l : Layout) (first : D) (holds : Pages D → Type 0) wher
 
   pub notes : (slots id i : ℕ) (me : M) → IsLive me.0 → Allows Rule slots id me i (λ n. n) (noted (step slots i 0 0 none) me)
   notes slots id i me live st r _ at _ = dite (ℕ_discrete (get_or st.words i 0) 0)
-      (λ e. (me.0, keeps, tt, idle_step st r i id me.1 me.0 at live, (((refl, refl, refl, refl), refl, (refl, refl, refl), refl), (λ ne. absurd (ne e)), (λ _. refl), refl)))
-      (λ ne. (noting i me.0, keeps, tt, note_step st r i id me.1 me.0 at live, (((refl, refl, refl, refl), refl, (refl, refl, refl), refl), (λ _. refl), (λ e. absurd (ne e)), refl)))
+      (λ e. (me.0, keeps, tt, idle_step st r i id me.1 me.0 at live, (((refl, refl, refl, refl), refl, (refl, refl, refl), refl), (λ ne. absurd (ne e)), (λ _. refl), refl, refl)))
+      (λ ne. (noting i me.0, keeps, tt, note_step st r i id me.1 me.0 at live, (((refl, refl, refl, refl), refl, (refl, refl, refl), refl), (λ _. refl), (λ e. absurd (ne e)), refl, refl)))
 
   -- a step on a word of a frame that no page names, after which the hand has another stock, or another frame to retire
   frame_step : (st : St) (r : Rule st) (f i n id : ℕ) (cs : List (ℕ × Unit {0})) (v : View D) (ds : List Draft) (dr : Dropping) (rl : ℕ) (gt : List ℕ) (old new : Frame) → get_elem? st.views id ≡ some v → IsLive v → get_elem? r.frames f ≡ some old
@@ -119,14 +119,14 @@ module _ {D : Type 0} (l : Layout) (first : D) (holds : Pages D → Type 0) wher
         keeps,
         tt,
         silent_load st r i id me.1 me.0 me.0.puts me.0.retires me.0.sweep (i ∷ []) me.0.got r.budgets at live r.budgeted (λ k _. refl) mine.budget mine.sweeps,
-        ((refl, refl, refl, refl), refl, refl, refl, (λ early. absurd (omega arith)), λ _. refl),
+        ((refl, refl, refl, refl), refl, refl, refl, (λ early. absurd (omega arith)), (λ _. refl), refl),
       ))
       (λ not_late. let early : n < 1152921504606846976 = lt_of_not-le not_late in (
         record me.0 { puts = 3; retires = 1; seen = []; got = [] },
         keeps,
         tt,
         silent_load st r i id me.1 me.0 3 1 me.0.sweep [] [] bs' at live record { count = count; small = small; total = omega arith } (λ k other. set_else r.budgets q k 4 other) (set_there r.budgets q (me.0.puts + me.0.retires) 4 mine.budget) mine.sweeps,
-        ((refl, refl, refl, refl), refl, refl, refl, (λ _. (refl, refl, refl, refl)), λ late. absurd (omega arith)),
+        ((refl, refl, refl, refl), refl, refl, refl, (λ _. (refl, refl, refl, refl)), (λ late. absurd (omega arith)), refl),
       ))
 
   pub reserves : (slots id i n f : ℕ) (me : M) → i ≡ state_at l f → n ≡ 4 * me.0.number + 2 → f < frame_count l → me.0.layout ≡ l → IsLive me.0 → Allows Rule slots id me i (λ z. either (eqb z 0) n z) (reserved (step slots i 0 n none) me)
@@ -142,9 +142,9 @@ module _ {D : Type 0} (l : Layout) (first : D) (holds : Pages D → Type 0) wher
             (get_or-set_at st.words i (state_at l f) n 0 (sym i_is) (omega arith) ∙ n_is, tt, omega arith, λ k low. absurd (omega arith)) (λ x ys e. cc)
             (λ j b d u xs stands low e may. cc) (λ j k ys other e. cc) (λ j ys other e. cc) (λ j t ys other e. cc)
             (set_there r.frames f free new is, stocks_kept r.frames f free new q me.0.stock is (λ k ys _ e. cc) mine.stocks) (drops_kept r.frames f free new q me.0.dropping is (λ ys e. cc) (λ t ys e. cc) mine.drops),
-        ((refl, refl, refl, refl), refl, refl, (refl, refl), λ g e. let is_f : f ≡ g = omega arith in ((λ _. (ap (λ (z : ℕ). draft z [] ∷ me.0.stock) is_f, refl, ap (λ (z : ℕ). z ∷ me.0.got) is_f)), λ miss. absurd (miss hit))),
+        ((refl, refl, refl, refl), refl, refl, (refl, refl), (λ g e. let is_f : f ≡ g = omega arith in ((λ _. (ap (λ (z : ℕ). draft z [] ∷ me.0.stock) is_f, refl, ap (λ (z : ℕ). z ∷ me.0.got) is_f)), λ miss. absurd (miss hit))), refl),
       ))
-      (λ miss. (noting i me.0, keeps, tt, note_step st r i id me.1 me.0 at live, ((refl, refl, refl, refl), refl, refl, (refl, refl), λ g e. ((λ hit. absurd (miss hit)), λ _. (refl, refl, refl)))))
+      (λ miss. (noting i me.0, keeps, tt, note_step st r i id me.1 me.0 at live, ((refl, refl, refl, refl), refl, refl, (refl, refl), (λ g e. ((λ hit. absurd (miss hit)), λ _. (refl, refl, refl))), refl)))
     where
       was_free : (st : St) (r : Rule st) (fr : Frame) → get_elem? r.frames f ≡ some fr → FrameIs l st.words f fr → get_or st.words (state_at l f) 0 ≡ 0 → get_elem? r.frames f ≡ some free
       was_free st r free at_f fact empty = at_f
@@ -188,7 +188,7 @@ module _ {D : Type 0} (l : Layout) (first : D) (holds : Pages D → Type 0) wher
         )
             (λ x ys e. cc) (λ j b d u ys stands low e may. let as_used : drafted q (length ds) ≡ u = cc in absurd (subst (MayRead b) (sym as_used) may)) (λ j m ys other e. other cc) (λ j ys other e. cc) (λ j t ys other e. cc)
             (set_there r.frames f old new here, stocks_kept r.frames f old new q ds here (λ m ys low e. let place : m ≡ length ds = cc in absurd (omega arith)) known.1) (drops_kept r.frames f old new q me.0.dropping here (λ ys e. cc) (λ t ys e. cc) mine.drops),
-        ((refl, refl, refl, refl), refl, refl, (refl, refl), λ g ys es e. ap (λ (z : List Draft). put_on z n) (sym has ∙ e)),
+        ((refl, refl, refl, refl), refl, refl, (refl, refl), (λ g ys es e. ap (λ (z : List Draft). put_on z n) (sym has ∙ e)), refl),
       )
     where
       last : (n k : ℕ) → get_or (n ∷ []) (k - k) 0 ≡ n

@@ -70,16 +70,16 @@ module _ {D : Type 0} where
 
   -- a load of the clock by which a reservation begins
   abbrev pub allotted : Play → Sat D → ℕ → Sat D → Type 0
-  allotted st m r m' = IsThere m m' × (m'.0.stamp ≡ m.0.stamp) × (m'.0.known ≡ m.0.known) × (m'.0.stock ≡ m.0.stock) × (r < 1152921504606846976 → (m'.0.puts ≡ 3) × (m'.0.retires ≡ 1) × (m'.0.seen ≡ []) × (m'.0.got ≡ [])) × (1152921504606846976 ≤ r → m'.0.seen ≡ st.word ∷ [])
+  allotted st m r m' = IsThere m m' × (m'.0.stamp ≡ m.0.stamp) × (m'.0.known ≡ m.0.known) × (m'.0.stock ≡ m.0.stock) × (r < 1152921504606846976 → (m'.0.puts ≡ 3) × (m'.0.retires ≡ 1) × (m'.0.seen ≡ []) × (m'.0.got ≡ [])) × (1152921504606846976 ≤ r → m'.0.seen ≡ st.word ∷ []) × (m'.0.reading ≡ m.0.reading)
 
   -- a look at an owner word, of which the hand notes whether it was taken
   abbrev pub noted : Play → Sat D → ℕ → Sat D → Type 0
-  noted st m r m' = IsSilent m m' × (r ≢ 0 → m'.0.seen ≡ st.word ∷ m.0.seen) × (r ≡ 0 → m'.0.seen ≡ m.0.seen) × (m'.0.got ≡ m.0.got)
+  noted st m r m' = IsSilent m m' × (r ≢ 0 → m'.0.seen ≡ st.word ∷ m.0.seen) × (r ≡ 0 → m'.0.seen ≡ m.0.seen) × (m'.0.got ≡ m.0.got) × (m'.0.reading ≡ m.0.reading)
 
   -- a frame that was free is the hand's
   abbrev pub reserved : Play → Sat D → ℕ → Sat D → Type 0
   reserved st m r m' = IsThere m m' × (m'.0.stamp ≡ m.0.stamp) × (m'.0.known ≡ m.0.known) × HasTicks m.0 m'.0
-      × ((f : ℕ) → st.word ≡ state_at m.0.layout f → (r ≡ 0 → (m'.0.stock ≡ draft f [] ∷ m.0.stock) × (m'.0.seen ≡ m.0.seen) × (m'.0.got ≡ f ∷ m.0.got)) × (r ≢ 0 → (m'.0.stock ≡ m.0.stock) × (m'.0.seen ≡ st.word ∷ m.0.seen) × (m'.0.got ≡ m.0.got)))
+      × ((f : ℕ) → st.word ≡ state_at m.0.layout f → (r ≡ 0 → (m'.0.stock ≡ draft f [] ∷ m.0.stock) × (m'.0.seen ≡ m.0.seen) × (m'.0.got ≡ f ∷ m.0.got)) × (r ≢ 0 → (m'.0.stock ≡ m.0.stock) × (m'.0.seen ≡ st.word ∷ m.0.seen) × (m'.0.got ≡ m.0.got))) × (m'.0.reading ≡ m.0.reading)
 
   -- the frame that was reserved last is free again
   abbrev pub returned : Play → Sat D → ℕ → Sat D → Type 0
@@ -88,7 +88,7 @@ module _ {D : Type 0} where
 
   abbrev pub wrote : Play → Sat D → ℕ → Sat D → Type 0
   wrote st m r m' = IsThere m m' × (m'.0.stamp ≡ m.0.stamp) × (m'.0.known ≡ m.0.known) × HasTicks m.0 m'.0
-      × ((f : ℕ) (xs : List ℕ) (ds : List Draft) → m.0.stock ≡ draft f xs ∷ ds → m'.0.stock ≡ draft f (xs ++ st.first ∷ []) ∷ ds)
+      × ((f : ℕ) (xs : List ℕ) (ds : List Draft) → m.0.stock ≡ draft f xs ∷ ds → m'.0.stock ≡ draft f (xs ++ st.first ∷ []) ∷ ds) × (m'.0.reading ≡ m.0.reading)
 
   -- the one event of a put: the frame that the page had is now the hand's to retire
   abbrev pub swapped : (D → ℕ → Owner → List ℕ → D → Type 0) → Play → Sat D → ℕ → Sat D → Type 0

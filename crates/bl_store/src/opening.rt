@@ -65,6 +65,8 @@ impl<D, R: PageRule<D>> Store<D, R, Global> {
         let store = Store {
             table,
             layout,
+            heads: layout.page(0),
+            firsts: layout.frame_word(0, 0),
             least_free: AtomicU64::new(1),
         };
         let hands = store.deal(alloc, seat)?;
@@ -101,6 +103,13 @@ impl<D> Hand<D> {
             number,
             frame: number.wrapping_mul(frames / layout.passes),
             owner: number.wrapping_mul((layout.pages + frames) / layout.passes),
+            retired: [0; 128],
+            waiting: 0,
+            released: [0; 128],
+            ready: 0,
+            since: 0,
+            owes: 0,
+            due: 0,
         }
     }
 }

@@ -75,5 +75,13 @@ impl<D, R: PageRule<D>, A: Allocator> Store<D, R, A> {
         self.table
             .shared
             .store::<Silent>(&mut hand.seat, at, 4 * time + 3);
+        hand.since = hand.since.wrapping_add(1);
+        hand.due = hand.due.wrapping_add(1);
+        if hand.waiting < 128 {
+            hand.retired[hand.waiting as usize] = frame;
+            hand.waiting += 1;
+        } else {
+            hand.owes = (self.layout.pages + self.layout.frames()) / 64 + 1;
+        }
     }
 }

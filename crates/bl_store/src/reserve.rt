@@ -36,6 +36,7 @@ impl<D, R: PageRule<D>, A: Allocator> Store<D, R, A> {
         ensures refused { IfErr result (λ _. HasNoStock hand.new.seat × ((now : ℕ) × M.then (known hand.old.seat) now (known hand.new.seat))) }
         ensures why { IfErr result (IsWhy hand.new.seat pages frames) }
     {
+        self.prepare(hand, frames);
         let clock = self
             .table
             .shared
@@ -89,12 +90,46 @@ impl<D, R: PageRule<D>, A: Allocator> Store<D, R, A> {
         ensures got { length hand.new.seat.me.0.got + stock.old.count ≡ length hand.old.seat.me.0.got + stock.new.count }
         ensures seen { stock.new.count < wanted → (f : ℕ) → f < frame_count hand.new.seat.me.0.layout → IsTried hand.new.seat f }
     {
+        self.try_released(hand, stock, wanted);
         let total = self.layout.frames();
         let first = hand.frame.min(total);
         self.try_frames(hand, stock, first, total, wanted);
         self.try_frames(hand, stock, 0, first, wanted);
         if stock.count > 0 {
             hand.frame = stock.frames[stock.count as usize - 1];
+        }
+    }
+
+    // Releases what it can, where it has too few frames at hand.
+    #[inline(always)]
+    fn prepare(&self, hand: &mut Hand<D>, frames: u32)
+        requires own { IsOf self.now.table.shared.table_id self.now.layout hand.old.seat }
+        ensures same { IsSameHand hand.old.seat hand.new.seat × IsSameStage hand.old.seat hand.new.seat × IsSameStock hand.old.seat hand.new.seat × (known hand.new.seat ≡ known hand.old.seat) }
+    {
+        if hand.ready < frames && hand.since >= 16 {
+            self.recycle(hand);
+        }
+    }
+
+    // Tries the frames that it has released itself, the last one first.
+    fn try_released(&self, hand: &mut Hand<D>, stock: &mut Stock, wanted: u32)
+        requires own { IsOf self.now.table.shared.table_id self.now.layout hand.old.seat }
+        requires wanted { (wanted ≤ 3) × (wanted ≤ hand.old.seat.me.0.puts) }
+        requires stock { IsStockOf hand.old.seat stock.old × (stock.old.count ≤ wanted) }
+        ensures same { IsQuiet hand.old.seat hand.new.seat × (stock.new.page ≡ stock.old.page) }
+        ensures stock { IsStockOf hand.new.seat stock.new × (stock.new.count ≤ wanted) }
+        ensures got { length hand.new.seat.me.0.got + stock.old.count ≡ length hand.old.seat.me.0.got + stock.new.count }
+    {
+        let total = self.layout.frames();
+        for _ in 0..wanted {
+            if hand.ready == 0 || hand.ready > 128 || stock.count == wanted {
+                return;
+            }
+            hand.ready -= 1;
+            let frame = hand.released[hand.ready as usize];
+            if frame < total {
+                self.try_frame(hand, stock, frame);
+            }
         }
     }
 

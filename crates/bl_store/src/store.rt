@@ -1,6 +1,7 @@
 //! The store, and the calls that begin and end a process and read pages.
 ghost use Rattle.std.specs.Prelude.{◌≡◌, ◌≢◌, ℕ, ◌+◌, ◌*◌, ◌<◌, ◌≤◌, true, false, List, [], length, slice_index};
 ghost use Rattle.bl_layout.specs.Words.{frame_count, word_count};
+ghost use Rattle.bl_store.specs.Frames.{page_at, place_at};
 ghost use Rattle.bl_store.specs.Pages.{Owner, Begins, Ends, Gets};
 ghost use Rattle.bl_store.specs.Hands.{known, read_words, IsOf, IsIdle, IsRunning, IsSameHand, IsSameStage, IsSameStock, ReadsFrom, HasSeen};
 ghost use Rattle.bl_store.specs.declared.view.Reading.TheVariants.{At};
@@ -23,6 +24,16 @@ pub struct Hand<D> {
     pub(crate) frame: u32,
     // The owner word at which its next sweep begins, counted from page 0.
     pub(crate) owner: u32,
+    // Frames that its puts have retired, the oldest first, and frames that it has released since. No proof rests on them.
+    pub(crate) retired: [u32; 128],
+    pub(crate) waiting: u32,
+    pub(crate) released: [u32; 128],
+    pub(crate) ready: u32,
+    // Puts since the last try to release what it retired, and sweeps that it owes, since it has lost sight of a frame.
+    pub(crate) since: u32,
+    pub(crate) owes: u32,
+    // Puts since its last sweep.
+    pub(crate) due: u32,
     pub ghost own: { (number ≡ seat.me.0.number) × (number < seat.me.0.layout.passes) × (seat.me.0.sealing ≡ Unsealed) × (seat.me.1 ≡ []) },
 }
 
@@ -38,14 +49,24 @@ pub struct Glance {
 pub struct Store<D, R: PageRule<D>, A: Allocator = Global> {
     pub(crate) table: Table<(), View<D>, Layout, Framed<R>, A>,
     pub(crate) layout: Layout,
+    // The numbers of the word of page 0, and of the first word of frame 0.
+    pub(crate) heads: usize,
+    pub(crate) firsts: usize,
     // The least page that may be released, as one thread alone sees it. No proof rests on it.
     pub(crate) least_free: AtomicU64,
     pub ghost key: { table.shared.key ≡ layout },
+    pub ghost heads_at: { heads ≡ page_at layout 0 },
+    pub ghost firsts_at: { firsts ≡ place_at layout 0 0 },
     pub ghost wide: { table.shared.table_id.words ≡ word_count layout },
     pub ghost bare: { table.shared.table_id.slots ≡ 0 },
 }
 
 impl<D> Hand<D> {
+    /// Whether a sweep is worth its time now: some puts have passed, or frames wait that the hand has lost sight of.
+    pub fn is_due(&self) -> bool {
+        self.owes > 0 || self.due >= 64
+    }
+
     /// The number of the hand, by which a rule and an owner name it.
     pub fn number(&self) -> u32
         ensures { result ≡ self.now.seat.me.0.number }
@@ -103,11 +124,11 @@ impl<D, R: PageRule<D>, A: Allocator> Store<D, R, A> {
         let found = self
             .table
             .shared
-            .load::<Look<M>>(&mut hand.seat, self.layout.page(page));
+            .load::<Look<M>>(&mut hand.seat, self.heads + page as usize);
         if found == 0 {
             None
         } else {
-            let first = self.layout.frame_word((found - 1) as u32, 0);
+            let first = self.firsts + 32 * (found - 1) as usize;
             Some(Glance { first })
         }
     }

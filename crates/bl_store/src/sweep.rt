@@ -40,6 +40,8 @@ impl<D, R: PageRule<D>, A: Allocator> Store<D, R, A> {
         ensures told { M.then (known hand.old.seat) (known hand.new.seat) }
         ensures count { hand.new.seat.me.0.releases ≡ hand.old.seat.me.0.releases + result }
     {
+        hand.due = 0;
+        hand.owes = hand.owes.saturating_sub(1);
         let owners = self.layout.pages + self.layout.frames();
         let looks = owners.min(LOOKS);
         let first = hand.owner % owners;
@@ -92,6 +94,52 @@ impl<D, R: PageRule<D>, A: Allocator> Store<D, R, A> {
             }
         }
         oldest
+    }
+
+    // Releases what the hand's puts have retired and no process can read any more.
+    #[inline(never)]
+    pub(crate) fn recycle(&self, hand: &mut Hand<D>)
+        requires own { IsOf self.now.table.shared.table_id self.now.layout hand.old.seat }
+        ensures same { IsSameHand hand.old.seat hand.new.seat × IsSameStage hand.old.seat hand.new.seat × IsSameStock hand.old.seat hand.new.seat × (known hand.new.seat ≡ known hand.old.seat) }
+    {
+        hand.since = 0;
+        let oldest = self.oldest(hand);
+        let total = self.layout.frames();
+        let many = hand.waiting.min(128);
+        let mut kept = 0u32;
+        for i in 0..many {
+            let frame = hand.retired[i as usize];
+            if frame < total {
+                let state = self.table.shared.peek(self.layout.frame_owner(frame));
+                if state % 4 == 3 && state / 4 < oldest {
+                    self.recycle_frame(hand, frame, state, oldest);
+                } else if state % 4 == 3 {
+                    hand.retired[kept as usize] = frame;
+                    kept += 1;
+                }
+            }
+        }
+        hand.waiting = kept;
+    }
+
+    // Releases a frame, where it is still in that state of retirement.
+    fn recycle_frame(&self, hand: &mut Hand<D>, frame: u32, state: u64, oldest: u64)
+        requires own { IsOf self.now.table.shared.table_id self.now.layout hand.old.seat }
+        requires frame { frame < frame_count self.now.layout }
+        requires state { (state % 4 ≡ 3) × (state / 4 < oldest) }
+        requires swept { hand.old.seat.me.0.sweep ≡ Over oldest self.now.layout.passes }
+        ensures same { IsSameHand hand.old.seat hand.new.seat × IsSameStage hand.old.seat hand.new.seat × IsSameStock hand.old.seat hand.new.seat × (known hand.new.seat ≡ known hand.old.seat) × (hand.new.seat.me.0.sweep ≡ hand.old.seat.me.0.sweep) }
+        ensures kept { (hand.new.retired ≡ hand.old.retired) × (hand.new.waiting ≡ hand.old.waiting) }
+    {
+        let word = self.layout.frame_owner(frame);
+        let found = self
+            .table
+            .shared
+            .compare_exchange::<Release>(&mut hand.seat, word, state, 0);
+        if found == state && hand.ready < 128 {
+            hand.released[hand.ready as usize] = frame;
+            hand.ready += 1;
+        }
     }
 
     // Releases the page or the frame that has the owner word, where it is still in that state of retirement.

@@ -9,7 +9,7 @@ use Rattle.bl_store.proofs.Living.{live_hand}
 use Rattle.bl_store.proofs.store.Store.reserve.Goals as goal
 
 pub load-clock-requires : goal.load-clock-requires
-load-clock-requires g c = let wide = c.args.self.now.wide in (search rules, omega arith, allots _ _ _ _ _ _ _ (search rules) (live_hand c.args.hand.now))
+load-clock-requires g c = let wide = c.args.self.now.wide in (search rules, omega arith, allots _ _ _ _ _ _ _ (search rules) (live_hand c.prepare.new.hand))
 
 pub returns-then-stock-frames-clause-why : goal.returns-then-stock-frames-clause-why
 returns-then-stock-frames-clause-why g c = let less = c.if-stock-frames.true in let seen = c.refuse-then-stock-frames.ensures.stock.1 ∙ c.give_back.ensures.same.1 in
@@ -20,7 +20,7 @@ returns-then-stock-frames-clause-why g c = let less = c.if-stock-frames.true in 
     )
 
 pub take-stock-requires-clause-takes : goal.take-stock-requires-clause-takes
-take-stock-requires-clause-takes g c = let e = c.load-clock.ensures.2 in let same = c.reserve_frames.ensures.same.0 in
-    let number : c.args.hand.now.number ≡ c.reserve_frames.new.hand.number = c.args.hand.now.own.0 ∙ (sym e.0.1 ∙ (sym same.2 ∙ sym c.reserve_frames.new.hand.own.0)) in
+take-stock-requires-clause-takes g c = let e = c.load-clock.ensures.2 in let same = c.reserve_frames.ensures.same.0 in let first = c.prepare.ensures.same in
+    let number : c.args.hand.now.number ≡ c.reserve_frames.new.hand.number = c.args.hand.now.own.0 ∙ (sym first.0.2 ∙ (sym e.0.1 ∙ (sym same.2 ∙ sym c.reserve_frames.new.hand.own.0))) in
     let few = c.requires.few.0 in let some_page = c.if-pages-gt0.true in let one : c.args.pages ≡ 1 = omega arith in
-    λ x. subst (λ (z : ℕ × g.row.D.Denot). Takes g.R.PageRule.holds c.args.self.now.layout z.0 z.1 x g.T.PagePlay.then) (λ i. (number i, sym (same.4 ∙ e.2) i)) (c.requires.takes one x)
+    λ x. subst (λ (z : ℕ × g.row.D.Denot). Takes g.R.PageRule.holds c.args.self.now.layout z.0 z.1 x g.T.PagePlay.then) (λ i. (number i, sym (same.4 ∙ (e.2 ∙ first.3)) i)) (c.requires.takes one x)
