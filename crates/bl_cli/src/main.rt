@@ -5,8 +5,6 @@
 #![tactic(auto)]
 
 mod serve;
-#[cfg(test)]
-mod tests;
 
 use bl_commands::{CommandFault, Invocation, check_file, read_words, replay_file};
 use bl_model::Watched;

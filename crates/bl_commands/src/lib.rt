@@ -8,8 +8,6 @@ mod check;
 mod command;
 mod fault;
 mod replay;
-#[cfg(test)]
-mod tests;
 
 pub use check::{check_command, check_file, check_image};
 pub use command::{Invocation, ServeOptions, read_words};

@@ -26,6 +26,3 @@ mod sweeping;
 
 pub use config::{Config, OpenFault, OutOfTurns};
 pub use index::{Index, Pass};
-
-#[cfg(test)]
-mod tests;

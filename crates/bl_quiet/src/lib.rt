@@ -6,7 +6,5 @@
 #![tactic(auto)]
 
 mod laws;
-#[cfg(test)]
-mod tests;
 
 pub use laws::{begins_with_rows, has_rows, may_begin};

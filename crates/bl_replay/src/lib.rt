@@ -9,8 +9,6 @@ mod commands;
 mod fault;
 mod output;
 mod playing;
-#[cfg(test)]
-mod tests;
 mod text;
 mod turning;
 

@@ -19,8 +19,6 @@ mod machine;
 mod onwards;
 mod reading;
 mod spelled;
-#[cfg(test)]
-mod spelled_tests;
 mod thin;
 
 pub use acts::{Action, Seen};

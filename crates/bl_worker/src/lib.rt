@@ -7,8 +7,6 @@
 #![tactic(auto)]
 
 mod serving;
-#[cfg(test)]
-mod tests;
 mod working;
 
 pub use serving::Worker;

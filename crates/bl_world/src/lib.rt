@@ -17,6 +17,3 @@ mod world;
 pub use owners::Owner;
 pub use turns::{Act, Event, Turn, WorldFault};
 pub use world::World;
-
-#[cfg(test)]
-mod tests;

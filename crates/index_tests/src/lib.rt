@@ -2,7 +2,7 @@
 //! two, with want of pages and of frames.
 //!
 //! They stand apart from `bl_index`, and nothing else uses them: whatever is built on the index need not wait until these tests
-//! are proved. The tests that stop a process on its way stay there.
+//! are proved. What a process on its way holds back is tested with the hands of a store, in `one_page`.
 #![tactic(auto)]
 
 #[cfg(test)]

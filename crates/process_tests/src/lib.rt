@@ -7,4 +7,6 @@
 #[cfg(test)]
 mod counts;
 #[cfg(test)]
+mod spelled;
+#[cfg(test)]
 mod turns;

@@ -5,6 +5,10 @@
 #![tactic(auto)]
 
 #[cfg(test)]
+mod calls;
+#[cfg(test)]
+mod quiet;
+#[cfg(test)]
 mod retired;
 #[cfg(test)]
 mod turns;

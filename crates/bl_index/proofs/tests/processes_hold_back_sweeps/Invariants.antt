@@ -1,5 +1,0 @@
-use Rattle.bl_index.specs.Calls.{IsPassOf}
-use Rattle.bl_index.proofs.tests.processes_hold_back_sweeps.Given as goal
-
-abbrev pub invariant-loop-round : goal.invariant-loop-round
-invariant-loop-round g l = IsPassOf l.index l.two

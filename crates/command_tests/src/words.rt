@@ -1,0 +1,71 @@
+//! The words of the command line, and the words on standard error.
+
+use bl_commands::{CommandFault, Invocation, ServeOptions, read_words};
+use bl_lines::ServeFault;
+use std::alloc::Global;
+use std::test::Fail;
+
+/// The words of a command line.
+fn words(alloc: Global, text: &str) -> Result<Vec<String>, Fail> {
+    let mut words = Vec::new(alloc);
+    for word in text.split(' ') {
+        words.push(String::from_str(alloc, word)?)?;
+    }
+    Ok(words)
+}
+
+/// What a command line asks for, None where clap refuses it.
+fn invoked(alloc: Global, text: &str) -> Result<Option<Invocation>, Fail> {
+    Ok(read_words(alloc, words(alloc, text)?.as_slice()).ok())
+}
+
+#[test]
+fn words_of_the_command_line(rt: HostRuntime) -> Result<(), Fail> {
+    let plain = ServeOptions {
+        pages: 1024,
+        workers: 1,
+        compressors: 0,
+    };
+    assert_eq!(rt;
+        invoked(rt.alloc(), "blink serve")?,
+        Some(Invocation::Serve(plain))
+    );
+    let wide = ServeOptions {
+        pages: 65536,
+        ..plain
+    };
+    assert_eq!(rt;
+        invoked(
+            rt.alloc(),
+            "blink serve --pages 65536 --workers 1 --compressors 0"
+        )?,
+        Some(Invocation::Serve(wide))
+    );
+    for refused in [
+        "blink",
+        "blink serve --pages 3",
+        "blink serve --pages 65537",
+        "blink serve --workers 0",
+        "blink serve --workers 2",
+        "blink serve --compressors 1",
+        "blink serve --pages x",
+        "blink server",
+    ] {
+        assert_eq!(rt; invoked(rt.alloc(), refused)?, None, "{refused}");
+    }
+    Ok(())
+}
+
+#[test]
+fn words_on_standard_error(rt: HostRuntime) -> Result<(), Fail> {
+    for (fault, text, status) in [
+        (ServeFault::Read, "blink: read failed", 3),
+        (ServeFault::Write, "blink: write failed", 3),
+        (ServeFault::Memory, "blink: out of memory", 4),
+    ] {
+        let fault = CommandFault::from(fault);
+        assert_eq!(rt; format!(in rt.alloc(); "{fault}")?.as_str(), text);
+        assert_eq!(rt; fault.status(), status);
+    }
+    Ok(())
+}

@@ -1,0 +1,37 @@
+//! Each public call of a world once.
+
+use bl_model::Reply;
+use bl_proc::{Answer, Proc};
+use bl_world::{Act, Event, Turn, World, WorldFault};
+use std::test::Fail;
+
+// An insertion alone, up to its answer.
+#[test]
+fn each_call_once(rt: HostRuntime) -> Result<(), Fail> {
+    assert!(rt; World::open(rt.alloc(), 3).err() == Some(WorldFault::BadPages));
+    let mut world = World::open(rt.alloc(), 4).ok().ok_or("no world")?;
+    let number = world.start(Proc::insert(5, 50)).ok().ok_or("not started")?;
+    assert!(rt; number == 1);
+    assert!(rt; world.answer(number).is_none());
+    for _ in 0..7 {
+        let turn = world.turn_of(number, None);
+        assert!(rt; turn == Turn::Step(number));
+        assert!(rt; world.run(&[turn]).is_ok());
+    }
+    assert!(rt; world.answer(number) == Some(Answer::Op(Reply::Inserted, None)));
+    let wanted = [
+        event(1, Act::Begin),
+        event(1, Act::Get(0)),
+        event(1, Act::Latch(1)),
+        event(1, Act::Get(1)),
+        event(1, Act::Put(1)),
+        event(1, Act::Open(1)),
+        event(1, Act::End),
+    ];
+    assert!(rt; world.steps() == wanted.as_slice());
+    Ok(())
+}
+
+fn event(process: usize, act: Act) -> Event {
+    Event { process, act }
+}
