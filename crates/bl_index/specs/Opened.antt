@@ -19,11 +19,16 @@ use Rattle.bl_index.specs.declared.index.Index.{Index}
 use Rattle.bl_index.specs.declared.index.Pass.{Pass}
 use Rattle.bl_index.specs.Calls.{pages_of, passes_of, IsPassOf, number_of, trail}
 
--- why an index of that size was refused: it breaks a limit, or it is within them and there was no memory
+-- it has as many pages as an index may have
+abbrev pub HasPages : Config → Type 0
+HasPages config = (4 ≤ config.pages) × (config.pages ≤ 65536)
+
+-- Why an index of that size was refused: the pages are not within their limits; they are, and the passes are not; or both
+-- are, and there was no memory.
 abbrev pub IsRefusal : Config → OpenFault → Type 0
 IsRefusal config Pages = (config.pages < 4) ⊎ (65536 < config.pages)
-IsRefusal config Passes = (config.passes < 1) ⊎ (64 < config.passes)
-IsRefusal config Memory = ((4 ≤ config.pages) × (config.pages ≤ 65536)) × ((1 ≤ config.passes) × (config.passes ≤ 64))
+IsRefusal config Passes = HasPages config × ((config.passes < 1) ⊎ (64 < config.passes))
+IsRefusal config Memory = HasPages config × ((1 ≤ config.passes) × (config.passes ≤ 64))
 
 -- The index has so many pages. There is a pass of it for each number, in their order. None has seen anything, so that it
 -- stands at the opening index.

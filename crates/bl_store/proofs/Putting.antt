@@ -158,7 +158,7 @@ module _ {D : Type 0} (l : Layout) (first : D) (holds : Pages D → Type 0) wher
         keeps,
         tt,
         put_step st r i n id me.1 me.0 (set r.frames f (used (shown x) xs)) x f xs ds Empty t.1 i_is n_is inside at live (first_put st.words r.frames r.shows.frame q x f xs ds here whole known.1) tt t.2,
-        ((refl, refl, refl, refl), refl, (refl, refl), tells, λ g is. absurd (omega arith)),
+        ((refl, refl, refl, refl), refl, (refl, refl), tells, (λ g is. absurd (omega arith)), λ _. refl),
       ))
       (λ (e : (g : ℕ) × (before ≡ g + 1) × (get_elem? r.frames g ≡ some (used (shown x) page.0))). let gs : List Frame = set r.frames f (used (shown x) xs) in let up = e.1 in let within = at_below r.frames e.0 (used (shown x) page.0) e.2 in (
         record me.0 { stock = ds; known = t.1; dropping = Dropped e.0 },
@@ -166,6 +166,6 @@ module _ {D : Type 0} (l : Layout) (first : D) (holds : Pages D → Type 0) wher
         tt,
         put_step st r i n id me.1 me.0 (set gs e.0 (used (dropped q) page.0)) x f xs ds (Dropped e.0) t.1 i_is n_is inside at live (next_put st r q x f e.0 xs page.0 ds here whole known.1 e.2)
             (page.0, set_here gs e.0 (used (dropped q) page.0) (subst (λ (z : ℕ). e.0 < z) (sym (length-set r.frames f (used (shown x) xs))) within)) t.2,
-        ((refl, refl, refl, refl), refl, (refl, refl), tells, λ g is. let is_g : e.0 ≡ g = omega arith in (omega arith, ap (λ (z : ℕ). Dropped z) is_g)),
+        ((refl, refl, refl, refl), refl, (refl, refl), tells, (λ g is. let is_g : e.0 ≡ g = omega arith in (omega arith, ap (λ (z : ℕ). Dropped z) is_g)), λ none. absurd (omega arith)),
       ))
       from

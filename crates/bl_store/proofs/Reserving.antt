@@ -13,7 +13,7 @@ use Rattle.bl_layout.specs.declared.layout.Layout.{Layout}
 use Rattle.bl_layout.specs.Words.{frame_count}
 use Rattle.bl_store.specs.Pages.{Running, Pages, Stands}
 use Rattle.bl_store.specs.Frames.{owner_at, state_at, place_at, Use, drafted, shown, dropped, timed, retired, Frame, free, used, FrameIs, MayRead, Stocks, Drops, Swept, SweepIs, Budgeted, IsLive, Kept}
-use Rattle.bl_store.specs.Told.{draft, allotted, noted, reserved, returned, wrote, silent, released}
+use Rattle.bl_store.specs.Told.{draft, allotted, noted, reserved, returned, wrote, settled, released}
 use Rattle.bl_store.specs.declared.view.View.{View}
 use Rattle.bl_store.specs.declared.view.Draft.{Draft}
 use Rattle.bl_store.specs.declared.view.Dropping.{Dropping}
@@ -67,8 +67,10 @@ module _ {D : Type 0} (l : Layout) (first : D) (holds : Pages D → Type 0) wher
 
   pub notes : (slots id i : ℕ) (me : M) → IsLive me.0 → Allows Rule slots id me i (λ n. n) (noted (step slots i 0 0 none) me)
   notes slots id i me live st r _ at _ = dite (ℕ_discrete (get_or st.words i 0) 0)
-      (λ e. (me.0, keeps, tt, idle_step st r i id me.1 me.0 at live, (((refl, refl, refl, refl), refl, (refl, refl, refl), refl), (λ ne. absurd (ne e)), (λ _. refl), refl, refl)))
-      (λ ne. (noting i me.0, keeps, tt, note_step st r i id me.1 me.0 at live, (((refl, refl, refl, refl), refl, (refl, refl, refl), refl), (λ _. refl), (λ e. absurd (ne e)), refl, refl)))
+      (λ e. (me.0, keeps, tt, idle_step st r i id me.1 me.0 at live, (((refl, refl, refl, refl), refl, (refl, refl, refl), refl), (λ ne. absurd (ne e)), (λ _. refl), refl, refl, (λ _. refl))))
+      (λ ne. dite (ℕ_discrete i 0)
+      (λ first. (me.0, keeps, tt, idle_step st r i id me.1 me.0 at live, (((refl, refl, refl, refl), refl, (refl, refl, refl), refl), (λ _ no. absurd (no first)), (λ e. absurd (ne e)), refl, refl, (λ _. refl))))
+      (λ behind. (noting i me.0, keeps, tt, note_step st r i id me.1 me.0 at live, (((refl, refl, refl, refl), refl, (refl, refl, refl), refl), (λ _ _. refl), (λ e. absurd (ne e)), refl, refl, (λ e. absurd (behind e))))))
 
   -- a step on a word of a frame that no page names, after which the hand has another stock, or another frame to retire
   frame_step : (st : St) (r : Rule st) (f i n id : ℕ) (cs : List (ℕ × Unit {0})) (v : View D) (ds : List Draft) (dr : Dropping) (rl : ℕ) (gt : List ℕ) (old new : Frame) → get_elem? st.views id ≡ some v → IsLive v → get_elem? r.frames f ≡ some old
@@ -195,7 +197,7 @@ module _ {D : Type 0} (l : Layout) (first : D) (holds : Pages D → Type 0) wher
       last n k = let z : k - k ≡ 0 = omega arith in ap (λ (j : ℕ). get_or (n ∷ []) j 0) z
 
   -- the frame that the hand took from a page is retired at the time that it drew
-  pub retires_frame : (slots id i n f t : ℕ) (me : M) → i ≡ state_at l f → n ≡ 4 * t + 3 → me.0.dropping ≡ Timed f t → IsLive me.0 → Allows Rule slots id me i (λ _. n) (λ _. silent (step slots i n 0 none) me n)
+  pub retires_frame : (slots id i n f t : ℕ) (me : M) → i ≡ state_at l f → n ≡ 4 * t + 3 → me.0.dropping ≡ Timed f t → IsLive me.0 → Allows Rule slots id me i (λ _. n) (λ _. settled (step slots i n 0 none) me n)
   retires_frame slots id i n f t me i_is n_is is live st r _ at _ = let mine = r.seats id me.0 at live in let total = r.shows.frame_total in let wide = r.shows.wide in let q : ℕ = me.0.number in
       let known : Drops r.frames q (Timed f t) = subst (Drops r.frames q) is mine.drops in
       let xs : List ℕ = known.0 in let old : Frame = used (timed q t) xs in let new : Frame = used (retired t) xs in let here : get_elem? r.frames f ≡ some old = known.1 in let was = r.shows.frame f old here in let inside = at_below r.frames f old here in (
@@ -208,7 +210,7 @@ module _ {D : Type 0} (l : Layout) (first : D) (holds : Pages D → Type 0) wher
             (λ j b d u ys stands low e may. let words : xs ≡ ys = cc in let as_used : timed q t ≡ u = cc in (retired t, ap (λ (z : List ℕ). used (retired t) z) words, subst (MayRead b) (sym as_used) may))
             (λ j k ys other e. cc) (λ j ys other e. cc) (λ j u ys other e. other cc)
             (stocks_kept r.frames f old new q me.0.stock here (λ k ys _ e. cc) mine.stocks) tt,
-        ((refl, refl, refl, refl), refl, (refl, refl, refl), refl),
+        (((refl, refl, refl, refl), refl, (refl, refl, refl), refl), refl),
       )
 
   -- a frame that was retired before each process began is free

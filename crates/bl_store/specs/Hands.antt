@@ -11,6 +11,7 @@ use Rattle.bl_store.specs.declared.stock.NoRoom.{NoRoom}
 use Rattle.bl_store.specs.declared.stock.NoRoom.TheVariants.{Pages, Frames, Clock}
 use Rattle.bl_store.specs.declared.store.Glance.{Glance}
 use Rattle.bl_store.specs.declared.view.Draft.{Draft}
+use Rattle.bl_store.specs.declared.view.Dropping.TheVariants.{Empty}
 use Rattle.bl_store.specs.declared.view.Reading.{Reading}
 use Rattle.bl_store.specs.declared.view.Reading.TheVariants.{Nowhere, At}
 use Rattle.bl_store.specs.declared.view.View.{View}
@@ -83,6 +84,10 @@ module _ {D : Type 0} where
   -- the hand has nothing reserved
   abbrev pub HasNoStock : Seat (Unit {0}) (View D) → Type 0
   HasNoStock h = h.me.0.stock ≡ []
+
+  -- no frame that the hand took from a page waits to be retired
+  abbrev pub HasRetired : Seat (Unit {0}) (View D) → Type 0
+  HasRetired h = h.me.0.dropping ≡ Empty
 
   -- the stock is what this hand has reserved
   pub record IsStockOf (h : Seat (Unit {0}) (View D)) (stock : Stock) : Type 0 where

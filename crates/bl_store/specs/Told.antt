@@ -9,7 +9,7 @@ use Rattle.bl_store.specs.declared.view.Joined.{Joined}
 use Rattle.bl_store.specs.declared.view.Stamp.TheVariants.{Out, Clocked, In}
 use Rattle.bl_store.specs.declared.view.Reading.TheVariants.{At}
 use Rattle.bl_store.specs.declared.view.Draft.{Draft}
-use Rattle.bl_store.specs.declared.view.Dropping.TheVariants.{Dropped, Timed}
+use Rattle.bl_store.specs.declared.view.Dropping.TheVariants.{Empty, Dropped, Timed}
 use Rattle.bl_store.specs.declared.view.Sealing.TheVariants.{Unsealed, Sealed}
 use Rattle.bl_store.specs.declared.view.Sweep.TheVariants.{Over}
 
@@ -72,9 +72,9 @@ module _ {D : Type 0} where
   abbrev pub allotted : Play → Sat D → ℕ → Sat D → Type 0
   allotted st m r m' = IsThere m m' × (m'.0.stamp ≡ m.0.stamp) × (m'.0.known ≡ m.0.known) × (m'.0.stock ≡ m.0.stock) × (r < 1152921504606846976 → (m'.0.puts ≡ 3) × (m'.0.retires ≡ 1) × (m'.0.seen ≡ []) × (m'.0.got ≡ [])) × (1152921504606846976 ≤ r → m'.0.seen ≡ st.word ∷ []) × (m'.0.reading ≡ m.0.reading)
 
-  -- a look at an owner word, of which the hand notes whether it was taken
+  -- a look at an owner word, of which the hand notes whether it was taken; the clock, which is word 0, is none
   abbrev pub noted : Play → Sat D → ℕ → Sat D → Type 0
-  noted st m r m' = IsSilent m m' × (r ≢ 0 → m'.0.seen ≡ st.word ∷ m.0.seen) × (r ≡ 0 → m'.0.seen ≡ m.0.seen) × (m'.0.got ≡ m.0.got) × (m'.0.reading ≡ m.0.reading)
+  noted st m r m' = IsSilent m m' × (r ≢ 0 → st.word ≢ 0 → m'.0.seen ≡ st.word ∷ m.0.seen) × (r ≡ 0 → m'.0.seen ≡ m.0.seen) × (m'.0.got ≡ m.0.got) × (m'.0.reading ≡ m.0.reading) × (st.word ≡ 0 → m'.0.seen ≡ m.0.seen)
 
   -- a frame that was free is the hand's
   abbrev pub reserved : Play → Sat D → ℕ → Sat D → Type 0
@@ -95,15 +95,16 @@ module _ {D : Type 0} where
   swapped then st m r m' = IsThere m m' × (m'.0.stamp ≡ m.0.stamp) × HasTicks m.0 m'.0
       × ((x f : ℕ) (xs : List ℕ) (ds : List Draft) → st.word ≡ page_at m.0.layout x → m.0.stock ≡ draft f xs ∷ ds
       → (m'.0.stock ≡ ds) × ((old : List ℕ) × then m.0.known x (Held m.0.number) old m'.0.known))
-      × ((g : ℕ) → r ≡ g + 1 → (g < frame_count m.0.layout) × (m'.0.dropping ≡ Dropped g))
+      × ((g : ℕ) → r ≡ g + 1 → (g < frame_count m.0.layout) × (m'.0.dropping ≡ Dropped g)) × (r ≡ 0 → m'.0.dropping ≡ Empty)
 
   -- a tick of the clock for the frame that the hand took from a page
   abbrev pub drew : Play → Sat D → ℕ → Sat D → Type 0
   drew st m r m' = IsThere m m' × (m'.0.stamp ≡ m.0.stamp) × (m'.0.known ≡ m.0.known) × (m'.0.stock ≡ m.0.stock) × (m'.0.puts + 1 ≡ m.0.puts) × (m'.0.retires ≡ m.0.retires)
       × (r < 2305843009213693952) × ((f : ℕ) → m.0.dropping ≡ Dropped f → m'.0.dropping ≡ Timed f r)
 
-  abbrev pub silent : Play → Sat D → ℕ → Sat D → Type 0
-  silent st m r m' = IsSilent m m'
+  -- the owner word of the frame that the hand took from a page shows that it is retired, at the time that was drawn
+  abbrev pub settled : Play → Sat D → ℕ → Sat D → Type 0
+  settled st m r m' = IsSilent m m' × (m'.0.dropping ≡ Empty)
 
   -- the event of a page that is taken, where it was found released
   abbrev pub took : (D → ℕ → Owner → List ℕ → D → Type 0) → Play → Sat D → ℕ → Sat D → Type 0

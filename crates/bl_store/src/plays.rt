@@ -1,5 +1,5 @@
 //! What each step on the table tells its seat.
-ghost use Rattle.bl_store.specs.Told.{allotted, clocked, copied, drew, ended, freed, horizoned, looked, met, noted, opened, passed, published, refused, released, reserved, returned, sealed, silent, stamped, swapped, took, tried, wrote};
+ghost use Rattle.bl_store.specs.Told.{allotted, clocked, copied, drew, ended, freed, horizoned, looked, met, noted, opened, passed, published, refused, released, reserved, returned, sealed, settled, stamped, swapped, took, tried, wrote};
 ghost use Rattle.std.specs.Prelude.{ℕ};
 
 use crate::rule::{MeetPlay, PagePlay, SweepPlay, TimePlay};
@@ -72,10 +72,10 @@ impl<D> Play<(), View<D>> for Tick {
     ghost then = { drew };
 }
 
-pub(crate) struct Silent;
+pub(crate) struct Settle;
 
-impl<D> Play<(), View<D>> for Silent {
-    ghost then = { silent };
+impl<D> Play<(), View<D>> for Settle {
+    ghost then = { settled };
 }
 
 pub(crate) struct Publish;

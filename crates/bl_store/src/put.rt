@@ -2,12 +2,12 @@
 ghost use Rattle.std.specs.Prelude.{◌≡◌, ℕ, ◌+◌, ◌<◌, ◌≤◌, List, [], ◌∷◌};
 ghost use Rattle.bl_layout.specs.Words.{frame_count};
 ghost use Rattle.bl_store.specs.Pages.{Held, Puts};
-ghost use Rattle.bl_store.specs.Hands.{known, IsOf, IsSameHand, IsSameStage, IsQuiet, IsStockOf};
+ghost use Rattle.bl_store.specs.Hands.{known, IsOf, IsSameHand, IsSameStage, IsQuiet, IsStockOf, HasRetired};
 ghost use Rattle.bl_store.specs.Told.{draft};
 ghost use Rattle.bl_store.specs.declared.view.Draft.{Draft};
 ghost use Rattle.bl_store.specs.declared.view.Dropping.TheVariants.{Dropped};
 
-use crate::plays::{Silent, Swap, Tick, Write};
+use crate::plays::{Settle, Swap, Tick, Write};
 use crate::rule::{PagePlay, PageRule};
 use crate::stock::Stock;
 use crate::store::{Hand, Store};
@@ -30,6 +30,7 @@ impl<D, R: PageRule<D>, A: Allocator> Store<D, R, A> {
         ensures same { IsSameHand hand.old.seat hand.new.seat × IsSameStage hand.old.seat hand.new.seat × (hand.new.seat.me.0.retires ≡ hand.old.seat.me.0.retires) }
         ensures stock { IsStockOf hand.new.seat stock.new × (stock.new.count + 1 ≡ stock.old.count) × (stock.new.page ≡ stock.old.page) }
         ensures told { (old : List ℕ) × M.then (known hand.old.seat) page (Held hand.old.number) old (known hand.new.seat) }
+        ensures retired { HasRetired hand.new.seat }
     {
         stock.count -= 1;
         let frame = stock.frames[stock.count as usize];
@@ -66,6 +67,7 @@ impl<D, R: PageRule<D>, A: Allocator> Store<D, R, A> {
         requires ticks { 0 < hand.old.seat.me.0.puts }
         ensures same { IsSameHand hand.old.seat hand.new.seat × IsSameStage hand.old.seat hand.new.seat × (known hand.new.seat ≡ known hand.old.seat) }
         ensures stock { (hand.new.seat.me.0.stock ≡ hand.old.seat.me.0.stock) × (hand.new.seat.me.0.puts + 1 ≡ hand.old.seat.me.0.puts) × (hand.new.seat.me.0.retires ≡ hand.old.seat.me.0.retires) }
+        ensures retired { HasRetired hand.new.seat }
     {
         let time = self
             .table
@@ -74,7 +76,7 @@ impl<D, R: PageRule<D>, A: Allocator> Store<D, R, A> {
         let at = self.layout.frame_owner(frame);
         self.table
             .shared
-            .store::<Silent>(&mut hand.seat, at, 4 * time + 3);
+            .store::<Settle>(&mut hand.seat, at, 4 * time + 3);
         hand.since = hand.since.wrapping_add(1);
         hand.due = hand.due.wrapping_add(1);
         if hand.waiting < 128 {
