@@ -6,11 +6,12 @@ use Rattle.bl_model.specs.declared.operation.Reply.{Reply}
 use Rattle.bl_page.specs.declared.page.Page.{Page}
 use Rattle.bl_page.specs.Machine.{Name, Act}
 use Rattle.bl_page.specs.Machine.Act.{Begin, End}
-use Rattle.bl_trails.specs.Trails.{Said, Mark, Trail, DoesAt, entries_at}
+use Rattle.bl_trails.specs.Trails.{Said, Mark, Trail, DoesAt, entries_at, marks_of}
 use Rattle.bl_trails.proofs.Pushes.{DoesAt-push}
 use Rattle.bl_steps.proofs.Frames.{Each-map}
 use Rattle.bl_proc.specs.declared.kinds.Proc.{Proc}
 use Rattle.bl_tables.specs.Knowing.{Run, bare as know}
+use Rattle.bl_bounds.specs.Latches.{OnlyLooks}
 use Rattle.bl_passes.specs.declared.known.Mine.{Mine}
 use Rattle.bl_passes.specs.Noting.{trail_of}
 use Rattle.bl_passes.specs.Seeing.{IsSeen, AreElse, AreOnlyOf, own, Holds}
@@ -98,3 +99,7 @@ since_said pass answer old d e said s t says =
     let here : own pass (trail_of e.trail) ≡ own pass (trail_of d.trail) = subst (λ (z : ℕ). own z (trail_of e.trail) ≡ own z (trail_of d.trail)) s.named t.own in
     let there : own pass (trail_of d.trail) ≡ d.past ++ entries_at (name pass (old.number + 1)) (know h.run).said = subst (λ (z : Name). own z.pass (trail_of d.trail) ≡ d.past ++ entries_at z (know h.run).said) (λ i. name (s.named i) (s.number i)) h.own in
     here ∙ (there ∙ ((λ i. s.past i ++ entries_at (name pass (old.number + 1)) (says h.run h.state i))))
+
+-- what it has done, by its name in the call
+pub own_looks : (pass : ℕ) (old d : Mine) {trail : Trail} → IsSince pass old d → OnlyLooks (marks_of (name d.pass d.number) trail) → OnlyLooks (marks_of (name pass (old.number + 1)) trail)
+own_looks pass old d {trail} s looks = subst (λ (p : Name). OnlyLooks (marks_of p trail)) (λ i. name (s.named i) (s.number i)) looks
