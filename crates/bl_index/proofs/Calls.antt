@@ -101,5 +101,5 @@ since_said pass answer old d e said s t says =
     here ∙ (there ∙ ((λ i. s.past i ++ entries_at (name pass (old.number + 1)) (says h.run h.state i))))
 
 -- what it has done, by its name in the call
-pub own_looks : (pass : ℕ) (old d : Mine) {trail : Trail} → IsSince pass old d → OnlyLooks (marks_of (name d.pass d.number) trail) → OnlyLooks (marks_of (name pass (old.number + 1)) trail)
-own_looks pass old d {trail} s looks = subst (λ (p : Name). OnlyLooks (marks_of p trail)) (λ i. name (s.named i) (s.number i)) looks
+pub own_looks : (pass : ℕ) (old d : Mine) (trail : Trail) → IsSince pass old d → OnlyLooks (marks_of (name d.pass d.number) trail) → OnlyLooks (marks_of (name pass (old.number + 1)) trail)
+own_looks pass old d trail s looks = subst (λ (p : Name). OnlyLooks (marks_of p trail)) (λ i. name (s.named i) (s.number i)) looks

@@ -83,5 +83,5 @@ part_done pass old d e p q rows since state is told takes looks = record {
   op = refl;
   work = refl;
   log = tt;
-  tidy = own_looks pass old d since looks;
+  tidy = own_looks pass old d (trail_of e.trail) since looks;
 }

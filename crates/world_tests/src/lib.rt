@@ -5,6 +5,8 @@
 #![tactic(auto)]
 
 #[cfg(test)]
+mod reached;
+#[cfg(test)]
 mod retired;
 #[cfg(test)]
 mod turns;

@@ -48,7 +48,7 @@ returns-in-Ending-clause-answers c =
       answered = record {
         answers = op_answered _ _ _ _ _ _ _ _ done (ap (λ (k : ℕ). Some (op.Part k)) (c.read.ensures.takes.1.0 ∙ inv.from)) (sym c.answer.ensures ∙ c.answered-reply.ensures);
         bounded = at_found _ _ _ _ _ inv.since.named inv.since.number inv.turn _ _ _ _ process.pages since.named since.number c.read.ensures.got (part_is_search _ _ process.state) c.finish.ensures.told;
-        looks = own_looks _ _ _ since c.finish.ensures.tidy;
+        looks = own_looks _ _ _ _ since c.finish.ensures.tidy;
       };
       refused = tt;
     }
@@ -65,7 +65,7 @@ returns-clause-answers c =
         bounded = end.0;
         gets = end.1 ∙ all;
         below = end.2;
-        looks = own_looks _ _ _ inv.since c.give_up.ensures.looks;
+        looks = own_looks _ _ _ _ inv.since c.give_up.ensures.looks;
       };
     }
 
