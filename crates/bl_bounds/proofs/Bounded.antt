@@ -19,14 +19,14 @@ use Rattle.bl_bounds.specs.Bounds.{gets_in, puts_in, IsWithinBound, IsBelowBound
 use Rattle.bl_bounds.specs.Searches.{IsSearch, IsUnderWay}
 use Rattle.bl_bounds.proofs.Counts.{own_gets_own, within_none}
 use Rattle.bl_bounds.proofs.Ahead.{ahead_some}
-use Rattle.bl_bounds.specs.Paces.{find_place, part_place, place_of, sought, IsKept, AllKept}
+use Rattle.bl_bounds.specs.Paces.{find_place, part_place, place_of, sought, IsKept, AllPaced}
 use Rattle.bl_bounds.specs.Paces.Place.{Nowhere}
-use Rattle.bl_bounds.proofs.Keeping.{Knows, knows, IsKeptThen, stays, then_kept}
+use Rattle.bl_bounds.proofs.Keeping.{Knows, knows, IsKeptThen, stays, then_paced}
 
 -- A turn at which the process stays as it is, and neither gets nor puts.
-pub idle_kept : (w w' : World Run) (m : Mark) → Extends w w' m (w.proc m.event.process) → IsGood bare w → IsGood bare w' → gets_in m.event.act ≡ 0 → puts_in m.event.act ≡ 0 → AllKept w → AllKept w'
-idle_kept w w' m e g g' no_get no_put all =
-    then_kept w w' m (w.proc m.event.process) e g g'
+pub idle_paced : (w w' : World Run) (m : Mark) → Extends w w' m (w.proc m.event.process) → IsGood bare w → IsGood bare w' → gets_in m.event.act ≡ 0 → puts_in m.event.act ≡ 0 → AllPaced w → AllPaced w'
+idle_paced w w' m e g g' no_get no_put all =
+    then_paced w w' m (w.proc m.event.process) e g g'
     (λ p i.
     let same : w'.proc p ≡ w.proc p = ap w'.proc i ∙ (e.proc.at ∙ ap w.proc (sym i)) in
     let known : Knows w' p (sought (w.proc p).state) (place_of (w.proc p).state) = subst (λ (r : Run). Knows w' p (sought r.state) (place_of r.state)) same (knows w' p g') in
@@ -34,8 +34,8 @@ idle_kept w w' m e g g' no_get no_put all =
     (stays w w' m (w.proc m.event.process) e g g' p (sought (w.proc p).state) (place_of (w.proc p).state) (own_gets_own p m (sym i) ∙ no_get) (λ put. absurd (omega (arith, no_put, put))) known (all p))) all
 
 -- A turn after which the process searches no more.
-pub left_kept : (w w' : World Run) (m : Mark) (b : Run) → Extends w w' m b → IsGood bare w → IsGood bare w' → place_of b.state ≡ Nowhere → AllKept w → AllKept w'
-left_kept w w' m b e g g' none all = then_kept w w' m b e g g' (λ p i. subst (λ place. IsKept w.size w'.now.contents (w.trail ++ m ∷ []) p (sought b.state) place) (sym none) tt) all
+pub left_paced : (w w' : World Run) (m : Mark) (b : Run) → Extends w w' m b → IsGood bare w → IsGood bare w' → place_of b.state ≡ Nowhere → AllPaced w → AllPaced w'
+left_paced w w' m b e g g' none all = then_paced w w' m b e g g' (λ p i. subst (λ place. IsKept w.size w'.now.contents (w.trail ++ m ∷ []) p (sought b.state) place) (sym none) tt) all
 
 -- A process that has not begun
 
@@ -66,12 +66,12 @@ early : (size : ℕ) (contents : ℕ → Page) (trail : Trail) (p : Name) (b : R
 early size contents trail p b e = early_of size contents trail p b.got b.child b.time b.state e
 
 -- a world in which none has begun
-pub first_kept : (w : World Run) → ((p : Name) → (bare (w.proc p)).stage ≡ Stage.Early) → AllKept w
-first_kept w blank p = early w.size w.now.contents w.trail p (w.proc p) (blank p)
+pub first_paced : (w : World Run) → ((p : Name) → (bare (w.proc p)).stage ≡ Stage.Early) → AllPaced w
+first_paced w blank p = early w.size w.now.contents w.trail p (w.proc p) (blank p)
 
 -- a world that one enters
-pub enter_kept : (w : World Run) (p : Name) (b : Run) → (bare b).stage ≡ Stage.Early → AllKept w → AllKept (with_proc w p b)
-enter_kept w p b e all q = elim (name_cases q p) [
+pub enter_paced : (w : World Run) (p : Name) (b : Run) → (bare b).stage ≡ Stage.Early → AllPaced w → AllPaced (with_proc w p b)
+enter_paced w p b e all q = elim (name_cases q p) [
   | inl i ↦ subst (λ (r : Run). IsKept w.size w.now.contents w.trail q (sought r.state) (place_of r.state)) (sym (ap (with_proc w p b).proc i ∙ (is_put_name p b w.proc).at)) (early w.size w.now.contents w.trail q b e)
   | inr n ↦ subst (λ (r : Run). IsKept w.size w.now.contents w.trail q (sought r.state) (place_of r.state)) (sym ((is_put_name p b w.proc).others q n)) (all q)
 ]
@@ -105,7 +105,7 @@ within_of w p (proc.Compress a) g is h s = absurd s
 within_of w p (proc.Reclaim a) g is h s = absurd s
 
 -- each search has been within its bound at every moment so far
-pub search_within : (w : World Run) (p : Name) → IsGood bare w → AllKept w → IsSearch (w.proc p).state → IsWithinBound w.size p w.trail
+pub search_within : (w : World Run) (p : Name) → IsGood bare w → AllPaced w → IsSearch (w.proc p).state → IsWithinBound w.size p w.trail
 search_within w p g all s = within_of w p (w.proc p).state g (knows w p g) (all p) s
 
 find_below : (w : World Run) (p : Name) (k : ℕ) (a : FindStage) → IsKept w.size w.now.contents w.trail p k (find_place a) → IsUnderWay (proc.Find (record { key = k; stage = a })) → IsBelowBound w.size p w.trail
@@ -132,5 +132,5 @@ below_of w p (proc.Compress a) h s = absurd s
 below_of w p (proc.Reclaim a) h s = absurd s
 
 -- and below it, while it is to get another page
-pub search_below : (w : World Run) (p : Name) → AllKept w → IsUnderWay (w.proc p).state → IsBelowBound w.size p w.trail
+pub search_below : (w : World Run) (p : Name) → AllPaced w → IsUnderWay (w.proc p).state → IsBelowBound w.size p w.trail
 search_below w p all s = below_of w p (w.proc p).state (all p) s

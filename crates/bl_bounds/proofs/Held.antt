@@ -9,7 +9,7 @@ use Rattle.bl_page.specs.Machine.Act.{Begin, End, Get, Put, Take, Latch, Retire,
 use Rattle.bl_trails.specs.Trails.{Mark, Trail, marks_of}
 use Rattle.bl_trails.proofs.Pushes.{name_cases, marks_of-own, marks_of-other}
 use Rattle.bl_steps.specs.Worlds.{World, Extends}
-use Rattle.bl_bounds.specs.Latches.{holds_after, holds_on, Keeps}
+use Rattle.bl_bounds.specs.Latches.{holds_after, holds_on, AllOwned}
 
 pub holds_push : (y : ℕ) (held : Bool) (ms : Trail) (m : Mark) → holds_on y held (ms ++ m ∷ []) ≡ holds_after y (holds_on y held ms) m.event.act
 holds_push y held [] m = refl
@@ -63,10 +63,6 @@ other_held s s' p q (Retire x) y ne en c h = c.3.1.others y (λ i. (let v : Held
 other_held s s' p q (Look it) y ne en c h = c.1 y ∙ h
 other_held s s' p q (Release x) y ne en c h = c.1.others y (λ i. (let v : Held q ≡ Retired en.0 = sym h ∙ (ap s.owner i ∙ en.1) in cc)) ∙ h
 other_held s s' p q Miss y ne en c h = c.1 y ∙ h
-
--- what is kept by the marks is owned
-abbrev pub AllOwned : {P : Type 0} → World P → Type 0
-AllOwned w = (p : Name) (y : ℕ) → Keeps (marks_of p w.trail) y → w.now.owner y ≡ Held p
 
 pub owned_on : {P : Type 0} (w w' : World P) (m : Mark) (b : P) → Extends w w' m b → AllOwned w → AllOwned w'
 owned_on w w' m b e all p y keeps = elim (name_cases m.event.process p) [

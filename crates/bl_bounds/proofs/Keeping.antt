@@ -28,7 +28,7 @@ use Rattle.bl_tables.specs.Turns.{event_of, IsTold}
 use Rattle.bl_tables.specs.Knowing.{Run, know_find, know_part, know_of, bare, find_end, part_end, end_of_proc}
 use Rattle.bl_bounds.specs.Bounds.{gets_in, puts_in}
 use Rattle.bl_bounds.proofs.Counts.{own_gets, other_puts, own_gets_own, own_gets_other, other_puts_own, other_puts_other}
-use Rattle.bl_bounds.specs.Paces.{IsAhead, Place, AreLeft, Spends, find_place, part_place, place_of, sought, IsKept, AllKept}
+use Rattle.bl_bounds.specs.Paces.{IsAhead, Place, AreLeft, Spends, find_place, part_place, place_of, sought, IsKept, AllPaced}
 use Rattle.bl_bounds.specs.Paces.Place.{Nowhere, Before, Top, On, After}
 use Rattle.bl_bounds.proofs.Ahead.{ahead_some, ahead_right, ahead_down, ahead_again}
 use Rattle.bl_bounds.proofs.Reach.{top_near, page_near}
@@ -219,8 +219,8 @@ module _ (w w' : World Run) (m : Mark) (b : Run) (e : Extends w w' m b) (g : IsG
   goes p k old what new own d sure h = absurd d.goes
 
   -- what the others keep, and the process after its turn
-  pub then_kept : ((p : Name) → p ≡ m.event.process → IsKeptThen p (sought b.state) (place_of b.state)) → AllKept w → AllKept w'
-  then_kept own all p =
+  pub then_paced : ((p : Name) → p ≡ m.event.process → IsKeptThen p (sought b.state) (place_of b.state)) → AllPaced w → AllPaced w'
+  then_paced own all p =
       let there : IsKeptThen p (sought (w'.proc p).state) (place_of (w'.proc p).state) = elim (name_cases p m.event.process) [
         | inl i ↦ subst (λ (r : Run). IsKeptThen p (sought r.state) (place_of r.state)) (sym (ap w'.proc i ∙ e.proc.at)) (own p i)
         | inr n ↦
@@ -232,12 +232,12 @@ module _ (w w' : World Run) (m : Mark) (b : Run) (e : Extends w w' m b) (g : IsG
       subst (λ t. IsKept w'.size w'.now.contents t p (sought (w'.proc p).state) (place_of (w'.proc p).state)) (sym e.trail) (subst (λ n. IsKept n w'.now.contents (w.trail ++ m ∷ []) p (sought (w'.proc p).state) (place_of (w'.proc p).state)) (sym e.size) there)
 
 -- A turn of a process that is told something of its next action, truly.
-pub turn_kept : (w w' : World Run) (m : Mark) (b : Run) (what : Seen) → Extends w w' m b → IsGood bare w → IsGood bare w' → Takes (w.proc m.event.process).state what b.state → IsTold w.now w.size (next_of (w.proc m.event.process).state) what → m.event.act ≡ event_of (end_of_proc (w.proc m.event.process).state) (next_of (w.proc m.event.process).state) what → AllKept w → AllKept w'
-turn_kept w w' m b what e g g' t told act all =
+pub turn_paced : (w w' : World Run) (m : Mark) (b : Run) (what : Seen) → Extends w w' m b → IsGood bare w → IsGood bare w' → Takes (w.proc m.event.process).state what b.state → IsTold w.now w.size (next_of (w.proc m.event.process).state) what → m.event.act ≡ event_of (end_of_proc (w.proc m.event.process).state) (next_of (w.proc m.event.process).state) what → AllPaced w → AllPaced w'
+turn_paced w w' m b what e g g' t told act all =
     let old = (w.proc m.event.process).state in
     let d = moved w.now w.size old what b.state t told in
     let did : Moved w.now.contents (sought old) (place_of old) what m.event.act (place_of b.state) = subst (λ a. Moved w.now.contents (sought old) (place_of old) what a (place_of b.state)) (sym act) d.1 in
-    then_kept w w' m b e g g'
+    then_paced w w' m b e g g'
     (λ p i. subst (λ k. IsKept w.size w'.now.contents (w.trail ++ m ∷ []) p k (place_of b.state)) (sym d.0)
     (goes w w' m b e g g' p (sought old) (place_of old) what (place_of b.state) (sym i) did
     (subst (λ q. Knows w q (sought old) (place_of old)) (sym i) (knows w m.event.process g))

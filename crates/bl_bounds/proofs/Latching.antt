@@ -3,7 +3,7 @@ use Rattle.std.proofs.Common.{ℕ, ◌≡◌, ◌≢◌, ◌⊎◌, ◌<◌, ◌
 use Rattle.bl_model.specs.declared.operation.Reply.{Reply}
 use Rattle.bl_page.specs.declared.page.Page.{Page}
 use Rattle.bl_page.specs.Machine.{Name}
-use Rattle.bl_page.specs.Machine.Act.{Put, Take, Latch, Miss}
+use Rattle.bl_page.specs.Machine.Act.{Put, Take, Latch}
 use Rattle.bl_trails.specs.Trails.{Mark, Trail, marks_of}
 use Rattle.bl_trails.proofs.Pushes.{name_cases, marks_of-own, marks_of-other}
 use Rattle.bl_steps.specs.Worlds.{World, Hold, Holds, IsGood, Extends}
@@ -37,6 +37,7 @@ use Rattle.bl_proc.specs.declared.inserting.InsertStage.{InsertStage}
 use Rattle.bl_proc.specs.declared.inserting.InsertStage.TheVariants as insert
 use Rattle.bl_proc.specs.declared.deleting.DeleteStage.{DeleteStage}
 use Rattle.bl_proc.specs.declared.deleting.DeleteStage.TheVariants as delete
+use Rattle.bl_proc.specs.declared.posting.Post.{Post}
 use Rattle.bl_proc.specs.declared.posting.PostStage.{PostStage}
 use Rattle.bl_proc.specs.declared.posting.PostStage.TheVariants as post
 use Rattle.bl_proc.specs.declared.kinds.Proc.{Proc}
@@ -53,9 +54,9 @@ use Rattle.bl_tables.specs.Compressing.{know_squeeze}
 use Rattle.bl_tables.specs.Knowing.{Run, know_growth, know_insert, know_delete, know_post, know_compress, know_of, bare, end_of_proc}
 use Rattle.bl_steps.proofs.After.{is_put_name}
 use Rattle.bl_tables.proofs.Starting.{with_proc}
-use Rattle.bl_bounds.specs.Latches.{Keeps, LatchesAlone, LatchesBeside, OnlyLooks, IsTidy, AllTidy}
+use Rattle.bl_bounds.specs.Searches.{IsSearch}
+use Rattle.bl_bounds.specs.Latches.{Keeps, LatchesAlone, LatchesBeside, IsLook, OnlyLooks, IsTidy, AllOwned, AllTidy}
 use Rattle.bl_bounds.proofs.Counts.{take_front}
-use Rattle.bl_bounds.proofs.Held.{AllOwned}
 
 -- A list goes on by one mark
 
@@ -88,10 +89,10 @@ module _ (marks : Trail) (m : Mark) where
     | inr e ↦ (let r = now x (ap (λ (v : Mark). v.event.act) e.1 ∙ does) in (r.0, r.1, λ y keeps. r.2 y (subst (λ t. Keeps t y) (take_now marks m i e.0) keeps)))
   ]
 
-  looks_on : OnlyLooks marks → ((x : ℕ) → (m.event.act ≢ Latch x) × (m.event.act ≢ Take x) × ((c : Page) → m.event.act ≢ Put x c)) → OnlyLooks (marks ++ m ∷ [])
-  looks_on h now i n x is = elim (push_cases marks m i n is) [
-    | inl e ↦ h i n x e.0
-    | inr e ↦ (let r = now x in let same = ap (λ (v : Mark). v.event.act) e.1 in (λ f. r.0 (same ∙ f), λ f. r.1 (same ∙ f), λ c f. r.2 c (same ∙ f)))
+  looks_on : OnlyLooks marks → IsLook m.event.act → OnlyLooks (marks ++ m ∷ [])
+  looks_on h now i n is = elim (push_cases marks m i n is) [
+    | inl e ↦ h i n e.0
+    | inr e ↦ subst IsLook (ap (λ (v : Mark). v.event.act) e.1) now
   ]
 
 -- An event latches where the action does
@@ -253,7 +254,7 @@ module _ (w : World Run) (p : Name) (g : IsGood bare w) (owned : AllOwned w) whe
   beside_turn : (m : Mark) → LatchesBeside (marks_of p w.trail) → ((x : ℕ) → m.event.act ≡ Latch x → AreTwo (bare (w.proc p)).holds) → LatchesBeside (marks_of p w.trail ++ m ∷ [])
   beside_turn m h two = beside_on (marks_of p w.trail) m h (λ x e. two_kept (two x e))
 
-  looks_turn : (m : Mark) → OnlyLooks (marks_of p w.trail) → ((x : ℕ) → (m.event.act ≢ Latch x) × (m.event.act ≢ Take x) × ((c : Page) → m.event.act ≢ Put x c)) → OnlyLooks (marks_of p w.trail ++ m ∷ [])
+  looks_turn : (m : Mark) → OnlyLooks (marks_of p w.trail) → IsLook m.event.act → OnlyLooks (marks_of p w.trail ++ m ∷ [])
   looks_turn m h none = looks_on (marks_of p w.trail) m h none
 
   -- of a process of that state, which is told something of its next action
@@ -267,15 +268,15 @@ module _ (w : World Run) (p : Name) (g : IsGood bare w) (owned : AllOwned w) whe
   state_turn m got child time (proc.Reclaim a) (proc.Reclaim c) what is t e h = tt
   state_turn m got child time old new what is t e h = absurd t
 
-  -- a miss of any process
-  still_turn : (m : Mark) (a : Proc) → m.event.act ≡ Miss → IsTidy a (marks_of p w.trail) → IsTidy a (marks_of p w.trail ++ m ∷ [])
-  still_turn m (proc.Find a) e h = looks_turn m h (λ x. (λ f. (let v = sym e ∙ f in cc), λ f. (let v = sym e ∙ f in cc), λ c f. (let v = sym e ∙ f in cc)))
-  still_turn m (proc.Part a) e h = looks_turn m h (λ x. (λ f. (let v = sym e ∙ f in cc), λ f. (let v = sym e ∙ f in cc), λ c f. (let v = sym e ∙ f in cc)))
-  still_turn m (proc.Insert a) e h = alone_turn m h (λ x f. absurd (let v = sym e ∙ f in cc))
-  still_turn m (proc.Delete a) e h = alone_turn m h (λ x f. absurd (let v = sym e ∙ f in cc))
-  still_turn m (proc.Post a) e h = alone_turn m h (λ x f. absurd (let v = sym e ∙ f in cc))
-  still_turn m (proc.Compress a) e h = beside_turn m h (λ x f. absurd (let v = sym e ∙ f in cc))
-  still_turn m (proc.Reclaim a) e h = tt
+  -- an act by which nothing is latched, taken or put leaves any process as it may be
+  still_turn : (m : Mark) (a : Proc) → IsLook m.event.act → IsTidy a (marks_of p w.trail) → IsTidy a (marks_of p w.trail ++ m ∷ [])
+  still_turn m (proc.Find a) looks h = looks_turn m h looks
+  still_turn m (proc.Part a) looks h = looks_turn m h looks
+  still_turn m (proc.Insert a) looks h = alone_turn m h (λ x f. absurd ((looks x).0 f))
+  still_turn m (proc.Delete a) looks h = alone_turn m h (λ x f. absurd ((looks x).0 f))
+  still_turn m (proc.Post a) looks h = alone_turn m h (λ x f. absurd ((looks x).0 f))
+  still_turn m (proc.Compress a) looks h = beside_turn m h (λ x f. absurd ((looks x).0 f))
+  still_turn m (proc.Reclaim a) looks h = tt
 
 -- what the others have done stays
 tidy_on : (w w' : World Run) (m : Mark) (b : Run) → Extends w w' m b → ((p : Name) → p ≡ m.event.process → IsTidy b.state (marks_of p w.trail ++ m ∷ [])) → AllTidy w → AllTidy w'
@@ -296,22 +297,45 @@ tidy_turn w w' m b what e g owned t does all =
     let r = w.proc m.event.process in
     tidy_on w w' m b e (λ p i. subst (λ q. IsTidy b.state (marks_of q w.trail ++ m ∷ [])) (sym i) (state_turn w m.event.process g owned m r.got r.child r.time r.state b.state what refl t does (all m.event.process))) all
 
--- A miss that changes nothing.
-pub tidy_miss : (w w' : World Run) (m : Mark) → Extends w w' m (w.proc m.event.process) → IsGood bare w → AllOwned w → m.event.act ≡ Miss → AllTidy w → AllTidy w'
-tidy_miss w w' m e g owned does all = tidy_on w w' m (w.proc m.event.process) e (λ p i. subst (λ q. IsTidy (w.proc m.event.process).state (marks_of q w.trail ++ m ∷ [])) (sym i) (still_turn w m.event.process g owned m (w.proc m.event.process).state does (all m.event.process))) all
+-- A turn at which the process stays as it is, and latches, takes and puts nothing.
+pub tidy_still : (w w' : World Run) (m : Mark) → Extends w w' m (w.proc m.event.process) → IsGood bare w → AllOwned w → IsLook m.event.act → AllTidy w → AllTidy w'
+tidy_still w w' m e g owned looks all = tidy_on w w' m (w.proc m.event.process) e (λ p i. subst (λ q. IsTidy (w.proc m.event.process).state (marks_of q w.trail ++ m ∷ [])) (sym i) (still_turn w m.event.process g owned m (w.proc m.event.process).state looks (all m.event.process))) all
+
+-- Who only looks latches alone.
+looks_alone : (marks : Trail) → OnlyLooks marks → LatchesAlone marks
+looks_alone marks h i m x y is does keeps = (h i m is x).0 does
+
+only_looks : (a : Proc) (marks : Trail) → IsSearch a → IsTidy a marks → OnlyLooks marks
+only_looks (proc.Find a) marks s h = h
+only_looks (proc.Part a) marks s h = h
+only_looks (proc.Insert a) marks s h = absurd s
+only_looks (proc.Delete a) marks s h = absurd s
+only_looks (proc.Post a) marks s h = absurd s
+only_looks (proc.Compress a) marks s h = absurd s
+only_looks (proc.Reclaim a) marks s h = absurd s
+
+-- A search that gives up has only looked, and is then a post that is over.
+pub looks_up : (w : World Run) (p : Name) (state : Proc) (m : Mark) → AllTidy w → (w.proc p).state ≡ state → IsSearch state → IsLook m.event.act → OnlyLooks (marks_of p w.trail ++ m ∷ [])
+looks_up w p state m all is search looks = looks_on (marks_of p w.trail) m (only_looks state (marks_of p w.trail) search (subst (λ z. IsTidy z (marks_of p w.trail)) is (all p))) looks
+
+pub tidy_left : (w w' : World Run) (m : Mark) (b : Run) (post : Post) → Extends w w' m b → b.state ≡ proc.Post post → IsSearch (w.proc m.event.process).state → IsLook m.event.act → AllTidy w → AllTidy w'
+tidy_left w w' m b post e is search looks all =
+    let marks : Trail = marks_of m.event.process w.trail ++ m ∷ [] in
+    let alone : LatchesAlone marks = looks_alone marks (looks_up w m.event.process (w.proc m.event.process).state m all refl search looks) in
+    tidy_on w w' m b e (λ p i. subst (λ q. IsTidy b.state (marks_of q w.trail ++ m ∷ [])) (sym i) (subst (λ z. IsTidy z marks) (sym is) alone)) all
 
 -- A process that has done nothing yet
 
-none_at : (i : ℕ) (m : Mark) → slice_get {X = Mark} [] i ≡ Some m → ⊥
+none_at : {X : Type 0} (i : ℕ) (m : Mark) → slice_get {X = Mark} [] i ≡ Some m → X
 none_at i m e = absurd (cc e)
 
 nothing_done : (a : Proc) (marks : Trail) → marks ≡ [] → IsTidy a marks
-nothing_done (proc.Find a) marks e = λ i m x is. absurd (none_at i m (sym (ap (λ (t : Trail). slice_get t i) e) ∙ is))
-nothing_done (proc.Part a) marks e = λ i m x is. absurd (none_at i m (sym (ap (λ (t : Trail). slice_get t i) e) ∙ is))
+nothing_done (proc.Find a) marks e = λ i m is. none_at i m (sym (ap (λ (t : Trail). slice_get t i) e) ∙ is)
+nothing_done (proc.Part a) marks e = λ i m is. none_at i m (sym (ap (λ (t : Trail). slice_get t i) e) ∙ is)
 nothing_done (proc.Insert a) marks e = λ i m x y is does keeps. none_at i m (sym (ap (λ (t : Trail). slice_get t i) e) ∙ is)
 nothing_done (proc.Delete a) marks e = λ i m x y is does keeps. none_at i m (sym (ap (λ (t : Trail). slice_get t i) e) ∙ is)
 nothing_done (proc.Post a) marks e = λ i m x y is does keeps. none_at i m (sym (ap (λ (t : Trail). slice_get t i) e) ∙ is)
-nothing_done (proc.Compress a) marks e = λ i m x is does. absurd (none_at i m (sym (ap (λ (t : Trail). slice_get t i) e) ∙ is))
+nothing_done (proc.Compress a) marks e = λ i m x is does. none_at i m (sym (ap (λ (t : Trail). slice_get t i) e) ∙ is)
 nothing_done (proc.Reclaim a) marks e = tt
 
 -- enters a world
@@ -324,7 +348,3 @@ tidy_enter w p b none all q = elim (name_cases q p) [
 -- A world in which nothing has happened.
 pub tidy_first : (w : World Run) → w.trail ≡ [] → AllTidy w
 tidy_first w e p = nothing_done (w.proc p).state (marks_of p w.trail) (ap (marks_of p) e)
-
--- Who only looks latches alone: a search that gives up is a post that is over.
-pub looks_alone : (marks : Trail) → OnlyLooks marks → LatchesAlone marks
-looks_alone marks h i m x y is does keeps = (h i m x is).0 does

@@ -4,7 +4,8 @@ pub mod Reach
 pub mod Spending
 pub mod Keeping
 pub mod Bounded
-pub mod Turns
-pub mod Others
 pub mod Held
 pub mod Latching
+pub mod Kept
+pub mod Turns
+pub mod Others

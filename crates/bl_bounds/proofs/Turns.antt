@@ -1,4 +1,4 @@
--- A turn of a process, as it keeps a world good and each search within its bound.
+-- A turn of a process, as it keeps a world good, each search within its bound, and what is held as a page is latched.
 use Rattle.std.proofs.Common.{◌≡◌, refl, sym, ap, ◌∙◌, subst}
 use Rattle.bl_model.specs.declared.operation.Reply.{Reply}
 use Rattle.bl_page.specs.declared.page.Page.{Page}
@@ -15,10 +15,9 @@ use Rattle.bl_tables.specs.Knowing.{Run, know, bare, end_of_proc, run_next}
 use Rattle.bl_tables.proofs.Logged.{bare_good}
 use Rattle.bl_tables.proofs.Turning.{turn, idle_turn}
 use Rattle.bl_bounds.specs.Paces.{AllKept}
-use Rattle.bl_bounds.proofs.Keeping.{turn_kept}
-use Rattle.bl_bounds.proofs.Bounded.{idle_kept}
+use Rattle.bl_bounds.proofs.Kept.{turn_kept, idle_kept}
 
--- The world after the event is good, and each search has kept its bound if it had.
+-- The world after the event is good, and each process has kept what it had kept.
 pub record Paced (w : World Run) (p : Name) (a : Act Page Reply) (s : State Page) (b : Run) : Type 0 where
   pub turned : Turned know w p a s b
   pub kept : AllKept w → AllKept turned.next
@@ -49,4 +48,4 @@ paced_turn w p a new what s is g t told shown does =
 pub paced_idle : (w : World Run) (p : Name) (s : State Page) → IsGood know w → Does w.now p Miss s → Paced w p Miss s (w.proc p)
 paced_idle w p s g does =
     let r = idle_turn w p s g does in
-    record { turned = r; kept = idle_kept w r.next _ r.extends (bare_good w g) (bare_good r.next r.good) refl refl }
+    record { turned = r; kept = idle_kept w r.next _ r.extends (bare_good w g) (bare_good r.next r.good) refl refl (λ x. (λ e. cc, λ e. cc, λ c e. cc)) }

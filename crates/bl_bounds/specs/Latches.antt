@@ -3,6 +3,7 @@ use Rattle.std.specs.Prelude.{ℕ, ◌≡◌, ◌≢◌, ◌⊎◌, ◌==◌, Bo
 use Rattle.bl_model.specs.declared.operation.Reply.{Reply}
 use Rattle.bl_page.specs.declared.page.Page.{Page}
 use Rattle.bl_page.specs.Machine.{Name, Act}
+use Rattle.bl_page.specs.Machine.Owner.{Held}
 use Rattle.bl_page.specs.Machine.Act.{Begin, End, Get, Put, Take, Latch, Retire, Look, Release, Miss}
 use Rattle.bl_trails.specs.Trails.{Mark, Trail, marks_of}
 use Rattle.bl_steps.specs.Worlds.{World}
@@ -40,9 +41,13 @@ LatchesAlone marks = (i : ℕ) (m : Mark) (x y : ℕ) → slice_get marks i ≡ 
 abbrev pub LatchesBeside : Trail → Type 0
 LatchesBeside marks = (i : ℕ) (m : Mark) (x : ℕ) → slice_get marks i ≡ Some m → m.event.act ≡ Latch x → (a : ℕ) × (b : ℕ) × ((y : ℕ) → Keeps (take i marks) y → (y ≡ a) ⊎ (y ≡ b))
 
+-- an act that latches, takes and puts nothing
+abbrev pub IsLook : Act Page Reply → Type 0
+IsLook a = (x : ℕ) → (a ≢ Latch x) × (a ≢ Take x) × ((c : Page) → a ≢ Put x c)
+
 -- It latches, takes and puts nothing.
 abbrev pub OnlyLooks : Trail → Type 0
-OnlyLooks marks = (i : ℕ) (m : Mark) (x : ℕ) → slice_get marks i ≡ Some m → (m.event.act ≢ Latch x) × (m.event.act ≢ Take x) × ((c : Page) → m.event.act ≢ Put x c)
+OnlyLooks marks = (i : ℕ) (m : Mark) → slice_get marks i ≡ Some m → IsLook m.event.act
 
 -- What holds of each kind of process. A compression holds the parent and the left child at most; one that releases pages has
 -- no latch, which is not said here.
@@ -54,6 +59,10 @@ IsTidy (proc.Post p) marks = LatchesAlone marks
 IsTidy (proc.Part p) marks = OnlyLooks marks
 IsTidy (proc.Compress p) marks = LatchesBeside marks
 IsTidy (proc.Reclaim p) marks = Unit {0}
+
+-- what is kept by the marks is owned
+abbrev pub AllOwned : {P : Type 0} → World P → Type 0
+AllOwned w = (p : Name) (y : ℕ) → Keeps (marks_of p w.trail) y → w.now.owner y ≡ Held p
 
 abbrev pub AllTidy : World Run → Type 0
 AllTidy w = (p : Name) → IsTidy (w.proc p).state (marks_of p w.trail)

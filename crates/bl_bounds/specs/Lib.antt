@@ -1,4 +1,4 @@
 pub mod Bounds
 pub mod Searches
-pub mod Paces
 pub mod Latches
+pub mod Paces

@@ -1,5 +1,5 @@
 -- How each search keeps its bound: so many gets are ahead of it, if nothing changes any more, that with those that it has
--- done they are within the bound. Each turn of each process keeps that.
+-- done they are within the bound. Each turn of each process keeps that, and what the processes hold as they latch.
 use Rattle.std.specs.Prelude.{ℕ, suc, ◌≡◌, ◌⊎◌, ◌+◌, ◌≤◌}
 use Rattle.bl_page.specs.declared.page.Page.{Page}
 use Rattle.bl_page.specs.Machine.{Name}
@@ -16,6 +16,7 @@ use Rattle.bl_proc.specs.declared.parts.PartStage.TheVariants as part
 use Rattle.bl_proc.specs.declared.kinds.Proc.{Proc}
 use Rattle.bl_proc.specs.declared.kinds.Proc.TheVariants as proc
 use Rattle.bl_tables.specs.Knowing.{Run}
+use Rattle.bl_bounds.specs.Latches.{AllOwned, AllTidy}
 use Rattle.bl_bounds.specs.Bounds.{gets_of, puts_near, most_gets, IsWithinBound}
 
 -- From page x on so many gets lead to the leaf that covers the key: each page leads on, or to the anchor again, and from there
@@ -93,5 +94,11 @@ IsKept size contents trail p k (On x) = Spends size contents trail p k (On x)
 IsKept size contents trail p k After = Spends size contents trail p k After
 
 -- each search keeps its bound
-abbrev pub AllKept : World Run → Type 0
-AllKept w = (p : Name) → IsKept w.size w.now.contents w.trail p (sought (w.proc p).state) (place_of (w.proc p).state)
+abbrev pub AllPaced : World Run → Type 0
+AllPaced w = (p : Name) → IsKept w.size w.now.contents w.trail p (sought (w.proc p).state) (place_of (w.proc p).state)
+
+-- What each process keeps, turn by turn: a search its bound, and a process that latches what it may hold then.
+pub record AllKept (w : World Run) : Type 0 where
+  pub paced : AllPaced w
+  pub owned : AllOwned w
+  pub tidy : AllTidy w

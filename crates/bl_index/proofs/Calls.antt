@@ -1,20 +1,23 @@
 -- What a pass knows of its call, event by event.
-use Rattle.std.proofs.Common.{ℕ, ◌≡◌, ◌+◌, ◌<◌, ◌++◌, Option, Some, None, List, [], ◌∷◌, refl, sym, ap, ◌∙◌, subst, append_assoc, arith}
+use Rattle.std.proofs.Common.{ℕ, ◌≡◌, ◌≢◌, ◌+◌, ◌<◌, ◌++◌, Option, Some, None, List, [], ◌∷◌, refl, sym, ap, ◌∙◌, subst, append_assoc, arith}
 use Rattle.std.specs.Prelude.{slice_get}
 use Rattle.bl_model.specs.declared.operation.Entry.{Entry}
 use Rattle.bl_model.specs.declared.operation.Reply.{Reply}
 use Rattle.bl_page.specs.declared.page.Page.{Page}
 use Rattle.bl_page.specs.Machine.{Name, Act}
 use Rattle.bl_page.specs.Machine.Act.{Begin, End}
-use Rattle.bl_trails.specs.Trails.{Said, Mark, Trail, DoesAt, entries_at}
-use Rattle.bl_trails.proofs.Pushes.{DoesAt-push, DoesAt-last}
+use Rattle.bl_trails.specs.Trails.{Said, Mark, Trail, DoesAt, entries_at, marks_of}
+use Rattle.bl_trails.proofs.Pushes.{DoesAt-push}
+use Rattle.bl_steps.proofs.Frames.{Each-map}
 use Rattle.bl_proc.specs.declared.kinds.Proc.{Proc}
 use Rattle.bl_tables.specs.Knowing.{Run, bare as know}
+use Rattle.bl_bounds.specs.Latches.{OnlyLooks}
 use Rattle.bl_passes.specs.declared.known.Mine.{Mine}
 use Rattle.bl_passes.specs.Noting.{trail_of}
-use Rattle.bl_passes.specs.Seeing.{IsSeen, own, Holds}
+use Rattle.bl_passes.specs.Seeing.{IsSeen, AreElse, AreOnlyOf, own, Holds}
 use Rattle.bl_passes.specs.Fitting.{name}
 use Rattle.bl_passes.specs.Told.{HasOwn, Notes, Steps, Begins, Finishes}
+use Rattle.bl_passes.proofs.Marks.{each_append}
 use Rattle.bl_index.specs.Runs.{IsSince}
 
 -- an event stays where it is when others follow
@@ -29,51 +32,64 @@ does_on xs (y ∷ ys) i p a h =
     let all : DoesAt ((xs ++ y ∷ []) ++ ys) i p a = does_on (xs ++ y ∷ []) ys i p a one in
     subst (λ (z : Trail). DoesAt z i p a) (append_assoc xs (y ∷ []) ys) all
 
-last_does : (xs : Trail) (m : Mark) (p : Name) (a : Act Page Reply) → m.event ≡ record { process = p; act = a } → (i : ℕ) × DoesAt (xs ++ m ∷ []) i p a
-last_does xs m p a e = (let h = DoesAt-last xs m in (_, record { mark = h.mark; is = h.is; event = h.event ∙ e }))
+-- a trail with an event in it goes on
+longer : (old before : Trail) (first : Mark) (since tail : Trail) → (old ++ (before ++ first ∷ since)) ++ tail ≡ old ++ (before ++ first ∷ (since ++ tail))
+longer old before first since tail = append_assoc old (before ++ first ∷ since) tail ∙ ap (λ (z : Trail). old ++ z) (append_assoc before (first ∷ since) tail)
+
+-- events of other passes
+others_only : (p : Name) (marks : Trail) → AreElse p.pass marks → AreOnlyOf p marks
+others_only p marks h = Each-map _ _ marks (λ (m : Mark) (ne : m.event.process.pass ≢ p.pass) (e : m.event.process.pass ≡ p.pass). absurd (ne e)) h
 
 pub since_begin : (pass pages passes : ℕ) (process : Proc) (old d : Mine) → Begins pass pages passes process old d → IsSince pass old d
 since_begin pass pages passes process old d b =
-    let more : Trail = b.notes.between ++ b.notes.last ∷ [] in
-    let begun = last_does b.notes.between b.notes.last (name pass (old.number + 1)) Begin b.notes.event in
     record {
       named = b.notes.pass;
       number = b.notes.number;
       past = b.past;
       own = b.own;
-      more = more;
+      before = b.notes.between;
+      first = b.notes.last;
+      since = [];
       begins = b.notes.trail;
-      place = begun.0;
-      begun = begun.1;
+      begun = b.notes.event;
+      none = b.notes.others;
+      only = tt;
     }
 
 pub since_step : (pass : ℕ) (act : Act Page Reply) (old d e : Mine) → IsSince pass old d → Steps act d e → IsSince pass old e
 since_step pass act old d e s t =
     let tail : Trail = t.notes.between ++ t.notes.last ∷ [] in
+    let p = name pass (old.number + 1) in
+    let here : AreOnlyOf p tail = each_append _ t.notes.between (t.notes.last ∷ []) (others_only p t.notes.between (subst (λ (z : ℕ). AreElse z t.notes.between) s.named t.notes.others)) ((λ e. ap (λ v. v.process) t.notes.event ∙ (λ i. name (s.named i) (s.number i))), tt) in
     record {
       named = t.notes.pass ∙ s.named;
       number = t.notes.number ∙ s.number;
       past = t.past ∙ s.past;
       own = t.own;
-      more = s.more ++ tail;
-      begins = t.notes.trail ∙ (ap (λ (z : Trail). z ++ tail) s.begins ∙ append_assoc (trail_of old.trail) s.more tail);
-      place = s.place;
-      begun = does_on s.more tail s.place (name pass (old.number + 1)) Begin s.begun;
+      before = s.before;
+      first = s.first;
+      since = s.since ++ tail;
+      begins = t.notes.trail ∙ (ap (λ (z : Trail). z ++ tail) s.begins ∙ longer (trail_of old.trail) s.before s.first s.since tail);
+      begun = s.begun;
+      none = s.none;
+      only = each_append _ s.since tail s.only here;
     }
 
 -- its end stands last
 pub since_end : (pass : ℕ) (answer : Option Reply) (old d e : Mine) → IsSince pass old d → Finishes answer d e → Holds (name pass (old.number + 1)) answer (trail_of old.trail) (trail_of e.trail)
 since_end pass answer old d e s t =
+    let p = name pass (old.number + 1) in
     let tail : Trail = t.notes.between ++ t.notes.last ∷ [] in
     record {
-      more = s.more ++ tail;
-      begins = t.notes.trail ∙ (ap (λ (z : Trail). z ++ tail) s.begins ∙ append_assoc (trail_of old.trail) s.more tail);
-      place = s.place;
-      begun = does_on s.more tail s.place (name pass (old.number + 1)) Begin s.begun;
-      before = s.more ++ t.notes.between;
+      before = s.before;
+      first = s.first;
+      between = s.since ++ t.notes.between;
       last = t.notes.last;
-      ends = sym (append_assoc s.more t.notes.between (t.notes.last ∷ []));
+      begins = t.notes.trail ∙ (ap (λ (z : Trail). z ++ tail) s.begins ∙ (longer (trail_of old.trail) s.before s.first s.since tail ∙ ap (λ (z : Trail). trail_of old.trail ++ (s.before ++ s.first ∷ z)) (sym (append_assoc s.since t.notes.between (t.notes.last ∷ [])))));
+      begun = s.begun;
       ended = t.notes.event ∙ (λ i. record { process = name (s.named i) (s.number i); act = End answer });
+      none = s.none;
+      only = each_append _ s.since t.notes.between s.only (others_only p t.notes.between (subst (λ (z : ℕ). AreElse z t.notes.between) s.named t.notes.others));
     }
 
 -- what the pass has said by then
@@ -83,3 +99,7 @@ since_said pass answer old d e said s t says =
     let here : own pass (trail_of e.trail) ≡ own pass (trail_of d.trail) = subst (λ (z : ℕ). own z (trail_of e.trail) ≡ own z (trail_of d.trail)) s.named t.own in
     let there : own pass (trail_of d.trail) ≡ d.past ++ entries_at (name pass (old.number + 1)) (know h.run).said = subst (λ (z : Name). own z.pass (trail_of d.trail) ≡ d.past ++ entries_at z (know h.run).said) (λ i. name (s.named i) (s.number i)) h.own in
     here ∙ (there ∙ ((λ i. s.past i ++ entries_at (name pass (old.number + 1)) (says h.run h.state i))))
+
+-- what it has done, by its name in the call
+pub own_looks : (pass : ℕ) (old d : Mine) (trail : Trail) → IsSince pass old d → OnlyLooks (marks_of (name d.pass d.number) trail) → OnlyLooks (marks_of (name pass (old.number + 1)) trail)
+own_looks pass old d trail s looks = subst (λ (p : Name). OnlyLooks (marks_of p trail)) (λ i. name (s.named i) (s.number i)) looks

@@ -20,8 +20,8 @@ use Rattle.bl_layout.specs.declared.layout.Layout.{Layout}
 use Rattle.bl_store.specs.Pages.{Owner, Stage, Idle, Running, Pages, Stands, told, Meets}
 use Rattle.bl_passes.specs.declared.known.Mine.{Mine}
 use Rattle.bl_passes.specs.Noting.{trail_of, all_noted}
-use Rattle.bl_passes.specs.Seeing.{IsSeen, AreWithin, own, GoesOnFrom}
-use Rattle.bl_passes.specs.Fitting.{name, owner_in, AreElse, AreUpTo, IsAtStage, IsHand, IsRun, Fits}
+use Rattle.bl_passes.specs.Seeing.{IsSeen, AreWithin, AreElse, own, GoesOnFrom}
+use Rattle.bl_passes.specs.Fitting.{name, owner_in, AreUpTo, IsAtStage, IsHand, IsRun, Fits}
 use Rattle.bl_passes.proofs.Notings.{trail_back}
 use Rattle.bl_passes.proofs.Entries.{own-other}
 use Rattle.bl_passes.proofs.Marks.{each_append}
@@ -77,6 +77,7 @@ module _ (s : Pages Mine) (f : Fits s) (n : ℕ) (st : Stage) (d : Mine) (at : S
     kept = f.kept;
     opening = f.opening;
     first = f.first;
+    moments = f.moments;
     size = f.size;
     clock = f.clock;
     pages = f.pages;
@@ -127,7 +128,7 @@ learns_all l n m d e s st f o at at_m ne =
           none = ap (own n) whole ∙ h.mine;
           none_theirs = ap (own m) whole ∙ k.mine;
         };
-        seen = subst IsSeen (sym whole) (world_seen w f.good (fits_logs s f) f.opening f.first);
+        seen = subst IsSeen (sym whole) (world_seen w f.good (fits_logs s f) f.opening f.first f.moments);
         within = subst (λ (z : ℕ). AreWithin z (trail_of (all_noted w.trail))) o.hands (subst (AreWithin (length s.hands)) (sym whole) f.within);
         runs = refl;
       },

@@ -14,10 +14,15 @@ use Rattle.bl_proc.specs.Processes.{Takes}
 use Rattle.bl_bounds.specs.Searches.{IsSearch, IsUnderWay}
 use Rattle.bl_tables.specs.Knowing.{know_part, end_of_proc}
 use Rattle.bl_courses.proofs.PartsFollowing.{part_follows}
+use Rattle.bl_trails.specs.Trails.{marks_of}
+use Rattle.bl_bounds.specs.Latches.{OnlyLooks}
 use Rattle.bl_passes.specs.declared.known.Mine.{Mine}
+use Rattle.bl_passes.specs.Noting.{trail_of}
+use Rattle.bl_passes.specs.Fitting.{name}
 use Rattle.bl_passes.specs.Told.{Finishes, MayGiveUp}
 use Rattle.bl_index.specs.Runs.{IsSince, IsDone}
 use Rattle.bl_index.specs.Searching.{IsListing}
+use Rattle.bl_index.proofs.Calls.{own_looks}
 use Rattle.bl_index.proofs.Silent.{IsSilent, may_give_up}
 
 not_end : (a : PartStage) → IsListing a → part_next_in a ≢ act.End
@@ -46,7 +51,7 @@ silent from (Ending r) is = absurd is
 silent from (Over r) is = absurd is
 
 pub part_may_give_up : (p : Part) (state : Proc) → state ≡ proc.Part p → IsListing p.stage → MayGiveUp state
-part_may_give_up p state e is = may_give_up state (proc.Part p) e (λ got child time. silent p.from p.stage is)
+part_may_give_up p state e is = may_give_up state (proc.Part p) e tt (λ got child time. silent p.from p.stage is)
 
 -- and it is under way
 parts_on : (p : Part) → IsListing p.stage → IsUnderWay (proc.Part p)
@@ -66,8 +71,8 @@ pub part_is_search : (p : Part) (state : Proc) → state ≡ proc.Part p → IsS
 part_is_search p state e = subst IsSearch (sym e) tt
 
 -- a part that has found its leaf, and has ended
-pub part_done : (pass : ℕ) (old d e : Mine) (p q : Part) (rows : PartRows) → IsSince pass old d → d.state ≡ proc.Part p → p.stage ≡ Ending rows → Finishes (end_of_proc (proc.Part p)) d e → Takes (proc.Part p) seen.Done (proc.Part q) → IsDone pass old e (proc.Part p) (proc.Part q)
-part_done pass old d e p q rows since state is told takes = record {
+pub part_done : (pass : ℕ) (old d e : Mine) (p q : Part) (rows : PartRows) → IsSince pass old d → d.state ≡ proc.Part p → p.stage ≡ Ending rows → Finishes (end_of_proc (proc.Part p)) d e → Takes (proc.Part p) seen.Done (proc.Part q) → OnlyLooks (marks_of (name d.pass d.number) (trail_of e.trail)) → IsDone pass old e (proc.Part p) (proc.Part q)
+part_done pass old d e p q rows since state is told takes looks = record {
   d = d;
   before = proc.Part p;
   since = since;
@@ -78,4 +83,5 @@ part_done pass old d e p q rows since state is told takes = record {
   op = refl;
   work = refl;
   log = tt;
+  tidy = own_looks pass old d (trail_of e.trail) since looks;
 }

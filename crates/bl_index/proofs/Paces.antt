@@ -16,7 +16,8 @@ use Rattle.bl_bounds.proofs.Counts.{since_first, own_gets, own_gets_own, gets_on
 use Rattle.bl_bounds.proofs.Others.{others_get, Quiet, quiet, quiet_below}
 use Rattle.bl_passes.specs.declared.known.Mine.{Mine}
 use Rattle.bl_passes.specs.Noting.{trail_of}
-use Rattle.bl_passes.specs.Fitting.{name, AreElse, AreUpTo}
+use Rattle.bl_passes.specs.Seeing.{AreElse}
+use Rattle.bl_passes.specs.Fitting.{name, AreUpTo}
 use Rattle.bl_passes.specs.Told.{Notes, Steps, Begins, Finishes}
 use Rattle.bl_passes.proofs.Marks.{each_append}
 use Rattle.bl_index.specs.Runs.{IsAtTurn}

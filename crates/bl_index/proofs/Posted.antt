@@ -103,5 +103,6 @@ post_answered pass old e first q level key what next d is a =
     record {
       adds = quiet_adds pass old e first (proc.Post q) (proc.Post p.old) d p.before_is refl (λ r h. ap (λ (z : Proc). (know_of r.got r.child r.time z).said) h ∙ silent_at_end p.old.level p.old.key r.got r.child p.old.stage p.at_end);
       means = subst (λ (z : ℕ × ℕ). MeansPosted z.0 z.1 what marks) (λ i. (p.level_is i, p.key_is i)) (stage_means q.level q.key q.stage what next marks a d.log);
+      latches = d.tidy;
       hint = subst (λ (z : ℕ × ℕ). MeansHint z.0 z.1 what next marks) (λ i. (p.level_is i, p.key_is i)) (stage_hints q.level q.key q.stage what next marks a d.log);
     }

@@ -53,7 +53,7 @@ silent key (Ending v) is = absurd is
 silent key (Over v) is = absurd is
 
 pub find_may_give_up : (p : FindState) (state : Proc) → state ≡ Find p → IsSearching p.stage → MayGiveUp state
-find_may_give_up p state e is = may_give_up state (Find p) e (λ got child time. silent p.key p.stage is)
+find_may_give_up p state e is = may_give_up state (Find p) e tt (λ got child time. silent p.key p.stage is)
 
 -- and it is under way
 finds_on : (p : FindState) → IsSearching p.stage → IsUnderWay (Find p)

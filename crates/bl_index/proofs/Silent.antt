@@ -4,6 +4,7 @@ use Rattle.bl_page.specs.declared.page.Page.{Page}
 use Rattle.bl_steps.specs.Worlds.{Know, Stage}
 use Rattle.bl_proc.specs.declared.kinds.Proc.{Proc}
 use Rattle.bl_tables.specs.Knowing.{Run, know_of}
+use Rattle.bl_bounds.specs.Searches.{IsSearch}
 use Rattle.bl_passes.specs.declared.known.Mine.{Mine}
 use Rattle.bl_passes.specs.Noting.{trail_of}
 use Rattle.bl_passes.specs.Seeing.{own}
@@ -19,8 +20,9 @@ pub record IsSilent (k : Know) : Type 0 where
   pub empty : k.holds ≡ []
   pub no_middle : k.middle ≡ None
 
-pub may_give_up : (state process : Proc) → state ≡ process → ((got : ℕ → Page) (child time : ℕ) → IsSilent (know_of got child time process)) → MayGiveUp state
-may_give_up state process is silent = record {
+pub may_give_up : (state process : Proc) → state ≡ process → IsSearch process → ((got : ℕ → Page) (child time : ℕ) → IsSilent (know_of got child time process)) → MayGiveUp state
+may_give_up state process is search silent = record {
+  search = subst IsSearch (sym is) search;
   busy = λ r e. (here r e).busy;
   silent = λ r e. (here r e).silent;
   empty = λ r e. (here r e).empty;

@@ -9,6 +9,7 @@ use Rattle.bl_page.specs.Machine.{Name}
 use Rattle.bl_trails.specs.Trails.{Mark, Trail, history_of, marks_of}
 use Rattle.bl_steps.specs.Worlds.{Each}
 use Rattle.bl_bounds.specs.Bounds.{gets_of, IsWithinBound, IsBelowBound}
+use Rattle.bl_bounds.specs.Latches.{LatchesAlone, LatchesBeside, OnlyLooks}
 use Rattle.bl_ways.specs.declared.answers.Hint.{Hint}
 use Rattle.bl_ways.specs.declared.answers.Posted.{Posted}
 use Rattle.bl_ways.specs.declared.answers.Squeezed.{Squeezed}
@@ -53,8 +54,9 @@ released_by pass = pass.hand.seat.me.0.releases
 abbrev pub IsSamePass : Pass → Pass → Type 0
 IsSamePass old new = (new.hand.seat.table_id ≡ old.hand.seat.table_id) × (new.hand.seat.me.0.layout ≡ old.hand.seat.me.0.layout) × (new.hand.number ≡ old.hand.number)
 
--- A call of the pass is answered: it is one process, begun and ended after all that the pass had seen. What the pass has
--- seen then is a trail that an index may have, and its only new entry of this pass is this operation with this reply.
+-- A call of the pass is answered: it is one process, begun and ended after all that the pass had seen, and the pass has done
+-- nothing else since. What the pass has seen then is a trail that an index may have, and its only new entry of this pass is
+-- this operation with this reply.
 pub record Answers (pass : ℕ) (op : Op) (reply : Reply) (old new : Trail) : Type 0 where
   pub number : ℕ
   pub holds : Holds (name pass number) (Some reply) old new
@@ -80,41 +82,51 @@ pub record Sweeps (pass : ℕ) (old new : Trail) : Type 0 where
   pub seen : IsSeen old → IsSeen new
   pub none : own pass new ≡ own pass old
 
--- A search of an index of so many pages is answered. At every moment it had got no more pages than its bound.
+-- A search of an index of so many pages is answered. At every moment it had got no more pages than its bound, and it has latched,
+-- taken and put none.
 pub record Finds (pages pass : ℕ) (op : Op) (reply : Reply) (old new : Trail) : Type 0 where
   pub answers : Answers pass op reply old new
   pub bounded : IsWithinBound pages (name pass answers.number) new
+  pub looks : OnlyLooks (marks_of (name pass answers.number) new)
 
--- It ran out of so many turns and said nothing: it has got so many pages, which are fewer than its bound.
+-- It ran out of so many turns and said nothing: it has got so many pages, which are fewer than its bound, and has latched, taken
+-- and put none.
 pub record RunsOut (pages pass turns : ℕ) (old new : Trail) : Type 0 where
   pub adds : Adds pass old new
   pub bounded : IsWithinBound pages (name pass adds.number) new
   pub gets : gets_of (name pass adds.number) new ≡ turns
   pub below : IsBelowBound pages (name pass adds.number) new
+  pub looks : OnlyLooks (marks_of (name pass adds.number) new)
 
 -- A search is answered, or runs out of turns.
 pub record MayAnswer (pages pass turns : ℕ) (op : Op) (result : Result Reply OutOfTurns) (old new : Trail) : Type 0 where
   pub answered : IfOk result (λ reply. Finds pages pass op reply old new)
   pub refused : IfErr result (λ fault. RunsOut pages pass turns old new)
 
--- An insertion is answered, and the hint beside its reply means what its process has put.
+-- An insertion is answered, and the hint beside its reply means what its process has put. It held no page when it latched
+-- one.
 pub record Inserts (pass key value : ℕ) (reply : Reply) (next : Option Hint) (old new : Trail) : Type 0 where
   pub answers : Answers pass (op.Insert key value) reply old new
   pub hint : MeansInserted reply next (marks_of (name pass answers.number) new)
+  pub latches : LatchesAlone (marks_of (name pass answers.number) new)
 
 -- The same of a deletion.
 pub record Deletes (pass key : ℕ) (reply : Reply) (next : Option Hint) (old new : Trail) : Type 0 where
   pub answers : Answers pass (op.Delete key) reply old new
   pub hint : MeansDeleted reply next (marks_of (name pass answers.number) new)
+  pub latches : LatchesAlone (marks_of (name pass answers.number) new)
 
--- A post is answered: it says nothing of the map, and what its process has done is what its answer and its hint mean.
+-- A post is answered: it says nothing of the map, and what its process has done is what its answer and its hint mean. It held no
+-- page when it latched one.
 pub record Posts (pass level key : ℕ) (answer : Posted) (next : Option Hint) (old new : Trail) : Type 0 where
   pub adds : Adds pass old new
   pub means : MeansPosted level key answer (marks_of (name pass adds.number) new)
   pub hint : MeansHint level key answer next (marks_of (name pass adds.number) new)
+  pub latches : LatchesAlone (marks_of (name pass adds.number) new)
 
 -- A compression is answered: it says nothing of the map, and what its process has done is what its answer means with the hint
--- beside it.
+-- beside it. It held two pages at most when it latched one.
 pub record Compresses (pass level key : ℕ) (answer : Squeezed) (next : Option Hint) (old new : Trail) : Type 0 where
   pub adds : Adds pass old new
   pub means : MeansSqueezed level key answer next (marks_of (name pass adds.number) new)
+  pub latches : LatchesBeside (marks_of (name pass adds.number) new)

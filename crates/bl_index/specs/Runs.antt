@@ -1,5 +1,5 @@
 -- A pass that runs a process, from its begin on.
-use Rattle.std.specs.Prelude.{◌≡◌, ◌≢◌, ℕ, ◌+◌, ◌++◌, true, List, Option, Some, None}
+use Rattle.std.specs.Prelude.{◌≡◌, ◌≢◌, ℕ, ◌+◌, ◌++◌, true, List, ◌∷◌, Option, Some, None}
 use Rattle.atomic_table.specs.declared.shared.Seat.{Seat}
 use Rattle.bl_layout.specs.declared.layout.Layout.{Layout}
 use Rattle.bl_store.specs.declared.view.View.{View}
@@ -16,13 +16,14 @@ use Rattle.bl_index.specs.declared.stepping.Stepped.{Stepped}
 use Rattle.bl_index.specs.declared.stepping.Stepped.TheVariants.{On, AtEnd}
 use Rattle.bl_page.specs.Machine.{Act}
 use Rattle.bl_page.specs.Machine.Act.{Begin}
-use Rattle.bl_trails.specs.Trails.{Trail, DoesAt, marks_of}
+use Rattle.bl_trails.specs.Trails.{Mark, Trail, DoesAt, marks_of}
 use Rattle.bl_bounds.specs.Bounds.{gets_of, IsWithinBound, IsBelowBound}
+use Rattle.bl_bounds.specs.Latches.{IsTidy}
 use Rattle.bl_proc.specs.declared.kinds.Proc.{Proc}
 use Rattle.bl_proc.specs.Processes.{next_of, Takes}
 use Rattle.bl_passes.specs.declared.known.Mine.{Mine}
 use Rattle.bl_passes.specs.Noting.{trail_of}
-use Rattle.bl_passes.specs.Seeing.{own, AreWithin}
+use Rattle.bl_passes.specs.Seeing.{own, AreWithin, AreElse, AreOnlyOf}
 use Rattle.bl_passes.specs.Fitting.{name}
 use Rattle.bl_passes.specs.Told.{IsNear, HasOwn, Steps, Finishes}
 
@@ -34,16 +35,19 @@ pub record IsOn (l : Layout) (d : Mine) (process : Proc) : Type 0 where
   pub passes : d.passes ≡ l.passes
   pub near : IsNear d.pages (next_of d.state)
 
--- The pass, of that number, knew old when the process began that it runs.
+-- The pass, of that number, knew old when the process began that it runs, and has done nothing else since.
 pub record IsSince (pass : ℕ) (old d : Mine) : Type 0 where
   pub named : d.pass ≡ pass
   pub number : d.number ≡ old.number + 1
   pub past : d.past ≡ own pass (trail_of old.trail)
   pub own : HasOwn d
-  pub more : Trail
-  pub begins : trail_of d.trail ≡ trail_of old.trail ++ more
-  pub place : ℕ
-  pub begun : DoesAt more place (name pass (old.number + 1)) Begin
+  pub before : Trail
+  pub first : Mark
+  pub since : Trail
+  pub begins : trail_of d.trail ≡ trail_of old.trail ++ (before ++ first ∷ since)
+  pub begun : first.event ≡ record { process = name pass (old.number + 1); act = Begin }
+  pub none : AreElse pass before
+  pub only : AreOnlyOf (name pass (old.number + 1)) since
 
 -- all that its pass has seen was done by the passes of its layout
 abbrev pub IsWithin : Seat (Unit {0}) (View Mine) → Type 0
@@ -71,6 +75,7 @@ pub record IsDone (pass : ℕ) (old e : Mine) (first last : Proc) : Type 0 where
   pub op : op_of before ≡ op_of first
   pub work : work_of before ≡ work_of first
   pub log : proc_log last (marks_of (name pass (old.number + 1)) (trail_of e.trail))
+  pub tidy : IsTidy last (marks_of (name pass (old.number + 1)) (trail_of e.trail))
 
 -- After a step of the process p, which is then q: it has gone on by one event; or it is to end, and nothing has happened.
 abbrev pub IsAfter : Layout → Seat (Unit {0}) (View Mine) → Seat (Unit {0}) (View Mine) → Proc → Proc → Stepped → Type 0

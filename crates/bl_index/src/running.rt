@@ -9,6 +9,7 @@ ghost use Rattle.bl_proc.specs.Processes.{next_of};
 ghost use Rattle.bl_courses.specs.Courses.{GoesOn};
 ghost use Rattle.bl_tables.specs.Knowing.{end_of_proc};
 ghost use Rattle.bl_tables.specs.Logs.{proc_log};
+ghost use Rattle.bl_bounds.specs.Latches.{OnlyLooks, IsTidy};
 ghost use Rattle.bl_trails.specs.Trails.{marks_of};
 ghost use Rattle.bl_passes.specs.Noting.{trail_of};
 ghost use Rattle.bl_passes.specs.Fitting.{name};
@@ -93,6 +94,7 @@ impl Index {
         ensures same { IsSameHand hand.old.seat hand.new.seat × IsSameStock hand.old.seat hand.new.seat }
         ensures idle { IsIdle hand.new.seat }
         ensures told { Finishes (end_of_proc (P.proc_of process.old)) (known hand.old.seat) (known hand.new.seat) }
+        ensures tidy { IsTidy (P.proc_of process.new) (marks_of (name (known hand.old.seat).pass (known hand.old.seat).number) (trail_of (known hand.new.seat).trail)) }
         ensures log { proc_log (P.proc_of process.new) (marks_of (name (known hand.old.seat).pass (known hand.old.seat).number) (trail_of (known hand.new.seat).trail)) }
         ensures takes { P.Takes process.old seen.Done process.new }
         ensures within { IsWithin hand.new.seat }
@@ -101,7 +103,7 @@ impl Index {
         process.took(Seen::Done);
     }
 
-    /// A process that has said nothing and holds nothing ends at once.
+    /// A search that has said nothing ends at once.
     #[inline(always)]
     pub(crate) fn give_up(&self, hand: &mut Hand<Mine>)
         requires own { IsOf self.now.store.table.shared.table_id self.now.store.layout hand.old.seat }
@@ -111,6 +113,7 @@ impl Index {
         ensures same { IsSameHand hand.old.seat hand.new.seat × IsSameStock hand.old.seat hand.new.seat }
         ensures idle { IsIdle hand.new.seat }
         ensures told { Finishes None (known hand.old.seat) (known hand.new.seat) }
+        ensures looks { OnlyLooks (marks_of (name (known hand.old.seat).pass (known hand.old.seat).number) (trail_of (known hand.new.seat).trail)) }
         ensures within { IsWithin hand.new.seat }
     {
         self.store.end::<GaveUp>(hand);

@@ -10,6 +10,8 @@ use Rattle.bl_page.specs.declared.page.Page.{Page}
 use Rattle.bl_page.specs.Machine.{Name, State, Act}
 use Rattle.bl_page.specs.Machine as machine
 use Rattle.bl_trails.specs.Trails.{Mark, Trail, entries_at, marks_of}
+use Rattle.bl_trails.specs.States.{HasMoments}
+use Rattle.bl_trails.proofs.States.{moments_on}
 use Rattle.bl_steps.specs.Worlds.{World, IsGood}
 use Rattle.bl_starts.specs.Opening.{Opening}
 use Rattle.bl_proc.specs.Processes.{next_of}
@@ -20,6 +22,7 @@ use Rattle.bl_tables.proofs.Near.{bare_near as near}
 use Rattle.bl_tables.proofs.Middles.{KeepsLogs}
 use Rattle.bl_bounds.specs.Bounds.{IsWithinBound, IsBelowBound}
 use Rattle.bl_bounds.specs.Searches.{IsSearch, IsUnderWay}
+use Rattle.bl_bounds.specs.Latches.{IsTidy}
 use Rattle.bl_bounds.specs.Paces.{AllKept}
 use Rattle.bl_bounds.proofs.Bounded.{search_within, search_below}
 use Rattle.bl_store.specs.Pages.{Owner, Stage, Idle, Running, Pages, Stands}
@@ -30,7 +33,7 @@ use Rattle.bl_passes.specs.Fitting.{name, Shows, owner_in, IsAtStage, IsHand, Is
 use Rattle.bl_passes.specs.Told.{IsNear, HasOwn, Notes}
 use Rattle.bl_passes.proofs.Notings.{trail_back}
 use Rattle.bl_passes.proofs.Stages.{turn_mark, after, own_after, hand_self, hand_else}
-use Rattle.bl_passes.proofs.Sights.{world_seen, near_pages}
+use Rattle.bl_passes.proofs.Sights.{world_moment, world_seen, near_pages}
 use Rattle.bl_passes.proofs.Shown.{at_below}
 use Rattle.bl_passes.proofs.Within.{within_push}
 use Rattle.bl_passes.proofs.Runners.{runs_after}
@@ -46,7 +49,11 @@ module _ (s : Pages Mine) (f : Fits s) (n m : ℕ) (st : Stage) (d : Mine) (at :
   hands_same : (s' : Pages Mine) (st' : Stage) → s'.hands ≡ set s.hands n (st', next_known) → length s'.hands ≡ length s.hands
   hands_same s' st' hands = ap length hands ∙ length-set s.hands n (st', next_known)
 
-  pub advance : AllKept t.next → (s' : Pages Mine) (st' : Stage) → s'.hands ≡ set s.hands n (st', next_known) → length s'.contents ≡ length s.contents → d.number ≤ m → s1.clock ≤ s'.clock
+  -- one state more has the laws of the tree
+  next_moments : KeepsLogs t.next → HasMoments t.next.start t.next.trail
+  next_moments logs = moments_on f.world.start t.next.start f.world.trail t.next.trail (turn_mark f.world f.good n m a s1 b t) t.extends.start t.extends.trail f.moments (world_moment t.next t.good logs (t.extends.first ∙ f.first))
+
+  pub advance : KeepsLogs t.next → AllKept t.next → (s' : Pages Mine) (st' : Stage) → s'.hands ≡ set s.hands n (st', next_known) → length s'.contents ≡ length s.contents → d.number ≤ m → s1.clock ≤ s'.clock
       → ((q : Name) → q ≢ name n m → s1.phase q ≡ f.world.now.phase q)
       → ((x : ℕ) (q : Name) → q ≢ name n m → s1.owner x ≡ machine.Held q → f.world.now.owner x ≡ machine.Held q)
       → ((x : ℕ) (words : List ℕ) → get_elem? s'.contents x ≡ some words → Shows x words (s1.contents x))
@@ -55,12 +62,13 @@ module _ (s : Pages Mine) (f : Fits s) (n m : ℕ) (st : Stage) (d : Mine) (at :
       → ((since : ℕ) → st ≡ Running since → m ≡ d.number)
       → ((since : ℕ) → s1.phase (name n m) ≡ machine.Running since → st' ≡ Running since)
       → Fits s'
-  advance kept_bounds s' st' hands size le clock others kept pages owners stage current on = record {
+  advance logs all_kept s' st' hands size le clock others kept pages owners stage current on = record {
     world = t.next;
     good = t.good;
-    kept = kept_bounds;
+    kept = all_kept;
     opening = subst Opening (sym t.extends.start) f.opening;
     first = t.extends.first ∙ f.first;
+    moments = next_moments logs;
     size = t.extends.size ∙ (f.size ∙ sym size);
     clock = subst (λ (z : State Page). z.clock ≤ s'.clock) (sym t.now) clock;
     pages = λ x words e. subst (λ (z : State Page). Shows x words (z.contents x)) (sym t.now) (pages x words e);
@@ -78,10 +86,10 @@ module _ (s : Pages Mine) (f : Fits s) (n m : ℕ) (st : Stage) (d : Mine) (at :
   }
 
   pub next_seen : KeepsLogs t.next → IsSeen (trail_of next_known.trail)
-  next_seen logs = subst IsSeen (sym (trail_back t.next.trail)) (world_seen t.next t.good logs (subst Opening (sym t.extends.start) f.opening) (t.extends.first ∙ f.first))
+  next_seen logs = subst IsSeen (sym (trail_back t.next.trail)) (world_seen t.next t.good logs (subst Opening (sym t.extends.start) f.opening) (t.extends.first ∙ f.first) (next_moments logs))
 
   pub next_notes : KeepsLogs t.next → AllKept t.next → Notes n m a d next_known
-  next_notes logs kept_bounds =
+  next_notes logs all_kept =
       let h = f.hands n st d at in
       let mk = turn_mark f.world f.good n m a s1 b t in
       record {
@@ -94,8 +102,9 @@ module _ (s : Pages Mine) (f : Fits s) (n m : ℕ) (st : Stage) (d : Mine) (at :
         pass = refl;
         number = refl;
         others = h.begins.2;
-        bounded = λ search. subst (IsWithinBound f.world.size (name n m)) (sym (trail_back t.next.trail)) (subst (λ (z : ℕ). IsWithinBound z (name n m) t.next.trail) t.extends.size (search_within t.next (name n m) t.good kept_bounds (subst (λ (r : Run). IsSearch r.state) (sym t.extends.proc.at) search)));
-        below = λ search. subst (IsBelowBound f.world.size (name n m)) (sym (trail_back t.next.trail)) (subst (λ (z : ℕ). IsBelowBound z (name n m) t.next.trail) t.extends.size (search_below t.next (name n m) kept_bounds (subst (λ (r : Run). IsUnderWay r.state) (sym t.extends.proc.at) search)));
+        bounded = λ search. subst (IsWithinBound f.world.size (name n m)) (sym (trail_back t.next.trail)) (subst (λ (z : ℕ). IsWithinBound z (name n m) t.next.trail) t.extends.size (search_within t.next (name n m) t.good all_kept.paced (subst (λ (r : Run). IsSearch r.state) (sym t.extends.proc.at) search)));
+        below = λ search. subst (IsBelowBound f.world.size (name n m)) (sym (trail_back t.next.trail)) (subst (λ (z : ℕ). IsBelowBound z (name n m) t.next.trail) t.extends.size (search_below t.next (name n m) all_kept.paced (subst (λ (r : Run). IsUnderWay r.state) (sym t.extends.proc.at) search)));
+        tidy = subst (λ (r : Run). IsTidy r.state (marks_of (name n m) (trail_of next_known.trail))) t.extends.proc.at (subst (λ (l : Trail). IsTidy (t.next.proc (name n m)).state (marks_of (name n m) l)) (sym (trail_back t.next.trail)) (all_kept.tidy (name n m)));
       }
 
   pub next_near : IsNear next_known.pages (next_of next_known.state)

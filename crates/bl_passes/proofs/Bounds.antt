@@ -1,5 +1,5 @@
 -- A process begins, and ends: each keeps the rule, and the pass knows it.
-use Rattle.std.proofs.Common.{ℕ, ◌≡◌, ◌≢◌, ◌⊎◌, ◌+◌, ◌<◌, ◌≤◌, ◌++◌, Bool, true, false, Option, Some, None, List, [], ◌∷◌, length, set, refl, sym, ap, ◌∙◌, subst, inl, inr, arith, append-nil}
+use Rattle.std.proofs.Common.{ℕ, ◌≡◌, ◌≢◌, ◌⊎◌, ◌+◌, ◌<◌, ◌≤◌, ◌++◌, Bool, true, false, if◌then◌else◌, Option, Some, None, List, [], ◌∷◌, length, set, refl, sym, ap, ◌∙◌, subst, inl, inr, arith, append-nil}
 use mathlib.Core.Option.{some, some-injective}
 use mathlib.Core.Option as lists
 use lib.ListN.{get_elem?}
@@ -10,8 +10,9 @@ use Rattle.bl_page.specs.declared.page.Page.TheVariants.{Anchor}
 use Rattle.bl_page.specs.Machine.{Name, State, Act}
 use Rattle.bl_page.specs.Machine as machine
 use Rattle.bl_trails.specs.Trails.{Said, Mark, Trail, entries_at, marks_of, IsMarked}
-use Rattle.bl_trails.proofs.Pushes.{name_cases, SaysAt-last, DoesAt-last}
-use Rattle.bl_steps.specs.Worlds.{World, IsGood}
+use Rattle.bl_trails.proofs.Pushes.{name_cases, not_same, marks_of-own, SaysAt-last, DoesAt-last}
+use Rattle.bl_steps.specs.Worlds.{World, Each, IsGood}
+use Rattle.bl_steps.proofs.Frames.{Each-map}
 use Rattle.bl_steps.proofs.After.{put_name, is_put_name}
 use Rattle.bl_starts.specs.Blank.{IsBlank}
 use Rattle.bl_ways.specs.declared.acts.Action.TheVariants as act
@@ -23,10 +24,14 @@ use Rattle.bl_tables.specs.Turns.{Does, Turned}
 use Rattle.bl_tables.specs.Knowing.{Run, bare as know, know_of, end_of_proc, run_next}
 use Rattle.bl_tables.proofs.Starting.{with_proc, bare_enters_good as enters_good}
 use Rattle.bl_tables.proofs.Logged.{early_log}
+use Rattle.bl_tables.proofs.Middles.{KeepsLogs}
 use Rattle.bl_tables.proofs.GivingUp.{given_up, give_up}
+use Rattle.bl_bounds.specs.Searches.{IsSearch}
+use Rattle.bl_bounds.specs.Latches.{IsLook, OnlyLooks}
 use Rattle.bl_bounds.specs.Paces.{AllKept}
 use Rattle.bl_bounds.proofs.Turns.{state_kept}
-use Rattle.bl_bounds.proofs.Bounded.{left_kept, enter_kept}
+use Rattle.bl_bounds.proofs.Latching.{looks_up}
+use Rattle.bl_bounds.proofs.Kept.{left_kept, enter_kept}
 use Rattle.bl_courses.specs.Courses.{GoesOn}
 use Rattle.bl_layout.specs.declared.layout.Layout.{Layout}
 use Rattle.bl_store.specs.Pages.{Owner, Held, Stage, Idle, Running, Pages, Stands, IsOrderly, HoldsNone, told, Begins as BeginsIn, Ends}
@@ -37,12 +42,18 @@ use Rattle.bl_passes.specs.Fitting.{name, owner_in, IsAtStage, IsHand, Fits}
 use Rattle.bl_passes.specs.Told.{MayGiveUp, IsUnborn, Notes, Begins, Finishes, begins, ends, gives_up}
 use Rattle.bl_passes.proofs.Notings.{trail_back}
 use Rattle.bl_passes.proofs.Entries.{own-mine}
+use Rattle.bl_passes.proofs.Marks.{each_append}
 use Rattle.bl_passes.proofs.Stages.{pass_of, number_of, turn_mark}
 use Rattle.bl_passes.proofs.Doings.{log_after}
 use Rattle.bl_passes.proofs.Shown.{same_owner, other_owner, held_by}
 use Rattle.bl_passes.proofs.Logs.{next_logs}
 use Rattle.bl_passes.proofs.Advance.{next_known, advance, next_notes, next_near, next_own, next_stage}
 use Rattle.bl_passes.proofs.Turns.{turn_of, standing, is_named, turned, then_log, then_kept}
+
+-- who did none of these events has no marks there
+no_marks : (p : Name) (ms : Trail) → Each (λ (m : Mark). m.event.process ≢ p) ms → marks_of p ms ≡ []
+no_marks p [] h = refl
+no_marks p (m ∷ ms) h = (let same = not_same m.event.process p h.0 in ap (λ (z : Bool). if z then m ∷ marks_of p ms else marks_of p ms) same ∙ no_marks p ms h.1)
 
 -- Before a process begins, it stands in the world as one that has done nothing.
 module _ (s : Pages Mine) (f : Fits s) (n : ℕ) (d : Mine) (at : Stands s n Idle d) (b : Run) (blank : IsBlank (know b)) where
@@ -81,13 +92,22 @@ module _ (s : Pages Mine) (f : Fits s) (n : ℕ) (d : Mine) (at : Stands s n Idl
       let more : e.number ≡ d.number + 1 = number_of (name k e.number) next_name same in
       omega arith)
 
+  -- it has done nothing
+  none_yet : marks_of next_name f.world.trail ≡ []
+  none_yet =
+      let h = f.hands n Idle d at in
+      no_marks next_name f.world.trail (subst (Each (λ (m : Mark). m.event.process ≢ next_name)) (sym h.begins.1) (each_append _ (trail_of d.trail) h.begins.0
+          (Each-map _ _ (trail_of d.trail) (λ (m : Mark) (up : m.event.process.pass ≡ n → m.event.process.number ≤ d.number) (e : m.event.process ≡ next_name). (let few = up (pass_of _ _ e) in let is : m.event.process.number ≡ d.number + 1 = number_of _ _ e in absurd (omega arith))) h.counted)
+          (Each-map _ _ h.begins.0 (λ (m : Mark) (ne : m.event.process.pass ≢ n) (e : m.event.process ≡ next_name). ne (pass_of _ _ e)) h.begins.2)))
+
   pub entered : Fits s
   entered = record {
     world = entered_world;
     good = (let h = (f.hands n Idle d at).later (d.number + 1) (omega arith) in enters_good f.world next_name b f.good h.0 h.1 blank);
-    kept = enter_kept f.world next_name b blank.stage f.kept;
+    kept = enter_kept f.world next_name b none_yet blank.stage f.kept;
     opening = f.opening;
     first = f.first;
+    moments = f.moments;
     size = f.size;
     clock = f.clock;
     pages = f.pages;
@@ -136,9 +156,10 @@ begins_process l n d process next unborn course s g o at =
     let silent : entries_at p (know (w.proc p)).said ≡ [] = ap (entries_at p) (ap (λ (r : Run). (know r).said) here ∙ blank.said) in
     let was : own n w.trail ≡ past ++ entries_at p (know (w.proc p)).said = h.mine ∙ (sym (append-nil past) ∙ ap (λ (z : List Entry). past ++ z) (sym silent)) in
     let e : Mine = next_known s f n m Idle d at Act.Begin s1 b' t true past in
-    let notes : Notes n m Act.Begin d e = next_notes s f n m Idle d at Act.Begin s1 b' t true past (next_logs s f n m Act.Begin s1 b' t (λ z runs. log)) kept in (
+    let logs : KeepsLogs t.next = next_logs s f n m Act.Begin s1 b' t (λ z runs. log) in
+    let notes : Notes n m Act.Begin d e = next_notes s f n m Idle d at Act.Begin s1 b' t true past logs kept in (
       e,
-      advance s f n m Idle d at Act.Begin s1 b' t true past kept (told s n (Running s.clock) e) (Running s.clock) refl refl (omega arith) (omega arith)
+      advance s f n m Idle d at Act.Begin s1 b' t true past logs kept (told s n (Running s.clock) e) (Running s.clock) refl refl (omega arith) (omega arith)
           (λ q ne. phase.others q ne) (λ x q ne z. z) g.pages
           (λ x own_ z. g.owners x own_ z ∙ sym (other_owner s.hands n (Running s.clock, e) own_ (λ is. h.stage.1 x (g.owners x own_ z ∙ (ap (owner_in s.hands) is ∙ held_by s.hands n (Idle, d) at)))))
           (next_stage s f n m Idle d at Act.Begin s1 b' t true past s.clock refl (λ z. omega arith) phase.at was log)
@@ -168,8 +189,8 @@ end_silent trail m answer is marked (Some said) e = (
 
 module _ (l : Layout) (n : ℕ) (d : Mine) (s : Pages Mine) (since : ℕ) (f : Fits s) (o : IsOrderly l s) (at : Stands s n (Running since) d) (answer : Option Reply) (b : Run)
     (t : Turned know f.world (name n d.number) (Act.End answer) (record f.world.now { phase = put_name (name n d.number) machine.Ended f.world.now.phase }) b) where
-  pub finishes : AllKept t.next → HoldsNone s n × (e : Mine) × Fits (told s n Idle e) × Finishes answer d e × (trail_of e.trail ≡ t.next.trail)
-  finishes searches =
+  pub finishes : AllKept t.next → HoldsNone s n × (e : Mine) × Fits (told s n Idle e) × Finishes answer d e × (trail_of e.trail ≡ t.next.trail) × (e.state ≡ b.state)
+  finishes all_kept =
       let w = f.world in
       let p = name n d.number in
       let s1 : State Page = record w.now { phase = put_name p machine.Ended w.now.phase } in
@@ -178,13 +199,14 @@ module _ (l : Layout) (n : ℕ) (d : Mine) (s : Pages Mine) (since : ℕ) (f : F
       let h = f.hands n (Running since) d at in
       let named = is_named s f n since d at in
       let e : Mine = next_known s f n d.number (Running since) d at (Act.End answer) s1 b t false d.past in
-      let notes : Notes n d.number (Act.End answer) d e = next_notes s f n d.number (Running since) d at (Act.End answer) s1 b t false d.past (next_logs s f n d.number (Act.End answer) s1 b t (λ z runs. absurd (let both : machine.Ended ≡ machine.Running z = sym phase.at ∙ (ap (λ (y : State Page). y.phase p) (sym t.now) ∙ runs) in cc))) searches in
+      let logs : KeepsLogs t.next = next_logs s f n d.number (Act.End answer) s1 b t (λ z runs. absurd (let both : machine.Ended ≡ machine.Running z = sym phase.at ∙ (ap (λ (y : State Page). y.phase p) (sym t.now) ∙ runs) in cc)) in
+      let notes : Notes n d.number (Act.End answer) d e = next_notes s f n d.number (Running since) d at (Act.End answer) s1 b t false d.past logs all_kept in
       let mk = turn_mark w f.good n d.number (Act.End answer) s1 b t in
       let silent : t.said ≡ None = end_silent w.trail mk answer refl (subst IsMarked t.extends.trail t.good.recorded.marked) t.said refl in
       let kept : own n (trail_of e.trail) ≡ own n (trail_of d.trail) = ap (own n) (trail_back t.next.trail ∙ t.extends.trail) ∙ (own-mine n w.trail mk refl ∙ (ap (λ (z : Option Said). own n w.trail ++ entries_at p z) silent ∙ (append-nil (own n w.trail) ∙ h.mine))) in (
         λ x z. can.1 x (f.owners x (Held n) z ∙ held_by s.hands n (Running since, d) at),
         e,
-        advance s f n d.number (Running since) d at (Act.End answer) s1 b t false d.past searches (told s n Idle e) Idle refl refl (omega arith) f.clock
+        advance s f n d.number (Running since) d at (Act.End answer) s1 b t false d.past logs all_kept (told s n Idle e) Idle refl refl (omega arith) f.clock
             (λ q ne. phase.others q ne) (λ x q ne z. z) f.pages
             (λ x own_ z. f.owners x own_ z ∙ sym (same_owner s.hands n (Running since, d) (Idle, e) own_ at refl))
             (refl, λ x z. can.1 x (ap (λ (y : State Page). y.owner x) (sym t.now) ∙ z))
@@ -198,6 +220,7 @@ module _ (l : Layout) (n : ℕ) (d : Mine) (s : Pages Mine) (since : ℕ) (f : F
           own = subst (λ (z : ℕ). own z (trail_of e.trail) ≡ own z (trail_of d.trail)) (sym named.0) kept;
         },
         trail_back t.next.trail,
+        refl,
       )
 
 pub ends_process : (l : Layout) (n : ℕ) (d : Mine) → next_of d.state ≡ act.End → GoesOn d.state seen.Done → Ends Fits l n d ends
@@ -212,7 +235,7 @@ ends_process l n d next course s since f o at =
       z.0,
       z.1,
       z.2,
-      (z.3, record { course = course; log = subst (proc_log course.new) (λ i. marks_of (name (sym named.0 i) d.number) (sym z.4 i)) log }),
+      (z.3, record { course = course; state = z.5; log = subst (proc_log course.new) (λ i. marks_of (name (sym named.0 i) d.number) (sym z.4 i)) log }),
     )
 
 pub gives_up_process : (l : Layout) (n : ℕ) (d : Mine) → MayGiveUp d.state → Ends Fits l n d gives_up
@@ -224,5 +247,11 @@ gives_up_process l n d may s since f o at =
     let s1 : State Page = record w.now { phase = put_name p machine.Ended w.now.phase } in
     let does : Does w.now p (Act.End None) s1 = record { changes = (λ x. refl, λ x. refl, is_put_name p machine.Ended w.now.phase); on = omega arith } in
     let t : Turned know w p (Act.End None) s1 (given_up r) = give_up w p s1 f.good (may.busy r is) (may.silent r is) (may.empty r is) (may.no_middle r is) does in
-    let z = finishes l n d s since f o at None _ t (left_kept w t.next _ (given_up r) t.extends f.good t.good refl f.kept) in
-    (z.0, z.1, z.2, z.3)
+    let named = is_named s f n since d at in
+    let ends : IsLook (Act.End None) = λ x. (λ e. cc, λ e. cc, λ c e. cc) in
+    let search : IsSearch r.state = subst IsSearch (sym is) may.search in
+    let z = finishes l n d s since f o at None _ t (left_kept w t.next _ (given_up r) _ t.extends f.good t.good refl refl search ends f.kept) in
+    let mk = turn_mark w f.good n d.number (Act.End None) s1 (given_up r) t in
+    let looks : OnlyLooks (marks_of p w.trail ++ mk ∷ []) = looks_up w p r.state mk f.kept.tidy refl search ends in
+    let marks : marks_of p (trail_of z.1.trail) ≡ marks_of p w.trail ++ mk ∷ [] = ap (marks_of p) (z.4 ∙ t.extends.trail) ∙ marks_of-own p w.trail mk refl in
+    (z.0, z.1, z.2, (z.3, subst (λ (q : Name). OnlyLooks (marks_of q (trail_of z.1.trail))) (λ i. name (sym named.0 i) d.number) (subst OnlyLooks (sym marks) looks)))

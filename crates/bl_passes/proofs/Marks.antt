@@ -3,7 +3,8 @@ use Rattle.std.proofs.Common.{ℕ, ◌≡◌, ◌≢◌, ◌≤◌, ◌++◌, Li
 use Rattle.bl_trails.specs.Trails.{Mark, Trail}
 use Rattle.bl_steps.specs.Worlds.{Each}
 use Rattle.bl_steps.proofs.Frames.{Each-map}
-use Rattle.bl_passes.specs.Fitting.{AreElse, AreUpTo}
+use Rattle.bl_passes.specs.Seeing.{AreElse}
+use Rattle.bl_passes.specs.Fitting.{AreUpTo}
 
 pub each_append : {A : Type 0} (P : A → Type 0) (xs ys : List A) → Each P xs → Each P ys → Each P (xs ++ ys)
 each_append P [] ys h k = k

@@ -16,7 +16,7 @@ use Rattle.bl_tables.specs.Knowing.{bare as know}
 use Rattle.bl_tables.proofs.Releasing.{release}
 use Rattle.bl_tables.proofs.Middles.{KeepsLogs}
 use Rattle.bl_bounds.specs.Paces.{AllKept}
-use Rattle.bl_bounds.proofs.Bounded.{idle_kept}
+use Rattle.bl_bounds.proofs.Kept.{idle_kept}
 use Rattle.bl_layout.specs.declared.layout.Layout.{Layout}
 use Rattle.bl_store.specs.Pages.{Owner, Released, Held, Retired, Stage, Idle, Running, Pages, Stands, IsPage, AllBeganAfter, told, owned, Releases, Sweeps as SweepsIn}
 use Rattle.bl_passes.specs.declared.known.Mine.{Mine}
@@ -61,9 +61,9 @@ module _ (s : Pages Mine) (f : Fits s) (n m : ℕ) (d : Mine) (at : Stands s n I
     abbrev turned : Turned know f.world p (Act.Release x) freed (f.world.proc p)
     turned = (release f.world p x freed f.good can does).0
 
-    -- each search keeps its bound
+    -- each process keeps what it kept
     then_kept : AllKept turned.next
-    then_kept = idle_kept f.world turned.next _ turned.extends f.good turned.good refl refl f.kept
+    then_kept = idle_kept f.world turned.next _ turned.extends f.good turned.good refl refl (λ y. (λ e. cc, λ e. cc, λ c e. cc)) f.kept
 
     abbrev then_known : Mine
     then_known = next_known s f n m Idle d at (Act.Release x) freed (f.world.proc p) turned false d.past
@@ -85,13 +85,6 @@ module _ (s : Pages Mine) (f : Fits s) (n m : ℕ) (d : Mine) (at : Stands s n I
         (λ (z : (y ≢ x) × (get_elem? s.owners y ≡ some o)). (let was = f.owners y o z.1 in does.changes.1.others y z.0 ∙ (was ∙ sym (other_owner s.hands n (Idle, then_known) o (not_its y o was)))))
         (at_set s.owners x y Released o e)
 
-    then_fits : Fits (told (owned s x Released) n Idle then_known)
-    then_fits = advance s f n m Idle d at (Act.Release x) freed (f.world.proc p) turned false d.past then_kept (told (owned s x Released) n Idle then_known) Idle refl refl (elim next [ inl e ↦ omega arith | inr e ↦ omega arith ]) f.clock
-        (λ q ne. refl) (λ y q ne e. held_before y q e) f.pages owners_after
-        (refl, λ y z. empty y (held_before y p (ap (λ (v : State Page). v.owner y) (sym turned.now) ∙ z)))
-        (λ z i. absurd (let both : Idle ≡ Running z = i in cc))
-        (λ z runs. (let r = f.busy p z runs in let one : ◌≡◌ {A = Stage × Mine} (Idle, d) (Running z, r.0) = one_hand s.hands n (Idle, d) (Running z, r.0) at r.1 in ap (λ (v : Stage × Mine). v.0) one))
-
     -- nor does it run
     idle : (z : ℕ) → f.world.now.phase p ≢ machine.Running z
     idle z runs = (
@@ -102,6 +95,13 @@ module _ (s : Pages Mine) (f : Fits s) (n m : ℕ) (d : Mine) (at : Stands s n I
 
     then_logs : KeepsLogs turned.next
     then_logs = next_logs s f n m (Act.Release x) freed (f.world.proc p) turned (λ z runs. absurd (idle z (ap (λ (v : State Page). v.phase p) (sym turned.now) ∙ runs)))
+
+    then_fits : Fits (told (owned s x Released) n Idle then_known)
+    then_fits = advance s f n m Idle d at (Act.Release x) freed (f.world.proc p) turned false d.past then_logs then_kept (told (owned s x Released) n Idle then_known) Idle refl refl (elim next [ inl e ↦ omega arith | inr e ↦ omega arith ]) f.clock
+        (λ q ne. refl) (λ y q ne e. held_before y q e) f.pages owners_after
+        (refl, λ y z. empty y (held_before y p (ap (λ (v : State Page). v.owner y) (sym turned.now) ∙ z)))
+        (λ z i. absurd (let both : Idle ≡ Running z = i in cc))
+        (λ z runs. (let r = f.busy p z runs in let one : ◌≡◌ {A = Stage × Mine} (Idle, d) (Running z, r.0) = one_hand s.hands n (Idle, d) (Running z, r.0) at r.1 in ap (λ (v : Stage × Mine). v.0) one))
 
     then_sweeps : Sweeps n m (length s.hands) d then_known
     then_sweeps =

@@ -9,6 +9,7 @@ use Rattle.bl_tree.specs.Nodes.{Look}
 use Rattle.bl_tree.specs.Trees.Status.{Free}
 use Rattle.bl_trails.specs.Trails.{Trail, history_of}
 use Rattle.bl_trails.specs.Moments.{HasLaws}
+use Rattle.bl_trails.specs.States.{Moment, HasMoments}
 use Rattle.bl_steps.specs.Worlds.{World, IsGood}
 use Rattle.bl_starts.specs.Opening.{Opening}
 use Rattle.bl_ways.specs.declared.acts.Action.{Action}
@@ -20,19 +21,27 @@ use Rattle.bl_tables.proofs.Near.{IsNear as IsNearIn}
 use Rattle.bl_passes.specs.Seeing.{IsSeen}
 use Rattle.bl_passes.specs.Told.{IsNear}
 
--- the trail of a good world that began with the opening index
-pub world_seen : (w : World Run) → IsGood know w → KeepsLogs w → Opening w.start → w.first ≡ empty → IsSeen w.trail
-world_seen w good logs opening first =
+-- the laws of the tree in a good world, with the map after its history
+laws_now : (w : World Run) → IsGood know w → KeepsLogs w → w.first ≡ empty → HasLaws w.now w.trail (final_map empty (history_of w.trail))
+laws_now w good logs first =
     let map : w.map 0 ≡ final_map empty (history_of w.trail) = λ i k. (good.recorded.map k ∙ ap (λ (z : Map). final_map z (history_of w.trail) k) first) i in
-    record {
-      start = w.start;
-      now = w.now;
-      opening = opening;
-      leads = good.recorded.leads;
-      marked = good.recorded.marked;
-      legal = subst (λ (z : Map). IsLegalFrom z (history_of w.trail)) first good.recorded.legal;
-      laws = subst (λ (z : Look). HasLaws w.now w.trail z) map (bare_laws w good logs);
-    }
+    subst (λ (z : Look). HasLaws w.now w.trail z) map (bare_laws w good logs)
+
+pub world_moment : (w : World Run) → IsGood know w → KeepsLogs w → w.first ≡ empty → Moment w.start w.trail
+world_moment w good logs first = record { now = w.now; leads = good.recorded.leads; laws = laws_now w good logs first }
+
+-- the trail of a good world that began with the opening index
+pub world_seen : (w : World Run) → IsGood know w → KeepsLogs w → Opening w.start → w.first ≡ empty → HasMoments w.start w.trail → IsSeen w.trail
+world_seen w good logs opening first moments = record {
+  start = w.start;
+  now = w.now;
+  opening = opening;
+  leads = good.recorded.leads;
+  marked = good.recorded.marked;
+  legal = subst (λ (z : Map). IsLegalFrom z (history_of w.trail)) first good.recorded.legal;
+  laws = laws_now w good logs first;
+  moments = moments;
+}
 
 module _ (w : World Run) (good : IsGood know w) (p : Name) where
   not_free : (x : ℕ) → w.now.owner x ≢ Released → x < w.size

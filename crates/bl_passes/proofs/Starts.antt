@@ -8,12 +8,15 @@ use Rattle.bl_page.specs.declared.page.Page.TheVariants.{Anchor, Leaf}
 use Rattle.bl_page.specs.Words.{words_of}
 use Rattle.bl_page.specs.Machine.{Name, State}
 use Rattle.bl_page.specs.Machine as machine
+use Rattle.bl_trails.specs.States.{HasMoments}
+use Rattle.bl_trails.proofs.States.{moments_first}
 use Rattle.bl_steps.specs.Worlds.{World, IsGood}
 use Rattle.bl_starts.specs.Blank.{IsBlank}
 use Rattle.bl_starts.specs.Opening.{Opening}
 use Rattle.bl_starts.proofs.Starts.{opening_world, opening_good}
 use Rattle.bl_tables.specs.Knowing.{Run, bare as know}
-use Rattle.bl_bounds.proofs.Bounded.{first_kept}
+use Rattle.bl_tables.proofs.Middles.{KeepsLogs}
+use Rattle.bl_bounds.proofs.Kept.{first_kept}
 use Rattle.bl_store.specs.Pages.{Owner, Released, Open, Stage, Idle, Running, Pages, Stands}
 use Rattle.bl_store.specs.Opening.{is_blank, first_owner, first_pages}
 use Rattle.bl_passes.specs.declared.known.Mine.{Mine}
@@ -21,7 +24,7 @@ use Rattle.bl_passes.specs.Seeing.{IsSeen}
 use Rattle.bl_passes.specs.Fitting.{name, unborn, newcomer, Shows, owner_in, IsHand, Fits}
 use Rattle.bl_passes.proofs.Shown.{at_below}
 use Rattle.bl_passes.proofs.Within.{none_within}
-use Rattle.bl_passes.proofs.Sights.{world_seen}
+use Rattle.bl_passes.proofs.Sights.{world_moment, world_seen}
 use Rattle.bl_passes.proofs.Bounds.{first_anchor, fresh_run}
 
 -- an empty leaf
@@ -71,9 +74,15 @@ first_world size = opening_world opening_state size (λ p. fresh_run unborn)
 first_good : (size : ℕ) → 1 < size → IsGood know (first_world size)
 first_good size wide = opening_good know opening_state size (λ p. fresh_run unborn) wide opening_is (λ p. blank_is)
 
+first_logs : (size : ℕ) → KeepsLogs (first_world size)
+first_logs size p since runs = absurd (let both : machine.Waiting ≡ machine.Running since = runs in cc)
+
+first_moments : (size : ℕ) → 1 < size → HasMoments opening_state []
+first_moments size wide = moments_first opening_state (world_moment (first_world size) (first_good size wide) (first_logs size) refl)
+
 -- a pass that has done nothing has seen the opening index
 pub newcomer_seen : IsSeen []
-newcomer_seen = world_seen (first_world 4) (first_good 4 (omega arith)) (λ p since runs. absurd (let both : machine.Waiting ≡ machine.Running since = runs in cc)) opening_is refl
+newcomer_seen = world_seen (first_world 4) (first_good 4 (omega arith)) (first_logs 4) opening_is refl (first_moments 4 (omega arith))
 
 of_all : {A : Type 0} (n : ℕ) (a : A) (i : ℕ) (b : A) → get_elem? (replicate n a) i ≡ some b → a ≡ b
 of_all zero a i b e = absurd (some-ne-none b (sym e))
@@ -117,9 +126,10 @@ module _ (contents : List (List ℕ)) (o : AreOpening contents) where
   starts passes = record {
     world = first_world (length contents);
     good = let many = o.many in first_good (length contents) (omega arith);
-    kept = first_kept (first_world (length contents)) (λ p. blank_is.stage);
+    kept = first_kept (first_world (length contents)) refl (λ p. blank_is.stage);
     opening = opening_is;
     first = refl;
+    moments = let many = o.many in first_moments (length contents) (omega arith);
     size = refl;
     clock = omega arith;
     pages = words_at;

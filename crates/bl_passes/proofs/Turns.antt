@@ -17,6 +17,7 @@ use Rattle.bl_tables.specs.Logs.{proc_log}
 use Rattle.bl_tables.specs.Turns.{event_of, IsTold, IsShown, Does, Turned}
 use Rattle.bl_tables.specs.Knowing.{Run, bare as know, end_of_proc, run_next}
 use Rattle.bl_tables.proofs.Turning.{bare_turn as turn}
+use Rattle.bl_tables.proofs.Middles.{KeepsLogs}
 use Rattle.bl_bounds.specs.Paces.{AllKept}
 use Rattle.bl_bounds.proofs.Turns.{state_kept}
 use Rattle.bl_courses.specs.Courses.{GoesOn}
@@ -52,13 +53,17 @@ module _ (s : Pages Mine) (f : Fits s) (n since : ℕ) (d : Mine) (at : Stands s
     abbrev pub turned : Turned know f.world mine (event_of (end_of_proc d.state) a what) s1 (run_next f.world.now (f.world.proc mine) what course.new)
     turned = turn_of f.world mine d.state what s1 f.good standing.3 course a next said shown does
 
-    -- each search has kept its bound by then
+    -- each process has kept by then what it keeps
     pub then_kept : AllKept turned.next
     then_kept = state_kept f.world turned.next mine d.state (run_next f.world.now (f.world.proc mine) what course.new) what a _ refl standing.3 next turned.extends f.good turned.good course.takes said f.kept
 
     -- what it has done by then
     pub then_log : proc_log course.new (marks_of mine turned.next.trail)
     then_log = log_after f.world mine d.state what course a s1 (run_next f.world.now (f.world.proc mine) what course.new) turned next said standing.5
+
+    -- each process that runs has done so
+    then_logs : KeepsLogs turned.next
+    then_logs = next_logs s f n d.number (event_of (end_of_proc d.state) a what) s1 (run_next f.world.now (f.world.proc mine) what course.new) turned (λ z runs. then_log)
 
     abbrev pub then_known : Mine
     then_known = next_known s f n d.number (Running since) d at (event_of (end_of_proc d.state) a what) s1 (run_next f.world.now (f.world.proc mine) what course.new) turned true d.past
@@ -67,7 +72,7 @@ module _ (s : Pages Mine) (f : Fits s) (n since : ℕ) (d : Mine) (at : Stands s
     then_goes =
         let act = event_of (end_of_proc d.state) a what in
         let b = run_next f.world.now (f.world.proc mine) what course.new in
-        let notes : Notes n d.number act d then_known = next_notes s f n d.number (Running since) d at act s1 b turned true d.past (next_logs s f n d.number act s1 b turned (λ z runs. then_log)) then_kept in
+        let notes : Notes n d.number act d then_known = next_notes s f n d.number (Running since) d at act s1 b turned true d.past then_logs then_kept in
         let steps : Steps act d then_known = record {
           notes = subst (λ (z : ℕ). Notes z d.number act d then_known) (sym is_named.0) notes;
           runs = refl;
@@ -94,7 +99,7 @@ module _ (s : Pages Mine) (f : Fits s) (n since : ℕ) (d : Mine) (at : Stands s
         let act = event_of (end_of_proc d.state) a what in
         let b = run_next f.world.now (f.world.proc mine) what course.new in
         let set_is : set s2.hands n (Running since, then_known) ≡ set s.hands n (Running since, then_known) = ap (λ (z : List (Stage × Mine)). set z n (Running since, then_known)) hands in
-        advance s f n d.number (Running since) d at act s1 b turned true d.past then_kept (told s2 n (Running since) then_known) (Running since) set_is size (omega arith) clock (λ q ne. phases q) kept pages
+        advance s f n d.number (Running since) d at act s1 b turned true d.past then_logs then_kept (told s2 n (Running since) then_known) (Running since) set_is size (omega arith) clock (λ q ne. phases q) kept pages
         (λ x o e. owners x o e ∙ sym (ap (λ (z : List (Stage × Mine)). owner_in z o) set_is ∙ same_owner s.hands n (Running since, d) (Running since, then_known) o at refl))
         (next_stage s f n d.number (Running since) d at act s1 b turned true d.past since refl standing.1 (phases mine ∙ standing.2) standing.4 then_log)
         (λ z e. refl)

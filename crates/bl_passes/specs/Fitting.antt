@@ -9,6 +9,7 @@ use Rattle.bl_page.specs.Words.{words_of}
 use Rattle.bl_page.specs.Machine.{Name}
 use Rattle.bl_page.specs.Machine as machine
 use Rattle.bl_trails.specs.Trails.{Mark, Trail, history_of, entries_at, marks_of}
+use Rattle.bl_trails.specs.States.{HasMoments}
 use Rattle.bl_steps.specs.Worlds.{World, Each, IsGood}
 use Rattle.bl_starts.specs.Blank.{IsBlank}
 use Rattle.bl_starts.specs.Opening.{Opening}
@@ -21,7 +22,7 @@ use Rattle.bl_bounds.specs.Paces.{AllKept}
 use Rattle.bl_store.specs.Pages.{Owner, Released, Open, Held, Retired, Stage, Idle, Running, Pages, Stands}
 use Rattle.bl_passes.specs.declared.known.Mine.{Mine}
 use Rattle.bl_passes.specs.Noting.{trail_of}
-use Rattle.bl_passes.specs.Seeing.{own, AreWithin}
+use Rattle.bl_passes.specs.Seeing.{own, AreWithin, AreElse}
 
 abbrev pub name : ℕ → ℕ → Name
 name pass number = record { pass = pass; number = number }
@@ -64,10 +65,6 @@ abbrev pub IsAtStage : World Run → ℕ → Stage → Mine → Type 0
 IsAtStage w n Idle d = (d.runs ≡ false) × ((x : ℕ) → w.now.owner x ≢ machine.Held (name n d.number))
 IsAtStage w n (Running since) d = (d.runs ≡ true) × (d.number ≢ 0) × (w.now.phase (name n d.number) ≡ machine.Running since) × ((w.proc (name n d.number)).state ≡ d.state) × (own n w.trail ≡ d.past ++ entries_at (name n d.number) (know (w.proc (name n d.number))).said) × proc_log d.state (marks_of (name n d.number) w.trail)
 
--- none of these events is of that pass
-abbrev pub AreElse : ℕ → Trail → Type 0
-AreElse pass marks = Each (λ (k : Mark). k.event.process.pass ≢ pass) marks
-
 -- the processes of that pass among these events have numbers up to that one
 abbrev pub AreUpTo : ℕ → ℕ → Trail → Type 0
 AreUpTo pass number marks = Each (λ (k : Mark). k.event.process.pass ≡ pass → k.event.process.number ≤ number) marks
@@ -85,14 +82,16 @@ pub record IsHand (w : World Run) (n : ℕ) (st : Stage) (d : Mine) : Type 0 whe
 abbrev pub IsRun : List (Stage × Mine) → Name → ℕ → Type 0
 IsRun hands p since = (d : Mine) × (get_elem? hands p.pass ≡ some (Running since, d)) × (p.number ≡ d.number)
 
--- One good world that began with the opening index, in which each search keeps its bound, has the pages and owners of the store, and knows each hand. No process
--- runs there but those that hands run.
+-- One good world that began with the opening index, and had the laws of the tree in every state since, has the pages and owners
+-- of the store, and knows each hand. Each search keeps its bound there, and each process holds what it may as it latches. No
+-- process runs there but those that hands run.
 pub record Fits (s : Pages Mine) : Type 0 where
   pub world : World Run
   pub good : IsGood know world
   pub kept : AllKept world
   pub opening : Opening world.start
   pub first : world.first ≡ empty
+  pub moments : HasMoments world.start world.trail
   pub size : world.size ≡ length s.contents
   pub clock : world.now.clock ≤ s.clock
   pub pages : (x : ℕ) (words : List ℕ) → get_elem? s.contents x ≡ some words → Shows x words (world.now.contents x)

@@ -1,5 +1,5 @@
 -- What a pass has seen: all events up to its own last one, as a trail.
-use Rattle.std.specs.Prelude.{◌≡◌, ℕ, ◌<◌, ◌++◌, Option, List, [], ◌∷◌, Contains}
+use Rattle.std.specs.Prelude.{◌≡◌, ◌≢◌, ℕ, ◌<◌, ◌++◌, Option, List, [], ◌∷◌, Contains}
 use Rattle.bl_model.specs.Map.{empty}
 use Rattle.bl_model.specs.History.{IsLegalFrom, final_map, entries_of_pass}
 use Rattle.bl_model.specs.declared.operation.Entry.{Entry}
@@ -7,12 +7,15 @@ use Rattle.bl_model.specs.declared.operation.Reply.{Reply}
 use Rattle.bl_page.specs.declared.page.Page.{Page}
 use Rattle.bl_page.specs.Machine.{Name, State, Act}
 use Rattle.bl_page.specs.Machine.Act.{Begin, End}
-use Rattle.bl_trails.specs.Trails.{Said, Mark, Trail, history_of, entries_at, DoesAt, IsMarked, LeadsOn}
+use Rattle.bl_trails.specs.Trails.{Mark, Trail, history_of, IsMarked, LeadsOn}
 use Rattle.bl_trails.specs.Moments.{HasLaws}
+use Rattle.bl_trails.specs.States.{HasMoments}
+use Rattle.bl_steps.specs.Worlds.{Each}
 use Rattle.bl_starts.specs.Opening.{Opening}
 
 -- The trail is one that an index may have: its events are legal and lead from the opening index to some state, its history
--- is one of them, legal from the empty map, and in that state the laws of the tree hold with the map after the history.
+-- is one of them, legal from the empty map, and in that state the laws of the tree hold with the map after the history, as
+-- they did in every state before, with the map of then.
 pub record IsSeen (trail : Trail) : Type 0 where
   pub start : State Page
   pub now : State Page
@@ -21,6 +24,7 @@ pub record IsSeen (trail : Trail) : Type 0 where
   pub marked : IsMarked trail
   pub legal : IsLegalFrom empty (history_of trail)
   pub laws : HasLaws now trail (final_map empty (history_of trail))
+  pub moments : HasMoments start trail
 
 -- the entries of one pass
 abbrev pub own : ℕ → Trail → List Entry
@@ -34,13 +38,23 @@ AreWithin passes trail = (m : Mark) → Contains trail m → m.event.process.pas
 abbrev pub GoesOnFrom : Trail → Trail → Type 0
 GoesOnFrom old new = (more : Trail) × (new ≡ old ++ more)
 
--- Of the new part of the trail: p begins there, and its end, with that answer, is the last event.
+-- none of these events is of that pass
+abbrev pub AreElse : ℕ → Trail → Type 0
+AreElse pass marks = Each (λ (m : Mark). m.event.process.pass ≢ pass) marks
+
+-- of the pass of p there are none but those of p
+abbrev pub AreOnlyOf : Name → Trail → Type 0
+AreOnlyOf p marks = Each (λ (m : Mark). m.event.process.pass ≡ p.pass → m.event.process ≡ p) marks
+
+-- The new part of the trail has of the pass of p the events of p alone: its begin is the first of them, and its end, with that
+-- answer, is the last event of all.
 pub record Holds (p : Name) (answer : Option Reply) (old new : Trail) : Type 0 where
-  pub more : Trail
-  pub begins : new ≡ old ++ more
-  pub place : ℕ
-  pub begun : DoesAt more place p Begin
   pub before : Trail
+  pub first : Mark
+  pub between : Trail
   pub last : Mark
-  pub ends : more ≡ before ++ last ∷ []
+  pub begins : new ≡ old ++ (before ++ first ∷ (between ++ last ∷ []))
+  pub begun : first.event ≡ record { process = p; act = Begin }
   pub ended : last.event ≡ record { process = p; act = End answer }
+  pub none : AreElse p.pass before
+  pub only : AreOnlyOf p between

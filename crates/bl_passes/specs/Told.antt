@@ -16,14 +16,15 @@ use Rattle.bl_tables.specs.Turns.{event_of}
 use Rattle.bl_tables.specs.Knowing.{Run, bare as know, end_of_proc}
 use Rattle.bl_bounds.specs.Bounds.{IsWithinBound, IsBelowBound}
 use Rattle.bl_bounds.specs.Searches.{IsSearch, IsUnderWay}
+use Rattle.bl_bounds.specs.Latches.{OnlyLooks, IsTidy}
 use Rattle.bl_steps.specs.Worlds.{Stage, Each}
 use Rattle.bl_starts.specs.Blank.{IsBlank}
 use Rattle.bl_courses.specs.Courses.{GoesOn}
 use Rattle.bl_store.specs.Pages.{Owner, Open}
 use Rattle.bl_passes.specs.declared.known.Mine.{Mine}
 use Rattle.bl_passes.specs.Noting.{trail_of}
-use Rattle.bl_passes.specs.Seeing.{IsSeen, AreWithin, own}
-use Rattle.bl_passes.specs.Fitting.{name, AreElse, AreUpTo}
+use Rattle.bl_passes.specs.Seeing.{IsSeen, AreWithin, AreElse, own}
+use Rattle.bl_passes.specs.Fitting.{name, AreUpTo}
 
 -- the page that a process is to get, latch, put, open or retire is one of so many
 abbrev pub IsNear : ℕ → Action → Type 0
@@ -47,6 +48,7 @@ pub record HasOwn (d : Mine) : Type 0 where
 
 -- One event of the pass's process of that count, after all that the pass knew and events of others: e is what it knows then.
 -- Where the process is a search, it has been within its bound at every moment, and below it while it is to get another page.
+-- Whatever it is, it has held at its latches no more than its kind may.
 pub record Notes (by count : ℕ) (act : Act Page Reply) (d e : Mine) : Type 0 where
   pub between : Trail
   pub last : Mark
@@ -59,6 +61,7 @@ pub record Notes (by count : ℕ) (act : Act Page Reply) (d e : Mine) : Type 0 w
   pub others : AreElse by between
   pub bounded : IsSearch e.state → IsWithinBound e.pages (name by count) (trail_of e.trail)
   pub below : IsUnderWay e.state → IsBelowBound e.pages (name by count) (trail_of e.trail)
+  pub tidy : IsTidy e.state (marks_of (name by count) (trail_of e.trail))
 
 -- the process goes on by one event
 pub record Steps (act : Act Page Reply) (d e : Mine) : Type 0 where
@@ -124,13 +127,14 @@ pub record Finishes (answer : Option Reply) (d e : Mine) : Type 0 where
 -- it has answered, and has done what its answer means
 pub record HasDone (d e : Mine) : Type 0 where
   pub course : GoesOn d.state seen.Done
+  pub state : e.state ≡ course.new
   pub log : proc_log course.new (marks_of (name d.pass d.number) (trail_of e.trail))
 
 abbrev pub ends : Mine → ℕ → Mine → Type 0
 ends d now e = Finishes (end_of_proc d.state) d e × HasDone d e
 
 abbrev pub gives_up : Mine → ℕ → Mine → Type 0
-gives_up d now e = Finishes None d e
+gives_up d now e = Finishes None d e × OnlyLooks (marks_of (name d.pass d.number) (trail_of e.trail))
 
 -- p released a page there, and said nothing
 abbrev pub IsRelease : Name → Mark → Type 0
@@ -153,8 +157,9 @@ pub record Sweeps (by count among : ℕ) (d e : Mine) : Type 0 where
 abbrev pub sweeps : ℕ → ℕ → ℕ → Mine → Mine → Type 0
 sweeps by count among d e = (e ≡ d) ⊎ Sweeps by count among d e
 
--- a process that may end at once: it runs, has said nothing, and holds nothing
+-- a search that may end at once: it runs, has said nothing, and holds nothing
 pub record MayGiveUp (state : Proc) : Type 0 where
+  pub search : IsSearch state
   pub busy : (r : Run) → r.state ≡ state → (know r).stage ≡ Stage.Busy
   pub silent : (r : Run) → r.state ≡ state → (know r).said ≡ None
   pub empty : (r : Run) → r.state ≡ state → (know r).holds ≡ []

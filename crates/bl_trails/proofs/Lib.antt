@@ -5,3 +5,4 @@ pub mod Legal
 mod Examples
 pub mod Meant
 mod PostExamples
+pub mod States

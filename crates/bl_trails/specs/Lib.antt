@@ -1,3 +1,4 @@
 pub mod Trails
 pub mod Moments
 pub mod Meanings
+pub mod States

@@ -36,6 +36,7 @@ use Rattle.bl_tables.proofs.Pressed.{compress_means}
 use Rattle.bl_tables.proofs.Starting.{run_laws}
 use Rattle.bl_bounds.specs.Bounds.{IsWithinBound}
 use Rattle.bl_bounds.specs.Searches.{IsSearch}
+use Rattle.bl_bounds.specs.Latches.{IsTidy}
 use Rattle.bl_bounds.proofs.Bounded.{search_within}
 use Rattle.bl_world.specs.Views.{View, name_of}
 use Rattle.bl_world.specs.Deeds.{Way}
@@ -124,8 +125,14 @@ module _ (v : View) (h : Has v) where
   bounded : (n : ℕ) (p : Proc) → slice_get v.processes n ≡ Some p → IsSearch p → IsWithinBound (length v.pages) (name_of (n + 1)) h.world.trail
   bounded n p stood search =
       let name = name_of (suc n) in
-      let within = search_within h.world name (bare_good h.world h.good) h.kept (subst IsSearch (sym (h.runs n p stood)) search) in
+      let within = search_within h.world name (bare_good h.world h.good) h.kept.paced (subst IsSearch (sym (h.runs n p stood)) search) in
       subst (λ k. IsWithinBound (length v.pages) (name_of k) h.world.trail) (sym (one_more n)) (subst (λ k. IsWithinBound k name h.world.trail) h.size within)
+
+  latches : (n : ℕ) (p : Proc) → slice_get v.processes n ≡ Some p → IsTidy p (marks_of (name_of (n + 1)) h.world.trail)
+  latches n p stood =
+      let name = name_of (suc n) in
+      let tidy : IsTidy p (marks_of name h.world.trail) = subst (λ z. IsTidy z (marks_of name h.world.trail)) (h.runs n p stood) (h.kept.tidy name) in
+      subst (λ k. IsTidy p (marks_of (name_of k) h.world.trail)) (sym (one_more n)) tidy
 
   pub account : Way v → Account v
   account way =
@@ -159,6 +166,7 @@ module _ (v : View) (h : Has v) where
         reclaimed = λ n p a stood e. rw (one_more n) (over_means v.events (suc n) p.page (w.proc (name_of (suc n))).time p.stage a e (h.reclaiming n p stood));
         releases = h.releases;
         bounded = bounded;
+        latches = latches;
         refused = λ way n p a stood e no. first_refused way.size way.opened v way.deeds n way.opening way.led (record { process = p; stood = stood; refused = answers_refused p a e no });
       }
 

@@ -34,7 +34,7 @@ use Rattle.bl_proc.specs.Reclaims.{reclaim_next_in}
 use Rattle.bl_tables.specs.Knowing.{Run, know_of, know_find, know_part, know_insert, know_delete, know_post, know_compress, know_reclaim}
 use Rattle.bl_tables.proofs.Logged.{full_blank}
 use Rattle.bl_tables.proofs.Starting.{with_proc, enters_good}
-use Rattle.bl_bounds.proofs.Bounded.{enter_kept}
+use Rattle.bl_bounds.proofs.Kept.{enter_kept}
 use Rattle.bl_world.specs.declared.turns.Event.{Event}
 use Rattle.bl_world.specs.declared.owners.Owner.{Owner}
 use Rattle.bl_world.specs.Views.{name_of}
@@ -141,7 +141,7 @@ enters pages owners processes events p small next h =
       record {
         world = with_proc old name b;
         good = enters_good old name b h.good free.0 free.1 (full_blank b (blank (length pages) b.got 0 0 p small next));
-        kept = enter_kept old name b (blank (length pages) b.got 0 0 p small next).stage h.kept;
+        kept = enter_kept old name b free.2 (blank (length pages) b.got 0 0 p small next).stage h.kept;
         opening = h.opening;
         first = h.first;
         size = h.size;
@@ -155,7 +155,7 @@ enters pages owners processes events p small next h =
         others = λ q far.
             let ne : q ≢ name = far n (rw more (omega arith)) in
             let o = h.others q (λ i l. far i (rw more (omega (arith, l)))) in
-            (o.0, rw (put.others q ne) o.1);
+            (o.0, rw (put.others q ne) o.1, o.2);
         shown = h.shown;
         numbered = h.numbered;
         moments = h.moments;

@@ -8,6 +8,7 @@ use Rattle.bl_page.specs.Machine.{State}
 use Rattle.bl_page.specs.Machine.Owner.{Released, Open, Retired}
 use Rattle.bl_page.specs.Machine.Phase.{Waiting, Running}
 use Rattle.bl_laws.specs.Pages.{node_of, roots_of}
+use Rattle.bl_trails.proofs.States.{moments_first}
 use Rattle.bl_starts.specs.Opening.{Opening}
 use Rattle.bl_starts.specs.Blank.{IsBlank}
 use Rattle.bl_starts.proofs.Starts.{opening_world, opening_good}
@@ -15,7 +16,7 @@ use Rattle.bl_ways.specs.Growths.{IsAnchor}
 use Rattle.bl_proc.specs.declared.kinds.Proc.{Proc}
 use Rattle.bl_proc.specs.declared.kinds.Proc.TheVariants as proc
 use Rattle.bl_proc.specs.declared.searching.FindStage.TheVariants as find
-use Rattle.bl_bounds.proofs.Bounded.{first_kept}
+use Rattle.bl_bounds.proofs.Kept.{first_kept}
 use Rattle.bl_tables.specs.Knowing.{Run, know}
 use Rattle.bl_world.specs.declared.turns.Act.{Act}
 use Rattle.bl_world.specs.declared.turns.Event.{Event}
@@ -24,7 +25,7 @@ use Rattle.bl_world.specs.Retirements.{Stands}
 use Rattle.bl_world.specs.Views.{View, owner_of}
 use Rattle.bl_world.specs.Deeds.{IsOpening}
 use Rattle.bl_world.proofs.Keeping.{Has}
-use Rattle.bl_world.proofs.Moments.{world_moment, moments_first}
+use Rattle.bl_world.proofs.Moments.{world_moment}
 
 -- what a page 0 that names page 1 says of the levels
 names_one : (c : Page) → IsAnchor (1 ∷ []) c → ((roots_of c).levels ≡ 1) × ((roots_of c).leftmost 0 ≡ 1)
@@ -76,7 +77,7 @@ opens size v wide o =
     record {
       world = opening_world now size (λ p. nobody leaf);
       good = good;
-      kept = first_kept (opening_world now size (λ p. nobody leaf)) (λ p. (nobody_blank leaf).stage);
+      kept = first_kept (opening_world now size (λ p. nobody leaf)) refl (λ p. (nobody_blank leaf).stage);
       opening = opening;
       first = refl;
       size = sym o.count;
@@ -84,7 +85,7 @@ opens size v wide o =
       contents = λ x c is. at v.pages leaf x c is;
       owner = λ x a is. ap owner_of (at v.owners own.Released x a is);
       runs = λ n p is. absurd (let e : slice_get {X = Proc} [] n ≡ Some p = rw o.processes at is in cc);
-      others = λ q far. (refl, nobody_blank leaf);
+      others = λ q far. (refl, nobody_blank leaf, refl);
       shown = o.events;
       numbered = λ i m is. absurd (let e : None ≡ Some m = is in cc);
       times = record {

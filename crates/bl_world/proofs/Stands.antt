@@ -5,7 +5,9 @@ use Rattle.bl_model.specs.declared.operation.Reply.{Reply}
 use Rattle.bl_page.specs.declared.page.Page.{Page}
 use Rattle.bl_page.specs.Machine.{Name, State, Act as MachineAct, Changes}
 use Rattle.bl_page.specs.Machine.Act.{Begin, End, Get, Put, Take, Latch, Retire, Look, Release, Miss}
-use Rattle.bl_trails.specs.Trails.{Mark, Trail, events_of}
+use Rattle.bl_trails.specs.Trails.{Mark, Trail, events_of, marks_of}
+use Rattle.bl_trails.proofs.Pushes.{marks_of-other}
+use Rattle.bl_trails.proofs.States.{moments_on}
 use Rattle.bl_proc.specs.declared.reclaiming.Reclaim.{Reclaim}
 use Rattle.bl_proc.specs.declared.kinds.Proc.{Proc}
 use Rattle.bl_proc.specs.declared.kinds.Proc.TheVariants as proc
@@ -22,7 +24,7 @@ use Rattle.bl_world.proofs.Places.{push_cases}
 use Rattle.bl_world.proofs.Retired.{push_new}
 use Rattle.bl_world.proofs.Times.{times_on}
 use Rattle.bl_world.proofs.Reclaims.{reclaiming_on, releases_on}
-use Rattle.bl_world.proofs.Moments.{world_moment, moments_on}
+use Rattle.bl_world.proofs.Moments.{world_moment}
 
 -- an event leaves all other processes where they stood
 pub phase_others : (s s' : State Page) (p q : Name) (a : MachineAct Page Reply) → Changes s p a s' → q ≢ p → s'.phase q ≡ s.phase q
@@ -83,7 +85,7 @@ turned_lists pages pages' owners owners' processes processes' events n a s b h h
         others = λ q unknown.
             let o = h.others q (λ i l. unknown i (rw many l)) in
             let ne : q ≢ p = unknown n (rw many here) in
-            (phase_others old.now next.now p q a e.steps.changes ne ∙ o.0, rw (e.proc.others q ne) o.1);
+            (phase_others old.now next.now p q a e.steps.changes ne ∙ o.0, rw (e.proc.others q ne) o.1, ap (marks_of q) e.trail ∙ (marks_of-other q old.trail _ (λ i. ne (sym i)) ∙ o.2));
         shown = ap (λ es. es ++ record { process = suc n; act = act_shown a } ∷ []) h.shown ∙ (sym (shown_push old.trail _) ∙ ap (λ t. events_shown (events_of t)) (sym e.trail));
         numbered = λ i k is. elim (push_cases old.trail _ i k (ap (λ t. slice_get t i) (sym e.trail) ∙ is)) [
           | inl is_old ↦ h.numbered i k is_old

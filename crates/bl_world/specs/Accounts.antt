@@ -11,6 +11,7 @@ use Rattle.bl_page.specs.Machine.Act.{Begin, End, Get}
 use Rattle.bl_page.specs.Machine.Owner.{Released}
 use Rattle.bl_trails.specs.Trails.{Said, Mark, Trail, marks_of, events_of, history_of, DoesAt, SaysAt, IsMarked, LeadsOn}
 use Rattle.bl_trails.specs.Moments.{HasLaws}
+use Rattle.bl_trails.specs.States.{HasMoments}
 use Rattle.bl_starts.specs.Opening.{Opening}
 use Rattle.bl_ways.specs.declared.answers.Answer.{Answer}
 use Rattle.bl_ways.specs.declared.answers.Answer.TheVariants as answer
@@ -29,21 +30,11 @@ use Rattle.bl_tables.specs.Answers.{MeansPosted, MeansHint}
 use Rattle.bl_tables.specs.Hinted.{MeansBeside}
 use Rattle.bl_bounds.specs.Bounds.{IsWithinBound}
 use Rattle.bl_bounds.specs.Searches.{IsSearch}
+use Rattle.bl_bounds.specs.Latches.{IsTidy}
 use Rattle.bl_world.specs.declared.owners.Owner.{Owner}
 use Rattle.bl_world.specs.Views.{View, name_of, owner_of, events_shown}
 use Rattle.bl_world.specs.Retirements.{MeansReclaimed, ReleasesSeen}
 use Rattle.bl_world.specs.Deeds.{Way, turns_in, IsNoRoom, WasRefused}
-
--- One moment: the marks so far lead from the start, each event enabled in its turn, to pages that have the laws of the tree,
--- with the map after the history so far.
-pub record Moment (start : State Page) (trail : Trail) : Type 0 where
-  pub now : State Page
-  pub leads : LeadsOn start trail now
-  pub laws : HasLaws now trail (final_map empty (history_of trail))
-
--- every moment so far: after any number of events
-abbrev pub HasMoments : State Page → Trail → Type 0
-HasMoments start trail = (i : ℕ) → i ≤ length trail → Moment start (take i trail)
 
 -- no released page is got: before each get its page is not released
 abbrev pub NoneReleased : State Page → Trail → Type 0
@@ -129,6 +120,9 @@ pub record Account (v : View) : Type 0 where
   pub releases : ReleasesSeen v.events
   -- a search, and a part, gets no more pages than its bound beside the puts of others, at every moment so far
   pub bounded : (n : ℕ) (p : Proc) → slice_get v.processes n ≡ Some p → IsSearch p → IsWithinBound (length v.pages) (name_of (n + 1)) trail
+  -- an insertion, a deletion and a post hold no page when they latch one, a compression two at most; a search and a part
+  -- latch, take and put nothing
+  pub latches : (n : ℕ) (p : Proc) → slice_get v.processes n ≡ Some p → IsTidy p (marks_of (name_of (n + 1)) trail)
   -- whichever the turns were: a process answers that there was no room only where one of them was a fit refusal of it
   pub refused : (way : Way v) (n : ℕ) (p : Proc) (a : Answer) → slice_get v.processes n ≡ Some p → answer_of p ≡ Some a → IsNoRoom a → WasRefused way.opened way.deeds n
 

@@ -1,11 +1,12 @@
 -- The world behind what stands in one: its pages, owners, processes and events are those of a good world.
-use Rattle.std.specs.Prelude.{◌≡◌, ℕ, suc, ◌<◌, ◌≤◌, ◌≢◌, List, length, Some, slice_get}
+use Rattle.std.specs.Prelude.{◌≡◌, ℕ, suc, ◌<◌, ◌≤◌, ◌≢◌, List, [], length, Some, slice_get}
 use Rattle.bl_model.specs.Map.{empty}
 use Rattle.bl_page.specs.declared.page.Page.{Page}
 use Rattle.bl_page.specs.Machine.{Name}
 use Rattle.bl_page.specs.Machine.Owner.{Retired}
 use Rattle.bl_page.specs.Machine.Phase.{Waiting, Running, Ended}
-use Rattle.bl_trails.specs.Trails.{events_of}
+use Rattle.bl_trails.specs.Trails.{events_of, marks_of}
+use Rattle.bl_trails.specs.States.{HasMoments}
 use Rattle.bl_steps.specs.Worlds.{World as ModelWorld, IsGood}
 use Rattle.bl_starts.specs.Blank.{IsBlank}
 use Rattle.bl_starts.specs.Opening.{Opening}
@@ -21,7 +22,7 @@ use Rattle.bl_world.specs.declared.turns.Event.{Event}
 use Rattle.bl_world.specs.declared.owners.Owner.{Owner}
 use Rattle.bl_world.specs.Views.{View, name_of, owner_of, events_shown}
 use Rattle.bl_world.specs.Retirements.{Stands, IsRetired, HasSeen, MeansReclaimed, ReleasesSeen}
-use Rattle.bl_world.specs.Accounts.{AllNumbered, HasMoments}
+use Rattle.bl_world.specs.Accounts.{AllNumbered}
 
 -- the key that a process is about
 abbrev pub key_in : Proc → ℕ
@@ -66,7 +67,7 @@ pub record HasWorld (pages : List Page) (owners : List Owner) (processes : List 
   pub contents : (x : ℕ) (c : Page) → slice_get pages x ≡ Some c → world.now.contents x ≡ c
   pub owner : (x : ℕ) (o : Owner) → slice_get owners x ≡ Some o → world.now.owner x ≡ owner_of o
   pub runs : (n : ℕ) (p : Proc) → slice_get processes n ≡ Some p → (world.proc (name_of (suc n))).state ≡ p
-  pub others : (q : Name) → IsUnknown (length processes) q → (world.now.phase q ≡ Waiting) × IsBlank (know (world.proc q))
+  pub others : (q : Name) → IsUnknown (length processes) q → (world.now.phase q ≡ Waiting) × IsBlank (know (world.proc q)) × (marks_of q world.trail ≡ [])
   pub shown : events ≡ events_shown (events_of world.trail)
   pub numbered : AllNumbered world.trail
   pub moments : HasMoments world.start world.trail

@@ -9,6 +9,8 @@ mod calls;
 #[cfg(test)]
 mod quiet;
 #[cfg(test)]
+mod reached;
+#[cfg(test)]
 mod retired;
 #[cfg(test)]
 mod turns;

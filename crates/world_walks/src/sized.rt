@@ -49,6 +49,10 @@ impl SizedWorld {
         self.world.steps()
     }
 
+    pub fn lone_walk(&self, key: u64) -> (u32, u32) {
+        self.world.lone_walk(key)
+    }
+
     pub fn answer(&self, number: usize) -> Option<Answer> {
         self.world.answer(number)
     }

@@ -12,5 +12,6 @@ returns-clause-deletes g c =
     let answer = sym c.answer.ensures ∙ c.answered.ensures in
     record {
       answers = op_answered _ _ _ _ _ _ _ _ done (λ i. Some (op.Delete (c.new.ensures.key i))) answer;
+      latches = done.tidy;
       hint = op_beside _ _ _ _ _ _ _ done answer;
     }

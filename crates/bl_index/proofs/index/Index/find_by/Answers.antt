@@ -1,6 +1,6 @@
 use Rattle.std.proofs.Common.{rules, ◌≡◌, ◌∙◌, sym, None, ℕ, arith}
 use Rattle.bl_index.specs.Searching.{IsSearching}
-use Rattle.bl_index.proofs.Calls.{since_step}
+use Rattle.bl_index.proofs.Calls.{since_step, own_looks}
 use Rattle.bl_index.proofs.Silent.{gives_up}
 use Rattle.bl_index.proofs.Searches.{searches_on, find_under_way, find_is_search, find_may_give_up, find_answers}
 use Rattle.bl_index.proofs.Paces.{at_begin, at_step, at_found, at_end}
@@ -46,6 +46,7 @@ returns-in-Ending-clause-answers c =
       answered = record {
         answers = find_answers _ _ _ _ c.read.new.process c.args.key c.in-Ending.value c.reply_of.result since process.state (takes.1.0 ∙ inv.key) c.in-Ending.is c.finish.ensures.told c.reply_of.ensures;
         bounded = at_found _ _ _ _ _ inv.since.named inv.since.number inv.turn _ _ _ _ process.pages since.named since.number c.read.ensures.got (find_is_search _ _ process.state) c.finish.ensures.told;
+        looks = own_looks _ _ _ _ since c.finish.ensures.tidy;
       };
       refused = tt;
     }
@@ -62,6 +63,7 @@ returns-clause-answers c =
         bounded = end.0;
         gets = end.1 ∙ all;
         below = end.2;
+        looks = own_looks _ _ _ _ inv.since c.give_up.ensures.looks;
       };
     }
 

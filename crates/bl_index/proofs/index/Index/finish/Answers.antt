@@ -1,9 +1,13 @@
 use Rattle.std.proofs.Common.{◌≡◌, ap, sym, ◌∙◌, subst}
 use Rattle.bl_ways.specs.declared.acts.Seen.TheVariants as seen
 use Rattle.bl_proc.specs.declared.kinds.Proc.{Proc}
-use Rattle.bl_proc.specs.Processes.{next_of}
+use Rattle.bl_proc.specs.Processes.{next_of, Takes}
+use Rattle.bl_trails.specs.Trails.{marks_of}
+use Rattle.bl_bounds.specs.Latches.{IsTidy}
 use Rattle.bl_courses.specs.Courses.{GoesOn}
 use Rattle.bl_store.specs.Hands.{known}
+use Rattle.bl_passes.specs.Noting.{trail_of}
+use Rattle.bl_passes.specs.Fitting.{name}
 use Rattle.bl_passes.proofs.Bounds.{ends_process}
 use Rattle.bl_index.proofs.Withins.{ends_within}
 use Rattle.bl_index.proofs.index.Index.finish.Goals as goal
@@ -16,3 +20,10 @@ end-requires-clause-rule g c =
 
 pub returns-clause-within : goal.returns-clause-within
 returns-clause-within g c = ends_within c.args.self.now.store.layout c.args.hand.now.seat c.end.new.hand.seat _ c.requires.own.1 c.end.ensures.same.0.1 c.requires.process.passes c.end.ensures.told.1.0
+
+pub returns-clause-tidy : goal.returns-clause-tidy
+returns-clause-tidy g c =
+    let ended = c.end.ensures.told.1 in
+    let goes = g.met.P.Kind.goes c.args.process.now c.took.new.self seen.Done c.took.ensures in
+    let takes : Takes (known c.args.hand.now.seat).state seen.Done (g.P.Kind.proc_of c.took.new.self) = subst (λ (z : Proc). Takes z seen.Done (g.P.Kind.proc_of c.took.new.self)) (sym c.requires.process.state) goes in
+    subst (λ (z : Proc). IsTidy z (marks_of (name (known c.args.hand.now.seat).pass (known c.args.hand.now.seat).number) (trail_of (known c.end.new.hand.seat).trail))) (ended.1.state ∙ sym (ended.1.course.only _ takes)) ended.0.notes.tidy

@@ -1,7 +1,7 @@
 use Rattle.std.proofs.Common.{rules, ◌≡◌, ◌∙◌, sym, ap, Some, None, ℕ, arith}
 use Rattle.bl_model.specs.declared.operation.Op.TheVariants as op
 use Rattle.bl_index.specs.Searching.{IsListing}
-use Rattle.bl_index.proofs.Calls.{since_step}
+use Rattle.bl_index.proofs.Calls.{since_step, own_looks}
 use Rattle.bl_index.proofs.Ends.{op_answered}
 use Rattle.bl_index.proofs.Silent.{gives_up}
 use Rattle.bl_index.proofs.Listings.{lists_on, part_under_way, part_is_search, part_may_give_up, part_done}
@@ -43,11 +43,12 @@ returns-in-Ending-clause-answers c =
     let inv = c.loop-turn.invariant in
     let process = c.read.ensures.process in
     let since = since_step _ _ _ _ _ inv.since c.read.ensures.moves.1 in
-    let done = part_done _ _ _ _ c.read.new.process c.finish.new.process _ since process.state c.in-Ending.is c.finish.ensures.told c.finish.ensures.takes in
+    let done = part_done _ _ _ _ c.read.new.process c.finish.new.process _ since process.state c.in-Ending.is c.finish.ensures.told c.finish.ensures.takes c.finish.ensures.tidy in
     record {
       answered = record {
         answers = op_answered _ _ _ _ _ _ _ _ done (ap (λ (k : ℕ). Some (op.Part k)) (c.read.ensures.takes.1.0 ∙ inv.from)) (sym c.answer.ensures ∙ c.answered-reply.ensures);
         bounded = at_found _ _ _ _ _ inv.since.named inv.since.number inv.turn _ _ _ _ process.pages since.named since.number c.read.ensures.got (part_is_search _ _ process.state) c.finish.ensures.told;
+        looks = own_looks _ _ _ _ since c.finish.ensures.tidy;
       };
       refused = tt;
     }
@@ -64,6 +65,7 @@ returns-clause-answers c =
         bounded = end.0;
         gets = end.1 ∙ all;
         below = end.2;
+        looks = own_looks _ _ _ _ inv.since c.give_up.ensures.looks;
       };
     }
 
