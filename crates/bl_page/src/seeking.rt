@@ -11,7 +11,7 @@ use crate::source::WordSource;
 /// off: a loop without branches takes less time than one that halves. Every other key is counted by those above: where all
 /// are added, the compiler gathers the comparisons into a vector one by one, which takes twice as long.
 #[inline(always)]
-fn place_in<W: WordSource>(source: &W, hand: &mut W::Hand, count: usize, key: u64) -> usize
+pub fn place_in<W: WordSource>(source: &W, hand: &mut W::Hand, count: usize, key: u64) -> usize
     requires sees { W.Sees source.now hand.old }
     requires count { count ≡ count_in (W.shown source.now hand.old) }
     requires pairs { HasPairs (W.shown source.now hand.old) }

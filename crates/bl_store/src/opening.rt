@@ -6,7 +6,7 @@ ghost use Rattle.bl_store.specs.Opening.{first_pages, is_blank, Laid, IsDealt};
 ghost use Rattle.bl_store.specs.declared.view.Sealing.TheVariants.{Unsealed};
 
 use crate::rule::PageRule;
-use crate::store::{Hand, Store};
+use crate::store::{Hand, RING, Store};
 use crate::view::View;
 use atomic_table::{Seat, Split, Table};
 use bl_layout::Layout;
@@ -103,13 +103,13 @@ impl<D> Hand<D> {
             number,
             frame: number.wrapping_mul(frames / layout.passes),
             owner: number.wrapping_mul((layout.pages + frames) / layout.passes),
-            retired: [0; 128],
+            retired: [0; RING],
             waiting: 0,
-            released: [0; 128],
+            released: [0; RING],
             ready: 0,
-            since: 0,
-            owes: 0,
-            due: 0,
+            untried: 0,
+            unswept: 0,
+            owed: 0,
         }
     }
 }

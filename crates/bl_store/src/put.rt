@@ -10,8 +10,15 @@ ghost use Rattle.bl_store.specs.declared.view.Dropping.TheVariants.{Dropped};
 use crate::plays::{Settle, Swap, Tick, Write};
 use crate::rule::{PagePlay, PageRule};
 use crate::stock::Stock;
-use crate::store::{Hand, Store};
+use crate::store::{Hand, RING, Store};
+use crate::sweep::LOOKS;
 use std::alloc::Allocator;
+
+/// After so many puts a sweep is due.
+const PUTS_TO_SWEEP: u32 = 64;
+
+/// With so many pages for each hand, all hands may leave a ring of retired frames behind them, and frames are left.
+const SPARE_PAGES: u32 = 256;
 
 impl<D, R: PageRule<D>, A: Allocator> Store<D, R, A> {
     /// Gives a page that the hand holds its words, at one event. It takes a frame of the stock, and the frame that the
@@ -77,13 +84,32 @@ impl<D, R: PageRule<D>, A: Allocator> Store<D, R, A> {
         self.table
             .shared
             .store::<Settle>(&mut hand.seat, at, 4 * time + 3);
-        hand.since = hand.since.wrapping_add(1);
-        hand.due = hand.due.wrapping_add(1);
-        if hand.waiting < 128 {
+        self.note_retired(hand, frame);
+    }
+
+    // The hand keeps the frame in sight, which it has retired. Where it has no room for it, sweeps over all owner words find it
+    // again.
+    #[inline(always)]
+    fn note_retired(&self, hand: &mut Hand<D>, frame: u32)
+        requires own { IsOf self.now.table.shared.table_id self.now.layout hand.old.seat }
+        ensures same { hand.new.seat ≡ hand.old.seat }
+    {
+        hand.untried = hand.untried.saturating_add(1);
+        hand.unswept = hand.unswept.saturating_add(1);
+        if hand.waiting < RING as u32 {
             hand.retired[hand.waiting as usize] = frame;
             hand.waiting += 1;
         } else {
-            hand.owes = (self.layout.pages + self.layout.frames()) / 64 + 1;
+            hand.owed = (self.layout.pages + self.layout.frames()) / LOOKS + 1;
+        }
+        // With few pages there are few frames to spare, and none may wait for long.
+        let patience = if self.layout.pages / SPARE_PAGES >= self.layout.passes {
+            PUTS_TO_SWEEP
+        } else {
+            1
+        };
+        if hand.unswept >= patience && hand.owed == 0 {
+            hand.owed = 1;
         }
     }
 }

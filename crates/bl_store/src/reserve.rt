@@ -8,12 +8,15 @@ ghost use Rattle.bl_store.specs.Hands.{known, IsOf, IsSameHand, IsSameStage, IsS
 use crate::plays::{Allot, Note, Refuse, Reserve, Return, Take};
 use crate::rule::{PagePlay, PageRule, TimePlay};
 use crate::stock::{NoRoom, Stock};
-use crate::store::{Hand, Store};
+use crate::store::{Hand, RING, Store};
 use std::alloc::Allocator;
 use std::sync::atomic::Ordering;
 
 /// At this time and later no reservation is given.
 const END_OF_TIME: u64 = 1 << 60;
+
+/// A hand that has retired so many frames tries to release them. It looks at every process then, which takes some time.
+const RETIRED_TO_TRY: u32 = 64;
 
 impl<D, R: PageRule<D>, A: Allocator> Store<D, R, A> {
     /// Reserves as many frames, and as many pages. Each frame and each page from 1 upward is tried once. A refused
@@ -100,13 +103,13 @@ impl<D, R: PageRule<D>, A: Allocator> Store<D, R, A> {
         }
     }
 
-    // Releases what it can, where it has too few frames at hand.
+    // Releases what it has retired, where it has too few frames at hand. This is no part of the reservation, and comes before it.
     #[inline(always)]
     fn prepare(&self, hand: &mut Hand<D>, frames: u32)
         requires own { IsOf self.now.table.shared.table_id self.now.layout hand.old.seat }
         ensures same { IsSameHand hand.old.seat hand.new.seat × IsSameStage hand.old.seat hand.new.seat × IsSameStock hand.old.seat hand.new.seat × (known hand.new.seat ≡ known hand.old.seat) }
     {
-        if hand.ready < frames && hand.since >= 16 {
+        if hand.ready < frames && hand.untried >= RETIRED_TO_TRY {
             self.recycle(hand);
         }
     }
@@ -122,7 +125,7 @@ impl<D, R: PageRule<D>, A: Allocator> Store<D, R, A> {
     {
         let total = self.layout.frames();
         for _ in 0..wanted {
-            if hand.ready == 0 || hand.ready > 128 || stock.count == wanted {
+            if hand.ready == 0 || hand.ready > RING as u32 || stock.count == wanted {
                 return;
             }
             hand.ready -= 1;

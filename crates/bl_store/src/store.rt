@@ -15,6 +15,9 @@ use bl_layout::Layout;
 use std::alloc::{Allocator, Global};
 use std::sync::atomic::AtomicU64;
 
+/// How many frames a hand keeps in sight that it has retired, and that it has released.
+pub(crate) const RING: usize = 128;
+
 /// One who reads and writes pages. Hands are numbered from 0, and no two of a store share a number.
 #[derive(Drop)]
 pub struct Hand<D> {
@@ -24,16 +27,17 @@ pub struct Hand<D> {
     pub(crate) frame: u32,
     // The owner word at which its next sweep begins, counted from page 0.
     pub(crate) owner: u32,
-    // Frames that its puts have retired, the oldest first, and frames that it has released since. No proof rests on them.
-    pub(crate) retired: [u32; 128],
+    // Frames that its puts have retired, the oldest first, and how many. No proof rests on them, nor on the fields below.
+    pub(crate) retired: [u32; RING],
     pub(crate) waiting: u32,
-    pub(crate) released: [u32; 128],
+    // Frames that it has released since, and how many.
+    pub(crate) released: [u32; RING],
     pub(crate) ready: u32,
-    // Puts since the last try to release what it retired, and sweeps that it owes, since it has lost sight of a frame.
-    pub(crate) since: u32,
-    pub(crate) owes: u32,
-    // Puts since its last sweep.
-    pub(crate) due: u32,
+    // How many frames it has retired since it last tried to release them.
+    pub(crate) untried: u32,
+    // How many it has retired since its last sweep, and how many sweeps it owes.
+    pub(crate) unswept: u32,
+    pub(crate) owed: u32,
     pub ghost own: { (number ≡ seat.me.0.number) × (number < seat.me.0.layout.passes) × (seat.me.0.sealing ≡ Unsealed) × (seat.me.1 ≡ []) },
 }
 
@@ -62,9 +66,10 @@ pub struct Store<D, R: PageRule<D>, A: Allocator = Global> {
 }
 
 impl<D> Hand<D> {
-    /// Whether a sweep is worth its time now: some puts have passed, or frames wait that the hand has lost sight of.
+    /// Whether a sweep is worth its time now: some puts have passed since the last one, or the hand has lost sight of frames
+    /// that it has retired. It is a hint, and a sweep does its whole work whatever this says.
     pub fn is_due(&self) -> bool {
-        self.owes > 0 || self.due >= 64
+        self.owed > 0
     }
 
     /// The number of the hand, by which a rule and an owner name it.

@@ -7,12 +7,12 @@ ghost use Rattle.bl_store.specs.declared.view.Sweep.TheVariants.{Over};
 
 use crate::plays::{Free, Horizon, Pass, Release};
 use crate::rule::{PageRule, SweepPlay};
-use crate::store::{Hand, Store};
+use crate::store::{Hand, RING, Store};
 use std::alloc::Allocator;
 use std::sync::atomic::Ordering;
 
 /// How many owner words a sweep looks at, or all where there are fewer.
-const LOOKS: u32 = 64;
+pub(crate) const LOOKS: u32 = 64;
 
 /// The number that lies so many behind another one, where the last is followed by 0. A remainder takes longer.
 #[inline(always)]
@@ -40,8 +40,8 @@ impl<D, R: PageRule<D>, A: Allocator> Store<D, R, A> {
         ensures told { M.then (known hand.old.seat) (known hand.new.seat) }
         ensures count { hand.new.seat.me.0.releases ≡ hand.old.seat.me.0.releases + result }
     {
-        hand.due = 0;
-        hand.owes = hand.owes.saturating_sub(1);
+        hand.unswept = 0;
+        hand.owed = hand.owed.saturating_sub(1);
         let owners = self.layout.pages + self.layout.frames();
         let looks = owners.min(LOOKS);
         let first = hand.owner % owners;
@@ -96,27 +96,32 @@ impl<D, R: PageRule<D>, A: Allocator> Store<D, R, A> {
         oldest
     }
 
-    // Releases what the hand's puts have retired and no process can read any more.
+    // Releases those of the frames in the ring that no process can read any more, and keeps the others.
     #[inline(never)]
     pub(crate) fn recycle(&self, hand: &mut Hand<D>)
         requires own { IsOf self.now.table.shared.table_id self.now.layout hand.old.seat }
         ensures same { IsSameHand hand.old.seat hand.new.seat × IsSameStage hand.old.seat hand.new.seat × IsSameStock hand.old.seat hand.new.seat × (known hand.new.seat ≡ known hand.old.seat) }
     {
-        hand.since = 0;
+        hand.untried = 0;
         let oldest = self.oldest(hand);
         let total = self.layout.frames();
-        let many = hand.waiting.min(128);
+        let many = hand.waiting.min(RING as u32);
         let mut kept = 0u32;
         for i in 0..many {
             let frame = hand.retired[i as usize];
-            if frame < total {
-                let state = self.table.shared.peek(self.layout.frame_owner(frame));
-                if state % 4 == 3 && state / 4 < oldest {
-                    self.recycle_frame(hand, frame, state, oldest);
-                } else if state % 4 == 3 {
-                    hand.retired[kept as usize] = frame;
-                    kept += 1;
-                }
+            if frame >= total {
+                continue;
+            }
+            let state = self.table.shared.peek(self.layout.frame_owner(frame));
+            // A sweep may have released it meanwhile.
+            if state % 4 != 3 {
+                continue;
+            }
+            if state / 4 < oldest {
+                self.recycle_frame(hand, frame, state, oldest);
+            } else {
+                hand.retired[kept as usize] = frame;
+                kept += 1;
             }
         }
         hand.waiting = kept;
@@ -136,7 +141,7 @@ impl<D, R: PageRule<D>, A: Allocator> Store<D, R, A> {
             .table
             .shared
             .compare_exchange::<Release>(&mut hand.seat, word, state, 0);
-        if found == state && hand.ready < 128 {
+        if found == state && hand.ready < RING as u32 {
             hand.released[hand.ready as usize] = frame;
             hand.ready += 1;
         }

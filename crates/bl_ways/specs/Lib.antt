@@ -6,3 +6,4 @@ pub mod Changes
 pub mod Growths
 pub mod Hints
 pub mod Thin
+pub mod Respelled

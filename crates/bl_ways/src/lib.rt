@@ -18,6 +18,7 @@ mod growths;
 mod machine;
 mod onwards;
 mod reading;
+mod respelled;
 mod spelled;
 mod thin;
 
@@ -30,5 +31,6 @@ pub use growing::{Grew, Growth, Raising, Rise};
 pub use machine::{Process, Reader, took_page};
 pub use onwards::{Onward, way_from};
 pub use reading::{count_of, level_of, levels_of, listed, low_of, top_page};
+pub use respelled::{words_with, words_without};
 pub use spelled::{level_in, levels_in, row_in, top_in, way_in};
 pub use thin::{hint_of_thin, thin_low};
