@@ -13,8 +13,9 @@ use Rattle.bl_rearrange.specs.Neighbours.{AreNeighbours}
 use Rattle.bl_rearrange.specs.declared.sides.Side.{Side}
 use Rattle.bl_rearrange.specs.declared.sides.Side.TheVariants as side
 use Rattle.bl_trails.specs.Trails.{Mark, Trail}
-use Rattle.bl_trails.specs.Meanings.{HasGot, put_in, puts_of}
-use Rattle.bl_trails.proofs.Meant.{puts_of-push, got_on, got_last}
+use Rattle.bl_trails.specs.Meanings.{HasGot}
+use Rattle.bl_trails.proofs.Meant.{got_on, got_last}
+use Rattle.bl_ways.specs.declared.acts.Action.TheVariants as act
 use Rattle.bl_ways.specs.declared.acts.Seen.{Seen}
 use Rattle.bl_ways.specs.declared.acts.Seen.TheVariants as seen
 use Rattle.bl_ways.specs.declared.answers.Hint.{Hint}
@@ -39,7 +40,7 @@ use Rattle.bl_compress.specs.declared.squeezing.CompressStage.{CompressStage}
 use Rattle.bl_compress.specs.declared.squeezing.CompressStage.TheVariants as compress
 use Rattle.bl_compress.specs.Compresses.{compress_reply, compress_next_in, CompressStarts, CompressArrives, CompressNears, CompressComes, CompressGoes}
 use Rattle.bl_tables.specs.Turns.{event_of}
-use Rattle.bl_tables.specs.Squeezed.{acts_in, acts_of, Since, AtFamily, AtLeft, AtBoth, to_left, to_right, put_act, to_first, to_second, to_last, to_end, Once, IsToSqueeze, HasMissed}
+use Rattle.bl_tables.specs.Squeezed.{acts_in, acts_of, writes_in, writes_of, Unwritten, Since, AtFamily, AtLeft, AtBoth, to_left, to_right, put_act, to_first, to_second, to_last, to_end, Once, IsToSqueeze, HasMissed}
 use Rattle.bl_tables.specs.Logs.{way_log, fate_log, squeeze_log, pressed_log, compress_log}
 use Rattle.bl_tables.proofs.Approaching.{arrival}
 use Rattle.bl_tables.proofs.Logging.{latched_on}
@@ -47,6 +48,77 @@ use Rattle.bl_tables.proofs.Logging.{latched_on}
 acts_of-push : (ms : Trail) (m : Mark) → acts_of (ms ++ m ∷ []) ≡ acts_of ms ++ acts_in m.event.act
 acts_of-push [] m = append-nil (acts_in m.event.act)
 acts_of-push (n ∷ ms) m = ap (λ z. acts_in n.event.act ++ z) (acts_of-push ms m) ∙ sym (append_assoc (acts_in n.event.act) (acts_of ms) (acts_in m.event.act))
+
+acts_of-append : (xs ys : Trail) → acts_of (xs ++ ys) ≡ acts_of xs ++ acts_of ys
+acts_of-append [] ys = refl
+acts_of-append (m ∷ ms) ys = ap (λ z. acts_in m.event.act ++ z) (acts_of-append ms ys) ∙ sym (append_assoc (acts_in m.event.act) (acts_of ms) (acts_of ys))
+
+writes_of-append : (xs ys : Trail) → writes_of (xs ++ ys) ≡ writes_of xs ++ writes_of ys
+writes_of-append [] ys = refl
+writes_of-append (m ∷ ms) ys = ap (λ z. writes_in m.event.act ++ z) (writes_of-append ms ys) ∙ sym (append_assoc (writes_in m.event.act) (writes_of ms) (writes_of ys))
+
+-- what of a list of acts writes
+abbrev writes_among : List (Act Page Reply) → List (Act Page Reply)
+writes_among [] = []
+writes_among (a ∷ more) = writes_in a ++ writes_among more
+
+among_done : (a : Act Page Reply) (rest : List (Act Page Reply)) → writes_among (acts_in a ++ rest) ≡ writes_in a ++ writes_among rest
+among_done Act.Begin rest = refl
+among_done (Act.End answer) rest = refl
+among_done (Get x) rest = refl
+among_done (Put x c) rest = refl
+among_done (Act.Take x) rest = refl
+among_done (Latch x) rest = refl
+among_done (Act.Open x) rest = refl
+among_done (Retire x) rest = refl
+among_done (Act.Look what) rest = refl
+among_done (Act.Release x) rest = refl
+among_done Miss rest = refl
+
+writes_of-acts : (ms : Trail) → writes_of ms ≡ writes_among (acts_of ms)
+writes_of-acts [] = refl
+writes_of-acts (m ∷ ms) = ap (λ z. writes_in m.event.act ++ z) (writes_of-acts ms) ∙ sym (among_done m.event.act (acts_of ms))
+
+-- since the latch nothing was written
+since_unwritten : {ms : Trail} {x : ℕ} {acts : List (Act Page Reply)} → writes_among acts ≡ [] → Since ms x acts → Unwritten ms
+since_unwritten none h = record {
+  earlier = h.first.earlier;
+  begin = h.first.begin;
+  since = h.first.since ++ h.latch ∷ h.during;
+  split = h.split ∙ (ap (λ z. z ++ h.latch ∷ h.during) h.first.split ∙ append_assoc h.first.earlier (h.first.begin ∷ h.first.since) (h.latch ∷ h.during));
+  begun = h.first.begun;
+  none = writes_of-append h.first.since (h.latch ∷ h.during)
+      ∙ (ap (λ z. z ++ writes_of (h.latch ∷ h.during)) h.first.none ∙ (ap (λ z. writes_in z ++ writes_of h.during) h.latched ∙ (writes_of-acts h.during ∙ (ap writes_among h.acts_are ∙ none))));
+}
+
+gets_nothing : (x : ℕ) (what : Seen) → writes_in (event_of None (act.Get x) what) ≡ []
+gets_nothing x seen.Done = refl
+gets_nothing x (seen.Words c) = refl
+gets_nothing x (seen.Took n) = refl
+gets_nothing x (seen.Owner retired started own) = refl
+gets_nothing x (seen.Blocks it) = refl
+gets_nothing x seen.Missed = refl
+gets_nothing x seen.Refused = refl
+
+-- on its way to a page a process writes nothing
+approach_writes : (a : Approach) (what : Seen) → writes_in (event_of None (approach_next a) what) ≡ []
+approach_writes way.Start what = gets_nothing 0 what
+approach_writes (way.At x) what = gets_nothing x what
+approach_writes (way.Latching x) seen.Done = refl
+approach_writes (way.Latching x) (seen.Words c) = refl
+approach_writes (way.Latching x) (seen.Took n) = refl
+approach_writes (way.Latching x) (seen.Owner retired started own) = refl
+approach_writes (way.Latching x) (seen.Blocks it) = refl
+approach_writes (way.Latching x) seen.Missed = refl
+approach_writes (way.Latching x) seen.Refused = refl
+approach_writes (way.Latched x) what = gets_nothing x what
+approach_writes (way.Leaving x to) seen.Done = refl
+approach_writes (way.Leaving x to) (seen.Words c) = refl
+approach_writes (way.Leaving x to) (seen.Took n) = refl
+approach_writes (way.Leaving x to) (seen.Owner retired started own) = refl
+approach_writes (way.Leaving x to) (seen.Blocks it) = refl
+approach_writes (way.Leaving x to) seen.Missed = refl
+approach_writes (way.Leaving x to) seen.Refused = refl
 
 -- which of the two children a put is of
 put_event : (sd : Side) (u : Puts) → event_of None (put_of sd u) seen.Done ≡ put_act sd u
@@ -72,12 +144,27 @@ module _ (ms : Trail) (m : Mark) where
   abbrev more : Trail
   more = ms ++ m ∷ []
 
-  since_now : (x : ℕ) → m.event.act ≡ Latch x → Since more x []
-  since_now x e = record { before = ms; latch = m; during = []; split = refl; latched = e; acts_are = refl }
+  -- it begins now; it writes nothing now
+  begun_now : m.event.act ≡ Act.Begin → Unwritten more
+  begun_now e = record { earlier = ms; begin = m; since = []; split = refl; begun = e; none = refl }
+
+  unwritten_on : writes_in m.event.act ≡ [] → Unwritten ms → Unwritten more
+  unwritten_on none h = record {
+    earlier = h.earlier;
+    begin = h.begin;
+    since = h.since ++ m ∷ [];
+    split = ap (λ z. z ++ m ∷ []) h.split ∙ append_assoc h.earlier (h.begin ∷ h.since) (m ∷ []);
+    begun = h.begun;
+    none = writes_of-append h.since (m ∷ []) ∙ (ap (λ z. z ++ writes_of (m ∷ [])) h.none ∙ ap (λ z. z ++ []) none);
+  }
+
+  since_now : (x : ℕ) → m.event.act ≡ Latch x → Unwritten ms → Since more x []
+  since_now x e first = record { before = ms; first = first; latch = m; during = []; split = refl; latched = e; acts_are = refl }
 
   abbrev since_on : {x : ℕ} {acts : List (Act Page Reply)} (new : List (Act Page Reply)) → acts_in m.event.act ≡ new → Since ms x acts → Since more x (acts ++ new)
   since_on {x} {acts} new did h = record {
     before = h.before;
+    first = h.first;
     latch = h.latch;
     during = h.during ++ m ∷ [];
     split = ap (λ z. z ++ m ∷ []) h.split ∙ append_assoc h.before (h.latch ∷ h.during) (m ∷ []);
@@ -105,12 +192,12 @@ module _ (ms : Trail) (m : Mark) where
   right_got {level} {key} {f} d did saw h = record { left = left_on (Get f.at.right ∷ []) (ap acts_in did) h; got = got_last h.family.since.during m did saw }
 
   -- it was done once, and stays done; or was done just now
-  abbrev once_on : {Then : Trail → Type 0} → put_in m.event.act ≡ [] → Once ms Then → Once more Then
+  abbrev once_on : {Then : Trail → Type 0} → writes_in m.event.act ≡ [] → Once ms Then → Once more Then
   once_on put h = record {
     until = h.until;
     after = h.after ++ m ∷ [];
     split = ap (λ z. z ++ m ∷ []) h.split ∙ append_assoc h.until h.after (m ∷ []);
-    no_more = puts_of-push h.after m ∙ (ap (λ z. z ++ put_in m.event.act) h.no_more ∙ put);
+    no_more = writes_of-append h.after (m ∷ []) ∙ (ap (λ z. z ++ writes_of (m ∷ [])) h.no_more ∙ ap (λ z. z ++ []) put);
     is = h.is;
   }
 
@@ -118,15 +205,15 @@ module _ (ms : Trail) (m : Mark) where
   once_now h = record { until = more; after = []; split = sym (append-nil more); no_more = refl; is = h }
 
   module _ (level key : ℕ) where
-    fate_on : (ended : Fate) → put_in m.event.act ≡ [] → fate_log level key ended ms → fate_log level key ended more
+    fate_on : (ended : Fate) → writes_in m.event.act ≡ [] → fate_log level key ended ms → fate_log level key ended more
     fate_on (fate.Merged hint) put h = once_on put h
     fate_on fate.Evened put h = once_on put h
     fate_on fate.Enough put h = once_on put h
     fate_on (fate.Unposted hint) put h = once_on put h
     fate_on fate.Refused put h = once_on put h
-    fate_on fate.Lost put h = tt
+    fate_on fate.Lost put h = unwritten_on put h
 
-    pressed_on : (r : CompressReply) → put_in m.event.act ≡ [] → pressed_log level key r ms → pressed_log level key r more
+    pressed_on : (r : CompressReply) → writes_in m.event.act ≡ [] → pressed_log level key r ms → pressed_log level key r more
     pressed_on (reply.Merged hint) put h = once_on put h
     pressed_on reply.Evened put h = once_on put h
     pressed_on reply.Enough put h = once_on put h
@@ -144,6 +231,14 @@ module _ (ms : Trail) (m : Mark) where
     fate_pressed (fate.Unposted hint) r e h = subst (λ z. pressed_log level key z more) (same_reply _ _ e) h
     fate_pressed fate.Refused r e h = subst (λ z. pressed_log level key z more) (same_reply _ _ e) h
     fate_pressed fate.Lost r e h = absurd (let z : None ≡ Some r = e in cc)
+
+    lost_unwritten : (ended : Fate) → compress_reply ended ≡ None → fate_log level key ended more → Unwritten more
+    lost_unwritten fate.Lost e h = h
+    lost_unwritten (fate.Merged hint) e h = absurd (let z : Some (reply.Merged hint) ≡ None = e in cc)
+    lost_unwritten fate.Evened e h = absurd (let z : Some reply.Evened ≡ None = e in cc)
+    lost_unwritten fate.Enough e h = absurd (let z : Some reply.Enough ≡ None = e in cc)
+    lost_unwritten (fate.Unposted hint) e h = absurd (let z : Some (reply.Unposted hint) ≡ None = e in cc)
+    lost_unwritten fate.Refused e h = absurd (let z : Some reply.NoRoom ≡ None = e in cc)
 
     -- all three pages were put
     last_on : (u : Puts) → IsToSqueeze level key more u (to_last u) → squeeze_log level key (after_puts u.at u.fate) more
@@ -176,7 +271,7 @@ module _ (ms : Trail) (m : Mark) where
         let same = decided_at f c d u t in
         record { family = f; left = c; right = d; at = same; both = subst (λ (z : Trio). AtBoth level key more f c d (to_right z)) (sym same) (right_got d did saw log); decided = t }
     decides_on f c d (OpeningRight at fate.Enough) t did saw log = once_now (f, c, d, right_got d did saw log, (refl, t.1, t.2, t.3, t.4))
-    decides_on f c d (OpeningRight at fate.Lost) t did saw log = tt
+    decides_on f c d (OpeningRight at fate.Lost) t did saw log = unwritten_on (ap writes_in did) (since_unwritten refl log.family.since)
     decides_on f c d (LatchingLeft h) t did saw log = absurd t
     decides_on f c d (LatchedLeft h) t did saw log = absurd t
     decides_on f c d (LatchingRight h page) t did saw log = absurd t
@@ -203,8 +298,8 @@ module _ (ms : Trail) (m : Mark) where
     squeeze_on (PuttingParent u) d seen.Done t did saw h = subst (λ z. squeeze_log level key z more) (sym t) (puts_on (Put u.at.parent u.parent ∷ []) (ap acts_in did) h)
     squeeze_on (PuttingLast u) d seen.Done t did saw h = subst (λ z. squeeze_log level key z more) (sym t) (last_on u (puts_on (put_act (other u.gains) u ∷ []) (ap acts_in (did ∙ put_event (other u.gains) u) ∙ act_put (other u.gains) u) h))
     squeeze_on (Retiring at ended) d seen.Done t did saw h = subst (λ z. squeeze_log level key z more) (sym t) (retired_on at ended did h)
-    squeeze_on (OpeningRight at ended) d seen.Done t did saw h = subst (λ z. squeeze_log level key z more) (sym t) (fate_on ended (ap put_in did) h)
-    squeeze_on (OpeningLeft at ended) d seen.Done t did saw h = subst (λ z. squeeze_log level key z more) (sym t) (fate_on ended (ap put_in did) h)
+    squeeze_on (OpeningRight at ended) d seen.Done t did saw h = subst (λ z. squeeze_log level key z more) (sym t) (fate_on ended (ap writes_in did) h)
+    squeeze_on (OpeningLeft at ended) d seen.Done t did saw h = subst (λ z. squeeze_log level key z more) (sym t) (fate_on ended (ap writes_in did) h)
     squeeze_on (LatchingLeft f) d (seen.Words y) t did saw h = absurd t
     squeeze_on (LatchingLeft f) d (seen.Took n) t did saw h = absurd t
     squeeze_on (LatchingLeft f) d (seen.Owner retired started own) t did saw h = absurd t
@@ -271,7 +366,7 @@ module _ (ms : Trail) (m : Mark) where
     squeeze_on (OpeningParent x fa) d seen.Refused t did saw h = absurd t
 
     over_on : (c : Compression) (what : Seen) (ended : Fate) → Compresses c what (step.Over ended) → m.event.act ≡ event_of None (compression_next c) what → squeeze_log level key c ms → fate_log level key ended more
-    over_on (OpeningParent x ended) seen.Done same t did h = subst (λ z. fate_log level key z more) (sym t) (fate_on ended (ap put_in did) h)
+    over_on (OpeningParent x ended) seen.Done same t did h = subst (λ z. fate_log level key z more) (sym t) (fate_on ended (ap writes_in did) h)
     over_on (LatchingLeft h) seen.Done same t did log = absurd t
     over_on (LatchingLeft h) (seen.Words y) same t did log = absurd t
     over_on (LatchingLeft h) (seen.Took n) same t did log = absurd t
@@ -389,12 +484,25 @@ module _ (ms : Trail) (m : Mark) where
     arrive_on x c (compress.Over v) t l did saw h = absurd t
 
     module _ (least : 0 < level) where
-      way_on : (a b : Approach) (what : Seen) → Approaches level key a what (came.On b) → m.event.act ≡ event_of None (approach_next a) what → way_log b more
-      way_on a way.Start what t did = tt
-      way_on a (way.At x) what t did = tt
-      way_on a (way.Latching x) what t did = tt
-      way_on a (way.Latched x) what t did = since_now x (latched_on m level key a x what t did)
-      way_on a (way.Leaving x to) what t did = tt
+      way_unwritten : (a : Approach) → way_log a ms → Unwritten ms
+      way_unwritten way.Start log = log
+      way_unwritten (way.At x) log = log
+      way_unwritten (way.Latching x) log = log
+      way_unwritten (way.Latched x) log = since_unwritten refl log
+      way_unwritten (way.Leaving x to) log = log
+
+      way_on : (a b : Approach) (what : Seen) → Approaches level key a what (came.On b) → m.event.act ≡ event_of None (approach_next a) what → way_log a ms → way_log b more
+      way_on a b what t did log = on b t
+        where
+          first : Unwritten more
+          first = unwritten_on (ap writes_in did ∙ approach_writes a what) (way_unwritten a log)
+
+          on : (b : Approach) → Approaches level key a what (came.On b) → way_log b more
+          on way.Start t = first
+          on (way.At x) t = first
+          on (way.Latching x) t = first
+          on (way.Latched x) t = since_now x (latched_on m level key a x what t did) (way_unwritten a log)
+          on (way.Leaving x to) t = first
 
       here_on : (a : Approach) (new : CompressStage) (what : Seen) → ((y : ℕ) × (d : Page) × Approaches level key a what (came.Here y d) × CompressArrives key y d new) → m.event.act ≡ event_of None (approach_next a) what → ((x : ℕ) (e : Page) → m.event.act ≡ Get x → what ≡ seen.Words e → m.saw ≡ Some e) → way_log a ms → compress_log level key new more
       here_on (way.Latched x) new (seen.Words c) (y, d, h, t) did saw log = arrive_on x c new (subst (λ z. CompressArrives key x z new) h.1 (subst (λ z. CompressArrives key z d new) h.0 t)) h.2 did (saw x c did refl) log
@@ -410,28 +518,28 @@ module _ (ms : Trail) (m : Mark) where
       here_on (way.Latched x) new seen.Refused (u, d, h, t) did saw log = absurd h
 
       near_on : (a : Approach) (new : CompressStage) (what : Seen) → CompressNears level key a what new → m.event.act ≡ event_of None (approach_next a) what → ((x : ℕ) (e : Page) → m.event.act ≡ Get x → what ≡ seen.Words e → m.saw ≡ Some e) → way_log a ms → compress_log level key new more
-      near_on a (compress.Coming b) what t did saw log = way_on a b what t did
+      near_on a (compress.Coming b) what t did saw log = way_on a b what t did log
       near_on a compress.New what t did saw log = here_on a compress.New what t did saw log
       near_on a (compress.Compressing v) what t did saw log = here_on a (compress.Compressing v) what t did saw log
       near_on a (compress.Staying v) what t did saw log = here_on a (compress.Staying v) what t did saw log
       near_on a (compress.Ending v) what t did saw log = here_on a (compress.Ending v) what t did saw log
       near_on a (compress.Over v) what t did saw log = here_on a (compress.Over v) what t did saw log
 
-      start_on : (c : Page) (new : CompressStage) → CompressStarts level key c new → m.event.act ≡ Get 0 → m.saw ≡ Some c → compress_log level key new more
-      start_on c (compress.Ending reply.Alone) t did saw = once_now (inl (record { anchor = c; got = got_last ms m did saw; few = t }))
-      start_on c (compress.Coming a) t did saw = way_on way.Start a (seen.Words c) t.1 did
-      start_on c compress.New t did saw = absurd t
-      start_on c (compress.Compressing v) t did saw = absurd t
-      start_on c (compress.Staying v) t did saw = absurd t
-      start_on c (compress.Ending (reply.Merged h)) t did saw = absurd t
-      start_on c (compress.Ending reply.Evened) t did saw = absurd t
-      start_on c (compress.Ending reply.Enough) t did saw = absurd t
-      start_on c (compress.Ending (reply.Unposted h)) t did saw = absurd t
-      start_on c (compress.Ending reply.NoRoom) t did saw = absurd t
-      start_on c (compress.Over v) t did saw = absurd t
+      start_on : (c : Page) (new : CompressStage) → CompressStarts level key c new → m.event.act ≡ Get 0 → m.saw ≡ Some c → Unwritten ms → compress_log level key new more
+      start_on c (compress.Ending reply.Alone) t did saw log = once_now (inl (record { first = unwritten_on (ap writes_in did) log; anchor = c; got = got_last ms m did saw; few = t }))
+      start_on c (compress.Coming a) t did saw log = way_on way.Start a (seen.Words c) t.1 did log
+      start_on c compress.New t did saw log = absurd t
+      start_on c (compress.Compressing v) t did saw log = absurd t
+      start_on c (compress.Staying v) t did saw log = absurd t
+      start_on c (compress.Ending (reply.Merged h)) t did saw log = absurd t
+      start_on c (compress.Ending reply.Evened) t did saw log = absurd t
+      start_on c (compress.Ending reply.Enough) t did saw log = absurd t
+      start_on c (compress.Ending (reply.Unposted h)) t did saw log = absurd t
+      start_on c (compress.Ending reply.NoRoom) t did saw log = absurd t
+      start_on c (compress.Over v) t did saw log = absurd t
 
       come_on : (a : Approach) (new : CompressStage) (what : Seen) → CompressComes level key a what new → m.event.act ≡ event_of None (approach_next a) what → ((x : ℕ) (e : Page) → m.event.act ≡ Get x → what ≡ seen.Words e → m.saw ≡ Some e) → way_log a ms → compress_log level key new more
-      come_on way.Start new (seen.Words c) t did saw log = start_on c new t did (saw 0 c did refl)
+      come_on way.Start new (seen.Words c) t did saw log = start_on c new t did (saw 0 c did refl) log
       come_on (way.At x) new what t did saw log = near_on (way.At x) new what t did saw log
       come_on (way.Latching x) new what t did saw log = near_on (way.Latching x) new what t did saw log
       come_on (way.Latched x) new what t did saw log = near_on (way.Latched x) new what t did saw log
@@ -445,13 +553,13 @@ module _ (ms : Trail) (m : Mark) where
 
       -- any step of a compression
       pub compress_on : (a a' : CompressStage) (what : Seen) → CompressGoes level key a what a' → m.event.act ≡ event_of None (compress_next_in a) what → ((x : ℕ) (e : Page) → m.event.act ≡ Get x → what ≡ seen.Words e → m.saw ≡ Some e) → compress_log level key a ms → compress_log level key a' more
-      compress_on compress.New (compress.Coming v) seen.Done t did saw h = subst (λ z. way_log z more) (sym t) tt
+      compress_on compress.New (compress.Coming v) seen.Done t did saw h = subst (λ z. way_log z more) (sym t) (begun_now did)
       compress_on (compress.Coming a) a' what t did saw h = come_on a a' what t did saw h
       compress_on (compress.Compressing c) (compress.Compressing d) what t did saw h = squeeze_on c d what t did saw h
-      compress_on (compress.Compressing c) (compress.Coming a) what (ended, t, none, start) did saw h = subst (λ z. way_log z more) (sym start) tt
+      compress_on (compress.Compressing c) (compress.Coming a) what (ended, t, none, start) did saw h = subst (λ z. way_log z more) (sym start) (lost_unwritten ended none (over_on c what ended t did h))
       compress_on (compress.Compressing c) (compress.Ending r) what (ended, t, some) did saw h = fate_pressed ended r some (over_on c what ended t did h)
-      compress_on (compress.Staying x) (compress.Ending r) seen.Done t did saw h = subst (λ z. pressed_log level key z more) (sym t) (once_on (ap put_in did) h)
-      compress_on (compress.Ending r) (compress.Over r') seen.Done t did saw h = subst (λ z. pressed_log level key z more) (sym t) (pressed_on r (ap put_in did) h)
+      compress_on (compress.Staying x) (compress.Ending r) seen.Done t did saw h = subst (λ z. pressed_log level key z more) (sym t) (once_on (ap writes_in did) h)
+      compress_on (compress.Ending r) (compress.Over r') seen.Done t did saw h = subst (λ z. pressed_log level key z more) (sym t) (pressed_on r (ap writes_in did) h)
       compress_on compress.New compress.New seen.Done t did saw h = absurd t
       compress_on compress.New (compress.Compressing v) seen.Done t did saw h = absurd t
       compress_on compress.New (compress.Staying v) seen.Done t did saw h = absurd t
@@ -512,21 +620,21 @@ module _ (ms : Trail) (m : Mark) where
     squeeze_stays (PuttingParent u) h = puts_on [] (ap acts_in did) h
     squeeze_stays (PuttingLast u) h = puts_on [] (ap acts_in did) h
     squeeze_stays (Retiring at ended) (u, same, h, is, one) = (u, same, puts_on [] (ap acts_in did) h, is, one)
-    squeeze_stays (OpeningRight at ended) h = fate_on level key ended (ap put_in did) h
-    squeeze_stays (OpeningLeft at ended) h = fate_on level key ended (ap put_in did) h
-    squeeze_stays (OpeningParent x ended) h = fate_on level key ended (ap put_in did) h
+    squeeze_stays (OpeningRight at ended) h = fate_on level key ended (ap writes_in did) h
+    squeeze_stays (OpeningLeft at ended) h = fate_on level key ended (ap writes_in did) h
+    squeeze_stays (OpeningParent x ended) h = fate_on level key ended (ap writes_in did) h
 
     way_stays : (a : Approach) → way_log a ms → way_log a more
-    way_stays way.Start h = tt
-    way_stays (way.At x) h = tt
-    way_stays (way.Latching x) h = tt
+    way_stays way.Start h = unwritten_on (ap writes_in did) h
+    way_stays (way.At x) h = unwritten_on (ap writes_in did) h
+    way_stays (way.Latching x) h = unwritten_on (ap writes_in did) h
     way_stays (way.Latched x) h = since_on [] (ap acts_in did) h
-    way_stays (way.Leaving x to) h = tt
+    way_stays (way.Leaving x to) h = unwritten_on (ap writes_in did) h
 
     pub compress_stays : (a : CompressStage) → compress_log level key a ms → compress_log level key a more
     compress_stays compress.New h = tt
     compress_stays (compress.Coming a) h = way_stays a h
     compress_stays (compress.Compressing c) h = squeeze_stays c h
-    compress_stays (compress.Staying x) h = once_on (ap put_in did) h
-    compress_stays (compress.Ending r) h = pressed_on level key r (ap put_in did) h
-    compress_stays (compress.Over r) h = pressed_on level key r (ap put_in did) h
+    compress_stays (compress.Staying x) h = once_on (ap writes_in did) h
+    compress_stays (compress.Ending r) h = pressed_on level key r (ap writes_in did) h
+    compress_stays (compress.Over r) h = pressed_on level key r (ap writes_in did) h

@@ -31,7 +31,7 @@ use Rattle.bl_compress.specs.declared.squeezing.CompressReply.{CompressReply}
 use Rattle.bl_compress.specs.declared.squeezing.CompressReply.TheVariants as pressed
 use Rattle.bl_compress.specs.declared.squeezing.CompressStage.{CompressStage}
 use Rattle.bl_compress.specs.declared.squeezing.CompressStage.TheVariants as compress
-use Rattle.bl_tables.specs.Squeezed.{Since, AtFamily, AtLeft, to_left, to_right, to_first, to_second, to_last, IsToSqueeze, MeansMerged, MeansEvened, MeansEnough, MeansUnposted, MeansAlone, MeansNoPlace}
+use Rattle.bl_tables.specs.Squeezed.{Unwritten, Since, AtFamily, AtLeft, to_left, to_right, to_first, to_second, to_last, IsToSqueeze, MeansMerged, MeansEvened, MeansEnough, MeansUnposted, MeansAlone, MeansNoPlace}
 use Rattle.bl_proc.specs.declared.inserting.InsertReply.{InsertReply}
 use Rattle.bl_proc.specs.declared.inserting.InsertReply.TheVariants as inserted
 use Rattle.bl_proc.specs.declared.inserting.InsertStage.{InsertStage}
@@ -186,11 +186,11 @@ delete_log (delete.Over r) marks = deleted_log r marks
 -- Compressions
 
 abbrev pub way_log : Approach → Trail → Type 0
-way_log way.Start marks = Unit {0}
-way_log (way.At x) marks = Unit {0}
-way_log (way.Latching x) marks = Unit {0}
+way_log way.Start marks = Unwritten marks
+way_log (way.At x) marks = Unwritten marks
+way_log (way.Latching x) marks = Unwritten marks
 way_log (way.Latched x) marks = Since marks x []
-way_log (way.Leaving x to) marks = Unit {0}
+way_log (way.Leaving x to) marks = Unwritten marks
 
 abbrev pub fate_log : ℕ → ℕ → Fate → Trail → Type 0
 fate_log level key (fate.Merged hint) marks = MeansMerged level key hint marks
@@ -198,7 +198,7 @@ fate_log level key fate.Evened marks = MeansEvened level key marks
 fate_log level key fate.Enough marks = MeansEnough level key marks
 fate_log level key (fate.Unposted hint) marks = MeansUnposted level key hint marks
 fate_log level key fate.Refused marks = MeansNoPlace level key marks
-fate_log level key fate.Lost marks = Unit {0}
+fate_log level key fate.Lost marks = Unwritten marks
 
 abbrev pub squeeze_log : ℕ → ℕ → Compression → Trail → Type 0
 squeeze_log level key (LatchingLeft f) marks = AtFamily level key marks f (Get f.at.parent ∷ [])

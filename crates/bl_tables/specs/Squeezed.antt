@@ -10,7 +10,7 @@ use Rattle.bl_laws.specs.Pages.{node_of, roots_of}
 use Rattle.bl_rearrange.specs.declared.sides.Side.{Side}
 use Rattle.bl_rearrange.specs.declared.sides.Side.TheVariants as side
 use Rattle.bl_trails.specs.Trails.{Mark, Trail}
-use Rattle.bl_trails.specs.Meanings.{HasGot, puts_of, AtParent}
+use Rattle.bl_trails.specs.Meanings.{HasGot}
 use Rattle.bl_page.specs.declared.page.Inner.{Inner as InnerPage}
 use Rattle.bl_ways.specs.declared.answers.Hint.{Hint}
 use Rattle.bl_ways.specs.declared.answers.Squeezed.{Squeezed}
@@ -40,9 +40,37 @@ abbrev pub acts_of : Trail → List (Act Page Reply)
 acts_of [] = []
 acts_of (m ∷ ms) = acts_in m.event.act ++ acts_of ms
 
--- page x was latched, and this is all that was done since
+-- what of it writes: puts, retirements and releases
+abbrev pub writes_in : Act Page Reply → List (Act Page Reply)
+writes_in Begin = []
+writes_in (End answer) = []
+writes_in (Get x) = []
+writes_in (Put x c) = Put x c ∷ []
+writes_in (Take x) = []
+writes_in (Latch x) = []
+writes_in (Act.Open x) = []
+writes_in (Retire x) = Retire x ∷ []
+writes_in (Look what) = []
+writes_in (Release x) = Release x ∷ []
+writes_in Miss = []
+
+abbrev pub writes_of : Trail → List (Act Page Reply)
+writes_of [] = []
+writes_of (m ∷ ms) = writes_in m.event.act ++ writes_of ms
+
+-- the process has begun, and has put, retired and released nothing since
+pub record Unwritten (marks : Trail) : Type 0 where
+  pub earlier : Trail
+  pub begin : Mark
+  pub since : Trail
+  pub split : marks ≡ earlier ++ begin ∷ since
+  pub begun : begin.event.act ≡ Begin
+  pub none : writes_of since ≡ []
+
+-- page x was latched when nothing had been written yet, and this is all that was done since
 pub record Since (marks : Trail) (x : ℕ) (acts : List (Act Page Reply)) : Type 0 where
   pub before : Trail
+  pub first : Unwritten before
   pub latch : Mark
   pub during : Trail
   pub split : marks ≡ before ++ latch ∷ during
@@ -91,12 +119,12 @@ to_last p = Get p.at.parent ∷ Latch p.at.left ∷ Get p.at.left ∷ Latch p.at
 abbrev pub to_end : Puts → List (Act Page Reply)
 to_end p = Get p.at.parent ∷ Latch p.at.left ∷ Get p.at.left ∷ Latch p.at.right ∷ Get p.at.right ∷ put_act p.gains p ∷ Put p.at.parent p.parent ∷ put_act (other p.gains) p ∷ Retire p.at.right ∷ []
 
--- At some moment this was done, and nothing was put since.
+-- At some moment this was done, and nothing was put, retired or released since.
 pub record Once (marks : Trail) (Then : Trail → Type 0) : Type 0 where
   pub until : Trail
   pub after : Trail
   pub split : marks ≡ until ++ after
-  pub no_more : puts_of after ≡ []
+  pub no_more : writes_of after ≡ []
   pub is : Then until
 
 -- What is to be put was decided, of these two children that were got.
@@ -124,8 +152,9 @@ MeansEnough level key marks = Once marks (λ ms. (f : Family) × (c : Page) × (
 abbrev pub MeansUnposted : ℕ → ℕ → Hint → Trail → Type 0
 MeansUnposted level key hint marks = Once marks (λ ms. (f : Family) × (c : Page) × AtLeft level key ms f c (to_left f.at) × Links f c (OpeningLeft f.at (fate.Unposted hint)))
 
--- Alone: the tree has no such level, or the parent was got and has one child.
+-- Alone: nothing was written, and the tree has no such level, or the parent was got and has one child.
 pub record HasNoLevel (level : ℕ) (marks : Trail) : Type 0 where
+  pub first : Unwritten marks
   pub anchor : Page
   pub got : HasGot marks 0 anchor
   pub few : (roots_of anchor).levels ≤ level
