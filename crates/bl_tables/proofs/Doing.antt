@@ -13,9 +13,8 @@ use Rattle.bl_rearrange.specs.Neighbours.{AreNeighbours}
 use Rattle.bl_rearrange.specs.declared.sides.Side.{Side}
 use Rattle.bl_rearrange.specs.declared.sides.Side.TheVariants as side
 use Rattle.bl_trails.specs.Trails.{Mark, Trail}
-use Rattle.bl_trails.specs.Meanings.{HasGot}
-use Rattle.bl_trails.proofs.Meant.{got_on, got_last}
-use Rattle.bl_ways.specs.declared.acts.Action.TheVariants as act
+use Rattle.bl_trails.specs.Meanings.{HasGot, writes_in, writes_of}
+use Rattle.bl_trails.proofs.Meant.{writes_of-append, begun_now, wrote_still, got_on, got_last}
 use Rattle.bl_ways.specs.declared.acts.Seen.{Seen}
 use Rattle.bl_ways.specs.declared.acts.Seen.TheVariants as seen
 use Rattle.bl_ways.specs.declared.answers.Hint.{Hint}
@@ -40,10 +39,10 @@ use Rattle.bl_compress.specs.declared.squeezing.CompressStage.{CompressStage}
 use Rattle.bl_compress.specs.declared.squeezing.CompressStage.TheVariants as compress
 use Rattle.bl_compress.specs.Compresses.{compress_reply, compress_next_in, CompressStarts, CompressArrives, CompressNears, CompressComes, CompressGoes}
 use Rattle.bl_tables.specs.Turns.{event_of}
-use Rattle.bl_tables.specs.Squeezed.{acts_in, acts_of, writes_in, writes_of, Unwritten, Since, AtFamily, AtLeft, AtBoth, to_left, to_right, put_act, to_first, to_second, to_last, to_end, Once, IsToSqueeze, HasMissed}
+use Rattle.bl_tables.specs.Squeezed.{acts_in, acts_of, Unwritten, Since, AtFamily, AtLeft, AtBoth, to_left, to_right, put_act, to_first, to_second, to_last, to_end, Once, IsToSqueeze, HasMissed}
 use Rattle.bl_tables.specs.Logs.{way_log, fate_log, squeeze_log, pressed_log, compress_log}
 use Rattle.bl_tables.proofs.Approaching.{arrival}
-use Rattle.bl_tables.proofs.Logging.{latched_on}
+use Rattle.bl_tables.proofs.Logging.{latched_on, approach_writes}
 
 acts_of-push : (ms : Trail) (m : Mark) → acts_of (ms ++ m ∷ []) ≡ acts_of ms ++ acts_in m.event.act
 acts_of-push [] m = append-nil (acts_in m.event.act)
@@ -52,10 +51,6 @@ acts_of-push (n ∷ ms) m = ap (λ z. acts_in n.event.act ++ z) (acts_of-push ms
 acts_of-append : (xs ys : Trail) → acts_of (xs ++ ys) ≡ acts_of xs ++ acts_of ys
 acts_of-append [] ys = refl
 acts_of-append (m ∷ ms) ys = ap (λ z. acts_in m.event.act ++ z) (acts_of-append ms ys) ∙ sym (append_assoc (acts_in m.event.act) (acts_of ms) (acts_of ys))
-
-writes_of-append : (xs ys : Trail) → writes_of (xs ++ ys) ≡ writes_of xs ++ writes_of ys
-writes_of-append [] ys = refl
-writes_of-append (m ∷ ms) ys = ap (λ z. writes_in m.event.act ++ z) (writes_of-append ms ys) ∙ sym (append_assoc (writes_in m.event.act) (writes_of ms) (writes_of ys))
 
 -- what of a list of acts writes
 abbrev writes_among : List (Act Page Reply) → List (Act Page Reply)
@@ -87,38 +82,9 @@ since_unwritten none h = record {
   since = h.first.since ++ h.latch ∷ h.during;
   split = h.split ∙ (ap (λ z. z ++ h.latch ∷ h.during) h.first.split ∙ append_assoc h.first.earlier (h.first.begin ∷ h.first.since) (h.latch ∷ h.during));
   begun = h.first.begun;
-  none = writes_of-append h.first.since (h.latch ∷ h.during)
-      ∙ (ap (λ z. z ++ writes_of (h.latch ∷ h.during)) h.first.none ∙ (ap (λ z. writes_in z ++ writes_of h.during) h.latched ∙ (writes_of-acts h.during ∙ (ap writes_among h.acts_are ∙ none))));
+  is = writes_of-append h.first.since (h.latch ∷ h.during)
+      ∙ (ap (λ z. z ++ writes_of (h.latch ∷ h.during)) h.first.is ∙ (ap (λ z. writes_in z ++ writes_of h.during) h.latched ∙ (writes_of-acts h.during ∙ (ap writes_among h.acts_are ∙ none))));
 }
-
-gets_nothing : (x : ℕ) (what : Seen) → writes_in (event_of None (act.Get x) what) ≡ []
-gets_nothing x seen.Done = refl
-gets_nothing x (seen.Words c) = refl
-gets_nothing x (seen.Took n) = refl
-gets_nothing x (seen.Owner retired started own) = refl
-gets_nothing x (seen.Blocks it) = refl
-gets_nothing x seen.Missed = refl
-gets_nothing x seen.Refused = refl
-
--- on its way to a page a process writes nothing
-approach_writes : (a : Approach) (what : Seen) → writes_in (event_of None (approach_next a) what) ≡ []
-approach_writes way.Start what = gets_nothing 0 what
-approach_writes (way.At x) what = gets_nothing x what
-approach_writes (way.Latching x) seen.Done = refl
-approach_writes (way.Latching x) (seen.Words c) = refl
-approach_writes (way.Latching x) (seen.Took n) = refl
-approach_writes (way.Latching x) (seen.Owner retired started own) = refl
-approach_writes (way.Latching x) (seen.Blocks it) = refl
-approach_writes (way.Latching x) seen.Missed = refl
-approach_writes (way.Latching x) seen.Refused = refl
-approach_writes (way.Latched x) what = gets_nothing x what
-approach_writes (way.Leaving x to) seen.Done = refl
-approach_writes (way.Leaving x to) (seen.Words c) = refl
-approach_writes (way.Leaving x to) (seen.Took n) = refl
-approach_writes (way.Leaving x to) (seen.Owner retired started own) = refl
-approach_writes (way.Leaving x to) (seen.Blocks it) = refl
-approach_writes (way.Leaving x to) seen.Missed = refl
-approach_writes (way.Leaving x to) seen.Refused = refl
 
 -- which of the two children a put is of
 put_event : (sd : Side) (u : Puts) → event_of None (put_of sd u) seen.Done ≡ put_act sd u
@@ -144,19 +110,8 @@ module _ (ms : Trail) (m : Mark) where
   abbrev more : Trail
   more = ms ++ m ∷ []
 
-  -- it begins now; it writes nothing now
-  begun_now : m.event.act ≡ Act.Begin → Unwritten more
-  begun_now e = record { earlier = ms; begin = m; since = []; split = refl; begun = e; none = refl }
-
   unwritten_on : writes_in m.event.act ≡ [] → Unwritten ms → Unwritten more
-  unwritten_on none h = record {
-    earlier = h.earlier;
-    begin = h.begin;
-    since = h.since ++ m ∷ [];
-    split = ap (λ z. z ++ m ∷ []) h.split ∙ append_assoc h.earlier (h.begin ∷ h.since) (m ∷ []);
-    begun = h.begun;
-    none = writes_of-append h.since (m ∷ []) ∙ (ap (λ z. z ++ writes_of (m ∷ [])) h.none ∙ ap (λ z. z ++ []) none);
-  }
+  unwritten_on quiet h = wrote_still ms m (λ acts. acts ≡ []) quiet h
 
   since_now : (x : ℕ) → m.event.act ≡ Latch x → Unwritten ms → Since more x []
   since_now x e first = record { before = ms; first = first; latch = m; during = []; split = refl; latched = e; acts_are = refl }
@@ -553,7 +508,7 @@ module _ (ms : Trail) (m : Mark) where
 
       -- any step of a compression
       pub compress_on : (a a' : CompressStage) (what : Seen) → CompressGoes level key a what a' → m.event.act ≡ event_of None (compress_next_in a) what → ((x : ℕ) (e : Page) → m.event.act ≡ Get x → what ≡ seen.Words e → m.saw ≡ Some e) → compress_log level key a ms → compress_log level key a' more
-      compress_on compress.New (compress.Coming v) seen.Done t did saw h = subst (λ z. way_log z more) (sym t) (begun_now did)
+      compress_on compress.New (compress.Coming v) seen.Done t did saw h = subst (λ z. way_log z more) (sym t) (begun_now ms m (λ acts. acts ≡ []) did refl)
       compress_on (compress.Coming a) a' what t did saw h = come_on a a' what t did saw h
       compress_on (compress.Compressing c) (compress.Compressing d) what t did saw h = squeeze_on c d what t did saw h
       compress_on (compress.Compressing c) (compress.Coming a) what (ended, t, none, start) did saw h = subst (λ z. way_log z more) (sym start) (lost_unwritten ended none (over_on c what ended t did h))

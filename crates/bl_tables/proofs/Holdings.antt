@@ -14,8 +14,8 @@ use Rattle.bl_tree.specs.Moves.{IsRow, IsCut}
 use Rattle.bl_laws.specs.Pages.{node_of}
 use Rattle.bl_laws.proofs.SoundPages.{sound_node}
 use Rattle.bl_trails.specs.Trails.{Mark, Trail}
-use Rattle.bl_trails.specs.Meanings.{HasGot, put_in, puts_of, UnderLatch, ListTogether, MeansDone, ArePartedAt, MeansParted, MeansNoRoom}
-use Rattle.bl_trails.proofs.Meant.{puts_of-push, got_on, got_last}
+use Rattle.bl_trails.specs.Meanings.{HasGot, writes_in, writes_of, RaisesOnly, HasRaised, ArePuts, UnderLatch, ListTogether, MeansDone, ArePartedAt, MeansParted, MeansNoRoom}
+use Rattle.bl_trails.proofs.Meant.{writes_of-append, writes_of-push, puts_append, no_puts, got_on, got_last}
 use Rattle.bl_tables.specs.Logs.{Holding, HoldsParent, HoldsBoth, IsToPut}
 
 pub none_of : (mark : Mark) → Contains [] mark → ⊥
@@ -23,25 +23,26 @@ none_of mark c = absurd (omega (arith, c.1))
 
 module _ (ms : Trail) (m : Mark) where
   -- the page was latched just now
-  pub held_now : (x : ℕ) → m.event.act ≡ Latch x → Holding (ms ++ m ∷ []) x []
-  held_now x e = record { before = ms; latch = m; during = []; split = refl; latched = e; kept = λ n c. absurd (none_of n c); puts_are = refl }
+  pub held_now : {level : ℕ} (x : ℕ) → m.event.act ≡ Latch x → HasRaised level ms → Holding level (ms ++ m ∷ []) x []
+  held_now x e first = record { before = ms; first = first; latch = m; during = []; split = refl; latched = e; kept = λ n c. absurd (none_of n c); puts_are = tt }
 
   -- the page is not opened by this mark, which may put another one
-  abbrev pub held_on : {x : ℕ} {puts : List Page} (more : List Page) → m.event.act ≢ Act.Open x → put_in m.event.act ≡ more → Holding ms x puts → Holding (ms ++ m ∷ []) x (puts ++ more)
-  held_on {x} {puts} more shut put h = record {
+  abbrev pub held_on : {level x : ℕ} {puts : List Page} (more : List Page) → m.event.act ≢ Act.Open x → ArePuts (writes_in m.event.act) more → Holding level ms x puts → Holding level (ms ++ m ∷ []) x (puts ++ more)
+  held_on {level} {x} {puts} more shut put h = record {
     before = h.before;
+    first = h.first;
     latch = h.latch;
     during = h.during ++ m ∷ [];
     split = ap (λ z. z ++ m ∷ []) h.split ∙ append_assoc h.before (h.latch ∷ h.during) (m ∷ []);
     latched = h.latched;
     kept = λ n c. elim (Contains-push_cases h.during m n c) [ inl i ↦ h.kept n i | inr e ↦ λ o. shut (ap (λ z. z.event.act) e ∙ o) ];
-    puts_are = puts_of-push h.during m ∙ (ap (λ z. z ++ put_in m.event.act) h.puts_are ∙ ap (λ z. puts ++ z) put);
+    puts_are = subst (λ z. ArePuts z (puts ++ more)) (sym (writes_of-push h.during m)) (puts_append (writes_of h.during) (writes_in m.event.act) puts more h.puts_are put);
   }
 
-  pub parent_held_on : {level key x : ℕ} {parent : Page} {puts : List Page} (more : List Page) → m.event.act ≢ Act.Open x → put_in m.event.act ≡ more → HoldsParent level key ms x parent puts → HoldsParent level key (ms ++ m ∷ []) x parent (puts ++ more)
+  pub parent_held_on : {level key x : ℕ} {parent : Page} {puts : List Page} (more : List Page) → m.event.act ≢ Act.Open x → ArePuts (writes_in m.event.act) more → HoldsParent level key ms x parent puts → HoldsParent level key (ms ++ m ∷ []) x parent (puts ++ more)
   parent_held_on more shut put h = record { holding = held_on more shut put h.holding; got = got_on h.holding.during m h.got; level_is = h.level_is; covers = h.covers; unlisted = h.unlisted }
 
-  pub both_held_on : {level key x y : ℕ} {parent : Page} {puts : List Page} (more : List Page) → m.event.act ≢ Act.Open x → put_in m.event.act ≡ more → HoldsBoth level key ms x parent y puts → HoldsBoth level key (ms ++ m ∷ []) x parent y (puts ++ more)
+  pub both_held_on : {level key x y : ℕ} {parent : Page} {puts : List Page} (more : List Page) → m.event.act ≢ Act.Open x → ArePuts (writes_in m.event.act) more → HoldsBoth level key ms x parent y puts → HoldsBoth level key (ms ++ m ∷ []) x parent y (puts ++ more)
   both_held_on more shut put h =
       let a = h.above in
       record {
@@ -56,7 +57,7 @@ module _ (ms : Trail) (m : Mark) where
   -- the child was got just now
   pub child_got : {level key x : ℕ} {parent : Page} {puts : List Page} (y : ℕ) (c : Page) → m.event.act ≡ Get y → m.saw ≡ Some c → HoldsParent level key ms x parent puts → ((node_of c).shape.level + 1 ≡ level) → Covers (node_of c).shape key → (node_of c).shape.low ≡ key → HoldsBoth level key (ms ++ m ∷ []) x parent y (puts ++ [])
   child_got y c act saw h level_is covers low = record {
-    above = record { holding = held_on [] (λ o. (let e = sym act ∙ o in cc)) (ap put_in act) h.holding; got = got_on h.holding.during m h.got; level_is = h.level_is; covers = h.covers; unlisted = h.unlisted };
+    above = record { holding = held_on [] (λ o. (let e = sym act ∙ o in cc)) (subst (λ a. ArePuts (writes_in a) []) (sym act) tt) h.holding; got = got_on h.holding.during m h.got; level_is = h.level_is; covers = h.covers; unlisted = h.unlisted };
     child = c;
     got = got_last h.holding.during m act saw;
     below = omega (arith, level_is);
@@ -65,9 +66,9 @@ module _ (ms : Trail) (m : Mark) where
   }
 
   -- the parent was got just now
-  pub parent_got : {level key x : ℕ} {puts : List Page} (c : Page) → m.event.act ≡ Get x → m.saw ≡ Some c → Holding ms x puts → (node_of c).shape.level ≡ level → Covers (node_of c).shape key → (node_of c).look key ≡ None → HoldsParent level key (ms ++ m ∷ []) x c (puts ++ [])
+  pub parent_got : {level key x : ℕ} {puts : List Page} (c : Page) → m.event.act ≡ Get x → m.saw ≡ Some c → Holding level ms x puts → (node_of c).shape.level ≡ level → Covers (node_of c).shape key → (node_of c).look key ≡ None → HoldsParent level key (ms ++ m ∷ []) x c (puts ++ [])
   parent_got c act saw h level_is covers unlisted = record {
-    holding = held_on [] (λ o. (let e = sym act ∙ o in cc)) (ap put_in act) h;
+    holding = held_on [] (λ o. (let e = sym act ∙ o in cc)) (subst (λ a. ArePuts (writes_in a) []) (sym act) tt) h;
     got = got_last h.during m act saw;
     level_is = level_is;
     covers = covers;
@@ -75,8 +76,8 @@ module _ (ms : Trail) (m : Mark) where
   }
 
   -- a reservation was refused while the page was held
-  pub refused_while : {x : ℕ} {puts : List Page} → m.event.act ≡ Miss → Holding ms x puts → MeansNoRoom (ms ++ m ∷ [])
-  refused_while {x} act h = record {
+  pub refused_while : {level x : ℕ} → m.event.act ≡ Miss → Holding level ms x [] → MeansNoRoom level (ms ++ m ∷ [])
+  refused_while {level} {x} act h = record {
     at = x;
     under = record {
       before = h.before;
@@ -84,24 +85,45 @@ module _ (ms : Trail) (m : Mark) where
       during = h.during ++ m ∷ [];
       after = [];
       split = ap (λ z. z ++ m ∷ []) h.split ∙ (append_assoc h.before (h.latch ∷ h.during) (m ∷ []) ∙ ap (λ z. h.before ++ h.latch ∷ z) (sym (append-nil (h.during ++ m ∷ []))));
+      first = h.first;
       latched = h.latched;
+      wrote = [];
+      puts_are = subst (λ z. ArePuts z []) (sym (writes_of-push h.during m)) (puts_append (writes_of h.during) (writes_in m.event.act) [] [] h.puts_are (subst (λ a. ArePuts (writes_in a) []) (sym act) tt));
+      no_more = refl;
       kept = λ n c. elim (Contains-push_cases h.during m n c) [ inl i ↦ h.kept n i | inr e ↦ λ o. (let f = ap (λ z. z.event.act) e ∙ o in let g = sym act ∙ f in cc) ];
     };
+    none = refl;
     mark = m;
     is = Contains-push h.during m;
     miss = act;
   }
 
 -- while the page is held
-abbrev pub under : {ms : Trail} {x : ℕ} {puts : List Page} → Holding ms x puts → UnderLatch ms x
-under h = record {
+abbrev pub under : {level : ℕ} {ms : Trail} {x : ℕ} {puts : List Page} → Holding level ms x puts → UnderLatch level ms x
+under {level} {ms} {x} {puts} h = record {
   before = h.before;
   latch = h.latch;
   during = h.during;
   after = [];
   split = h.split ∙ ap (λ z. h.before ++ h.latch ∷ z) (sym (append-nil h.during));
+  first = h.first;
   latched = h.latched;
   kept = h.kept;
+  wrote = puts;
+  puts_are = h.puts_are;
+  no_more = refl;
+}
+
+-- while it holds the page and has put nothing, it has written nothing but new top levels
+pub held_raised : {level : ℕ} {ms : Trail} {x : ℕ} → Holding level ms x [] → HasRaised level ms
+held_raised {level} h = record {
+  earlier = h.first.earlier;
+  begin = h.first.begin;
+  since = h.first.since ++ h.latch ∷ h.during;
+  split = h.split ∙ (ap (λ z. z ++ h.latch ∷ h.during) h.first.split ∙ append_assoc h.first.earlier (h.first.begin ∷ h.first.since) (h.latch ∷ h.during));
+  begun = h.first.begun;
+  is = subst (RaisesOnly level) (sym (writes_of-append h.first.since (h.latch ∷ h.during)
+      ∙ (ap (λ z. writes_of h.first.since ++ (writes_in z ++ writes_of h.during)) h.latched ∙ (ap (λ z. writes_of h.first.since ++ z) (no_puts (writes_of h.during) h.puts_are) ∙ append-nil (writes_of h.first.since))))) h.first.is;
 }
 
 -- all that was to be put has been put
@@ -112,11 +134,11 @@ is_done {level} {key} {x} {ms} puts p =
       parent = record { at = x; under = under a.holding; parent = p.parent; got = a.got; level_is = a.level_is; covers = a.covers };
       child = record { at = p.child; child = p.both.child; got = p.both.got; level_is = p.both.below; covers = p.both.child_covers };
       low = p.both.low;
-      puts = subst (λ z. ListTogether z p.parent key p.child) (sym a.holding.puts_are) p.together;
+      puts = p.together;
     }
 
 pub is_parted : {level key x : ℕ} {ms : Trail} (parted : Option ℕ) (puts : List Page) (p : IsToPut level key ms x puts puts) → ArePartedAt parted puts → MeansParted level key parted ms
-is_parted parted puts p is = record { done = is_done puts p; puts = subst (ArePartedAt parted) (sym p.both.above.holding.puts_are) is }
+is_parted parted puts p is = record { done = is_done puts p; puts = is }
 
 -- the low of the upper part
 pub cut_low : (c left right : Page) (key word new separator : ℕ) → IsFitted c key word new (Split left right separator) → (node_of right).shape.low ≡ separator

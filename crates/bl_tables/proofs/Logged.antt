@@ -6,7 +6,7 @@ use Rattle.bl_page.specs.declared.page.Page.{Page}
 use Rattle.bl_page.specs.Machine.{Name, State, Act}
 use Rattle.bl_page.specs.Machine.Act.{Get, Miss}
 use Rattle.bl_trails.specs.Trails.{Mark, Trail, Saw, marks_of}
-use Rattle.bl_trails.specs.Meanings.{put_in}
+use Rattle.bl_trails.specs.Meanings.{put_in, writes_in}
 use Rattle.bl_trails.proofs.Pushes.{name_cases, marks_of-own, marks_of-other}
 use Rattle.bl_steps.specs.Worlds.{Stage, World, IsSure, IsGood}
 use Rattle.bl_starts.specs.Blank.{IsBlank}
@@ -381,7 +381,7 @@ log_stays (Delete a) marks m did h = delete_stays marks m (λ x l. (let e = sym 
 log_stays (Part a) marks m did h = tt
 log_stays (Compress a) marks m did h = compress_stays marks m a.level a.key did a.stage h
 log_stays (Reclaim a) marks m did h = tt
-log_stays (Post a) marks m did h = post_stays marks m a.level a.key a.least (ap put_in did) (λ x o. (let e = sym did ∙ o in cc)) a.stage h
+log_stays (Post a) marks m did h = post_stays marks m a.level a.key a.least (ap writes_in did) (λ x o. (let e = sym did ∙ o in cc)) a.stage h
 
 -- the logs of all processes after a turn of p
 logs_after : (w : World Run) (p : Name) (a : Act Page Reply) (s : State Page) (b : Run) (t : Turned bare w p a s b) → IsGood know w → ((marks : Trail) (m : Mark) → marks ≡ marks_of p w.trail → m ≡ record { event = record { process = p; act = a }; saw = t.saw; said = t.said } → proc_log b.state (marks ++ m ∷ [])) → (q : Name) → proc_log (t.next.proc q).state (marks_of q t.next.trail)

@@ -1,13 +1,14 @@
 -- What a post has done, and one event more: what is told of it in the next state.
-use Rattle.std.proofs.Common.{ℕ, ◌≡◌, ◌≢◌, ◌<◌, ◌-◌, ◌++◌, [], ◌∷◌, None, Some, arith, ap, sym, ◌∙◌, refl, subst, inl, inr, append-nil}
+use Rattle.std.proofs.Common.{ℕ, ◌≡◌, ◌≢◌, ◌<◌, ◌-◌, ◌++◌, List, [], ◌∷◌, None, Some, arith, ap, sym, ◌∙◌, refl, subst, inl, inr, append_assoc, append-nil}
+use Rattle.bl_model.specs.declared.operation.Reply.{Reply}
 use Rattle.bl_page.specs.declared.page.Page.{Page}
-use Rattle.bl_page.specs.declared.page.Page.TheVariants.{Inner}
+use Rattle.bl_page.specs.declared.page.Page.TheVariants.{Anchor, Leaf, Inner, Dead}
 use Rattle.bl_page.specs.Machine.{Act}
 use Rattle.bl_page.specs.Machine.Act.{Get, Put, Latch, Miss}
 use Rattle.bl_laws.specs.Pages.{node_of, roots_of}
 use Rattle.bl_trails.specs.Trails.{Mark, Trail}
-use Rattle.bl_trails.specs.Meanings.{put_in}
-use Rattle.bl_trails.proofs.Meant.{got_on, got_last, parted_on, already_on, stale_on, tall_on, no_room_on}
+use Rattle.bl_trails.specs.Meanings.{writes_in, Wrote, RaisesOnly, HasRaised, ArePuts}
+use Rattle.bl_trails.proofs.Meant.{begun_now, wrote_on, wrote_still, got_on, got_last, parted_on, already_on, stale_on, tall_on, no_room_on}
 use Rattle.bl_puts.proofs.Fitted.{fits_row, split_cut}
 use Rattle.bl_rearrange.specs.declared.fitted.Fitted.TheVariants.{Split}
 use Rattle.bl_rearrange.specs.Rearranged.{IsFitted}
@@ -35,11 +36,11 @@ use Rattle.bl_proc.specs.declared.posting.PostStage.TheVariants as post
 use Rattle.bl_ways.specs.Onwards.{Leads}
 use Rattle.bl_ways.specs.Approaches.{approach_next, Turns, Approaches}
 use Rattle.bl_ways.specs.Changes.{change_next, EntersPair, Changes}
-use Rattle.bl_ways.specs.Growths.{growth_next, Grows}
+use Rattle.bl_ways.specs.Growths.{growth_next, IsTop, Grows}
 use Rattle.bl_proc.specs.Posts.{post_reply, post_next_in, PostStarts, PostArrives, PostWalks, PostNears, PostComes, PostGoes}
 use Rattle.bl_tables.specs.Turns.{event_of}
 use Rattle.bl_tables.specs.Logs.{Holding, HoldsParent, HoldsBoth, IsToPut, approach_log, outcome_log, change_log, growth_log, reply_log, post_log}
-use Rattle.bl_tables.proofs.Holdings.{held_now, held_on, parent_held_on, both_held_on, child_got, parent_got, refused_while, under, is_parted, cut_low, row_together, cut_together}
+use Rattle.bl_tables.proofs.Holdings.{held_raised, held_now, held_on, parent_held_on, both_held_on, child_got, parent_got, refused_while, under, is_parted, cut_low, row_together, cut_together}
 
 no_latched : (level x : ℕ) (c : Page) (o : Onward) (y : ℕ) → Turns level x c o (way.Latched y) → ⊥
 no_latched level x c Again y h = h
@@ -49,6 +50,35 @@ no_latched level x c Here y h = h
 
 same_latched : (x y : ℕ) → way.Latched y ≡ way.Latched x → x ≡ y
 same_latched x y e = cc
+
+pub gets_nothing : (x : ℕ) (what : Seen) → writes_in (event_of None (act.Get x) what) ≡ []
+gets_nothing x seen.Done = refl
+gets_nothing x (seen.Words c) = refl
+gets_nothing x (seen.Took n) = refl
+gets_nothing x (seen.Owner retired started own) = refl
+gets_nothing x (seen.Blocks it) = refl
+gets_nothing x seen.Missed = refl
+gets_nothing x seen.Refused = refl
+
+-- on its way to a page a process writes nothing
+pub approach_writes : (a : Approach) (what : Seen) → writes_in (event_of None (approach_next a) what) ≡ []
+approach_writes way.Start what = gets_nothing 0 what
+approach_writes (way.At x) what = gets_nothing x what
+approach_writes (way.Latching x) seen.Done = refl
+approach_writes (way.Latching x) (seen.Words c) = refl
+approach_writes (way.Latching x) (seen.Took n) = refl
+approach_writes (way.Latching x) (seen.Owner retired started own) = refl
+approach_writes (way.Latching x) (seen.Blocks it) = refl
+approach_writes (way.Latching x) seen.Missed = refl
+approach_writes (way.Latching x) seen.Refused = refl
+approach_writes (way.Latched x) what = gets_nothing x what
+approach_writes (way.Leaving x to) seen.Done = refl
+approach_writes (way.Leaving x to) (seen.Words c) = refl
+approach_writes (way.Leaving x to) (seen.Took n) = refl
+approach_writes (way.Leaving x to) (seen.Owner retired started own) = refl
+approach_writes (way.Leaving x to) (seen.Blocks it) = refl
+approach_writes (way.Leaving x to) seen.Missed = refl
+approach_writes (way.Leaving x to) seen.Refused = refl
 
 module _ (m : Mark) (level key : ℕ) where
   -- on the way a page is held from its latch on
@@ -100,33 +130,49 @@ module _ (marks : Trail) (m : Mark) (level key : ℕ) (least : 0 < level) where
   abbrev more : Trail
   more = marks ++ m ∷ []
 
-  -- an answer goes on meaning what it meant
-  pub reply_on : (r : PostReply) → reply_log level key r marks → reply_log level key r more
-  reply_on (reply.Done s) h = parted_on marks m h
-  reply_on reply.Already h = already_on marks m h
-  reply_on reply.Stale h = stale_on marks m h
-  reply_on reply.NoRoom h = no_room_on marks m h
-  reply_on reply.TooTall h = tall_on marks m h
+  -- new top levels alone were written, and still are
+  raised_on : writes_in m.event.act ≡ [] → HasRaised level marks → HasRaised level more
+  raised_on quiet h = wrote_still marks m (RaisesOnly level) quiet h
 
-  outcome_on : (o : Outcome) → outcome_log level key o marks → outcome_log level key o more
-  outcome_on outcome.Changed h = parted_on marks m h
-  outcome_on (outcome.Parted s) h = parted_on marks m h
-  outcome_on outcome.Refused h = no_room_on marks m h
+  -- an answer goes on meaning what it meant
+  pub reply_on : (r : PostReply) → writes_in m.event.act ≡ [] → reply_log level key r marks → reply_log level key r more
+  reply_on (reply.Done s) quiet h = parted_on marks m quiet h
+  reply_on reply.Already quiet h = already_on marks m quiet h
+  reply_on reply.Stale quiet h = stale_on marks m quiet h
+  reply_on reply.NoRoom quiet h = no_room_on marks m quiet h
+  reply_on reply.TooTall quiet h = tall_on marks m quiet h
+
+  outcome_on : (o : Outcome) → writes_in m.event.act ≡ [] → outcome_log level key o marks → outcome_log level key o more
+  outcome_on outcome.Changed quiet h = parted_on marks m quiet h
+  outcome_on (outcome.Parted s) quiet h = parted_on marks m quiet h
+  outcome_on outcome.Refused quiet h = no_room_on marks m quiet h
 
   outcome_reply : (o : Outcome) → outcome_log level key o more → reply_log level key (post_reply o) more
   outcome_reply outcome.Changed h = h
   outcome_reply (outcome.Parted s) h = h
   outcome_reply outcome.Refused h = h
 
-  approach_on : (a b : Approach) (what : Seen) → Approaches level key a what (came.On b) → m.event.act ≡ event_of None (approach_next a) what → approach_log b more
-  approach_on a way.Start what t did = tt
-  approach_on a (way.At x) what t did = tt
-  approach_on a (way.Latching x) what t did = tt
-  approach_on a (way.Latched x) what t did = held_now marks m x (latched_on m level key a x what t did)
-  approach_on a (way.Leaving x to) what t did = tt
+  approach_raised : (a : Approach) → approach_log level a marks → HasRaised level marks
+  approach_raised way.Start h = h
+  approach_raised (way.At x) h = h
+  approach_raised (way.Latching x) h = h
+  approach_raised (way.Latched x) h = held_raised h
+  approach_raised (way.Leaving x to) h = h
+
+  -- wherever it goes on its way
+  off_on : (b : Approach) → (y : ℕ) → HasRaised level more → ((x : ℕ) → b ≡ way.Latched x → Holding level more x []) → approach_log level b more
+  off_on way.Start y first latched = first
+  off_on (way.At x) y first latched = first
+  off_on (way.Latching x) y first latched = first
+  off_on (way.Latched x) y first latched = latched x refl
+  off_on (way.Leaving x to) y first latched = first
+
+  approach_on : (a b : Approach) (what : Seen) → Approaches level key a what (came.On b) → m.event.act ≡ event_of None (approach_next a) what → approach_log level a marks → approach_log level b more
+  approach_on a b what t did h = off_on b 0 (raised_on (ap writes_in did ∙ approach_writes a what) (approach_raised a h))
+      (λ x e. held_now marks m x (latched_on m level key a x what (subst (λ z. Approaches level key a what (came.On z)) e t) did) (approach_raised a h))
 
   -- at the parent
-  arrive_on : (x : ℕ) (c : Page) (new : PostStage) → Leads c key level Here → PostArrives key x c new → m.event.act ≡ Get x → m.saw ≡ Some c → Holding marks x [] → post_log level key new more
+  arrive_on : (x : ℕ) (c : Page) (new : PostStage) → Leads c key level Here → PostArrives key x c new → m.event.act ≡ Get x → m.saw ≡ Some c → Holding level marks x [] → post_log level key new more
   arrive_on x c (post.Walking v) l t did saw h =
       let unlisted : (node_of c).look key ≡ None = subst (λ z. (node_of z).look key ≡ None) (sym t.2) (subst (λ z. (node_of (Inner v.parent)).look z ≡ None) t.1 v.unlisted) in
       let here : HoldsParent level key more x c [] = parent_got marks m c did saw h l.2 l.1 unlisted in
@@ -134,12 +180,13 @@ module _ (marks : Trail) (m : Mark) (level key : ℕ) (least : 0 < level) where
   arrive_on x c (post.Staying y reply.Already) l t did saw h = record {
     parent = record {
       at = x;
-      under = under (held_on marks m [] (λ o. (let e = sym did ∙ o in cc)) (ap put_in did) h);
+      under = under (held_on marks m [] (λ o. (let e = sym did ∙ o in cc)) (subst (λ a. ArePuts (writes_in a) []) (sym did) tt) h);
       parent = c;
       got = got_last h.during m did saw;
       level_is = l.2;
       covers = l.1;
     };
+    none = refl;
     child = t.1.0;
     listed = t.1.1;
   }
@@ -154,7 +201,7 @@ module _ (marks : Trail) (m : Mark) (level key : ℕ) (least : 0 < level) where
   arrive_on x c (post.Staying y reply.NoRoom) l t did saw h = absurd t
   arrive_on x c (post.Staying y reply.TooTall) l t did saw h = absurd t
 
-  here_on : (a : Approach) (new : PostStage) (what : Seen) (y : ℕ) (d : Page) → Approaches level key a what (came.Here y d) → PostArrives key y d new → m.event.act ≡ event_of None (approach_next a) what → ((x : ℕ) (c : Page) → m.event.act ≡ Get x → what ≡ seen.Words c → m.saw ≡ Some c) → approach_log a marks → post_log level key new more
+  here_on : (a : Approach) (new : PostStage) (what : Seen) (y : ℕ) (d : Page) → Approaches level key a what (came.Here y d) → PostArrives key y d new → m.event.act ≡ event_of None (approach_next a) what → ((x : ℕ) (c : Page) → m.event.act ≡ Get x → what ≡ seen.Words c → m.saw ≡ Some c) → approach_log level a marks → post_log level key new more
   here_on way.Start new seen.Done y d t at did saw h = absurd t
   here_on way.Start new (seen.Words c) y d t at did saw h = absurd t
   here_on way.Start new (seen.Took n) y d t at did saw h = absurd t
@@ -178,7 +225,7 @@ module _ (marks : Trail) (m : Mark) (level key : ℕ) (least : 0 < level) where
   here_on (way.Latching x) new seen.Refused y d t at did saw h = absurd t
   here_on (way.Latched x) new seen.Done y d t at did saw h = absurd t
   here_on (way.Latched x) new (seen.Words c) y d t at did saw h =
-      arrive_on y d new (subst (λ z. Leads z key level Here) (sym t.1) t.2) at (did ∙ ap Get (sym t.0)) (saw x c did refl ∙ ap Some (sym t.1)) (subst (λ z. Holding marks z []) (sym t.0) h)
+      arrive_on y d new (subst (λ z. Leads z key level Here) (sym t.1) t.2) at (did ∙ ap Get (sym t.0)) (saw x c did refl ∙ ap Some (sym t.1)) (subst (λ z. Holding level marks z []) (sym t.0) h)
   here_on (way.Latched x) new (seen.Took n) y d t at did saw h = absurd t
   here_on (way.Latched x) new (seen.Owner retired started own) y d t at did saw h = absurd t
   here_on (way.Latched x) new (seen.Blocks it) y d t at did saw h = absurd t
@@ -199,8 +246,8 @@ module _ (marks : Trail) (m : Mark) (level key : ℕ) (least : 0 < level) where
   here_on (way.Leaving x (Some z)) new seen.Missed y d t at did saw h = absurd t
   here_on (way.Leaving x (Some z)) new seen.Refused y d t at did saw h = absurd t
 
-  near_on : (a : Approach) (new : PostStage) (what : Seen) → PostNears level key a what new → m.event.act ≡ event_of None (approach_next a) what → ((x : ℕ) (c : Page) → m.event.act ≡ Get x → what ≡ seen.Words c → m.saw ≡ Some c) → approach_log a marks → post_log level key new more
-  near_on a (post.Coming b) what t did saw h = approach_on a b what t did
+  near_on : (a : Approach) (new : PostStage) (what : Seen) → PostNears level key a what new → m.event.act ≡ event_of None (approach_next a) what → ((x : ℕ) (c : Page) → m.event.act ≡ Get x → what ≡ seen.Words c → m.saw ≡ Some c) → approach_log level a marks → post_log level key new more
+  near_on a (post.Coming b) what t did saw h = approach_on a b what t did h
   near_on a post.New what (y, d, t, at) did saw h = here_on a post.New what y d t at did saw h
   near_on a (post.Growing g) what (y, d, t, at) did saw h = here_on a (post.Growing g) what y d t at did saw h
   near_on a (post.Walking v) what (y, d, t, at) did saw h = here_on a (post.Walking v) what y d t at did saw h
@@ -210,30 +257,30 @@ module _ (marks : Trail) (m : Mark) (level key : ℕ) (least : 0 < level) where
   near_on a (post.Over r) what (y, d, t, at) did saw h = here_on a (post.Over r) what y d t at did saw h
 
   -- at the anchor
-  start_on : (c : Page) (new : PostStage) → PostStarts level key c new → m.event.act ≡ Get 0 → m.saw ≡ Some c → post_log level key new more
-  start_on c (post.Ending reply.Stale) t did saw = inl (record { anchor = c; got = got_last marks m did saw; few = t })
-  start_on c (post.Ending reply.TooTall) t did saw = record { last = t.1; anchor = c; got = got_last marks m did saw; full = t.0 ∙ t.1 }
-  start_on c (post.Growing growth.Latching) t did saw = tt
-  start_on c (post.Coming a) t did saw = approach_on way.Start a (seen.Words c) t.1 did
-  start_on c post.New t did saw = absurd t
-  start_on c (post.Walking v) t did saw = absurd t
-  start_on c (post.Changing d) t did saw = absurd t
-  start_on c (post.Staying z r) t did saw = absurd t
-  start_on c (post.Over r) t did saw = absurd t
-  start_on c (post.Ending (reply.Done s)) t did saw = absurd t
-  start_on c (post.Ending reply.Already) t did saw = absurd t
-  start_on c (post.Ending reply.NoRoom) t did saw = absurd t
-  start_on c (post.Growing growth.Latched) t did saw = absurd t
-  start_on c (post.Growing (growth.Taking r)) t did saw = absurd t
-  start_on c (post.Growing (growth.PuttingTop r)) t did saw = absurd t
-  start_on c (post.Growing (growth.PuttingAnchor r)) t did saw = absurd t
-  start_on c (post.Growing (growth.OpeningTop x)) t did saw = absurd t
-  start_on c (post.Growing growth.OpeningGrown) t did saw = absurd t
-  start_on c (post.Growing growth.OpeningRefused) t did saw = absurd t
+  start_on : (c : Page) (new : PostStage) → PostStarts level key c new → m.event.act ≡ Get 0 → m.saw ≡ Some c → HasRaised level marks → post_log level key new more
+  start_on c (post.Ending reply.Stale) t did saw h = inl (record { first = raised_on (ap writes_in did) h; anchor = c; got = got_last marks m did saw; few = t })
+  start_on c (post.Ending reply.TooTall) t did saw h = record { last = t.1; first = raised_on (ap writes_in did) h; anchor = c; got = got_last marks m did saw; full = t.0 ∙ t.1 }
+  start_on c (post.Growing growth.Latching) t did saw h = raised_on (ap writes_in did) h
+  start_on c (post.Coming a) t did saw h = approach_on way.Start a (seen.Words c) t.1 did h
+  start_on c post.New t did saw h = absurd t
+  start_on c (post.Walking v) t did saw h = absurd t
+  start_on c (post.Changing d) t did saw h = absurd t
+  start_on c (post.Staying z r) t did saw h = absurd t
+  start_on c (post.Over r) t did saw h = absurd t
+  start_on c (post.Ending (reply.Done s)) t did saw h = absurd t
+  start_on c (post.Ending reply.Already) t did saw h = absurd t
+  start_on c (post.Ending reply.NoRoom) t did saw h = absurd t
+  start_on c (post.Growing growth.Latched) t did saw h = absurd t
+  start_on c (post.Growing (growth.Taking r)) t did saw h = absurd t
+  start_on c (post.Growing (growth.PuttingTop r)) t did saw h = absurd t
+  start_on c (post.Growing (growth.PuttingAnchor r)) t did saw h = absurd t
+  start_on c (post.Growing (growth.OpeningTop x)) t did saw h = absurd t
+  start_on c (post.Growing growth.OpeningGrown) t did saw h = absurd t
+  start_on c (post.Growing growth.OpeningRefused) t did saw h = absurd t
 
-  come_on : (a : Approach) (new : PostStage) (what : Seen) → PostComes level key a what new → m.event.act ≡ event_of None (approach_next a) what → ((x : ℕ) (c : Page) → m.event.act ≡ Get x → what ≡ seen.Words c → m.saw ≡ Some c) → approach_log a marks → post_log level key new more
+  come_on : (a : Approach) (new : PostStage) (what : Seen) → PostComes level key a what new → m.event.act ≡ event_of None (approach_next a) what → ((x : ℕ) (c : Page) → m.event.act ≡ Get x → what ≡ seen.Words c → m.saw ≡ Some c) → approach_log level a marks → post_log level key new more
   come_on way.Start new seen.Done t did saw h = absurd t
-  come_on way.Start new (seen.Words c) t did saw h = start_on c new t did (saw 0 c did refl)
+  come_on way.Start new (seen.Words c) t did saw h = start_on c new t did (saw 0 c did refl) h
   come_on way.Start new (seen.Took n) t did saw h = absurd t
   come_on way.Start new (seen.Owner retired started own) t did saw h = absurd t
   come_on way.Start new (seen.Blocks it) t did saw h = absurd t
@@ -244,247 +291,204 @@ module _ (marks : Trail) (m : Mark) (level key : ℕ) (least : 0 < level) where
   come_on (way.Latched x) new what t did saw h = near_on (way.Latched x) new what t did saw h
   come_on (way.Leaving x to) new what t did saw h = near_on (way.Leaving x to) new what t did saw h
 
-  latched_growth : (g : Growth) (what : Seen) → Grows level g what (grew.On growth.Latched) → m.event.act ≡ event_of None (growth_next g) what → growth_log g marks → Holding more 0 []
-  latched_growth growth.Latching seen.Done t did h = held_now marks m 0 did
-  latched_growth growth.Latching (seen.Words c) t did h = absurd t
-  latched_growth growth.Latching (seen.Took n) t did h = absurd t
-  latched_growth growth.Latching (seen.Owner retired started own) t did h = absurd t
-  latched_growth growth.Latching (seen.Blocks it) t did h = absurd t
-  latched_growth growth.Latching seen.Missed t did h = absurd (let e = t in cc)
-  latched_growth growth.Latching seen.Refused t did h = absurd t
-  latched_growth growth.Latched seen.Done t did h = absurd t
-  latched_growth growth.Latched (seen.Words c) t did h = absurd t
-  latched_growth growth.Latched (seen.Took n) t did h = absurd t
-  latched_growth growth.Latched (seen.Owner retired started own) t did h = absurd t
-  latched_growth growth.Latched (seen.Blocks it) t did h = absurd t
-  latched_growth growth.Latched seen.Missed t did h = absurd t
-  latched_growth growth.Latched seen.Refused t did h = absurd t
-  latched_growth (growth.Taking r) seen.Done t did h = absurd t
-  latched_growth (growth.Taking r) (seen.Words c) t did h = absurd t
-  latched_growth (growth.Taking r) (seen.Took n) t did h = absurd t
-  latched_growth (growth.Taking r) (seen.Owner retired started own) t did h = absurd t
-  latched_growth (growth.Taking r) (seen.Blocks it) t did h = absurd t
-  latched_growth (growth.Taking r) seen.Missed t did h = absurd t
-  latched_growth (growth.Taking r) seen.Refused t did h = absurd (let e = t in cc)
-  latched_growth (growth.PuttingTop r) seen.Done t did h = absurd (let e = t in cc)
-  latched_growth (growth.PuttingTop r) (seen.Words c) t did h = absurd t
-  latched_growth (growth.PuttingTop r) (seen.Took n) t did h = absurd t
-  latched_growth (growth.PuttingTop r) (seen.Owner retired started own) t did h = absurd t
-  latched_growth (growth.PuttingTop r) (seen.Blocks it) t did h = absurd t
-  latched_growth (growth.PuttingTop r) seen.Missed t did h = absurd t
-  latched_growth (growth.PuttingTop r) seen.Refused t did h = absurd t
-  latched_growth (growth.PuttingAnchor r) seen.Done t did h = absurd (let e = t in cc)
-  latched_growth (growth.PuttingAnchor r) (seen.Words c) t did h = absurd t
-  latched_growth (growth.PuttingAnchor r) (seen.Took n) t did h = absurd t
-  latched_growth (growth.PuttingAnchor r) (seen.Owner retired started own) t did h = absurd t
-  latched_growth (growth.PuttingAnchor r) (seen.Blocks it) t did h = absurd t
-  latched_growth (growth.PuttingAnchor r) seen.Missed t did h = absurd t
-  latched_growth (growth.PuttingAnchor r) seen.Refused t did h = absurd t
-  latched_growth (growth.OpeningTop x) seen.Done t did h = absurd (let e = t in cc)
-  latched_growth (growth.OpeningTop x) (seen.Words c) t did h = absurd t
-  latched_growth (growth.OpeningTop x) (seen.Took n) t did h = absurd t
-  latched_growth (growth.OpeningTop x) (seen.Owner retired started own) t did h = absurd t
-  latched_growth (growth.OpeningTop x) (seen.Blocks it) t did h = absurd t
-  latched_growth (growth.OpeningTop x) seen.Missed t did h = absurd t
-  latched_growth (growth.OpeningTop x) seen.Refused t did h = absurd t
-  latched_growth growth.OpeningGrown seen.Done t did h = absurd t
-  latched_growth growth.OpeningGrown (seen.Words c) t did h = absurd t
-  latched_growth growth.OpeningGrown (seen.Took n) t did h = absurd t
-  latched_growth growth.OpeningGrown (seen.Owner retired started own) t did h = absurd t
-  latched_growth growth.OpeningGrown (seen.Blocks it) t did h = absurd t
-  latched_growth growth.OpeningGrown seen.Missed t did h = absurd t
-  latched_growth growth.OpeningGrown seen.Refused t did h = absurd t
-  latched_growth growth.OpeningRefused seen.Done t did h = absurd t
-  latched_growth growth.OpeningRefused (seen.Words c) t did h = absurd t
-  latched_growth growth.OpeningRefused (seen.Took n) t did h = absurd t
-  latched_growth growth.OpeningRefused (seen.Owner retired started own) t did h = absurd t
-  latched_growth growth.OpeningRefused (seen.Blocks it) t did h = absurd t
-  latched_growth growth.OpeningRefused seen.Missed t did h = absurd t
-  latched_growth growth.OpeningRefused seen.Refused t did h = absurd t
+  -- the anchor was put, and with it a new top level
+  raised_more : (x : ℕ) (top anchor : Page) (acts : List (Act Page Reply)) → ((before : List (Act Page Reply)) × RaisesOnly level before × (acts ≡ before ++ Put x top ∷ [])) → (node_of top).shape.level ≡ level → m.event.act ≡ Put 0 anchor → RaisesOnly level (acts ++ writes_in m.event.act)
+  raised_more x top anchor acts (before, raises, same) above did =
+      subst (RaisesOnly level) (sym (ap (λ z. acts ++ writes_in z) did ∙ (ap (λ z. z ++ Put 0 anchor ∷ []) same ∙ append_assoc before (Put x top ∷ []) (Put 0 anchor ∷ [])))) (RaisesOnly.Again x top anchor raises above)
 
-  taking_growth : (g : Growth) (q : _) (what : Seen) → Grows level g what (grew.On (growth.Taking q)) → m.event.act ≡ event_of None (growth_next g) what → growth_log g marks → Holding more 0 []
-  taking_growth growth.Latching q seen.Done t did h = absurd (let e = t in cc)
-  taking_growth growth.Latching q (seen.Words c) t did h = absurd t
-  taking_growth growth.Latching q (seen.Took n) t did h = absurd t
-  taking_growth growth.Latching q (seen.Owner retired started own) t did h = absurd t
-  taking_growth growth.Latching q (seen.Blocks it) t did h = absurd t
-  taking_growth growth.Latching q seen.Missed t did h = absurd (let e = t in cc)
-  taking_growth growth.Latching q seen.Refused t did h = absurd t
-  taking_growth growth.Latched q seen.Done t did h = absurd t
-  taking_growth growth.Latched q (seen.Words c) t did h = held_on marks m [] (λ o. (let e = sym did ∙ o in cc)) (ap put_in did) h
-  taking_growth growth.Latched q (seen.Took n) t did h = absurd t
-  taking_growth growth.Latched q (seen.Owner retired started own) t did h = absurd t
-  taking_growth growth.Latched q (seen.Blocks it) t did h = absurd t
-  taking_growth growth.Latched q seen.Missed t did h = absurd t
-  taking_growth growth.Latched q seen.Refused t did h = absurd t
-  taking_growth (growth.Taking r) q seen.Done t did h = absurd t
-  taking_growth (growth.Taking r) q (seen.Words c) t did h = absurd t
-  taking_growth (growth.Taking r) q (seen.Took n) t did h = absurd t
-  taking_growth (growth.Taking r) q (seen.Owner retired started own) t did h = absurd t
-  taking_growth (growth.Taking r) q (seen.Blocks it) t did h = absurd t
-  taking_growth (growth.Taking r) q seen.Missed t did h = absurd t
-  taking_growth (growth.Taking r) q seen.Refused t did h = absurd (let e = t in cc)
-  taking_growth (growth.PuttingTop r) q seen.Done t did h = absurd (let e = t in cc)
-  taking_growth (growth.PuttingTop r) q (seen.Words c) t did h = absurd t
-  taking_growth (growth.PuttingTop r) q (seen.Took n) t did h = absurd t
-  taking_growth (growth.PuttingTop r) q (seen.Owner retired started own) t did h = absurd t
-  taking_growth (growth.PuttingTop r) q (seen.Blocks it) t did h = absurd t
-  taking_growth (growth.PuttingTop r) q seen.Missed t did h = absurd t
-  taking_growth (growth.PuttingTop r) q seen.Refused t did h = absurd t
-  taking_growth (growth.PuttingAnchor r) q seen.Done t did h = absurd (let e = t in cc)
-  taking_growth (growth.PuttingAnchor r) q (seen.Words c) t did h = absurd t
-  taking_growth (growth.PuttingAnchor r) q (seen.Took n) t did h = absurd t
-  taking_growth (growth.PuttingAnchor r) q (seen.Owner retired started own) t did h = absurd t
-  taking_growth (growth.PuttingAnchor r) q (seen.Blocks it) t did h = absurd t
-  taking_growth (growth.PuttingAnchor r) q seen.Missed t did h = absurd t
-  taking_growth (growth.PuttingAnchor r) q seen.Refused t did h = absurd t
-  taking_growth (growth.OpeningTop x) q seen.Done t did h = absurd (let e = t in cc)
-  taking_growth (growth.OpeningTop x) q (seen.Words c) t did h = absurd t
-  taking_growth (growth.OpeningTop x) q (seen.Took n) t did h = absurd t
-  taking_growth (growth.OpeningTop x) q (seen.Owner retired started own) t did h = absurd t
-  taking_growth (growth.OpeningTop x) q (seen.Blocks it) t did h = absurd t
-  taking_growth (growth.OpeningTop x) q seen.Missed t did h = absurd t
-  taking_growth (growth.OpeningTop x) q seen.Refused t did h = absurd t
-  taking_growth growth.OpeningGrown q seen.Done t did h = absurd t
-  taking_growth growth.OpeningGrown q (seen.Words c) t did h = absurd t
-  taking_growth growth.OpeningGrown q (seen.Took n) t did h = absurd t
-  taking_growth growth.OpeningGrown q (seen.Owner retired started own) t did h = absurd t
-  taking_growth growth.OpeningGrown q (seen.Blocks it) t did h = absurd t
-  taking_growth growth.OpeningGrown q seen.Missed t did h = absurd t
-  taking_growth growth.OpeningGrown q seen.Refused t did h = absurd t
-  taking_growth growth.OpeningRefused q seen.Done t did h = absurd t
-  taking_growth growth.OpeningRefused q (seen.Words c) t did h = absurd t
-  taking_growth growth.OpeningRefused q (seen.Took n) t did h = absurd t
-  taking_growth growth.OpeningRefused q (seen.Owner retired started own) t did h = absurd t
-  taking_growth growth.OpeningRefused q (seen.Blocks it) t did h = absurd t
-  taking_growth growth.OpeningRefused q seen.Missed t did h = absurd t
-  taking_growth growth.OpeningRefused q seen.Refused t did h = absurd t
+  top_level : (above below : ℕ) (c : Page) → IsTop above below c → (node_of c).shape.level ≡ above
+  top_level above below (Inner i) t = t.0
+  top_level above below (Anchor a) t = absurd t
+  top_level above below (Leaf l) t = absurd t
+  top_level above below (Dead d) t = absurd t
 
-  refused_growth : (g : Growth) (what : Seen) → Grows level g what (grew.On growth.OpeningRefused) → m.event.act ≡ event_of None (growth_next g) what → growth_log g marks → growth_log growth.OpeningRefused more
-  refused_growth growth.Latching seen.Done t did h = absurd (let e = t in cc)
-  refused_growth growth.Latching (seen.Words c) t did h = absurd t
-  refused_growth growth.Latching (seen.Took n) t did h = absurd t
-  refused_growth growth.Latching (seen.Owner retired started own) t did h = absurd t
-  refused_growth growth.Latching (seen.Blocks it) t did h = absurd t
-  refused_growth growth.Latching seen.Missed t did h = absurd (let e = t in cc)
-  refused_growth growth.Latching seen.Refused t did h = absurd t
-  refused_growth growth.Latched seen.Done t did h = absurd t
-  refused_growth growth.Latched (seen.Words c) t did h = absurd t
-  refused_growth growth.Latched (seen.Took n) t did h = absurd t
-  refused_growth growth.Latched (seen.Owner retired started own) t did h = absurd t
-  refused_growth growth.Latched (seen.Blocks it) t did h = absurd t
-  refused_growth growth.Latched seen.Missed t did h = absurd t
-  refused_growth growth.Latched seen.Refused t did h = absurd t
-  refused_growth (growth.Taking r) seen.Done t did h = absurd t
-  refused_growth (growth.Taking r) (seen.Words c) t did h = absurd t
-  refused_growth (growth.Taking r) (seen.Took n) t did h = absurd t
-  refused_growth (growth.Taking r) (seen.Owner retired started own) t did h = absurd t
-  refused_growth (growth.Taking r) (seen.Blocks it) t did h = absurd t
-  refused_growth (growth.Taking r) seen.Missed t did h = absurd t
-  refused_growth (growth.Taking r) seen.Refused t did h = refused_while marks m did h
-  refused_growth (growth.PuttingTop r) seen.Done t did h = absurd (let e = t in cc)
-  refused_growth (growth.PuttingTop r) (seen.Words c) t did h = absurd t
-  refused_growth (growth.PuttingTop r) (seen.Took n) t did h = absurd t
-  refused_growth (growth.PuttingTop r) (seen.Owner retired started own) t did h = absurd t
-  refused_growth (growth.PuttingTop r) (seen.Blocks it) t did h = absurd t
-  refused_growth (growth.PuttingTop r) seen.Missed t did h = absurd t
-  refused_growth (growth.PuttingTop r) seen.Refused t did h = absurd t
-  refused_growth (growth.PuttingAnchor r) seen.Done t did h = absurd (let e = t in cc)
-  refused_growth (growth.PuttingAnchor r) (seen.Words c) t did h = absurd t
-  refused_growth (growth.PuttingAnchor r) (seen.Took n) t did h = absurd t
-  refused_growth (growth.PuttingAnchor r) (seen.Owner retired started own) t did h = absurd t
-  refused_growth (growth.PuttingAnchor r) (seen.Blocks it) t did h = absurd t
-  refused_growth (growth.PuttingAnchor r) seen.Missed t did h = absurd t
-  refused_growth (growth.PuttingAnchor r) seen.Refused t did h = absurd t
-  refused_growth (growth.OpeningTop x) seen.Done t did h = absurd (let e = t in cc)
-  refused_growth (growth.OpeningTop x) (seen.Words c) t did h = absurd t
-  refused_growth (growth.OpeningTop x) (seen.Took n) t did h = absurd t
-  refused_growth (growth.OpeningTop x) (seen.Owner retired started own) t did h = absurd t
-  refused_growth (growth.OpeningTop x) (seen.Blocks it) t did h = absurd t
-  refused_growth (growth.OpeningTop x) seen.Missed t did h = absurd t
-  refused_growth (growth.OpeningTop x) seen.Refused t did h = absurd t
-  refused_growth growth.OpeningGrown seen.Done t did h = absurd t
-  refused_growth growth.OpeningGrown (seen.Words c) t did h = absurd t
-  refused_growth growth.OpeningGrown (seen.Took n) t did h = absurd t
-  refused_growth growth.OpeningGrown (seen.Owner retired started own) t did h = absurd t
-  refused_growth growth.OpeningGrown (seen.Blocks it) t did h = absurd t
-  refused_growth growth.OpeningGrown seen.Missed t did h = absurd t
-  refused_growth growth.OpeningGrown seen.Refused t did h = absurd t
-  refused_growth growth.OpeningRefused seen.Done t did h = absurd t
-  refused_growth growth.OpeningRefused (seen.Words c) t did h = absurd t
-  refused_growth growth.OpeningRefused (seen.Took n) t did h = absurd t
-  refused_growth growth.OpeningRefused (seen.Owner retired started own) t did h = absurd t
-  refused_growth growth.OpeningRefused (seen.Blocks it) t did h = absurd t
-  refused_growth growth.OpeningRefused seen.Missed t did h = absurd t
-  refused_growth growth.OpeningRefused seen.Refused t did h = absurd t
+  grow_on : (g h : Growth) (what : Seen) → Grows level g what (grew.On h) → m.event.act ≡ event_of None (growth_next g) what → growth_log level g marks → growth_log level h more
+  grow_on growth.Latching h seen.Done t did log = subst (λ z. growth_log level z more) (sym t) (held_now marks m 0 did log)
+  grow_on growth.Latching h (seen.Words c) t did log = absurd t
+  grow_on growth.Latching h (seen.Took n) t did log = absurd t
+  grow_on growth.Latching h (seen.Owner retired started own) t did log = absurd t
+  grow_on growth.Latching h (seen.Blocks it) t did log = absurd t
+  grow_on growth.Latching h seen.Missed t did log = subst (λ z. growth_log level z more) (sym t) (raised_on (ap writes_in did) log)
+  grow_on growth.Latching h seen.Refused t did log = absurd t
+  grow_on growth.Latched h seen.Done t did log = absurd t
+  grow_on growth.Latched growth.Latching (seen.Words c) t did log = absurd t
+  grow_on growth.Latched growth.Latched (seen.Words c) t did log = absurd t
+  grow_on growth.Latched (growth.Taking q) (seen.Words c) t did log = (held_on marks m [] (λ o. (let e = sym did ∙ o in cc)) (subst (λ a. ArePuts (writes_in a) []) (sym did) tt) log, ap (λ z. (roots_of z).levels) (sym t.0) ∙ t.1)
+  grow_on growth.Latched (growth.PuttingTop q) (seen.Words c) t did log = absurd t
+  grow_on growth.Latched (growth.PuttingAnchor q) (seen.Words c) t did log = absurd t
+  grow_on growth.Latched (growth.OpeningTop y) (seen.Words c) t did log = absurd t
+  grow_on growth.Latched growth.OpeningGrown (seen.Words c) t did log = raised_on (ap writes_in did) (held_raised log)
+  grow_on growth.Latched growth.OpeningRefused (seen.Words c) t did log = absurd t
+  grow_on growth.Latched h (seen.Took n) t did log = absurd t
+  grow_on growth.Latched h (seen.Owner retired started own) t did log = absurd t
+  grow_on growth.Latched h (seen.Blocks it) t did log = absurd t
+  grow_on growth.Latched h seen.Missed t did log = absurd t
+  grow_on growth.Latched h seen.Refused t did log = absurd t
+  grow_on (growth.Taking rise) h seen.Done t did log = absurd t
+  grow_on (growth.Taking rise) h (seen.Words c) t did log = absurd t
+  grow_on (growth.Taking rise) growth.Latching (seen.Took n) t did log = absurd t
+  grow_on (growth.Taking rise) growth.Latched (seen.Took n) t did log = absurd t
+  grow_on (growth.Taking rise) (growth.Taking q) (seen.Took n) t did log = absurd t
+  grow_on (growth.Taking rise) (growth.PuttingTop q) (seen.Took n) t did log = (raised_on (ap writes_in did) (held_raised log.0), top_level _ _ q.top t.1.0 ∙ log.1)
+  grow_on (growth.Taking rise) (growth.PuttingAnchor q) (seen.Took n) t did log = absurd t
+  grow_on (growth.Taking rise) (growth.OpeningTop y) (seen.Took n) t did log = absurd t
+  grow_on (growth.Taking rise) growth.OpeningGrown (seen.Took n) t did log = absurd t
+  grow_on (growth.Taking rise) growth.OpeningRefused (seen.Took n) t did log = absurd t
+  grow_on (growth.Taking rise) h (seen.Owner retired started own) t did log = absurd t
+  grow_on (growth.Taking rise) h (seen.Blocks it) t did log = absurd t
+  grow_on (growth.Taking rise) h seen.Missed t did log = absurd t
+  grow_on (growth.Taking rise) h seen.Refused t did log = subst (λ z. growth_log level z more) (sym t) (refused_while marks m did log.0)
+  grow_on (growth.PuttingTop r) h seen.Done t did log = subst (λ z. growth_log level z more) (sym t) (wrote_on marks m (λ acts is. (acts, is, ap (λ z. acts ++ writes_in z) did)) log.0, log.1)
+  grow_on (growth.PuttingTop r) h (seen.Words c) t did log = absurd t
+  grow_on (growth.PuttingTop r) h (seen.Took n) t did log = absurd t
+  grow_on (growth.PuttingTop r) h (seen.Owner retired started own) t did log = absurd t
+  grow_on (growth.PuttingTop r) h (seen.Blocks it) t did log = absurd t
+  grow_on (growth.PuttingTop r) h seen.Missed t did log = absurd t
+  grow_on (growth.PuttingTop r) h seen.Refused t did log = absurd t
+  grow_on (growth.PuttingAnchor r) h seen.Done t did log = subst (λ z. growth_log level z more) (sym t) (wrote_on marks m (λ acts is. raised_more r.new r.top r.anchor acts is log.1 did) log.0)
+  grow_on (growth.PuttingAnchor r) h (seen.Words c) t did log = absurd t
+  grow_on (growth.PuttingAnchor r) h (seen.Took n) t did log = absurd t
+  grow_on (growth.PuttingAnchor r) h (seen.Owner retired started own) t did log = absurd t
+  grow_on (growth.PuttingAnchor r) h (seen.Blocks it) t did log = absurd t
+  grow_on (growth.PuttingAnchor r) h seen.Missed t did log = absurd t
+  grow_on (growth.PuttingAnchor r) h seen.Refused t did log = absurd t
+  grow_on (growth.OpeningTop x) h seen.Done t did log = subst (λ z. growth_log level z more) (sym t) (raised_on (ap writes_in did) log)
+  grow_on (growth.OpeningTop x) h (seen.Words c) t did log = absurd t
+  grow_on (growth.OpeningTop x) h (seen.Took n) t did log = absurd t
+  grow_on (growth.OpeningTop x) h (seen.Owner retired started own) t did log = absurd t
+  grow_on (growth.OpeningTop x) h (seen.Blocks it) t did log = absurd t
+  grow_on (growth.OpeningTop x) h seen.Missed t did log = absurd t
+  grow_on (growth.OpeningTop x) h seen.Refused t did log = absurd t
+  grow_on growth.OpeningGrown h seen.Done t did log = absurd t
+  grow_on growth.OpeningGrown h (seen.Words c) t did log = absurd t
+  grow_on growth.OpeningGrown h (seen.Took n) t did log = absurd t
+  grow_on growth.OpeningGrown h (seen.Owner retired started own) t did log = absurd t
+  grow_on growth.OpeningGrown h (seen.Blocks it) t did log = absurd t
+  grow_on growth.OpeningGrown h seen.Missed t did log = absurd t
+  grow_on growth.OpeningGrown h seen.Refused t did log = absurd t
+  grow_on growth.OpeningRefused h seen.Done t did log = absurd t
+  grow_on growth.OpeningRefused h (seen.Words c) t did log = absurd t
+  grow_on growth.OpeningRefused h (seen.Took n) t did log = absurd t
+  grow_on growth.OpeningRefused h (seen.Owner retired started own) t did log = absurd t
+  grow_on growth.OpeningRefused h (seen.Blocks it) t did log = absurd t
+  grow_on growth.OpeningRefused h seen.Missed t did log = absurd t
+  grow_on growth.OpeningRefused h seen.Refused t did log = absurd t
 
-  grow_on : (g h : Growth) (what : Seen) → Grows level g what (grew.On h) → m.event.act ≡ event_of None (growth_next g) what → growth_log g marks → growth_log h more
-  grow_on g growth.Latching what t did h = tt
-  grow_on g growth.Latched what t did h = latched_growth g what t did h
-  grow_on g (growth.Taking q) what t did h = taking_growth g q what t did h
-  grow_on g (growth.PuttingTop r) what t did h = tt
-  grow_on g (growth.PuttingAnchor r) what t did h = tt
-  grow_on g (growth.OpeningTop x) what t did h = tt
-  grow_on g growth.OpeningGrown what t did h = tt
-  grow_on g growth.OpeningRefused what t did h = refused_growth g what t did h
+  grow_end : (g : Growth) (what : Seen) → Grows level g what grew.Refused → m.event.act ≡ event_of None (growth_next g) what → growth_log level g marks → reply_log level key reply.NoRoom more
+  grow_end growth.Latching seen.Done t did h = absurd t
+  grow_end growth.Latching (seen.Words c) t did h = absurd t
+  grow_end growth.Latching (seen.Took n) t did h = absurd t
+  grow_end growth.Latching (seen.Owner retired started own) t did h = absurd t
+  grow_end growth.Latching (seen.Blocks it) t did h = absurd t
+  grow_end growth.Latching seen.Missed t did h = absurd t
+  grow_end growth.Latching seen.Refused t did h = absurd t
+  grow_end growth.Latched seen.Done t did h = absurd t
+  grow_end growth.Latched (seen.Words c) t did h = absurd t
+  grow_end growth.Latched (seen.Took n) t did h = absurd t
+  grow_end growth.Latched (seen.Owner retired started own) t did h = absurd t
+  grow_end growth.Latched (seen.Blocks it) t did h = absurd t
+  grow_end growth.Latched seen.Missed t did h = absurd t
+  grow_end growth.Latched seen.Refused t did h = absurd t
+  grow_end (growth.Taking rise) seen.Done t did h = absurd t
+  grow_end (growth.Taking rise) (seen.Words c) t did h = absurd t
+  grow_end (growth.Taking rise) (seen.Took n) t did h = absurd t
+  grow_end (growth.Taking rise) (seen.Owner retired started own) t did h = absurd t
+  grow_end (growth.Taking rise) (seen.Blocks it) t did h = absurd t
+  grow_end (growth.Taking rise) seen.Missed t did h = absurd t
+  grow_end (growth.Taking rise) seen.Refused t did h = absurd t
+  grow_end (growth.PuttingTop r) seen.Done t did h = absurd t
+  grow_end (growth.PuttingTop r) (seen.Words c) t did h = absurd t
+  grow_end (growth.PuttingTop r) (seen.Took n) t did h = absurd t
+  grow_end (growth.PuttingTop r) (seen.Owner retired started own) t did h = absurd t
+  grow_end (growth.PuttingTop r) (seen.Blocks it) t did h = absurd t
+  grow_end (growth.PuttingTop r) seen.Missed t did h = absurd t
+  grow_end (growth.PuttingTop r) seen.Refused t did h = absurd t
+  grow_end (growth.PuttingAnchor r) seen.Done t did h = absurd t
+  grow_end (growth.PuttingAnchor r) (seen.Words c) t did h = absurd t
+  grow_end (growth.PuttingAnchor r) (seen.Took n) t did h = absurd t
+  grow_end (growth.PuttingAnchor r) (seen.Owner retired started own) t did h = absurd t
+  grow_end (growth.PuttingAnchor r) (seen.Blocks it) t did h = absurd t
+  grow_end (growth.PuttingAnchor r) seen.Missed t did h = absurd t
+  grow_end (growth.PuttingAnchor r) seen.Refused t did h = absurd t
+  grow_end (growth.OpeningTop x) seen.Done t did h = absurd t
+  grow_end (growth.OpeningTop x) (seen.Words c) t did h = absurd t
+  grow_end (growth.OpeningTop x) (seen.Took n) t did h = absurd t
+  grow_end (growth.OpeningTop x) (seen.Owner retired started own) t did h = absurd t
+  grow_end (growth.OpeningTop x) (seen.Blocks it) t did h = absurd t
+  grow_end (growth.OpeningTop x) seen.Missed t did h = absurd t
+  grow_end (growth.OpeningTop x) seen.Refused t did h = absurd t
+  grow_end growth.OpeningGrown seen.Done t did h = absurd t
+  grow_end growth.OpeningGrown (seen.Words c) t did h = absurd t
+  grow_end growth.OpeningGrown (seen.Took n) t did h = absurd t
+  grow_end growth.OpeningGrown (seen.Owner retired started own) t did h = absurd t
+  grow_end growth.OpeningGrown (seen.Blocks it) t did h = absurd t
+  grow_end growth.OpeningGrown seen.Missed t did h = absurd t
+  grow_end growth.OpeningGrown seen.Refused t did h = absurd t
+  grow_end growth.OpeningRefused seen.Done t did h = no_room_on marks m (ap writes_in did) h
+  grow_end growth.OpeningRefused (seen.Words c) t did h = absurd t
+  grow_end growth.OpeningRefused (seen.Took n) t did h = absurd t
+  grow_end growth.OpeningRefused (seen.Owner retired started own) t did h = absurd t
+  grow_end growth.OpeningRefused (seen.Blocks it) t did h = absurd t
+  grow_end growth.OpeningRefused seen.Missed t did h = absurd t
+  grow_end growth.OpeningRefused seen.Refused t did h = absurd t
 
-  grow_end : (g : Growth) (what : Seen) → Grows level g what grew.Refused → growth_log g marks → reply_log level key reply.NoRoom more
-  grow_end growth.Latching seen.Done t h = absurd t
-  grow_end growth.Latching (seen.Words c) t h = absurd t
-  grow_end growth.Latching (seen.Took n) t h = absurd t
-  grow_end growth.Latching (seen.Owner retired started own) t h = absurd t
-  grow_end growth.Latching (seen.Blocks it) t h = absurd t
-  grow_end growth.Latching seen.Missed t h = absurd t
-  grow_end growth.Latching seen.Refused t h = absurd t
-  grow_end growth.Latched seen.Done t h = absurd t
-  grow_end growth.Latched (seen.Words c) t h = absurd t
-  grow_end growth.Latched (seen.Took n) t h = absurd t
-  grow_end growth.Latched (seen.Owner retired started own) t h = absurd t
-  grow_end growth.Latched (seen.Blocks it) t h = absurd t
-  grow_end growth.Latched seen.Missed t h = absurd t
-  grow_end growth.Latched seen.Refused t h = absurd t
-  grow_end (growth.Taking r) seen.Done t h = absurd t
-  grow_end (growth.Taking r) (seen.Words c) t h = absurd t
-  grow_end (growth.Taking r) (seen.Took n) t h = absurd t
-  grow_end (growth.Taking r) (seen.Owner retired started own) t h = absurd t
-  grow_end (growth.Taking r) (seen.Blocks it) t h = absurd t
-  grow_end (growth.Taking r) seen.Missed t h = absurd t
-  grow_end (growth.Taking r) seen.Refused t h = absurd t
-  grow_end (growth.PuttingTop r) seen.Done t h = absurd t
-  grow_end (growth.PuttingTop r) (seen.Words c) t h = absurd t
-  grow_end (growth.PuttingTop r) (seen.Took n) t h = absurd t
-  grow_end (growth.PuttingTop r) (seen.Owner retired started own) t h = absurd t
-  grow_end (growth.PuttingTop r) (seen.Blocks it) t h = absurd t
-  grow_end (growth.PuttingTop r) seen.Missed t h = absurd t
-  grow_end (growth.PuttingTop r) seen.Refused t h = absurd t
-  grow_end (growth.PuttingAnchor r) seen.Done t h = absurd t
-  grow_end (growth.PuttingAnchor r) (seen.Words c) t h = absurd t
-  grow_end (growth.PuttingAnchor r) (seen.Took n) t h = absurd t
-  grow_end (growth.PuttingAnchor r) (seen.Owner retired started own) t h = absurd t
-  grow_end (growth.PuttingAnchor r) (seen.Blocks it) t h = absurd t
-  grow_end (growth.PuttingAnchor r) seen.Missed t h = absurd t
-  grow_end (growth.PuttingAnchor r) seen.Refused t h = absurd t
-  grow_end (growth.OpeningTop x) seen.Done t h = absurd t
-  grow_end (growth.OpeningTop x) (seen.Words c) t h = absurd t
-  grow_end (growth.OpeningTop x) (seen.Took n) t h = absurd t
-  grow_end (growth.OpeningTop x) (seen.Owner retired started own) t h = absurd t
-  grow_end (growth.OpeningTop x) (seen.Blocks it) t h = absurd t
-  grow_end (growth.OpeningTop x) seen.Missed t h = absurd t
-  grow_end (growth.OpeningTop x) seen.Refused t h = absurd t
-  grow_end growth.OpeningGrown seen.Done t h = absurd t
-  grow_end growth.OpeningGrown (seen.Words c) t h = absurd t
-  grow_end growth.OpeningGrown (seen.Took n) t h = absurd t
-  grow_end growth.OpeningGrown (seen.Owner retired started own) t h = absurd t
-  grow_end growth.OpeningGrown (seen.Blocks it) t h = absurd t
-  grow_end growth.OpeningGrown seen.Missed t h = absurd t
-  grow_end growth.OpeningGrown seen.Refused t h = absurd t
-  grow_end growth.OpeningRefused seen.Done t h = no_room_on marks m h
-  grow_end growth.OpeningRefused (seen.Words c) t h = absurd t
-  grow_end growth.OpeningRefused (seen.Took n) t h = absurd t
-  grow_end growth.OpeningRefused (seen.Owner retired started own) t h = absurd t
-  grow_end growth.OpeningRefused (seen.Blocks it) t h = absurd t
-  grow_end growth.OpeningRefused seen.Missed t h = absurd t
-  grow_end growth.OpeningRefused seen.Refused t h = absurd t
+  grown_on : (g : Growth) (what : Seen) → Grows level g what grew.Grown → m.event.act ≡ event_of None (growth_next g) what → growth_log level g marks → HasRaised level more
+  grown_on growth.Latching seen.Done t did h = absurd t
+  grown_on growth.Latching (seen.Words c) t did h = absurd t
+  grown_on growth.Latching (seen.Took n) t did h = absurd t
+  grown_on growth.Latching (seen.Owner retired started own) t did h = absurd t
+  grown_on growth.Latching (seen.Blocks it) t did h = absurd t
+  grown_on growth.Latching seen.Missed t did h = absurd t
+  grown_on growth.Latching seen.Refused t did h = absurd t
+  grown_on growth.Latched seen.Done t did h = absurd t
+  grown_on growth.Latched (seen.Words c) t did h = absurd t
+  grown_on growth.Latched (seen.Took n) t did h = absurd t
+  grown_on growth.Latched (seen.Owner retired started own) t did h = absurd t
+  grown_on growth.Latched (seen.Blocks it) t did h = absurd t
+  grown_on growth.Latched seen.Missed t did h = absurd t
+  grown_on growth.Latched seen.Refused t did h = absurd t
+  grown_on (growth.Taking rise) seen.Done t did h = absurd t
+  grown_on (growth.Taking rise) (seen.Words c) t did h = absurd t
+  grown_on (growth.Taking rise) (seen.Took n) t did h = absurd t
+  grown_on (growth.Taking rise) (seen.Owner retired started own) t did h = absurd t
+  grown_on (growth.Taking rise) (seen.Blocks it) t did h = absurd t
+  grown_on (growth.Taking rise) seen.Missed t did h = absurd t
+  grown_on (growth.Taking rise) seen.Refused t did h = absurd t
+  grown_on (growth.PuttingTop r) seen.Done t did h = absurd t
+  grown_on (growth.PuttingTop r) (seen.Words c) t did h = absurd t
+  grown_on (growth.PuttingTop r) (seen.Took n) t did h = absurd t
+  grown_on (growth.PuttingTop r) (seen.Owner retired started own) t did h = absurd t
+  grown_on (growth.PuttingTop r) (seen.Blocks it) t did h = absurd t
+  grown_on (growth.PuttingTop r) seen.Missed t did h = absurd t
+  grown_on (growth.PuttingTop r) seen.Refused t did h = absurd t
+  grown_on (growth.PuttingAnchor r) seen.Done t did h = absurd t
+  grown_on (growth.PuttingAnchor r) (seen.Words c) t did h = absurd t
+  grown_on (growth.PuttingAnchor r) (seen.Took n) t did h = absurd t
+  grown_on (growth.PuttingAnchor r) (seen.Owner retired started own) t did h = absurd t
+  grown_on (growth.PuttingAnchor r) (seen.Blocks it) t did h = absurd t
+  grown_on (growth.PuttingAnchor r) seen.Missed t did h = absurd t
+  grown_on (growth.PuttingAnchor r) seen.Refused t did h = absurd t
+  grown_on (growth.OpeningTop x) seen.Done t did h = absurd t
+  grown_on (growth.OpeningTop x) (seen.Words c) t did h = absurd t
+  grown_on (growth.OpeningTop x) (seen.Took n) t did h = absurd t
+  grown_on (growth.OpeningTop x) (seen.Owner retired started own) t did h = absurd t
+  grown_on (growth.OpeningTop x) (seen.Blocks it) t did h = absurd t
+  grown_on (growth.OpeningTop x) seen.Missed t did h = absurd t
+  grown_on (growth.OpeningTop x) seen.Refused t did h = absurd t
+  grown_on growth.OpeningGrown seen.Done t did h = raised_on (ap writes_in did) h
+  grown_on growth.OpeningGrown (seen.Words c) t did h = absurd t
+  grown_on growth.OpeningGrown (seen.Took n) t did h = absurd t
+  grown_on growth.OpeningGrown (seen.Owner retired started own) t did h = absurd t
+  grown_on growth.OpeningGrown (seen.Blocks it) t did h = absurd t
+  grown_on growth.OpeningGrown seen.Missed t did h = absurd t
+  grown_on growth.OpeningGrown seen.Refused t did h = absurd t
+  grown_on growth.OpeningRefused seen.Done t did h = absurd t
+  grown_on growth.OpeningRefused (seen.Words c) t did h = absurd t
+  grown_on growth.OpeningRefused (seen.Took n) t did h = absurd t
+  grown_on growth.OpeningRefused (seen.Owner retired started own) t did h = absurd t
+  grown_on growth.OpeningRefused (seen.Blocks it) t did h = absurd t
+  grown_on growth.OpeningRefused seen.Missed t did h = absurd t
+  grown_on growth.OpeningRefused seen.Refused t did h = absurd t
 
   -- a pair is to enter the parent
   enter_on : (x : ℕ) (c : Page) (word : ℕ) (d : Change) → EntersPair x c key word d → HoldsBoth level key more x c word [] → change_log level key d more
@@ -501,7 +505,7 @@ module _ (marks : Trail) (m : Mark) (level key : ℕ) (least : 0 < level) where
   -- on the walk to the child
   walk_on : (v : Walk) (c : Page) (new : PostStage) → PostWalks level v c new → m.event.act ≡ Get v.child → m.saw ≡ Some c → HoldsParent level key marks v.at (Inner v.parent) [] → v.key ≡ key → post_log level key new more
   walk_on v c (post.Walking u) t did saw h same =
-      let on : HoldsParent level key more v.at (Inner v.parent) [] = parent_held_on marks m [] (λ o. (let e = sym did ∙ o in cc)) (ap put_in did) h in
+      let on : HoldsParent level key more v.at (Inner v.parent) [] = parent_held_on marks m [] (λ o. (let e = sym did ∙ o in cc)) (subst (λ a. ArePuts (writes_in a) []) (sym did) tt) h in
       (subst (λ z. HoldsParent level key more z (Inner u.parent) []) (sym t.0) (subst (λ z. HoldsParent level key more v.at (Inner z) []) (sym t.2) on), t.1 ∙ same)
   walk_on v c (post.Changing d) t did saw h same =
       let l : Leads c key (level - 1) Here = subst (λ z. Leads c z (level - 1) Here) same t.0 in
@@ -509,13 +513,14 @@ module _ (marks : Trail) (m : Mark) (level key : ℕ) (least : 0 < level) where
       enter_on v.at (Inner v.parent) v.child d (subst (λ z. EntersPair v.at (Inner v.parent) z v.child d) same t.2) both
   walk_on v c (post.Staying x reply.Stale) t did saw h same =
       let l : Leads c key (level - 1) Here = subst (λ z. Leads c z (level - 1) Here) same t.1 in
-      let on = held_on marks m [] (λ o. (let e = sym did ∙ o in cc)) (ap put_in did) h.holding in
+      let on = held_on marks m [] (λ o. (let e = sym did ∙ o in cc)) (subst (λ a. ArePuts (writes_in a) []) (sym did) tt) h.holding in
       inr (record {
         parent = record { at = v.at; under = under on; parent = Inner v.parent; got = got_on h.holding.during m h.got; level_is = h.level_is; covers = h.covers };
         child = record { at = v.child; child = c; got = got_last h.holding.during m did saw; level_is = (let e = l.2 in omega (arith, least)); covers = l.1 };
+        none = refl;
         low = subst (λ z. (node_of c).shape.low ≢ z) same t.2;
       })
-  walk_on v c (post.Coming a) t did saw h same = subst (λ z. approach_log z more) (sym t.0) tt
+  walk_on v c (post.Coming a) t did saw h same = subst (λ z. approach_log level z more) (sym t.0) (raised_on (ap writes_in did) (held_raised h.holding))
   walk_on v c post.New t did saw h same = absurd t
   walk_on v c (post.Growing g) t did saw h same = absurd t
   walk_on v c (post.Ending r) t did saw h same = absurd t
@@ -528,7 +533,7 @@ module _ (marks : Trail) (m : Mark) (level key : ℕ) (least : 0 < level) where
   -- on with the change of the parent
   change_on : (c d : Change) (what : Seen) → Changes c what (changed.On d) → m.event.act ≡ event_of None (change_next c) what → change_log level key c marks → change_log level key d more
   change_on (change.Putting x page) d seen.Done t did h =
-      let both : HoldsBoth level key more x h.parent h.child (page ∷ []) = both_held_on marks m (page ∷ []) (λ o. (let e = sym did ∙ o in cc)) (ap put_in did) h.both in
+      let both : HoldsBoth level key more x h.parent h.child (page ∷ []) = both_held_on marks m (page ∷ []) (λ o. (let e = sym did ∙ o in cc)) (subst (λ a. ArePuts (writes_in a) (page ∷ [])) (sym did) ((_, refl), tt)) h.both in
       let put : IsToPut level key more x (page ∷ []) (page ∷ []) = record { parent = h.parent; child = h.child; both = both; together = h.together } in
       subst (λ z. change_log level key z more) (sym t) (is_parted None (page ∷ []) put (page, refl))
   change_on (change.Putting x page) d (seen.Words c) t did h = absurd t
@@ -541,7 +546,7 @@ module _ (marks : Trail) (m : Mark) (level key : ℕ) (least : 0 < level) where
   change_on (change.Taking full) d seen.Done t did h = absurd t
   change_on (change.Taking full) d (seen.Words c) t did h = absurd t
   change_on (change.Taking full) (change.PuttingNew q) (seen.Took n) t did h =
-      let both : HoldsBoth level key more full.at full.page full.word [] = both_held_on marks m [] (λ o. (let e = sym did ∙ o in cc)) (ap put_in did) h.0 in
+      let both : HoldsBoth level key more full.at full.page full.word [] = both_held_on marks m [] (λ o. (let e = sym did ∙ o in cc)) (subst (λ a. ArePuts (writes_in a) []) (sym did) tt) h.0 in
       let cut = split_cut full.page q.left q.right key full.word n q.separator (subst (λ z. IsFitted full.page z full.word n (Split q.left q.right q.separator)) h.1 t.2) both.above.covers in
       let put = subst (λ z. IsToPut level key more z [] (q.right ∷ q.left ∷ [])) (sym t.0) (record { parent = full.page; child = full.word; both = both; together = cut_together full.page q.left q.right n key full.word cut both.above.unlisted }) in
       (put, cut_low full.page q.left q.right full.key full.word n q.separator t.2)
@@ -557,7 +562,7 @@ module _ (marks : Trail) (m : Mark) (level key : ℕ) (least : 0 < level) where
       subst (λ z. change_log level key z more) (sym t) (refused_while marks m did h.0.above.holding)
   change_on (change.PuttingNew p) d seen.Done t did h =
       let put = h.0 in
-      let both : HoldsBoth level key more p.at put.parent put.child (p.right ∷ []) = both_held_on marks m (p.right ∷ []) (λ o. (let e = sym did ∙ o in cc)) (ap put_in did) put.both in
+      let both : HoldsBoth level key more p.at put.parent put.child (p.right ∷ []) = both_held_on marks m (p.right ∷ []) (λ o. (let e = sym did ∙ o in cc)) (subst (λ a. ArePuts (writes_in a) (p.right ∷ [])) (sym did) ((_, refl), tt)) put.both in
       subst (λ z. change_log level key z more) (sym t) (record { parent = put.parent; child = put.child; both = both; together = put.together }, h.1)
   change_on (change.PuttingNew p) d (seen.Words c) t did h = absurd t
   change_on (change.PuttingNew p) d (seen.Took n) t did h = absurd t
@@ -567,7 +572,7 @@ module _ (marks : Trail) (m : Mark) (level key : ℕ) (least : 0 < level) where
   change_on (change.PuttingNew p) d seen.Refused t did h = absurd t
   change_on (change.PuttingOld p) d seen.Done t did h =
       let was = h.0 in
-      let both : HoldsBoth level key more p.at was.parent was.child (p.right ∷ p.left ∷ []) = both_held_on marks m (p.left ∷ []) (λ o. (let e = sym did ∙ o in cc)) (ap put_in did) was.both in
+      let both : HoldsBoth level key more p.at was.parent was.child (p.right ∷ p.left ∷ []) = both_held_on marks m (p.left ∷ []) (λ o. (let e = sym did ∙ o in cc)) (subst (λ a. ArePuts (writes_in a) (p.left ∷ [])) (sym did) ((_, refl), tt)) was.both in
       let put : IsToPut level key more p.at (p.right ∷ p.left ∷ []) (p.right ∷ p.left ∷ []) = record { parent = was.parent; child = was.child; both = both; together = was.together } in
       subst (λ z. change_log level key z more) (sym t) (is_parted (Some p.separator) (p.right ∷ p.left ∷ []) put (p.right, p.left, refl, h.1))
   change_on (change.PuttingOld p) d (seen.Words c) t did h = absurd t
@@ -577,7 +582,7 @@ module _ (marks : Trail) (m : Mark) (level key : ℕ) (least : 0 < level) where
   change_on (change.PuttingOld p) d seen.Missed t did h = absurd t
   change_on (change.PuttingOld p) d seen.Refused t did h = absurd t
   change_on (change.OpeningNew x new separator) d seen.Done t did h =
-      subst (λ z. change_log level key z more) (sym t) (parted_on marks m h)
+      subst (λ z. change_log level key z more) (sym t) (parted_on marks m (ap writes_in did) h)
   change_on (change.OpeningNew x new separator) d (seen.Words c) t did h = absurd t
   change_on (change.OpeningNew x new separator) d (seen.Took n) t did h = absurd t
   change_on (change.OpeningNew x new separator) d (seen.Owner retired started own) t did h = absurd t
@@ -592,55 +597,55 @@ module _ (marks : Trail) (m : Mark) (level key : ℕ) (least : 0 < level) where
   change_on (change.Opening x o) d seen.Missed t did h = absurd t
   change_on (change.Opening x o) d seen.Refused t did h = absurd t
 
-  change_end : (c : Change) (what : Seen) (o : Outcome) → Changes c what (changed.Over o) → change_log level key c marks → reply_log level key (post_reply o) more
-  change_end (change.Putting x page) seen.Done last t h = absurd t
-  change_end (change.Putting x page) (seen.Words c) last t h = absurd t
-  change_end (change.Putting x page) (seen.Took n) last t h = absurd t
-  change_end (change.Putting x page) (seen.Owner retired started own) last t h = absurd t
-  change_end (change.Putting x page) (seen.Blocks it) last t h = absurd t
-  change_end (change.Putting x page) seen.Missed last t h = absurd t
-  change_end (change.Putting x page) seen.Refused last t h = absurd t
-  change_end (change.Taking full) seen.Done last t h = absurd t
-  change_end (change.Taking full) (seen.Words c) last t h = absurd t
-  change_end (change.Taking full) (seen.Took n) last t h = absurd t
-  change_end (change.Taking full) (seen.Owner retired started own) last t h = absurd t
-  change_end (change.Taking full) (seen.Blocks it) last t h = absurd t
-  change_end (change.Taking full) seen.Missed last t h = absurd t
-  change_end (change.Taking full) seen.Refused last t h = absurd t
-  change_end (change.PuttingNew p) seen.Done last t h = absurd t
-  change_end (change.PuttingNew p) (seen.Words c) last t h = absurd t
-  change_end (change.PuttingNew p) (seen.Took n) last t h = absurd t
-  change_end (change.PuttingNew p) (seen.Owner retired started own) last t h = absurd t
-  change_end (change.PuttingNew p) (seen.Blocks it) last t h = absurd t
-  change_end (change.PuttingNew p) seen.Missed last t h = absurd t
-  change_end (change.PuttingNew p) seen.Refused last t h = absurd t
-  change_end (change.PuttingOld p) seen.Done last t h = absurd t
-  change_end (change.PuttingOld p) (seen.Words c) last t h = absurd t
-  change_end (change.PuttingOld p) (seen.Took n) last t h = absurd t
-  change_end (change.PuttingOld p) (seen.Owner retired started own) last t h = absurd t
-  change_end (change.PuttingOld p) (seen.Blocks it) last t h = absurd t
-  change_end (change.PuttingOld p) seen.Missed last t h = absurd t
-  change_end (change.PuttingOld p) seen.Refused last t h = absurd t
-  change_end (change.OpeningNew x new separator) seen.Done last t h = absurd t
-  change_end (change.OpeningNew x new separator) (seen.Words c) last t h = absurd t
-  change_end (change.OpeningNew x new separator) (seen.Took n) last t h = absurd t
-  change_end (change.OpeningNew x new separator) (seen.Owner retired started own) last t h = absurd t
-  change_end (change.OpeningNew x new separator) (seen.Blocks it) last t h = absurd t
-  change_end (change.OpeningNew x new separator) seen.Missed last t h = absurd t
-  change_end (change.OpeningNew x new separator) seen.Refused last t h = absurd t
-  change_end (change.Opening x o) seen.Done last t h = outcome_reply last (outcome_on last (subst (λ z. outcome_log level key z marks) (sym t) h))
-  change_end (change.Opening x o) (seen.Words c) last t h = absurd t
-  change_end (change.Opening x o) (seen.Took n) last t h = absurd t
-  change_end (change.Opening x o) (seen.Owner retired started own) last t h = absurd t
-  change_end (change.Opening x o) (seen.Blocks it) last t h = absurd t
-  change_end (change.Opening x o) seen.Missed last t h = absurd t
-  change_end (change.Opening x o) seen.Refused last t h = absurd t
+  change_end : (c : Change) (what : Seen) (o : Outcome) → Changes c what (changed.Over o) → m.event.act ≡ event_of None (change_next c) what → change_log level key c marks → reply_log level key (post_reply o) more
+  change_end (change.Putting x page) seen.Done last t did h = absurd t
+  change_end (change.Putting x page) (seen.Words c) last t did h = absurd t
+  change_end (change.Putting x page) (seen.Took n) last t did h = absurd t
+  change_end (change.Putting x page) (seen.Owner retired started own) last t did h = absurd t
+  change_end (change.Putting x page) (seen.Blocks it) last t did h = absurd t
+  change_end (change.Putting x page) seen.Missed last t did h = absurd t
+  change_end (change.Putting x page) seen.Refused last t did h = absurd t
+  change_end (change.Taking full) seen.Done last t did h = absurd t
+  change_end (change.Taking full) (seen.Words c) last t did h = absurd t
+  change_end (change.Taking full) (seen.Took n) last t did h = absurd t
+  change_end (change.Taking full) (seen.Owner retired started own) last t did h = absurd t
+  change_end (change.Taking full) (seen.Blocks it) last t did h = absurd t
+  change_end (change.Taking full) seen.Missed last t did h = absurd t
+  change_end (change.Taking full) seen.Refused last t did h = absurd t
+  change_end (change.PuttingNew p) seen.Done last t did h = absurd t
+  change_end (change.PuttingNew p) (seen.Words c) last t did h = absurd t
+  change_end (change.PuttingNew p) (seen.Took n) last t did h = absurd t
+  change_end (change.PuttingNew p) (seen.Owner retired started own) last t did h = absurd t
+  change_end (change.PuttingNew p) (seen.Blocks it) last t did h = absurd t
+  change_end (change.PuttingNew p) seen.Missed last t did h = absurd t
+  change_end (change.PuttingNew p) seen.Refused last t did h = absurd t
+  change_end (change.PuttingOld p) seen.Done last t did h = absurd t
+  change_end (change.PuttingOld p) (seen.Words c) last t did h = absurd t
+  change_end (change.PuttingOld p) (seen.Took n) last t did h = absurd t
+  change_end (change.PuttingOld p) (seen.Owner retired started own) last t did h = absurd t
+  change_end (change.PuttingOld p) (seen.Blocks it) last t did h = absurd t
+  change_end (change.PuttingOld p) seen.Missed last t did h = absurd t
+  change_end (change.PuttingOld p) seen.Refused last t did h = absurd t
+  change_end (change.OpeningNew x new separator) seen.Done last t did h = absurd t
+  change_end (change.OpeningNew x new separator) (seen.Words c) last t did h = absurd t
+  change_end (change.OpeningNew x new separator) (seen.Took n) last t did h = absurd t
+  change_end (change.OpeningNew x new separator) (seen.Owner retired started own) last t did h = absurd t
+  change_end (change.OpeningNew x new separator) (seen.Blocks it) last t did h = absurd t
+  change_end (change.OpeningNew x new separator) seen.Missed last t did h = absurd t
+  change_end (change.OpeningNew x new separator) seen.Refused last t did h = absurd t
+  change_end (change.Opening x o) seen.Done last t did h = outcome_reply last (outcome_on last (ap writes_in did) (subst (λ z. outcome_log level key z marks) (sym t) h))
+  change_end (change.Opening x o) (seen.Words c) last t did h = absurd t
+  change_end (change.Opening x o) (seen.Took n) last t did h = absurd t
+  change_end (change.Opening x o) (seen.Owner retired started own) last t did h = absurd t
+  change_end (change.Opening x o) (seen.Blocks it) last t did h = absurd t
+  change_end (change.Opening x o) seen.Missed last t did h = absurd t
+  change_end (change.Opening x o) seen.Refused last t did h = absurd t
 
   -- any step of a post
   pub post_on : (old new : PostStage) (what : Seen) → PostGoes level key old what new → m.event.act ≡ event_of None (post_next_in old) what → ((x : ℕ) (c : Page) → m.event.act ≡ Get x → what ≡ seen.Words c → m.saw ≡ Some c) → post_log level key old marks → post_log level key new more
   post_on (post.Coming a) new what t did saw h = come_on a new what t did saw h
   post_on post.New post.New seen.Done t did saw h = absurd t
-  post_on post.New (post.Coming b) seen.Done t did saw h = subst (λ z. approach_log z more) (sym t) tt
+  post_on post.New (post.Coming b) seen.Done t did saw h = subst (λ z. approach_log level z more) (sym t) (begun_now marks m (RaisesOnly level) did RaisesOnly.Never)
   post_on post.New (post.Growing k) seen.Done t did saw h = absurd t
   post_on post.New (post.Walking u) seen.Done t did saw h = absurd t
   post_on post.New (post.Changing d) seen.Done t did saw h = absurd t
@@ -654,8 +659,8 @@ module _ (marks : Trail) (m : Mark) (level key : ℕ) (least : 0 < level) where
   post_on post.New new seen.Missed t did saw h = absurd t
   post_on post.New new seen.Refused t did saw h = absurd t
   post_on (post.Growing g) (post.Growing k) what t did saw h = grow_on g k what t did h
-  post_on (post.Growing g) (post.Coming b) what t did saw h = subst (λ z. approach_log z more) (sym t.1) tt
-  post_on (post.Growing g) (post.Ending last) what t did saw h = subst (λ z. reply_log level key z more) (sym t.1) (grow_end g what t.0 h)
+  post_on (post.Growing g) (post.Coming b) what t did saw h = subst (λ z. approach_log level z more) (sym t.1) (grown_on g what t.0 did h)
+  post_on (post.Growing g) (post.Ending last) what t did saw h = subst (λ z. reply_log level key z more) (sym t.1) (grow_end g what t.0 did h)
   post_on (post.Growing g) post.New what t did saw h = absurd t
   post_on (post.Growing g) (post.Walking u) what t did saw h = absurd t
   post_on (post.Growing g) (post.Changing d) what t did saw h = absurd t
@@ -669,7 +674,7 @@ module _ (marks : Trail) (m : Mark) (level key : ℕ) (least : 0 < level) where
   post_on (post.Walking v) new seen.Missed t did saw h = absurd t
   post_on (post.Walking v) new seen.Refused t did saw h = absurd t
   post_on (post.Changing c) (post.Changing d) what t did saw h = change_on c d what t did h
-  post_on (post.Changing c) (post.Ending last) what t did saw h = subst (λ z. reply_log level key z more) (sym t.2) (change_end c what t.0 t.1 h)
+  post_on (post.Changing c) (post.Ending last) what t did saw h = subst (λ z. reply_log level key z more) (sym t.2) (change_end c what t.0 t.1 did h)
   post_on (post.Changing c) post.New what t did saw h = absurd t
   post_on (post.Changing c) (post.Coming b) what t did saw h = absurd t
   post_on (post.Changing c) (post.Growing k) what t did saw h = absurd t
@@ -682,7 +687,7 @@ module _ (marks : Trail) (m : Mark) (level key : ℕ) (least : 0 < level) where
   post_on (post.Staying x r) (post.Walking u) seen.Done t did saw h = absurd t
   post_on (post.Staying x r) (post.Changing d) seen.Done t did saw h = absurd t
   post_on (post.Staying x r) (post.Staying y last) seen.Done t did saw h = absurd t
-  post_on (post.Staying x r) (post.Ending last) seen.Done t did saw h = subst (λ z. reply_log level key z more) (sym t) (reply_on r h)
+  post_on (post.Staying x r) (post.Ending last) seen.Done t did saw h = subst (λ z. reply_log level key z more) (sym t) (reply_on r (ap writes_in did) h)
   post_on (post.Staying x r) (post.Over last) seen.Done t did saw h = absurd t
   post_on (post.Staying x r) new (seen.Words page) t did saw h = absurd t
   post_on (post.Staying x r) new (seen.Took n) t did saw h = absurd t
@@ -697,7 +702,7 @@ module _ (marks : Trail) (m : Mark) (level key : ℕ) (least : 0 < level) where
   post_on (post.Ending r) (post.Changing d) seen.Done t did saw h = absurd t
   post_on (post.Ending r) (post.Staying y last) seen.Done t did saw h = absurd t
   post_on (post.Ending r) (post.Ending last) seen.Done t did saw h = absurd t
-  post_on (post.Ending r) (post.Over last) seen.Done t did saw h = subst (λ z. reply_log level key z more) (sym t) (reply_on r h)
+  post_on (post.Ending r) (post.Over last) seen.Done t did saw h = subst (λ z. reply_log level key z more) (sym t) (reply_on r (ap writes_in did) h)
   post_on (post.Ending r) new (seen.Words page) t did saw h = absurd t
   post_on (post.Ending r) new (seen.Took n) t did saw h = absurd t
   post_on (post.Ending r) new (seen.Owner retired started own) t did saw h = absurd t
@@ -719,38 +724,41 @@ module _ (marks : Trail) (m : Mark) (level key : ℕ) (least : 0 < level) where
   post_on (post.Over r) new seen.Missed t did saw h = absurd t
   post_on (post.Over r) new seen.Refused t did saw h = absurd t
 
-  -- a mark that neither puts nor opens a page
-  module _ (put : put_in m.event.act ≡ []) (shut : (x : ℕ) → m.event.act ≢ Act.Open x) where
+  -- a mark that neither writes nor opens a page
+  module _ (quiet : writes_in m.event.act ≡ []) (shut : (x : ℕ) → m.event.act ≢ Act.Open x) where
+    put : ArePuts (writes_in m.event.act) []
+    put = subst (λ z. ArePuts z []) (sym quiet) tt
+
     both_stay : {x y : ℕ} {c : Page} (puts : _) → HoldsBoth level key marks x c y puts → HoldsBoth level key more x c y puts
     both_stay {x} {y} {c} puts h = subst (λ z. HoldsBoth level key more x c y z) (append-nil puts) (both_held_on marks m [] (shut x) put h)
 
     to_put_stays : {x : ℕ} (puts pages : _) → IsToPut level key marks x puts pages → IsToPut level key more x puts pages
     to_put_stays puts pages h = record { parent = h.parent; child = h.child; both = both_stay puts h.both; together = h.together }
 
-    approach_stays : (a : Approach) → approach_log a marks → approach_log a more
-    approach_stays way.Start h = tt
-    approach_stays (way.At x) h = tt
-    approach_stays (way.Latching x) h = tt
+    approach_stays : (a : Approach) → approach_log level a marks → approach_log level a more
+    approach_stays way.Start h = raised_on quiet h
+    approach_stays (way.At x) h = raised_on quiet h
+    approach_stays (way.Latching x) h = raised_on quiet h
     approach_stays (way.Latched x) h = held_on marks m [] (shut x) put h
-    approach_stays (way.Leaving x to) h = tt
+    approach_stays (way.Leaving x to) h = raised_on quiet h
 
-    growth_stays : (g : Growth) → growth_log g marks → growth_log g more
-    growth_stays growth.Latching h = tt
+    growth_stays : (g : Growth) → growth_log level g marks → growth_log level g more
+    growth_stays growth.Latching h = raised_on quiet h
     growth_stays growth.Latched h = held_on marks m [] (shut 0) put h
-    growth_stays (growth.Taking r) h = held_on marks m [] (shut 0) put h
-    growth_stays (growth.PuttingTop r) h = tt
-    growth_stays (growth.PuttingAnchor r) h = tt
-    growth_stays (growth.OpeningTop x) h = tt
-    growth_stays growth.OpeningGrown h = tt
-    growth_stays growth.OpeningRefused h = no_room_on marks m h
+    growth_stays (growth.Taking r) h = (held_on marks m [] (shut 0) put h.0, h.1)
+    growth_stays (growth.PuttingTop r) h = (raised_on quiet h.0, h.1)
+    growth_stays (growth.PuttingAnchor r) h = (wrote_still marks m _ quiet h.0, h.1)
+    growth_stays (growth.OpeningTop x) h = raised_on quiet h
+    growth_stays growth.OpeningGrown h = raised_on quiet h
+    growth_stays growth.OpeningRefused h = no_room_on marks m quiet h
 
     change_stays : (c : Change) → change_log level key c marks → change_log level key c more
     change_stays (change.Putting x page) h = to_put_stays [] (page ∷ []) h
     change_stays (change.Taking full) h = (both_stay [] h.0, h.1)
     change_stays (change.PuttingNew p) h = (to_put_stays [] (p.right ∷ p.left ∷ []) h.0, h.1)
     change_stays (change.PuttingOld p) h = (to_put_stays (p.right ∷ []) (p.right ∷ p.left ∷ []) h.0, h.1)
-    change_stays (change.OpeningNew x new separator) h = parted_on marks m h
-    change_stays (change.Opening x o) h = outcome_on o h
+    change_stays (change.OpeningNew x new separator) h = parted_on marks m quiet h
+    change_stays (change.Opening x o) h = outcome_on o quiet h
 
     pub post_stays : (old : PostStage) → post_log level key old marks → post_log level key old more
     post_stays post.New h = tt
@@ -758,6 +766,6 @@ module _ (marks : Trail) (m : Mark) (level key : ℕ) (least : 0 < level) where
     post_stays (post.Growing g) h = growth_stays g h
     post_stays (post.Walking v) h = (parent_held_on marks m [] (shut v.at) put h.0, h.1)
     post_stays (post.Changing c) h = change_stays c h
-    post_stays (post.Staying x r) h = reply_on r h
-    post_stays (post.Ending r) h = reply_on r h
-    post_stays (post.Over r) h = reply_on r h
+    post_stays (post.Staying x r) h = reply_on r quiet h
+    post_stays (post.Ending r) h = reply_on r quiet h
+    post_stays (post.Over r) h = reply_on r quiet h

@@ -12,7 +12,7 @@ abbrev pub MeansPosted : ℕ → ℕ → Posted → Trail → Type 0
 MeansPosted level key posted.Done marks = MeansDone level key marks
 MeansPosted level key posted.Already marks = MeansAlready level key marks
 MeansPosted level key posted.Stale marks = MeansStale level key marks
-MeansPosted level key posted.NoRoom marks = MeansNoRoom marks
+MeansPosted level key posted.NoRoom marks = MeansNoRoom level marks
 MeansPosted level key posted.TooTall marks = MeansTooTall level marks
 
 -- The hint beside it: a parent that was parted is itself to be posted, by its separator and one level higher. No other answer

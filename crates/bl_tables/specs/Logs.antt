@@ -1,5 +1,6 @@
 -- What a process has done so far, in each of its states: enough to tell in the end what its answer and its hint mean.
-use Rattle.std.specs.Prelude.{◌≡◌, ◌≢◌, ℕ, suc, Option, None, Some, ◌++◌, List, [], ◌∷◌, Contains}
+use Rattle.std.specs.Prelude.{◌≡◌, ◌≢◌, ℕ, suc, Option, None, Some, ◌++◌, List, [], ◌∷◌, length, Contains}
+use Rattle.bl_model.specs.declared.operation.Reply.{Reply}
 use Rattle.bl_page.specs.declared.page.Page.{Page}
 use Rattle.bl_page.specs.declared.page.Page.TheVariants.{Inner}
 use Rattle.bl_page.specs.Machine.{Act}
@@ -7,7 +8,7 @@ use Rattle.bl_page.specs.Machine.Act.{Get, Latch}
 use Rattle.bl_tree.specs.Nodes.{Covers}
 use Rattle.bl_laws.specs.Pages.{node_of}
 use Rattle.bl_trails.specs.Trails.{Mark, Trail}
-use Rattle.bl_trails.specs.Meanings.{HasGot, puts_of, ListTogether, MeansParted, MeansAlready, MeansStale, MeansTooTall, MeansNoRoom}
+use Rattle.bl_trails.specs.Meanings.{HasGot, writes_of, Wrote, RaisesOnly, HasRaised, ArePuts, ListTogether, MeansParted, MeansAlready, MeansStale, MeansTooTall, MeansNoRoom}
 use Rattle.bl_ways.specs.declared.approaching.Approach.{Approach}
 use Rattle.bl_ways.specs.declared.approaching.Approach.TheVariants as way
 use Rattle.bl_ways.specs.declared.changing.Outcome.{Outcome}
@@ -46,19 +47,20 @@ use Rattle.bl_tables.specs.Hinted.{PutSince, HasParted}
 use Rattle.bl_proc.specs.declared.kinds.Proc.{Proc}
 use Rattle.bl_proc.specs.declared.kinds.Proc.TheVariants as proc
 
--- page x is held since it was latched, and these pages were put since
-pub record Holding (marks : Trail) (x : ℕ) (puts : List Page) : Type 0 where
+-- page x is held since it was latched, when nothing was written but new top levels; these pages were put since
+pub record Holding (level : ℕ) (marks : Trail) (x : ℕ) (puts : List Page) : Type 0 where
   pub before : Trail
+  pub first : HasRaised level before
   pub latch : Mark
   pub during : Trail
   pub split : marks ≡ before ++ latch ∷ during
   pub latched : latch.event.act ≡ Latch x
   pub kept : (mark : Mark) → Contains during mark → mark.event.act ≢ Act.Open x
-  pub puts_are : puts_of during ≡ puts
+  pub puts_are : ArePuts (writes_of during) puts
 
 -- the page is a parent of the key, as the process got it since
 pub record HoldsParent (level key : ℕ) (marks : Trail) (x : ℕ) (parent : Page) (puts : List Page) : Type 0 where
-  pub holding : Holding marks x puts
+  pub holding : Holding level marks x puts
   pub got : HasGot holding.during x parent
   pub level_is : (node_of parent).shape.level ≡ level
   pub covers : Covers (node_of parent).shape key
@@ -73,12 +75,12 @@ pub record HoldsBoth (level key : ℕ) (marks : Trail) (x : ℕ) (parent : Page)
   pub child_covers : Covers (node_of child).shape key
   pub low : (node_of child).shape.low ≡ key
 
-abbrev pub approach_log : Approach → Trail → Type 0
-approach_log way.Start marks = Unit {0}
-approach_log (way.At x) marks = Unit {0}
-approach_log (way.Latching x) marks = Unit {0}
-approach_log (way.Latched x) marks = Holding marks x []
-approach_log (way.Leaving x to) marks = Unit {0}
+abbrev pub approach_log : ℕ → Approach → Trail → Type 0
+approach_log level way.Start marks = HasRaised level marks
+approach_log level (way.At x) marks = HasRaised level marks
+approach_log level (way.Latching x) marks = HasRaised level marks
+approach_log level (way.Latched x) marks = Holding level marks x []
+approach_log level (way.Leaving x to) marks = HasRaised level marks
 
 -- What a change is to put, when it has put these pages: all that lists together what it is to list.
 pub record IsToPut (level key : ℕ) (marks : Trail) (x : ℕ) (puts pages : List Page) : Type 0 where
@@ -90,7 +92,7 @@ pub record IsToPut (level key : ℕ) (marks : Trail) (x : ℕ) (puts pages : Lis
 abbrev pub outcome_log : ℕ → ℕ → Outcome → Trail → Type 0
 outcome_log level key outcome.Changed marks = MeansParted level key None marks
 outcome_log level key (outcome.Parted separator) marks = MeansParted level key (Some separator) marks
-outcome_log level key outcome.Refused marks = MeansNoRoom marks
+outcome_log level key outcome.Refused marks = MeansNoRoom level marks
 
 abbrev pub change_log : ℕ → ℕ → Change → Trail → Type 0
 change_log level key (change.Putting x page) marks = IsToPut level key marks x [] (page ∷ [])
@@ -100,28 +102,32 @@ change_log level key (change.PuttingOld p) marks = IsToPut level key marks p.at 
 change_log level key (change.OpeningNew x new separator) marks = MeansParted level key (Some separator) marks
 change_log level key (change.Opening x o) marks = outcome_log level key o marks
 
-abbrev pub growth_log : Growth → Trail → Type 0
-growth_log growth.Latching marks = Unit {0}
-growth_log growth.Latched marks = Holding marks 0 []
-growth_log (growth.Taking rise) marks = Holding marks 0 []
-growth_log (growth.PuttingTop r) marks = Unit {0}
-growth_log (growth.PuttingAnchor r) marks = Unit {0}
-growth_log (growth.OpeningTop x) marks = Unit {0}
-growth_log growth.OpeningGrown marks = Unit {0}
-growth_log growth.OpeningRefused marks = MeansNoRoom marks
+-- of a new top level the top page was put, and the anchor not yet
+abbrev pub HasHalfRaised : ℕ → ℕ → Page → Trail → Type 0
+HasHalfRaised level x top marks = Wrote marks (λ acts. (before : List (Act Page Reply)) × RaisesOnly level before × (acts ≡ before ++ Act.Put x top ∷ []))
+
+abbrev pub growth_log : ℕ → Growth → Trail → Type 0
+growth_log level growth.Latching marks = HasRaised level marks
+growth_log level growth.Latched marks = Holding level marks 0 []
+growth_log level (growth.Taking rise) marks = Holding level marks 0 [] × (length rise.anchor.leftmost.items ≡ level)
+growth_log level (growth.PuttingTop r) marks = HasRaised level marks × ((node_of r.top).shape.level ≡ level)
+growth_log level (growth.PuttingAnchor r) marks = HasHalfRaised level r.new r.top marks × ((node_of r.top).shape.level ≡ level)
+growth_log level (growth.OpeningTop x) marks = HasRaised level marks
+growth_log level growth.OpeningGrown marks = HasRaised level marks
+growth_log level growth.OpeningRefused marks = MeansNoRoom level marks
 
 -- What the answer of a post means.
 abbrev pub reply_log : ℕ → ℕ → PostReply → Trail → Type 0
 reply_log level key (reply.Done separator) marks = MeansParted level key separator marks
 reply_log level key reply.Already marks = MeansAlready level key marks
 reply_log level key reply.Stale marks = MeansStale level key marks
-reply_log level key reply.NoRoom marks = MeansNoRoom marks
+reply_log level key reply.NoRoom marks = MeansNoRoom level marks
 reply_log level key reply.TooTall marks = MeansTooTall level marks
 
 abbrev pub post_log : ℕ → ℕ → PostStage → Trail → Type 0
 post_log level key post.New marks = Unit {0}
-post_log level key (post.Coming a) marks = approach_log a marks
-post_log level key (post.Growing g) marks = growth_log g marks
+post_log level key (post.Coming a) marks = approach_log level a marks
+post_log level key (post.Growing g) marks = growth_log level g marks
 post_log level key (post.Walking w) marks = HoldsParent level key marks w.at (Inner w.parent) [] × (w.key ≡ key)
 post_log level key (post.Changing c) marks = change_log level key c marks
 post_log level key (post.Staying x r) marks = reply_log level key r marks

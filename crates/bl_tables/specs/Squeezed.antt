@@ -10,7 +10,7 @@ use Rattle.bl_laws.specs.Pages.{node_of, roots_of}
 use Rattle.bl_rearrange.specs.declared.sides.Side.{Side}
 use Rattle.bl_rearrange.specs.declared.sides.Side.TheVariants as side
 use Rattle.bl_trails.specs.Trails.{Mark, Trail}
-use Rattle.bl_trails.specs.Meanings.{HasGot}
+use Rattle.bl_trails.specs.Meanings.{HasGot, writes_of, Wrote}
 use Rattle.bl_page.specs.declared.page.Inner.{Inner as InnerPage}
 use Rattle.bl_ways.specs.declared.answers.Hint.{Hint}
 use Rattle.bl_ways.specs.declared.answers.Squeezed.{Squeezed}
@@ -40,32 +40,9 @@ abbrev pub acts_of : Trail → List (Act Page Reply)
 acts_of [] = []
 acts_of (m ∷ ms) = acts_in m.event.act ++ acts_of ms
 
--- what of it writes: puts, retirements and releases
-abbrev pub writes_in : Act Page Reply → List (Act Page Reply)
-writes_in Begin = []
-writes_in (End answer) = []
-writes_in (Get x) = []
-writes_in (Put x c) = Put x c ∷ []
-writes_in (Take x) = []
-writes_in (Latch x) = []
-writes_in (Act.Open x) = []
-writes_in (Retire x) = Retire x ∷ []
-writes_in (Look what) = []
-writes_in (Release x) = Release x ∷ []
-writes_in Miss = []
-
-abbrev pub writes_of : Trail → List (Act Page Reply)
-writes_of [] = []
-writes_of (m ∷ ms) = writes_in m.event.act ++ writes_of ms
-
 -- the process has begun, and has put, retired and released nothing since
-pub record Unwritten (marks : Trail) : Type 0 where
-  pub earlier : Trail
-  pub begin : Mark
-  pub since : Trail
-  pub split : marks ≡ earlier ++ begin ∷ since
-  pub begun : begin.event.act ≡ Begin
-  pub none : writes_of since ≡ []
+abbrev pub Unwritten : Trail → Type 0
+Unwritten marks = Wrote marks (λ acts. acts ≡ [])
 
 -- page x was latched when nothing had been written yet, and this is all that was done since
 pub record Since (marks : Trail) (x : ℕ) (acts : List (Act Page Reply)) : Type 0 where

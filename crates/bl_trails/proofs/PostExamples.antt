@@ -11,13 +11,17 @@ use Rattle.bl_page.specs.Machine.Act.{Begin, End, Get, Put, Latch}
 use Rattle.bl_tree.specs.Nodes.{Covers}
 use Rattle.bl_laws.specs.Pages.{node_of, roots_of}
 use Rattle.bl_trails.specs.Trails.{Mark, Trail}
-use Rattle.bl_trails.specs.Meanings.{HasGot, ListTogether, MeansDone, MeansAlready, MeansStale}
+use Rattle.bl_trails.specs.Meanings.{HasGot, RaisesOnly, HasRaised, ListTogether, MeansDone, MeansAlready, MeansStale}
 
 abbrev plain : Act Page Reply → Mark
 plain act = record { event = record { process = record { pass = 1; number = 0 }; act = act }; saw = None; said = None }
 
 abbrev got : ℕ → Page → Mark
 got x c = record (plain (Get x)) { saw = Some c }
+
+-- it has begun and got the anchor
+nothing_yet : (anchor : Page) (level : ℕ) → HasRaised level (plain Begin ∷ got 0 anchor ∷ [])
+nothing_yet anchor level = record { earlier = []; begin = plain Begin; since = got 0 anchor ∷ []; split = refl; begun = refl; is = RaisesOnly.Never }
 
 only : (m n : Mark) → Contains (m ∷ []) n → m ≡ n
 only m n c = elim (Contains-push_cases [] m n c) [ inl i ↦ absurd (omega (arith, i.1)) | inr e ↦ e ]
@@ -37,7 +41,11 @@ listed_before anchor parent level covers lists = record {
       during = got 3 parent ∷ [];
       after = plain (Act.Open 3) ∷ plain (End None) ∷ [];
       split = refl;
+      first = nothing_yet anchor 1;
       latched = refl;
+      wrote = [];
+      puts_are = tt;
+      no_more = refl;
       kept = λ m c o. (let e : Get 3 ≡ Act.Open 3 = ap (λ z. z.event.act) (only (got 3 parent) m c) ∙ o in cc);
     };
     parent = parent;
@@ -45,13 +53,14 @@ listed_before anchor parent level covers lists = record {
     level_is = level;
     covers = covers;
   };
+  none = refl;
   child = 2;
   listed = lists;
 }
 
 -- the anchor has one level, and the post is to level 2
 too_low : (anchor : Page) → (roots_of anchor).levels ≡ 1 → MeansStale 2 9 (plain Begin ∷ got 0 anchor ∷ plain (End None) ∷ [])
-too_low anchor levels = inl (record { anchor = anchor; got = record { mark = got 0 anchor; is = (1, omega arith, refl); act = refl; saw = refl }; few = omega (arith, levels) })
+too_low anchor levels = inl (record { first = record { earlier = []; begin = plain Begin; since = got 0 anchor ∷ plain (End None) ∷ []; split = refl; begun = refl; is = RaisesOnly.Never }; anchor = anchor; got = record { mark = got 0 anchor; is = (1, omega arith, refl); act = refl; saw = refl }; few = omega (arith, levels) })
 
 -- page 3 lists page 1 by the key 0, and page 2 with the low 9 is reached from page 1
 module _ (anchor parent left right new : Page) (level : (node_of parent).shape.level ≡ 1) (covers : Covers (node_of parent).shape 9) (below : (node_of right).shape.level ≡ 0) (right_covers : Covers (node_of right).shape 9) (low : (node_of right).shape.low ≡ 9)
@@ -81,7 +90,11 @@ module _ (anchor parent left right new : Page) (level : (node_of parent).shape.l
         during = walked;
         after = plain (Act.Open 3) ∷ plain (End None) ∷ [];
         split = refl;
+        first = nothing_yet anchor 1;
         latched = refl;
+        wrote = new ∷ [];
+        puts_are = ((3, refl), tt);
+        no_more = refl;
         kept = no_opening;
       };
       parent = parent;
