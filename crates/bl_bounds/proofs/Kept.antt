@@ -1,5 +1,5 @@
 -- What each process keeps, at each kind of turn.
-use Rattle.std.proofs.Common.{◌≡◌, [], refl}
+use Rattle.std.proofs.Common.{◌≡◌, []}
 use Rattle.bl_page.specs.Machine.{Name}
 use Rattle.bl_trails.specs.Trails.{Mark, marks_of}
 use Rattle.bl_steps.specs.Worlds.{Stage, World, IsGood, Extends}

@@ -1,5 +1,5 @@
 -- A process begins, and ends: each keeps the rule, and the pass knows it.
-use Rattle.std.proofs.Common.{ℕ, ◌≡◌, ◌≢◌, ◌⊎◌, ◌+◌, ◌<◌, ◌≤◌, ◌++◌, Bool, true, false, if◌then◌else◌, Option, Some, None, List, [], ◌∷◌, length, set, refl, sym, ap, ◌∙◌, subst, inl, inr, arith, append-nil}
+use Rattle.std.proofs.Common.{ℕ, ◌≡◌, ◌≢◌, ◌+◌, ◌≤◌, ◌++◌, Bool, true, false, if◌then◌else◌, Option, Some, None, List, [], ◌∷◌, length, refl, sym, ap, ◌∙◌, subst, inl, inr, arith, append-nil}
 use mathlib.Core.Option.{some, some-injective}
 use mathlib.Core.Option as lists
 use lib.ListN.{get_elem?}
@@ -11,7 +11,7 @@ use Rattle.bl_page.specs.Machine.{Name, State, Act}
 use Rattle.bl_page.specs.Machine as machine
 use Rattle.bl_trails.specs.Trails.{Said, Mark, Trail, entries_at, marks_of, IsMarked}
 use Rattle.bl_trails.proofs.Pushes.{name_cases, not_same, marks_of-own, SaysAt-last, DoesAt-last}
-use Rattle.bl_steps.specs.Worlds.{World, Each, IsGood}
+use Rattle.bl_steps.specs.Worlds.{World, Each}
 use Rattle.bl_steps.proofs.Frames.{Each-map}
 use Rattle.bl_steps.proofs.After.{put_name, is_put_name}
 use Rattle.bl_starts.specs.Blank.{IsBlank}
@@ -21,7 +21,7 @@ use Rattle.bl_proc.specs.declared.kinds.Proc.{Proc}
 use Rattle.bl_proc.specs.Processes.{next_of}
 use Rattle.bl_tables.specs.Logs.{proc_log}
 use Rattle.bl_tables.specs.Turns.{Does, Turned}
-use Rattle.bl_tables.specs.Knowing.{Run, bare as know, know_of, end_of_proc, run_next}
+use Rattle.bl_tables.specs.Knowing.{Run, bare as know, end_of_proc, run_next}
 use Rattle.bl_tables.proofs.Starting.{with_proc, bare_enters_good as enters_good}
 use Rattle.bl_tables.proofs.Logged.{early_log}
 use Rattle.bl_tables.proofs.Middles.{KeepsLogs}
@@ -34,12 +34,12 @@ use Rattle.bl_bounds.proofs.Latching.{looks_up}
 use Rattle.bl_bounds.proofs.Kept.{left_kept, enter_kept}
 use Rattle.bl_courses.specs.Courses.{GoesOn}
 use Rattle.bl_layout.specs.declared.layout.Layout.{Layout}
-use Rattle.bl_store.specs.Pages.{Owner, Held, Stage, Idle, Running, Pages, Stands, IsOrderly, HoldsNone, told, Begins as BeginsIn, Ends}
+use Rattle.bl_store.specs.Pages.{Held, Stage, Idle, Running, Pages, Stands, IsOrderly, HoldsNone, told, Begins as BeginsIn, Ends}
 use Rattle.bl_passes.specs.declared.known.Mine.{Mine}
 use Rattle.bl_passes.specs.Noting.{trail_of}
 use Rattle.bl_passes.specs.Seeing.{own}
 use Rattle.bl_passes.specs.Fitting.{name, owner_in, IsAtStage, IsHand, Fits}
-use Rattle.bl_passes.specs.Told.{MayGiveUp, IsUnborn, Notes, Begins, Finishes, begins, ends, gives_up}
+use Rattle.bl_passes.specs.Told.{MayGiveUp, IsUnborn, Notes, Finishes, begins, ends, gives_up}
 use Rattle.bl_passes.proofs.Notings.{trail_back}
 use Rattle.bl_passes.proofs.Entries.{own-mine}
 use Rattle.bl_passes.proofs.Marks.{each_append}
@@ -97,8 +97,8 @@ module _ (s : Pages Mine) (f : Fits s) (n : ℕ) (d : Mine) (at : Stands s n Idl
   none_yet =
       let h = f.hands n Idle d at in
       no_marks next_name f.world.trail (subst (Each (λ (m : Mark). m.event.process ≢ next_name)) (sym h.begins.1) (each_append _ (trail_of d.trail) h.begins.0
-          (Each-map _ _ (trail_of d.trail) (λ (m : Mark) (up : m.event.process.pass ≡ n → m.event.process.number ≤ d.number) (e : m.event.process ≡ next_name). (let few = up (pass_of _ _ e) in let is : m.event.process.number ≡ d.number + 1 = number_of _ _ e in absurd (omega arith))) h.counted)
-          (Each-map _ _ h.begins.0 (λ (m : Mark) (ne : m.event.process.pass ≢ n) (e : m.event.process ≡ next_name). ne (pass_of _ _ e)) h.begins.2)))
+      (Each-map _ _ (trail_of d.trail) (λ (m : Mark) (up : m.event.process.pass ≡ n → m.event.process.number ≤ d.number) (e : m.event.process ≡ next_name). (let few = up (pass_of _ _ e) in let is : m.event.process.number ≡ d.number + 1 = number_of _ _ e in absurd (omega arith))) h.counted)
+      (Each-map _ _ h.begins.0 (λ (m : Mark) (ne : m.event.process.pass ≢ n) (e : m.event.process ≡ next_name). ne (pass_of _ _ e)) h.begins.2)))
 
   pub entered : Fits s
   entered = record {

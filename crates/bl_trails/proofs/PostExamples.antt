@@ -1,6 +1,6 @@
 -- Three posts that run alone, by what they did: one that a parent lists already, one for which the tree has no level, and one
 -- that enters page 2 in page 3 by the key 9.
-use Rattle.std.proofs.Common.{ℕ, ◌≡◌, ◌≢◌, ◌⊎◌, ◌<◌, ◌==◌, zero, suc, if◌then◌else◌, Option, Some, None, [], ◌∷◌, arith, ap, sym, ◌∙◌, refl, inl, inr}
+use Rattle.std.proofs.Common.{ℕ, ◌≡◌, ◌≢◌, ◌==◌, zero, suc, if◌then◌else◌, Some, None, [], ◌∷◌, arith, ap, sym, ◌∙◌, refl, inl, inr}
 use Rattle.std.specs.Prelude.{Contains}
 use Rattle.std.proofs.lemmas.Bool.{cases_eq}
 use Rattle.std.proofs.lemmas.List.Elements.{Contains-push_cases}
@@ -11,7 +11,7 @@ use Rattle.bl_page.specs.Machine.Act.{Begin, End, Get, Put, Latch}
 use Rattle.bl_tree.specs.Nodes.{Covers}
 use Rattle.bl_laws.specs.Pages.{node_of, roots_of}
 use Rattle.bl_trails.specs.Trails.{Mark, Trail}
-use Rattle.bl_trails.specs.Meanings.{HasGot, ListTogether, MeansDone, MeansAlready, MeansStale}
+use Rattle.bl_trails.specs.Meanings.{MeansDone, MeansAlready, MeansStale}
 
 abbrev plain : Act Page Reply → Mark
 plain act = record { event = record { process = record { pass = 1; number = 0 }; act = act }; saw = None; said = None }
