@@ -148,9 +148,9 @@ begins_process l n d process next unborn course s g o at =
     let does : Does w.now p Act.Begin s1 = record { changes = (λ x. refl, λ x. refl, (s.clock, g.clock, omega arith, phase)); on = g.clock } in
     let t : Turned know w p Act.Begin s1 (run_next w.now (w.proc p) seen.Done course.new) = turn_of w p process seen.Done s1 f.good (ap (λ (r : Run). r.state) here) course act.Begin next tt tt does in
     let b' = run_next w.now (w.proc p) seen.Done course.new in
-    let kept : AllKept t.next = state_kept w t.next p process b' seen.Done act.Begin _ refl (ap (λ (r : Run). r.state) here) next t.extends f.good t.good course.takes tt f.kept in
     let h = g.hands n Idle d at in
     let early : proc_log process (marks_of p w.trail) = early_log b blank.stage (marks_of p w.trail) in
+    let kept : AllKept t.next = state_kept w t.next p process b' seen.Done act.Begin _ refl (ap (λ (r : Run). r.state) here) next t.extends f.good t.good early course.takes tt f.kept in
     let log : proc_log course.new (marks_of p t.next.trail) = log_after w p process seen.Done course act.Begin s1 b' t next tt early in
     let past : List Entry = own n (trail_of d.trail) in
     let silent : entries_at p (know (w.proc p)).said ≡ [] = ap (entries_at p) (ap (λ (r : Run). (know r).said) here ∙ blank.said) in

@@ -54,7 +54,7 @@ module _ (s : Pages Mine) (f : Fits s) (n since : ℕ) (d : Mine) (at : Stands s
 
     -- each process has kept by then what it keeps
     pub then_kept : AllKept turned.next
-    then_kept = state_kept f.world turned.next mine d.state (run_next f.world.now (f.world.proc mine) what course.new) what a _ refl standing.3 next turned.extends f.good turned.good course.takes said f.kept
+    then_kept = state_kept f.world turned.next mine d.state (run_next f.world.now (f.world.proc mine) what course.new) what a _ refl standing.3 next turned.extends f.good turned.good standing.5 course.takes said f.kept
 
     -- what it has done by then
     pub then_log : proc_log course.new (marks_of mine turned.next.trail)
