@@ -1,5 +1,5 @@
 -- What each process keeps, at each kind of turn.
-use Rattle.std.proofs.Common.{◌≡◌, [], refl}
+use Rattle.std.proofs.Common.{◌≡◌, []}
 use Rattle.bl_page.specs.Machine.{Name}
 use Rattle.bl_trails.specs.Trails.{Mark, marks_of}
 use Rattle.bl_steps.specs.Worlds.{Stage, World, IsGood, Extends}
@@ -7,6 +7,7 @@ use Rattle.bl_ways.specs.declared.acts.Seen.{Seen}
 use Rattle.bl_proc.specs.declared.posting.Post.{Post}
 use Rattle.bl_proc.specs.declared.kinds.Proc.TheVariants as proc
 use Rattle.bl_proc.specs.Processes.{next_of, Takes}
+use Rattle.bl_tables.specs.Logs.{proc_log}
 use Rattle.bl_tables.specs.Turns.{event_of, IsTold}
 use Rattle.bl_tables.specs.Knowing.{Run, bare, end_of_proc}
 use Rattle.bl_tables.proofs.Starting.{with_proc}
@@ -21,11 +22,11 @@ use Rattle.bl_bounds.proofs.Held.{owned_on, owned_first}
 use Rattle.bl_bounds.proofs.Latching.{tidy_turn, tidy_still, tidy_left, tidy_enter, tidy_first}
 
 -- A turn of a process that is told something of its next action, truly.
-pub turn_kept : (w w' : World Run) (m : Mark) (b : Run) (what : Seen) → Extends w w' m b → IsGood bare w → IsGood bare w' → Takes (w.proc m.event.process).state what b.state → IsTold w.now w.size (next_of (w.proc m.event.process).state) what → m.event.act ≡ event_of (end_of_proc (w.proc m.event.process).state) (next_of (w.proc m.event.process).state) what → AllKept w → AllKept w'
-turn_kept w w' m b what e g g' t told act all = record {
+pub turn_kept : (w w' : World Run) (m : Mark) (b : Run) (what : Seen) → Extends w w' m b → IsGood bare w → IsGood bare w' → proc_log (w.proc m.event.process).state (marks_of m.event.process w.trail) → Takes (w.proc m.event.process).state what b.state → IsTold w.now w.size (next_of (w.proc m.event.process).state) what → m.event.act ≡ event_of (end_of_proc (w.proc m.event.process).state) (next_of (w.proc m.event.process).state) what → AllKept w → AllKept w'
+turn_kept w w' m b what e g g' log t told act all = record {
   paced = turn_paced w w' m b what e g g' t told act all.paced;
   owned = owned_on w w' m b e all.owned;
-  tidy = tidy_turn w w' m b what e g all.owned t act all.tidy;
+  tidy = tidy_turn w w' m b what e g all.owned log t act all.tidy;
 }
 
 -- A turn at which the process stays as it is, and neither gets, puts, latches nor takes a page.

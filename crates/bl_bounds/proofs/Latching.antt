@@ -1,12 +1,12 @@
 -- What a process holds at its latches, by its kind.
-use Rattle.std.proofs.Common.{ℕ, ◌≡◌, ◌≢◌, ◌⊎◌, ◌<◌, ◌++◌, Option, Some, zero, suc, List, [], ◌∷◌, length, take, slice_get, arith, ap, sym, ◌∙◌, refl, inl, inr, subst}
+use Rattle.std.proofs.Common.{ℕ, ◌≡◌, ◌≢◌, ◌⊎◌, ◌<◌, ◌++◌, Option, Some, zero, suc, [], ◌∷◌, length, take, slice_get, arith, ap, sym, ◌∙◌, refl, inl, inr, subst}
 use Rattle.bl_model.specs.declared.operation.Reply.{Reply}
 use Rattle.bl_page.specs.declared.page.Page.{Page}
 use Rattle.bl_page.specs.Machine.{Name}
 use Rattle.bl_page.specs.Machine.Act.{Put, Take, Latch}
 use Rattle.bl_trails.specs.Trails.{Mark, Trail, marks_of}
 use Rattle.bl_trails.proofs.Pushes.{name_cases, marks_of-own, marks_of-other}
-use Rattle.bl_steps.specs.Worlds.{World, Hold, Holds, IsGood, Extends}
+use Rattle.bl_steps.specs.Worlds.{Know, World, Holds, IsGood, Extends}
 use Rattle.bl_ways.specs.declared.acts.Action.{Action}
 use Rattle.bl_ways.specs.declared.acts.Action.TheVariants as act
 use Rattle.bl_ways.specs.declared.acts.Seen.{Seen}
@@ -50,12 +50,13 @@ use Rattle.bl_proc.specs.Posts.{post_next_in}
 use Rattle.bl_proc.specs.Processes.{next_of, Takes}
 use Rattle.bl_tables.specs.Turns.{event_of}
 use Rattle.bl_tables.specs.Tables.{know_approach}
+use Rattle.bl_tables.specs.Logs.{squeeze_log, compress_log, proc_log}
 use Rattle.bl_tables.specs.Compressing.{know_squeeze}
 use Rattle.bl_tables.specs.Knowing.{Run, know_growth, know_insert, know_delete, know_post, know_compress, know_of, bare, end_of_proc}
 use Rattle.bl_steps.proofs.After.{is_put_name}
 use Rattle.bl_tables.proofs.Starting.{with_proc}
 use Rattle.bl_bounds.specs.Searches.{IsSearch}
-use Rattle.bl_bounds.specs.Latches.{Keeps, LatchesAlone, LatchesBeside, IsLook, OnlyLooks, IsTidy, AllOwned, AllTidy}
+use Rattle.bl_bounds.specs.Latches.{Keeps, LatchesAlone, HoldsFamily, LatchesBeside, IsLook, OnlyLooks, IsTidy, AllOwned, AllTidy}
 use Rattle.bl_bounds.proofs.Counts.{take_front}
 
 -- A list goes on by one mark
@@ -76,6 +77,10 @@ take_now xs m i e = ap (λ n. take n (xs ++ m ∷ [])) e ∙ (take_front xs m (l
     whole [] = refl
     whole (y ∷ ys) = ap (λ z. y ∷ z) (whole ys)
 
+-- no page, or the parent and the left child at most
+abbrev HoldsFew : ℕ → ℕ → Trail → Type 0
+HoldsFew level key marks = ((y : ℕ) → Keeps marks y → ⊥) ⊎ HoldsFamily level key marks
+
 module _ (marks : Trail) (m : Mark) where
   alone_on : LatchesAlone marks → ((x y : ℕ) → m.event.act ≡ Latch x → Keeps marks y → ⊥) → LatchesAlone (marks ++ m ∷ [])
   alone_on h now i n x y is does keeps = elim (push_cases marks m i n is) [
@@ -83,10 +88,10 @@ module _ (marks : Trail) (m : Mark) where
     | inr e ↦ now x y (ap (λ (v : Mark). v.event.act) e.1 ∙ does) (subst (λ t. Keeps t y) (take_now marks m i e.0) keeps)
   ]
 
-  beside_on : LatchesBeside marks → ((x : ℕ) → m.event.act ≡ Latch x → (a : ℕ) × (b : ℕ) × ((y : ℕ) → Keeps marks y → (y ≡ a) ⊎ (y ≡ b))) → LatchesBeside (marks ++ m ∷ [])
-  beside_on h now i n x is does = elim (push_cases marks m i n is) [
-    | inl e ↦ (let r = h i n x e.0 does in (r.0, r.1, λ y keeps. r.2 y (subst (λ t. Keeps t y) (take_front marks m i (omega (arith, e.1))) keeps)))
-    | inr e ↦ (let r = now x (ap (λ (v : Mark). v.event.act) e.1 ∙ does) in (r.0, r.1, λ y keeps. r.2 y (subst (λ t. Keeps t y) (take_now marks m i e.0) keeps)))
+  beside_on : (level key : ℕ) → LatchesBeside level key marks → ((x : ℕ) → m.event.act ≡ Latch x → HoldsFew level key marks) → LatchesBeside level key (marks ++ m ∷ [])
+  beside_on level key h now i n x is does = elim (push_cases marks m i n is) [
+    | inl e ↦ subst (HoldsFew level key) (sym (take_front marks m i (omega (arith, e.1)))) (h i n x e.0 does)
+    | inr e ↦ subst (HoldsFew level key) (sym (take_now marks m i e.0)) (now x (ap (λ (v : Mark). v.event.act) e.1 ∙ does))
   ]
 
   looks_on : OnlyLooks marks → IsLook m.event.act → OnlyLooks (marks ++ m ∷ [])
@@ -192,37 +197,30 @@ post_alone level key got child (post.Staying y r) x e = absurd (cc e)
 post_alone level key got child (post.Ending r) x e = refl
 post_alone level key got child (post.Over r) x e = refl
 
--- these two pages at most
-abbrev AreTwo : List Hold → Type 0
-AreTwo holds = (a : ℕ) × (b : ℕ) × ((y : ℕ) → Holds holds y → (y ≡ a) ⊎ (y ≡ b))
-
 put_never : (sd : Side) (p : Puts) (x : ℕ) → put_of sd p ≢ act.Latch x
 put_never side.Left p x e = cc
 put_never side.Right p x e = cc
 
-squeeze_two : (level key : ℕ) (got : ℕ → Page) (c : Compression) (x : ℕ) → compression_next c ≡ act.Latch x → AreTwo (know_squeeze level key got c).holds
-squeeze_two level key got (LatchingLeft f) x e = (f.at.parent, f.at.parent, λ y h. elim h [ inl i ↦ inl (sym i) | inr n ↦ absurd n ])
-squeeze_two level key got (LatchedLeft f) x e = absurd (cc e)
-squeeze_two level key got (LatchingRight f c) x e = (f.at.parent, f.at.left, λ y h. elim h [ inl i ↦ inl (sym i) | inr n ↦ elim n [ inl j ↦ inr (sym j) | inr o ↦ absurd o ] ])
-squeeze_two level key got (LatchedRight f c) x e = absurd (cc e)
-squeeze_two level key got (PuttingFirst p) x e = absurd (put_never p.gains p x e)
-squeeze_two level key got (PuttingParent p) x e = absurd (cc e)
-squeeze_two level key got (PuttingLast p) x e = absurd (put_never (other p.gains) p x e)
-squeeze_two level key got (Retiring t f) x e = absurd (cc e)
-squeeze_two level key got (OpeningRight t f) x e = absurd (cc e)
-squeeze_two level key got (OpeningLeft t f) x e = absurd (cc e)
-squeeze_two level key got (OpeningParent y f) x e = absurd (cc e)
+squeeze_few : (level key : ℕ) (got : ℕ → Page) (c : Compression) (x : ℕ) (marks : Trail) → compression_next c ≡ act.Latch x → squeeze_log level key c marks → ((y : ℕ) → Keeps marks y → Holds (know_squeeze level key got c).holds y) → HoldsFew level key marks
+squeeze_few level key got (LatchingLeft f) x marks e log h = inr (record { family = f; acts = _; at = log; no_more = λ y keeps. elim (h y keeps) [ inl i ↦ inl (sym i) | inr n ↦ absurd n ] })
+squeeze_few level key got (LatchedLeft f) x marks e log h = absurd (cc e)
+squeeze_few level key got (LatchingRight f c) x marks e log h = inr (record { family = f; acts = _; at = log.family; no_more = λ y keeps. elim (h y keeps) [ inl i ↦ inl (sym i) | inr n ↦ elim n [ inl j ↦ inr (sym j) | inr o ↦ absurd o ] ] })
+squeeze_few level key got (LatchedRight f c) x marks e log h = absurd (cc e)
+squeeze_few level key got (PuttingFirst p) x marks e log h = absurd (put_never p.gains p x e)
+squeeze_few level key got (PuttingParent p) x marks e log h = absurd (cc e)
+squeeze_few level key got (PuttingLast p) x marks e log h = absurd (put_never (other p.gains) p x e)
+squeeze_few level key got (Retiring t f) x marks e log h = absurd (cc e)
+squeeze_few level key got (OpeningRight t f) x marks e log h = absurd (cc e)
+squeeze_few level key got (OpeningLeft t f) x marks e log h = absurd (cc e)
+squeeze_few level key got (OpeningParent y f) x marks e log h = absurd (cc e)
 
-no_two : (holds : List Hold) → holds ≡ [] → AreTwo holds
-no_two holds e = (0, 0, λ y h. absurd (subst (λ hs. Holds hs y) e h))
-
-compress_two : (level key : ℕ) (got : ℕ → Page) (a : CompressStage) (x : ℕ) → compress_next_in a ≡ act.Latch x → AreTwo (know_compress level key got a).holds
-compress_two level key got compress.New x e = absurd (cc e)
-compress_two level key got (compress.Coming a) x e = no_two (know_approach level key a).holds (approach_alone level key a x e)
-compress_two level key got (compress.Compressing c) x e = squeeze_two level key got c x e
-compress_two level key got (compress.Staying y) x e = absurd (cc e)
-compress_two level key got (compress.Ending r) x e = absurd (cc e)
-compress_two level key got (compress.Over r) x e = absurd (cc e)
+compress_few : (level key : ℕ) (got : ℕ → Page) (a : CompressStage) (x : ℕ) (marks : Trail) → compress_next_in a ≡ act.Latch x → compress_log level key a marks → ((y : ℕ) → Keeps marks y → Holds (know_compress level key got a).holds y) → HoldsFew level key marks
+compress_few level key got compress.New x marks e log h = absurd (cc e)
+compress_few level key got (compress.Coming a) x marks e log h = inl (λ y keeps. subst (λ hs. Holds hs y) (approach_alone level key a x e) (h y keeps))
+compress_few level key got (compress.Compressing c) x marks e log h = squeeze_few level key got c x marks e log h
+compress_few level key got (compress.Staying y) x marks e log h = absurd (cc e)
+compress_few level key got (compress.Ending r) x marks e log h = absurd (cc e)
+compress_few level key got (compress.Over r) x marks e log h = absurd (cc e)
 
 find_looks : (a : FindStage) → ((x : ℕ) → find_next_in a ≢ act.Latch x) × (find_next_in a ≢ act.Take) × ((x : ℕ) (c : Page) → find_next_in a ≢ act.Put x c)
 find_looks find.New = (λ x e. cc, λ e. cc, λ x c e. cc)
@@ -242,31 +240,27 @@ part_looks (part.Over r) = (λ x e. cc, λ e. cc, λ x c e. cc)
 
 -- what the process holds is what it knows to hold
 module _ (w : World Run) (p : Name) (g : IsGood bare w) (owned : AllOwned w) where
-  none_kept : (got : ℕ → Page) (child time : ℕ) (a : Proc) → bare (w.proc p) ≡ know_of got child time a → (know_of got child time a).holds ≡ [] → (y : ℕ) → Keeps (marks_of p w.trail) y → ⊥
-  none_kept got child time a is none y keeps = subst (λ hs. Holds hs y) (ap (λ k. k.holds) is ∙ none) (g.owned.held y p (owned p y keeps))
-
-  two_kept : AreTwo (bare (w.proc p)).holds → (a : ℕ) × (b : ℕ) × ((y : ℕ) → Keeps (marks_of p w.trail) y → (y ≡ a) ⊎ (y ≡ b))
-  two_kept two = (two.0, two.1, λ y keeps. two.2 y (g.owned.held y p (owned p y keeps)))
-
   alone_turn : (m : Mark) → LatchesAlone (marks_of p w.trail) → ((x : ℕ) → m.event.act ≡ Latch x → (bare (w.proc p)).holds ≡ []) → LatchesAlone (marks_of p w.trail ++ m ∷ [])
   alone_turn m h none = alone_on (marks_of p w.trail) m h (λ x y e keeps. subst (λ hs. Holds hs y) (none x e) (g.owned.held y p (owned p y keeps)))
 
-  beside_turn : (m : Mark) → LatchesBeside (marks_of p w.trail) → ((x : ℕ) → m.event.act ≡ Latch x → AreTwo (bare (w.proc p)).holds) → LatchesBeside (marks_of p w.trail ++ m ∷ [])
-  beside_turn m h two = beside_on (marks_of p w.trail) m h (λ x e. two_kept (two x e))
+  holds_kept : (k : Know) → bare (w.proc p) ≡ k → (y : ℕ) → Keeps (marks_of p w.trail) y → Holds k.holds y
+  holds_kept k is y keeps = subst (λ (z : Know). Holds z.holds y) is (g.owned.held y p (owned p y keeps))
 
   looks_turn : (m : Mark) → OnlyLooks (marks_of p w.trail) → IsLook m.event.act → OnlyLooks (marks_of p w.trail ++ m ∷ [])
   looks_turn m h none = looks_on (marks_of p w.trail) m h none
 
   -- of a process of that state, which is told something of its next action
-  state_turn : (m : Mark) (got : ℕ → Page) (child time : ℕ) (old new : Proc) (what : Seen) → bare (w.proc p) ≡ know_of got child time old → Takes old what new → m.event.act ≡ event_of (end_of_proc old) (next_of old) what → IsTidy old (marks_of p w.trail) → IsTidy new (marks_of p w.trail ++ m ∷ [])
-  state_turn m got child time (proc.Find a) (proc.Find c) what is t e h = looks_turn m h (λ x. (let l = find_looks a.stage in (λ f. l.0 x (latch_next _ _ what x (sym e ∙ f)), λ f. l.1 (take_next _ _ what x (sym e ∙ f)), λ d f. l.2 x d (put_next _ _ what x d (sym e ∙ f)))))
-  state_turn m got child time (proc.Part a) (proc.Part c) what is t e h = looks_turn m h (λ x. (let l = part_looks a.stage in (λ f. l.0 x (latch_next _ _ what x (sym e ∙ f)), λ f. l.1 (take_next _ _ what x (sym e ∙ f)), λ d f. l.2 x d (put_next _ _ what x d (sym e ∙ f)))))
-  state_turn m got child time (proc.Insert a) (proc.Insert c) what is t e h = alone_turn m h (λ x f. ap (λ k. k.holds) is ∙ insert_alone a.key a.value got a.stage x (latch_next _ _ what x (sym e ∙ f)))
-  state_turn m got child time (proc.Delete a) (proc.Delete c) what is t e h = alone_turn m h (λ x f. ap (λ k. k.holds) is ∙ delete_alone a.key got a.stage x (latch_next _ _ what x (sym e ∙ f)))
-  state_turn m got child time (proc.Post a) (proc.Post c) what is t e h = alone_turn m h (λ x f. ap (λ k. k.holds) is ∙ post_alone a.level a.key got child a.stage x (latch_next _ _ what x (sym e ∙ f)))
-  state_turn m got child time (proc.Compress a) (proc.Compress c) what is t e h = beside_turn m h (λ x f. subst AreTwo (sym (ap (λ k. k.holds) is)) (compress_two a.level a.key got a.stage x (latch_next _ _ what x (sym e ∙ f))))
-  state_turn m got child time (proc.Reclaim a) (proc.Reclaim c) what is t e h = tt
-  state_turn m got child time old new what is t e h = absurd t
+  state_turn : (m : Mark) (got : ℕ → Page) (child time : ℕ) (old new : Proc) (what : Seen) → bare (w.proc p) ≡ know_of got child time old → proc_log old (marks_of p w.trail) → Takes old what new → m.event.act ≡ event_of (end_of_proc old) (next_of old) what → IsTidy old (marks_of p w.trail) → IsTidy new (marks_of p w.trail ++ m ∷ [])
+  state_turn m got child time (proc.Find a) (proc.Find c) what is log t e h = looks_turn m h (λ x. (let l = find_looks a.stage in (λ f. l.0 x (latch_next _ _ what x (sym e ∙ f)), λ f. l.1 (take_next _ _ what x (sym e ∙ f)), λ d f. l.2 x d (put_next _ _ what x d (sym e ∙ f)))))
+  state_turn m got child time (proc.Part a) (proc.Part c) what is log t e h = looks_turn m h (λ x. (let l = part_looks a.stage in (λ f. l.0 x (latch_next _ _ what x (sym e ∙ f)), λ f. l.1 (take_next _ _ what x (sym e ∙ f)), λ d f. l.2 x d (put_next _ _ what x d (sym e ∙ f)))))
+  state_turn m got child time (proc.Insert a) (proc.Insert c) what is log t e h = alone_turn m h (λ x f. ap (λ k. k.holds) is ∙ insert_alone a.key a.value got a.stage x (latch_next _ _ what x (sym e ∙ f)))
+  state_turn m got child time (proc.Delete a) (proc.Delete c) what is log t e h = alone_turn m h (λ x f. ap (λ k. k.holds) is ∙ delete_alone a.key got a.stage x (latch_next _ _ what x (sym e ∙ f)))
+  state_turn m got child time (proc.Post a) (proc.Post c) what is log t e h = alone_turn m h (λ x f. ap (λ k. k.holds) is ∙ post_alone a.level a.key got child a.stage x (latch_next _ _ what x (sym e ∙ f)))
+  state_turn m got child time (proc.Compress a) (proc.Compress c) what is log t e h =
+      let old : LatchesBeside a.level a.key (marks_of p w.trail ++ m ∷ []) = beside_on (marks_of p w.trail) m a.level a.key h (λ x f. compress_few a.level a.key got a.stage x (marks_of p w.trail) (latch_next _ _ what x (sym e ∙ f)) log (holds_kept (know_compress a.level a.key got a.stage) is)) in
+      subst (λ (z : ℕ × ℕ). LatchesBeside z.0 z.1 (marks_of p w.trail ++ m ∷ [])) (λ i. (sym t.0 i, sym t.1 i)) old
+  state_turn m got child time (proc.Reclaim a) (proc.Reclaim c) what is log t e h = tt
+  state_turn m got child time old new what is log t e h = absurd t
 
   -- an act by which nothing is latched, taken or put leaves any process as it may be
   still_turn : (m : Mark) (a : Proc) → IsLook m.event.act → IsTidy a (marks_of p w.trail) → IsTidy a (marks_of p w.trail ++ m ∷ [])
@@ -275,7 +269,7 @@ module _ (w : World Run) (p : Name) (g : IsGood bare w) (owned : AllOwned w) whe
   still_turn m (proc.Insert a) looks h = alone_turn m h (λ x f. absurd ((looks x).0 f))
   still_turn m (proc.Delete a) looks h = alone_turn m h (λ x f. absurd ((looks x).0 f))
   still_turn m (proc.Post a) looks h = alone_turn m h (λ x f. absurd ((looks x).0 f))
-  still_turn m (proc.Compress a) looks h = beside_turn m h (λ x f. absurd ((looks x).0 f))
+  still_turn m (proc.Compress a) looks h = beside_on (marks_of p w.trail) m a.level a.key h (λ x f. absurd ((looks x).0 f))
   still_turn m (proc.Reclaim a) looks h = tt
 
 -- what the others have done stays
@@ -292,10 +286,10 @@ tidy_on w w' m b e own all p = elim (name_cases m.event.process p) [
 ]
 
 -- A turn of a process that is told something of its next action.
-pub tidy_turn : (w w' : World Run) (m : Mark) (b : Run) (what : Seen) → Extends w w' m b → IsGood bare w → AllOwned w → Takes (w.proc m.event.process).state what b.state → m.event.act ≡ event_of (end_of_proc (w.proc m.event.process).state) (next_of (w.proc m.event.process).state) what → AllTidy w → AllTidy w'
-tidy_turn w w' m b what e g owned t does all =
+pub tidy_turn : (w w' : World Run) (m : Mark) (b : Run) (what : Seen) → Extends w w' m b → IsGood bare w → AllOwned w → proc_log (w.proc m.event.process).state (marks_of m.event.process w.trail) → Takes (w.proc m.event.process).state what b.state → m.event.act ≡ event_of (end_of_proc (w.proc m.event.process).state) (next_of (w.proc m.event.process).state) what → AllTidy w → AllTidy w'
+tidy_turn w w' m b what e g owned log t does all =
     let r = w.proc m.event.process in
-    tidy_on w w' m b e (λ p i. subst (λ q. IsTidy b.state (marks_of q w.trail ++ m ∷ [])) (sym i) (state_turn w m.event.process g owned m r.got r.child r.time r.state b.state what refl t does (all m.event.process))) all
+    tidy_on w w' m b e (λ p i. subst (λ q. IsTidy b.state (marks_of q w.trail ++ m ∷ [])) (sym i) (state_turn w m.event.process g owned m r.got r.child r.time r.state b.state what refl log t does (all m.event.process))) all
 
 -- A turn at which the process stays as it is, and latches, takes and puts nothing.
 pub tidy_still : (w w' : World Run) (m : Mark) → Extends w w' m (w.proc m.event.process) → IsGood bare w → AllOwned w → IsLook m.event.act → AllTidy w → AllTidy w'

@@ -1,5 +1,5 @@
 -- What a process holds when it latches, told of its own marks.
-use Rattle.std.specs.Prelude.{ℕ, ◌≡◌, ◌≢◌, ◌⊎◌, ◌==◌, Bool, true, false, if◌then◌else◌, Some, [], ◌∷◌, take, slice_get}
+use Rattle.std.specs.Prelude.{ℕ, ◌≡◌, ◌≢◌, ◌⊎◌, ◌==◌, Bool, true, false, if◌then◌else◌, Some, List, [], ◌∷◌, take, slice_get}
 use Rattle.bl_model.specs.declared.operation.Reply.{Reply}
 use Rattle.bl_page.specs.declared.page.Page.{Page}
 use Rattle.bl_page.specs.Machine.{Name, Act}
@@ -9,7 +9,9 @@ use Rattle.bl_trails.specs.Trails.{Mark, Trail, marks_of}
 use Rattle.bl_steps.specs.Worlds.{World}
 use Rattle.bl_proc.specs.declared.kinds.Proc.{Proc}
 use Rattle.bl_proc.specs.declared.kinds.Proc.TheVariants as proc
+use Rattle.bl_compress.specs.declared.compressing.Family.{Family}
 use Rattle.bl_tables.specs.Knowing.{Run}
+use Rattle.bl_tables.specs.Squeezed.{AtFamily}
 
 -- whether it holds page y after an act, where it did or did not before
 abbrev pub holds_after : ℕ → Bool → Act Page Reply → Bool
@@ -37,9 +39,17 @@ Keeps marks y = holds_on y false marks ≡ true
 abbrev pub LatchesAlone : Trail → Type 0
 LatchesAlone marks = (i : ℕ) (m : Mark) (x y : ℕ) → slice_get marks i ≡ Some m → m.event.act ≡ Latch x → Keeps (take i marks) y → ⊥
 
--- It holds two pages at most.
-abbrev pub LatchesBeside : Trail → Type 0
-LatchesBeside marks = (i : ℕ) (m : Mark) (x : ℕ) → slice_get marks i ≡ Some m → m.event.act ≡ Latch x → (a : ℕ) × (b : ℕ) × ((y : ℕ) → Keeps (take i marks) y → (y ≡ a) ⊎ (y ≡ b))
+-- It holds no page but the parent of that level, which covers the key, and of two children of it that stand side by side at the
+-- key the left one. It has latched the parent, and got it since.
+pub record HoldsFamily (level key : ℕ) (marks : Trail) : Type 0 where
+  pub family : Family
+  pub acts : List (Act Page Reply)
+  pub at : AtFamily level key marks family acts
+  pub no_more : (y : ℕ) → Keeps marks y → (y ≡ family.at.parent) ⊎ (y ≡ family.at.left)
+
+-- It holds no more than that when it latches a page.
+abbrev pub LatchesBeside : ℕ → ℕ → Trail → Type 0
+LatchesBeside level key marks = (i : ℕ) (m : Mark) (x : ℕ) → slice_get marks i ≡ Some m → m.event.act ≡ Latch x → ((y : ℕ) → Keeps (take i marks) y → ⊥) ⊎ HoldsFamily level key (take i marks)
 
 -- an act that latches, takes and puts nothing
 abbrev pub IsLook : Act Page Reply → Type 0
@@ -49,15 +59,14 @@ IsLook a = (x : ℕ) → (a ≢ Latch x) × (a ≢ Take x) × ((c : Page) → a 
 abbrev pub OnlyLooks : Trail → Type 0
 OnlyLooks marks = (i : ℕ) (m : Mark) → slice_get marks i ≡ Some m → IsLook m.event.act
 
--- What holds of each kind of process. A compression holds the parent and the left child at most; one that releases pages has
--- no latch, which is not said here.
+-- What holds of each kind of process. One that releases pages has no latch, which is not said here.
 abbrev pub IsTidy : Proc → Trail → Type 0
 IsTidy (proc.Find p) marks = OnlyLooks marks
 IsTidy (proc.Insert p) marks = LatchesAlone marks
 IsTidy (proc.Delete p) marks = LatchesAlone marks
 IsTidy (proc.Post p) marks = LatchesAlone marks
 IsTidy (proc.Part p) marks = OnlyLooks marks
-IsTidy (proc.Compress p) marks = LatchesBeside marks
+IsTidy (proc.Compress p) marks = LatchesBeside p.level p.key marks
 IsTidy (proc.Reclaim p) marks = Unit {0}
 
 -- what is kept by the marks is owned

@@ -23,6 +23,7 @@ use Rattle.bl_proc.specs.Processes.{next_of, Takes}
 use Rattle.bl_tables.specs.Squeezed.{MeansSqueezed}
 use Rattle.bl_tables.specs.Knowing.{know_of, know_compress}
 use Rattle.bl_tables.proofs.Pressed.{stage_means}
+use Rattle.bl_bounds.specs.Latches.{LatchesBeside}
 use Rattle.bl_courses.specs.Frames.{work_of}
 use Rattle.bl_courses.specs.Retirements.{IsPutDone}
 use Rattle.bl_courses.proofs.Retirements.{put_done}
@@ -106,6 +107,6 @@ compress_answered pass old e first q level key what next d is a =
     let marks : Trail = marks_of (name pass (old.number + 1)) (trail_of e.trail) in
     record {
       adds = quiet_adds pass old e first (proc.Compress q) (proc.Compress p.old) d p.before_is refl (λ r h. ap (λ (z : Proc). (know_of r.got r.child r.time z).said) h ∙ silent_at_end p.old.level p.old.key r.got p.old.stage p.at_end);
-      latches = d.tidy;
+      latches = subst (λ (z : ℕ × ℕ). LatchesBeside z.0 z.1 marks) (λ i. (p.level_is i, p.key_is i)) d.tidy;
       means = subst (λ (z : ℕ × ℕ). MeansSqueezed z.0 z.1 what next marks) (λ i. (p.level_is i, p.key_is i)) (stage_means q.level q.key q.stage what next marks a d.log);
     }

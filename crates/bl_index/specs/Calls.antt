@@ -125,8 +125,8 @@ pub record Posts (pass level key : ℕ) (answer : Posted) (next : Option Hint) (
   pub latches : LatchesAlone (marks_of (name pass adds.number) new)
 
 -- A compression is answered: it says nothing of the map, and what its process has done is what its answer means with the hint
--- beside it. It held two pages at most when it latched one.
+-- beside it. When it latched a page it held the parent and the left child at most.
 pub record Compresses (pass level key : ℕ) (answer : Squeezed) (next : Option Hint) (old new : Trail) : Type 0 where
   pub adds : Adds pass old new
   pub means : MeansSqueezed level key answer next (marks_of (name pass adds.number) new)
-  pub latches : LatchesBeside (marks_of (name pass adds.number) new)
+  pub latches : LatchesBeside level key (marks_of (name pass adds.number) new)

@@ -1,5 +1,5 @@
 -- The one lemma of all events: a turn of a process of a hand, where the pages go on as the store's do.
-use Rattle.std.proofs.Common.{ℕ, Bool, true, false, ◌≡◌, ◌≢◌, ◌⊎◌, ◌+◌, ◌<◌, ◌≤◌, ◌++◌, Option, Some, None, List, [], ◌∷◌, length, set, refl, sym, ap, ◌∙◌, subst, ⊎_elim, arith, append-nil, append_assoc}
+use Rattle.std.proofs.Common.{ℕ, Bool, true, ◌≡◌, ◌≢◌, ◌≤◌, ◌++◌, List, [], ◌∷◌, length, set, refl, sym, ap, ◌∙◌, subst, ⊎_elim, append_assoc}
 use mathlib.Core.Option.{some}
 use lib.ListN.{get_elem?}
 use Rattle.std.proofs.Math.ListN.{length-set}
@@ -9,10 +9,9 @@ use Rattle.bl_model.specs.declared.operation.Reply.{Reply}
 use Rattle.bl_page.specs.declared.page.Page.{Page}
 use Rattle.bl_page.specs.Machine.{Name, State, Act}
 use Rattle.bl_page.specs.Machine as machine
-use Rattle.bl_trails.specs.Trails.{Mark, Trail, entries_at, marks_of}
+use Rattle.bl_trails.specs.Trails.{Trail, entries_at, marks_of}
 use Rattle.bl_trails.specs.States.{HasMoments}
 use Rattle.bl_trails.proofs.States.{moments_on}
-use Rattle.bl_steps.specs.Worlds.{World, IsGood}
 use Rattle.bl_starts.specs.Opening.{Opening}
 use Rattle.bl_proc.specs.Processes.{next_of}
 use Rattle.bl_tables.specs.Logs.{proc_log}
@@ -25,9 +24,9 @@ use Rattle.bl_bounds.specs.Searches.{IsSearch, IsUnderWay}
 use Rattle.bl_bounds.specs.Latches.{IsTidy}
 use Rattle.bl_bounds.specs.Paces.{AllKept}
 use Rattle.bl_bounds.proofs.Bounded.{search_within, search_below}
-use Rattle.bl_store.specs.Pages.{Owner, Stage, Idle, Running, Pages, Stands}
+use Rattle.bl_store.specs.Pages.{Owner, Stage, Running, Pages, Stands}
 use Rattle.bl_passes.specs.declared.known.Mine.{Mine}
-use Rattle.bl_passes.specs.Noting.{trail_of, all_noted}
+use Rattle.bl_passes.specs.Noting.{trail_of}
 use Rattle.bl_passes.specs.Seeing.{IsSeen, AreWithin, own}
 use Rattle.bl_passes.specs.Fitting.{name, Shows, owner_in, IsAtStage, IsHand, IsRun, Fits}
 use Rattle.bl_passes.specs.Told.{IsNear, HasOwn, Notes}

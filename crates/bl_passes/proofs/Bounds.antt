@@ -1,5 +1,5 @@
 -- A process begins, and ends: each keeps the rule, and the pass knows it.
-use Rattle.std.proofs.Common.{ℕ, ◌≡◌, ◌≢◌, ◌⊎◌, ◌+◌, ◌<◌, ◌≤◌, ◌++◌, Bool, true, false, if◌then◌else◌, Option, Some, None, List, [], ◌∷◌, length, set, refl, sym, ap, ◌∙◌, subst, inl, inr, arith, append-nil}
+use Rattle.std.proofs.Common.{ℕ, ◌≡◌, ◌≢◌, ◌+◌, ◌≤◌, ◌++◌, Bool, true, false, if◌then◌else◌, Option, Some, None, List, [], ◌∷◌, length, refl, sym, ap, ◌∙◌, subst, inl, inr, arith, append-nil}
 use mathlib.Core.Option.{some, some-injective}
 use mathlib.Core.Option as lists
 use lib.ListN.{get_elem?}
@@ -11,7 +11,7 @@ use Rattle.bl_page.specs.Machine.{Name, State, Act}
 use Rattle.bl_page.specs.Machine as machine
 use Rattle.bl_trails.specs.Trails.{Said, Mark, Trail, entries_at, marks_of, IsMarked}
 use Rattle.bl_trails.proofs.Pushes.{name_cases, not_same, marks_of-own, SaysAt-last, DoesAt-last}
-use Rattle.bl_steps.specs.Worlds.{World, Each, IsGood}
+use Rattle.bl_steps.specs.Worlds.{World, Each}
 use Rattle.bl_steps.proofs.Frames.{Each-map}
 use Rattle.bl_steps.proofs.After.{put_name, is_put_name}
 use Rattle.bl_starts.specs.Blank.{IsBlank}
@@ -21,7 +21,7 @@ use Rattle.bl_proc.specs.declared.kinds.Proc.{Proc}
 use Rattle.bl_proc.specs.Processes.{next_of}
 use Rattle.bl_tables.specs.Logs.{proc_log}
 use Rattle.bl_tables.specs.Turns.{Does, Turned}
-use Rattle.bl_tables.specs.Knowing.{Run, bare as know, know_of, end_of_proc, run_next}
+use Rattle.bl_tables.specs.Knowing.{Run, bare as know, end_of_proc, run_next}
 use Rattle.bl_tables.proofs.Starting.{with_proc, bare_enters_good as enters_good}
 use Rattle.bl_tables.proofs.Logged.{early_log}
 use Rattle.bl_tables.proofs.Middles.{KeepsLogs}
@@ -34,12 +34,12 @@ use Rattle.bl_bounds.proofs.Latching.{looks_up}
 use Rattle.bl_bounds.proofs.Kept.{left_kept, enter_kept}
 use Rattle.bl_courses.specs.Courses.{GoesOn}
 use Rattle.bl_layout.specs.declared.layout.Layout.{Layout}
-use Rattle.bl_store.specs.Pages.{Owner, Held, Stage, Idle, Running, Pages, Stands, IsOrderly, HoldsNone, told, Begins as BeginsIn, Ends}
+use Rattle.bl_store.specs.Pages.{Held, Stage, Idle, Running, Pages, Stands, IsOrderly, HoldsNone, told, Begins as BeginsIn, Ends}
 use Rattle.bl_passes.specs.declared.known.Mine.{Mine}
 use Rattle.bl_passes.specs.Noting.{trail_of}
 use Rattle.bl_passes.specs.Seeing.{own}
 use Rattle.bl_passes.specs.Fitting.{name, owner_in, IsAtStage, IsHand, Fits}
-use Rattle.bl_passes.specs.Told.{MayGiveUp, IsUnborn, Notes, Begins, Finishes, begins, ends, gives_up}
+use Rattle.bl_passes.specs.Told.{MayGiveUp, IsUnborn, Notes, Finishes, begins, ends, gives_up}
 use Rattle.bl_passes.proofs.Notings.{trail_back}
 use Rattle.bl_passes.proofs.Entries.{own-mine}
 use Rattle.bl_passes.proofs.Marks.{each_append}
@@ -97,8 +97,8 @@ module _ (s : Pages Mine) (f : Fits s) (n : ℕ) (d : Mine) (at : Stands s n Idl
   none_yet =
       let h = f.hands n Idle d at in
       no_marks next_name f.world.trail (subst (Each (λ (m : Mark). m.event.process ≢ next_name)) (sym h.begins.1) (each_append _ (trail_of d.trail) h.begins.0
-          (Each-map _ _ (trail_of d.trail) (λ (m : Mark) (up : m.event.process.pass ≡ n → m.event.process.number ≤ d.number) (e : m.event.process ≡ next_name). (let few = up (pass_of _ _ e) in let is : m.event.process.number ≡ d.number + 1 = number_of _ _ e in absurd (omega arith))) h.counted)
-          (Each-map _ _ h.begins.0 (λ (m : Mark) (ne : m.event.process.pass ≢ n) (e : m.event.process ≡ next_name). ne (pass_of _ _ e)) h.begins.2)))
+      (Each-map _ _ (trail_of d.trail) (λ (m : Mark) (up : m.event.process.pass ≡ n → m.event.process.number ≤ d.number) (e : m.event.process ≡ next_name). (let few = up (pass_of _ _ e) in let is : m.event.process.number ≡ d.number + 1 = number_of _ _ e in absurd (omega arith))) h.counted)
+      (Each-map _ _ h.begins.0 (λ (m : Mark) (ne : m.event.process.pass ≢ n) (e : m.event.process ≡ next_name). ne (pass_of _ _ e)) h.begins.2)))
 
   pub entered : Fits s
   entered = record {
@@ -148,9 +148,9 @@ begins_process l n d process next unborn course s g o at =
     let does : Does w.now p Act.Begin s1 = record { changes = (λ x. refl, λ x. refl, (s.clock, g.clock, omega arith, phase)); on = g.clock } in
     let t : Turned know w p Act.Begin s1 (run_next w.now (w.proc p) seen.Done course.new) = turn_of w p process seen.Done s1 f.good (ap (λ (r : Run). r.state) here) course act.Begin next tt tt does in
     let b' = run_next w.now (w.proc p) seen.Done course.new in
-    let kept : AllKept t.next = state_kept w t.next p process b' seen.Done act.Begin _ refl (ap (λ (r : Run). r.state) here) next t.extends f.good t.good course.takes tt f.kept in
     let h = g.hands n Idle d at in
     let early : proc_log process (marks_of p w.trail) = early_log b blank.stage (marks_of p w.trail) in
+    let kept : AllKept t.next = state_kept w t.next p process b' seen.Done act.Begin _ refl (ap (λ (r : Run). r.state) here) next t.extends f.good t.good early course.takes tt f.kept in
     let log : proc_log course.new (marks_of p t.next.trail) = log_after w p process seen.Done course act.Begin s1 b' t next tt early in
     let past : List Entry = own n (trail_of d.trail) in
     let silent : entries_at p (know (w.proc p)).said ≡ [] = ap (entries_at p) (ap (λ (r : Run). (know r).said) here ∙ blank.said) in

@@ -1,5 +1,5 @@
 -- Each process that runs has done what its state tells: its hand knows so, and each turn keeps it.
-use Rattle.std.proofs.Common.{ℕ, ◌≡◌, ◌≢◌, Option, sym, ap, ◌∙◌, subst, inl, inr}
+use Rattle.std.proofs.Common.{ℕ, ◌≡◌, ◌≢◌, sym, ap, ◌∙◌, subst, inl, inr}
 use Rattle.bl_model.specs.declared.operation.Reply.{Reply}
 use Rattle.bl_page.specs.declared.page.Page.{Page}
 use Rattle.bl_page.specs.Machine.{Name, State, Act, Changes}

@@ -1,7 +1,7 @@
 -- Each event of a running process, on pages: it keeps the rule, and the pass knows it.
-use Rattle.std.proofs.Common.{ℕ, ◌≡◌, ◌≢◌, ◌⊎◌, ◌+◌, ◌<◌, ◌≤◌, ◌^◌, Bool, true, false, Option, Some, None, List, [], ◌∷◌, length, set, refl, sym, ap, ◌∙◌, subst, ⊎_elim, inl, inr, arith, zero, suc}
+use Rattle.std.proofs.Common.{ℕ, ◌≡◌, ◌≢◌, ◌⊎◌, ◌+◌, ◌<◌, ◌≤◌, true, List, length, refl, sym, ap, ◌∙◌, subst, ⊎_elim, inl, inr, arith, zero, suc}
 use Rattle.std.proofs.Math.ListN.{length-set}
-use mathlib.Core.Option.{some, some-injective}
+use mathlib.Core.Option.{some}
 use lib.ListN.{get_elem?}
 use Rattle.atomic_table.proofs.Lists.{at_set}
 use Rattle.bl_page.specs.declared.page.Page.{Page}
@@ -9,7 +9,7 @@ use Rattle.bl_page.specs.Words.{words_of}
 use Rattle.bl_page.specs.Pairs.{IsChild}
 use Rattle.bl_page.specs.Machine.{Name, State, Act, IsAt}
 use Rattle.bl_page.specs.Machine as machine
-use Rattle.bl_steps.specs.Worlds.{World, MayGet, IsGood}
+use Rattle.bl_steps.specs.Worlds.{MayGet}
 use Rattle.bl_steps.proofs.After.{put_at, is_put_at}
 use Rattle.bl_descents.proofs.Descents.{anchor_not_released}
 use Rattle.bl_ways.specs.declared.acts.Action.{Action}
@@ -18,16 +18,16 @@ use Rattle.bl_ways.specs.declared.acts.Seen.{Seen}
 use Rattle.bl_ways.specs.declared.acts.Seen.TheVariants as seen
 use Rattle.bl_proc.specs.Processes.{next_of}
 use Rattle.bl_tables.specs.Turns.{event_of, IsTold, IsShown, Does}
-use Rattle.bl_tables.specs.Knowing.{Run, bare as know, end_of_proc}
+use Rattle.bl_tables.specs.Knowing.{bare as know, end_of_proc}
 use Rattle.bl_tables.proofs.Gets.{IsGot, got_next_is}
 use Rattle.bl_courses.specs.Courses.{GoesOn}
 use Rattle.bl_layout.specs.declared.layout.Layout.{Layout}
-use Rattle.bl_store.specs.Pages.{Owner, Released, Open, Held, Retired, Stage, Running, Pages, Stands, IsPage, IsOrderly, later, told, owned, written, Gets, Puts, Takes, Latches, Misses, Opens, Retires, Refuses}
+use Rattle.bl_store.specs.Pages.{Owner, Released, Open, Held, Retired, Stage, Running, Pages, Stands, later, told, owned, written, Gets, Puts, Takes, Latches, Misses, Opens, Retires, Refuses}
 use Rattle.bl_passes.specs.declared.known.Mine.{Mine}
 use Rattle.bl_passes.specs.Fitting.{name, Shows, owner_in, Fits}
 use Rattle.bl_passes.specs.Told.{Goes, gets, puts, opens, retires, takes, tries, refuses}
-use Rattle.bl_passes.proofs.Shown.{at_below, set_there, shows_words, got_words, is_held, is_open, is_released, held_by}
-use Rattle.bl_passes.proofs.Turns.{mine, standing, turned, then_known, then_goes, then_fits, runs_on}
+use Rattle.bl_passes.proofs.Shown.{at_below, shows_words, got_words, is_held, is_released, held_by}
+use Rattle.bl_passes.proofs.Turns.{standing, turned, then_known, then_goes, then_fits, runs_on}
 
 -- an event that leaves all pages and owners as they are
 unmoved : (s : Pages Mine) (f : Fits s) (n since : ℕ) (d : Mine) → Stands s n (Running since) d → (what : Seen) → GoesOn d.state what → (a : Action) → next_of d.state ≡ a → IsTold f.world.now f.world.size a what → IsShown f.world.now (name n d.number) (f.world.proc (name n d.number)).time a what → Does f.world.now (name n d.number) (event_of (end_of_proc d.state) a what) f.world.now → (e : Mine) × Fits (told s n (Running since) e) × Goes what d e

@@ -1,23 +1,22 @@
 -- What the store shows of pages and their owners.
-use Rattle.std.proofs.Common.{ℕ, ◌≡◌, ◌≢◌, ◌⊎◌, ◌<◌, zero, suc, List, [], ◌∷◌, set, length, refl, sym, ap, ◌∙◌, subst, inl, inr, ⊎_elim, arith}
-use mathlib.Core.Option.{Option, some, some-injective, some-ne-none}
+use Rattle.std.proofs.Common.{ℕ, ◌≡◌, ◌≢◌, ◌⊎◌, ◌<◌, zero, suc, List, [], ◌∷◌, set, length, refl, sym, ap, ◌∙◌, subst, inl, inr, arith}
+use mathlib.Core.Option.{Option, some, some-ne-none}
 use mathlib.Core.Logic.{dite}
 use native.Mathlib.Decide.{ℕ_discrete}
 use lib.ListN.{get_elem?}
-use Rattle.atomic_table.proofs.Lists.{at_set, set_here, set_else}
+use Rattle.atomic_table.proofs.Lists.{set_here, set_else}
 use Rattle.bl_page.specs.declared.page.Page.{Page}
 use Rattle.bl_page.specs.declared.page.Page.TheVariants.{Anchor, Leaf, Inner, Dead}
 use Rattle.bl_page.specs.Words.{words_of}
 use Rattle.bl_page.specs.Machine.{Name}
 use Rattle.bl_page.specs.Machine as machine
-use Rattle.bl_tree.specs.Trees.{IsLive}
-use Rattle.bl_laws.specs.Pages.{node_of, IsTreePage}
-use Rattle.bl_steps.specs.Worlds.{World, MayGet, was_in, IsGood, nodes}
+use Rattle.bl_laws.specs.Pages.{node_of}
+use Rattle.bl_steps.specs.Worlds.{World, MayGet, was_in, IsGood}
 use Rattle.bl_steps.proofs.Steady.{anchored_not}
 use Rattle.std.proofs.lemmas.Bool.{false≢true}
 use Rattle.bl_descents.proofs.Descents.{is_dead_page}
 use Rattle.bl_tables.specs.Knowing.{Run, bare as know}
-use Rattle.bl_store.specs.Pages.{Owner, Released, Open, Held, Retired, Stage, Idle, Running}
+use Rattle.bl_store.specs.Pages.{Owner, Released, Open, Held, Retired, Stage}
 use Rattle.bl_passes.specs.declared.known.Mine.{Mine}
 use Rattle.bl_passes.specs.Fitting.{name, IsAnchor, Shows, number_in, owner_in}
 

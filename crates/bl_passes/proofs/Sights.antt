@@ -1,13 +1,11 @@
 -- What a pass sees at its own event.
-use Rattle.std.proofs.Common.{ℕ, ◌≡◌, ◌≢◌, ◌<◌, ◌++◌, Option, Some, None, List, [], ◌∷◌, refl, sym, ap, ◌∙◌, subst}
+use Rattle.std.proofs.Common.{ℕ, ◌≡◌, ◌≢◌, ◌<◌, sym, ap, ◌∙◌, subst}
 use Rattle.bl_model.specs.Map.{Map, empty}
 use Rattle.bl_model.specs.History.{IsLegalFrom, final_map}
-use Rattle.bl_page.specs.declared.page.Page.{Page}
 use Rattle.bl_page.specs.Machine.{Name}
 use Rattle.bl_page.specs.Machine.Owner.{Released, Held}
 use Rattle.bl_tree.specs.Nodes.{Look}
-use Rattle.bl_tree.specs.Trees.Status.{Free}
-use Rattle.bl_trails.specs.Trails.{Trail, history_of}
+use Rattle.bl_trails.specs.Trails.{history_of}
 use Rattle.bl_trails.specs.Moments.{HasLaws}
 use Rattle.bl_trails.specs.States.{Moment, HasMoments}
 use Rattle.bl_steps.specs.Worlds.{World, IsGood}

@@ -1,10 +1,9 @@
 -- An index begins: the words of its pages show the opening index, and no pass has begun a process.
-use Rattle.std.proofs.Common.{ℕ, zero, suc, ◌≡◌, ◌≢◌, ◌⊎◌, ◌+◌, ◌<◌, ◌≤◌, ◌^◌, Bool, true, false, if◌then◌else◌, None, List, [], ◌∷◌, length, map, replicate, refl, sym, ap, ◌∙◌, subst, inl, inr, arith}
+use Rattle.std.proofs.Common.{ℕ, zero, suc, ◌≡◌, ◌≢◌, ◌<◌, ◌≤◌, List, [], ◌∷◌, length, map, replicate, refl, sym, ap, ◌∙◌, subst, inl, inr, arith}
 use mathlib.Core.Option.{some, some-injective, some-ne-none}
 use lib.ListN.{get_elem?}
-use Rattle.bl_model.specs.Map.{empty}
 use Rattle.bl_page.specs.declared.page.Page.{Page}
-use Rattle.bl_page.specs.declared.page.Page.TheVariants.{Anchor, Leaf}
+use Rattle.bl_page.specs.declared.page.Page.TheVariants.{Leaf}
 use Rattle.bl_page.specs.Words.{words_of}
 use Rattle.bl_page.specs.Machine.{Name, State}
 use Rattle.bl_page.specs.Machine as machine
@@ -17,8 +16,8 @@ use Rattle.bl_starts.proofs.Starts.{opening_world, opening_good}
 use Rattle.bl_tables.specs.Knowing.{Run, bare as know}
 use Rattle.bl_tables.proofs.Middles.{KeepsLogs}
 use Rattle.bl_bounds.proofs.Kept.{first_kept}
-use Rattle.bl_store.specs.Pages.{Owner, Released, Open, Stage, Idle, Running, Pages, Stands}
-use Rattle.bl_store.specs.Opening.{is_blank, first_owner, first_pages}
+use Rattle.bl_store.specs.Pages.{Stage, Idle}
+use Rattle.bl_store.specs.Opening.{first_owner, first_pages}
 use Rattle.bl_passes.specs.declared.known.Mine.{Mine}
 use Rattle.bl_passes.specs.Seeing.{IsSeen}
 use Rattle.bl_passes.specs.Fitting.{name, unborn, newcomer, Shows, owner_in, IsHand, Fits}

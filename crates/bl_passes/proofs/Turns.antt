@@ -1,9 +1,8 @@
 -- A turn of the process that a hand runs, told truly what its next action gave.
-use Rattle.std.proofs.Common.{ℕ, ◌≡◌, ◌≢◌, ◌⊎◌, ◌+◌, ◌<◌, ◌≤◌, ◌++◌, Bool, true, false, Option, Some, None, List, [], ◌∷◌, length, set, refl, sym, ap, ◌∙◌, subst, arith}
+use Rattle.std.proofs.Common.{ℕ, ◌≡◌, ◌≢◌, ◌≤◌, true, List, length, set, refl, sym, ap, ◌∙◌, subst, arith}
 use Rattle.std.proofs.lemmas.Bool.{false≢true}
 use mathlib.Core.Option.{some}
 use lib.ListN.{get_elem?}
-use Rattle.bl_model.specs.declared.operation.Reply.{Reply}
 use Rattle.bl_page.specs.declared.page.Page.{Page}
 use Rattle.bl_page.specs.Machine.{Name, State, Act}
 use Rattle.bl_page.specs.Machine as machine
@@ -55,7 +54,7 @@ module _ (s : Pages Mine) (f : Fits s) (n since : ℕ) (d : Mine) (at : Stands s
 
     -- each process has kept by then what it keeps
     pub then_kept : AllKept turned.next
-    then_kept = state_kept f.world turned.next mine d.state (run_next f.world.now (f.world.proc mine) what course.new) what a _ refl standing.3 next turned.extends f.good turned.good course.takes said f.kept
+    then_kept = state_kept f.world turned.next mine d.state (run_next f.world.now (f.world.proc mine) what course.new) what a _ refl standing.3 next turned.extends f.good turned.good standing.5 course.takes said f.kept
 
     -- what it has done by then
     pub then_log : proc_log course.new (marks_of mine turned.next.trail)

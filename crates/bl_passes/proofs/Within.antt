@@ -1,6 +1,5 @@
 -- Trails whose events are of the first so many passes.
-use Rattle.std.proofs.Common.{ℕ, ◌≡◌, ◌<◌, ◌++◌, [], ◌∷◌, sym, ap, subst, inl, inr}
-use Rattle.std.specs.Prelude.{Contains}
+use Rattle.std.proofs.Common.{ℕ, ◌<◌, ◌++◌, [], ◌∷◌, sym, subst, inl, inr}
 use Rattle.std.proofs.lemmas.List.Elements.{Contains-append_cases}
 use Rattle.bl_trails.specs.Trails.{Mark, Trail}
 use Rattle.bl_trails.proofs.Freshness.{only, no_member}

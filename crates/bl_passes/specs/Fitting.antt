@@ -1,5 +1,5 @@
 -- The rule of threads.
-use Rattle.std.specs.Prelude.{◌≡◌, ◌≢◌, ◌⊎◌, ℕ, zero, suc, ◌+◌, ◌<◌, ◌≤◌, ◌++◌, ◌==◌, if◌then◌else◌, true, false, None, List, [], ◌∷◌, length, replicate}
+use Rattle.std.specs.Prelude.{◌≡◌, ◌≢◌, ◌⊎◌, ℕ, zero, suc, ◌<◌, ◌≤◌, ◌++◌, true, false, List, [], length, replicate}
 use mathlib.Core.Option.{Option, none, some}
 use lib.ListN.{get_elem?}
 use Rattle.bl_model.specs.Map.{empty}
@@ -8,7 +8,7 @@ use Rattle.bl_page.specs.declared.page.Page.TheVariants.{Anchor, Leaf, Inner, De
 use Rattle.bl_page.specs.Words.{words_of}
 use Rattle.bl_page.specs.Machine.{Name}
 use Rattle.bl_page.specs.Machine as machine
-use Rattle.bl_trails.specs.Trails.{Mark, Trail, history_of, entries_at, marks_of}
+use Rattle.bl_trails.specs.Trails.{Mark, Trail, entries_at, marks_of}
 use Rattle.bl_trails.specs.States.{HasMoments}
 use Rattle.bl_steps.specs.Worlds.{World, Each, IsGood}
 use Rattle.bl_starts.specs.Blank.{IsBlank}

@@ -5,7 +5,7 @@ use Rattle.bl_model.specs.History.{IsLegalFrom, final_map, entries_of_pass}
 use Rattle.bl_model.specs.declared.operation.Entry.{Entry}
 use Rattle.bl_model.specs.declared.operation.Reply.{Reply}
 use Rattle.bl_page.specs.declared.page.Page.{Page}
-use Rattle.bl_page.specs.Machine.{Name, State, Act}
+use Rattle.bl_page.specs.Machine.{Name, State}
 use Rattle.bl_page.specs.Machine.Act.{Begin, End}
 use Rattle.bl_trails.specs.Trails.{Mark, Trail, history_of, IsMarked, LeadsOn}
 use Rattle.bl_trails.specs.Moments.{HasLaws}

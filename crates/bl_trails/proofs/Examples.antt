@@ -1,14 +1,12 @@
 -- The trail of one search on the opening index: it begins, gets page 0 and page 1, finds no row there, and ends.
-use Rattle.std.proofs.Common.{ℕ, ◌≡◌, ◌≢◌, ◌⊎◌, ◌≤◌, ◌<◌, Option, Some, None, zero, suc, List, [], ◌∷◌, arith, ap, sym, ◌∙◌, refl, inl, inr}
-use Rattle.std.specs.Prelude.{slice_get}
+use Rattle.std.proofs.Common.{ℕ, ◌≡◌, ◌≤◌, Option, Some, None, zero, suc, [], ◌∷◌, arith, ap, ◌∙◌, refl}
 use Rattle.bl_model.specs.declared.operation.Op.TheVariants.{Find}
 use Rattle.bl_model.specs.declared.operation.Reply.{Reply}
 use Rattle.bl_model.specs.declared.operation.Reply.TheVariants.{Absent}
-use Rattle.bl_model.specs.declared.operation.Entry.{Entry}
 use Rattle.bl_page.specs.declared.page.Page.{Page}
-use Rattle.bl_page.specs.Machine.{Name, Act, Event}
+use Rattle.bl_page.specs.Machine.{Name, Act}
 use Rattle.bl_page.specs.Machine.Act.{Begin, End, Get}
-use Rattle.bl_trails.specs.Trails.{Said, Mark, Trail, events_of, history_of, DoesAt, SaysAt, IsPoint, Answered}
+use Rattle.bl_trails.specs.Trails.{Said, Mark, Trail, history_of, DoesAt, SaysAt, IsPoint, Answered}
 
 abbrev first : Name
 first = record { pass = 1; number = 0 }

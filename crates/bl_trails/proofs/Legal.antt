@@ -1,9 +1,9 @@
 -- The step list of a trail is legal, and what follows from that.
-use Rattle.std.proofs.Common.{ℕ, ◌≡◌, ◌≢◌, ◌⊎◌, ◌≤◌, ◌<◌, ◌++◌, Option, Some, None, zero, suc, List, [], ◌∷◌, arith, ap, sym, ◌∙◌, refl, inl, inr}
+use Rattle.std.proofs.Common.{ℕ, ◌≡◌, ◌≢◌, Some, zero, suc, [], ◌∷◌}
 use Rattle.std.specs.Prelude.{slice_get}
 use Rattle.bl_model.specs.declared.operation.Reply.{Reply}
 use Rattle.bl_page.specs.declared.page.Page.{Page}
-use Rattle.bl_page.specs.Machine.{Name, Owner, State, Phase, Act, Event, Steps, Leads, IsLegal}
+use Rattle.bl_page.specs.Machine.{Name, State, Event, Steps, Leads, IsLegal}
 use Rattle.bl_page.specs.Machine.Owner.{Released}
 use Rattle.bl_page.specs.Machine.Act.{Get}
 use Rattle.bl_trails.specs.Trails.{Mark, Trail, events_of, DoesAt, Saw, LeadsOn}

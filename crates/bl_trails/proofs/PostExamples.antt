@@ -1,6 +1,6 @@
 -- Three posts that run alone, by what they did: one that a parent lists already, one for which the tree has no level, and one
 -- that enters page 2 in page 3 by the key 9.
-use Rattle.std.proofs.Common.{ℕ, ◌≡◌, ◌≢◌, ◌⊎◌, ◌<◌, ◌==◌, zero, suc, if◌then◌else◌, Option, Some, None, [], ◌∷◌, arith, ap, sym, ◌∙◌, refl, inl, inr}
+use Rattle.std.proofs.Common.{ℕ, ◌≡◌, ◌≢◌, ◌==◌, zero, suc, if◌then◌else◌, Some, None, [], ◌∷◌, arith, ap, sym, ◌∙◌, refl, inl, inr}
 use Rattle.std.specs.Prelude.{Contains}
 use Rattle.std.proofs.lemmas.Bool.{cases_eq}
 use Rattle.std.proofs.lemmas.List.Elements.{Contains-push_cases}

@@ -1,6 +1,5 @@
 -- The account of a world.
-use Rattle.std.proofs.Common.{ℕ, ◌≡◌, ◌⊎◌, ◌+◌, ◌-◌, ◌<◌, suc, Option, Some, None, List, length, slice_get, arith, ap, sym, ◌∙◌, subst, inl, inr}
-use Rattle.std.proofs.lemmas.Bool.{cases_eq, cases_lt}
+use Rattle.std.proofs.Common.{ℕ, ◌≡◌, ◌+◌, suc, Option, Some, None, List, length, slice_get, arith, ap, sym, ◌∙◌, subst, inl, inr}
 use mathlib.Core.Logic.{∥∥₁_map}
 use Rattle.std.proofs.Math.Logic.{∥∥₁_elim}
 use Rattle.bl_model.specs.History.{IsLegalFrom}

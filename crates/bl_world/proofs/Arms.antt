@@ -18,7 +18,7 @@ use Rattle.bl_proc.specs.declared.kinds.Proc.{Proc}
 use Rattle.bl_proc.specs.declared.kinds.Proc.TheVariants as proc
 use Rattle.bl_proc.specs.Processes.{next_of, Takes}
 use Rattle.bl_tables.specs.Turns.{event_of, IsTold, IsShown, Does}
-use Rattle.bl_tables.specs.Knowing.{know, end_of_proc, run_next}
+use Rattle.bl_tables.specs.Knowing.{end_of_proc, run_next}
 use Rattle.bl_bounds.proofs.Turns.{Paced, paced_turn, paced_idle}
 use Rattle.bl_world.specs.declared.turns.Act.{Act}
 use Rattle.bl_world.specs.declared.turns.Act.TheVariants as shown

@@ -1,8 +1,7 @@
 -- Turns on an opening index of four pages, with one search for the key 5.
-use Rattle.std.proofs.Common.{◌≡◌, ◌≢◌, ◌<◌, ◌≤◌, Some, None, zero, suc, List, [], ◌∷◌, slice_get, arith, refl, inl, inr}
+use Rattle.std.proofs.Common.{◌≡◌, ◌<◌, Some, None, zero, suc, List, [], ◌∷◌, slice_get, arith, refl, inl, inr}
 use Rattle.bl_page.specs.declared.page.Page.{Page}
 use Rattle.bl_page.specs.declared.page.Page.TheVariants as page
-use Rattle.bl_ways.specs.declared.acts.Action.TheVariants as act
 use Rattle.bl_proc.specs.declared.searching.FindStage.{FindStage}
 use Rattle.bl_proc.specs.declared.searching.FindStage.TheVariants as find
 use Rattle.bl_proc.specs.declared.kinds.Proc.{Proc}

@@ -1,9 +1,7 @@
 -- A call leads from a world to a world, and its account goes on.
 use Rattle.std.proofs.Common.{◌≡◌, ◌<◌, ◌^◌, List, [], Result, Ok, Err, OnOk, OnErr, sym, subst, append-nil}
 use mathlib.Core.Logic.{∥∥₁_map}
-use Rattle.bl_ways.specs.declared.acts.Action.TheVariants as act
 use Rattle.bl_proc.specs.declared.kinds.Proc.{Proc}
-use Rattle.bl_proc.specs.Processes.{next_of}
 use Rattle.bl_world.specs.declared.turns.Turn.{Turn}
 use Rattle.bl_world.specs.Views.{View}
 use Rattle.bl_world.specs.Turns.{RunsTo, RunsInto}

@@ -12,12 +12,10 @@ use Rattle.bl_ways.specs.declared.acts.Action.TheVariants as act
 use Rattle.bl_ways.specs.declared.acts.Seen.{Seen}
 use Rattle.bl_ways.specs.declared.acts.Seen.TheVariants as seen
 use Rattle.bl_proc.specs.declared.reclaiming.Reclaim.{Reclaim}
-use Rattle.bl_proc.specs.declared.reclaiming.ReclaimStage.TheVariants.{Seeing}
 use Rattle.bl_proc.specs.declared.kinds.Proc.{Proc}
 use Rattle.bl_proc.specs.declared.kinds.Proc.TheVariants as proc
 use Rattle.bl_proc.specs.Reclaims.{reclaim_next_in, ReclaimTakes}
 use Rattle.bl_proc.specs.Processes.{next_of, Takes}
-use Rattle.bl_tables.specs.Turns.{IsSeen}
 use Rattle.bl_tables.specs.Knowing.{retired_since, reclaim_time, time_next, run_next}
 use Rattle.bl_world.specs.declared.turns.Act.{Act}
 use Rattle.bl_world.specs.declared.turns.Act.TheVariants as shown

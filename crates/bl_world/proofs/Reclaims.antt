@@ -1,5 +1,5 @@
 -- What a process knows that is to release a page, from one event to the next.
-use Rattle.std.proofs.Common.{ℕ, ◌≡◌, ◌≢◌, ◌⊎◌, ◌<◌, ◌≤◌, ◌++◌, suc, Bool, true, false, Some, List, [], ◌∷◌, length, slice_get, arith, ap, sym, ◌∙◌, refl, subst, inl, inr}
+use Rattle.std.proofs.Common.{ℕ, ◌≡◌, ◌⊎◌, ◌≤◌, ◌++◌, Bool, true, false, List, [], ◌∷◌, length, arith, ap, sym, ◌∙◌, refl, subst, inl, inr}
 use Rattle.std.proofs.lemmas.Option.{slice_get_within}
 use Rattle.bl_page.specs.declared.page.Page.{Page}
 use Rattle.bl_page.specs.Machine.{State}
@@ -17,7 +17,7 @@ use Rattle.bl_world.specs.declared.turns.Event.{Event}
 use Rattle.bl_world.specs.Retirements.{Stands, IsRetired, HasSeen, SawUnretired, SawBlocked, MissedRelease, MeansReclaimed, ReleasesSeen}
 use Rattle.bl_world.specs.Worlds.{IsReclaiming}
 use Rattle.bl_world.proofs.Places.{push_length, push_cases}
-use Rattle.bl_world.proofs.Retired.{push_old, push_new, push_agree, agree_back, retired_same, blocks_same, seen_same, seen_on}
+use Rattle.bl_world.proofs.Retired.{push_old, push_agree, agree_back, retired_same, blocks_same, seen_same, seen_on}
 
 module _ (events : List Event) (e : Event) where
   abbrev more : List Event

@@ -11,7 +11,7 @@ use Rattle.bl_trails.proofs.States.{moments_on}
 use Rattle.bl_proc.specs.declared.reclaiming.Reclaim.{Reclaim}
 use Rattle.bl_proc.specs.declared.kinds.Proc.{Proc}
 use Rattle.bl_proc.specs.declared.kinds.Proc.TheVariants as proc
-use Rattle.bl_tables.specs.Knowing.{Run, know}
+use Rattle.bl_tables.specs.Knowing.{Run}
 use Rattle.bl_bounds.proofs.Turns.{Paced}
 use Rattle.bl_world.specs.declared.turns.Act.{Act}
 use Rattle.bl_world.specs.declared.turns.Act.TheVariants as shown

@@ -4,10 +4,10 @@ use Rattle.std.proofs.lemmas.Bool.{cases_eq}
 use Rattle.std.proofs.lemmas.Option.{slice_get_within}
 use Rattle.bl_model.specs.declared.operation.Reply.{Reply}
 use Rattle.bl_page.specs.declared.page.Page.{Page}
-use Rattle.bl_page.specs.Machine.{Name, Owner, State, Phase, Act as MachineAct, Enabled, Changes, IsAt}
+use Rattle.bl_page.specs.Machine.{Name, Owner, State, Act as MachineAct, Enabled, Changes, IsAt}
 use Rattle.bl_page.specs.Machine.Act.{Begin, End, Get, Put, Take, Latch, Retire, Look, Release, Miss}
 use Rattle.bl_page.specs.Machine.Looked.{Process, Page as OfPage}
-use Rattle.bl_page.specs.Machine.Owner.{Released, Held, Retired}
+use Rattle.bl_page.specs.Machine.Owner.{Released, Retired}
 use Rattle.bl_page.specs.Machine.Phase.{Waiting, Running, Ended}
 use Rattle.bl_trails.proofs.Pushes.{name_cases}
 use Rattle.bl_steps.specs.Worlds.{World as ModelWorld}
@@ -19,7 +19,7 @@ use Rattle.bl_world.specs.Views.{name_of, act_shown}
 use Rattle.bl_world.specs.Retirements.{Stands, IsRetired}
 use Rattle.bl_world.specs.Worlds.{HasTimes}
 use Rattle.bl_world.proofs.Places.{push_length, push_cases}
-use Rattle.bl_world.proofs.Retired.{push_old, push_new, push_agree, agree_back, retired_same, retired_on, retired_new, retired_back, retired_now, not_released, act_at, retire_cases, release_cases}
+use Rattle.bl_world.proofs.Retired.{push_old, push_new, push_agree, agree_back, retired_same, retired_on, retired_new, retired_back, retired_now, not_released, retire_cases, release_cases}
 
 -- an event that changes the owner of at most one page leaves one that is retired so, unless it releases it
 kept_at : (x y k : ℕ) (o p : Owner) (before after : ℕ → Owner) → IsAt x o before after → before x ≡ p → p ≢ Retired k → before y ≡ Retired k → after y ≡ Retired k

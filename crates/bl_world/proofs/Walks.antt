@@ -1,5 +1,5 @@
 -- A lone walk, page by page.
-use Rattle.std.proofs.Common.{ℕ, ◌≡◌, ◌⊎◌, ◌+◌, ◌<◌, ◌≤◌, suc, Some, List, [], ◌∷◌, length, slice_get, get_or, arith, sym, ap, ◌∙◌, refl, subst, inl, inr}
+use Rattle.std.proofs.Common.{ℕ, ◌≡◌, ◌⊎◌, ◌+◌, ◌<◌, ◌≤◌, suc, List, [], ◌∷◌, length, get_or, arith, sym, ap, ◌∙◌, refl, subst, inl, inr}
 use Rattle.std.specs.Coded.{le_prop}
 use Rattle.std.proofs.Math.Logic.{∥∥₁_elim}
 use mathlib.Core.Logic.{∥∥₁_map}
@@ -23,7 +23,7 @@ use Rattle.bl_tables.proofs.Starting.{run_laws}
 use Rattle.bl_world.specs.Views.{View}
 use Rattle.bl_world.specs.Worlds.{HasWorld, IsWorld}
 use Rattle.bl_world.specs.Lone.{HasWalk}
-use Rattle.bl_world.proofs.Arms.{stands, stood_is, read_at}
+use Rattle.bl_world.proofs.Arms.{read_at}
 
 -- a walk begins with its first page
 walk_begins : (contents : ℕ → Page) (k x leaf : ℕ) (pages : List ℕ) → IsWalk (λ y. node_of (contents y)) k x pages leaf → (rest : List ℕ) × (pages ≡ x ∷ rest)

@@ -1,5 +1,5 @@
 -- What may be believed of a world, at every moment so far.
-use Rattle.std.specs.Prelude.{◌≡◌, ◌≢◌, ℕ, ◌<◌, ◌≤◌, ◌+◌, ◌++◌, Option, Some, None, length, take, slice_get}
+use Rattle.std.specs.Prelude.{◌≡◌, ◌≢◌, ℕ, ◌<◌, ◌+◌, ◌++◌, Option, Some, None, length, take, slice_get}
 use Rattle.bl_model.specs.Map.{empty}
 use Rattle.bl_model.specs.History.{IsLegalFrom, final_map}
 use Rattle.bl_model.specs.declared.operation.Op.{Op}
@@ -120,8 +120,8 @@ pub record Account (v : View) : Type 0 where
   pub releases : ReleasesSeen v.events
   -- a search, and a part, gets no more pages than its bound beside the puts of others, at every moment so far
   pub bounded : (n : ℕ) (p : Proc) → slice_get v.processes n ≡ Some p → IsSearch p → IsWithinBound (length v.pages) (name_of (n + 1)) trail
-  -- an insertion, a deletion and a post hold no page when they latch one, a compression two at most; a search and a part
-  -- latch, take and put nothing
+  -- when they latch a page, an insertion, a deletion and a post hold none, and a compression the parent and the left child at
+  -- most; a search and a part latch, take and put nothing
   pub latches : (n : ℕ) (p : Proc) → slice_get v.processes n ≡ Some p → IsTidy p (marks_of (name_of (n + 1)) trail)
   -- whichever the turns were: a process answers that there was no room only where one of them was a fit refusal of it
   pub refused : (way : Way v) (n : ℕ) (p : Proc) (a : Answer) → slice_get v.processes n ≡ Some p → answer_of p ≡ Some a → IsNoRoom a → WasRefused way.opened way.deeds n

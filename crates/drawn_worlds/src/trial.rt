@@ -922,9 +922,15 @@ impl Trial {
 
     fn all_descend(&self) -> Result<(), Law> {
         for key in 0..self.size.keys {
-            descends(&self.model.lists, &self.tree, key)?;
+            self.descends_from(key)?;
         }
-        descends(&self.model.lists, &self.tree, u64::MAX)
+        self.descends_from(u64::MAX)
+    }
+
+    /// The lone walk that the world tells is the descent.
+    fn descends_from(&self, key: u64) -> Result<(), Law> {
+        let walk = descends(&self.model.lists, &self.tree, key)?;
+        holds(self.world.lone_walk(key) == walk, "a lone walk is a descent")
     }
 
     /// A process that is alone, up to its answer.

@@ -243,7 +243,7 @@ fn sizes_out_of_range_are_refused(rt: HostRuntime) -> Result<(), Fail> {
     Ok(())
 }
 
-// Keys 1 to 15 part the leaf, and the post of the upper part grows the tree: a search goes down to it.
+// Keys 1 to 15 part the leaf, and the post of the upper part grows the tree: a search goes down to it by three gets.
 #[test]
 fn posts_grow_the_tree(rt: HostRuntime) -> Result<(), Fail> {
     let Some((index, mut one, mut two)) = two_passes(rt.alloc(), 8) else {
@@ -264,6 +264,9 @@ fn posts_grow_the_tree(rt: HostRuntime) -> Result<(), Fail> {
     assert!(rt; matches!(done, (Posted::Done, None)));
     let again = index.post(&rt, &mut two, hint);
     assert!(rt; matches!(again, (Posted::Already, None)));
+    assert!(rt; index.patience() == 8);
+    let few = index.find(&mut two, 12, 2);
+    assert!(rt; matches!(few, Err(OutOfTurns)));
     let found = index.find(&mut two, 12, 3);
     assert!(rt; matches!(found, Ok(Reply::Found(120))));
     Ok(())

@@ -443,8 +443,9 @@ fn onwards(lists: &Lists, at: u32, key: u64) -> Result<Option<u32>, Law> {
     }
 }
 
-/// A lone descent for the key comes to a live leaf that covers it, and to no page twice.
-pub fn descends(lists: &Lists, tree: &Tree, key: u64) -> Result<(), Law> {
+/// A lone descent for the key comes to a live leaf that covers it, and to no page twice. Gives that leaf, and how many pages
+/// were got, page 0 included.
+pub fn descends(lists: &Lists, tree: &Tree, key: u64) -> Result<(u32, u32), Law> {
     let Some(Page::Anchor(anchor)) = lists.pages.as_slice().first() else {
         return Err("page 0 is the anchor");
     };
@@ -454,11 +455,14 @@ pub fn descends(lists: &Lists, tree: &Tree, key: u64) -> Result<(), Law> {
         .last()
         .copied()
         .ok_or("there is a level")?;
+    let mut gets = 1u32;
     for _ in 0..lists.pages.len() {
+        gets = gets.saturating_add(1);
         match onwards(lists, at, key)? {
             Some(next) => at = next,
             None => {
-                return holds(tree.live_at(at).is_some(), "a descent ends at a live leaf");
+                holds(tree.live_at(at).is_some(), "a descent ends at a live leaf")?;
+                return Ok((at, gets));
             }
         }
     }

@@ -1,6 +1,3 @@
-use Rattle.std.proofs.Common.{◌≡◌, None}
-use Rattle.std.proofs.Math.Logic.{∥∥₁_elim}
-use Rattle.bl_world.specs.Views.{view_of}
 use Rattle.bl_world.proofs.Arms.{stands}
 use Rattle.bl_world.proofs.Near.{not_unseen}
 use Rattle.bl_world.proofs.Outcomes.{ok_map}

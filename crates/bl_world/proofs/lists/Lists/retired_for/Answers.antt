@@ -1,6 +1,4 @@
-use Rattle.std.proofs.Common.{◌≡◌, ◌+◌, Some, None, List, length, slice_get, ap, sym, ◌∙◌, refl, subst}
-use Rattle.bl_proc.specs.declared.kinds.Proc.{Proc}
-use Rattle.bl_proc.specs.declared.kinds.Proc.TheVariants as proc
+use Rattle.std.proofs.Common.{◌≡◌, ◌+◌, Some, None, length, sym, ◌∙◌, refl, subst}
 use Rattle.bl_world.specs.Turns.{IsToRelease}
 use Rattle.bl_world.specs.Retirements.{HasSeen}
 use Rattle.bl_world.proofs.Arms.{stood_is}
