@@ -1,5 +1,7 @@
 pub mod Calls
 pub mod Hands
+pub mod Standing
+pub mod Inserted
 pub mod Silent
 pub mod Searches
 pub mod Listings
