@@ -5,8 +5,6 @@ use Rattle.bl_model.specs.Rows.{map_of}
 use Rattle.bl_page.specs.declared.page.Page.{Page}
 use Rattle.bl_page.specs.declared.page.Page.TheVariants as page
 use Rattle.bl_page.specs.Words.{head, layout, entries_of, words_of}
-use Rattle.bl_page.specs.Faults.{count_in}
-use Rattle.bl_page.proofs.FaultLemmas.{head-count}
 use Rattle.bl_laws.specs.Pages.{node_of, IsTreePage}
 use Rattle.bl_rearrange.specs.Entered.{entered}
 use Rattle.bl_rearrange.specs.Rearranged.{pairs_of, IsNow, low_of, high_of, right_of, KeepsFrame, IsFitted}
@@ -45,13 +43,6 @@ use Rattle.bl_passes.specs.Told.{Goes}
 use Rattle.bl_index.specs.Runs.{IsDone}
 use Rattle.bl_index.specs.Events.{OpensLast, HasInserted}
 use Rattle.bl_index.proofs.Standing.{put_gave, goes_to, course_at}
-
--- how many pairs a leaf or an inner page has, by its words
-pub pairs_counted : (c : Page) (words : List ℕ) → IsTreePage c → words ≡ words_of c → count_in words ≡ length (pairs_of c)
-pairs_counted (page.Anchor a) words tree e = absurd tree
-pairs_counted (page.Leaf l) words tree e = ap count_in e ∙ head-count 2 0 (length l.rows.items) (omega arith) (omega (arith, l.few))
-pairs_counted (page.Inner i) words tree e = ap count_in e ∙ head-count 3 i.level (length i.children.items) (omega (arith, i.below_limit)) (omega (arith, i.few))
-pairs_counted (page.Dead d) words tree e = absurd tree
 
 -- a page of the same kind, bounds and link is spelled by its pairs
 pub spelled_by : (c p : Page) (pairs : List (ℕ × ℕ)) → KeepsFrame c p → pairs_of p ≡ pairs → words_of p ≡ words_by c pairs

@@ -16,7 +16,7 @@ use crate::kinds::Kind;
 use crate::stepping::Stepped;
 use bl_model::Reply;
 use bl_passes::Mine;
-use bl_proc::{Answer, Delete, Hint, Process};
+use bl_proc::{Answer, Hint};
 use bl_store::{Hand, Stock};
 use crossbeam_utils::Backoff;
 use std::sync::Wait;
@@ -56,8 +56,7 @@ impl Index {
         ensures same { IsSamePass pass.old pass.new }
         ensures deletes { Deletes (number_of pass.old) key result.0 result.1 (trail pass.old) (trail pass.new) }
     {
-        let process = self.carry_out(rt, &mut pass.hand, Delete::new(key));
-        answered(process.answer())
+        self.delete_by(rt, &mut pass.hand, key)
     }
 
     /// Carries the process out, from its begin to its end.

@@ -13,6 +13,7 @@ mod changing;
 mod coming;
 mod compressing;
 mod config;
+mod deleting;
 mod errands;
 mod events;
 mod finding;

@@ -12,7 +12,8 @@ use Rattle.bl_store.specs.declared.store.Hand.{Hand}
 use Rattle.bl_passes.specs.declared.known.Mine.{Mine}
 use Rattle.bl_index.specs.Runs.{IsOn, IsSince}
 use Rattle.bl_index.proofs.Standing.{on_as, none_of}
-use Rattle.bl_index.proofs.Inserted.{inserting, pairs_counted, stands_putting}
+use Rattle.bl_ways.proofs.Spellings.{pairs_counted}
+use Rattle.bl_index.proofs.Inserted.{inserting, stands_putting}
 use Rattle.bl_index.proofs.index.Index.insert_there.Goals as goal
 
 pub enter-requires-clause-page : goal.enter-requires-clause-page
