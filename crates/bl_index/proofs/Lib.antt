@@ -1,5 +1,8 @@
 pub mod Calls
 pub mod Hands
+pub mod Standing
+pub mod Inserted
+pub mod Deleted
 pub mod Silent
 pub mod Searches
 pub mod Listings

@@ -1,21 +1,22 @@
 //! Insertions and deletions.
 
-ghost use Rattle.std.specs.Prelude.{◌≡◌, None, Some, false};
+ghost use Rattle.std.specs.Prelude.{◌≡◌, ◌≢◌, ℕ, None, Some, false};
 ghost use Rattle.bl_ways.specs.declared.acts.Action.TheVariants as act;
 ghost use Rattle.bl_ways.specs.declared.answers.Answer.TheVariants as answers;
 ghost use Rattle.bl_index.specs.Searching.{IsOpAnswer};
-ghost use Rattle.bl_store.specs.Hands.{known, IsOf, IsIdle, IsSameHand, HasNoStock};
+ghost use Rattle.bl_store.specs.Hands.{known, IsOf, IsIdle, IsRunning, IsSameHand, HasNoStock};
 ghost use Rattle.bl_passes.specs.Noting.{trail_of};
 ghost use Rattle.bl_passes.specs.Seeing.{IsSeen};
 ghost use Rattle.bl_passes.specs.Told.{IsUnborn};
-ghost use Rattle.bl_index.specs.Runs.{IsDone, IsWithin};
+ghost use Rattle.bl_passes.specs.declared.known.Mine.{Mine as Knows};
+ghost use Rattle.bl_index.specs.Runs.{IsOn, IsSince, IsDone, IsWithin, HasReserved};
 
 use crate::index::{Index, Pass};
 use crate::kinds::Kind;
 use crate::stepping::Stepped;
 use bl_model::Reply;
 use bl_passes::Mine;
-use bl_proc::{Answer, Delete, Hint, Insert, Process};
+use bl_proc::{Answer, Hint};
 use bl_store::{Hand, Stock};
 use crossbeam_utils::Backoff;
 use std::sync::Wait;
@@ -46,8 +47,7 @@ impl Index {
         ensures same { IsSamePass pass.old pass.new }
         ensures inserts { Inserts (number_of pass.old) key value result.0 result.1 (trail pass.old) (trail pass.new) }
     {
-        let process = self.carry_out(rt, &mut pass.hand, Insert::new(key, value));
-        answered(process.answer())
+        self.insert_by(rt, &mut pass.hand, key, value)
     }
 
     /// Takes the key and its value away. Where the leaf is thin then, there is a hint to merge it or even it out.
@@ -56,8 +56,7 @@ impl Index {
         ensures same { IsSamePass pass.old pass.new }
         ensures deletes { Deletes (number_of pass.old) key result.0 result.1 (trail pass.old) (trail pass.new) }
     {
-        let process = self.carry_out(rt, &mut pass.hand, Delete::new(key));
-        answered(process.answer())
+        self.delete_by(rt, &mut pass.hand, key)
     }
 
     /// Carries the process out, from its begin to its end.
@@ -72,9 +71,27 @@ impl Index {
         ensures seen { IsSeen (trail_of (known hand.new.seat).trail) }
         ensures done { IsDone hand.old.number (known hand.old.seat) (known hand.new.seat) (P.proc_of process) (P.proc_of result) }
     {
-        let backoff = Backoff::new();
         let mut process = process;
         self.begin(hand, &mut process);
+        self.carry_on(rt, hand, process)
+    }
+
+    /// Carries the process on to its end. It has nothing reserved.
+    pub(crate) fn carry_on<P: Kind, R: Wait>(&self, rt: &R, hand: &mut Hand<Mine>, process: P) -> P
+        requires own { IsOf self.now.store.table.shared.table_id self.now.store.layout hand.old.seat }
+        requires running { IsRunning hand.old.seat }
+        requires process { IsOn self.now.store.layout (known hand.old.seat) (P.proc_of process) }
+        requires going { (P.answer_of process ≡ None) × (P.next_of process ≢ act.Begin) }
+        requires reserved { HasReserved hand.old.seat None (P.proc_of process) }
+        ensures same { IsSameHand hand.old.seat hand.new.seat }
+        ensures idle { IsIdle hand.new.seat × HasNoStock hand.new.seat }
+        ensures within { IsWithin hand.new.seat }
+        ensures rests { (known hand.new.seat).runs ≡ false }
+        ensures seen { IsSeen (trail_of (known hand.new.seat).trail) }
+        ensures done { (pass : ℕ) (old : Knows) → IsSince pass old (known hand.old.seat) → IsDone pass old (known hand.new.seat) (P.proc_of process) (P.proc_of result) }
+    {
+        let backoff = Backoff::new();
+        let mut process = process;
         let mut held: Option<Stock> = None;
         for _ in rt.forever() {
             match self.step(hand, &mut process, held, &backoff) {

@@ -29,6 +29,13 @@ pub struct Pass {
     pub ghost seen: { ∥ IsSeen (trail_of (known hand.seat).trail) ∥₁ },
 }
 
+impl Pass {
+    /// Whether a sweep is worth its time now. It is a hint: a sweep does its whole work whatever this says.
+    pub fn is_due(&self) -> bool {
+        self.hand.is_due()
+    }
+}
+
 impl Index {
     ghost use Rattle.bl_index.specs.Calls.{pages_of};
 

@@ -1,6 +1,6 @@
 //! Kinds of processes, each by its own type.
 
-use bl_proc::{Compress, Delete, Find, Insert, Part, Post, Process, Reader};
+use bl_proc::{Compress, Find, Insert, Part, Post, Process, Reader};
 
 /// A kind of process that the index carries out: each is one of the kinds that the world of processes knows, and goes on
 /// in one way.
@@ -84,32 +84,6 @@ impl Kind for Insert {
     ghost follows = { insert_follows };
 
     ghost retires = { insert_retires };
-}
-
-impl Kind for Delete {
-    ghost use Rattle.std.specs.Prelude.{refl};
-    ghost use Rattle.bl_proc.specs.declared.kinds.Proc.TheVariants as proc;
-    ghost use Rattle.bl_courses.proofs.Deletions.{delete_goes};
-    ghost use Rattle.bl_courses.proofs.Following.{delete_wants, delete_follows};
-    ghost use Rattle.bl_courses.proofs.Retirements.{delete_retires};
-
-    ghost proc_of = { λ p. proc.Delete p };
-
-    ghost acts = { λ p. refl };
-
-    ghost asks = { λ p. refl };
-
-    ghost answers = { λ p. refl };
-
-    ghost goes = { λ p q what t. t };
-
-    ghost courses = { delete_goes };
-
-    ghost wants = { delete_wants };
-
-    ghost follows = { delete_follows };
-
-    ghost retires = { delete_retires };
 }
 
 impl Kind for Post {

@@ -10,10 +10,15 @@
 #![tactic(auto)]
 
 mod changing;
+mod coming;
 mod compressing;
 mod config;
+mod deleting;
+mod errands;
+mod events;
 mod finding;
 mod index;
+mod inserting;
 mod kinds;
 mod listing;
 mod meeting;

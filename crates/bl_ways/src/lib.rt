@@ -33,4 +33,4 @@ pub use onwards::{Onward, way_from};
 pub use reading::{count_of, level_of, levels_of, listed, low_of, top_page};
 pub use respelled::{words_with, words_without};
 pub use spelled::{level_in, levels_in, row_in, top_in, way_in};
-pub use thin::{hint_of_thin, thin_low};
+pub use thin::{hint_of_thin, thin_in, thin_low};

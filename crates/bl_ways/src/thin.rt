@@ -1,10 +1,13 @@
 //! Which pages have few pairs.
 
 ghost use Rattle.std.specs.Prelude.{◌≡◌, Some};
+ghost use Rattle.bl_page.specs.declared.page.Page.{Page};
+ghost use Rattle.bl_page.specs.Words.{words_of};
+ghost use Rattle.bl_laws.specs.Pages.{IsTreePage};
 ghost use Rattle.bl_ways.specs.Thin.{low_if_thin, thin_low, thin_hint};
 
 use crate::answers::{Hint, Level};
-use bl_page::Page;
+use bl_page::{LEVEL_UNIT, Page};
 
 /// A page with fewer pairs is thin, if it is not alone on its level.
 const ENOUGH: usize = 7;
@@ -29,6 +32,14 @@ pub fn thin_low(page: &Page) -> Option<u64>
         Page::Inner(inner) => low_if_thin(inner.children.len(), inner.low, inner.high),
         Page::Anchor(_) | Page::Dead(_) => None,
     }
+}
+
+/// The same, by the words of a leaf or an inner page.
+pub fn thin_in(words: &[u64; 32]) -> Option<u64>
+    ensures { (c : Page) → IsTreePage c → words.now ≡ words_of c → result ≡ thin_low c }
+{
+    let count = (words[0] % LEVEL_UNIT) as usize;
+    low_if_thin(count, words[1], words[2])
 }
 
 /// The hint that the page with that low is thin, for its parent of that level.

@@ -21,7 +21,6 @@ pub fn find<R: Wait>(rt: &R, index: &Index, pass: &mut Pass, key: u64) -> Reply
     let turns = index.patience();
     for _ in rt.forever() {
         if let Ok(reply) = index.find(pass, key, turns) {
-            index.sweep(pass);
             return reply;
         }
     }
@@ -36,7 +35,7 @@ pub fn insert<R: Wait>(rt: &R, index: &Index, pass: &mut Pass, key: u64, value: 
 {
     let (reply, hint) = index.insert(rt, pass, key, value);
     post(rt, index, pass, hint);
-    index.sweep(pass);
+    sweep_due(index, pass);
     reply
 }
 
@@ -47,7 +46,7 @@ pub fn delete<R: Wait>(rt: &R, index: &Index, pass: &mut Pass, key: u64) -> Repl
     ensures works { Works (number_of pass.old) (op.Delete key) result (trail pass.old) (trail pass.new) }
 {
     let (reply, _) = index.delete(rt, pass, key);
-    index.sweep(pass);
+    sweep_due(index, pass);
     reply
 }
 
@@ -66,5 +65,17 @@ fn post<R: Wait>(rt: &R, index: &Index, pass: &mut Pass, hint: Option<Hint>)
             (Posted::Done, more) => hint = more,
             _ => return,
         }
+    }
+}
+
+/// Sweeps where that is worth its time: a search leaves nothing to sweep, and a put gets its frames back without a sweep most
+/// of the time.
+fn sweep_due(index: &Index, pass: &mut Pass)
+    requires { IsPassOf index.now pass.old }
+    ensures same { IsSamePass pass.old pass.new }
+    ensures adds { Adds (number_of pass.old) (trail pass.old) (trail pass.new) }
+{
+    if pass.is_due() {
+        index.sweep(pass);
     }
 }

@@ -1,5 +1,5 @@
-use Rattle.std.proofs.Common.{rules, refl, ◌∙◌}
-use Rattle.bl_worker.proofs.Together.{nothing, then_adds, call_adds, call_works, adds_works, sweep_adds, works_on}
+use Rattle.std.proofs.Common.{rules}
+use Rattle.bl_worker.proofs.Together.{nothing, then_adds, call_adds, call_works, adds_works}
 use Rattle.bl_worker.proofs.working.find.Goals as goal
 
 pub loop-init : goal.loop-init
@@ -12,7 +12,4 @@ loop-preserved g c = record {
 }
 
 pub returns-in-Ok-clause-works : goal.returns-in-Ok-clause-works
-returns-in-Ok-clause-works g c =
-    let found = call_works _ _ _ _ _ _ c.loop.invariant.same.2 c.in-Ok.ensures.answers.answered.answers in
-    let swept = sweep_adds _ _ _ _ (c.find.ensures.same.2 ∙ c.loop.invariant.same.2) c.sweep.ensures.sweeps in
-    works_on _ _ _ _ _ _ (adds_works _ _ _ _ _ _ c.loop.invariant.adds found) swept
+returns-in-Ok-clause-works g c = adds_works _ _ _ _ _ _ c.loop.invariant.adds (call_works _ _ _ _ _ _ c.loop.invariant.same.2 c.in-Ok.ensures.answers.answered.answers)

@@ -1,22 +1,8 @@
-use Rattle.std.proofs.Common.{rules, ◌≡◌, ◌≢◌, None, sym, ap, ◌∙◌, subst}
-use Rattle.bl_ways.specs.declared.acts.Action.{Action}
-use Rattle.bl_ways.specs.declared.acts.Action.TheVariants as act
-use Rattle.bl_index.proofs.Calls.{since_step}
+use Rattle.std.proofs.Common.{◌≡◌, ◌∙◌}
+use Rattle.bl_index.proofs.Standing.{done_from}
 use Rattle.bl_index.proofs.index.Index.carry_out.Goals as goal
 
-pub loop-preserved : goal.loop-preserved
-loop-preserved g c =
-    let laws = g.met.P.Kind in
-    let inv = c.loop.invariant in
-    let after = c.in-On.ensures.after in
-    let follows = after.3.1 in
-    record {
-      same = search rules;
-      running = search rules;
-      process = after.0;
-      since = since_step _ _ _ _ _ inv.since after.1.1;
-      going = (sym (laws.answers c.step.new.process) ∙ follows.running after.4, λ e. follows.begun (laws.acts c.step.new.process ∙ e));
-      op = follows.op ∙ inv.op;
-      work = follows.work ∙ inv.work;
-      reserved = after.2;
-    }
+pub returns-clause-done : goal.returns-clause-done
+returns-clause-done g c =
+    let follows = g.met.P.Kind.follows _ _ _ c.begin.ensures.takes in
+    done_from _ _ _ _ _ _ (c.carry_on.ensures.done _ _ c.begin.ensures.begun) follows.op follows.work

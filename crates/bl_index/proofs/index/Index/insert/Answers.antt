@@ -1,17 +1,12 @@
-use Rattle.std.proofs.Common.{◌≡◌, ◌∙◌, sym, ap, Some, Option, ℕ}
-use Rattle.bl_model.specs.declared.operation.Op.TheVariants as op
-use Rattle.bl_index.proofs.Ends.{op_answered, op_beside, op_has_answer}
+use Rattle.std.proofs.Common.{refl}
+use Rattle.bl_index.proofs.Ends.{op_answered, op_beside}
 use Rattle.bl_index.proofs.index.Index.insert.Goals as goal
-
-pub answered-requires : goal.answered-requires
-answered-requires g c = op_has_answer _ _ _ _ _ _ c.carry_out-process.ensures.done (λ i. Some (op.Insert (c.new.ensures.key i) (c.new.ensures.value i))) _ c.answer.ensures
 
 pub returns-clause-inserts : goal.returns-clause-inserts
 returns-clause-inserts g c =
-    let done = c.carry_out-process.ensures.done in
-    let answer = sym c.answer.ensures ∙ c.answered.ensures in
+    let inserted = c.insert_by.ensures.inserted in
     record {
-      answers = op_answered _ _ _ _ _ _ _ _ done (λ i. Some (op.Insert (c.new.ensures.key i) (c.new.ensures.value i))) answer;
-      latches = done.tidy;
-      hint = op_beside _ _ _ _ _ _ _ done answer;
+      answers = op_answered _ _ _ _ _ _ _ _ inserted.done refl inserted.answer;
+      latches = inserted.done.tidy;
+      hint = op_beside _ _ _ _ _ _ _ inserted.done inserted.answer;
     }

@@ -2,15 +2,16 @@ use Rattle.std.proofs.Common.{◌≡◌, ◌≢◌, None}
 use Rattle.bl_ways.specs.declared.acts.Action.TheVariants as act
 use Rattle.bl_store.specs.Hands.{known, IsRunning, IsSameHand}
 use Rattle.bl_courses.specs.Frames.{op_of, work_of}
-use Rattle.bl_index.specs.Runs.{IsOn, IsSince, HasReserved}
-use Rattle.bl_index.proofs.index.Index.carry_out.Given as goal
+use Rattle.bl_index.specs.Runs.{IsOn, HasReserved}
+use Rattle.bl_index.specs.Events.{IsSameProcess}
+use Rattle.bl_index.proofs.index.Index.carry_on.Given as goal
 
 abbrev pub invariant-loop : goal.invariant-loop
 invariant-loop g l = record {
   same : IsSameHand l.fn.hand.seat l.hand.seat;
   running : IsRunning l.hand.seat;
   process : IsOn l.self.store.layout (known l.hand.seat) (g.P.Kind.proc_of l.process);
-  since : IsSince l.fn.hand.number (known l.fn.hand.seat) (known l.hand.seat);
+  since : IsSameProcess (known l.fn.hand.seat) (known l.hand.seat);
   going : (g.P.Process.answer_of l.process ≡ None) × (g.P.Process.next_of l.process ≢ act.Begin);
   op : op_of (g.P.Kind.proc_of l.process) ≡ op_of (g.P.Kind.proc_of l.fn.process);
   work : work_of (g.P.Kind.proc_of l.process) ≡ work_of (g.P.Kind.proc_of l.fn.process);

@@ -1,0 +1,151 @@
+-- What follows for a process of which a pass has no value.
+use Rattle.std.proofs.Common.{ℕ, Bool, true, false, ◌≡◌, ◌≢◌, ◌+◌, Option, Some, None, refl, sym, ap, ◌∙◌, subst}
+use Rattle.bl_layout.specs.declared.layout.Layout.{Layout}
+use Rattle.bl_page.specs.declared.page.Page.{Page}
+use Rattle.bl_page.specs.Machine.{Name}
+use Rattle.bl_trails.specs.Trails.{marks_of}
+use Rattle.bl_ways.specs.declared.acts.Action.TheVariants as act
+use Rattle.bl_ways.specs.declared.acts.Seen.{Seen}
+use Rattle.bl_ways.specs.declared.acts.Seen.TheVariants as seen
+use Rattle.bl_ways.specs.declared.approaching.Approach.{Approach}
+use Rattle.bl_ways.specs.declared.approaching.Approach.TheVariants.{Start, At, Latching, Latched, Leaving}
+use Rattle.bl_ways.specs.declared.approaching.Approached.TheVariants as came
+use Rattle.bl_ways.specs.declared.onwards.Onward.{Onward}
+use Rattle.bl_ways.specs.declared.onwards.Onward.TheVariants.{Again, Right, Down, Here}
+use Rattle.bl_ways.specs.Approaches.{IsToLook, Enters, Turns, Approaches}
+use Rattle.bl_ways.specs.Onwards.{Leads}
+use Rattle.bl_proc.specs.declared.kinds.Proc.{Proc}
+use Rattle.bl_proc.specs.Processes.{next_of, Takes}
+use Rattle.bl_courses.specs.Courses.{GoesOn}
+use Rattle.bl_courses.specs.Frames.{op_of, work_of}
+use Rattle.bl_tables.specs.Knowing.{end_of_proc}
+use Rattle.bl_tables.specs.Logs.{proc_log}
+use Rattle.bl_passes.specs.declared.known.Mine.{Mine}
+use Rattle.bl_passes.specs.Noting.{trail_of}
+use Rattle.bl_passes.specs.Fitting.{name}
+use Rattle.bl_passes.specs.Told.{Goes, Finishes, ends}
+use Rattle.bl_index.specs.Runs.{IsOn, IsSince, IsDone}
+use Rattle.bl_index.specs.Events.{IsSameProcess, HoldsNone, OpensLast}
+use Rattle.bl_index.proofs.Calls.{since_step}
+
+pub on_itself : (l : Layout) (d : Mine) (p : Proc) → IsOn l d p → IsOn l d d.state
+on_itself l d p on = record { runs = on.runs; state = refl; pages = on.pages; passes = on.passes; near = on.near }
+
+pub on_as : (l : Layout) (d : Mine) (p : Proc) → IsOn l d d.state → d.state ≡ p → IsOn l d p
+on_as l d p on is = record { runs = on.runs; state = is; pages = on.pages; passes = on.passes; near = on.near }
+
+pub opens_at : (state p ending last : Proc) (page : ℕ) → state ≡ p → OpensLast p page ending last → OpensLast state page ending last
+opens_at state p ending last page is opens = subst (λ (z : Proc). OpensLast z page ending last) (sym is) opens
+
+pub none_of : (o : Option ℕ) → ((v : ℕ) → o ≡ Some v → ⊥) → o ≡ None
+none_of None not = refl
+none_of (Some v) not = absurd (not v refl)
+
+-- where the process stands after an event
+pub goes_takes : (what : Seen) (d e : Mine) → Goes what d e → Takes d.state what e.state
+goes_takes what d e goes = subst (λ (z : Proc). Takes d.state what z) (sym goes.state) goes.course.takes
+
+pub goes_to : (what : Seen) (d e : Mine) (p q : Proc) → Goes what d e → d.state ≡ p → Takes p what q → e.state ≡ q
+goes_to what d e p q goes is t = goes.state ∙ sym (goes.course.only q (subst (λ (z : Proc). Takes z what q) (sym is) t))
+
+pub on_goes : (l : Layout) (what : Seen) (d e : Mine) (p q : Proc) → IsOn l d p → Goes what d e → Takes p what q → IsOn l e q
+on_goes l what d e p q on goes t = record {
+  runs = goes.steps.runs;
+  state = goes_to what d e p q goes on.state t;
+  pages = goes.steps.pages ∙ on.pages;
+  passes = goes.steps.passes ∙ on.passes;
+  near = goes.steps.near;
+}
+
+pub on_after : (l : Layout) (what : Seen) (d e : Mine) (p : Proc) → IsOn l d p → Goes what d e → IsOn l e e.state
+on_after l what d e p on goes = record {
+  runs = goes.steps.runs;
+  state = refl;
+  pages = goes.steps.pages ∙ on.pages;
+  passes = goes.steps.passes ∙ on.passes;
+  near = goes.steps.near;
+}
+
+pub same_goes : (what : Seen) (d e : Mine) → Goes what d e → IsSameProcess d e
+same_goes what d e goes pass old since = since_step _ _ _ _ _ since goes.steps
+
+pub same_all : (d e f : Mine) → IsSameProcess d e → IsSameProcess e f → IsSameProcess d f
+same_all d e f one two pass old since = two pass old (one pass old since)
+
+-- a latch that was had or missed
+pub same_latch : (b : Bool) (d e : Mine) → (b ≡ true → Goes seen.Done d e) → (b ≡ false → Goes seen.Missed d e) → IsSameProcess d e
+same_latch true d e done missed = same_goes seen.Done d e (done refl)
+same_latch false d e done missed = same_goes seen.Missed d e (missed refl)
+
+-- what a put gave, or its reservation
+abbrev pub put_gave : Bool → Seen
+put_gave true = seen.Done
+put_gave false = seen.Refused
+
+pub goes_put : (b : Bool) (d e : Mine) → (b ≡ true → Goes seen.Done d e) → (b ≡ false → Goes seen.Refused d e) → Goes (put_gave b) d e
+goes_put true d e done refused = done refl
+goes_put false d e done refused = refused refl
+
+-- a course of the process as it stands
+pub course_at : (what : Seen) (p q : Proc) → p ≡ q → GoesOn q what → GoesOn p what
+course_at what p q is course = subst (λ (z : Proc). GoesOn z what) (sym is) course
+
+-- a writer that has looked holds no page
+turned_free : (level x : ℕ) (c : Page) (o : Onward) (b : Approach) → Turns level x c o b → HoldsNone b
+turned_free level x c o Start t = tt
+turned_free level x c o (At y) t = tt
+turned_free level x c o (Latching y) t = tt
+turned_free level x c Again (Latched y) t = t
+turned_free level x c (Right z) (Latched y) t = t
+turned_free level x c (Down z) (Latched y) t = t
+turned_free level x c Here (Latched y) t = t
+turned_free level x c Again (Leaving y to) t = t
+turned_free level x c (Right z) (Leaving y to) t = t
+turned_free level x c (Down z) (Leaving y to) t = t
+turned_free level x c Here (Leaving y to) t = t
+
+pub looks_free : (level key : ℕ) (a b : Approach) (c : Page) → IsToLook a → Approaches level key a (seen.Words c) (came.On b) → HoldsNone b
+looks_free level key Start Start c looks t = tt
+looks_free level key Start (At y) c looks t = tt
+looks_free level key Start (Latching y) c looks t = tt
+looks_free level key Start (Latched y) c looks t = t
+looks_free level key Start (Leaving y to) c looks t = t
+looks_free level key (At x) b c looks t = turned_free level x c t.0 b t.2
+looks_free level key (Latching x) b c looks t = absurd looks
+looks_free level key (Latched x) b c looks t = absurd looks
+looks_free level key (Leaving x to) b c looks t = absurd looks
+
+-- a process that has opened its last page and ended
+pub concluded : (pass page : ℕ) (old d e f : Mine) (first ending last : Proc) → IsSince pass old d → OpensLast d.state page ending last → Goes seen.Done d e → ends e 0 f → op_of ending ≡ op_of first → work_of ending ≡ work_of first → IsDone pass old f first last
+concluded pass page old d e f first ending last since opens goes told op work =
+    let stands : e.state ≡ ending = goes_to seen.Done d e d.state ending goes refl opens.opened in
+    let after = same_goes seen.Done d e goes pass old since in
+    let done = told.1 in
+    let is_last : done.course.new ≡ last = sym (done.course.only last (subst (λ (z : Proc). Takes z seen.Done last) (sym stands) opens.ended)) in
+    record {
+      d = e;
+      before = ending;
+      since = after;
+      state = stands;
+      at_end = opens.at_end;
+      told = subst (λ (z : Proc). Finishes (end_of_proc z) e f) stands told.0;
+      takes = opens.ended;
+      op = op;
+      work = work;
+      log = subst (λ (z : Proc × Name). proc_log z.0 (marks_of z.1 (trail_of f.trail))) (λ i. (is_last i, name (after.named i) (after.number i))) done.log;
+    }
+
+-- the same, from an earlier state of the process on
+pub done_from : (pass : ℕ) (old e : Mine) (earlier first last : Proc) → IsDone pass old e first last → op_of first ≡ op_of earlier → work_of first ≡ work_of earlier → IsDone pass old e earlier last
+done_from pass old e earlier first last done op work = record {
+  d = done.d;
+  before = done.before;
+  since = done.since;
+  state = done.state;
+  at_end = done.at_end;
+  told = done.told;
+  takes = done.takes;
+  op = done.op ∙ op;
+  work = done.work ∙ work;
+  log = done.log;
+}

@@ -1,0 +1,49 @@
+use Rattle.std.proofs.Common.{ℕ, rules, ◌≡◌, ◌≢◌, None, sym, ap, ◌∙◌, subst}
+use Rattle.bl_ways.specs.declared.acts.Action.{Action}
+use Rattle.bl_ways.specs.declared.acts.Action.TheVariants as act
+use Rattle.bl_trails.specs.Trails.{marks_of}
+use Rattle.bl_tables.specs.Logs.{proc_log}
+use Rattle.bl_proc.specs.Processes.{next_of}
+use Rattle.bl_courses.specs.Frames.{op_of, work_of}
+use Rattle.bl_store.specs.Hands.{known}
+use Rattle.bl_passes.specs.declared.known.Mine.{Mine}
+use Rattle.bl_passes.specs.Noting.{trail_of}
+use Rattle.bl_passes.specs.Fitting.{name}
+use Rattle.bl_index.specs.Runs.{IsSince}
+use Rattle.bl_index.proofs.Calls.{since_step}
+use Rattle.bl_index.proofs.index.Index.carry_on.Goals as goal
+
+pub loop-preserved : goal.loop-preserved
+loop-preserved g c =
+    let laws = g.met.P.Kind in
+    let inv = c.loop.invariant in
+    let after = c.in-On.ensures.after in
+    let follows = after.3.1 in
+    record {
+      same = search rules;
+      running = search rules;
+      process = after.0;
+      since = λ pass old begun. since_step _ _ _ _ _ (inv.since pass old begun) after.1.1;
+      going = (sym (laws.answers c.step.new.process) ∙ follows.running after.4, λ e. follows.begun (laws.acts c.step.new.process ∙ e));
+      op = follows.op ∙ inv.op;
+      work = follows.work ∙ inv.work;
+      reserved = after.2;
+    }
+
+pub returns-in-AtEnd-clause-done : goal.returns-in-AtEnd-clause-done
+returns-in-AtEnd-clause-done g c = λ pass old begun.
+    let inv = c.loop.invariant in
+    let after = c.in-AtEnd.ensures.after in
+    let since = subst (λ (z : Mine). IsSince pass old z) (sym after.2) (inv.since pass old begun) in
+    record {
+      d = known c.step.new.hand.seat;
+      before = g.P.Kind.proc_of c.step.new.process;
+      since = since;
+      state = ap (λ (z : Mine). z.state) after.2 ∙ (inv.process.state ∙ sym after.1);
+      at_end = ap next_of after.1 ∙ after.0;
+      told = c.finish.ensures.told;
+      takes = g.met.P.Kind.goes _ _ _ c.finish.ensures.takes;
+      op = ap op_of after.1 ∙ inv.op;
+      work = ap work_of after.1 ∙ inv.work;
+      log = subst (λ (z : ℕ × ℕ). proc_log (g.P.Kind.proc_of c.finish.new.process) (marks_of (name z.0 z.1) (trail_of (known c.finish.new.hand.seat).trail))) (λ i. (since.named i, since.number i)) c.finish.ensures.log;
+    }

@@ -1,0 +1,223 @@
+//! The way of a writer to the page that covers its key, by the words of the pages on it.
+
+ghost use Rattle.std.specs.Prelude.{◌≡◌, true, false};
+ghost use Rattle.bl_ways.specs.declared.acts.Action.TheVariants as act;
+ghost use Rattle.bl_ways.specs.declared.approaching.Approach.TheVariants as approach;
+ghost use Rattle.bl_ways.specs.Approaches.{approach_next, IsToLook};
+ghost use Rattle.bl_store.specs.Hands.{known, read_words, IsOf, IsIdle, IsRunning, IsSameHand, IsSameStage, IsSameStock, ReadsFrom};
+ghost use Rattle.bl_ways.specs.declared.acts.Seen.TheVariants as seen;
+ghost use Rattle.bl_proc.specs.Processes.{next_of};
+ghost use Rattle.bl_courses.specs.Courses.{GoesOn};
+ghost use Rattle.bl_passes.specs.Told.{Begins, IsUnborn};
+ghost use Rattle.bl_index.specs.Runs.{IsOn, IsSince};
+ghost use Rattle.bl_index.specs.Events.{IsSameProcess, HoldsNone, IsThere, HasArrived};
+
+use crate::errands::Errand;
+use crate::index::Index;
+use crate::shown::Shown;
+use bl_passes::{Began, Launch, Mine};
+use bl_ways::{Approach, Onward, way_in};
+use bl_store::{Glance, Hand};
+use crossbeam_utils::Backoff;
+use std::marker::Brand;
+use std::sync::Wait;
+
+/// What a writer sees at a page that it holds.
+#[derive(Clone, Copy)]
+pub(crate) enum Arrived {
+    /// It covers the key, and has been looked at.
+    There(Glance),
+    /// It doesn't, and is to be opened. The way goes on at the other page, or from its beginning.
+    Away(Option<u32>),
+}
+
+/// The page that is to be got.
+#[inline(always)]
+fn page_of(approach: Approach) -> u32
+    requires { IsToLook approach }
+    ensures { approach_next approach ≡ act.Get result }
+{
+    match approach {
+        Approach::Start => 0,
+        Approach::At(page) => page,
+        _ => unreachable!(),
+    }
+}
+
+impl Index {
+    // The process with this errand begins, which the first bound names beside its pass.
+    #[inline(always)]
+    fn set_out<L: Launch, J: Errand>(&self, hand: &mut Hand<Mine>, errand: &J)
+        requires own { IsOf self.now.store.table.shared.table_id self.now.store.layout hand.old.seat }
+        requires idle { IsIdle hand.old.seat }
+        requires names { (hand.old.number ≡ L.pass) × (self.now.store.layout.pages ≡ L.pages) × (self.now.store.layout.passes ≡ L.passes) × (J.unborn errand.now ≡ L.process) }
+        requires next { next_of L.process ≡ act.Begin }
+        requires unborn { IsUnborn L.process }
+        requires course { GoesOn L.process seen.Done }
+        ensures same { IsSameHand hand.old.seat hand.new.seat × IsSameStock hand.old.seat hand.new.seat }
+        ensures running { IsRunning hand.new.seat }
+        ensures told { Begins L.pass L.pages L.passes L.process (known hand.old.seat) (known hand.new.seat) }
+    {
+        let _ = errand;
+        self.store.begin::<Began<L>>(hand);
+    }
+
+    /// The process with this errand begins.
+    #[inline(always)]
+    pub(crate) fn depart<J: Errand>(&self, hand: &mut Hand<Mine>, errand: &J)
+        requires own { IsOf self.now.store.table.shared.table_id self.now.store.layout hand.old.seat }
+        requires idle { IsIdle hand.old.seat }
+        requires unborn { IsUnborn (J.unborn errand.now) }
+        ensures same { IsSameHand hand.old.seat hand.new.seat × IsSameStock hand.old.seat hand.new.seat }
+        ensures running { IsRunning hand.new.seat }
+        ensures process { IsOn self.now.store.layout (known hand.new.seat) (J.at errand.now approach.Start) }
+        ensures begun { IsSince hand.old.number (known hand.old.seat) (known hand.new.seat) }
+    {
+        self.set_out::<Brand, J>(hand, errand);
+    }
+
+    /// It gets the next page on its way, and goes on by its words.
+    #[inline(always)]
+    fn look_on<J: Errand>(&self, hand: &mut Hand<Mine>, errand: &J, approach: Approach) -> Approach
+        requires own { IsOf self.now.store.table.shared.table_id self.now.store.layout hand.old.seat }
+        requires running { IsRunning hand.old.seat }
+        requires process { IsOn self.now.store.layout (known hand.old.seat) (J.at errand.now approach) }
+        requires looks { IsToLook approach }
+        ensures same { IsSameHand hand.old.seat hand.new.seat × IsSameStage hand.old.seat hand.new.seat × IsSameStock hand.old.seat hand.new.seat }
+        ensures process { IsOn self.now.store.layout (known hand.new.seat) (J.at errand.now result) }
+        ensures free { HoldsNone result }
+        ensures since { IsSameProcess (known hand.old.seat) (known hand.new.seat) }
+    {
+        let glance = self.look(hand, page_of(approach));
+        let shown = Shown {
+            store: &self.store,
+            glance,
+        };
+        approach.took_words(errand.level(), errand.key(), &shown, hand)
+    }
+
+    /// It goes on to the page that is to be latched.
+    #[inline(always)]
+    fn seek<J: Errand, R: Wait>(
+        &self,
+        rt: &R,
+        hand: &mut Hand<Mine>,
+        errand: &J,
+        from: Approach,
+    ) -> u32
+        requires own { IsOf self.now.store.table.shared.table_id self.now.store.layout hand.old.seat }
+        requires running { IsRunning hand.old.seat }
+        requires process { IsOn self.now.store.layout (known hand.old.seat) (J.at errand.now from) }
+        requires free { HoldsNone from }
+        ensures same { IsSameHand hand.old.seat hand.new.seat × IsSameStage hand.old.seat hand.new.seat × IsSameStock hand.old.seat hand.new.seat }
+        ensures process { IsOn self.now.store.layout (known hand.new.seat) (J.at errand.now (approach.Latching result)) }
+        ensures since { IsSameProcess (known hand.old.seat) (known hand.new.seat) }
+    {
+        let mut approach = from;
+        for _ in rt.forever() {
+            if let Approach::Latching(page) = approach {
+                return page;
+            }
+            approach = self.look_on(hand, errand, approach);
+        }
+        unreachable!()
+    }
+
+    /// It tries to latch the page that it has come to.
+    #[inline(always)]
+    fn latch_there<J: Errand>(&self, hand: &mut Hand<Mine>, errand: &J, page: u32) -> bool
+        requires own { IsOf self.now.store.table.shared.table_id self.now.store.layout hand.old.seat }
+        requires running { IsRunning hand.old.seat }
+        requires process { IsOn self.now.store.layout (known hand.old.seat) (J.at errand.now (approach.Latching page)) }
+        ensures same { IsSameHand hand.old.seat hand.new.seat × IsSameStage hand.old.seat hand.new.seat × IsSameStock hand.old.seat hand.new.seat }
+        ensures done { result ≡ true → IsOn self.now.store.layout (known hand.new.seat) (J.at errand.now (approach.Latched page)) }
+        ensures missed { result ≡ false → IsOn self.now.store.layout (known hand.new.seat) (J.at errand.now (approach.At page)) }
+        ensures since { IsSameProcess (known hand.old.seat) (known hand.new.seat) }
+    {
+        let _ = errand;
+        self.try_latch(hand, page)
+    }
+
+    /// It gets the page that it holds, and sees by its words whether it is there.
+    #[inline(always)]
+    fn look_there<J: Errand>(&self, hand: &mut Hand<Mine>, errand: &J, page: u32) -> Arrived
+        requires own { IsOf self.now.store.table.shared.table_id self.now.store.layout hand.old.seat }
+        requires running { IsRunning hand.old.seat }
+        requires process { IsOn self.now.store.layout (known hand.old.seat) (J.at errand.now (approach.Latched page)) }
+        ensures same { IsSameHand hand.old.seat hand.new.seat × IsSameStage hand.old.seat hand.new.seat × IsSameStock hand.old.seat hand.new.seat }
+        ensures arrived { HasArrived (J.level_of errand.now) (J.key_of errand.now) (J.at errand.now) page self.now.store.layout hand.new.seat result }
+        ensures since { IsSameProcess (known hand.old.seat) (known hand.new.seat) }
+    {
+        let glance = self.look(hand, page);
+        let shown = Shown {
+            store: &self.store,
+            glance,
+        };
+        match way_in(&shown, hand, errand.key(), errand.level()) {
+            Onward::Here => Arrived::There(glance),
+            Onward::Right(next) => Arrived::Away(Some(next)),
+            Onward::Down(_child) => Arrived::Away(None),
+            Onward::Again => Arrived::Away(None),
+        }
+    }
+
+    /// It opens the page that it holds, and goes on at the other one or from the beginning.
+    fn leave_for<J: Errand>(
+        &self,
+        hand: &mut Hand<Mine>,
+        errand: &J,
+        page: u32,
+        to: Option<u32>,
+    ) -> Approach
+        requires own { IsOf self.now.store.table.shared.table_id self.now.store.layout hand.old.seat }
+        requires running { IsRunning hand.old.seat }
+        requires process { IsOn self.now.store.layout (known hand.old.seat) (J.at errand.now (approach.Leaving page to)) }
+        ensures same { IsSameHand hand.old.seat hand.new.seat × IsSameStage hand.old.seat hand.new.seat × IsSameStock hand.old.seat hand.new.seat }
+        ensures process { IsOn self.now.store.layout (known hand.new.seat) (J.at errand.now result) }
+        ensures free { HoldsNone result }
+        ensures since { IsSameProcess (known hand.old.seat) (known hand.new.seat) }
+    {
+        let _ = errand;
+        self.reopen(hand, page);
+        match to {
+            Some(next) => Approach::Latching(next),
+            None => Approach::Start,
+        }
+    }
+
+    /// It comes to the page of its level that covers its key, which it holds then and got last. After a miss the thread
+    /// pauses.
+    #[inline(always)]
+    pub(crate) fn come<J: Errand, R: Wait>(
+        &self,
+        rt: &R,
+        hand: &mut Hand<Mine>,
+        errand: &J,
+    ) -> (u32, Glance)
+        requires own { IsOf self.now.store.table.shared.table_id self.now.store.layout hand.old.seat }
+        requires running { IsRunning hand.old.seat }
+        requires process { IsOn self.now.store.layout (known hand.old.seat) (J.at errand.now approach.Start) }
+        ensures same { IsSameHand hand.old.seat hand.new.seat × IsSameStage hand.old.seat hand.new.seat × IsSameStock hand.old.seat hand.new.seat }
+        ensures process { IsOn self.now.store.layout (known hand.new.seat) (known hand.new.seat).state }
+        ensures reads { ReadsFrom hand.new.seat result.1 }
+        ensures there { IsThere (J.level_of errand.now) (J.key_of errand.now) (J.at errand.now (approach.Latched result.0)) (read_words hand.new.seat) (known hand.new.seat) }
+        ensures since { IsSameProcess (known hand.old.seat) (known hand.new.seat) }
+    {
+        let backoff = Backoff::new();
+        let mut from = Approach::Start;
+        for _ in rt.forever() {
+            let page = self.seek(rt, hand, errand, from);
+            if self.latch_there(hand, errand, page) {
+                backoff.reset();
+                match self.look_there(hand, errand, page) {
+                    Arrived::There(glance) => return (page, glance),
+                    Arrived::Away(to) => from = self.leave_for(hand, errand, page, to),
+                }
+            } else {
+                backoff.snooze();
+                from = Approach::At(page);
+            }
+        }
+        unreachable!()
+    }
+}

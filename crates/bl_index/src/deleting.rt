@@ -1,0 +1,150 @@
+//! Deletions, by the words of pages: a leaf gets its new words from those that were read.
+
+ghost use Rattle.std.specs.Prelude.{◌≡◌, ℕ, None, Some, false};
+ghost use Rattle.bl_page.specs.declared.page.Page.{Page};
+ghost use Rattle.bl_page.specs.Words.{words_of};
+ghost use Rattle.bl_model.specs.Rows.{map_of};
+ghost use Rattle.bl_laws.specs.Pages.{IsTreePage};
+ghost use Rattle.bl_rearrange.specs.Entered.{dropped};
+ghost use Rattle.bl_rearrange.specs.Rearranged.{pairs_of};
+ghost use Rattle.bl_ways.specs.declared.approaching.Approach.TheVariants as approach;
+ghost use Rattle.bl_ways.specs.declared.changing.Change.TheVariants as change;
+ghost use Rattle.bl_ways.specs.Respelled.{words_by};
+ghost use Rattle.bl_ways.specs.Thin.{thin_low, thin_hint};
+ghost use Rattle.bl_proc.specs.declared.deleting.DeleteStage.TheVariants as delete;
+ghost use Rattle.bl_proc.specs.declared.kinds.Proc.TheVariants as proc;
+ghost use Rattle.bl_store.specs.Hands.{known, read_words, IsOf, IsIdle, IsRunning, IsSameHand, HasNoStock, ReadsFrom};
+ghost use Rattle.bl_passes.specs.declared.known.Mine.{Mine as Knows};
+ghost use Rattle.bl_passes.specs.Noting.{trail_of};
+ghost use Rattle.bl_passes.specs.Seeing.{IsSeen};
+ghost use Rattle.bl_index.specs.Runs.{IsOn, IsSince, IsWithin};
+ghost use Rattle.bl_index.specs.Events.{IsThere, HasDeleted};
+
+use crate::errands::Deleting;
+use crate::index::Index;
+use crate::shown::Shown;
+use bl_model::Reply;
+use bl_passes::Mine;
+use bl_proc::Hint;
+use bl_store::{Glance, Hand};
+use bl_ways::{Level, hint_of_thin, row_in, thin_in, words_without};
+use std::sync::Wait;
+
+/// The hint for the parent of a leaf that is thin and has that low.
+fn hint_of(thin: Option<u64>) -> Option<Hint>
+    ensures { result ≡ thin_hint 1 thin }
+{
+    match thin {
+        Some(low) => Some(hint_of_thin(Level::new(1), low)),
+        None => None,
+    }
+}
+
+impl Index {
+    /// The leaf that it holds does not have the key.
+    fn keep_absent(&self, hand: &mut Hand<Mine>, at: u32, errand: Deleting) -> (Reply, Option<Hint>)
+        requires own { IsOf self.now.store.table.shared.table_id self.now.store.layout hand.old.seat }
+        requires running { IsRunning hand.old.seat × HasNoStock hand.old.seat }
+        requires process { IsOn self.now.store.layout (known hand.old.seat) (proc.Delete (record { key = errand.key; stage = delete.Absent at })) }
+        ensures same { IsSameHand hand.old.seat hand.new.seat }
+        ensures idle { IsIdle hand.new.seat × HasNoStock hand.new.seat }
+        ensures within { IsWithin hand.new.seat }
+        ensures rests { (known hand.new.seat).runs ≡ false }
+        ensures seen { IsSeen (trail_of (known hand.new.seat).trail) }
+        ensures deleted { (pass : ℕ) (old : Knows) → IsSince pass old (known hand.old.seat) → HasDeleted pass old (known hand.new.seat) (proc.Delete (record { key = errand.key; stage = delete.New })) result.0 result.1 }
+    {
+        let _ = errand;
+        self.conclude(hand, at);
+        (Reply::Absent, None)
+    }
+
+    /// The key leaves the leaf that it holds, which has it with that value.
+    #[inline(always)]
+    fn remove(
+        &self,
+        hand: &mut Hand<Mine>,
+        at: u32,
+        errand: Deleting,
+        value: u64,
+        glance: Glance,
+    ) -> (Reply, Option<Hint>)
+        requires own { IsOf self.now.store.table.shared.table_id self.now.store.layout hand.old.seat }
+        requires running { IsRunning hand.old.seat × HasNoStock hand.old.seat }
+        requires reads { ReadsFrom hand.old.seat glance }
+        requires page { (c : Page) × (p : Page) × IsTreePage c × IsTreePage p × (read_words hand.old.seat ≡ words_of c) × (map_of (pairs_of c) errand.key ≡ Some value) × (words_of p ≡ words_by c (dropped errand.key (pairs_of c))) × IsOn self.now.store.layout (known hand.old.seat) (proc.Delete (record { key = errand.key; stage = delete.Changing (record { value = value; thin = thin_low p }) (change.Putting at p) })) }
+        ensures same { IsSameHand hand.old.seat hand.new.seat }
+        ensures idle { IsIdle hand.new.seat × HasNoStock hand.new.seat }
+        ensures within { IsWithin hand.new.seat }
+        ensures rests { (known hand.new.seat).runs ≡ false }
+        ensures seen { IsSeen (trail_of (known hand.new.seat).trail) }
+        ensures deleted { (pass : ℕ) (old : Knows) → IsSince pass old (known hand.old.seat) → HasDeleted pass old (known hand.new.seat) (proc.Delete (record { key = errand.key; stage = delete.New })) result.0 result.1 }
+    {
+        let shown = Shown {
+            store: &self.store,
+            glance,
+        };
+        let mut words = [0; 32];
+        words_without(&shown, hand, errand.key, &mut words);
+        let thin = thin_in(&words);
+        let changed = self.replace(hand, at, &words);
+        self.conclude(hand, at);
+        if changed {
+            (Reply::Deleted(value), hint_of(thin))
+        } else {
+            (Reply::NoRoom, None)
+        }
+    }
+
+    /// At the leaf that it holds, which covers the key.
+    #[inline(always)]
+    fn delete_there(
+        &self,
+        hand: &mut Hand<Mine>,
+        at: u32,
+        errand: Deleting,
+        glance: Glance,
+    ) -> (Reply, Option<Hint>)
+        requires own { IsOf self.now.store.table.shared.table_id self.now.store.layout hand.old.seat }
+        requires running { IsRunning hand.old.seat × HasNoStock hand.old.seat }
+        requires reads { ReadsFrom hand.old.seat glance }
+        requires process { IsOn self.now.store.layout (known hand.old.seat) (known hand.old.seat).state }
+        requires there { IsThere 0 errand.key (proc.Delete (record { key = errand.key; stage = delete.Coming (approach.Latched at) })) (read_words hand.old.seat) (known hand.old.seat) }
+        ensures same { IsSameHand hand.old.seat hand.new.seat }
+        ensures idle { IsIdle hand.new.seat × HasNoStock hand.new.seat }
+        ensures within { IsWithin hand.new.seat }
+        ensures rests { (known hand.new.seat).runs ≡ false }
+        ensures seen { IsSeen (trail_of (known hand.new.seat).trail) }
+        ensures deleted { (pass : ℕ) (old : Knows) → IsSince pass old (known hand.old.seat) → HasDeleted pass old (known hand.new.seat) (proc.Delete (record { key = errand.key; stage = delete.New })) result.0 result.1 }
+    {
+        let shown = Shown {
+            store: &self.store,
+            glance,
+        };
+        match row_in(&shown, hand, errand.key) {
+            Some(value) => self.remove(hand, at, errand, value, glance),
+            None => self.keep_absent(hand, at, errand),
+        }
+    }
+
+    /// Carries a deletion out, from its begin to its end.
+    pub(crate) fn delete_by<R: Wait>(
+        &self,
+        rt: &R,
+        hand: &mut Hand<Mine>,
+        key: u64,
+    ) -> (Reply, Option<Hint>)
+        requires own { IsOf self.now.store.table.shared.table_id self.now.store.layout hand.old.seat }
+        requires idle { IsIdle hand.old.seat × HasNoStock hand.old.seat }
+        ensures same { IsSameHand hand.old.seat hand.new.seat }
+        ensures idle { IsIdle hand.new.seat × HasNoStock hand.new.seat }
+        ensures within { IsWithin hand.new.seat }
+        ensures rests { (known hand.new.seat).runs ≡ false }
+        ensures seen { IsSeen (trail_of (known hand.new.seat).trail) }
+        ensures deleted { HasDeleted hand.old.number (known hand.old.seat) (known hand.new.seat) (proc.Delete (record { key = key; stage = delete.New })) result.0 result.1 }
+    {
+        let errand = Deleting { key };
+        self.depart(hand, &errand);
+        let (at, glance) = self.come(rt, hand, &errand);
+        self.delete_there(hand, at, errand, glance)
+    }
+}

@@ -1,0 +1,113 @@
+//! The events of a process of which there is no value: the hand's pass knows where it stands.
+
+ghost use Rattle.std.specs.Prelude.{◌≡◌, ℕ, true, false};
+ghost use Rattle.bl_page.specs.declared.page.Page.{Page};
+ghost use Rattle.bl_page.specs.Words.{words_of};
+ghost use Rattle.bl_ways.specs.declared.acts.Action.TheVariants as act;
+ghost use Rattle.bl_ways.specs.declared.acts.Seen.TheVariants as seen;
+ghost use Rattle.bl_proc.specs.declared.kinds.Proc.{Proc};
+ghost use Rattle.bl_proc.specs.Processes.{next_of};
+ghost use Rattle.bl_courses.specs.Courses.{GoesOn};
+ghost use Rattle.bl_courses.specs.Frames.{op_of, work_of};
+ghost use Rattle.bl_store.specs.Hands.{known, read_words, IsOf, IsIdle, IsRunning, IsSameHand, IsSameStage, IsSameStock, HasNoStock, ReadsFrom};
+ghost use Rattle.bl_passes.specs.declared.known.Mine.{Mine as Knows};
+ghost use Rattle.bl_passes.specs.Noting.{trail_of};
+ghost use Rattle.bl_passes.specs.Seeing.{IsSeen};
+ghost use Rattle.bl_passes.specs.Told.{Goes};
+ghost use Rattle.bl_index.specs.Runs.{IsOn, IsSince, IsWithin, IsDone};
+ghost use Rattle.bl_index.specs.Events.{OpensLast};
+
+use crate::index::Index;
+use bl_passes::{Ended, Got, Mine, Opened, Put, Refused, Took, Tried};
+use bl_store::{Glance, Hand};
+
+impl Index {
+    /// The process gets the page.
+    #[inline(always)]
+    pub(crate) fn look(&self, hand: &mut Hand<Mine>, page: u32) -> Glance
+        requires own { IsOf self.now.store.table.shared.table_id self.now.store.layout hand.old.seat }
+        requires running { IsRunning hand.old.seat }
+        requires process { IsOn self.now.store.layout (known hand.old.seat) (known hand.old.seat).state }
+        requires next { next_of (known hand.old.seat).state ≡ act.Get page }
+        requires course { (c : Page) → GoesOn (known hand.old.seat).state (seen.Words c) }
+        ensures same { IsSameHand hand.old.seat hand.new.seat × IsSameStage hand.old.seat hand.new.seat × IsSameStock hand.old.seat hand.new.seat }
+        ensures reads { ReadsFrom hand.new.seat result }
+        ensures goes { (c : Page) × (read_words hand.new.seat ≡ words_of c) × Goes (seen.Words c) (known hand.old.seat) (known hand.new.seat) }
+    {
+        match self.store.glance::<Got>(hand, page) {
+            Some(glance) => glance,
+            None => unreachable!(),
+        }
+    }
+
+    /// The process tries to latch the page.
+    #[inline(always)]
+    pub(crate) fn try_latch(&self, hand: &mut Hand<Mine>, page: u32) -> bool
+        requires own { IsOf self.now.store.table.shared.table_id self.now.store.layout hand.old.seat }
+        requires running { IsRunning hand.old.seat }
+        requires process { IsOn self.now.store.layout (known hand.old.seat) (known hand.old.seat).state }
+        requires next { next_of (known hand.old.seat).state ≡ act.Latch page }
+        requires course { GoesOn (known hand.old.seat).state seen.Done × GoesOn (known hand.old.seat).state seen.Missed }
+        ensures same { IsSameHand hand.old.seat hand.new.seat × IsSameStage hand.old.seat hand.new.seat × IsSameStock hand.old.seat hand.new.seat }
+        ensures done { result ≡ true → Goes seen.Done (known hand.old.seat) (known hand.new.seat) }
+        ensures missed { result ≡ false → Goes seen.Missed (known hand.old.seat) (known hand.new.seat) }
+    {
+        self.store.try_latch::<Tried>(hand, page)
+    }
+
+    /// The process opens the page.
+    #[inline(always)]
+    pub(crate) fn reopen(&self, hand: &mut Hand<Mine>, page: u32)
+        requires own { IsOf self.now.store.table.shared.table_id self.now.store.layout hand.old.seat }
+        requires running { IsRunning hand.old.seat }
+        requires process { IsOn self.now.store.layout (known hand.old.seat) (known hand.old.seat).state }
+        requires next { next_of (known hand.old.seat).state ≡ act.Open page }
+        requires course { GoesOn (known hand.old.seat).state seen.Done }
+        ensures same { IsSameHand hand.old.seat hand.new.seat × IsSameStage hand.old.seat hand.new.seat × IsSameStock hand.old.seat hand.new.seat }
+        ensures goes { Goes seen.Done (known hand.old.seat) (known hand.new.seat) }
+    {
+        self.store.open::<Opened>(hand, page);
+    }
+
+    /// The process reserves a frame and puts the page with these words, or is refused.
+    #[inline(always)]
+    pub(crate) fn replace(&self, hand: &mut Hand<Mine>, page: u32, words: &[u64; 32]) -> bool
+        requires own { IsOf self.now.store.table.shared.table_id self.now.store.layout hand.old.seat }
+        requires running { IsRunning hand.old.seat }
+        requires process { IsOn self.now.store.layout (known hand.old.seat) (known hand.old.seat).state }
+        requires next { (c : Page) × (next_of (known hand.old.seat).state ≡ act.Put page c) × (words.now ≡ words_of c) }
+        requires course { GoesOn (known hand.old.seat).state seen.Done × GoesOn (known hand.old.seat).state seen.Refused }
+        requires empty { HasNoStock hand.old.seat }
+        ensures same { IsSameHand hand.old.seat hand.new.seat × IsSameStage hand.old.seat hand.new.seat }
+        ensures empty { HasNoStock hand.new.seat }
+        ensures done { result ≡ true → Goes seen.Done (known hand.old.seat) (known hand.new.seat) }
+        ensures refused { result ≡ false → Goes seen.Refused (known hand.old.seat) (known hand.new.seat) }
+    {
+        match self.store.reserve::<Took, Refused>(hand, 0, 1) {
+            Ok(stock) => {
+                let mut stock = stock;
+                self.store.put::<Put>(hand, page, words, &mut stock);
+                true
+            }
+            Err(_) => false,
+        }
+    }
+
+    /// The process opens the only page that it holds, and ends.
+    #[inline(always)]
+    pub(crate) fn conclude(&self, hand: &mut Hand<Mine>, page: u32)
+        requires own { IsOf self.now.store.table.shared.table_id self.now.store.layout hand.old.seat }
+        requires running { IsRunning hand.old.seat }
+        requires process { IsOn self.now.store.layout (known hand.old.seat) (known hand.old.seat).state }
+        requires opens { (ending : Proc) × (last : Proc) × OpensLast (known hand.old.seat).state page ending last }
+        ensures same { IsSameHand hand.old.seat hand.new.seat × IsSameStock hand.old.seat hand.new.seat }
+        ensures idle { IsIdle hand.new.seat }
+        ensures within { IsWithin hand.new.seat }
+        ensures rests { (known hand.new.seat).runs ≡ false }
+        ensures seen { IsSeen (trail_of (known hand.new.seat).trail) }
+        ensures done { (pass : ℕ) (old : Knows) (first ending last : Proc) → IsSince pass old (known hand.old.seat) → OpensLast (known hand.old.seat).state page ending last → op_of ending ≡ op_of first → work_of ending ≡ work_of first → IsDone pass old (known hand.new.seat) first last }
+    {
+        self.reopen(hand, page);
+        self.store.end::<Ended>(hand);
+    }
+}
