@@ -7,6 +7,7 @@ ghost use Rattle.bl_commands.specs.Checks.{report_text, fault_text, IsVerdict, R
 ghost use Rattle.bl_commands.specs.declared.fault.CommandFault.TheVariants as command;
 
 use crate::fault::CommandFault;
+use crate::texts::ABOUT_CHECK;
 use bl_check::{Fault, Report, check};
 use bl_lines::source::read_some;
 use bl_model::{Watched, write_out};
@@ -29,6 +30,7 @@ pub fn check_command<'a>(alloc: Global) -> Result<Command<'a>, Error> {
     Ok(
         Command::new(alloc, "check")
             .about("Checks whether an image is a sound tree")
+            .after_help(ABOUT_CHECK)
             .arg(file)?,
     )
 }

@@ -5,6 +5,7 @@ ghost use Rattle.bl_commands.specs.Limits.{IsWithinLimits};
 
 use crate::check::check_command;
 use crate::replay::replay_command;
+use crate::texts::{ABOUT_ALL, ABOUT_SERVE, VERSION};
 use clap::{Arg, Command, Error, value_parser};
 use std::alloc::Global;
 
@@ -68,11 +69,14 @@ pub fn read_words(alloc: Global, words: &[String]) -> Result<Invocation, Error>
         .default_value("0");
     let serve = Command::new(alloc, "serve")
         .about("Answers request lines from standard input")
+        .after_help(ABOUT_SERVE)
         .arg(pages)?
         .arg(workers)?
         .arg(compressors)?;
     let blink = Command::new(alloc, "blink")
         .about("A concurrent ordered index from u64 keys to u64 values, proved")
+        .version(VERSION)
+        .after_help(ABOUT_ALL)
         .subcommand_required(true)
         .subcommand(serve)?
         .subcommand(check_command(alloc)?)?

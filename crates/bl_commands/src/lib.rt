@@ -8,6 +8,7 @@ mod check;
 mod command;
 mod fault;
 mod replay;
+mod texts;
 
 pub use check::{check_command, check_file, check_image};
 pub use command::{Invocation, ServeOptions, read_words};

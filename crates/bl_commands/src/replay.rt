@@ -5,6 +5,7 @@ ghost use Rattle.std.specs.Io.KnownBytes.{Consumes, IsAtEnd};
 ghost use Rattle.bl_commands.specs.Replays.{Replays, StopsReplay};
 
 use crate::fault::CommandFault;
+use crate::texts::ABOUT_REPLAY;
 use bl_model::Watched;
 use bl_replay::{PLAYED, replay};
 use bl_script::read_script;
@@ -23,6 +24,7 @@ pub fn replay_command<'a>(alloc: Global) -> Result<Command<'a>, Error> {
     Ok(
         Command::new(alloc, "replay")
             .about("Carries out a script of processes and turns, and prints each event")
+            .after_help(ABOUT_REPLAY)
             .arg(file)?,
     )
 }

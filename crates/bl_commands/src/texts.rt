@@ -1,0 +1,53 @@
+//! What `--version` says, and what stands behind the options in the help of each command.
+
+/// The version of the program, and the toolchain that it is proved with.
+pub(crate) const VERSION: &str = "0.1.0, proved with rattle-kit-13b logic dac8208d650f15bf";
+
+/// Of all commands.
+pub(crate) const ABOUT_ALL: &str = "\
+Exit status: 0 all is well; 1 check found a broken rule; 2 the command line is refused; 3 reading or writing failed, or a \
+script is bad; 4 out of memory.
+
+`blink help COMMAND` has the lines that a command reads, and examples.";
+
+/// Of `serve`.
+pub(crate) const ABOUT_SERVE: &str = "\
+Request lines, in lower case with one space between words; numbers are 0 to 18446744073709551615:
+  find K          found V, or absent
+  insert K V      inserted; or present V, with the value that stays; or noroom
+  delete K        deleted V, or absent; or noroom
+  sync            synced: the end of a section
+Any other line is malformed. Each reply stands behind the number of its line. Replies are written at each sync and at \
+the end of the input.
+
+Examples:
+  printf 'insert 5 50\\nfind 5\\n' | blink serve
+  blink serve --pages 65536 <requests >replies
+
+Exit status: 0 all is well; 3 reading or writing failed; 4 out of memory.";
+
+/// Of `check`.
+pub(crate) const ABOUT_CHECK: &str = "\
+Prints `ok rows A leaves B inners C levels D unposted E thin F`, or `fault Cn page X`: the least rule that is broken, and the \
+least page that breaks it.
+
+Examples:
+  blink check index.image
+  blink check index.image && echo sound
+
+Exit status: 0 sound; 1 a rule is broken; 3 reading or writing failed; 4 out of memory.";
+
+/// Of `replay`.
+pub(crate) const ABOUT_REPLAY: &str = "\
+The lines of a script; the first is `pages N`:
+  find K, insert K V, delete K, part K, post L K, compress L K, reclaim X     starts a process
+  turn P, turn P X     one turn of process P; a take tries page X
+  refuse P             process P is refused what it is about to reserve
+  run P M              turns of process P, at most M, until it has answered
+Processes are numbered from 1 in the order in which they start. Each turn prints its event.
+
+Examples:
+  blink replay split.script
+  printf 'pages 4\\ninsert 5 50\\nfind 5\\nrun 1 4\\nrun 2 9\\nrun 1 9\\n' >s && blink replay s
+
+Exit status: 0 all is well; 3 reading or writing failed, or a line is bad; 4 out of memory.";
