@@ -1,6 +1,4 @@
-use Rattle.std.proofs.Common.{rules, ◌≡◌, ◌≢◌, None, sym, ap, ◌∙◌, subst}
-use Rattle.bl_ways.specs.declared.acts.Action.{Action}
-use Rattle.bl_ways.specs.declared.acts.Action.TheVariants as act
+use Rattle.std.proofs.Common.{rules, sym, ◌∙◌}
 use Rattle.bl_index.proofs.Calls.{since_step}
 use Rattle.bl_index.proofs.index.Index.carry_out.Goals as goal
 

@@ -1,4 +1,4 @@
-use Rattle.std.proofs.Common.{◌≡◌, ◌∙◌, sym, ap, Some, Option, ℕ}
+use Rattle.std.proofs.Common.{◌∙◌, sym, Some}
 use Rattle.bl_model.specs.declared.operation.Op.TheVariants as op
 use Rattle.bl_index.proofs.Ends.{op_answered, op_beside, op_has_answer}
 use Rattle.bl_index.proofs.index.Index.delete.Goals as goal
