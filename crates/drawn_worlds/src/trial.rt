@@ -930,7 +930,10 @@ impl Trial {
     /// The lone walk that the world tells is the descent.
     fn descends_from(&self, key: u64) -> Result<(), Law> {
         let walk = descends(&self.model.lists, &self.tree, key)?;
-        holds(self.world.lone_walk(key) == walk, "a lone walk is a descent")
+        holds(
+            self.world.lone_walk(key) == walk,
+            "a lone walk is a descent",
+        )
     }
 
     /// A process that is alone, up to its answer.
