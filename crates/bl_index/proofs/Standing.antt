@@ -18,6 +18,7 @@ use Rattle.bl_proc.specs.declared.kinds.Proc.{Proc}
 use Rattle.bl_proc.specs.Processes.{next_of, Takes}
 use Rattle.bl_courses.specs.Courses.{GoesOn}
 use Rattle.bl_courses.specs.Frames.{op_of, work_of}
+use Rattle.bl_bounds.specs.Latches.{IsTidy}
 use Rattle.bl_tables.specs.Knowing.{end_of_proc}
 use Rattle.bl_tables.specs.Logs.{proc_log}
 use Rattle.bl_passes.specs.declared.known.Mine.{Mine}
@@ -133,6 +134,7 @@ concluded pass page old d e f first ending last since opens goes told op work =
       op = op;
       work = work;
       log = subst (λ (z : Proc × Name). proc_log z.0 (marks_of z.1 (trail_of f.trail))) (λ i. (is_last i, name (after.named i) (after.number i))) done.log;
+      tidy = subst (λ (z : Proc × Name). IsTidy z.0 (marks_of z.1 (trail_of f.trail))) (λ i. ((done.state ∙ is_last) i, name (after.named i) (after.number i))) told.0.notes.tidy;
     }
 
 -- the same, from an earlier state of the process on
@@ -148,4 +150,5 @@ done_from pass old e earlier first last done op work = record {
   op = done.op ∙ op;
   work = done.work ∙ work;
   log = done.log;
+  tidy = done.tidy;
 }

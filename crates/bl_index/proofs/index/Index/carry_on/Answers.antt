@@ -2,6 +2,7 @@ use Rattle.std.proofs.Common.{ℕ, rules, ◌≡◌, ◌≢◌, None, sym, ap, �
 use Rattle.bl_ways.specs.declared.acts.Action.{Action}
 use Rattle.bl_ways.specs.declared.acts.Action.TheVariants as act
 use Rattle.bl_trails.specs.Trails.{marks_of}
+use Rattle.bl_bounds.specs.Latches.{IsTidy}
 use Rattle.bl_tables.specs.Logs.{proc_log}
 use Rattle.bl_proc.specs.Processes.{next_of}
 use Rattle.bl_courses.specs.Frames.{op_of, work_of}
@@ -46,4 +47,5 @@ returns-in-AtEnd-clause-done g c = λ pass old begun.
       op = ap op_of after.1 ∙ inv.op;
       work = ap work_of after.1 ∙ inv.work;
       log = subst (λ (z : ℕ × ℕ). proc_log (g.P.Kind.proc_of c.finish.new.process) (marks_of (name z.0 z.1) (trail_of (known c.finish.new.hand.seat).trail))) (λ i. (since.named i, since.number i)) c.finish.ensures.log;
+      tidy = subst (λ (z : ℕ × ℕ). IsTidy (g.P.Kind.proc_of c.finish.new.process) (marks_of (name z.0 z.1) (trail_of (known c.finish.new.hand.seat).trail))) (λ i. (since.named i, since.number i)) c.finish.ensures.tidy;
     }
