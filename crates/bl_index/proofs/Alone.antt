@@ -1,6 +1,5 @@
 -- An index of one pass: its history is the pass's own, so that a call is one step of the map.
-use Rattle.std.proofs.Common.{ℕ, ◌≡◌, ◌<◌, ◌++◌, suc, Option, Some, None, List, [], ◌∷◌, All, refl, sym, ap, ◌∙◌, subst, arith}
-use Rattle.std.specs.Prelude.{Contains}
+use Rattle.std.proofs.Common.{◌≡◌, ◌<◌, ◌++◌, suc, Option, Some, None, List, [], ◌∷◌, All, refl, sym, ap, ◌∙◌, subst, arith}
 use Rattle.std.proofs.lemmas.List.Elements.{All-nil, All-cons}
 use Rattle.bl_layout.specs.declared.layout.Layout.{Layout}
 use Rattle.bl_model.specs.declared.operation.Op.{Op}
@@ -10,7 +9,7 @@ use Rattle.bl_model.specs.Map.{Map, empty, IsMapStep}
 use Rattle.bl_model.specs.History.{IsLegalFrom, final_map}
 use Rattle.bl_model.proofs.Histories.{final_map-push, legal_rest, entries_of_pass-own}
 use Rattle.bl_page.specs.Machine.{Name}
-use Rattle.bl_trails.specs.Trails.{Said, Mark, Trail, entries_at, history_of}
+use Rattle.bl_trails.specs.Trails.{Said, Trail, entries_at, history_of}
 use Rattle.bl_passes.specs.Seeing.{IsSeen, own, AreWithin}
 use Rattle.bl_index.specs.declared.index.Index.{Index}
 use Rattle.bl_index.specs.declared.index.Pass.{Pass}

@@ -1,7 +1,6 @@
 -- What a pass knows of its call, event by event.
-use Rattle.std.proofs.Common.{ℕ, ◌≡◌, ◌+◌, ◌<◌, ◌++◌, Option, Some, None, List, [], ◌∷◌, refl, sym, ap, ◌∙◌, subst, append_assoc, arith}
+use Rattle.std.proofs.Common.{ℕ, ◌≡◌, ◌+◌, ◌++◌, Option, [], ◌∷◌, refl, sym, ap, ◌∙◌, subst, append_assoc}
 use Rattle.std.specs.Prelude.{slice_get}
-use Rattle.bl_model.specs.declared.operation.Entry.{Entry}
 use Rattle.bl_model.specs.declared.operation.Reply.{Reply}
 use Rattle.bl_page.specs.declared.page.Page.{Page}
 use Rattle.bl_page.specs.Machine.{Name, Act}
@@ -12,9 +11,9 @@ use Rattle.bl_proc.specs.declared.kinds.Proc.{Proc}
 use Rattle.bl_tables.specs.Knowing.{Run, bare as know}
 use Rattle.bl_passes.specs.declared.known.Mine.{Mine}
 use Rattle.bl_passes.specs.Noting.{trail_of}
-use Rattle.bl_passes.specs.Seeing.{IsSeen, own, Holds}
+use Rattle.bl_passes.specs.Seeing.{own, Holds}
 use Rattle.bl_passes.specs.Fitting.{name}
-use Rattle.bl_passes.specs.Told.{HasOwn, Notes, Steps, Begins, Finishes}
+use Rattle.bl_passes.specs.Told.{Steps, Begins, Finishes}
 use Rattle.bl_index.specs.Runs.{IsSince}
 
 -- an event stays where it is when others follow

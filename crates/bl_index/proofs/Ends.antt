@@ -1,11 +1,11 @@
 -- What is said at the end of an operation.
-use Rattle.std.proofs.Common.{ℕ, ◌≡◌, ◌≢◌, ◌+◌, ◌++◌, Option, Some, None, [], ◌∷◌, refl, sym, ap, ◌∙◌, subst}
+use Rattle.std.proofs.Common.{ℕ, ◌≡◌, ◌≢◌, ◌+◌, Option, Some, None, sym, ap, ◌∙◌, subst}
 use Rattle.bl_model.specs.declared.operation.Op.{Op as Operation}
 use Rattle.bl_model.specs.declared.operation.Op.TheVariants as op
 use Rattle.bl_model.specs.declared.operation.Reply.{Reply}
 use Rattle.bl_model.specs.declared.operation.Reply.TheVariants.{Rows}
 use Rattle.bl_page.specs.declared.page.Page.{Page}
-use Rattle.bl_trails.specs.Trails.{Said, marks_of}
+use Rattle.bl_trails.specs.Trails.{marks_of}
 use Rattle.bl_ways.specs.declared.acts.Action.TheVariants as act
 use Rattle.bl_ways.specs.declared.acts.Seen.TheVariants as seen
 use Rattle.bl_ways.specs.declared.answers.Hint.{Hint}
@@ -43,7 +43,7 @@ use Rattle.bl_tables.specs.Knowing.{Run, bare as know, know_of, inserted_reply, 
 use Rattle.bl_courses.specs.Frames.{op_of}
 use Rattle.bl_passes.specs.declared.known.Mine.{Mine}
 use Rattle.bl_passes.specs.Noting.{trail_of}
-use Rattle.bl_passes.specs.Seeing.{own, Holds}
+use Rattle.bl_passes.specs.Seeing.{Holds}
 use Rattle.bl_passes.specs.Fitting.{name}
 use Rattle.bl_index.specs.Calls.{Answers}
 use Rattle.bl_index.specs.Runs.{IsDone}

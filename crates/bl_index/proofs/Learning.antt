@@ -1,34 +1,32 @@
 -- A pass that knows more of what has happened: this keeps the rule.
-use Rattle.std.proofs.Common.{ℕ, Bool, ◌≡◌, ◌≢◌, ◌⊎◌, ◌+◌, ◌<◌, ◌≤◌, ◌++◌, Option, List, [], ◌∷◌, length, set, refl, sym, ap, ◌∙◌, subst, ⊎_elim, inl, inr, arith, append-nil, append_assoc}
+use Rattle.std.proofs.Common.{ℕ, ◌≡◌, ◌≢◌, ◌++◌, List, [], ◌∷◌, length, set, refl, sym, ap, ◌∙◌, subst, ⊎_elim, inl, inr, append-nil, append_assoc}
 use Rattle.std.proofs.lemmas.Bool.{cases_eq}
 use Rattle.std.proofs.lemmas.List.{append_cancel_left}
 use mathlib.Core.Option.{some}
 use lib.ListN.{get_elem?}
 use Rattle.std.proofs.Math.ListN.{length-set}
 use Rattle.atomic_table.proofs.Lists.{at_set, set_else}
-use Rattle.bl_model.specs.declared.operation.Entry.{Entry}
 use Rattle.bl_page.specs.Machine.{Name}
-use Rattle.bl_page.specs.Machine as machine
 use Rattle.bl_trails.specs.Trails.{Mark, Trail, marks_of}
 use Rattle.bl_steps.specs.Worlds.{World, Each}
 use Rattle.bl_steps.proofs.Frames.{Each-map}
 use Rattle.bl_proc.specs.declared.kinds.Proc.{Proc}
-use Rattle.bl_tables.specs.Knowing.{Run, bare as know}
+use Rattle.bl_tables.specs.Knowing.{Run}
 use Rattle.bl_tables.specs.Logs.{proc_log}
 use Rattle.bl_tables.proofs.Middles.{KeepsLogs}
 use Rattle.bl_layout.specs.declared.layout.Layout.{Layout}
-use Rattle.bl_store.specs.Pages.{Owner, Stage, Idle, Running, Pages, Stands, told, Meets}
+use Rattle.bl_store.specs.Pages.{Stage, Idle, Running, Pages, Stands, told, Meets}
 use Rattle.bl_passes.specs.declared.known.Mine.{Mine}
 use Rattle.bl_passes.specs.Noting.{trail_of, all_noted}
 use Rattle.bl_passes.specs.Seeing.{IsSeen, AreWithin, own, GoesOnFrom}
-use Rattle.bl_passes.specs.Fitting.{name, owner_in, AreElse, AreUpTo, IsAtStage, IsHand, IsRun, Fits}
+use Rattle.bl_passes.specs.Fitting.{name, AreElse, AreUpTo, IsAtStage, IsHand, IsRun, Fits}
 use Rattle.bl_passes.proofs.Notings.{trail_back}
 use Rattle.bl_passes.proofs.Entries.{own-other}
 use Rattle.bl_passes.proofs.Marks.{each_append}
 use Rattle.bl_passes.proofs.Sights.{world_seen}
 use Rattle.bl_passes.proofs.Shown.{same_owner, set_there}
 use Rattle.bl_passes.proofs.Runners.{one_hand}
-use Rattle.bl_index.specs.Meetings.{Learns, Hears, Learned, learned, Heard, heard}
+use Rattle.bl_index.specs.Meetings.{learned, heard}
 
 -- ---- events of other passes
 
@@ -88,7 +86,7 @@ module _ (s : Pages Mine) (f : Fits s) (n : ℕ) (st : Stage) (d : Mine) (at : S
     within = subst (λ (z : ℕ). AreWithin z f.world.trail) (sym (length-set s.hands n (st, d'))) f.within;
     counts = λ k sg g at_k begun. ⊎_elim
         (λ (z : (k ≡ n) × ((st, d') ≡ (sg, g))). let same : d' ≡ g = ap (λ (u : Stage × Mine). u.1) z.1 in
-            ap (λ (u : Mine). u.passes) (sym same) ∙ (passes ∙ (f.counts n st d at (λ none. begun (ap (λ (u : Mine). u.number) (sym same) ∙ (number ∙ none))) ∙ sym (length-set s.hands n (st, d')))))
+        ap (λ (u : Mine). u.passes) (sym same) ∙ (passes ∙ (f.counts n st d at (λ none. begun (ap (λ (u : Mine). u.number) (sym same) ∙ (number ∙ none))) ∙ sym (length-set s.hands n (st, d')))))
         (λ (z : (k ≢ n) × (get_elem? s.hands k ≡ some (sg, g))). f.counts k sg g z.1 begun ∙ sym (length-set s.hands n (st, d')))
         (at_set s.hands n k (st, d') (sg, g) at_k);
     busy = λ p since runs. runs_in p since (f.busy p since runs);
@@ -139,7 +137,7 @@ pub hears_all : (l : Layout) (n m : ℕ) (d e : Mine) → GoesOnFrom (trail_of d
 hears_all l n m d e on s st f o at at_m ne =
     let w = f.world in let h = f.hands n st d at in let k = f.hands m Idle e at_m in let more : Trail = on.0 in
     let rest : h.begins.0 ≡ more ++ k.begins.0 = append_cancel_left (trail_of d.trail) h.begins.0 (more ++ k.begins.0)
-        (sym h.begins.1 ∙ (k.begins.1 ∙ (ap (λ (z : Trail). z ++ k.begins.0) on.1 ∙ append_assoc (trail_of d.trail) more k.begins.0))) in
+    (sym h.begins.1 ∙ (k.begins.1 ∙ (ap (λ (z : Trail). z ++ k.begins.0) on.1 ∙ append_assoc (trail_of d.trail) more k.begins.0))) in
     let parts = each_parts _ more k.begins.0 (subst (AreElse n) rest h.begins.2) in
     let d' : Mine = record d { trail = e.trail } in (
       d',

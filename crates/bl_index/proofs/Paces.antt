@@ -1,5 +1,5 @@
 -- How far a search is: what it has got by each turn, within its bound.
-use Rattle.std.proofs.Common.{ℕ, ◌≡◌, ◌≢◌, ◌+◌, ◌<◌, ◌≤◌, ◌++◌, zero, suc, Option, Some, List, [], ◌∷◌, length, refl, sym, ap, ◌∙◌, subst, arith, append_assoc}
+use Rattle.std.proofs.Common.{ℕ, ◌≡◌, ◌≢◌, ◌+◌, ◌≤◌, ◌++◌, zero, suc, Option, Some, [], ◌∷◌, length, refl, sym, ap, ◌∙◌, subst, arith, append_assoc}
 use Rattle.std.specs.Prelude.{slice_get}
 use Rattle.bl_model.specs.declared.operation.Reply.{Reply}
 use Rattle.bl_page.specs.declared.page.Page.{Page}
@@ -10,13 +10,13 @@ use Rattle.bl_trails.proofs.Pushes.{DoesAt-last}
 use Rattle.bl_steps.specs.Worlds.{Each}
 use Rattle.bl_steps.proofs.Frames.{Each-map}
 use Rattle.bl_proc.specs.declared.kinds.Proc.{Proc}
-use Rattle.bl_bounds.specs.Bounds.{gets_in, gets_by, gets_of, puts_near, IsWithinBound, IsBelowBound}
+use Rattle.bl_bounds.specs.Bounds.{gets_in, gets_by, gets_of, IsWithinBound, IsBelowBound}
 use Rattle.bl_bounds.specs.Searches.{IsSearch, IsUnderWay}
 use Rattle.bl_bounds.proofs.Counts.{since_first, own_gets, own_gets_own, gets_on}
 use Rattle.bl_bounds.proofs.Others.{others_get, Quiet, quiet, quiet_below}
 use Rattle.bl_passes.specs.declared.known.Mine.{Mine}
 use Rattle.bl_passes.specs.Noting.{trail_of}
-use Rattle.bl_passes.specs.Fitting.{name, AreElse, AreUpTo}
+use Rattle.bl_passes.specs.Fitting.{name, AreElse}
 use Rattle.bl_passes.specs.Told.{Notes, Steps, Begins, Finishes}
 use Rattle.bl_passes.proofs.Marks.{each_append}
 use Rattle.bl_index.specs.Runs.{IsAtTurn}

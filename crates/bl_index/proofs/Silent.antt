@@ -1,5 +1,5 @@
 -- What is known of a process that gives up.
-use Rattle.std.proofs.Common.{ℕ, ◌≡◌, ◌+◌, Option, None, [], sym, ◌∙◌, subst, append-nil}
+use Rattle.std.proofs.Common.{ℕ, ◌≡◌, ◌+◌, None, [], sym, ◌∙◌, subst, append-nil}
 use Rattle.bl_page.specs.declared.page.Page.{Page}
 use Rattle.bl_steps.specs.Worlds.{Know, Stage}
 use Rattle.bl_proc.specs.declared.kinds.Proc.{Proc}

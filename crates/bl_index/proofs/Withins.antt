@@ -1,5 +1,5 @@
 -- All that a pass has seen was done by the passes of its layout.
-use Rattle.std.proofs.Common.{ℕ, ◌≡◌, ◌⊎◌, Option, inl, inr, sym, ap, ◌∙◌, subst}
+use Rattle.std.proofs.Common.{ℕ, ◌≡◌, Option, inl, inr, sym, ap, ◌∙◌, subst}
 use Rattle.atomic_table.specs.declared.shared.Seat.{Seat}
 use Rattle.bl_layout.specs.declared.layout.Layout.{Layout}
 use Rattle.bl_model.specs.declared.operation.Reply.{Reply}

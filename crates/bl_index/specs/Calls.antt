@@ -1,11 +1,10 @@
 -- What a call tells the pass that makes it.
-use Rattle.std.specs.Prelude.{◌≡◌, ◌≢◌, ℕ, ◌++◌, Option, Some, None, List, [], ◌∷◌, Result, IfOk, IfErr}
+use Rattle.std.specs.Prelude.{◌≡◌, ◌≢◌, ℕ, ◌++◌, Option, Some, None, [], ◌∷◌, Result, IfOk, IfErr}
 use Rattle.bl_model.specs.Map.{Map, empty}
 use Rattle.bl_model.specs.History.{final_map}
 use Rattle.bl_model.specs.declared.operation.Op.{Op}
 use Rattle.bl_model.specs.declared.operation.Op.TheVariants as op
 use Rattle.bl_model.specs.declared.operation.Reply.{Reply}
-use Rattle.bl_page.specs.Machine.{Name}
 use Rattle.bl_trails.specs.Trails.{Mark, Trail, history_of, marks_of}
 use Rattle.bl_steps.specs.Worlds.{Each}
 use Rattle.bl_bounds.specs.Bounds.{gets_of, IsWithinBound, IsBelowBound}

@@ -1,5 +1,5 @@
 -- A pass that runs a process, from its begin on.
-use Rattle.std.specs.Prelude.{◌≡◌, ◌≢◌, ℕ, ◌+◌, ◌++◌, true, List, Option, Some, None}
+use Rattle.std.specs.Prelude.{◌≡◌, ◌≢◌, ℕ, ◌+◌, ◌++◌, true, Option, Some, None}
 use Rattle.atomic_table.specs.declared.shared.Seat.{Seat}
 use Rattle.bl_layout.specs.declared.layout.Layout.{Layout}
 use Rattle.bl_store.specs.declared.view.View.{View}

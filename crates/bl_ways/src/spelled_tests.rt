@@ -1,7 +1,8 @@
 //! The pages of a small tree, read in their words.
 
 use crate::{
-    Approach, Onward, level_in, levels_in, row_in, thin_in, top_in, way_in, words_with, words_without,
+    Approach, Onward, level_in, levels_in, row_in, thin_in, top_in, way_in, words_with,
+    words_without,
 };
 use arrayvec::ArrayVec;
 use bl_page::{Anchor, Dead, Inner, Leaf, Page};

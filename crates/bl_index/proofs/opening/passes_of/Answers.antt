@@ -1,10 +1,10 @@
-use Rattle.std.proofs.Common.{◌≡◌, ℕ, ◌+◌, ◌<◌, length, ap, sym, ◌∙◌, subst, arith}
+use Rattle.std.proofs.Common.{◌+◌, ap, sym, subst, arith}
 use Rattle.bl_store.specs.declared.view.View.{View}
 use Rattle.bl_passes.specs.declared.known.Mine.{Mine}
 use Rattle.bl_passes.specs.Noting.{trail_of}
 use Rattle.bl_passes.specs.Seeing.{IsSeen, AreWithin}
 use Rattle.bl_passes.proofs.Starts.{newcomer_seen}
-use Rattle.bl_index.specs.Opened.{AreNew, IsNewHand, ArePasses}
+use Rattle.bl_index.specs.Opened.{AreNew}
 use Rattle.bl_index.proofs.Hands.{rest_new, first_new, passes_push}
 use Rattle.bl_passes.proofs.Within.{none_within}
 use Rattle.bl_index.proofs.opening.passes_of.Goals as goal

@@ -1,7 +1,5 @@
-use Rattle.std.proofs.Common.{◌≡◌, refl, ap, sym, ◌∙◌, subst}
+use Rattle.std.proofs.Common.{sym, ◌∙◌}
 use Rattle.bl_ways.specs.declared.acts.Seen.TheVariants as seen
-use Rattle.bl_store.specs.Hands.{known}
-use Rattle.bl_proc.specs.declared.kinds.Proc.{Proc}
 use Rattle.bl_index.proofs.Calls.{since_begin}
 use Rattle.bl_index.proofs.index.Index.begin.Goals as goal
 

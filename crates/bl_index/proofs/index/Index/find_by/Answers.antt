@@ -1,4 +1,4 @@
-use Rattle.std.proofs.Common.{rules, ◌≡◌, ◌∙◌, sym, None, ℕ, arith}
+use Rattle.std.proofs.Common.{rules, ◌≡◌, ◌∙◌, None, arith}
 use Rattle.bl_index.specs.Searching.{IsSearching}
 use Rattle.bl_index.proofs.Calls.{since_step}
 use Rattle.bl_index.proofs.Silent.{gives_up}

@@ -1,6 +1,4 @@
-use Rattle.std.proofs.Common.{◌≡◌, ℕ, ◌+◌, ◌∙◌, sym, ap, subst, List, length, arith}
-use Rattle.bl_store.specs.declared.store.Hand.{Hand}
-use Rattle.bl_store.specs.Frames.{share}
+use Rattle.std.proofs.Common.{ℕ, ◌∙◌, sym, ap, subst, List, length, arith}
 use Rattle.bl_store.specs.Opening.{first_pages}
 use Rattle.bl_passes.specs.Fitting.{newcomer, Fits}
 use Rattle.bl_index.proofs.Firsts.{opens, is_opened}
