@@ -1,5 +1,5 @@
 -- A deletion at its leaf.
-use Rattle.std.proofs.Common.{ℕ, Bool, true, false, ◌≡◌, ◌+◌, ◌<◌, ◌≤◌, List, Option, Some, None, length, refl, sym, ap, ◌∙◌, subst, arith}
+use Rattle.std.proofs.Common.{ℕ, Bool, true, false, ◌≡◌, Option, Some, None, refl, sym, ap, ◌∙◌}
 use Rattle.bl_model.specs.declared.operation.Reply.{Reply}
 use Rattle.bl_model.specs.Rows.{map_of}
 use Rattle.bl_page.specs.declared.page.Page.{Page}
@@ -7,7 +7,7 @@ use Rattle.bl_page.specs.declared.page.Page.TheVariants as page
 use Rattle.bl_page.specs.Words.{words_of}
 use Rattle.bl_laws.specs.Pages.{node_of, IsTreePage}
 use Rattle.bl_rearrange.specs.Entered.{dropped}
-use Rattle.bl_rearrange.specs.Rearranged.{pairs_of, KeepsFrame, IsWithout}
+use Rattle.bl_rearrange.specs.Rearranged.{pairs_of, KeepsFrame}
 use Rattle.bl_rearrange.proofs.EnteredLemmas.{RisesFrom-dropped, map_of-dropped}
 use Rattle.bl_ways.specs.declared.acts.Seen.TheVariants as seen
 use Rattle.bl_ways.specs.declared.answers.Hint.{Hint}
@@ -77,9 +77,13 @@ module _ (key at : ℕ) (c : Page) (state : Proc) (takes : Takes (deleting key (
   pub stands_removing : (value : ℕ) → Some value ≡ (node_of c).look key → (p : Page) × IsTreePage p × (map_of (pairs_of c) key ≡ Some value) × (words_of p ≡ words_by c (dropped key (pairs_of c))) × (state ≡ deleting key (delete.Changing (record { value = value; thin = thin_low p }) (change.Putting at p)))
   stands_removing value e =
       let without = without_some c key (leaf_covers c key 0 leads) (leaf_loses c key leads) in
-      let pairs : pairs_of without.0 ≡ dropped key (pairs_of c) = rows_one 0 (pairs_of without.0) (dropped key (pairs_of c)) (rising without.0) (RisesFrom-dropped key 0 (pairs_of c) (rising c)) (λ j. without.1.pairs j ∙ sym (map_of-dropped key 0 (pairs_of c) (rising c) j)) in
-      (without.0, frame_tree c without.0 without.1.frame, listed c key value leads.0 (sym e), spelled_by c without.0 (dropped key (pairs_of c)) without.1.frame pairs,
-      stands (delete.Changing (record { value = value; thin = thin_low without.0 }) (change.Putting at without.0)) (at, c, (refl, refl, leads), (sym e, (refl, without.1), refl)))
+      let pairs : pairs_of without.0 ≡ dropped key (pairs_of c) = rows_one 0 (pairs_of without.0) (dropped key (pairs_of c)) (rising without.0) (RisesFrom-dropped key 0 (pairs_of c) (rising c)) (λ j. without.1.pairs j ∙ sym (map_of-dropped key 0 (pairs_of c) (rising c) j)) in (
+        without.0,
+        frame_tree c without.0 without.1.frame,
+        listed c key value leads.0 (sym e),
+        spelled_by c without.0 (dropped key (pairs_of c)) without.1.frame pairs,
+        stands (delete.Changing (record { value = value; thin = thin_low without.0 }) (change.Putting at without.0)) (at, c, (refl, refl, leads), (sym e, (refl, without.1), refl)),
+      )
 
 pub opens_absent : (key at : ℕ) → OpensLast (deleting key (delete.Absent at)) at (deleting key (delete.Ending deleted.Absent)) (deleting key (delete.Over deleted.Absent))
 opens_absent key at = record {

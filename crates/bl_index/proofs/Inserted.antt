@@ -1,24 +1,18 @@
 -- An insertion at its leaf.
-use Rattle.std.proofs.Common.{ℕ, Bool, true, false, ◌≡◌, ◌≢◌, ◌+◌, ◌<◌, ◌≤◌, List, Option, Some, None, length, refl, sym, ap, ◌∙◌, subst, arith}
-use Rattle.bl_layout.specs.declared.layout.Layout.{Layout}
-use Rattle.bl_model.specs.Rows.{map_of}
+use Rattle.std.proofs.Common.{ℕ, Bool, true, false, ◌≡◌, ◌<◌, List, Option, Some, None, length, refl, sym, ap, ◌∙◌, arith}
 use Rattle.bl_page.specs.declared.page.Page.{Page}
 use Rattle.bl_page.specs.declared.page.Page.TheVariants as page
 use Rattle.bl_page.specs.Words.{head, layout, entries_of, words_of}
-use Rattle.bl_laws.specs.Pages.{node_of, IsTreePage}
+use Rattle.bl_laws.specs.Pages.{node_of}
 use Rattle.bl_rearrange.specs.Entered.{entered}
-use Rattle.bl_rearrange.specs.Rearranged.{pairs_of, IsNow, low_of, high_of, right_of, KeepsFrame, IsFitted}
-use Rattle.bl_rearrange.specs.declared.fitted.Fitted.TheVariants.{Fits}
+use Rattle.bl_rearrange.specs.Rearranged.{pairs_of, KeepsFrame}
 use Rattle.bl_rearrange.proofs.EnteredLemmas.{RisesFrom-entered, map_of-entered}
-use Rattle.bl_ways.specs.declared.acts.Action.TheVariants as act
-use Rattle.bl_ways.specs.declared.acts.Seen.{Seen}
 use Rattle.bl_ways.specs.declared.acts.Seen.TheVariants as seen
 use Rattle.bl_ways.specs.declared.approaching.Approach.TheVariants as approach
 use Rattle.bl_ways.specs.declared.onwards.Onward.TheVariants.{Here}
 use Rattle.bl_ways.specs.declared.changing.Change.TheVariants as change
 use Rattle.bl_ways.specs.declared.changing.Outcome.{Outcome}
 use Rattle.bl_ways.specs.declared.changing.Outcome.TheVariants as outcome
-use Rattle.bl_ways.specs.Given.{Gives}
 use Rattle.bl_ways.specs.Onwards.{Leads}
 use Rattle.bl_ways.specs.Respelled.{words_by}
 use Rattle.bl_proc.specs.declared.inserting.Insert.{Insert}
@@ -28,8 +22,8 @@ use Rattle.bl_proc.specs.declared.inserting.InsertReply.{InsertReply}
 use Rattle.bl_proc.specs.declared.inserting.InsertReply.TheVariants as inserted
 use Rattle.bl_proc.specs.declared.kinds.Proc.{Proc}
 use Rattle.bl_proc.specs.declared.kinds.Proc.TheVariants as proc
-use Rattle.bl_proc.specs.Inserts.{insert_reply, inserted_answer, insert_next_in, insert_needs_in, insert_answer_in, InsertGoes}
-use Rattle.bl_proc.specs.Processes.{next_of, Takes}
+use Rattle.bl_proc.specs.Inserts.{insert_reply, inserted_answer, InsertGoes}
+use Rattle.bl_proc.specs.Processes.{Takes}
 use Rattle.bl_courses.specs.Courses.{GoesOn}
 use Rattle.bl_courses.proofs.Rows.{rows_one}
 use Rattle.bl_courses.proofs.Pages.{fits_some, rising}

@@ -1,11 +1,10 @@
 -- A process of which a pass has no value: it knows where the process stands.
-use Rattle.std.specs.Prelude.{◌≡◌, ℕ, Option, None, Some, List}
+use Rattle.std.specs.Prelude.{◌≡◌, ℕ, Option, Some, List}
 use Rattle.atomic_table.specs.declared.shared.Seat.{Seat}
 use Rattle.bl_page.specs.declared.page.Page.{Page}
 use Rattle.bl_page.specs.Words.{words_of}
 use Rattle.bl_layout.specs.declared.layout.Layout.{Layout}
 use Rattle.bl_model.specs.declared.operation.Reply.{Reply}
-use Rattle.bl_store.specs.declared.store.Glance.{Glance}
 use Rattle.bl_store.specs.declared.view.View.{View}
 use Rattle.bl_store.specs.Hands.{known, read_words, ReadsFrom}
 use Rattle.bl_ways.specs.declared.acts.Action.TheVariants as act
@@ -22,7 +21,6 @@ use Rattle.bl_proc.specs.declared.kinds.Proc.{Proc}
 use Rattle.bl_proc.specs.declared.kinds.Proc.TheVariants as proc
 use Rattle.bl_proc.specs.Processes.{next_of, answer_of, Takes}
 use Rattle.bl_courses.specs.Courses.{GoesOn}
-use Rattle.bl_courses.specs.Frames.{op_of, work_of}
 use Rattle.bl_passes.specs.declared.known.Mine.{Mine}
 use Rattle.bl_index.specs.declared.coming.Arrived.{Arrived}
 use Rattle.bl_index.specs.declared.coming.Arrived.TheVariants.{There, Away}

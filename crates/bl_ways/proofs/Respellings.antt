@@ -1,5 +1,5 @@
 -- The words of a page with a pair more or less.
-use Rattle.std.proofs.Common.{◌≡◌, ◌≢◌, ℕ, zero, suc, ◌+◌, ◌*◌, ◌-◌, ◌<◌, ◌≤◌, List, [], ◌∷◌, ◌++◌, length, get_or, set, Option, Some, refl, sym, ap, subst, ◌∙◌, inl, inr, arith, ext_get_or, get_or-set_other, get_or-set_same, length-set}
+use Rattle.std.proofs.Common.{◌≡◌, ℕ, zero, suc, ◌+◌, ◌*◌, ◌-◌, ◌<◌, ◌≤◌, List, length, get_or, set, Some, sym, ap, subst, ◌∙◌, inl, inr, arith, ext_get_or, get_or-set_other, get_or-set_same, length-set}
 use Rattle.std.specs.Prelude.{replicate}
 use Rattle.std.proofs.lemmas.List.{length-append, length-replicate, get_or_past}
 use Rattle.std.proofs.lemmas.Bool.{cases_lt, cases_eq}
@@ -144,4 +144,3 @@ place_within (page.Inner i) words key value at tree e listed is =
     let some = (listed-before 0 key value i.children.items i.order listed).0 in
     (omega (arith, there, some), omega (arith, there, place-le key i.children.items, i.few))
 place_within (page.Dead d) words key value at tree e listed is = absurd tree
-

@@ -1,13 +1,13 @@
 -- What the words of a page say of it.
-use Rattle.std.proofs.Common.{◌≡◌, ℕ, ◌+◌, ◌-◌, ◌*◌, ◌%◌, ◌/◌, ◌^◌, ◌<◌, ◌≤◌, List, drop, take, length, get_or, Option, refl, ap, sym, subst, ◌∙◌, arith}
+use Rattle.std.proofs.Common.{◌≡◌, ℕ, ◌+◌, ◌-◌, ◌^◌, ◌<◌, List, drop, take, length, get_or, refl, ap, sym, subst, ◌∙◌, arith}
 use Rattle.std.proofs.lemmas.List.{get_or-drop, get_or-take}
 use Rattle.bl_model.specs.Rows.{map_of}
 use Rattle.bl_page.specs.declared.page.Page.{Page}
 use Rattle.bl_page.specs.declared.page.Page.TheVariants as page
-use Rattle.bl_page.specs.Pairs.{end_of, BeginsWith, NameChildren, AreChildren, IsChild}
+use Rattle.bl_page.specs.Pairs.{end_of, NameChildren, IsChild}
 use Rattle.bl_page.specs.Words.{words_of}
-use Rattle.bl_page.specs.Faults.{Kind, IsOf, kind_in, level_in, count_in, pairs_of, HasPairs}
-use Rattle.bl_page.proofs.FaultLemmas.{kind_of, fits, head-level, head-count}
+use Rattle.bl_page.specs.Faults.{kind_in, level_in, count_in, pairs_of, HasPairs}
+use Rattle.bl_page.proofs.FaultLemmas.{fits, head-level, head-count}
 use Rattle.bl_page.proofs.Once.{rows_again, children_again, leftmost_again}
 use Rattle.bl_page.proofs.PagesIn.{AreChildren-at}
 use Rattle.bl_laws.specs.Pages.{node_of, roots_of, IsTreePage}

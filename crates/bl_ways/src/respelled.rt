@@ -38,12 +38,7 @@ fn shifted_up<W: WordSource>(
 
 /// Copies the words, without the pair before that place.
 #[inline(always)]
-fn shifted_down<W: WordSource>(
-    source: &W,
-    hand: &mut W::Hand,
-    place: usize,
-    words: &mut [u64; 32],
-)
+fn shifted_down<W: WordSource>(source: &W, hand: &mut W::Hand, place: usize, words: &mut [u64; 32])
     requires sees { W.Sees source.now hand.old }
     requires place { (0 < place) × (place ≤ 14) }
     ensures same { hand.new ≡ hand.old }
@@ -82,12 +77,7 @@ pub fn words_with<W: WordSource>(
 
 /// The words of a leaf or an inner page without the pair of a key that it lists.
 #[inline(always)]
-pub fn words_without<W: WordSource>(
-    source: &W,
-    hand: &mut W::Hand,
-    key: u64,
-    words: &mut [u64; 32],
-)
+pub fn words_without<W: WordSource>(source: &W, hand: &mut W::Hand, key: u64, words: &mut [u64; 32])
     requires sees { W.Sees source.now hand.old }
     requires page { (c : Page) × IsTreePage c × (W.shown source.now hand.old ≡ words_of c) × IsSome (map_of (pairs_of c) key) }
     ensures same { hand.new ≡ hand.old }

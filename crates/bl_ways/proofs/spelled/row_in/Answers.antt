@@ -1,4 +1,4 @@
-use Rattle.std.proofs.Common.{◌≡◌, ap, sym, subst, ◌∙◌}
+use Rattle.std.proofs.Common.{ap, sym, subst, ◌∙◌}
 use Rattle.bl_page.proofs.Once.{once}
 use Rattle.bl_page.specs.Faults.{HasPairs}
 use Rattle.bl_laws.specs.Pages.{IsTreePage}

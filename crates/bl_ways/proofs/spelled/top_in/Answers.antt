@@ -1,4 +1,4 @@
-use Rattle.std.proofs.Common.{◌≡◌, ℕ, ◌+◌, ◌%◌, ◌/◌, ◌^◌, List, get_or, ap, ◌∙◌, arith}
+use Rattle.std.proofs.Common.{◌≡◌, ◌+◌, ◌%◌, ◌^◌, get_or, ap, ◌∙◌, arith}
 use Rattle.bl_page.specs.Faults.{kind_in, count_in}
 use Rattle.bl_ways.proofs.Spellings.{top_is}
 use Rattle.bl_ways.proofs.spelled.top_in.Goals as goal

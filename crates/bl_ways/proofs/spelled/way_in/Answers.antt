@@ -1,4 +1,4 @@
-use Rattle.std.proofs.Common.{◌≡◌, ◌/◌, ◌^◌, ap, ◌∙◌, arith}
+use Rattle.std.proofs.Common.{◌/◌, ◌^◌, ap, ◌∙◌}
 use Rattle.bl_ways.proofs.Spellings.{tree_by_kind}
 use Rattle.bl_ways.proofs.spelled.way_in.Goals as goal
 

@@ -1,4 +1,4 @@
-use Rattle.std.proofs.Common.{◌≡◌, ◌∙◌}
+use Rattle.std.proofs.Common.{◌∙◌}
 use Rattle.bl_ways.proofs.Spellings.{thin_read}
 use Rattle.bl_ways.proofs.thin.thin_in.Goals as goal
 

@@ -1,6 +1,4 @@
-use Rattle.std.proofs.Common.{ℕ, rules, ◌≡◌, ◌≢◌, None, sym, ap, ◌∙◌, subst}
-use Rattle.bl_ways.specs.declared.acts.Action.{Action}
-use Rattle.bl_ways.specs.declared.acts.Action.TheVariants as act
+use Rattle.std.proofs.Common.{ℕ, rules, sym, ap, ◌∙◌, subst}
 use Rattle.bl_trails.specs.Trails.{marks_of}
 use Rattle.bl_bounds.specs.Latches.{IsTidy}
 use Rattle.bl_tables.specs.Logs.{proc_log}

@@ -1,4 +1,3 @@
-use Rattle.std.proofs.Common.{◌≡◌, ◌∙◌}
 use Rattle.bl_index.proofs.Standing.{done_from}
 use Rattle.bl_index.proofs.index.Index.carry_out.Goals as goal
 

@@ -1,4 +1,4 @@
-use Rattle.std.proofs.Common.{◌≡◌, refl, ap, ◌∙◌}
+use Rattle.std.proofs.Common.{refl, ap, ◌∙◌}
 use Rattle.bl_ways.specs.declared.acts.Seen.TheVariants as seen
 use Rattle.bl_proc.specs.Processes.{next_of}
 use Rattle.bl_store.specs.Hands.{known}

@@ -1,13 +1,11 @@
-use Rattle.std.proofs.Common.{◌≡◌, Bool, true, false, refl, sym, ap, subst, ◌∙◌}
+use Rattle.std.proofs.Common.{Bool, refl, sym, ap, subst, ◌∙◌}
 use Rattle.bl_proc.specs.declared.inserting.InsertStage.TheVariants as insert
-use Rattle.bl_proc.specs.declared.kinds.Proc.{Proc}
 use Rattle.bl_proc.specs.Inserts.{insert_reply, inserted_answer}
 use Rattle.bl_proc.specs.Processes.{next_of}
 use Rattle.bl_ways.specs.declared.changing.Change.TheVariants as change
 use Rattle.bl_store.specs.Hands.{known}
 use Rattle.bl_store.specs.declared.store.Hand.{Hand}
 use Rattle.bl_passes.specs.declared.known.Mine.{Mine}
-use Rattle.bl_passes.specs.Told.{Goes}
 use Rattle.bl_index.specs.Runs.{IsOn, IsSince}
 use Rattle.bl_index.proofs.Standing.{goes_put, same_goes, on_itself, on_after, opens_at}
 use Rattle.bl_index.proofs.Inserted.{inserting, outcome_by, put_courses, stands_opening, opens_changed, has_inserted}

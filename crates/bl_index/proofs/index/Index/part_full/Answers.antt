@@ -1,4 +1,4 @@
-use Rattle.std.proofs.Common.{◌≡◌, ℕ, Some, refl, sym, subst, ◌∙◌}
+use Rattle.std.proofs.Common.{Some, refl, sym, subst, ◌∙◌}
 use Rattle.bl_model.specs.declared.operation.Op.TheVariants as op
 use Rattle.bl_proc.specs.declared.inserting.InsertStage.TheVariants as insert
 use Rattle.bl_proc.specs.declared.kinds.Proc.TheVariants as proc

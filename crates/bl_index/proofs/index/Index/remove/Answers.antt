@@ -1,5 +1,4 @@
-use Rattle.std.proofs.Common.{◌≡◌, ℕ, Bool, true, false, Option, refl, sym, ap, subst, ◌∙◌}
-use Rattle.std.specs.Prelude.{IsSome}
+use Rattle.std.proofs.Common.{ℕ, Bool, Option, refl, sym, ap, subst, ◌∙◌}
 use Rattle.bl_model.specs.declared.operation.Reply.TheVariants as reply
 use Rattle.bl_ways.specs.declared.answers.Answer.TheVariants.{Op}
 use Rattle.bl_ways.specs.declared.changing.Change.TheVariants as change

@@ -1,4 +1,4 @@
-use Rattle.std.proofs.Common.{◌≡◌, ℕ, subst}
+use Rattle.std.proofs.Common.{ℕ, subst}
 use Rattle.bl_store.specs.Hands.{known}
 use Rattle.bl_store.specs.Pages.{Begins as BeginsIn}
 use Rattle.bl_passes.specs.Fitting.{Fits}
