@@ -74,6 +74,7 @@ module _ (s : Pages Mine) (f : Fits s) (n : ℕ) (st : Stage) (d : Mine) (at : S
   knows_more = record {
     world = f.world;
     good = f.good;
+    kept = f.kept;
     opening = f.opening;
     first = f.first;
     size = f.size;
