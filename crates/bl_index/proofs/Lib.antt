@@ -17,3 +17,4 @@ pub mod Posted
 pub mod Pressed
 pub mod Paces
 pub mod Learning
+pub mod Encounters

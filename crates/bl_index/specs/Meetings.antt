@@ -18,6 +18,16 @@ pub record Hears (pass : ℕ) (old theirs new : Trail) : Type 0 where
   pub is : new ≡ theirs
   pub none : own pass new ≡ own pass old
 
+-- Two passes have met: both have seen one trail, which an index may have. It begins with what each of them had seen, and has no
+-- further entry of either.
+pub record Meet (one two : ℕ) (old_one old_two new_one new_two : Trail) : Type 0 where
+  pub same : new_two ≡ new_one
+  pub seen : IsSeen new_one
+  pub begins_one : GoesOnFrom old_one new_one
+  pub begins_two : GoesOnFrom old_two new_one
+  pub none_one : own one new_one ≡ own one old_one
+  pub none_two : own two new_one ≡ own two old_two
+
 -- of what the pass knew, what the other knows, and what the pass knows then
 pub record Learned (pass other among : ℕ) (d e f : Mine) : Type 0 where
   pub learns : Learns pass other (trail_of d.trail) (trail_of e.trail) (trail_of f.trail)

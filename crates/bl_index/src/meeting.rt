@@ -49,7 +49,18 @@ impl<J: Meeting> MeetPlay<Mine> for Heard<J> {
 
 impl Index {
     ghost use Rattle.bl_index.specs.Calls.{IsPassOf, IsSamePass, number_of, trail};
-    ghost use Rattle.bl_index.specs.Meetings.{Learns, Hears};
+    ghost use Rattle.bl_passes.specs.Seeing.{IsSeen};
+    ghost use Rattle.bl_index.specs.Meetings.{Learns, Hears, Meet};
+
+    /// The two passes meet: each then knows all that has happened in the index, and so all that the other one knew.
+    pub fn meet(&self, one: &mut Pass, two: &mut Pass)
+        requires own { IsPassOf self.now one.old × IsPassOf self.now two.old }
+        ensures same { IsSamePass one.old one.new × IsSamePass two.old two.new }
+        ensures meet { Meet (number_of one.old) (number_of two.old) (trail one.old) (trail two.old) (trail one.new) (trail two.new) }
+    {
+        self.learn(one, two);
+        self.tell(two, one);
+    }
 
     /// The pass learns all that has happened in the index, and so all that the other one knows.
     pub fn learn(&self, pass: &mut Pass, other: &mut Pass)
@@ -57,6 +68,7 @@ impl Index {
         ensures same { IsSamePass pass.old pass.new }
         ensures other { IsSamePass other.old other.new × (trail other.new ≡ trail other.old) }
         ensures learns { Learns (number_of pass.old) (number_of other.old) (trail pass.old) (trail other.old) (trail pass.new) }
+        ensures seen { IsSeen (trail pass.new) }
     {
         self.learn_by::<Brand>(&mut pass.hand, &mut other.hand);
     }

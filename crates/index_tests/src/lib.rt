@@ -7,3 +7,5 @@
 
 #[cfg(test)]
 mod calls;
+#[cfg(test)]
+mod meetings;

@@ -26,3 +26,6 @@ invariant_of-other c = let e = c.learn_by.ensures in record {
 
 pub returns-clause-learns : goal.returns-clause-learns
 returns-clause-learns c = c.learn_by.ensures.told.learns
+
+pub returns-clause-seen : goal.returns-clause-seen
+returns-clause-seen c = c.learn_by.ensures.told.seen

@@ -1,4 +1,0 @@
-pub mod Answering
-pub mod Turns
-pub mod Joining
-pub mod Rounds

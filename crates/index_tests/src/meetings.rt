@@ -1,0 +1,111 @@
+//! Passes that meet.
+
+ghost use Rattle.std.specs.Prelude.{All, IfSome};
+ghost use Rattle.bl_index.specs.Calls.{IsPassOf, IsSamePass};
+
+use bl_index::{Config, Index, Pass};
+use bl_model::Reply;
+use std::alloc::Global;
+use std::sync::Wait;
+use std::test::Fail;
+use std::thread;
+use std::thread::Threads;
+
+/// How many threads insert keys.
+const THREADS: u64 = 8;
+
+/// How many keys each of them inserts.
+const ROWS: u64 = 50;
+
+/// How many levels a tree may have: a split is followed by at most one post on each.
+const LEVELS: u32 = 12;
+
+/// Inserts a key, and lists the pages that were parted.
+fn put<R: Wait>(rt: &R, index: &Index, pass: &mut Pass, key: u64)
+    requires { IsPassOf index.now pass.old }
+    ensures { IsPassOf index.now pass.new }
+{
+    let (_reply, first) = index.insert(rt, pass, key, 1000 - key.min(1000));
+    let mut hint = first;
+    for _level in 0..LEVELS {
+        let Some(next) = hint else {
+            return;
+        };
+        hint = index.post(rt, pass, next).1;
+    }
+}
+
+/// Inserts every eighth key, from the thread's own place on.
+fn fill<R: Wait>(rt: &R, index: &Index, pass: &mut Pass, place: usize)
+    requires { IsPassOf index.now pass.old }
+    ensures { IsPassOf index.now pass.new }
+{
+    let first = place as u64 % THREADS;
+    for row in 0..ROWS {
+        put(rt, index, pass, THREADS * row + first);
+    }
+}
+
+/// Each pass inserts its keys in a thread of its own.
+fn fill_all<R: Threads + Wait + Sync>(rt: &R, index: &Index, passes: &mut [Pass])
+    requires { All (IsPassOf index.now) passes.old }
+    ensures { All (IsPassOf index.now) passes.new }
+{
+    thread::for_each_mut(rt, passes, 8, &|place, pass| fill(rt, index, pass, place));
+}
+
+/// The pass meets each of the others.
+fn meet_each(index: &Index, one: &mut Pass, others: &mut [Pass])
+    requires { IsPassOf index.now one.old × All (IsPassOf index.now) others.old }
+    ensures { IsPassOf index.now one.new × All (IsPassOf index.now) others.new }
+{
+    for number in 0..others.len() {
+        index.meet(one, &mut others[number]);
+    }
+}
+
+/// How many keys are found with the value that was inserted.
+fn found(index: &Index, pass: &mut Pass) -> u64
+    requires { IsPassOf index.now pass.old }
+    ensures { IsPassOf index.now pass.new }
+{
+    let mut count = 0u64;
+    for key in 0..THREADS * ROWS {
+        let reply = index.find(pass, key, 1000);
+        if matches!(reply, Ok(Reply::Found(value)) if value == 1000 - key.min(1000)) {
+            count = count.wrapping_add(1);
+        }
+    }
+    count
+}
+
+/// An index with nine passes, the last of which stands beside the others.
+fn nine_passes(alloc: Global) -> Option<(Index, Vec<Pass>, Pass)>
+    ensures { IfSome result (λ t. All (IsPassOf t.0) t.1.items × IsPassOf t.0 t.2) }
+{
+    let config = Config {
+        pages: 256,
+        passes: 9,
+    };
+    match Index::open(alloc, config) {
+        Ok((index, mut passes)) => {
+            let last = passes.pop()?;
+            Some((index, passes, last))
+        }
+        Err(_) => None,
+    }
+}
+
+// Eight threads insert keys of their own. Their passes meet, and one of them finds all keys.
+#[test]
+fn one_pass_finds_the_keys_of_all(rt: HostRuntime) -> Result<(), Fail> {
+    let Some((index, mut passes, mut last)) = nine_passes(rt.alloc()) else {
+        assert!(rt; false);
+        return Ok(());
+    };
+    fill_all(&rt, &index, passes.as_mut_slice());
+    meet_each(&index, &mut last, passes.as_mut_slice());
+    let all = found(&index, &mut last);
+    assert!(rt; all == 400);
+    Ok(())
+}
