@@ -9,7 +9,7 @@ use Rattle.bl_check.specs.Faults.{Breaks}
 use Rattle.bl_check.specs.Reports.{IsReport}
 use Rattle.bl_check.specs.Rules.{AreSound}
 use Rattle.bl_commands.specs.declared.fault.CommandFault.{CommandFault}
-use Rattle.bl_commands.specs.declared.fault.CommandFault.TheVariants.{Read, Write, Memory, Script}
+use Rattle.bl_commands.specs.declared.fault.CommandFault.TheVariants.{Read, Write, Memory, Script, Lost}
 
 -- the line of a sound image
 abbrev pub report_text : Report → List ℕ
@@ -42,8 +42,9 @@ abbrev pub ComesFrom : CommandFault → Type 0 → Type 0 → Type 0
 ComesFrom Read cannot_read writer_failed = cannot_read
 ComesFrom Write cannot_read writer_failed = writer_failed
 ComesFrom Memory cannot_read writer_failed = Unit {0}
--- a check reads no script
+-- a check reads no script, and serves nothing
 ComesFrom (Script line) cannot_read writer_failed = ⊥
+ComesFrom (Lost number) cannot_read writer_failed = ⊥
 
 -- Nothing was written but, where the writer failed, a beginning of the line.
 abbrev pub Leaves : CommandFault → Option (List ℕ) → Option (List ℕ) → List ℕ → Type 0
@@ -51,3 +52,4 @@ Leaves Read old new line = Keeps old new
 Leaves Write old new line = StartsOut old new line
 Leaves Memory old new line = Keeps old new
 Leaves (Script number) old new line = ⊥
+Leaves (Lost number) old new line = ⊥

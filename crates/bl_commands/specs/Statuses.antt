@@ -12,18 +12,20 @@ use Rattle.bl_replay.specs.declared.fault.ReplayFault.TheVariants as replaying
 use Rattle.bl_commands.specs.declared.fault.CommandFault.{CommandFault}
 use Rattle.bl_commands.specs.declared.fault.CommandFault.TheVariants as command
 
--- 3 where reading or writing failed or a script was bad, 4 where there was no memory
+-- 3 where reading or writing failed or a script was bad, 4 where there was no memory, 5 where a request was lost
 abbrev pub status_of : CommandFault → ℕ
 status_of command.Read = 3
 status_of command.Write = 3
 status_of command.Memory = 4
 status_of (command.Script line) = 3
+status_of (command.Lost number) = 5
 
 -- a command fails as its serving did
 abbrev pub fault_of : ServeFault → CommandFault
 fault_of serving.Read = command.Read
 fault_of serving.Write = command.Write
 fault_of serving.Memory = command.Memory
+fault_of (serving.Lost number) = command.Lost number
 
 -- a command fails as its script or the carrying out of it did
 abbrev pub fault_of_script : ScriptFault → CommandFault

@@ -22,6 +22,9 @@ pub enum CommandFault {
     /// This line of the script, counted from 1, is the first that is bad.
     #[error("blink: bad script line {0}")]
     Script(u64),
+    /// The server lost the answer of a line, or had it twice; this is the least such line.
+    #[error("blink: lost request {0}")]
+    Lost(u64),
 }
 
 impl CommandFault {
@@ -32,6 +35,7 @@ impl CommandFault {
         match self {
             CommandFault::Read | CommandFault::Write | CommandFault::Script(_) => 3,
             CommandFault::Memory => 4,
+            CommandFault::Lost(_) => 5,
         }
     }
 }
@@ -44,6 +48,7 @@ impl From<ServeFault> for CommandFault {
             ServeFault::Read => CommandFault::Read,
             ServeFault::Write => CommandFault::Write,
             ServeFault::Memory => CommandFault::Memory,
+            ServeFault::Lost(number) => CommandFault::Lost(number),
         }
     }
 }

@@ -3,5 +3,5 @@ pub mod Long
 pub mod Examples
 pub mod Known
 mod Cuts
-mod Sections
+pub mod Sections
 pub mod Progress

@@ -12,7 +12,7 @@ use Rattle.bl_model.specs.History.{IsLegalFrom, final_map}
 use Rattle.bl_model.proofs.Maps.{map_is}
 use Rattle.bl_model.proofs.Histories.{final_map-append, legal_append}
 use Rattle.bl_lines.specs.declared.serving.ServeFault.{ServeFault}
-use Rattle.bl_lines.specs.declared.serving.ServeFault.TheVariants.{Read, Write, Memory}
+use Rattle.bl_lines.specs.declared.serving.ServeFault.TheVariants.{Read, Write, Memory, Lost}
 use Rattle.bl_lines.specs.declared.serving.Totals.{Totals}
 use Rattle.bl_lines.specs.declared.serving.SectionEnd.{SectionEnd}
 use Rattle.bl_lines.specs.declared.serving.SectionEnd.TheVariants as section_end
@@ -175,6 +175,7 @@ stops_section start now new s old totals input output unread left text rest line
   subst (λ o. Stopped start ((input ++ (input_of lines ++ rest)) ++ left) o Memory) (append-nil output) (stopped start now new s old input output unread left rest [] _ lines Memory p r inside refl refl),
   tt,
 )
+stops_section start now new s old totals input output unread left text rest lines (Lost number) End ReaderFailed WriterFailed p r ends = absurd ends
 
 -- the text of a section that ended
 pub ended_text : (end : SectionEnd) (old totals : Totals) (lines : List Line) (rest left text : List ℕ) (End Failed : Type 0) → EndsSection (Ok end) old totals lines rest left text End Failed

@@ -4,7 +4,7 @@ use Rattle.bl_model.specs.declared.operation.Entry.{Entry}
 use Rattle.bl_model.specs.Map.{Map, SameMap}
 use Rattle.bl_model.specs.History.{IsLegalFrom, final_map}
 use Rattle.bl_lines.specs.declared.serving.ServeFault.{ServeFault}
-use Rattle.bl_lines.specs.declared.serving.ServeFault.TheVariants.{Read, Write, Memory}
+use Rattle.bl_lines.specs.declared.serving.ServeFault.TheVariants.{Read, Write, Memory, Lost}
 use Rattle.bl_lines.specs.declared.serving.Totals.{Totals}
 use Rattle.bl_lines.specs.Lines.{Line, IsLine, HasNoLf, Answer, Synced, Malformed, entries, input_of, output_of, rest_text}
 
@@ -79,6 +79,7 @@ abbrev pub Leaves : ServeFault → List ℕ → List ℕ → List Line → Type 
 Leaves Read begun ahead lines = (begun ≡ []) × (ahead ≡ []) × HasNoSync lines
 Leaves Write begun ahead lines = Unit {0}
 Leaves Memory begun ahead lines = begun ≡ []
+Leaves (Lost number) begun ahead lines = begun ≡ []
 
 -- The server stopped by the fault: the output is one line for each line of the finished sections, by number, and no
 -- others but, after a failed write, a beginning of the output of the lines behind them. ahead was read and not cut.
@@ -112,6 +113,7 @@ abbrev pub ComesFrom : ServeFault → Type 0 → Type 0 → Type 0
 ComesFrom Read reader_failed writer_failed = reader_failed
 ComesFrom Write reader_failed writer_failed = writer_failed
 ComesFrom Memory reader_failed writer_failed = Unit {0}
+ComesFrom (Lost number) reader_failed writer_failed = Unit {0}
 
 -- The server stopped by the fault, as far as its input and its output go, and with its reason.
 abbrev pub Stops : Map → List ℕ → List ℕ → ServeFault → Type 0 → Type 0 → Type 0

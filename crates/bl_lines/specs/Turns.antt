@@ -6,7 +6,7 @@ use Rattle.bl_model.specs.History.{IsLegalFrom, final_map}
 use Rattle.bl_lines.specs.declared.print.Response.{Response}
 use Rattle.bl_lines.specs.declared.print.Response.TheVariants as response
 use Rattle.bl_lines.specs.declared.serving.ServeFault.{ServeFault}
-use Rattle.bl_lines.specs.declared.serving.ServeFault.TheVariants.{Read, Write, Memory}
+use Rattle.bl_lines.specs.declared.serving.ServeFault.TheVariants.{Read, Write, Memory, Lost}
 use Rattle.bl_lines.specs.declared.serving.Totals.{Totals}
 use Rattle.bl_lines.specs.declared.serving.Reading.{Reading}
 use Rattle.bl_lines.specs.declared.serving.Reading.TheVariants as reading
@@ -82,6 +82,7 @@ EndsSection (Ok section_end.Finished) old new lines rest left text at_end failed
 EndsSection (Err Read) old new lines rest left text at_end failed = HasNoSync lines × (left ≡ []) × failed
 EndsSection (Err Write) old new lines rest left text at_end failed = ⊥
 EndsSection (Err Memory) old new lines rest left text at_end failed = HasNoSyncInside lines
+EndsSection (Err (Lost number)) old new lines rest left text at_end failed = ⊥
 
 -- the section's lines were read and answered
 pub record ReadsSection (old new : Map) (unread left : List ℕ) (lines : List Line) (rest : List ℕ) : Type 0 where

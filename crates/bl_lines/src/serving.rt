@@ -39,6 +39,9 @@ pub enum ServeFault {
     Write,
     #[error("out of memory")]
     Memory,
+    /// The least number of a line whose answer was not given back exactly once. Only a server of several threads tells it.
+    #[error("lost request {0}")]
+    Lost(u64),
 }
 
 impl From<AllocError> for ServeFault {

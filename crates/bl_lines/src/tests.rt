@@ -274,6 +274,7 @@ fn faults_have_words(rt: HostRuntime) -> Result<(), Fail> {
         (ServeFault::Read, "read failed"),
         (ServeFault::Write, "write failed"),
         (ServeFault::Memory, "out of memory"),
+        (ServeFault::Lost(7), "lost request 7"),
     ];
     for (fault, word) in words {
         assert_eq!(rt; fault.to_string(rt.alloc())?.as_str(), word);

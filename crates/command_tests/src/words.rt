@@ -62,6 +62,7 @@ fn words_on_standard_error(rt: HostRuntime) -> Result<(), Fail> {
         (ServeFault::Read, "blink: read failed", 3),
         (ServeFault::Write, "blink: write failed", 3),
         (ServeFault::Memory, "blink: out of memory", 4),
+        (ServeFault::Lost(7), "blink: lost request 7", 5),
     ] {
         let fault = CommandFault::from(fault);
         assert_eq!(rt; format!(in rt.alloc(); "{fault}")?.as_str(), text);

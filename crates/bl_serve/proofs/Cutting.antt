@@ -1,0 +1,54 @@
+-- How far a section was read.
+use Rattle.std.proofs.Common.{◌≡◌, ◌≢◌, ℕ, ◌+◌, ◌<◌, ◌≤◌, List, [], ◌∷◌, ◌++◌, length, refl, sym, ap, ◌∙◌, subst, append_assoc, append-nil, arith, length-append}
+use Rattle.std.specs.Prelude.{All, Option, Some, flat_map, Ok, Err, Result}
+use Rattle.std.specs.List.{AllZip}
+use Rattle.std.proofs.lemmas.List.{flat_map_more}
+use Rattle.std.proofs.lemmas.List.Elements.{All-nil, All-push}
+use Rattle.bl_lines.specs.declared.request.Request.{Request}
+use Rattle.bl_lines.specs.declared.request.Request.TheVariants.{Sync}
+use Rattle.bl_lines.specs.Lines.{HasNoLf}
+use Rattle.bl_serve.specs.Reading.{IsReadAs, bytes_of, AsksNoSync, AsksSyncLast, ReadsLines}
+use Rattle.bl_serve.proofs.Lines.{zip_append}
+
+no_lf : HasNoLf []
+no_lf = All-nil (λ b. b ≢ 10)
+
+pub asks_none : AsksNoSync []
+asks_none = All-nil (λ a. a ≢ Some Sync)
+
+pub asks_more : (asked : List (Option Request)) (a : Option Request) → AsksNoSync asked → a ≢ Some Sync → AsksNoSync (asked ++ a ∷ [])
+asks_more asked a h other = All-push (λ z. z ≢ Some Sync) asked a h other
+
+pub asks_sync : (asked new : List (Option Request)) (a : Option Request) → AsksNoSync asked → new ≡ asked ++ a ∷ [] → a ≡ Some Sync → AsksSyncLast new
+asks_sync asked new a h is sync = record { front = asked; ends = is ∙ ap (λ z. asked ++ z ∷ []) sync; no_sync = h }
+
+pub reads_none : (source : List ℕ) (lines : List (Option Request)) → lines ≡ [] → ReadsLines (source ++ []) source lines []
+reads_none source lines is = subst (λ z. ReadsLines (source ++ []) source z []) (sym is) (record { texts = []; each = tt; cut = no_lf; read = append-nil source })
+
+pub reads_more : (source more x left new bytes : List ℕ) (lines lines' : List (Option Request)) (asked : Option Request) → ReadsLines (source ++ more) left lines [] → IsReadAs asked bytes → left ++ x ≡ bytes ++ 10 ∷ new → lines' ≡ lines ++ asked ∷ []
+    → ReadsLines (source ++ (more ++ x)) new lines' []
+reads_more source more x left new bytes lines lines' asked r one is grown = subst (λ z. ReadsLines (source ++ (more ++ x)) new z []) (sym grown) (record {
+  texts = r.texts ++ bytes ∷ [];
+  each = zip_append IsReadAs lines (asked ∷ []) r.texts (bytes ∷ []) r.each (one, tt);
+  cut = no_lf;
+  read = sym (append_assoc source more x) ∙ (ap (λ z. z ++ x) (r.read ∙ ap (λ z. z ++ left) (append-nil (bytes_of r.texts))) ∙ (append_assoc (bytes_of r.texts) left x
+      ∙ (ap (λ z. bytes_of r.texts ++ z) (is ∙ sym (append_assoc bytes (10 ∷ []) new)) ∙ (sym (append_assoc (bytes_of r.texts) (bytes ++ 10 ∷ []) new)
+      ∙ (ap (λ z. z ++ new) (flat_map_more (λ (t : List ℕ). t ++ 10 ∷ []) [] r.texts bytes) ∙ ap (λ z. z ++ new) (sym (append-nil (bytes_of (r.texts ++ bytes ∷ [])))))))));
+})
+
+pub reads_rest : (source more x left new rest : List ℕ) (lines : List (Option Request)) → ReadsLines (source ++ more) left lines [] → left ++ x ≡ rest ++ new → HasNoLf rest → ReadsLines (source ++ (more ++ x)) new lines rest
+reads_rest source more x left new rest lines r is cut = record {
+  texts = r.texts;
+  each = r.each;
+  cut = cut;
+  read = sym (append_assoc source more x) ∙ (ap (λ z. z ++ x) (r.read ∙ ap (λ z. z ++ left) (append-nil (bytes_of r.texts))) ∙ (append_assoc (bytes_of r.texts) left x
+      ∙ (ap (λ z. bytes_of r.texts ++ z) is ∙ sym (append_assoc (bytes_of r.texts) rest new))));
+}
+
+-- the reader is at its end
+pub reads_end : (source more x left new : List ℕ) (lines : List (Option Request)) → ReadsLines (source ++ more) left lines [] → left ++ x ≡ [] → new ≡ [] → ReadsLines (source ++ (more ++ x)) new lines []
+reads_end source more x left new lines r is none = reads_rest source more x left new [] lines r (is ∙ sym none) no_lf
+
+-- it failed
+pub reads_failed : (source more x left new bytes : List ℕ) (lines : List (Option Request)) → ReadsLines (source ++ more) left lines [] → left ++ x ≡ bytes → new ≡ [] → HasNoLf bytes → ReadsLines (source ++ (more ++ x)) new lines bytes
+reads_failed source more x left new bytes lines r is none cut = reads_rest source more x left new bytes lines r (is ∙ (sym (append-nil bytes) ∙ ap (λ z. bytes ++ z) (sym none))) cut

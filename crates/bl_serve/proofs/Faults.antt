@@ -1,0 +1,167 @@
+-- What is known of a section that was read, at its end, and where it stopped.
+use Rattle.std.proofs.Common.{◌≡◌, ◌≢◌, ℕ, suc, ◌+◌, ◌-◌, ◌<◌, ◌≤◌, ◌^◌, ◌⊎◌, List, [], ◌∷◌, ◌++◌, length, refl, sym, ap, ◌∙◌, subst, append-nil, arith, length-append, inl, inr}
+use Rattle.std.specs.Prelude.{Option, Some, Result, Ok, Err, is_none}
+use Rattle.std.proofs.lemmas.List.Sums.{count_by-le-length}
+use Rattle.std.proofs.lemmas.List.Elements.{All-nil}
+use Rattle.bl_model.specs.declared.operation.Entry.{Entry}
+use Rattle.bl_lines.specs.declared.request.Request.TheVariants.{Sync}
+use Rattle.bl_lines.specs.declared.request.Request.{Request}
+use Rattle.bl_lines.specs.declared.serving.ServeFault.{ServeFault}
+use Rattle.bl_lines.specs.declared.serving.ServeFault.TheVariants.{Read, Write, Memory, Lost}
+use Rattle.bl_lines.specs.declared.serving.Totals.{Totals}
+use Rattle.bl_lines.specs.Lines.{Line, rest_text}
+use Rattle.bl_lines.specs.Served.{Stops, HasNoSyncInside}
+use Rattle.bl_lines.specs.Streams.{EndsRead}
+use Rattle.bl_trails.specs.Trails.{Trail}
+use Rattle.bl_passes.specs.Seeing.{IsSeen}
+use Rattle.bl_index.specs.declared.index.Index.{Index}
+use Rattle.bl_index.specs.declared.index.Pass.{Pass}
+use Rattle.bl_index.specs.Calls.{map_of}
+use Rattle.bl_serve.specs.declared.reading.SectionEnd.{SectionEnd}
+use Rattle.bl_serve.specs.declared.reading.SectionEnd.TheVariants as section_end
+use Rattle.bl_serve.specs.Reading.{ReadsLines, AsksNoSync, AsksSyncLast, EndsReading}
+use Rattle.bl_serve.specs.Sections.{Held, CountsSection, end_text, rests, syncs}
+use Rattle.bl_serve.specs.Serving.{AreTogether, HoldsSection, ServesSection, ServedBy, Serves, IsInside, seen_by}
+use Rattle.bl_serve.proofs.Spelled.{lines_with}
+use Rattle.bl_serve.proofs.Advance.{Progress, add_section, serves_end, stops_inside, stops_reading, stops_writing, ends_rest, ends_finished, inside_no_sync, inside_sync_last, input_long}
+use Rattle.bl_serve.proofs.Holding.{first_seen}
+use Rattle.bl_serve.proofs.Cutting.{asks_none}
+
+-- ---- how many lines there may be
+
+pub room : (end : SectionEnd) (before : Totals) (asked : List (Option Request)) (rest unread left : List ℕ) (AtEnd Failed : Type 0) → EndsReading (Ok end) (2 ^ 64 - 1 - before.requests) asked rest unread left AtEnd Failed → before.requests < 2 ^ 64
+    → before.requests + length asked + rests end < 2 ^ 64
+room section_end.Synced before asked rest unread left AtEnd Failed e low = let a = e.1 in omega arith
+room section_end.Rest before asked rest unread left AtEnd Failed e low = let a = e.1 in omega arith
+room section_end.Finished before asked rest unread left AtEnd Failed e low = let a = e.1 in omega arith
+
+pub few_syncs : (end : SectionEnd) (n : ℕ) → n + 1 < 2 ^ 64 → n + syncs end < 2 ^ 64
+few_syncs section_end.Synced n low = low
+few_syncs section_end.Rest n low = omega arith
+few_syncs section_end.Finished n low = omega arith
+
+-- ---- faults
+
+-- the section could not be read whole
+pub stops_at_read : (fault : ServeFault) (old now : Trail) (before : Totals) (input output unread left rest : List ℕ) (asked : List (Option Request)) (most : ℕ) (AtEnd ReaderFailed WriterFailed : Type 0) → Progress old now before input output → IsSeen now
+    → EndsReading (Err fault) most asked rest unread left AtEnd ReaderFailed → Stops (map_of old) (input ++ unread) output fault ReaderFailed WriterFailed
+stops_at_read Read old now before input output unread left rest asked most AtEnd ReaderFailed WriterFailed p seen e = stops_reading old now before input output unread left rest asked ReaderFailed WriterFailed p seen e.0 e.1 e.2 e.3
+stops_at_read Write old now before input output unread left rest asked most AtEnd ReaderFailed WriterFailed p seen e = absurd e
+stops_at_read Memory old now before input output unread left rest asked most AtEnd ReaderFailed WriterFailed p seen e = stops_inside old now before input output unread Memory ReaderFailed WriterFailed p seen refl tt
+stops_at_read (Lost number) old now before input output unread left rest asked most AtEnd ReaderFailed WriterFailed p seen e = absurd e
+
+-- it could not be answered
+pub stops_at_answers : (fault : ServeFault) (old now : Trail) (before : Totals) (input output ahead : List ℕ) (ReaderFailed WriterFailed : Type 0) → Progress old now before input output → IsSeen now → IsInside fault → Stops (map_of old) (input ++ ahead) output fault ReaderFailed WriterFailed
+stops_at_answers Read old now before input output ahead ReaderFailed WriterFailed p seen inside = absurd inside
+stops_at_answers Write old now before input output ahead ReaderFailed WriterFailed p seen inside = absurd inside
+stops_at_answers Memory old now before input output ahead ReaderFailed WriterFailed p seen inside = stops_inside old now before input output ahead Memory ReaderFailed WriterFailed p seen refl tt
+stops_at_answers (Lost number) old now before input output ahead ReaderFailed WriterFailed p seen inside = stops_inside old now before input output ahead (Lost number) ReaderFailed WriterFailed p seen refl tt
+
+-- ---- a section that was answered
+
+-- a section that was read and answered, however it ended
+pub record Ended (unread left : List ℕ) (asked : List (Option Request)) (rest : List ℕ) (done : ℕ) (text : List ℕ) (more : Trail) (h : Held done asked text more) (end : SectionEnd) : Type 0 where
+  pub reads : ReadsLines unread left asked rest
+  pub inside : HasNoSyncInside (lines_with reads.texts h.answers)
+  pub prints : (n : ℕ) → end_text end n ≡ rest_text n rest
+
+ended : (unread left : List ℕ) (asked : List (Option Request)) (rest : List ℕ) (done : ℕ) (text : List ℕ) (more : Trail) (h : Held done asked text more) (end : SectionEnd) (most : ℕ) (AtEnd Failed : Type 0) → EndsReading (Ok end) most asked rest unread left AtEnd Failed → Ended unread left asked rest done text more h end
+ended unread left asked rest done text more h section_end.Synced most AtEnd Failed e = record { reads = e.0; inside = inside_sync_last unread left rest asked e.0 done text more h e.3; prints = (ends_finished rest e.2).prints }
+ended unread left asked rest done text more h section_end.Rest most AtEnd Failed e = record { reads = e.0; inside = inside_no_sync unread left rest asked e.0 done text more h e.3; prints = (ends_rest rest e.2).prints }
+ended unread left asked rest done text more h section_end.Finished most AtEnd Failed e = record { reads = e.0; inside = inside_no_sync unread left rest asked e.0 done text more h e.3; prints = (ends_finished rest e.2).prints }
+
+-- what was served to the end
+pub record AtLast (old now : Trail) (input output unread left text : List ℕ) (totals : Totals) (AtEnd : Type 0) : Type 0 where
+  pub consumed : List ℕ
+  pub read : unread ≡ consumed ++ left
+  pub served : ServedBy old now (input ++ consumed) (output ++ text) totals
+  pub ends : EndsRead (input ++ consumed) left AtEnd
+
+-- what is known when a sync has ended a section
+pub record GoesOn (old now : Trail) (before totals : Totals) (input output unread left text : List ℕ) : Type 0 where
+  pub consumed : List ℕ
+  pub read : unread ≡ consumed ++ left
+  pub progress : Progress old now totals (input ++ consumed) (output ++ text)
+  pub malformed : before.malformed ≤ before.requests → totals.malformed ≤ totals.requests
+  pub sections : totals.sections ≡ before.sections + 1
+  pub requests : before.requests + 1 ≤ totals.requests
+
+some_line : (asked : List (Option Request)) → AsksSyncLast asked → 1 ≤ length asked
+some_line asked e = let a = ap length e.ends in let b = length-append e.front (Some Sync ∷ []) in let c : length {A = Option Request} (Some Sync ∷ []) ≡ 1 = refl in omega (arith, a, b, c)
+
+module _ (index : Index) (seen : Trail) (before : Totals) (asked : List (Option Request)) (end : SectionEnd) (text : List ℕ) (olds news : List Pass) (t : AreTogether index seen olds) (some : 0 < length olds) (s : ServesSection index before.requests asked end text olds news) where
+  abbrev pub now_seen : Trail
+  now_seen = seen ++ s.holds.more
+
+  pub together_now : AreTogether index now_seen news
+  together_now = subst (λ (z : Trail). AreTogether index (z ++ s.holds.more) news) (first_seen index seen olds some t) s.holds.together
+
+  pub some_now : 0 < length news
+  some_now = let a = s.holds.together.count in let b = t.count in omega (arith, a, b, some)
+
+  -- its output was not written whole
+  pub stops_at_write : (old : Trail) (input output unread left rest out unwritten : List ℕ) (most : ℕ) (AtEnd ReaderFailed WriterFailed : Type 0) → Progress old seen before input output → EndsReading (Ok end) most asked rest unread left AtEnd ReaderFailed
+      → text ≡ out ++ unwritten → WriterFailed → Stops (map_of old) (input ++ unread) (output ++ out) Write ReaderFailed WriterFailed
+  stops_at_write old input output unread left rest out unwritten most AtEnd ReaderFailed WriterFailed p e split failed =
+      let w = ended unread left asked rest before.requests s.answers s.holds.more s.holds.held end most AtEnd ReaderFailed e in
+      stops_writing old seen before input output unread left s.answers rest out unwritten asked s.holds.more end ReaderFailed WriterFailed p w.reads s.holds.held w.inside w.prints together_now.may_be (sym s.ends ∙ split) failed
+
+  pub goes_on_at_sync : (old : Trail) (totals : Totals) (input output unread left rest : List ℕ) (most : ℕ) (AtEnd Failed : Type 0) → end ≡ section_end.Synced → Progress old seen before input output → EndsReading (Ok end) most asked rest unread left AtEnd Failed
+      → CountsSection before totals asked end → GoesOn old now_seen before totals input output unread left text
+  goes_on_at_sync old totals input output unread left rest most AtEnd Failed is p e' counts' =
+      let e = subst (λ (z : SectionEnd). EndsReading (Ok z) most asked rest unread left AtEnd Failed) is e' in
+      let counts : CountsSection before totals asked section_end.Synced = subst (CountsSection before totals asked) is counts' in
+      let r : ReadsLines unread left asked [] = subst (ReadsLines unread left asked) e.2 e.0 in
+      let a = add_section old seen before totals input output unread left s.answers asked s.holds.more p r e.3 s.holds.held counts in
+      let plain : text ≡ s.answers = s.ends ∙ (ap (λ (z : SectionEnd). s.answers ++ end_text z (before.requests + length asked + 1)) is ∙ append-nil s.answers) in record {
+        consumed = a.0;
+        read = a.1;
+        progress = subst (λ (z : List ℕ). Progress old now_seen totals (input ++ a.0) (output ++ z)) (sym plain) a.2;
+        malformed = λ few. let x = counts.malformed in let y = counts.requests in let z = count_by-le-length is_none asked in omega (arith, x, y, z, few);
+        sections = counts.sections;
+        requests = let y = counts.requests in let z = some_line asked e.3 in omega (arith, y, z);
+      }
+
+  pub serves_at_end : (old : Trail) (totals : Totals) (input output unread left rest : List ℕ) (AtEnd Failed : Type 0) → end ≢ section_end.Synced → Progress old seen before input output → EndsReading (Ok end) (2 ^ 64 - 1 - before.requests) asked rest unread left AtEnd Failed
+      → before.requests < 2 ^ 64 → CountsSection before totals asked end → AtLast old now_seen input output unread left text totals AtEnd
+  serves_at_end old totals input output unread left rest AtEnd Failed other p e low counts = go end other e counts s.ends
+    where
+      go : (end : SectionEnd) → end ≢ section_end.Synced → EndsReading (Ok end) (2 ^ 64 - 1 - before.requests) asked rest unread left AtEnd Failed → CountsSection before totals asked end → text ≡ s.answers ++ end_text end (before.requests + length asked + 1)
+          → AtLast old now_seen input output unread left text totals AtEnd
+      go section_end.Synced other e counts is = absurd (other refl)
+      go section_end.Rest other e counts is =
+          let v = serves_end old seen before totals input output unread left s.answers rest asked s.holds.more section_end.Rest p e.0 e.3 s.holds.held counts (ends_rest rest e.2) together_now.may_be in record {
+            consumed = v.0;
+            read = v.1;
+            served = subst (λ (z : List ℕ). ServedBy old now_seen (input ++ v.0) (output ++ z) totals) (sym is) v.3;
+            ends = reads_to_end v.0 v.2 e.4;
+          }
+        where
+          reads_to_end : (consumed : List ℕ) → length asked + length rest ≤ length consumed → EndsRead rest left AtEnd → EndsRead (input ++ consumed) left AtEnd
+          reads_to_end consumed long (inl here) = inl here
+          reads_to_end consumed long (inr many) = inr (let a = length-append input consumed in omega (arith, a, long, many))
+      go section_end.Finished other e counts is =
+          let v = serves_end old seen before totals input output unread left s.answers rest asked s.holds.more section_end.Finished p e.0 e.3 s.holds.held counts (ends_finished rest e.2) together_now.may_be in record {
+            consumed = v.0;
+            read = v.1;
+            served = subst (λ (z : List ℕ). ServedBy old now_seen (input ++ v.0) (output ++ z) totals) (sym is) v.3;
+            ends = takes_all v.0 v.2 e.4;
+          }
+        where
+          takes_all : (consumed : List ℕ) → length asked + length rest ≤ length consumed → ((left ≡ []) × AtEnd) ⊎ (2 ^ 64 - 1 - before.requests ≤ length asked) → EndsRead (input ++ consumed) left AtEnd
+          takes_all consumed long (inl here) = inl here
+          takes_all consumed long (inr many) = inr (let a = length-append input consumed in let b = input_long old seen before input output p in omega (arith, a, b, long, many, low))
+
+-- ---- as many sections as there are numbers
+
+pub serves_no_more : (old now : Trail) (totals : Totals) (input output left : List ℕ) (AtEnd : Type 0) → Progress old now totals input output → IsSeen now → 2 ^ 64 - 1 ≤ totals.requests → AtLast old now input output left left [] totals AtEnd
+serves_no_more old now totals input output left AtEnd p seen many =
+    let none : Held totals.requests [] [] [] = record { answers = []; each = tt; prints = refl; interleaves = All-nil (λ (list : List Entry). list ≡ []) } in
+    let r : ReadsLines left left [] [] = record { texts = []; each = tt; cut = All-nil (λ b. b ≢ 10); read = refl } in
+    let counts : CountsSection totals totals [] section_end.Finished = record { requests = omega arith; malformed = omega arith; sections = omega arith } in
+    let v = serves_end old now totals totals input output left left [] [] [] [] section_end.Finished p r asks_none none counts (ends_finished [] refl) (subst IsSeen (sym (append-nil now)) seen) in record {
+      consumed = v.0;
+      read = v.1;
+      served = subst (λ (z : Trail). ServedBy old z (input ++ v.0) (output ++ []) totals) (append-nil now) v.3;
+      ends = inr (let a = length-append input v.0 in let b = input_long old now totals input output p in omega (arith, a, b, many));
+    }

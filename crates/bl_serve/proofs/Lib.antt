@@ -1,0 +1,12 @@
+pub mod Weaving
+pub mod Pieces
+pub mod Lines
+pub mod Shares
+pub mod Sections
+pub mod Together
+pub mod Spelled
+pub mod Advance
+pub mod Holding
+pub mod Cutting
+pub mod Faults
+pub mod Beginning

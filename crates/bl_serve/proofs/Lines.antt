@@ -1,0 +1,155 @@
+-- Lines that are answered one after another, and batches that follow each other.
+use Rattle.std.proofs.Common.{◌≡◌, ℕ, suc, ◌+◌, ◌-◌, ◌<◌, ◌≤◌, List, [], ◌∷◌, ◌++◌, length, take, drop, map, get_or, refl, sym, ap, ◌∙◌, subst, append_assoc, arith, length-append, append-nil}
+use Rattle.std.specs.Prelude.{All, Option, Some, None, flat_map}
+use Rattle.std.specs.List.{AllZip}
+use Rattle.std.proofs.lemmas.List.{flat_map_more, take_more, take_all, length-take-le, map-append}
+use Rattle.std.proofs.lemmas.List.Concat.{flat_map-append}
+use Rattle.std.proofs.lemmas.List.Elements.{All-nil, All-cons, All-append}
+use Rattle.bl_model.specs.declared.operation.Entry.{Entry}
+use Rattle.bl_model.specs.declared.operation.Op.{Op}
+use Rattle.bl_model.specs.declared.operation.Reply.{Reply}
+use Rattle.bl_lines.specs.declared.request.Request.{Request}
+use Rattle.bl_lines.specs.declared.request.Request.TheVariants.{Ask, Sync}
+use Rattle.bl_lines.specs.declared.print.Response.{Response}
+use Rattle.bl_lines.specs.declared.print.Response.TheVariants as response
+use Rattle.bl_lines.specs.Lines.{Answer, Replied, Scanned, Synced, Malformed, entries, answer_text}
+use Rattle.bl_lines.specs.Text.{numbered, reply_text, response_text}
+use Rattle.bl_lines.specs.Turns.{Shows}
+use Rattle.bl_trails.specs.Trails.{Trail}
+use Rattle.bl_passes.specs.Seeing.{own, GoesOnFrom}
+use Rattle.bl_worker.specs.Works.{Works, Adds}
+use Rattle.bl_index.specs.declared.index.Pass.{Pass}
+use Rattle.bl_index.specs.Calls.{IsSamePass, number_of, trail}
+use Rattle.bl_serve.specs.declared.working.Written.{Written}
+use Rattle.bl_serve.specs.Joining.{Chains, text_of}
+use Rattle.bl_serve.specs.Turns.{Piece, IsPiece, Logs, lines_in}
+use Rattle.bl_serve.specs.Answering.{IsFor, answers_text, AnswersLine, AnswersLines}
+
+shown_text : (answer : Answer) (shown : Response) → Shows answer shown → response_text shown ≡ answer_text answer
+shown_text (Replied entry) (response.Replied reply) h = ap reply_text h
+shown_text (Replied entry) response.Synced h = absurd h
+shown_text (Replied entry) response.Malformed h = absurd h
+shown_text (Scanned low high parts) shown h = absurd h
+shown_text Synced (response.Replied reply) h = absurd h
+shown_text Synced response.Synced h = refl
+shown_text Synced response.Malformed h = absurd h
+shown_text Malformed (response.Replied reply) h = absurd h
+shown_text Malformed response.Synced h = absurd h
+shown_text Malformed response.Malformed h = refl
+
+pub zip_append : {A B : Type 0} (R : A → B → Type 0) (xs us : List A) (ys vs : List B) → AllZip R xs ys → AllZip R us vs → AllZip R (xs ++ us) (ys ++ vs)
+zip_append R [] us [] vs h k = k
+zip_append R [] us (y ∷ ys) vs h k = absurd h
+zip_append R (x ∷ xs) us [] vs h k = absurd h
+zip_append R (x ∷ xs) us (y ∷ ys) vs h k = (h.0, zip_append R xs us ys vs h.1 k)
+
+pub zip_length : {A B : Type 0} (R : A → B → Type 0) (xs : List A) (ys : List B) → AllZip R xs ys → length ys ≡ length xs
+zip_length R [] [] h = refl
+zip_length R [] (y ∷ ys) h = absurd h
+zip_length R (x ∷ xs) [] h = absurd h
+zip_length R (x ∷ xs) (y ∷ ys) h = ap suc (zip_length R xs ys h.1)
+
+pub text_append : (n : ℕ) (xs ys : List Answer) → answers_text n (xs ++ ys) ≡ answers_text n xs ++ answers_text (n + length xs) ys
+text_append n [] ys = ap (λ k. answers_text k ys) (let e : n ≡ n + 0 = omega arith in e)
+text_append n (x ∷ xs) ys = ap (λ t. numbered n (answer_text x) ++ t) (text_append (suc n) xs ys ∙ ap (λ k. answers_text (suc n) xs ++ answers_text k ys) (let e : suc n + length xs ≡ n + suc (length xs) = omega arith in e))
+    ∙ sym (append_assoc (numbered n (answer_text x)) (answers_text (suc n) xs) (answers_text (n + suc (length xs)) ys))
+
+pub goes_on : (old mid new : Trail) → GoesOnFrom old mid → GoesOnFrom mid new → GoesOnFrom old new
+goes_on old mid new a b = (a.0 ++ b.0, b.1 ∙ (ap (λ (z : Trail). z ++ b.0) a.1 ∙ append_assoc old a.0 b.0))
+
+pub stays : (old : Trail) → GoesOnFrom old old
+stays old = ([], sym (append-nil old))
+
+-- nothing is answered yet
+pub no_lines : (pass first : ℕ) (old : Trail) → AnswersLines pass first [] [] old old
+no_lines pass first old = record { answers = []; each = tt; prints = refl; begins = stays old; seen = λ s. s; mine = sym (append-nil (own pass old)) }
+
+pub one_more : (pass first n : ℕ) (lines : List (Option Request)) (asked : Option Request) (shown : Response) (text : List ℕ) (old mid new : Trail) → n ≡ first + length lines
+    → AnswersLines pass first lines text old mid → AnswersLine pass asked shown mid new → AnswersLines pass first (lines ++ asked ∷ []) (text ++ numbered n (response_text shown)) old new
+one_more pass first n lines asked shown text old mid new at a b = let long = zip_length IsFor lines a.answers a.each in
+    let number : n ≡ first + length a.answers = omega arith in record {
+      answers = a.answers ++ b.answer ∷ [];
+      each = zip_append IsFor lines (asked ∷ []) a.answers (b.answer ∷ []) a.each (b.is_for, tt);
+      prints = ap (λ (z : List ℕ). z ++ numbered n (response_text shown)) a.prints
+          ∙ (ap (λ (z : List ℕ). answers_text first a.answers ++ numbered n z) (shown_text b.answer shown b.shows)
+          ∙ (ap (λ (z : ℕ). answers_text first a.answers ++ numbered z (answer_text b.answer)) number
+          ∙ (ap (λ (z : List ℕ). answers_text first a.answers ++ z) (sym (append-nil (numbered (first + length a.answers) (answer_text b.answer))))
+          ∙ sym (text_append first a.answers (b.answer ∷ [])))));
+      begins = goes_on old mid new a.begins b.begins;
+      seen = λ s. b.seen (a.seen s);
+      mine = b.mine ∙ (ap (λ (z : List Entry). z ++ entries b.answer) a.mine ∙ (append_assoc (own pass old) (flat_map entries a.answers) (entries b.answer) ∙ ap (λ (z : List Entry). own pass old ++ z) (flat_map_more entries [] a.answers b.answer)));
+    }
+
+-- ---- single lines
+
+pub asked_line : (pass : ℕ) (op : Op) (reply : Reply) (old new : Trail) → Works pass op reply old new → AnswersLine pass (Some (Ask op)) (response.Replied reply) old new
+asked_line pass op reply old new w = record { answer = Replied (record { pass = pass; op = op; reply = reply }); shows = refl; is_for = refl; begins = w.begins; seen = λ s. w.seen; mine = w.once }
+
+pub synced_line : (pass : ℕ) (old : Trail) → AnswersLine pass (Some Sync) response.Synced old old
+synced_line pass old = record { answer = Synced; shows = tt; is_for = tt; begins = stays old; seen = λ s. s; mine = sym (append-nil (own pass old)) }
+
+pub malformed_line : (pass : ℕ) (old : Trail) → AnswersLine pass None response.Malformed old old
+malformed_line pass old = record { answer = Malformed; shows = tt; is_for = tt; begins = stays old; seen = λ s. s; mine = sym (append-nil (own pass old)) }
+
+-- ---- in a loop
+
+pub no_text : (pass first : ℕ) (text : List ℕ) (old : Trail) → text ≡ [] → AnswersLines pass first [] text old old
+no_text pass first text old is = subst (λ (z : List ℕ). AnswersLines pass first [] z old old) (sym is) (no_lines pass first old)
+
+pub next_line : (pass it first n i : ℕ) (lines : List (Option Request)) (asked d : Option Request) (shown : Response) (text more : List ℕ) (old mid new : Trail) → it ≡ pass → i < length lines → asked ≡ get_or lines i d → n ≡ first + i
+    → AnswersLines pass first (take i lines) text old mid → AnswersLine it asked shown mid new → more ≡ text ++ numbered n (response_text shown) → AnswersLines pass first (take (i + 1) lines) more old new
+next_line pass it first n i lines asked d shown text more old mid new same low at number a b is =
+    let grown : take (i + 1) lines ≡ take i lines ++ asked ∷ [] = take_more lines i d low ∙ ap (λ (z : Option Request). take i lines ++ z ∷ []) (sym at) in
+    let short : length (take i lines) ≡ i = length-take-le i lines (omega arith) in
+    let b' : AnswersLine pass asked shown mid new = subst (λ (z : ℕ). AnswersLine z asked shown mid new) same b in
+    subst (λ (z : List (Option Request)). AnswersLines pass first z more old new) (sym grown)
+    (subst (λ (z : List ℕ). AnswersLines pass first (take i lines ++ asked ∷ []) z old new) (sym is)
+    (one_more pass first n (take i lines) asked shown text old mid new (omega arith) a b'))
+
+pub all_lines : (pass first i : ℕ) (lines : List (Option Request)) (text : List ℕ) (old new : Trail) → i ≡ length lines → AnswersLines pass first (take i lines) text old new → AnswersLines pass first lines text old new
+all_lines pass first i lines text old new is a = subst (λ (z : List (Option Request)). AnswersLines pass first z text old new) (take_all i lines (omega arith)) a
+
+-- ---- batches
+
+pub no_logs : (first : ℕ) (lines : List (Option Request)) (pass : ℕ) (old : Trail) (log : List Written) → Logs first lines pass old old log log
+no_logs first lines pass old log = record { pieces = []; log = sym (append-nil log); each = All-nil (IsPiece first lines); begins = stays old; seen = λ s. s; mine = sym (append-nil (own pass old)) }
+
+pub no_logs_in : (first : ℕ) (lines : List (Option Request)) (pass : ℕ) (old : Trail) (log : List Written) → log ≡ [] → Logs first lines pass old old [] log
+no_logs_in first lines pass old log is = subst (λ (z : List Written). Logs first lines pass old old [] z) (sym is) (no_logs first lines pass old [])
+
+pub one_log : (first n : ℕ) (lines : List (Option Request)) (pass : ℕ) (old new : Trail) (log log' : List Written) (w : Written) → w.from < w.upto → w.upto ≤ length lines → n ≡ first + w.from
+    → AnswersLines pass n (lines_in lines w.from w.upto) w.text.items old new → log' ≡ log ++ w ∷ [] → Logs first lines pass old new log log'
+one_log first n lines pass old new log log' w order within number a is = let piece : Piece = record { written = w; answers = a.answers } in record {
+  pieces = piece ∷ [];
+  log = is;
+  each = All-cons (IsPiece first lines) piece [] (record { order = order; within = within; each = a.each; prints = a.prints ∙ ap (λ (z : ℕ). answers_text z a.answers) number }) (All-nil (IsPiece first lines));
+  begins = a.begins;
+  seen = a.seen;
+  mine = a.mine ∙ ap (λ (z : List Entry). own pass old ++ z) (sym (append-nil (flat_map entries a.answers)));
+}
+
+pub then_logs : (first : ℕ) (lines : List (Option Request)) (pass it : ℕ) (old mid new : Trail) (a b c : List Written) → it ≡ pass → Logs first lines pass old mid a b → Logs first lines it mid new b c → Logs first lines pass old new a c
+then_logs first lines pass it old mid new a b c same x y' = let y : Logs first lines pass mid new b c = subst (λ (z : ℕ). Logs first lines z mid new b c) same y' in let f : Piece → List Entry = λ p. flat_map entries p.answers in record {
+  pieces = x.pieces ++ y.pieces;
+  log = y.log ∙ (ap (λ (z : List Written). z ++ map (λ p. p.written) y.pieces) x.log ∙ (append_assoc a (map (λ p. p.written) x.pieces) (map (λ p. p.written) y.pieces) ∙ ap (λ (z : List Written). a ++ z) (sym (map-append (λ (p : Piece). p.written) x.pieces y.pieces))));
+  each = All-append (IsPiece first lines) x.pieces y.pieces x.each y.each;
+  begins = goes_on old mid new x.begins y.begins;
+  seen = λ s. y.seen (x.seen s);
+  mine = y.mine ∙ (ap (λ (z : List Entry). z ++ flat_map f y.pieces) x.mine ∙ (append_assoc (own pass old) (flat_map f x.pieces) (flat_map f y.pieces) ∙ ap (λ (z : List Entry). own pass old ++ z) (sym (flat_map-append f x.pieces y.pieces))));
+}
+
+pub idle_logs : (first : ℕ) (lines : List (Option Request)) (pass : ℕ) (old new : Trail) (log : List Written) → log ≡ [] → Adds pass old new → Logs first lines pass old new [] log
+idle_logs first lines pass old new log is a = record { pieces = []; log = is; each = All-nil (IsPiece first lines); begins = a.begins; seen = a.seen; mine = a.none ∙ sym (append-nil (own pass old)) }
+
+-- ---- batches that follow each other
+
+chain_push : (from mid : ℕ) (ws : List Written) (w : Written) → Chains from mid ws → w.from ≡ mid → w.from < w.upto → Chains from w.upto (ws ++ w ∷ [])
+chain_push from mid [] w c at le = (at ∙ sym c, le, refl)
+chain_push from mid (x ∷ ws) w c at le = (c.0, c.1, chain_push x.upto mid ws w c.2 at le)
+
+pub chain_item : (from mid i : ℕ) (written : List Written) (w : Written) → i < length written → w ≡ get_or written i w → Chains from mid (take i written) → w.from ≡ mid → w.from < w.upto → Chains from w.upto (take (i + 1) written)
+chain_item from mid i written w low at c is le = subst (λ (z : List Written). Chains from w.upto z) (sym (take_more written i w low ∙ ap (λ (z : Written). take i written ++ z ∷ []) (sym at))) (chain_push from mid (take i written) w c is le)
+
+pub text_item : (i : ℕ) (written : List Written) (w : Written) (old new piece : List ℕ) → i < length written → w ≡ get_or written i w → old ≡ text_of (take i written) → new ≡ old ++ piece → piece ≡ w.text.items → new ≡ text_of (take (i + 1) written)
+text_item i written w old new piece low at so_far is same = is ∙ (ap (λ (z : List ℕ). z ++ piece) so_far ∙ (ap (λ (z : List ℕ). text_of (take i written) ++ z) same ∙ (flat_map_more (λ (z : Written). z.text.items) [] (take i written) w
+    ∙ ap text_of (sym (take_more written i w low ∙ ap (λ (z : Written). take i written ++ z ∷ []) (sym at))))))

@@ -1,0 +1,164 @@
+-- Lines of the input, from their bytes and their answers.
+use Rattle.std.proofs.Common.{◌≡◌, ◌≢◌, ℕ, zero, suc, ◌+◌, ◌<◌, ◌≤◌, ◌^◌, ◌⊎◌, List, [], ◌∷◌, ◌++◌, length, map, refl, sym, ap, ◌∙◌, subst, append_assoc, append-nil, arith, length-append, inl, inr}
+use Rattle.std.specs.Prelude.{All, Option, Some, None, flat_map, sum_by, count_by, is_none, IsSome}
+use Rattle.std.specs.List.{AllZip}
+use Rattle.std.proofs.lemmas.Grind.{common_steps}
+use Rattle.std.proofs.lemmas.List.Concat.{flat_map-cons}
+use Rattle.std.proofs.lemmas.List.Elements.{All-nil, All-cons, All-head, All-tail}
+use Rattle.bl_model.specs.declared.operation.Entry.{Entry}
+use Rattle.bl_model.specs.declared.operation.Op.{Op}
+use Rattle.bl_model.specs.declared.operation.Op.TheVariants.{Find, Insert, Delete, Part}
+use Rattle.bl_model.specs.declared.operation.Reply.{Reply}
+use Rattle.bl_model.specs.declared.operation.Reply.TheVariants.{Found, Absent, Present, NoRoom}
+use Rattle.bl_lines.specs.declared.request.Request.{Request}
+use Rattle.bl_lines.specs.declared.request.Request.TheVariants.{Ask, Sync}
+use Rattle.bl_model.specs.Map.{Map, MayAnswer, map_step}
+use Rattle.bl_model.specs.History.{IsLegalFrom}
+use Rattle.bl_lines.specs.Lines.{Line, IsLine, HasNoLf, Fits, Answer, Replied, Scanned, Synced, Malformed, entries, answer_text, input_of, output_of}
+use Rattle.bl_lines.specs.Text.{Means, Spells, IsAsked, numbered}
+use Rattle.bl_lines.specs.Served.{HasNoSync, malformed_of}
+use Rattle.bl_serve.specs.Answering.{IsFor, answers_text}
+use Rattle.bl_serve.specs.Reading.{IsReadAs, bytes_of, AsksNoSync, AsksSyncLast}
+
+abbrev pub lines_with : List (List ℕ) → List Answer → List Line
+lines_with [] answers = []
+lines_with (text ∷ texts) [] = []
+lines_with (text ∷ texts) (answer ∷ answers) = record { bytes = text; answer = answer } ∷ lines_with texts answers
+
+fits_one : (asked : Option Request) (answer : Answer) (bytes : List ℕ) → Means bytes asked → IsFor asked answer → Fits bytes answer
+fits_one (Some (Ask op)) (Replied entry) bytes m is = subst (λ (z : Op). Spells bytes (Ask z)) (sym is) m
+fits_one (Some (Ask op)) (Scanned low high parts) bytes m is = absurd is
+fits_one (Some (Ask op)) Synced bytes m is = absurd is
+fits_one (Some (Ask op)) Malformed bytes m is = absurd is
+fits_one (Some Sync) (Replied entry) bytes m is = absurd is
+fits_one (Some Sync) (Scanned low high parts) bytes m is = absurd is
+fits_one (Some Sync) Synced bytes m is = m
+fits_one (Some Sync) Malformed bytes m is = absurd is
+fits_one None (Replied entry) bytes m is = absurd is
+fits_one None (Scanned low high parts) bytes m is = absurd is
+fits_one None Synced bytes m is = absurd is
+fits_one None Malformed bytes m is = m
+
+malformed_one : (asked : Option Request) (answer : Answer) → IsFor asked answer → malformed_of answer ≡ count_by is_none (asked ∷ [])
+malformed_one (Some (Ask op)) (Replied entry) is = refl
+malformed_one (Some (Ask op)) (Scanned low high parts) is = absurd is
+malformed_one (Some (Ask op)) Synced is = absurd is
+malformed_one (Some (Ask op)) Malformed is = absurd is
+malformed_one (Some Sync) (Replied entry) is = absurd is
+malformed_one (Some Sync) (Scanned low high parts) is = absurd is
+malformed_one (Some Sync) Synced is = refl
+malformed_one (Some Sync) Malformed is = absurd is
+malformed_one None (Replied entry) is = absurd is
+malformed_one None (Scanned low high parts) is = absurd is
+malformed_one None Synced is = absurd is
+malformed_one None Malformed is = refl
+
+not_synced : (asked : Option Request) (answer : Answer) → IsFor asked answer → asked ≢ Some Sync → answer ≢ Synced
+not_synced (Some (Ask op)) answer is other e = let h : IsFor (Some (Ask op)) Synced = subst (IsFor (Some (Ask op))) e is in absurd h
+not_synced (Some Sync) answer is other e = other refl
+not_synced None answer is other e = let h : IsFor None Synced = subst (IsFor None) e is in absurd h
+
+is_synced : (answer : Answer) → IsFor (Some Sync) answer → answer ≡ Synced
+is_synced (Replied entry) is = absurd is
+is_synced (Scanned low high parts) is = absurd is
+is_synced Synced is = refl
+is_synced Malformed is = absurd is
+
+count_cons : (a : Option Request) (l : List (Option Request)) → count_by is_none (a ∷ l) ≡ count_by is_none (a ∷ []) + count_by is_none l
+count_cons a l = grind (arith, common_steps)
+
+-- what is known of the lines that were read and answered
+pub record AreLines (asked : List (Option Request)) (texts : List (List ℕ)) (answers : List Answer) : Type 0 where
+  pub good : All IsLine (lines_with texts answers)
+  pub entries_are : map (λ line. entries line.answer) (lines_with texts answers) ≡ map entries answers
+  pub input : input_of (lines_with texts answers) ≡ bytes_of texts
+  pub output : (n : ℕ) → answers_text n answers ≡ output_of n (lines_with texts answers)
+  pub long : length (lines_with texts answers) ≡ length asked
+  pub malformed : sum_by (λ line. malformed_of line.answer) (lines_with texts answers) ≡ count_by is_none asked
+
+pub are_lines : (asked : List (Option Request)) (texts : List (List ℕ)) (answers : List Answer) → AllZip IsReadAs asked texts → AllZip IsFor asked answers → AreLines asked texts answers
+are_lines [] [] [] h k = record { good = All-nil IsLine; entries_are = refl; input = refl; output = λ n. refl; long = refl; malformed = refl }
+are_lines [] [] (answer ∷ answers) h k = absurd k
+are_lines [] (text ∷ texts) answers h k = absurd h
+are_lines (a ∷ asked) [] answers h k = absurd h
+are_lines (a ∷ asked) (text ∷ texts) [] h k = absurd k
+are_lines (a ∷ asked) (text ∷ texts) (answer ∷ answers) h k = let r = are_lines asked texts answers h.1 k.1 in let line : Line = record { bytes = text; answer = answer } in record {
+  good = All-cons IsLine line (lines_with texts answers) (record { cut = h.0.cut; fits = fits_one a answer text h.0.means k.0 }) r.good;
+  entries_are = ap (λ (z : List (List Entry)). entries answer ∷ z) r.entries_are;
+  input = flat_map-cons (λ (l : Line). l.bytes ++ 10 ∷ []) line (lines_with texts answers) ∙ (ap (λ (z : List ℕ). (text ++ 10 ∷ []) ++ z) r.input ∙ sym (flat_map-cons (λ (t : List ℕ). t ++ 10 ∷ []) text texts));
+  output = λ n. ap (λ (z : List ℕ). numbered n (answer_text answer) ++ z) (r.output (suc n));
+  long = ap suc r.long;
+  malformed = let one = malformed_one a answer k.0 in let more = r.malformed in let c = count_cons a asked in let f : Line → ℕ = λ x. malformed_of x.answer in
+      let s : sum_by f (line ∷ lines_with texts answers) ≡ f line + sum_by f (lines_with texts answers) = grind (arith, common_steps) in omega (arith, one, more, c, s);
+}
+
+pub no_sync_lines : (asked : List (Option Request)) (texts : List (List ℕ)) (answers : List Answer) → AllZip IsReadAs asked texts → AllZip IsFor asked answers → AsksNoSync asked → HasNoSync (lines_with texts answers)
+no_sync_lines [] [] answers h k no_sync = All-nil (λ line. line.answer ≢ Synced)
+no_sync_lines [] (text ∷ texts) answers h k no_sync = absurd h
+no_sync_lines (a ∷ asked) [] answers h k no_sync = absurd h
+no_sync_lines (a ∷ asked) (text ∷ texts) [] h k no_sync = absurd k
+no_sync_lines (a ∷ asked) (text ∷ texts) (answer ∷ answers) h k no_sync = All-cons (λ line. line.answer ≢ Synced) (record { bytes = text; answer = answer }) (lines_with texts answers)
+    (not_synced a answer k.0 (All-head (λ (z : Option Request). z ≢ Some Sync) a asked no_sync)) (no_sync_lines asked texts answers h.1 k.1 (All-tail (λ (z : Option Request). z ≢ Some Sync) a asked no_sync))
+
+-- the last line is a sync, and its bytes are these
+pub record EndInSync (lines : List Line) : Type 0 where
+  pub front : List Line
+  pub sync : List ℕ
+  pub ends : lines ≡ front ++ record { bytes = sync; answer = Synced } ∷ []
+  pub no_sync : HasNoSync front
+
+end_in_sync : (front : List (Option Request)) (texts : List (List ℕ)) (answers : List Answer) → AllZip IsReadAs (front ++ Some Sync ∷ []) texts → AllZip IsFor (front ++ Some Sync ∷ []) answers → AsksNoSync front → EndInSync (lines_with texts answers)
+end_in_sync [] [] answers h k no_sync = absurd h
+end_in_sync [] (text ∷ texts) [] h k no_sync = absurd k
+end_in_sync [] (text ∷ []) (answer ∷ answers) h k no_sync = record { front = []; sync = text; ends = ap (λ (z : Answer). record { bytes = text; answer = z } ∷ []) (is_synced answer k.0); no_sync = All-nil (λ line. line.answer ≢ Synced) }
+end_in_sync [] (text ∷ next ∷ texts) (answer ∷ answers) h k no_sync = absurd h.1
+end_in_sync (a ∷ front) [] answers h k no_sync = absurd h
+end_in_sync (a ∷ front) (text ∷ texts) [] h k no_sync = absurd k
+end_in_sync (a ∷ front) (text ∷ texts) (answer ∷ answers) h k no_sync = let r = end_in_sync front texts answers h.1 k.1 (All-tail (λ (z : Option Request). z ≢ Some Sync) a front no_sync) in let line : Line = record { bytes = text; answer = answer } in record {
+  front = line ∷ r.front;
+  sync = r.sync;
+  ends = ap (λ (z : List Line). line ∷ z) r.ends;
+  no_sync = All-cons (λ line. line.answer ≢ Synced) line r.front (not_synced a answer k.0 (All-head (λ (z : Option Request). z ≢ Some Sync) a front no_sync)) r.no_sync;
+}
+
+pub sync_lines : (asked : List (Option Request)) (texts : List (List ℕ)) (answers : List Answer) → AllZip IsReadAs asked texts → AllZip IsFor asked answers → AsksSyncLast asked → EndInSync (lines_with texts answers)
+sync_lines asked texts answers h k s = end_in_sync s.front texts answers (subst (λ (z : List (Option Request)). AllZip IsReadAs z texts) s.ends h) (subst (λ (z : List (Option Request)). AllZip IsFor z answers) s.ends k) s.no_sync
+
+-- ---- answers that are lawful: lines that nobody answered have them too
+
+asks : (bytes : List ℕ) (op : Op) → Spells bytes (Ask op) → IsAsked op
+asks bytes (Find key) s = tt
+asks bytes (Insert key value) s = tt
+asks bytes (Delete key) s = tt
+asks bytes (Part from) s = absurd s
+
+some_reply : (m : Map) (op : Op) → IsAsked op → (r : Reply) × MayAnswer m op r
+some_reply m (Find key) a = go (m key) refl
+  where
+    go : (o : Option ℕ) → m key ≡ o → (r : Reply) × MayAnswer m (Find key) r
+    go (Some v) is = (Found v, is)
+    go None is = (Absent, is)
+some_reply m (Insert key value) a = go (m key) refl
+  where
+    go : (o : Option ℕ) → m key ≡ o → (r : Reply) × MayAnswer m (Insert key value) r
+    go (Some v) is = (Present v, is)
+    go None is = (NoRoom, is)
+some_reply m (Delete key) a = go (m key) refl
+  where
+    go : (o : Option ℕ) → m key ≡ o → (r : Reply) × MayAnswer m (Delete key) r
+    go (Some v) is = (NoRoom, subst IsSome (sym is) refl)
+    go None is = (Absent, is)
+some_reply m (Part from) a = absurd a
+
+pub record Lawful (m : Map) (asked : List (Option Request)) : Type 0 where
+  pub answers : List Answer
+  pub each : AllZip IsFor asked answers
+  pub legal : IsLegalFrom m (flat_map entries answers)
+
+pub lawful : (m : Map) (asked : List (Option Request)) (texts : List (List ℕ)) → AllZip IsReadAs asked texts → Lawful m asked
+lawful m [] texts h = record { answers = []; each = tt; legal = tt }
+lawful m (a ∷ asked) [] h = absurd h
+lawful m (None ∷ asked) (text ∷ texts) h = let r = lawful m asked texts h.1 in record { answers = Malformed ∷ r.answers; each = (tt, r.each); legal = r.legal }
+lawful m (Some Sync ∷ asked) (text ∷ texts) h = let r = lawful m asked texts h.1 in record { answers = Synced ∷ r.answers; each = (tt, r.each); legal = r.legal }
+lawful m (Some (Ask op) ∷ asked) (text ∷ texts) h = let one = some_reply m op (asks text op h.0.means) in let e : Entry = record { pass = 0; op = op; reply = one.0 } in let r = lawful (map_step op one.0 m) asked texts h.1 in
+    record { answers = Replied e ∷ r.answers; each = (refl, r.each); legal = (one.1, r.legal) }

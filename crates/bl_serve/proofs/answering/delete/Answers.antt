@@ -1,0 +1,6 @@
+use Rattle.std.proofs.Common.{refl}
+use Rattle.bl_worker.proofs.Together.{call_works}
+use Rattle.bl_serve.proofs.answering.delete.Goals as goal
+
+pub returns-clause-works : goal.returns-clause-works
+returns-clause-works g c = call_works _ _ _ _ _ _ refl c.delete-reply.ensures.deletes.answers

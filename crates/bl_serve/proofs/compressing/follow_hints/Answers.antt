@@ -1,0 +1,12 @@
+use Rattle.std.proofs.Common.{rules, refl, ◌∙◌}
+use Rattle.bl_worker.proofs.Together.{nothing, then_adds, adds_as}
+use Rattle.bl_serve.proofs.compressing.follow_hints.Goals as goal
+
+pub loop-init : goal.loop-init
+loop-init g c = record { same = search rules; adds = nothing _ _ }
+
+pub loop-preserved : goal.loop-preserved
+loop-preserved g c = record {
+  same = search rules;
+  adds = then_adds _ _ _ _ c.loop.invariant.adds (adds_as _ _ _ _ c.loop.invariant.same.2 c.follow_hint-followed.ensures.adds);
+}

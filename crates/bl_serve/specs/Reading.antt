@@ -1,0 +1,58 @@
+-- The lines of a section, as they are read.
+use Rattle.std.specs.Prelude.{◌≡◌, ◌≢◌, ℕ, ◌+◌, ◌<◌, ◌≤◌, ◌⊎◌, List, [], ◌∷◌, ◌++◌, All, Option, Some, None, Result, Ok, Err, flat_map, length}
+use Rattle.std.specs.List.{AllZip}
+use Rattle.bl_lines.specs.declared.request.Request.{Request}
+use Rattle.bl_lines.specs.declared.request.Request.TheVariants.{Sync}
+use Rattle.bl_lines.specs.declared.serving.ServeFault.{ServeFault}
+use Rattle.bl_lines.specs.declared.serving.ServeFault.TheVariants.{Read, Write, Memory, Lost}
+use Rattle.bl_lines.specs.declared.serving.Totals.{Totals}
+use Rattle.bl_serve.specs.declared.reading.Reading.{Reading}
+use Rattle.bl_serve.specs.declared.reading.Reading.TheVariants as reading
+use Rattle.bl_serve.specs.declared.reading.SectionEnd.{SectionEnd}
+use Rattle.bl_serve.specs.declared.reading.SectionEnd.TheVariants.{Synced, Rest, Finished}
+use Rattle.bl_lines.specs.Text.{Means}
+use Rattle.bl_lines.specs.Lines.{HasNoLf}
+use Rattle.bl_lines.specs.Streams.{EndsRead}
+
+-- the bytes are a line that asks for this, or for nothing
+pub record IsReadAs (asked : Option Request) (bytes : List ℕ) : Type 0 where
+  pub cut : HasNoLf bytes
+  pub means : Means bytes asked
+
+-- the bytes of lines, each with its LF
+abbrev pub bytes_of : List (List ℕ) → List ℕ
+bytes_of texts = flat_map (λ bytes. bytes ++ 10 ∷ []) texts
+
+-- no line is a sync
+abbrev pub AsksNoSync : List (Option Request) → Type 0
+AsksNoSync asked = All (λ a. a ≢ Some Sync) asked
+
+-- the last line, and no other, is a sync
+pub record AsksSyncLast (asked : List (Option Request)) : Type 0 where
+  pub front : List (Option Request)
+  pub ends : asked ≡ front ++ Some Sync ∷ []
+  pub no_sync : AsksNoSync front
+
+-- what reading of the next line gave
+abbrev pub ReadsLine : {E : Type 0} → List ℕ → List ℕ → Result Reading E → List ℕ → Type 0 → Type 0 → Type 0
+ReadsLine unread bytes (Ok (reading.Line asked)) left at_end failed = IsReadAs asked bytes × (unread ≡ bytes ++ 10 ∷ left)
+ReadsLine unread bytes (Ok reading.Rest) left at_end failed = HasNoLf bytes × (0 < length bytes) × (unread ≡ bytes ++ left) × EndsRead bytes left at_end
+ReadsLine unread bytes (Ok reading.End) left at_end failed = (unread ≡ []) × (left ≡ []) × at_end
+ReadsLine unread bytes (Err e) left at_end failed = HasNoLf bytes × (unread ≡ bytes) × (left ≡ []) × failed
+
+-- Lines were read, and bytes with no LF behind them; left was read ahead.
+pub record ReadsLines (unread left : List ℕ) (asked : List (Option Request)) (rest : List ℕ) : Type 0 where
+  pub texts : List (List ℕ)
+  pub each : AllZip IsReadAs asked texts
+  pub cut : HasNoLf rest
+  pub read : unread ≡ bytes_of texts ++ rest ++ left
+
+-- how reading of a section ended, which takes at most so many lines
+abbrev pub EndsReading : Result SectionEnd ServeFault → ℕ → List (Option Request) → List ℕ → List ℕ → List ℕ → Type 0 → Type 0 → Type 0
+EndsReading (Ok Synced) most asked rest unread left at_end failed = ReadsLines unread left asked rest × (length asked ≤ most) × (rest ≡ []) × AsksSyncLast asked
+EndsReading (Ok Rest) most asked rest unread left at_end failed = ReadsLines unread left asked rest × (length asked < most) × (0 < length rest) × AsksNoSync asked × EndsRead rest left at_end
+EndsReading (Ok Finished) most asked rest unread left at_end failed = ReadsLines unread left asked rest × (length asked ≤ most) × (rest ≡ []) × AsksNoSync asked × (((left ≡ []) × at_end) ⊎ (most ≤ length asked))
+EndsReading (Err Read) most asked rest unread left at_end failed = ReadsLines unread left asked rest × AsksNoSync asked × (left ≡ []) × failed
+EndsReading (Err Write) most asked rest unread left at_end failed = ⊥
+EndsReading (Err Memory) most asked rest unread left at_end failed = Unit {0}
+EndsReading (Err (Lost number)) most asked rest unread left at_end failed = ⊥

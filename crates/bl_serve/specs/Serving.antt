@@ -1,0 +1,64 @@
+-- What the server promises.
+use Rattle.std.specs.Prelude.{◌≡◌, ℕ, suc, ◌+◌, List, [], ◌∷◌, ◌++◌, Option, length}
+use Rattle.bl_model.specs.declared.operation.Entry.{Entry}
+use Rattle.bl_lines.specs.declared.request.Request.{Request}
+use Rattle.bl_lines.specs.declared.serving.Totals.{Totals}
+use Rattle.bl_lines.specs.declared.serving.ServeFault.{ServeFault}
+use Rattle.bl_lines.specs.declared.serving.ServeFault.TheVariants.{Read, Write, Memory, Lost}
+use Rattle.bl_lines.specs.Served.{Served, whole_history}
+use Rattle.bl_trails.specs.Trails.{Trail, history_of}
+use Rattle.bl_passes.specs.Seeing.{IsSeen}
+use Rattle.bl_index.specs.declared.index.Index.{Index}
+use Rattle.bl_index.specs.declared.index.Pass.{Pass}
+use Rattle.bl_index.specs.Calls.{IsPassOf, number_of, trail, passes_of, map_of}
+use Rattle.bl_serve.specs.declared.reading.SectionEnd.{SectionEnd}
+use Rattle.bl_serve.specs.Sections.{Held, end_text}
+
+-- passes of the index that are numbered from that number on, each of which has seen that trail
+abbrev pub AreFrom : Index → Trail → ℕ → List Pass → Type 0
+AreFrom index seen from [] = Unit {0}
+AreFrom index seen from (pass ∷ passes) = IsPassOf index pass × (number_of pass ≡ from) × (trail pass ≡ seen) × AreFrom index seen (suc from) passes
+
+-- These are all passes of the index, by their numbers. All have seen one trail, which the index may have.
+pub record AreTogether (index : Index) (seen : Trail) (passes : List Pass) : Type 0 where
+  pub count : length passes ≡ passes_of index
+  pub each : AreFrom index seen 0 passes
+  pub may_be : IsSeen seen
+
+-- what the first pass has seen
+abbrev pub seen_by : List Pass → Trail
+seen_by [] = []
+seen_by (pass ∷ passes) = trail pass
+
+-- A section was answered by the passes, which were together and are so again: since then they have seen its entries, and no others.
+pub record HoldsSection (index : Index) (done : ℕ) (asked : List (Option Request)) (text : List ℕ) (olds news : List Pass) : Type 0 where
+  pub more : Trail
+  pub held : Held done asked text more
+  pub together : AreTogether index (seen_by olds ++ more) news
+
+-- The same, with one line more for bytes behind the last LF.
+pub record ServesSection (index : Index) (done : ℕ) (asked : List (Option Request)) (end : SectionEnd) (text : List ℕ) (olds news : List Pass) : Type 0 where
+  pub answers : List ℕ
+  pub holds : HoldsSection index done asked answers olds news
+  pub ends : text ≡ answers ++ end_text end (done + length asked + 1)
+
+-- a section may end by it: there was no memory, or a line's answer was lost
+abbrev pub IsInside : ServeFault → Type 0
+IsInside Read = ⊥
+IsInside Write = ⊥
+IsInside Memory = Unit {0}
+IsInside (Lost number) = Unit {0}
+
+-- The input is served from the map after old on, and the trail now is old with the entries of what was served, in the order of
+-- its history, and with no others.
+pub record ServedBy (old now : Trail) (input output : List ℕ) (totals : Totals) : Type 0 where
+  pub served : Served (map_of old) input output totals
+  pub more : Trail
+  pub begins : now ≡ old ++ more
+  pub history : history_of more ≡ whole_history served
+
+-- The passes have served: all have seen one trail, which is what they had seen with the entries of what was served.
+pub record Serves (index : Index) (olds news : List Pass) (input output : List ℕ) (totals : Totals) : Type 0 where
+  pub now : Trail
+  pub served : ServedBy (seen_by olds) now input output totals
+  pub together : AreTogether index now news

@@ -1,0 +1,135 @@
+//! Hints are followed: pages are listed by their parents, merged and evened out.
+
+ghost use Rattle.std.specs.Prelude.{◌≡◌};
+ghost use Rattle.bl_index.specs.Calls.{IsPassOf, IsSamePass, number_of, trail};
+ghost use Rattle.bl_worker.specs.Works.{Adds};
+
+use bl_hints::Hints;
+use bl_index::{Index, Pass};
+use bl_ways::{Hint, Posted};
+use std::sync::Wait;
+use std::sync::atomic::{AtomicU64, Ordering};
+
+/// How many levels a tree may have: a split is followed by at most one post on each.
+const LEVELS: u32 = 12;
+
+/// A hint waits for a compressor.
+pub fn leave<R: Wait>(rt: &R, hints: &Hints, hint: Option<Hint>) {
+    if let Some(hint) = hint {
+        hints.give(rt, hint);
+    }
+}
+
+/// Posts once. A hint that met no room waits for a compressor.
+fn post_once<R: Wait>(rt: &R, index: &Index, hints: &Hints, pass: &mut Pass, hint: Hint) -> Option<Hint>
+    requires { IsPassOf index.now pass.old }
+    ensures same { IsSamePass pass.old pass.new }
+    ensures adds { Adds (number_of pass.old) (trail pass.old) (trail pass.new) }
+{
+    let again = hint;
+    let (posted, more) = index.post(rt, pass, hint);
+    if posted == Posted::NoRoom {
+        hints.give(rt, again);
+    }
+    more
+}
+
+/// Posts, and goes on with the hints that posting gives.
+pub fn post<R: Wait>(rt: &R, index: &Index, hints: &Hints, pass: &mut Pass, hint: Option<Hint>)
+    requires { IsPassOf index.now pass.old }
+    ensures same { IsSamePass pass.old pass.new }
+    ensures adds { Adds (number_of pass.old) (trail pass.old) (trail pass.new) }
+{
+    let mut hint = hint;
+    for _level in 0..LEVELS {
+        let Some(next) = hint else {
+            return;
+        };
+        hint = post_once(rt, index, hints, pass, next);
+    }
+}
+
+/// Posts or compresses. What is left to do waits for a compressor.
+fn follow<R: Wait>(rt: &R, index: &Index, hints: &Hints, pass: &mut Pass, hint: Hint)
+    requires { IsPassOf index.now pass.old }
+    ensures same { IsSamePass pass.old pass.new }
+    ensures adds { Adds (number_of pass.old) (trail pass.old) (trail pass.new) }
+{
+    match hint {
+        Hint::Post { .. } => {
+            let (_, more) = index.post(rt, pass, hint);
+            leave(rt, hints, more);
+        }
+        Hint::Thin { .. } => {
+            let (_, more) = index.compress(rt, pass, hint);
+            leave(rt, hints, more);
+        }
+    }
+}
+
+/// Follows one hint, where one waits, and sweeps.
+pub fn follow_hint<R: Wait>(rt: &R, index: &Index, hints: &Hints, pass: &mut Pass) -> bool
+    requires { IsPassOf index.now pass.old }
+    ensures same { IsSamePass pass.old pass.new }
+    ensures adds { Adds (number_of pass.old) (trail pass.old) (trail pass.new) }
+{
+    let Some(hint) = hints.next(rt) else {
+        return false;
+    };
+    follow(rt, index, hints, pass, hint);
+    index.sweep(pass);
+    true
+}
+
+/// How many workers of the section are at work, and a bell that wakes the compressors.
+#[derive(Drop)]
+pub struct Shift {
+    working: AtomicU64,
+    bell: AtomicU64,
+}
+
+impl Shift {
+    pub fn new(workers: u64) -> Shift {
+        Shift {
+            working: AtomicU64::new(workers),
+            bell: AtomicU64::new(0),
+        }
+    }
+
+    /// Something may be there for a compressor.
+    pub fn ring(&self) {
+        self.bell.fetch_add(1, Ordering::SeqCst);
+        self.bell.wake_all();
+    }
+
+    /// Sleeps until the bell rings again, unless there was something to do.
+    fn rest<R: Wait>(&self, rt: &R, rung: u64, busy: bool) {
+        if !busy {
+            self.bell.park(rt, (rung & 0xffff_ffff) as u32);
+        }
+    }
+
+    /// A worker has ended.
+    pub fn leave(&self) {
+        self.working.fetch_sub(1, Ordering::SeqCst);
+        self.ring();
+    }
+}
+
+/// Follows hints until the workers have ended.
+pub fn follow_hints<R: Wait>(rt: &R, index: &Index, hints: &Hints, shift: &Shift, pass: Pass) -> Pass
+    requires { IsPassOf index.now pass }
+    ensures same { IsSamePass pass result }
+    ensures adds { Adds (number_of pass) (trail pass) (trail result) }
+{
+    let mut pass = pass;
+    for _ in rt.forever() {
+        let rung = shift.bell.load(Ordering::SeqCst);
+        if shift.working.load(Ordering::SeqCst) == 0 {
+            return pass;
+        }
+        let followed = follow_hint(rt, index, hints, &mut pass);
+        shift.rest(rt, rung, followed);
+    }
+    unreachable!()
+}

@@ -1,0 +1,44 @@
+//! The output of a section is put together from what its workers wrote.
+
+ghost use Rattle.std.specs.Prelude.{◌≡◌, ◌≤◌, ◌<◌, ◌+◌, ◌^◌, ℕ, List, All, map, flat_map, IfOk, IfErr, IsPermutation};
+ghost use Rattle.bl_serve.specs.Joining.{Chains, IsWithin, text_of};
+ghost use Rattle.bl_serve.specs.Serving.{IsInside};
+
+use crate::working::Written;
+use bl_lines::ServeFault;
+use std::alloc::Global;
+
+/// The texts of batches that follow each other from place 0 up to the count, put together. Else the number of the least
+/// line that the batches, in the order of their lines, do not have exactly once; so many lines come before them.
+fn joined(alloc: Global, written: &[Written], done: u64, count: usize) -> Result<Vec<u8>, ServeFault>
+    requires within { All (IsWithin count) written.now }
+    requires room { done + count < 2 ^ 64 }
+    ensures text { IfOk result (λ text. Chains 0 count written.now × (text.items ≡ text_of written.now)) }
+    ensures fault { IfErr result IsInside }
+{
+    let mut text = Vec::new(alloc);
+    let mut next = 0;
+    for piece in written {
+        if piece.from != next {
+            return Err(ServeFault::Lost(done + 1 + piece.from.min(next) as u64));
+        }
+        text.extend_from_slice(piece.text.as_slice())?;
+        next = piece.upto;
+    }
+    if next != count {
+        return Err(ServeFault::Lost(done + 1 + next as u64));
+    }
+    Ok(text)
+}
+
+/// The same of batches in any order.
+pub fn collect(alloc: Global, written: Vec<Written>, done: u64, count: usize) -> Result<Vec<u8>, ServeFault>
+    requires within { All (IsWithin count) written.items }
+    requires room { done + count < 2 ^ 64 }
+    ensures text { IfOk result (λ text. (sorted : List _) × IsPermutation written.items sorted × Chains 0 count sorted × (text.items ≡ text_of sorted)) }
+    ensures fault { IfErr result IsInside }
+{
+    let mut written = written;
+    written.sort_by_key(|piece| piece.from)?;
+    joined(alloc, written.as_slice(), done, count)
+}

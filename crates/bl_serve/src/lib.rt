@@ -1,0 +1,22 @@
+//! The server with workers and compressors.
+//!
+//! The input is read section by section, up to each `sync`. A section's lines are shared by threads that each have a pass
+//! of the index: workers take batches of lines from a channel and answer them, and compressors follow the hints that the
+//! workers leave. When all have ended, the answers are put in the order of their lines and written, and only then is the
+//! next section read.
+#![tactic(auto)]
+
+mod answering;
+mod compressing;
+mod gate;
+mod joining;
+mod meeting;
+mod reading;
+mod rounds;
+mod serving;
+mod working;
+
+pub use compressing::follow_hint;
+pub use gate::{Gate, OpenGate};
+pub use bl_lines::{ServeFault, Totals};
+pub use serving::serve;

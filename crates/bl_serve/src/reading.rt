@@ -1,0 +1,101 @@
+//! Sections are read.
+
+ghost use Rattle.std.specs.Prelude.{◌≡◌, ℕ, ◌+◌, ◌≤◌, List, [], ◌∷◌, ◌++◌, ◌↔◌, IsTrue, true, OnOk};
+ghost use Rattle.std.specs.Io.KnownBytes.{Consumes, IsAtEnd};
+ghost use Rattle.bl_serve.specs.Reading.{EndsReading, ReadsLine};
+
+use arrayvec::ArrayVec;
+use bl_lines::ServeFault;
+use bl_lines::request::{Request, parse};
+use bl_lines::source::{Cut, KEPT, Source};
+use bl_model::{Failed, Watched};
+use std::alloc::AllocError;
+use std::io::Read;
+
+/// How a section ended.
+#[derive(Clone, Copy, Debug, PartialEq, Eq)]
+pub enum SectionEnd {
+    /// By a sync.
+    Synced,
+    /// With bytes after the last LF.
+    Rest,
+    /// With the input.
+    Finished,
+}
+
+/// What came next.
+#[derive(Clone, Copy, Debug, PartialEq, Eq)]
+enum Reading {
+    /// A whole line, and what it asks for.
+    Line(Option<Request>),
+    /// Bytes after the last LF.
+    Rest,
+    /// Nothing.
+    End,
+}
+
+/// Reads the next line.
+fn read_line<R: Read>(
+    source: &mut Source,
+    reader: &mut Watched<R>,
+    line: &mut ArrayVec<u8, KEPT>,
+) -> Result<Reading, Failed>
+    ensures { (bytes : List ℕ) × (more : List ℕ)
+        × Consumes (R.remaining reader.old.inner) (R.remaining reader.new.inner) more
+        × ReadsLine (source.old ++ more) bytes result source.new
+        (IsAtEnd (R.remaining reader.new.inner)) (reader.new.failed ≡ true) }
+{
+    match source.next_line(reader, line) {
+        Ok(Cut::Whole) => Ok(Reading::Line(parse(line.as_slice()))),
+        Ok(Cut::Long) => Ok(Reading::Line(None)),
+        Ok(Cut::Rest) => Ok(Reading::Rest),
+        Ok(Cut::End) => Ok(Reading::End),
+        Err(failed) => Err(failed),
+    }
+}
+
+/// Whether the line ends a section.
+fn is_sync(asked: Option<Request>) -> bool
+    ensures { IsTrue result ↔ (asked ≡ Some Request.Sync) }
+{
+    matches!(asked, Some(Request::Sync))
+}
+
+/// Puts a line behind the others.
+fn keep(lines: &mut Vec<Option<Request>>, asked: Option<Request>) -> Result<(), AllocError>
+    ensures { OnOk result (lines.new.items ≡ lines.old.items ++ asked ∷ []) }
+{
+    lines.push(asked)?;
+    Ok(())
+}
+
+/// Reads the lines of a section, at most so many. Bytes after the last LF are one of them, but are not kept.
+pub fn read_section<R: Read>(
+    source: &mut Source,
+    reader: &mut Watched<R>,
+    lines: &mut Vec<Option<Request>>,
+    most: u64,
+) -> Result<SectionEnd, ServeFault>
+    requires { lines.old.items ≡ [] }
+    ensures { (rest : List ℕ) × (more : List ℕ)
+        × Consumes (R.remaining reader.old.inner) (R.remaining reader.new.inner) more
+        × EndsReading result most lines.new.items rest (source.old ++ more) source.new
+        (IsAtEnd (R.remaining reader.new.inner)) (reader.new.failed ≡ true) }
+{
+    let mut line = ArrayVec::new();
+    for _taken in 0..most {
+        match read_line(source, reader, &mut line) {
+            Ok(Reading::Line(asked)) => {
+                keep(lines, asked)?;
+                let ended = is_sync(asked);
+                if ended {
+                    return Ok(SectionEnd::Synced);
+                }
+            }
+            Ok(Reading::Rest) => return Ok(SectionEnd::Rest),
+            Ok(Reading::End) => return Ok(SectionEnd::Finished),
+            Err(_) => return Err(ServeFault::Read),
+        }
+    }
+    Ok(SectionEnd::Finished)
+}

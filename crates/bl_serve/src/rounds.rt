@@ -1,0 +1,162 @@
+//! A section is answered: its batches are given out, threads work on them, and all are joined.
+
+ghost use Rattle.std.specs.Prelude.{◌≡◌, ℕ, suc, ◌+◌, ◌<◌, ◌^◌, length, map, All, IfOk, IfErr, vec_len, slice_index_or};
+ghost use Rattle.bl_index.specs.Calls.{IsPassOf};
+ghost use Rattle.bl_serve.specs.Turns.{IsTurn};
+ghost use Rattle.bl_serve.specs.Rounds.{IsRound, Gathers};
+ghost use Rattle.bl_serve.specs.Serving.{AreTogether, HoldsSection, IsInside, seen_by};
+
+use crate::compressing::Shift;
+use crate::gate::Gate;
+use crate::joining::collect;
+use crate::meeting::meet_all;
+use crate::working::{Batch, Turn, Worked, Written, take_turn};
+use bl_hints::Hints;
+use bl_index::{Index, Pass};
+use bl_lines::ServeFault;
+use bl_lines::request::Request;
+use crossbeam_channel::{Receiver, unbounded};
+use std::alloc::{AllocError, Global};
+use std::sync::Wait;
+use std::thread;
+use std::thread::Threads;
+
+/// How many lines a batch has at most.
+const BATCH: usize = 256;
+
+/// So many batches at the begin of a section have one line each, so that each worker has one soon.
+const SINGLE: usize = 64;
+
+/// Batches of so many lines, the first ones of one line and the later ones of more, in a channel that takes no more.
+fn batches<R: Wait>(rt: &R, alloc: Global, count: usize) -> Result<Receiver<Batch>, AllocError> {
+    let (sender, receiver) = unbounded(alloc)?;
+    let mut from = 0;
+    for _ in 0..count {
+        if from >= count {
+            break;
+        }
+        let size = if from < SINGLE { 1 } else { (from / 4).min(BATCH) };
+        let upto = from + size.min(count - from);
+        if sender.send(rt, Batch { from, upto }).is_err() {
+            return Err(AllocError);
+        }
+        from = upto;
+    }
+    Ok(receiver)
+}
+
+/// A turn for each pass: the first ones serve, the others compress.
+fn turns(alloc: Global, passes: Vec<Pass>, workers: usize) -> Result<Vec<Turn>, AllocError>
+    ensures { IfOk result (λ v. map (λ t. t.pass) v.items ≡ passes.items) }
+{
+    let mut passes = passes;
+    let count = passes.len();
+    let mut turns = Vec::with_capacity(alloc, count)?;
+    for number in 0..count {
+        let pass = passes.remove(0);
+        turns.push(Turn {
+            pass,
+            serves: number < workers,
+        })?;
+    }
+    Ok(turns)
+}
+
+/// Each turn is carried out by a thread.
+fn work<R: Threads + Wait + Sync, G: Gate + Sync>(
+    rt: &R,
+    alloc: Global,
+    index: &Index,
+    hints: &Hints,
+    gate: &G,
+    shift: &Shift,
+    batches: &Receiver<Batch>,
+    done: u64,
+    lines: &[Option<Request>],
+    turns: Vec<Turn>,
+) -> Result<Vec<Result<Worked, AllocError>>, AllocError>
+    requires own { All (λ t. IsPassOf index.now t.pass) turns.items }
+    requires room { done + length lines.now < 2 ^ 64 }
+    ensures len { IfOk result (λ v. vec_len v ≡ vec_len turns) }
+    ensures each { IfOk result (λ v. (i : ℕ) (t : _) (d : _) → i < vec_len turns → IfOk (slice_index_or v.items i d) (IsTurn (suc done) lines.now (slice_index_or turns.items i t).pass)) }
+{
+    thread::map_vec(
+        rt,
+        turns,
+        &|turn: Turn| -> Result<Worked, AllocError>
+            requires { IsPassOf index.now turn.pass × (done + length lines.now < 2 ^ 64) }
+            ensures { IfOk result (IsTurn (suc done) lines.entry.now turn.pass) }
+        { take_turn(rt, alloc, index, hints, gate, shift, batches, done, lines, turn) },
+    )
+}
+
+/// The passes come back, and what was written.
+fn gather(
+    alloc: Global,
+    results: Vec<Result<Worked, AllocError>>,
+) -> Result<(Vec<Pass>, Vec<Written>), AllocError>
+    ensures { IfOk result (λ t. Gathers results.items t.0.items t.1.items) }
+{
+    let mut results = results;
+    let count = results.len();
+    let mut passes = Vec::with_capacity(alloc, count)?;
+    let mut written = Vec::new(alloc);
+    for _number in 0..count {
+        let Worked { pass, log } = results.remove(0)?;
+        let mut log = log;
+        passes.push(pass)?;
+        written.append(&mut log)?;
+    }
+    Ok((passes, written))
+}
+
+/// Answers the lines of a section, before which so many others stood. Gives the passes back with the output.
+pub fn answer_section<R: Threads + Wait + Sync, G: Gate + Sync>(
+    rt: &R,
+    alloc: Global,
+    index: &Index,
+    hints: &Hints,
+    gate: &G,
+    workers: usize,
+    passes: Vec<Pass>,
+    done: u64,
+    lines: &[Option<Request>],
+) -> Result<(Vec<Pass>, Vec<u8>), ServeFault>
+    requires own { All (IsPassOf index.now) passes.items }
+    requires room { done + length lines.now < 2 ^ 64 }
+    ensures own { IfOk result (λ t. All (IsPassOf index.now) t.0.items) }
+    ensures fault { IfErr result IsInside }
+    ensures round { IfOk result (λ t. IsRound (suc done) lines.now t.1.items passes.items t.0.items) }
+{
+    let batches = batches(rt, alloc, lines.len())?;
+    let shift = Shift::new(workers as u64);
+    let turns = turns(alloc, passes, workers)?;
+    let results = work(rt, alloc, index, hints, gate, &shift, &batches, done, lines, turns)?;
+    let (passes, written) = gather(alloc, results)?;
+    let text = collect(alloc, written, done, lines.len())?;
+    Ok((passes, text))
+}
+
+/// Answers the lines of a section by passes that have met, and lets them meet again.
+pub fn hold_section<R: Threads + Wait + Sync, G: Gate + Sync>(
+    rt: &R,
+    alloc: Global,
+    index: &Index,
+    hints: &Hints,
+    gate: &G,
+    workers: usize,
+    passes: Vec<Pass>,
+    done: u64,
+    lines: &[Option<Request>],
+) -> Result<(Vec<Pass>, Vec<u8>), ServeFault>
+    requires together { AreTogether index.now (seen_by passes.items) passes.items }
+    requires some { 0 < vec_len passes }
+    requires room { done + length lines.now < 2 ^ 64 }
+    ensures held { IfOk result (λ t. HoldsSection index.now done lines.now t.1.items passes.items t.0.items) }
+    ensures fault { IfErr result IsInside }
+{
+    let (back, text) = answer_section(rt, alloc, index, hints, gate, workers, passes, done, lines)?;
+    let mut passes = back;
+    meet_all(index, passes.as_mut_slice());
+    Ok((passes, text))
+}

@@ -1,0 +1,11 @@
+//! Tests of the server: what it writes and counts, that workers work at once, that a section ends before the next begins, and
+//! a step of a compressor.
+//!
+//! They stand apart from `bl_serve`, and nothing else uses them: whatever is built on the server need not wait until these
+//! tests are proved.
+#![tactic(auto)]
+
+#[cfg(test)]
+mod compressors;
+#[cfg(test)]
+mod sections;
