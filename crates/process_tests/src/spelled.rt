@@ -3,7 +3,8 @@
 use arrayvec::ArrayVec;
 use bl_page::{Anchor, Dead, Inner, Leaf, Page};
 use bl_ways::{
-    Approach, Onward, level_in, levels_in, row_in, thin_in, top_in, way_in, words_with, words_without,
+    Approach, Onward, level_in, levels_in, row_in, thin_in, top_in, way_in, words_with,
+    words_without,
 };
 
 /// The anchor of a tree of two levels: page 1 is its leftmost leaf, and page 3 its top.

@@ -13,7 +13,13 @@ use std::test::Fail;
 fn one_pass(alloc: Global) -> Option<(Index, Pass)>
     ensures { IfSome result (λ t. IsPassOf t.0 t.1) }
 {
-    match Index::open(alloc, Config { pages: 8, passes: 1 }) {
+    match Index::open(
+        alloc,
+        Config {
+            pages: 8,
+            passes: 1,
+        },
+    ) {
         Ok((index, mut passes)) => {
             let pass = passes.pop()?;
             Some((index, pass))

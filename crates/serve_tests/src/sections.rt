@@ -36,7 +36,16 @@ fn served<R: Threads + Wait + Sync>(
     let (index, passes) = opened(alloc, workers + compressors)?;
     let mut reader = Watched::new(input);
     let mut writer = Watched::new(Vec::new(alloc));
-    match serve(rt, alloc, &index, passes, &mut reader, &mut writer, &OpenGate, workers as usize) {
+    match serve(
+        rt,
+        alloc,
+        &index,
+        passes,
+        &mut reader,
+        &mut writer,
+        &OpenGate,
+        workers as usize,
+    ) {
         Ok((totals, _)) => Some((writer.into_inner(), totals)),
         Err(_) => None,
     }
@@ -71,7 +80,10 @@ fn one_worker_answers_by_number(rt: HostRuntime) -> Result<(), Fail> {
         assert!(rt; false);
         return Ok(());
     };
-    assert!(rt; text.as_slice() == b"1 inserted\n2 found 10\n3 synced\n4 deleted 10\n5 malformed\n".as_slice());
+    assert!(rt;
+        text.as_slice()
+            == b"1 inserted\n2 found 10\n3 synced\n4 deleted 10\n5 malformed\n".as_slice()
+    );
     assert_eq!(rt;
         totals,
         Totals {
@@ -88,7 +100,16 @@ fn small_inputs(rt: HostRuntime) {
     assert!(rt; answers(&rt, rt.alloc(), b"", b"", 1, 0));
     assert!(rt; answers(&rt, rt.alloc(), b"", b"", 4, 1));
     assert!(rt; answers(&rt, rt.alloc(), b"find 1", b"1 malformed\n", 2, 1));
-    assert!(rt; answers(&rt, rt.alloc(), b"sync\nsync\n", b"1 synced\n2 synced\n", 2, 0));
+    assert!(rt;
+        answers(
+            &rt,
+            rt.alloc(),
+            b"sync\nsync\n",
+            b"1 synced\n2 synced\n",
+            2,
+            0
+        )
+    );
 }
 
 // A section's lines are answered before those of the next.
@@ -164,7 +185,16 @@ fn two_workers_at_once(rt: HostRuntime) -> Result<(), Fail> {
     let input: &[u8] = b"insert 1 10\ninsert 2 20\nsync\nfind 1\n";
     let mut reader = Watched::new(input);
     let mut writer = Watched::new(Vec::new(rt.alloc()));
-    let served = serve(&rt, rt.alloc(), &index, passes, &mut reader, &mut writer, &gate, 2);
+    let served = serve(
+        &rt,
+        rt.alloc(),
+        &index,
+        passes,
+        &mut reader,
+        &mut writer,
+        &gate,
+        2,
+    );
     assert!(rt; served.is_ok());
     assert!(rt; !gate.gave_up.load(Ordering::SeqCst));
     assert!(rt; gate.done_before_the_fourth.load(Ordering::SeqCst) == 2);
@@ -183,14 +213,32 @@ fn passes_serve_again(rt: HostRuntime) -> Result<(), Fail> {
     let first: &[u8] = b"insert 1 10\n";
     let mut reader = Watched::new(first);
     let mut writer = Watched::new(Vec::new(rt.alloc()));
-    let Ok((_, passes)) = serve(&rt, rt.alloc(), &index, passes, &mut reader, &mut writer, &OpenGate, 2) else {
+    let Ok((_, passes)) = serve(
+        &rt,
+        rt.alloc(),
+        &index,
+        passes,
+        &mut reader,
+        &mut writer,
+        &OpenGate,
+        2,
+    ) else {
         assert!(rt; false);
         return Ok(());
     };
     let second: &[u8] = b"find 1\n";
     let mut reader = Watched::new(second);
     let mut writer = Watched::new(Vec::new(rt.alloc()));
-    let served = serve(&rt, rt.alloc(), &index, passes, &mut reader, &mut writer, &OpenGate, 1);
+    let served = serve(
+        &rt,
+        rt.alloc(),
+        &index,
+        passes,
+        &mut reader,
+        &mut writer,
+        &OpenGate,
+        1,
+    );
     assert!(rt; served.is_ok());
     let text = writer.into_inner();
     assert!(rt; text.as_slice() == b"1 found 10\n".as_slice());
