@@ -87,7 +87,7 @@ fn ways_and_rows(rt: HostRuntime) {
     assert_eq!(rt; row_in(&Page::Leaf(leaf()).to_words(), &mut (), 6), None);
 }
 
-// Row 3 enters page 1 before row 5, and row 5 leaves it again. The leaf is thin, since it has a bound and few rows.
+// The row of key 3 enters page 1 before that of key 5, which leaves it again. The leaf is thin, since it has a bound and few rows.
 #[test]
 fn rows_enter_and_leave_words(rt: HostRuntime) {
     let old = Page::Leaf(leaf()).to_words();
