@@ -263,10 +263,10 @@ stops_reading old now before input output unread left rest asked ReaderFailed Wr
     let last : Section = record { lines = lines; history = flat_map entries l.answers } in
     let quiet = no_sync_lines asked r.texts l.answers r.each l.each no_sync in (
       subst (λ o. Stopped (map_of old) (input ++ unread) o Read) (append-nil output)
-      (stopped old now before input output unread left rest [] _ Read p last
-      (record { lines = are.good; history = subst (λ (z : List (List Entry)). Interleaves z (flat_map entries l.answers)) (sym are.entries_are) (interleaves_all l.answers) })
-      (no_sync_any lines quiet) r.cut (legal_append (map_of old) (served.history_of s) (flat_map entries l.answers) so_far l.legal)
-      (r.read ∙ ap (λ (z : List ℕ). z ++ rest ++ left) (sym are.input)) refl (refl, none, quiet)),
+          (stopped old now before input output unread left rest [] _ Read p last
+          (record { lines = are.good; history = subst (λ (z : List (List Entry)). Interleaves z (flat_map entries l.answers)) (sym are.entries_are) (interleaves_all l.answers) })
+          (no_sync_any lines quiet) r.cut (legal_append (map_of old) (served.history_of s) (flat_map entries l.answers) so_far l.legal)
+          (r.read ∙ ap (λ (z : List ℕ). z ++ rest ++ left) (sym are.input)) refl (refl, none, quiet)),
       failed,
     )
 
@@ -278,9 +278,9 @@ stops_writing old now before input output unread left text rest out unwritten as
     let s = p.sections in let lines : List Line = the_lines unread left asked rest r before.requests text more h in
     let are = the_are unread left asked rest r before.requests text more h in (
       stopped old now before input output unread left rest out unwritten Write p (section_of lines more) (whole_section unread left asked rest r before.requests text more h) inside r.cut
-      (legal_on old now more (served.history_of s) seen p.more p.begins p.history) (read_is unread left asked rest r before.requests text more h)
-      (sym (open_text s lines rest text (end_text end (before.requests + length asked + 1)) before.requests (length asked) p.requests are.long (text_is unread left asked rest r before.requests text more h) (prints (before.requests + length asked + 1))) ∙ split)
-      tt,
+          (legal_on old now more (served.history_of s) seen p.more p.begins p.history) (read_is unread left asked rest r before.requests text more h)
+          (sym (open_text s lines rest text (end_text end (before.requests + length asked + 1)) before.requests (length asked) p.requests are.long (text_is unread left asked rest r before.requests text more h) (prints (before.requests + length asked + 1))) ∙ split)
+          tt,
       failed,
     )
 

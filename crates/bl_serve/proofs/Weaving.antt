@@ -19,7 +19,6 @@ get_at : {A : Type 0} (before : List A) (x : A) (after : List A) (d : A) → get
 get_at [] x after d = refl
 get_at (b ∷ before) x after d = get_at before x after d
 
-
 -- where an element goes when two places are exchanged
 pub record Goes {A : Type 0} (l : List A) (k i j : ℕ) (d : A) : Type 0 where
   pub to : ℕ

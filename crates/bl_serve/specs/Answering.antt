@@ -22,7 +22,6 @@ abbrev pub answers_text : ℕ → List Answer → List ℕ
 answers_text n [] = []
 answers_text n (answer ∷ answers) = numbered n (answer_text answer) ++ answers_text (suc n) answers
 
-
 -- The line was answered: the new entries of the pass are those of the answer.
 pub record AnswersLine (pass : ℕ) (asked : Option Request) (shown : Response) (old new : Trail) : Type 0 where
   pub answer : Answer

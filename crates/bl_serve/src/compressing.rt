@@ -21,7 +21,13 @@ pub fn leave<R: Wait>(rt: &R, hints: &Hints, hint: Option<Hint>) {
 }
 
 /// Posts once. A hint that met no room waits for a compressor.
-fn post_once<R: Wait>(rt: &R, index: &Index, hints: &Hints, pass: &mut Pass, hint: Hint) -> Option<Hint>
+fn post_once<R: Wait>(
+    rt: &R,
+    index: &Index,
+    hints: &Hints,
+    pass: &mut Pass,
+    hint: Hint,
+) -> Option<Hint>
     requires { IsPassOf index.now pass.old }
     ensures same { IsSamePass pass.old pass.new }
     ensures adds { Adds (number_of pass.old) (trail pass.old) (trail pass.new) }
@@ -117,7 +123,13 @@ impl Shift {
 }
 
 /// Follows hints until the workers have ended.
-pub fn follow_hints<R: Wait>(rt: &R, index: &Index, hints: &Hints, shift: &Shift, pass: Pass) -> Pass
+pub fn follow_hints<R: Wait>(
+    rt: &R,
+    index: &Index,
+    hints: &Hints,
+    shift: &Shift,
+    pass: Pass,
+) -> Pass
     requires { IsPassOf index.now pass }
     ensures same { IsSamePass pass result }
     ensures adds { Adds (number_of pass) (trail pass) (trail result) }

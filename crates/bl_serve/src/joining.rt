@@ -10,7 +10,12 @@ use std::alloc::Global;
 
 /// The texts of batches that follow each other from place 0 up to the count, put together. Else the number of the least
 /// line that the batches, in the order of their lines, do not have exactly once; so many lines come before them.
-fn joined(alloc: Global, written: &[Written], done: u64, count: usize) -> Result<Vec<u8>, ServeFault>
+fn joined(
+    alloc: Global,
+    written: &[Written],
+    done: u64,
+    count: usize,
+) -> Result<Vec<u8>, ServeFault>
     requires within { All (IsWithin count) written.now }
     requires room { done + count < 2 ^ 64 }
     ensures text { IfOk result (λ text. Chains 0 count written.now × (text.items ≡ text_of written.now)) }
@@ -32,7 +37,12 @@ fn joined(alloc: Global, written: &[Written], done: u64, count: usize) -> Result
 }
 
 /// The same of batches in any order.
-pub fn collect(alloc: Global, written: Vec<Written>, done: u64, count: usize) -> Result<Vec<u8>, ServeFault>
+pub fn collect(
+    alloc: Global,
+    written: Vec<Written>,
+    done: u64,
+    count: usize,
+) -> Result<Vec<u8>, ServeFault>
     requires within { All (IsWithin count) written.items }
     requires room { done + count < 2 ^ 64 }
     ensures text { IfOk result (λ text. (sorted : List _) × IsPermutation written.items sorted × Chains 0 count sorted × (text.items ≡ text_of sorted)) }

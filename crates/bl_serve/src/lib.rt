@@ -16,7 +16,7 @@ mod rounds;
 mod serving;
 mod working;
 
+pub use bl_lines::{ServeFault, Totals};
 pub use compressing::follow_hint;
 pub use gate::{Gate, OpenGate};
-pub use bl_lines::{ServeFault, Totals};
 pub use serving::serve;

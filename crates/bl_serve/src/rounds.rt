@@ -35,7 +35,11 @@ fn batches<R: Wait>(rt: &R, alloc: Global, count: usize) -> Result<Receiver<Batc
         if from >= count {
             break;
         }
-        let size = if from < SINGLE { 1 } else { (from / 4).min(BATCH) };
+        let size = if from < SINGLE {
+            1
+        } else {
+            (from / 4).min(BATCH)
+        };
         let upto = from + size.min(count - from);
         if sender.send(rt, Batch { from, upto }).is_err() {
             return Err(AllocError);
@@ -86,7 +90,11 @@ fn work<R: Threads + Wait + Sync, G: Gate + Sync>(
         &|turn: Turn| -> Result<Worked, AllocError>
             requires { IsPassOf index.now turn.pass × (done + length lines.now < 2 ^ 64) }
             ensures { IfOk result (IsTurn (suc done) lines.entry.now turn.pass) }
-        { take_turn(rt, alloc, index, hints, gate, shift, batches, done, lines, turn) },
+        {
+            take_turn(
+                rt, alloc, index, hints, gate, shift, batches, done, lines, turn,
+            )
+        },
     )
 }
 
@@ -131,7 +139,9 @@ pub fn answer_section<R: Threads + Wait + Sync, G: Gate + Sync>(
     let batches = batches(rt, alloc, lines.len())?;
     let shift = Shift::new(workers as u64);
     let turns = turns(alloc, passes, workers)?;
-    let results = work(rt, alloc, index, hints, gate, &shift, &batches, done, lines, turns)?;
+    let results = work(
+        rt, alloc, index, hints, gate, &shift, &batches, done, lines, turns,
+    )?;
     let (passes, written) = gather(alloc, results)?;
     let text = collect(alloc, written, done, lines.len())?;
     Ok((passes, text))

@@ -71,7 +71,17 @@ fn serve_section<T: Threads + Wait + Sync, G: Gate + Sync>(
     ensures serves { IfOk result (λ t. ServesSection index.now totals.old.requests lines.now end t.1.items passes.items t.0.items) }
     ensures fault { IfErr result IsInside }
 {
-    let (passes, text) = hold_section(rt, alloc, index, hints, gate, workers, passes, totals.requests, lines)?;
+    let (passes, text) = hold_section(
+        rt,
+        alloc,
+        index,
+        hints,
+        gate,
+        workers,
+        passes,
+        totals.requests,
+        lines,
+    )?;
     let mut text = text;
     count(totals, lines, end);
     if end != SectionEnd::Rest {

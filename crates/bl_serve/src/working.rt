@@ -70,7 +70,16 @@ fn serve_batch<R: Wait, G: Gate>(
         return Ok(());
     }
     let mine = &lines[from..upto];
-    let text = answer_lines(rt, alloc, index, hints, gate, pass, done + from as u64, mine)?;
+    let text = answer_lines(
+        rt,
+        alloc,
+        index,
+        hints,
+        gate,
+        pass,
+        done + from as u64,
+        mine,
+    )?;
     log.push(Written { from, upto, text })?;
     Ok(())
 }
@@ -98,7 +107,9 @@ fn serve_batches<R: Wait, G: Gate>(
         let Ok(batch) = batches.recv(rt) else {
             return Ok(Worked { pass, log });
         };
-        serve_batch(rt, alloc, index, hints, gate, done, lines, &mut pass, &mut log, batch)?;
+        serve_batch(
+            rt, alloc, index, hints, gate, done, lines, &mut pass, &mut log, batch,
+        )?;
         shift.ring();
     }
     unreachable!()
@@ -123,7 +134,9 @@ pub fn take_turn<R: Wait, G: Gate>(
 {
     let Turn { pass, serves } = turn;
     if serves {
-        let worked = serve_batches(rt, alloc, index, hints, gate, shift, batches, done, lines, pass);
+        let worked = serve_batches(
+            rt, alloc, index, hints, gate, shift, batches, done, lines, pass,
+        );
         shift.leave();
         worked
     } else {

@@ -19,5 +19,5 @@ pub returns-clause-own : goal.returns-clause-own
 returns-clause-own g c =
     let a = c.in_ok-turns.turns.ok in let b = c.in_ok-results.results.ok in let same = c.in_ok-results.ensures.len in
     let r = round _ c.args.lines.now c.in_ok-text.text.items c.args.passes.items c.in_ok-passes.passes.items c.in_ok-turns.turns.items c.in_ok-results.results.items c.in_ok-passes.written.items c.in_ok-text.ensures.text.0
-        c.in_ok-turns.ensures (omega arith) (λ i t d low. c.in_ok-results.ensures.each i t d (omega arith)) c.in_ok-passes.ensures c.in_ok-text.ensures.text.1 c.in_ok-text.ensures.text.2 c.in_ok-text.ensures.text.3 in
+    c.in_ok-turns.ensures (omega arith) (λ i t d low. c.in_ok-results.ensures.each i t d (omega arith)) c.in_ok-passes.ensures c.in_ok-text.ensures.text.1 c.in_ok-text.ensures.text.2 c.in_ok-text.ensures.text.3 in
     round_own c.args.index.now _ _ _ _ _ c.requires.own r

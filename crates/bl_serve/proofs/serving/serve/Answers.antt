@@ -49,7 +49,7 @@ returns-in_err-end g c = let i = c.loop-section.invariant in let e = c.in_err-en
       consumes_next _ _ _ i.input c.loop-section.source e.1 _ i.consumed e.2 refl,
       i.wrote,
       stops_at_read c.in_err-end.field-0.0 (seen_by c.args.passes.items) i.seen c.loop-section.totals i.input i.output (c.loop-section.source ++ e.1) c.read_section.new.source e.0 c.read_section.new.lines.items (18446744073709551615 - c.loop-section.totals.requests)
-        (IsAtEnd (g.R.Read.remaining c.read_section.new.reader.inner)) (c.read_section.new.reader.failed ≡ true) (c.loop-section.writer.failed ≡ true) i.progress i.together.may_be e.3,
+          (IsAtEnd (g.R.Read.remaining c.read_section.new.reader.inner)) (c.read_section.new.reader.failed ≡ true) (c.loop-section.writer.failed ≡ true) i.progress i.together.may_be e.3,
     )
 
 pub serve_section-requires-clause-together : goal.serve_section-requires-clause-together
@@ -76,7 +76,7 @@ returns-in_err-back g c = let i = c.loop-section.invariant in let e = c.in_ok-en
 pub returns-in-Err : goal.returns-in-Err
 returns-in-Err g c = let i = c.loop-section.invariant in let e = c.in_ok-end.ensures in let s = c.in_ok-back.ensures.serves in
     let ends : EndsReading (Ok c.in_ok-end.end) (18446744073709551615 - c.loop-section.totals.requests) c.as_slice.result.now e.0 (c.loop-section.source ++ e.1) c.read_section.new.source (IsAtEnd (g.R.Read.remaining c.read_section.new.reader.inner)) (c.read_section.new.reader.failed ≡ true)
-        = subst (λ (z : List (Option Request)). EndsReading (Ok c.in_ok-end.end) (18446744073709551615 - c.loop-section.totals.requests) z e.0 (c.loop-section.source ++ e.1) c.read_section.new.source (IsAtEnd (g.R.Read.remaining c.read_section.new.reader.inner)) (c.read_section.new.reader.failed ≡ true)) (sym c.as_slice.ensures.value) e.3 in
+    = subst (λ (z : List (Option Request)). EndsReading (Ok c.in_ok-end.end) (18446744073709551615 - c.loop-section.totals.requests) z e.0 (c.loop-section.source ++ e.1) c.read_section.new.source (IsAtEnd (g.R.Read.remaining c.read_section.new.reader.inner)) (c.read_section.new.reader.failed ≡ true)) (sym c.as_slice.ensures.value) e.3 in
     let w = c.in-Err.ensures.err in (
       i.input,
       c.loop-section.source ++ e.1,
@@ -84,16 +84,16 @@ returns-in-Err g c = let i = c.loop-section.invariant in let e = c.in_ok-end.ens
       consumes_next _ _ _ i.input c.loop-section.source e.1 _ i.consumed e.2 refl,
       appends_more _ _ _ _ _ i.wrote w.3,
       stops_at_write c.args.index.now i.seen c.loop-section.totals c.as_slice.result.now c.in_ok-end.end c.in_ok-back.text.items c.loop-section.passes.items c.in_ok-back.back.items i.together i.some s (seen_by c.args.passes.items) i.input i.output (c.loop-section.source ++ e.1) c.read_section.new.source e.0 w.0 w.1 (18446744073709551615 - c.loop-section.totals.requests)
-        (IsAtEnd (g.R.Read.remaining c.read_section.new.reader.inner)) (c.read_section.new.reader.failed ≡ true) (c.write_out.new.writer.failed ≡ true) i.progress ends (sym c.as_slice-in-loop-section.ensures.value ∙ w.2) c.in-Err.ensures.failed,
+          (IsAtEnd (g.R.Read.remaining c.read_section.new.reader.inner)) (c.read_section.new.reader.failed ≡ true) (c.write_out.new.writer.failed ≡ true) i.progress ends (sym c.as_slice-in-loop-section.ensures.value ∙ w.2) c.in-Err.ensures.failed,
     )
 
 pub returns-then-ne : goal.returns-then-ne
 returns-then-ne g c = let i = c.loop-section.invariant in let e = c.in_ok-end.ensures in let s = c.in_ok-back.ensures.serves in
     let ends : EndsReading (Ok c.in_ok-end.end) (18446744073709551615 - c.loop-section.totals.requests) c.as_slice.result.now e.0 (c.loop-section.source ++ e.1) c.read_section.new.source (IsAtEnd (g.R.Read.remaining c.read_section.new.reader.inner)) (c.read_section.new.reader.failed ≡ true)
-        = subst (λ (z : List (Option Request)). EndsReading (Ok c.in_ok-end.end) (18446744073709551615 - c.loop-section.totals.requests) z e.0 (c.loop-section.source ++ e.1) c.read_section.new.source (IsAtEnd (g.R.Read.remaining c.read_section.new.reader.inner)) (c.read_section.new.reader.failed ≡ true)) (sym c.as_slice.ensures.value) e.3 in
+    = subst (λ (z : List (Option Request)). EndsReading (Ok c.in_ok-end.end) (18446744073709551615 - c.loop-section.totals.requests) z e.0 (c.loop-section.source ++ e.1) c.read_section.new.source (IsAtEnd (g.R.Read.remaining c.read_section.new.reader.inner)) (c.read_section.new.reader.failed ≡ true)) (sym c.as_slice.ensures.value) e.3 in
     let other : c.in_ok-end.end ≢ section_end.Synced = search rules in
     let v = serves_at_end c.args.index.now i.seen c.loop-section.totals c.as_slice.result.now c.in_ok-end.end c.in_ok-back.text.items c.loop-section.passes.items c.in_ok-back.back.items i.together i.some s (seen_by c.args.passes.items) c.serve_section.new.totals i.input i.output (c.loop-section.source ++ e.1) c.read_section.new.source e.0
-        (IsAtEnd (g.R.Read.remaining c.read_section.new.reader.inner)) (c.read_section.new.reader.failed ≡ true) other i.progress ends i.room c.in_ok-back.ensures.counts in (
+    (IsAtEnd (g.R.Read.remaining c.read_section.new.reader.inner)) (c.read_section.new.reader.failed ≡ true) other i.progress ends i.room c.in_ok-back.ensures.counts in (
       i.input ++ v.consumed,
       c.read_section.new.source,
       i.output ++ c.in_ok-back.text.items,
@@ -105,11 +105,11 @@ returns-then-ne g c = let i = c.loop-section.invariant in let e = c.in_ok-end.en
 pub loop-section-preserved : goal.loop-section-preserved
 loop-section-preserved g c = let i = c.loop-section.invariant in let e = c.in_ok-end.ensures in let s = c.in_ok-back.ensures.serves in
     let ends : EndsReading (Ok c.in_ok-end.end) (18446744073709551615 - c.loop-section.totals.requests) c.as_slice.result.now e.0 (c.loop-section.source ++ e.1) c.read_section.new.source (IsAtEnd (g.R.Read.remaining c.read_section.new.reader.inner)) (c.read_section.new.reader.failed ≡ true)
-        = subst (λ (z : List (Option Request)). EndsReading (Ok c.in_ok-end.end) (18446744073709551615 - c.loop-section.totals.requests) z e.0 (c.loop-section.source ++ e.1) c.read_section.new.source (IsAtEnd (g.R.Read.remaining c.read_section.new.reader.inner)) (c.read_section.new.reader.failed ≡ true)) (sym c.as_slice.ensures.value) e.3 in
+    = subst (λ (z : List (Option Request)). EndsReading (Ok c.in_ok-end.end) (18446744073709551615 - c.loop-section.totals.requests) z e.0 (c.loop-section.source ++ e.1) c.read_section.new.source (IsAtEnd (g.R.Read.remaining c.read_section.new.reader.inner)) (c.read_section.new.reader.failed ≡ true)) (sym c.as_slice.ensures.value) e.3 in
     let is : c.in_ok-end.end ≡ section_end.Synced = search rules in
     let counts = c.in_ok-back.ensures.counts in
     let v = goes_on_at_sync c.args.index.now i.seen c.loop-section.totals c.as_slice.result.now c.in_ok-end.end c.in_ok-back.text.items c.loop-section.passes.items c.in_ok-back.back.items i.together i.some s (seen_by c.args.passes.items) c.serve_section.new.totals i.input i.output (c.loop-section.source ++ e.1) c.read_section.new.source e.0 (18446744073709551615 - c.loop-section.totals.requests)
-        (IsAtEnd (g.R.Read.remaining c.read_section.new.reader.inner)) (c.read_section.new.reader.failed ≡ true) is i.progress ends counts in record {
+    (IsAtEnd (g.R.Read.remaining c.read_section.new.reader.inner)) (c.read_section.new.reader.failed ≡ true) is i.progress ends counts in record {
       input = i.input ++ v.consumed;
       output = i.output ++ c.in_ok-back.text.items;
       seen = now_seen c.args.index.now i.seen c.loop-section.totals c.as_slice.result.now c.in_ok-end.end c.in_ok-back.text.items c.loop-section.passes.items c.in_ok-back.back.items i.together i.some s;
