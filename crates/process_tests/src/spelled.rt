@@ -2,10 +2,7 @@
 
 use arrayvec::ArrayVec;
 use bl_page::{Anchor, Dead, Inner, Leaf, Page};
-use bl_ways::{
-    Approach, Onward, level_in, levels_in, row_in, thin_in, top_in, way_in, words_with,
-    words_without,
-};
+use bl_ways::{Approach, Onward, level_in, levels_in, row_in, top_in, way_in};
 
 /// The anchor of a tree of two levels: page 1 is its leftmost leaf, and page 3 its top.
 fn anchor() -> Page {
@@ -85,23 +82,6 @@ fn ways_and_rows(rt: HostRuntime) {
         Some(50)
     );
     assert_eq!(rt; row_in(&Page::Leaf(leaf()).to_words(), &mut (), 6), None);
-}
-
-// The row of key 3 enters page 1 before that of key 5, which leaves it again. The leaf is thin, since it has a bound and few rows.
-#[test]
-fn rows_enter_and_leave_words(rt: HostRuntime) {
-    let old = Page::Leaf(leaf()).to_words();
-    let mut two = [7; 32];
-    words_with(&old, &mut (), 3, 30, &mut two);
-    assert_eq!(rt; two[0], 2 * 4_294_967_296 + 2);
-    assert!(rt; two[1] == 0 && two[2] == 9 && two[3] == 2);
-    assert!(rt; two[4] == 3 && two[5] == 30 && two[6] == 5 && two[7] == 50);
-    assert!(rt; two[8] == 0 && two[30] == 0 && two[31] == 0);
-    let mut one = [7; 32];
-    words_without(&two, &mut (), 5, &mut one);
-    assert_eq!(rt; one[0], 2 * 4_294_967_296 + 1);
-    assert!(rt; one[4] == 3 && one[5] == 30 && one[6] == 0 && one[7] == 0 && one[31] == 0);
-    assert_eq!(rt; thin_in(&one), Some(0));
 }
 
 /// Where a writer to a level goes by the words of the page that it got.
