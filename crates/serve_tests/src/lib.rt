@@ -6,6 +6,4 @@
 #![tactic(auto)]
 
 #[cfg(test)]
-mod compressors;
-#[cfg(test)]
 mod sections;
