@@ -1,5 +1,4 @@
-//! Tests of the server: what it writes and counts, that workers work at once, that a section ends before the next begins, and
-//! a step of a compressor.
+//! Tests of the server: what it writes and counts, that workers work at once, and that a section ends before the next begins.
 //!
 //! They stand apart from `bl_serve`, and nothing else uses them: whatever is built on the server need not wait until these
 //! tests are proved.
