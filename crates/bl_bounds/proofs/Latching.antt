@@ -6,7 +6,7 @@ use Rattle.bl_page.specs.Machine.{Name}
 use Rattle.bl_page.specs.Machine.Act.{Put, Take, Latch}
 use Rattle.bl_trails.specs.Trails.{Mark, Trail, marks_of}
 use Rattle.bl_trails.proofs.Pushes.{name_cases, marks_of-own, marks_of-other}
-use Rattle.bl_steps.specs.Worlds.{Know, World, Holds, IsGood, Extends}
+use Rattle.bl_steps.specs.Worlds.{Know, World, HoldsPage, IsGood, Extends}
 use Rattle.bl_ways.specs.declared.acts.Action.{Action}
 use Rattle.bl_ways.specs.declared.acts.Action.TheVariants as act
 use Rattle.bl_ways.specs.declared.acts.Seen.{Seen}
@@ -201,7 +201,7 @@ put_never : (sd : Side) (p : Puts) (x : ℕ) → put_of sd p ≢ act.Latch x
 put_never side.Left p x e = cc
 put_never side.Right p x e = cc
 
-squeeze_few : (level key : ℕ) (got : ℕ → Page) (c : Compression) (x : ℕ) (marks : Trail) → compression_next c ≡ act.Latch x → squeeze_log level key c marks → ((y : ℕ) → Keeps marks y → Holds (know_squeeze level key got c).holds y) → HoldsFew level key marks
+squeeze_few : (level key : ℕ) (got : ℕ → Page) (c : Compression) (x : ℕ) (marks : Trail) → compression_next c ≡ act.Latch x → squeeze_log level key c marks → ((y : ℕ) → Keeps marks y → HoldsPage (know_squeeze level key got c).holds y) → HoldsFew level key marks
 squeeze_few level key got (LatchingLeft f) x marks e log h = inr (record { family = f; acts = _; at = log; no_more = λ y keeps. elim (h y keeps) [ inl i ↦ inl (sym i) | inr n ↦ absurd n ] })
 squeeze_few level key got (LatchedLeft f) x marks e log h = absurd (cc e)
 squeeze_few level key got (LatchingRight f c) x marks e log h = inr (record { family = f; acts = _; at = log.family; no_more = λ y keeps. elim (h y keeps) [ inl i ↦ inl (sym i) | inr n ↦ elim n [ inl j ↦ inr (sym j) | inr o ↦ absurd o ] ] })
@@ -214,9 +214,9 @@ squeeze_few level key got (OpeningRight t f) x marks e log h = absurd (cc e)
 squeeze_few level key got (OpeningLeft t f) x marks e log h = absurd (cc e)
 squeeze_few level key got (OpeningParent y f) x marks e log h = absurd (cc e)
 
-compress_few : (level key : ℕ) (got : ℕ → Page) (a : CompressStage) (x : ℕ) (marks : Trail) → compress_next_in a ≡ act.Latch x → compress_log level key a marks → ((y : ℕ) → Keeps marks y → Holds (know_compress level key got a).holds y) → HoldsFew level key marks
+compress_few : (level key : ℕ) (got : ℕ → Page) (a : CompressStage) (x : ℕ) (marks : Trail) → compress_next_in a ≡ act.Latch x → compress_log level key a marks → ((y : ℕ) → Keeps marks y → HoldsPage (know_compress level key got a).holds y) → HoldsFew level key marks
 compress_few level key got compress.New x marks e log h = absurd (cc e)
-compress_few level key got (compress.Coming a) x marks e log h = inl (λ y keeps. subst (λ hs. Holds hs y) (approach_alone level key a x e) (h y keeps))
+compress_few level key got (compress.Coming a) x marks e log h = inl (λ y keeps. subst (λ hs. HoldsPage hs y) (approach_alone level key a x e) (h y keeps))
 compress_few level key got (compress.Compressing c) x marks e log h = squeeze_few level key got c x marks e log h
 compress_few level key got (compress.Staying y) x marks e log h = absurd (cc e)
 compress_few level key got (compress.Ending r) x marks e log h = absurd (cc e)
@@ -241,10 +241,10 @@ part_looks (part.Over r) = (λ x e. cc, λ e. cc, λ x c e. cc)
 -- what the process holds is what it knows to hold
 module _ (w : World Run) (p : Name) (g : IsGood bare w) (owned : AllOwned w) where
   alone_turn : (m : Mark) → LatchesAlone (marks_of p w.trail) → ((x : ℕ) → m.event.act ≡ Latch x → (bare (w.proc p)).holds ≡ []) → LatchesAlone (marks_of p w.trail ++ m ∷ [])
-  alone_turn m h none = alone_on (marks_of p w.trail) m h (λ x y e keeps. subst (λ hs. Holds hs y) (none x e) (g.owned.held y p (owned p y keeps)))
+  alone_turn m h none = alone_on (marks_of p w.trail) m h (λ x y e keeps. subst (λ hs. HoldsPage hs y) (none x e) (g.owned.held y p (owned p y keeps)))
 
-  holds_kept : (k : Know) → bare (w.proc p) ≡ k → (y : ℕ) → Keeps (marks_of p w.trail) y → Holds k.holds y
-  holds_kept k is y keeps = subst (λ (z : Know). Holds z.holds y) is (g.owned.held y p (owned p y keeps))
+  holds_kept : (k : Know) → bare (w.proc p) ≡ k → (y : ℕ) → Keeps (marks_of p w.trail) y → HoldsPage k.holds y
+  holds_kept k is y keeps = subst (λ (z : Know). HoldsPage z.holds y) is (g.owned.held y p (owned p y keeps))
 
   looks_turn : (m : Mark) → OnlyLooks (marks_of p w.trail) → IsLook m.event.act → OnlyLooks (marks_of p w.trail ++ m ∷ [])
   looks_turn m h none = looks_on (marks_of p w.trail) m h none

@@ -38,7 +38,7 @@ pub alone_answers : (op : Op) (reply : Reply) (old new : Trail) → AreWithin 1 
 alone_answers op reply old new w v seen once =
     let e : Entry = record { pass = 0; op = op; reply = reply } in
     let grown : history_of new ≡ history_of old ++ e ∷ [] = sym (whole_own new v) ∙ (once ∙ ap (λ (z : List Entry). z ++ e ∷ []) (whole_own old w)) in
-    let legal : IsLegalFrom empty (history_of old ++ e ∷ []) = subst (IsLegalFrom empty) grown seen.legal in
+    let legal : IsLegalFrom empty (history_of old ++ e ∷ []) = subst (IsLegalFrom empty) grown seen.linear.legal in
     let last = legal_rest empty (history_of old) (e ∷ []) legal in
     record {
       answer = last.0;

@@ -126,7 +126,7 @@ learns_all l n m d e s st f o at at_m ne =
           none = ap (own n) whole ∙ h.mine;
           none_theirs = ap (own m) whole ∙ k.mine;
         };
-        seen = subst IsSeen (sym whole) (world_seen w f.good (fits_logs s f) f.opening f.first f.moments);
+        seen = subst IsSeen (sym whole) (world_seen w f.good f.opening f.first f.moments);
         within = subst (λ (z : ℕ). AreWithin z (trail_of (all_noted w.trail))) o.hands (subst (AreWithin (length s.hands)) (sym whole) f.within);
         runs = refl;
       },

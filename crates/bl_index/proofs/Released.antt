@@ -23,17 +23,19 @@ fresh_from pass k (m ∷ ms) le =
       fresh_from pass k ms (omega arith),
     )
 
-pub sweep_tells : (pass count among : ℕ) (d e : Mine) → d.number + 1 ≡ count → sweeps pass count among d e → Sweeps pass (trail_of d.trail) (trail_of e.trail)
-sweep_tells pass count among d e next (inl is) = record {
+pub sweep_tells : (pass count among released answer : ℕ) (d e : Mine) → d.number + 1 ≡ count → released ≤ answer → sweeps pass count among d released e → Sweeps pass answer (trail_of d.trail) (trail_of e.trail)
+sweep_tells pass count among released answer d e next few (inl is) = record {
   number = above (trail_of d.trail);
   fresh = fresh_from pass (above (trail_of d.trail)) (trail_of d.trail) (le_refl (above (trail_of d.trail)));
   more = [];
-  begins = ap (λ (z : Mine). trail_of z.trail) is ∙ sym (append-nil (trail_of d.trail));
+  few = omega arith;
+  begins = ap (λ (z : Mine). trail_of z.trail) is.0 ∙ sym (append-nil (trail_of d.trail));
   mine = tt;
-  seen = subst (λ (z : Mine). IsSeen (trail_of z.trail)) (sym is);
-  none = ap (λ (z : Mine). own pass (trail_of z.trail)) is;
+  seen = subst (λ (z : Mine). IsSeen (trail_of z.trail)) (sym is.0);
+  none = ap (λ (z : Mine). own pass (trail_of z.trail)) is.0;
 }
-sweep_tells pass count among d e next (inr t) = record {
+sweep_tells pass count among released answer d e next few (inr t) = record {
+  few = subst (λ (z : ℕ). z ≤ answer) (sym t.many) few;
   number = count;
   fresh = t.fresh (omega arith);
   more = t.more;

@@ -16,6 +16,6 @@ ends_within l h h' answer own same passes told =
     let is : (known h').passes ≡ h'.me.0.layout.passes = told.passes ∙ (passes ∙ ap (λ (z : Layout). z.passes) (sym (same ∙ own))) in
     subst (λ (z : ℕ). AreWithin z (trail_of (known h').trail)) is told.notes.within
 
-pub sweep_within : (l : Layout) (h h' : Seat (Unit {0}) (View Mine)) (pass count among : ℕ) → h.me.0.layout ≡ l → h'.me.0.layout ≡ h.me.0.layout → l.passes ≡ among → IsWithin h → sweeps pass count among (known h) (known h') → IsWithin h'
-sweep_within l h h' pass count among own same passes was (inl is) = subst (λ (z : Layout × Mine). AreWithin z.0.passes (trail_of z.1.trail)) (λ i. (sym same i, sym is i)) was
-sweep_within l h h' pass count among own same passes was (inr t) = subst (λ (z : ℕ). AreWithin z (trail_of (known h').trail)) (sym (ap (λ (z : Layout). z.passes) (same ∙ own) ∙ passes)) t.within
+pub sweep_within : (l : Layout) (h h' : Seat (Unit {0}) (View Mine)) (pass count among released : ℕ) → h.me.0.layout ≡ l → h'.me.0.layout ≡ h.me.0.layout → l.passes ≡ among → IsWithin h → sweeps pass count among (known h) released (known h') → IsWithin h'
+sweep_within l h h' pass count among released own same passes was (inl is) = subst (λ (z : Layout × Mine). AreWithin z.0.passes (trail_of z.1.trail)) (λ i. (sym same i, sym is.0 i)) was
+sweep_within l h h' pass count among released own same passes was (inr t) = subst (λ (z : ℕ). AreWithin z (trail_of (known h').trail)) (sym (ap (λ (z : Layout). z.passes) (same ∙ own) ∙ passes)) t.within

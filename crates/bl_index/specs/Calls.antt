@@ -1,5 +1,5 @@
 -- What a call tells the pass that makes it.
-use Rattle.std.specs.Prelude.{◌≡◌, ◌≢◌, ℕ, ◌++◌, Option, Some, None, [], ◌∷◌, Result, IfOk, IfErr}
+use Rattle.std.specs.Prelude.{◌≡◌, ◌≢◌, ℕ, ◌++◌, Option, Some, None, [], ◌∷◌, length, ◌≤◌, Result, IfOk, IfErr}
 use Rattle.bl_model.specs.Map.{Map, empty}
 use Rattle.bl_model.specs.History.{final_map}
 use Rattle.bl_model.specs.declared.operation.Op.{Op}
@@ -69,15 +69,16 @@ pub record Adds (pass : ℕ) (old new : Trail) : Type 0 where
   pub seen : IsSeen new
   pub none : own pass new ≡ own pass old
 
--- A sweep of the pass. Its events are releases of pages, all of them by one process of its own, which had done nothing before
--- and does not begin. The entries of the pass are those of before, and if what the pass had seen was a trail that an index
+-- A sweep of the pass that answered a number. Its events are releases of pages, no more than that number, all of them by one
+-- process of its own, which had done nothing before and does not begin. The entries of the pass are those of before, and if what the pass had seen was a trail that an index
 -- may have, then so is what it has seen now.
-pub record Sweeps (pass : ℕ) (old new : Trail) : Type 0 where
+pub record Sweeps (pass answer : ℕ) (old new : Trail) : Type 0 where
   pub number : ℕ
   pub fresh : Each (λ (m : Mark). m.event.process ≢ name pass number) old
   pub more : Trail
   pub begins : new ≡ old ++ more
   pub mine : Each (λ (m : Mark). m.event.process.pass ≡ pass → IsRelease (name pass number) m) more
+  pub few : length (marks_of (name pass number) more) ≤ answer
   pub seen : IsSeen old → IsSeen new
   pub none : own pass new ≡ own pass old
 
@@ -98,7 +99,7 @@ pub record RunsOut (pages pass turns : ℕ) (old new : Trail) : Type 0 where
   pub looks : OnlyLooks (marks_of (name pass adds.number) new)
 
 -- A search is answered, or runs out of turns.
-pub record MayAnswer (pages pass turns : ℕ) (op : Op) (result : Result Reply OutOfTurns) (old new : Trail) : Type 0 where
+pub record AnswersOrRunsOut (pages pass turns : ℕ) (op : Op) (result : Result Reply OutOfTurns) (old new : Trail) : Type 0 where
   pub answered : IfOk result (λ reply. Finds pages pass op reply old new)
   pub refused : IfErr result (λ fault. RunsOut pages pass turns old new)
 

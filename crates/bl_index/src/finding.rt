@@ -43,14 +43,14 @@ fn page_of(stage: FindStage) -> u32
 }
 
 impl Index {
-    ghost use Rattle.bl_index.specs.Calls.{IsPassOf, IsSamePass, pages_of, number_of, trail, MayAnswer};
+    ghost use Rattle.bl_index.specs.Calls.{IsPassOf, IsSamePass, pages_of, number_of, trail, AnswersOrRunsOut};
 
     /// The value of a key, or that the key is absent. It gets at most so many pages, the anchor included.
     #[inline(always)]
     pub fn find(&self, pass: &mut Pass, key: u64, turns: u32) -> Result<Reply, OutOfTurns>
         requires { IsPassOf self.now pass.old }
         ensures same { IsSamePass pass.old pass.new }
-        ensures answers { MayAnswer (pages_of self.now) (number_of pass.old) turns (op.Find key) result (trail pass.old) (trail pass.new) }
+        ensures answers { AnswersOrRunsOut (pages_of self.now) (number_of pass.old) turns (op.Find key) result (trail pass.old) (trail pass.new) }
     {
         self.find_by(&mut pass.hand, key, turns)
     }
@@ -64,7 +64,7 @@ impl Index {
         ensures within { IsWithin hand.new.seat }
         ensures rests { (known hand.new.seat).runs ≡ false }
         ensures seen { IsSeen (trail_of (known hand.new.seat).trail) }
-        ensures answers { MayAnswer self.now.store.layout.pages hand.old.number turns (op.Find key) result (trail_of (known hand.old.seat).trail) (trail_of (known hand.new.seat).trail) }
+        ensures answers { AnswersOrRunsOut self.now.store.layout.pages hand.old.number turns (op.Find key) result (trail_of (known hand.old.seat).trail) (trail_of (known hand.new.seat).trail) }
     {
         let mut process = Find::new(key);
         self.begin(hand, &mut process);

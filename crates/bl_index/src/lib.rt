@@ -29,5 +29,7 @@ mod shown;
 mod stepping;
 mod sweeping;
 
+pub use bl_model::{Next, Reply};
+pub use bl_proc::{Hint, Level, Posted, Squeezed};
 pub use config::{Config, OpenFault, OutOfTurns};
 pub use index::{Index, Pass};

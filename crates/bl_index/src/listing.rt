@@ -31,14 +31,14 @@ fn page_of(stage: &PartStage) -> u32
 }
 
 impl Index {
-    ghost use Rattle.bl_index.specs.Calls.{IsPassOf, IsSamePass, pages_of, number_of, trail, MayAnswer};
+    ghost use Rattle.bl_index.specs.Calls.{IsPassOf, IsSamePass, pages_of, number_of, trail, AnswersOrRunsOut};
 
     /// The pairs of one leaf from a key on, in rising order, and the key from which the next part begins, where there is
     /// one. It gets at most so many pages, the anchor included.
     pub fn part(&self, pass: &mut Pass, from: u64, turns: u32) -> Result<Reply, OutOfTurns>
         requires { IsPassOf self.now pass.old }
         ensures same { IsSamePass pass.old pass.new }
-        ensures answers { MayAnswer (pages_of self.now) (number_of pass.old) turns (op.Part from) result (trail pass.old) (trail pass.new) }
+        ensures answers { AnswersOrRunsOut (pages_of self.now) (number_of pass.old) turns (op.Part from) result (trail pass.old) (trail pass.new) }
     {
         self.part_by(&mut pass.hand, from, turns)
     }
@@ -51,7 +51,7 @@ impl Index {
         ensures within { IsWithin hand.new.seat }
         ensures rests { (known hand.new.seat).runs ≡ false }
         ensures seen { IsSeen (trail_of (known hand.new.seat).trail) }
-        ensures answers { MayAnswer self.now.store.layout.pages hand.old.number turns (op.Part from) result (trail_of (known hand.old.seat).trail) (trail_of (known hand.new.seat).trail) }
+        ensures answers { AnswersOrRunsOut self.now.store.layout.pages hand.old.number turns (op.Part from) result (trail_of (known hand.old.seat).trail) (trail_of (known hand.new.seat).trail) }
     {
         let mut process = Part::new(from);
         self.begin(hand, &mut process);

@@ -1,6 +1,6 @@
 //! Sweeps.
 
-ghost use Rattle.std.specs.Prelude.{◌≡◌, ◌+◌, false};
+ghost use Rattle.std.specs.Prelude.{◌≡◌, ℕ, ◌+◌, ◌≤◌, false};
 ghost use Rattle.bl_store.specs.Hands.{known, IsOf, IsSameHand, IsSameStage, IsSameStock};
 ghost use Rattle.bl_passes.specs.Told.{sweeps};
 ghost use Rattle.bl_index.specs.Runs.{IsWithin};
@@ -19,7 +19,7 @@ impl Index {
     pub fn sweep(&self, pass: &mut Pass) -> u32
         requires { IsPassOf self.now pass.old }
         ensures same { IsSamePass pass.old pass.new }
-        ensures sweeps { Sweeps (number_of pass.old) (trail pass.old) (trail pass.new) }
+        ensures sweeps { Sweeps (number_of pass.old) result (trail pass.old) (trail pass.new) }
         ensures seen { ∥ IsSeen (trail pass.new) ∥₁ }
         ensures count { released_by pass.new ≡ released_by pass.old + result }
     {
@@ -33,7 +33,7 @@ impl Index {
         requires names { (hand.old.number ≡ J.pass) × ((known hand.old.seat).number + 1 ≡ J.number) × (self.now.store.layout.passes ≡ J.passes) }
         requires within { IsWithin hand.old.seat }
         ensures same { IsSameHand hand.old.seat hand.new.seat × IsSameStage hand.old.seat hand.new.seat × IsSameStock hand.old.seat hand.new.seat }
-        ensures told { sweeps J.pass J.number J.passes (known hand.old.seat) (known hand.new.seat) }
+        ensures told { (pages : ℕ) × (pages ≤ result) × sweeps J.pass J.number J.passes (known hand.old.seat) pages (known hand.new.seat) }
         ensures within { IsWithin hand.new.seat }
         ensures count { hand.new.seat.me.0.releases ≡ hand.old.seat.me.0.releases + result }
     {

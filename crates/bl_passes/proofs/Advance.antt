@@ -85,7 +85,7 @@ module _ (s : Pages Mine) (f : Fits s) (n m : ℕ) (st : Stage) (d : Mine) (at :
   }
 
   pub next_seen : KeepsLogs t.next → IsSeen (trail_of next_known.trail)
-  next_seen logs = subst IsSeen (sym (trail_back t.next.trail)) (world_seen t.next t.good logs (subst Opening (sym t.extends.start) f.opening) (t.extends.first ∙ f.first) (next_moments logs))
+  next_seen logs = subst IsSeen (sym (trail_back t.next.trail)) (world_seen t.next t.good (subst Opening (sym t.extends.start) f.opening) (t.extends.first ∙ f.first) (next_moments logs))
 
   pub next_notes : KeepsLogs t.next → AllKept t.next → Notes n m a d next_known
   next_notes logs all_kept =

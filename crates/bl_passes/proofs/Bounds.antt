@@ -42,18 +42,13 @@ use Rattle.bl_passes.specs.Fitting.{name, owner_in, IsAtStage, IsHand, Fits}
 use Rattle.bl_passes.specs.Told.{MayGiveUp, IsUnborn, Notes, Finishes, begins, ends, gives_up}
 use Rattle.bl_passes.proofs.Notings.{trail_back}
 use Rattle.bl_passes.proofs.Entries.{own-mine}
-use Rattle.bl_passes.proofs.Marks.{each_append}
+use Rattle.bl_passes.proofs.Marks.{each_append, no_marks}
 use Rattle.bl_passes.proofs.Stages.{pass_of, number_of, turn_mark}
 use Rattle.bl_passes.proofs.Doings.{log_after}
 use Rattle.bl_passes.proofs.Shown.{same_owner, other_owner, held_by}
 use Rattle.bl_passes.proofs.Logs.{next_logs}
 use Rattle.bl_passes.proofs.Advance.{next_known, advance, next_notes, next_near, next_own, next_stage}
 use Rattle.bl_passes.proofs.Turns.{turn_of, standing, is_named, turned, then_log, then_kept}
-
--- who did none of these events has no marks there
-no_marks : (p : Name) (ms : Trail) → Each (λ (m : Mark). m.event.process ≢ p) ms → marks_of p ms ≡ []
-no_marks p [] h = refl
-no_marks p (m ∷ ms) h = (let same = not_same m.event.process p h.0 in ap (λ (z : Bool). if z then m ∷ marks_of p ms else marks_of p ms) same ∙ no_marks p ms h.1)
 
 -- Before a process begins, it stands in the world as one that has done nothing.
 module _ (s : Pages Mine) (f : Fits s) (n : ℕ) (d : Mine) (at : Stands s n Idle d) (b : Run) (blank : IsBlank (know b)) where

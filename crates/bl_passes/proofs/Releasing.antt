@@ -7,8 +7,9 @@ use Rattle.atomic_table.proofs.Lists.{at_set}
 use Rattle.bl_page.specs.declared.page.Page.{Page}
 use Rattle.bl_page.specs.Machine.{Name, State, Act, AllBeganAfter as AllBeganAfterIn}
 use Rattle.bl_page.specs.Machine as machine
-use Rattle.bl_trails.specs.Trails.{Said, Mark, Trail, entries_at}
-use Rattle.bl_steps.specs.Worlds.{Holds}
+use Rattle.bl_trails.specs.Trails.{Said, Mark, Trail, entries_at, marks_of}
+use Rattle.bl_trails.proofs.Pushes.{marks_of-own}
+use Rattle.bl_steps.specs.Worlds.{HoldsPage}
 use Rattle.bl_steps.proofs.Frames.{Each-map}
 use Rattle.bl_steps.proofs.After.{put_at, is_put_at}
 use Rattle.bl_tables.specs.Turns.{Does, Turned}
@@ -18,15 +19,15 @@ use Rattle.bl_tables.proofs.Middles.{KeepsLogs}
 use Rattle.bl_bounds.specs.Paces.{AllKept}
 use Rattle.bl_bounds.proofs.Kept.{idle_kept}
 use Rattle.bl_layout.specs.declared.layout.Layout.{Layout}
-use Rattle.bl_store.specs.Pages.{Owner, Released, Held, Retired, Stage, Idle, Running, Pages, Stands, IsPage, AllBeganAfter, told, owned, Releases, Sweeps as SweepsIn}
+use Rattle.bl_store.specs.Pages.{Owner, Released, Held, Retired, Stage, Idle, Running, Pages, Stands, IsPage, AllBeganAfter, told, owned, Releases, ReleasesPages as SweepsIn}
 use Rattle.bl_passes.specs.declared.known.Mine.{Mine}
 use Rattle.bl_passes.specs.Noting.{trail_of}
 use Rattle.bl_passes.specs.Seeing.{own}
 use Rattle.bl_passes.specs.Fitting.{name, owner_in, Fits}
-use Rattle.bl_passes.specs.Told.{Sweeps, sweeps}
+use Rattle.bl_passes.specs.Told.{ReleasesPages, sweeps}
 use Rattle.bl_passes.proofs.Notings.{trail_back}
 use Rattle.bl_passes.proofs.Entries.{own-mine}
-use Rattle.bl_passes.proofs.Marks.{each_append}
+use Rattle.bl_passes.proofs.Marks.{each_append, no_marks, many-append}
 use Rattle.bl_passes.proofs.Stages.{turn_mark, pass_of, number_of}
 use Rattle.bl_passes.proofs.Runners.{one_hand}
 use Rattle.bl_passes.proofs.Shown.{other_owner, held_by}
@@ -44,7 +45,7 @@ module _ (s : Pages Mine) (f : Fits s) (n m : ℕ) (d : Mine) (at : Stands s n I
   -- it holds no page
   empty : (y : ℕ) → f.world.now.owner y ≢ machine.Held p
   empty y o = elim next [
-    | inl e ↦ (let blank = ((f.hands n Idle d at).later m (omega arith)).1 in subst (λ hs. Holds hs y) blank.holds (f.good.owned.held y p o))
+    | inl e ↦ (let blank = ((f.hands n Idle d at).later m (omega arith)).1 in subst (λ hs. HoldsPage hs y) blank.holds (f.good.owned.held y p o))
     | inr e ↦ (f.hands n Idle d at).stage.1 y (o ∙ ap (λ (z : ℕ). machine.Held (name n z)) (sym e))
   ]
 
@@ -103,7 +104,7 @@ module _ (s : Pages Mine) (f : Fits s) (n m : ℕ) (d : Mine) (at : Stands s n I
         (λ z i. absurd (let both : Idle ≡ Running z = i in cc))
         (λ z runs. (let r = f.busy p z runs in let one : ◌≡◌ {A = Stage × Mine} (Idle, d) (Running z, r.0) = one_hand s.hands n (Idle, d) (Running z, r.0) at r.1 in ap (λ (v : Stage × Mine). v.0) one))
 
-    then_sweeps : Sweeps n m (length s.hands) d then_known
+    then_sweeps : ReleasesPages n m (length s.hands) 1 d then_known
     then_sweeps =
         let h = f.hands n Idle d at in
         let mk = turn_mark f.world f.good n m (Act.Release x) freed (f.world.proc p) turned in
@@ -112,6 +113,7 @@ module _ (s : Pages Mine) (f : Fits s) (n m : ℕ) (d : Mine) (at : Stands s n I
         record {
           more = h.begins.0 ++ mk ∷ [];
           trail = trail ∙ (ap (λ (l : Trail). l ++ mk ∷ []) h.begins.1 ∙ append_assoc (trail_of d.trail) h.begins.0 (mk ∷ []));
+          many = ap (λ (l : Trail). length l) (marks_of-own p h.begins.0 mk refl) ∙ ap (λ (l : Trail). length (l ++ mk ∷ [])) (no_marks p h.begins.0 (Each-map _ _ h.begins.0 (λ (k : Mark) (ne : k.event.process.pass ≢ n) (e : k.event.process ≡ p). ne (pass_of _ _ e)) h.begins.2));
           mine = each_append _ h.begins.0 (mk ∷ []) (Each-map _ _ h.begins.0 (λ (k : Mark) (ne : k.event.process.pass ≢ n) (e : k.event.process.pass ≡ n). absurd (ne e)) h.begins.2) ((λ e. (x, refl, silent)), tt);
           fresh = λ low. Each-map _ _ (trail_of d.trail) (λ (k : Mark) (up : k.event.process.pass ≡ n → k.event.process.number ≤ d.number) (e : k.event.process ≡ p). (let few = up (pass_of _ _ e) in let is : k.event.process.number ≡ m = number_of _ _ e in omega arith)) h.counted;
           seen = next_seen s f n m Idle d at (Act.Release x) freed (f.world.proc p) turned false d.past then_logs;
@@ -121,18 +123,19 @@ module _ (s : Pages Mine) (f : Fits s) (n m : ℕ) (d : Mine) (at : Stands s n I
           runs = refl;
         }
 
-releases_page : (l : Layout) (n m : ℕ) (d : Mine) (x time : ℕ) → d.runs ≡ false → IsNext d m → Releases Fits l n d x time (sweeps n m l.passes d)
+releases_page : (l : Layout) (n m : ℕ) (d : Mine) (x time : ℕ) → d.runs ≡ false → IsNext d m → Releases Fits l n d x time (sweeps n m l.passes d 1)
 releases_page l n m d x time rests next s Idle words f o at page all = (
   then_known s f n m d at next x time words page all,
   then_fits s f n m d at next x time words page all,
-  inr (subst (λ (z : ℕ). Sweeps n m z d (then_known s f n m d at next x time words page all)) o.hands (then_sweeps s f n m d at next x time words page all)),
+  inr (subst (λ (z : ℕ). ReleasesPages n m z 1 d (then_known s f n m d at next x time words page all)) o.hands (then_sweeps s f n m d at next x time words page all)),
 )
 releases_page l n m d x time rests next s (Running since) words f o at page all = absurd (false≢true (sym rests ∙ (f.hands n (Running since) d at).stage.0))
 
-sweeps_more : (n m k : ℕ) (d e g : Mine) → Sweeps n m k d e → Sweeps n m k e g → Sweeps n m k d g
-sweeps_more n m k d e g a b = record {
+sweeps_more : (n m k i j : ℕ) (d e g : Mine) → ReleasesPages n m k i d e → ReleasesPages n m k j e g → ReleasesPages n m k (i + j) d g
+sweeps_more n m k i j d e g a b = record {
   more = a.more ++ b.more;
   trail = b.trail ∙ (ap (λ (l : Trail). l ++ b.more) a.trail ∙ append_assoc (trail_of d.trail) a.more b.more);
+  many = many-append (name n m) a.more b.more ∙ ap (λ (z : ℕ × ℕ). z.0 + z.1) (λ t. (a.many t, b.many t));
   mine = each_append _ a.more b.more a.mine b.mine;
   fresh = a.fresh;
   seen = b.seen;
@@ -142,18 +145,18 @@ sweeps_more n m k d e g a b = record {
   runs = b.runs;
 }
 
-sweeps_on : (n m k : ℕ) (d e g : Mine) → sweeps n m k d e → sweeps n m k e g → sweeps n m k d g
-sweeps_on n m k d e g (inl a) t = subst (λ (z : Mine). sweeps n m k z g) a t
-sweeps_on n m k d e g (inr a) (inl b) = inr (subst (Sweeps n m k d) (sym b) a)
-sweeps_on n m k d e g (inr a) (inr b) = inr (sweeps_more n m k d e g a b)
+sweeps_on : (n m k i : ℕ) (d e g : Mine) → sweeps n m k d i e → sweeps n m k e 1 g → sweeps n m k d (i + 1) g
+sweeps_on n m k i d e g (inl a) t = subst (λ (z : Mine × ℕ). sweeps n m k z.0 (z.1 + 1) g) (λ at. (a.0 at, sym a.1 at)) t
+sweeps_on n m k i d e g (inr a) (inl b) = absurd (let one : 1 ≡ 0 = b.1 in omega arith)
+sweeps_on n m k i d e g (inr a) (inr b) = inr (sweeps_more n m k i 1 d e g a b)
 
 -- any number of releases, by the next process of a pass that runs none
 pub sweeps_pages : (l : Layout) (n m : ℕ) (d : Mine) → d.runs ≡ false → d.number + 1 ≡ m → SweepsIn Fits l n d (sweeps n m l.passes)
 sweeps_pages l n m d rests next = (
-  inl refl,
-  sweeps_on n m l.passes d,
-  λ e x time by. elim by [
-    | inl is ↦ releases_page l n m e x time (ap (λ (z : Mine). z.runs) is ∙ rests) (inl (ap (λ (z : Mine). z.number + 1) is ∙ next))
+  inl (refl, refl),
+  λ e g i. sweeps_on n m l.passes i d e g,
+  λ e i x time by. elim by [
+    | inl is ↦ releases_page l n m e x time (ap (λ (z : Mine). z.runs) is.0 ∙ rests) (inl (ap (λ (z : Mine). z.number + 1) is.0 ∙ next))
     | inr t ↦ releases_page l n m e x time t.runs (inr t.number)
   ],
 )

@@ -29,15 +29,16 @@ pub world_moment : (w : World Run) → IsGood know w → KeepsLogs w → w.first
 world_moment w good logs first = record { now = w.now; leads = good.recorded.leads; laws = laws_now w good logs first }
 
 -- the trail of a good world that began with the opening index
-pub world_seen : (w : World Run) → IsGood know w → KeepsLogs w → Opening w.start → w.first ≡ empty → HasMoments w.start w.trail → IsSeen w.trail
-world_seen w good logs opening first moments = record {
-  start = w.start;
-  now = w.now;
-  opening = opening;
-  leads = good.recorded.leads;
-  marked = good.recorded.marked;
-  legal = subst (λ (z : Map). IsLegalFrom z (history_of w.trail)) first good.recorded.legal;
-  laws = laws_now w good logs first;
+pub world_seen : (w : World Run) → IsGood know w → Opening w.start → w.first ≡ empty → HasMoments w.start w.trail → IsSeen w.trail
+world_seen w good opening first moments = record {
+  linear = record {
+    start = w.start;
+    now = w.now;
+    opening = opening;
+    leads = good.recorded.leads;
+    marked = good.recorded.marked;
+    legal = subst (λ (z : Map). IsLegalFrom z (history_of w.trail)) first good.recorded.legal;
+  };
   moments = moments;
 }
 

@@ -81,7 +81,7 @@ first_moments size wide = moments_first opening_state (world_moment (first_world
 
 -- a pass that has done nothing has seen the opening index
 pub newcomer_seen : IsSeen []
-newcomer_seen = world_seen (first_world 4) (first_good 4 (omega arith)) (first_logs 4) opening_is refl (first_moments 4 (omega arith))
+newcomer_seen = world_seen (first_world 4) (first_good 4 (omega arith)) opening_is refl (first_moments 4 (omega arith))
 
 of_all : {A : Type 0} (n : ℕ) (a : A) (i : ℕ) (b : A) → get_elem? (replicate n a) i ≡ some b → a ≡ b
 of_all zero a i b e = absurd (some-ne-none b (sym e))

@@ -13,18 +13,21 @@ use Rattle.bl_trails.specs.States.{HasMoments}
 use Rattle.bl_steps.specs.Worlds.{Each}
 use Rattle.bl_starts.specs.Opening.{Opening}
 
--- The trail is one that an index may have: its events are legal and lead from the opening index to some state, its history
--- is one of them, legal from the empty map, and in that state the laws of the tree hold with the map after the history, as
--- they did in every state before, with the map of then.
-pub record IsSeen (trail : Trail) : Type 0 where
+-- The trail is linearizable: its events are legal and lead from the opening index to some state, and its history is one of
+-- them, legal from the empty map.
+pub record IsLinearizable (trail : Trail) : Type 0 where
   pub start : State Page
   pub now : State Page
   pub opening : Opening start
   pub leads : LeadsOn start trail now
   pub marked : IsMarked trail
   pub legal : IsLegalFrom empty (history_of trail)
-  pub laws : HasLaws now trail (final_map empty (history_of trail))
-  pub moments : HasMoments start trail
+
+-- The trail is one that an index may have: it is linearizable; and, apart from that, the laws of the tree hold in each state
+-- on its way and in its last one, with the map after the history so far.
+pub record IsSeen (trail : Trail) : Type 0 where
+  pub linear : IsLinearizable trail
+  pub moments : HasMoments linear.start trail
 
 -- the entries of one pass
 abbrev pub own : ℕ → Trail → List Entry

@@ -1,5 +1,5 @@
 -- What each event tells the pass that makes it.
-use Rattle.std.specs.Prelude.{true, false, ◌≡◌, ◌≢◌, ◌⊎◌, ℕ, ◌+◌, ◌<◌, ◌++◌, Option, None, List, [], ◌∷◌}
+use Rattle.std.specs.Prelude.{true, false, ◌≡◌, ◌≢◌, ◌⊎◌, ℕ, ◌+◌, ◌<◌, ◌++◌, Option, None, List, [], ◌∷◌, length}
 use Rattle.bl_model.specs.declared.operation.Reply.{Reply}
 use Rattle.bl_page.specs.declared.page.Page.{Page}
 use Rattle.bl_page.specs.Words.{words_of}
@@ -141,10 +141,11 @@ abbrev pub IsRelease : Name → Mark → Type 0
 IsRelease p m = (x : ℕ) × (m.event ≡ record { process = p; act = Act.Release x }) × (m.said ≡ None)
 
 -- Of so many passes, pages were released by this one's process of that count, which is a process of its own: before its first release the pass
--- had none of it, and all that the pass does meanwhile is to release pages.
-pub record Sweeps (by count among : ℕ) (d e : Mine) : Type 0 where
+-- had none of it, and all that the pass does meanwhile is to release so many pages.
+pub record ReleasesPages (by count among released : ℕ) (d e : Mine) : Type 0 where
   pub more : Trail
   pub trail : trail_of e.trail ≡ trail_of d.trail ++ more
+  pub many : length (marks_of (name by count) more) ≡ released
   pub mine : Each (λ (m : Mark). m.event.process.pass ≡ by → IsRelease (name by count) m) more
   pub fresh : d.number < count → Each (λ (m : Mark). m.event.process ≢ name by count) (trail_of d.trail)
   pub seen : IsSeen (trail_of e.trail)
@@ -154,8 +155,8 @@ pub record Sweeps (by count among : ℕ) (d e : Mine) : Type 0 where
   pub runs : e.runs ≡ false
 
 -- or no page was released
-abbrev pub sweeps : ℕ → ℕ → ℕ → Mine → Mine → Type 0
-sweeps by count among d e = (e ≡ d) ⊎ Sweeps by count among d e
+abbrev pub sweeps : ℕ → ℕ → ℕ → Mine → ℕ → Mine → Type 0
+sweeps by count among d released e = ((e ≡ d) × (released ≡ 0)) ⊎ ReleasesPages by count among released d e
 
 -- a search that may end at once: it runs, has said nothing, and holds nothing
 pub record MayGiveUp (state : Proc) : Type 0 where

@@ -9,13 +9,13 @@ use Rattle.bl_tree.specs.Trees.Status.{Fresh, Live, Gone}
 use Rattle.bl_tree.specs.Moves.{IsMapRow, MayList, IsRow, IsCut}
 use Rattle.bl_laws.specs.Pages.{node_of, roots_of}
 use Rattle.bl_trails.specs.Trails.{Said, HasSaid}
-use Rattle.bl_steps.specs.Worlds.{Know, World, nodes, tree_of, MapsTo, IsSure, Holds, IsBounded, Extends, put_mark}
+use Rattle.bl_steps.specs.Worlds.{Know, World, nodes, tree_of, MapsTo, IsSure, HoldsPage, IsBounded, Extends, put_mark}
 
 -- What every put of p owes, whatever it does to the tree: p keeps what it holds, and may have the point of its operation.
 pub record Owes {P : Type 0} (know : P → Know) (w w' : World P) (p : Name) (x : ℕ) (c : Page) (said : Option Said) (b : P) : Type 0 where
   pub extends : Extends w w' (put_mark p x c said) b
   pub no_dead : (y : ℕ) → w.now.owner y ≡ Held p → w.status y ≢ Gone
-  pub places : (y : ℕ) → Holds (know (w.proc p)).holds y → Holds (know b).holds y
+  pub places : (y : ℕ) → HoldsPage (know (w.proc p)).holds y → HoldsPage (know b).holds y
   pub point : (s : Said) → said ≡ Some s → ((since : ℕ) × (w.now.phase p ≡ Running since)) × HasSaid w.trail p None
   pub maps : MapsTo (w.map 0) (w'.map 0) said
   pub bounded : IsBounded (w'.map 0)

@@ -65,11 +65,11 @@ legal_on : (old now more : Trail) (h : List Entry) → IsSeen (now ++ more) → 
 legal_on old now more h seen begun is same =
     subst (λ (z : List Entry). IsLegalFrom (map_of old) (z ++ history_of more)) same
     (legal_rest empty (history_of old) (history_of begun ++ history_of more)
-    (subst (IsLegalFrom empty) (history_append now more ∙ (ap (λ (z : Trail). history_of z ++ history_of more) is ∙ (ap (λ (z : List Entry). z ++ history_of more) (history_append old begun) ∙ append_assoc (history_of old) (history_of begun) (history_of more)))) seen.legal))
+    (subst (IsLegalFrom empty) (history_append now more ∙ (ap (λ (z : Trail). history_of z ++ history_of more) is ∙ (ap (λ (z : List Entry). z ++ history_of more) (history_append old begun) ∙ append_assoc (history_of old) (history_of begun) (history_of more)))) seen.linear.legal))
 
 legal_so_far : (old now : Trail) (h : List Entry) → IsSeen now → (begun : Trail) → now ≡ old ++ begun → history_of begun ≡ h → IsLegalFrom (map_of old) h
 legal_so_far old now h seen begun is same = subst (IsLegalFrom (map_of old)) same
-    (legal_rest empty (history_of old) (history_of begun) (subst (IsLegalFrom empty) (ap history_of is ∙ history_append old begun) seen.legal))
+    (legal_rest empty (history_of old) (history_of begun) (subst (IsLegalFrom empty) (ap history_of is ∙ history_append old begun) seen.linear.legal))
 
 -- ---- a section
 

@@ -81,5 +81,5 @@ section first lines text olds news old new r on seen within fits =
       on = on.1;
       history = ap history_of on.1 ∙ history_append old more;
       interleaves = r.weaves (history_of more) c;
-      legal = seen.legal;
+      legal = seen.linear.legal;
     }

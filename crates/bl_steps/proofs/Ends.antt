@@ -8,7 +8,7 @@ use Rattle.bl_page.specs.Machine.Phase.{Running, Ended}
 use Rattle.bl_tree.specs.Trees.Status.{Gone}
 use Rattle.bl_laws.specs.Pages.{node_of}
 use Rattle.bl_trails.specs.Trails.{Mark, Answered}
-use Rattle.bl_steps.specs.Worlds.{Passed, Know, World, nodes, MayGet, IsPassed, IsSure, Holds, AreOwned, IsRecorded, IsGood, Extends, silent}
+use Rattle.bl_steps.specs.Worlds.{Passed, Know, World, nodes, MayGet, IsPassed, IsSure, HoldsPage, AreOwned, IsRecorded, IsGood, Extends, silent}
 use Rattle.bl_trails.proofs.Pushes.{name_cases}
 use Rattle.bl_steps.proofs.Frames.{all_sure}
 use Rattle.bl_steps.proofs.Steady.{was_live}
@@ -37,7 +37,7 @@ pub record Turns {P : Type 0} (know : P → Know) (w w' : World P) (m : Mark) (b
   pub no_take : (y : ℕ) → (m.event.act ≢ Act.Take y) × (m.event.act ≢ Act.Latch y)
   pub no_put : (y : ℕ) (c : _) → m.event.act ≢ Act.Put y c
   pub middle : (know b).middle ≡ (know (w.proc m.event.process)).middle
-  pub places : (x : ℕ) → Holds (know (w.proc m.event.process)).holds x → Holds (know b).holds x
+  pub places : (x : ℕ) → HoldsPage (know (w.proc m.event.process)).holds x → HoldsPage (know b).holds x
   pub own : IsSure w' m.event.process (know b)
   pub recorded : IsRecorded w'
   -- what p may get, if it runs now, it may get from a dead page on
@@ -105,7 +105,7 @@ pub record Begins {P : Type 0} (know : P → Know) (w w' : World P) (p : Name) (
   pub extends : Extends w w' (silent p Begin) b
   pub ghost : SameGhost w w'
   pub middle : (know b).middle ≡ (know (w.proc p)).middle
-  pub places : (x : ℕ) → Holds (know (w.proc p)).holds x → Holds (know b).holds x
+  pub places : (x : ℕ) → HoldsPage (know (w.proc p)).holds x → HoldsPage (know b).holds x
   pub own : IsSure w' p (know b)
 
 pub Begins-keeps : {P : Type 0} (know : P → Know) (w w' : World P) (p : Name) (b : P) → Begins know w w' p b → IsGood know w → IsGood know w'
@@ -155,7 +155,7 @@ pub record Finishes {P : Type 0} (know : P → Know) (w w' : World P) (p : Name)
   pub told : Answered w.trail p answer
   pub ghost : SameGhost w w'
   pub middle : (know b).middle ≡ (know (w.proc p)).middle
-  pub places : (x : ℕ) → Holds (know (w.proc p)).holds x → Holds (know b).holds x
+  pub places : (x : ℕ) → HoldsPage (know (w.proc p)).holds x → HoldsPage (know b).holds x
   pub own : IsSure w' p (know b)
 
 pub Finishes-keeps : {P : Type 0} (know : P → Know) (w w' : World P) (p : Name) (answer : Option Reply) (b : P) → Finishes know w w' p answer b → IsGood know w → IsGood know w'

@@ -8,7 +8,7 @@ use Rattle.bl_tree.specs.Trees.{Tree, IsTree}
 use Rattle.bl_tree.specs.Trees.Status.{Live, Right, Gone}
 use Rattle.bl_laws.specs.Pages.{node_of, roots_of}
 use Rattle.bl_trails.specs.Trails.{Mark}
-use Rattle.bl_steps.specs.Worlds.{Know, World, nodes, tree_of, MapsTo, IsSure, Holds, HasMiddle, AreOwned, IsGood, Extends}
+use Rattle.bl_steps.specs.Worlds.{Know, World, nodes, tree_of, MapsTo, IsSure, HoldsPage, HasMiddle, AreOwned, IsGood, Extends}
 use Rattle.bl_trails.proofs.Pushes.{name_cases, MaySay}
 use Rattle.bl_steps.proofs.Frames.{Leaves, all_sure}
 use Rattle.bl_steps.proofs.Steady.{Steady, was_live, may_still, passed_still, gone_still}
@@ -47,7 +47,7 @@ middles_step know w w' m b x y e same h kept right =
     }
 
 -- who holds what, where only p gets or gives a page
-pub held_step : {P : Type 0} (know : P → Know) (w w' : World P) (m : Mark) (b : P) → Extends w w' m b → ((x : ℕ) → w'.now.owner x ≡ Held m.event.process → Holds (know b).holds x) → ((x : ℕ) (q : Name) → q ≢ m.event.process → w'.now.owner x ≡ Held q → w.now.owner x ≡ Held q) → AreOwned know w → (x : ℕ) (q : Name) → w'.now.owner x ≡ Held q → Holds (know (w'.proc q)).holds x
+pub held_step : {P : Type 0} (know : P → Know) (w w' : World P) (m : Mark) (b : P) → Extends w w' m b → ((x : ℕ) → w'.now.owner x ≡ Held m.event.process → HoldsPage (know b).holds x) → ((x : ℕ) (q : Name) → q ≢ m.event.process → w'.now.owner x ≡ Held q → w.now.owner x ≡ Held q) → AreOwned know w → (x : ℕ) (q : Name) → w'.now.owner x ≡ Held q → HoldsPage (know (w'.proc q)).holds x
 held_step know w w' m b e own others g x q h = elim (name_cases q m.event.process) [
   | inl i ↦ rw (i, e.proc.at) (own x (rw i at h))
   | inr i ↦ rw (e.proc.others q i) (g.held x q (others x q i h))

@@ -5,7 +5,7 @@ use Rattle.bl_page.specs.Machine.{Name, Owner, Act}
 use Rattle.bl_page.specs.Machine.Owner.{Released, Held, Retired}
 use Rattle.bl_page.specs.Machine.Act.{Latch}
 use Rattle.bl_tree.specs.Trees.Status.{Right, Fresh, Live, Gone, Anchored}
-use Rattle.bl_steps.specs.Worlds.{Know, World, Holds, IsGood, Extends, silent}
+use Rattle.bl_steps.specs.Worlds.{Know, World, HoldsPage, IsGood, Extends, silent}
 use Rattle.bl_steps.proofs.Ghosts.{Still, still_keeps, held_step}
 use Rattle.bl_steps.proofs.Watches.{Learns, SameGhost, learns_sure, may_say}
 
@@ -14,8 +14,8 @@ pub record Latches {P : Type 0} (know : P → Know) (w w' : World P) (p : Name) 
   pub extends : Extends w w' (silent p (Latch x)) b
   pub ghost : SameGhost w w'
   pub middle : (know b).middle ≡ (know (w.proc p)).middle
-  pub here : Holds (know b).holds x
-  pub places : (y : ℕ) → Holds (know (w.proc p)).holds y → Holds (know b).holds y
+  pub here : HoldsPage (know b).holds x
+  pub places : (y : ℕ) → HoldsPage (know (w.proc p)).holds y → HoldsPage (know b).holds y
   pub learns : Learns w w' (silent p (Latch x)) (know b)
 
 pub Latches-keeps : {P : Type 0} (know : P → Know) (w w' : World P) (p : Name) (x : ℕ) (b : P) → Latches know w w' p x b → IsGood know w → IsGood know w'
@@ -85,7 +85,7 @@ pub record Opens {P : Type 0} (know : P → Know) (w w' : World P) (p : Name) (x
   -- a page that p has marked dead it retires before it opens another
   pub no_dead : (y : ℕ) → w.status y ≡ Gone → w.now.owner y ≢ Held p
   pub middle : (know b).middle ≡ (know (w.proc p)).middle
-  pub places : (y : ℕ) → y ≢ x → Holds (know (w.proc p)).holds y → Holds (know b).holds y
+  pub places : (y : ℕ) → y ≢ x → HoldsPage (know (w.proc p)).holds y → HoldsPage (know b).holds y
   pub learns : Learns w w' (silent p (Act.Open x)) (know b)
 
 pub Opens-keeps : {P : Type 0} (know : P → Know) (w w' : World P) (p : Name) (x : ℕ) (b : P) → Opens know w w' p x b → IsGood know w → IsGood know w'

@@ -11,7 +11,7 @@ use Rattle.bl_tree.proofs.Statuses.{free_dead, fresh_dead, gone_dead, not_dead}
 use Rattle.bl_tree.proofs.Asides.{Aside-keeps}
 use Rattle.bl_laws.specs.Pages.{node_of, roots_of}
 use Rattle.bl_trails.specs.Trails.{Mark}
-use Rattle.bl_steps.specs.Worlds.{Know, World, nodes, tree_of, was_in, MapsTo, MayGet, IsSure, Holds, HasMiddle, IsGone, AreOwned, IsBounded, IsGood, Extends, silent}
+use Rattle.bl_steps.specs.Worlds.{Know, World, nodes, tree_of, was_in, MapsTo, MayGet, IsSure, HoldsPage, HasMiddle, IsGone, AreOwned, IsBounded, IsGood, Extends, silent}
 use Rattle.bl_trails.proofs.Pushes.{MaySay}
 use Rattle.bl_steps.proofs.Frames.{Leaves, all_sure}
 use Rattle.bl_steps.proofs.Steady.{Steady, was_live, free_not, may_still, passed_still, gone_still}
@@ -41,8 +41,8 @@ pub record Takes {P : Type 0} (know : P → Know) (w w' : World P) (p : Name) (x
   pub sep : w'.sep ≡ w.sep
   pub map : w'.map ≡ w.map
   pub middle : (know b).middle ≡ (know (w.proc p)).middle
-  pub here : Holds (know b).holds x
-  pub places : (y : ℕ) → Holds (know (w.proc p)).holds y → Holds (know b).holds y
+  pub here : HoldsPage (know b).holds x
+  pub places : (y : ℕ) → HoldsPage (know (w.proc p)).holds y → HoldsPage (know b).holds y
   pub own : IsSure w' p (know b)
 
 pub Takes-keeps : {P : Type 0} (know : P → Know) (w w' : World P) (p : Name) (x : ℕ) (b : P) → Takes know w w' p x b → IsGood know w → IsGood know w'
@@ -135,7 +135,7 @@ pub record Retires {P : Type 0} (know : P → Know) (w w' : World P) (p : Name) 
   pub sep : w'.sep ≡ w.sep
   pub map : w'.map ≡ w.map
   pub middle : (know b).middle ≡ (know (w.proc p)).middle
-  pub places : (y : ℕ) → y ≢ x → Holds (know (w.proc p)).holds y → Holds (know b).holds y
+  pub places : (y : ℕ) → y ≢ x → HoldsPage (know (w.proc p)).holds y → HoldsPage (know b).holds y
   pub own : IsSure w' p (know b)
 
 pub Retires-keeps : {P : Type 0} (know : P → Know) (w w' : World P) (p : Name) (x : ℕ) (b : P) → Retires know w w' p x b → IsGood know w → IsGood know w'
@@ -257,7 +257,7 @@ pub record Releases {P : Type 0} (know : P → Know) (w w' : World P) (p : Name)
   pub sep : w'.sep ≡ w.sep
   pub map : w'.map ≡ w.map
   pub middle : (know b).middle ≡ (know (w.proc p)).middle
-  pub places : (y : ℕ) → Holds (know (w.proc p)).holds y → Holds (know b).holds y
+  pub places : (y : ℕ) → HoldsPage (know (w.proc p)).holds y → HoldsPage (know b).holds y
   pub own : IsSure w' p (know b)
 
 pub Releases-keeps : {P : Type 0} (know : P → Know) (w w' : World P) (p : Name) (x : ℕ) (b : P) → Releases know w w' p x b → IsGood know w → IsGood know w'

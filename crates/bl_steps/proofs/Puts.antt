@@ -11,7 +11,7 @@ use Rattle.bl_tree.specs.Trees.{IsLive, IsTree}
 use Rattle.bl_tree.specs.Trees.Status.{Free, Fresh, Live, Right, Gone, Anchored}
 use Rattle.bl_laws.specs.Pages.{node_of}
 use Rattle.bl_trails.specs.Trails.{Said, HasSaid}
-use Rattle.bl_steps.specs.Worlds.{Child, Know, World, nodes, tree_of, was_in, MapsTo, IsRelied, IsSure, Holds, IsBounded, IsGood, Extends, put_mark}
+use Rattle.bl_steps.specs.Worlds.{Child, Know, World, nodes, tree_of, was_in, MapsTo, IsRelied, IsSure, HoldsPage, IsBounded, IsGood, Extends, put_mark}
 use Rattle.bl_trails.proofs.Pushes.{name_cases}
 use Rattle.bl_steps.proofs.Steady.{Steady, was_live, may_still, passed_still, gone_still}
 use Rattle.bl_steps.proofs.Records.{IsInner}
@@ -51,7 +51,7 @@ pub record Puts {P : Type 0} (know : P → Know) (w w' : World P) (p : Name) (x 
   pub no_dead : (y : ℕ) → w.now.owner y ≡ Held p → w.status y ≢ Gone
   pub middle : (a y : ℕ) → w.now.owner y ≡ Held p → w'.status y ≡ Right a → InMiddleOf know w w' p b a y
   pub relied : (q : Name) (c : Child) → q ≢ p → IsRelied w q c → w.now.owner c.at ≡ Held p → IsLive (w'.status c.at) × (w'.sep c.at ≡ w.sep c.at)
-  pub places : (y : ℕ) → Holds (know (w.proc p)).holds y → Holds (know b).holds y
+  pub places : (y : ℕ) → HoldsPage (know (w.proc p)).holds y → HoldsPage (know b).holds y
   pub point : (s : Said) → said ≡ Some s → ((since : ℕ) × (w.now.phase p ≡ Running since)) × HasSaid w.trail p None
   pub maps : MapsTo (w.map 0) (w'.map 0) said
   pub bounded : IsBounded (w'.map 0)

@@ -7,7 +7,7 @@ use Rattle.bl_page.specs.Machine.Owner.{Held}
 use Rattle.bl_page.specs.Machine.Phase.{Running}
 use Rattle.bl_page.specs.Machine.Act.{Begin, End, Get, Put, Take, Latch, Retire, Look, Release, Miss}
 use Rattle.bl_trails.specs.Trails.{Said, Mark, marks_of, HasSaid, IsPhase}
-use Rattle.bl_steps.specs.Worlds.{Know, World, MapsTo, Each, IsStage, IfKnown, IsHeld, IsGoes, IsRelied, IsPassed, IsSure, Holds, IsGood, Extends}
+use Rattle.bl_steps.specs.Worlds.{Know, World, MapsTo, Each, IsStage, IfKnown, IsHeld, IsGoes, IsRelied, IsPassed, IsSure, HoldsPage, IsGood, Extends}
 use Rattle.bl_trails.proofs.Pushes.{MaySay, marks_of-own}
 use Rattle.bl_steps.proofs.Frames.{Each-map}
 use Rattle.bl_steps.proofs.Steady.{may_still, passed_still}
@@ -109,7 +109,7 @@ pub record Watches {P : Type 0} (know : P → Know) (w w' : World P) (m : Mark) 
   pub watch : IsWatch m.event.act
   pub ghost : SameGhost w w'
   pub middle : (know b).middle ≡ (know (w.proc m.event.process)).middle
-  pub places : (x : ℕ) → Holds (know (w.proc m.event.process)).holds x → Holds (know b).holds x
+  pub places : (x : ℕ) → HoldsPage (know (w.proc m.event.process)).holds x → HoldsPage (know b).holds x
   pub point : (said : Said) → m.said ≡ Some said → ((since : ℕ) × (w.now.phase m.event.process ≡ Running since)) × HasSaid w.trail m.event.process None
   pub maps : MapsTo (w.map 0) (w.map 0) m.said
   pub learns : Learns w w' m (know b)

@@ -152,9 +152,9 @@ pub record IsSure {P : Type 0} (w : World P) (p : Name) (k : Know) : Type 0 wher
   pub sound : k.sound
   pub log : k.log (marks_of p w.trail)
 
-abbrev pub Holds : List Hold → ℕ → Type 0
-Holds [] x = ⊥
-Holds (h ∷ hs) x = (h.at ≡ x) ⊎ Holds hs x
+abbrev pub HoldsPage : List Hold → ℕ → Type 0
+HoldsPage [] x = ⊥
+HoldsPage (h ∷ hs) x = (h.at ≡ x) ⊎ HoldsPage hs x
 
 -- A process is in the middle of a compression: it holds the right page and the parent, which covers the right page's low.
 pub record HasMiddle {P : Type 0} (know : P → Know) (w : World P) (x y : ℕ) : Type 0 where
@@ -182,7 +182,7 @@ pub record AreOwned {P : Type 0} (know : P → Know) (w : World P) : Type 0 wher
   pub free : (x : ℕ) → w.status x ≡ Free → w.now.owner x ≡ Released
   pub opened : (x : ℕ) → w.now.owner x ≡ Owner.Open → (w.status x ≡ Live) ⊎ (w.status x ≡ Anchored)
   pub retired : (x time : ℕ) → w.now.owner x ≡ Retired time → (w.status x ≡ Gone) × (time < w.now.clock)
-  pub held : (x : ℕ) (p : Name) → w.now.owner x ≡ Held p → Holds (know (w.proc p)).holds x
+  pub held : (x : ℕ) (p : Name) → w.now.owner x ≡ Held p → HoldsPage (know (w.proc p)).holds x
   pub small : (x : ℕ) → w.status x ≢ Free → x < w.size
   pub one_anchor : (x : ℕ) → w.status x ≡ Anchored → x ≡ 0
 

@@ -1,5 +1,5 @@
 -- A sweep looks at each process word.
-use Rattle.std.proofs.Common.{◌≡◌, ◌≢◌, ℕ, zero, suc, ◌+◌, ◌-◌, ◌<◌, ◌≤◌, min, get_or, sym, refl, ap, ◌∙◌, subst, arith, le_refl}
+use Rattle.std.proofs.Common.{◌≡◌, ◌≢◌, ◌⊎◌, ℕ, zero, suc, ◌+◌, ◌-◌, ◌<◌, ◌≤◌, Bool, true, inl, inr, min, get_or, sym, refl, ap, ◌∙◌, subst, arith, le_refl}
 use mathlib.Core.Logic.{dite}
 use mathlib.Core.Option.{none}
 use native.Mathlib.Decide.{ℕ_discrete}
@@ -77,3 +77,8 @@ module _ {D : Type 0} (l : Layout) (first : D) (holds : Pages D → Type 0) wher
         silent_load l first holds st r i id me.1 me.0 me.0.puts me.0.retires (Over (lower m n) (k + 1)) me.0.seen me.0.got r.budgets at live r.budgeted (λ j _. refl) mine.budget further,
         (((refl, refl, refl, refl), refl, (refl, refl, refl), refl), refl, λ m' k' e equal. let is_k : k ≡ k' = omega arith in let is_m : m ≡ m' = ap time_of (sym is ∙ e) in λ z. Over (lower (is_m z) n) (is_k z + 1)),
       )
+
+-- how many pages were released by some releases, and then by one more, which may have been of a page
+pub counts_on : {D : Type 0} (then : D → ℕ → D → Type 0) (d e f now : D) (result : Bool) (many total : ℕ) → ((e f : D) (k : ℕ) → then d k e → then e 1 f → then d (k + 1) f) → now ≡ f → many ≤ total → (result ≡ true → many + 1 ≤ total) → (pages : ℕ) × (pages ≤ many) × then d pages e → ((result ≡ true) × then e 1 f) ⊎ (f ≡ e) → (pages : ℕ) × (pages ≤ total) × then d pages now
+counts_on then d e f now result many total on is le one was (inl by) = (was.0 + 1, (let up = one by.0 in omega arith), subst (then d (was.0 + 1)) (sym is) (on e f was.0 was.2 by.1))
+counts_on then d e f now result many total on is le one was (inr same) = (was.0, (let low = was.1 in omega arith), subst (then d was.0) (sym (is ∙ same)) was.2)

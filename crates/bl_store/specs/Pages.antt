@@ -123,6 +123,6 @@ module _ {D : Type 0} (holds : Pages D → Type 0) (l : Layout) (n : ℕ) (d : D
   Releases x time then = (s : Pages D) (st : Stage) (words : List ℕ) → holds s → IsOrderly l s → Stands s n st d → IsPage s x words (Retired time) → AllBeganAfter s time
       → (d' : D) × holds (told (owned s x Released) n st d') × then d'
 
--- Any number of releases by the hand n, in their order: what they tell goes on from one to the next.
-abbrev pub Sweeps : {D : Type 0} → (Pages D → Type 0) → Layout → ℕ → D → (D → D → Type 0) → Type 0
-Sweeps {D} holds l n d then = then d d × ((e f : D) → then d e → then e f → then d f) × ((e : D) (x time : ℕ) → then d e → Releases holds l n e x time (then e))
+-- Any number of releases by the hand n, in their order: what they tell goes on from one to the next, and counts the pages.
+abbrev pub ReleasesMany : {D : Type 0} → (Pages D → Type 0) → Layout → ℕ → D → (D → ℕ → D → Type 0) → Type 0
+ReleasesMany {D} holds l n d then = then d 0 d × ((e f : D) (k : ℕ) → then d k e → then e 1 f → then d (k + 1) f) × ((e : D) (k x time : ℕ) → then d k e → Releases holds l n e x time (then e 1))

@@ -171,7 +171,7 @@ pub(crate) struct Free<M> {
 }
 
 impl<D, M: SweepPlay<D>> Play<(), View<D>> for Free<M> {
-    ghost then = { freed M.then };
+    ghost then = { freed (λ d e. M.then d 1 e) };
 }
 
 pub(crate) struct Met<M> {

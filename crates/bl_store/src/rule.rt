@@ -34,6 +34,6 @@ pub trait MeetPlay<D> {
 
 /// What the releases of a sweep tell its hand.
 pub trait SweepPlay<D> {
-    // Of what the hand knew at the call, and what it knows after some of the releases.
-    ghost then: { D → D → Type 0 };
+    // Of what the hand knew at the call, how many pages were released since, and what it knows then.
+    ghost then: { D → ℕ → D → Type 0 };
 }

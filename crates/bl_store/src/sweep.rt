@@ -1,7 +1,7 @@
 //! Sweeps: pages and frames that no process can read any more are released.
 ghost use Rattle.std.specs.Prelude.{◌≡◌, ◌⊎◌, ℕ, ◌+◌, ◌*◌, ◌/◌, ◌%◌, ◌<◌, ◌≤◌, true, false, List, length};
 ghost use Rattle.bl_layout.specs.Words.{frame_count};
-ghost use Rattle.bl_store.specs.Pages.{Releases, Sweeps};
+ghost use Rattle.bl_store.specs.Pages.{Releases, ReleasesMany};
 ghost use Rattle.bl_store.specs.Hands.{known, IsOf, IsSameHand, IsSameStage, IsSameStock};
 ghost use Rattle.bl_store.specs.declared.view.Sweep.TheVariants.{Over};
 
@@ -29,15 +29,16 @@ fn behind(first: u32, steps: u32, many: u32) -> u32
 }
 
 impl<D, R: PageRule<D>, A: Allocator> Store<D, R, A> {
-    /// Releases pages and frames that were retired before each process began that still runs. Returns how many.
+    /// Releases pages and frames that were retired before each process began that still runs. Returns how many; so the pages
+    /// of which the hand is told are no more.
     ///
     /// It looks at 64 owner words, or all where there are fewer, from where the hand's last sweep ended, and then
     /// once at each process word, if it found anything retired.
     pub fn sweep<M: SweepPlay<D>>(&self, hand: &mut Hand<D>) -> u32
         requires own { IsOf self.now.table.shared.table_id self.now.layout hand.old.seat }
-        requires rule { Sweeps R.holds self.now.layout hand.old.number (known hand.old.seat) M.then }
+        requires rule { ReleasesMany R.holds self.now.layout hand.old.number (known hand.old.seat) M.then }
         ensures same { IsSameHand hand.old.seat hand.new.seat × IsSameStage hand.old.seat hand.new.seat × IsSameStock hand.old.seat hand.new.seat }
-        ensures told { M.then (known hand.old.seat) (known hand.new.seat) }
+        ensures told { (pages : ℕ) × (pages ≤ result) × M.then (known hand.old.seat) pages (known hand.new.seat) }
         ensures count { hand.new.seat.me.0.releases ≡ hand.old.seat.me.0.releases + result }
     {
         hand.unswept = 0;
@@ -153,9 +154,9 @@ impl<D, R: PageRule<D>, A: Allocator> Store<D, R, A> {
         requires at { at < self.now.layout.pages + frame_count self.now.layout }
         requires state { (state % 4 ≡ 3) × (state / 4 < oldest) }
         requires swept { hand.old.seat.me.0.sweep ≡ Over oldest self.now.layout.passes }
-        requires rule { (x time : ℕ) → Releases R.holds self.now.layout hand.old.number (known hand.old.seat) x time (M.then (known hand.old.seat)) }
+        requires rule { (x time : ℕ) → Releases R.holds self.now.layout hand.old.number (known hand.old.seat) x time (M.then (known hand.old.seat) 1) }
         ensures same { IsSameHand hand.old.seat hand.new.seat × IsSameStage hand.old.seat hand.new.seat × IsSameStock hand.old.seat hand.new.seat × (hand.new.seat.me.0.sweep ≡ hand.old.seat.me.0.sweep) }
-        ensures told { M.then (known hand.old.seat) (known hand.new.seat) ⊎ (known hand.new.seat ≡ known hand.old.seat) }
+        ensures told { ((result ≡ true) × M.then (known hand.old.seat) 1 (known hand.new.seat)) ⊎ (known hand.new.seat ≡ known hand.old.seat) }
         ensures yes { result ≡ true → hand.new.seat.me.0.releases ≡ hand.old.seat.me.0.releases + 1 }
         ensures no { result ≡ false → hand.new.seat.me.0.releases ≡ hand.old.seat.me.0.releases }
     {

@@ -9,7 +9,7 @@ use Rattle.bl_tree.specs.Trees.{Status}
 use Rattle.bl_page.specs.Machine.Owner.{Released, Held}
 use Rattle.bl_tree.specs.Trees.Status.{Fresh, Live, Gone, Anchored}
 use Rattle.bl_trails.specs.Trails.{Said, Mark, Saw, Answered, HasSaid}
-use Rattle.bl_steps.specs.Worlds.{Hold, Know, World, MapsTo, Each, Holds, IsHeld, IsSure, IsGood, silent}
+use Rattle.bl_steps.specs.Worlds.{Hold, Know, World, MapsTo, Each, HoldsPage, IsHeld, IsSure, IsGood, silent}
 use Rattle.bl_steps.proofs.Watches.{Learns, IsWatch, Watches-keeps}
 use Rattle.bl_steps.proofs.Latches.{Latches-keeps, Opens-keeps}
 use Rattle.bl_steps.proofs.Ends.{Begins-keeps, Finishes-keeps}
@@ -18,7 +18,7 @@ use Rattle.bl_steps.proofs.After.{after, Extends-after, put_at, is_put_at}
 use Rattle.bl_tables.specs.Turns.{Does, Turned}
 
 -- what is said of the status of each page that a list has, holds of the status of each page in the list
-pub held_status : {P : Type 0} (w : World P) (p : Name) (S : ℕ → Status → Type 0) (holds : List Hold) (y : ℕ) → Each (IsHeld w p) holds → Each (λ h. S h.at h.status) holds → Holds holds y → S y (w.status y)
+pub held_status : {P : Type 0} (w : World P) (p : Name) (S : ℕ → Status → Type 0) (holds : List Hold) (y : ℕ) → Each (IsHeld w p) holds → Each (λ h. S h.at h.status) holds → HoldsPage holds y → S y (w.status y)
 held_status w p S [] y is all h = absurd h
 held_status w p S (a ∷ rest) y is all h = elim h [
   | inl e ↦ subst (λ z. S z (w.status z)) e (subst (S a.at) (sym is.0.status) all.0)
@@ -30,7 +30,7 @@ module _ {P : Type 0} (know : P → Know) (w : World P) (g : IsGood know w) (p :
   sure = rw before at (g.sure p)
 
   -- it gets a page, looks, or misses
-  pub watched : (a : Act Page Reply) (saw : Option Page) (said : Option Said) (s : State Page) → IsWatch a → Enabled w.now p a → Does w.now p a s → Saw w.now a saw → k'.middle ≡ k.middle → ((x : ℕ) → Holds k.holds x → Holds k'.holds x) → ((it : Said) → said ≡ Some it → ((since : ℕ) × (w.now.phase p ≡ Running since)) × HasSaid w.trail p None) → MapsTo (w.map 0) (w.map 0) said → Learns w (after w s (record { event = record { process = p; act = a }; saw = saw; said = said }) b w.status w.sep w.map) (record { event = record { process = p; act = a }; saw = saw; said = said }) k' → Turned know w p a s b
+  pub watched : (a : Act Page Reply) (saw : Option Page) (said : Option Said) (s : State Page) → IsWatch a → Enabled w.now p a → Does w.now p a s → Saw w.now a saw → k'.middle ≡ k.middle → ((x : ℕ) → HoldsPage k.holds x → HoldsPage k'.holds x) → ((it : Said) → said ≡ Some it → ((since : ℕ) × (w.now.phase p ≡ Running since)) × HasSaid w.trail p None) → MapsTo (w.map 0) (w.map 0) said → Learns w (after w s (record { event = record { process = p; act = a }; saw = saw; said = said }) b w.status w.sep w.map) (record { event = record { process = p; act = a }; saw = saw; said = said }) k' → Turned know w p a s b
   watched a saw said s watch can does saw_it middle places point maps learns =
       let m : Mark = record { event = record { process = p; act = a }; saw = saw; said = said } in
       let next : World P = after w s m b w.status w.sep w.map in
@@ -61,7 +61,7 @@ module _ {P : Type 0} (know : P → Know) (w : World P) (g : IsGood know w) (p :
   not_gone all y o = of_held (λ z a. a ≢ Gone) all y o
 
   -- it latches a page
-  pub latched : (x : ℕ) (s : State Page) → w.now.owner x ≡ Owner.Open → Does w.now p (Latch x) s → k'.middle ≡ k.middle → Holds k'.holds x → ((y : ℕ) → Holds k.holds y → Holds k'.holds y) → Learns w (after w s (silent p (Latch x)) b w.status w.sep w.map) (silent p (Latch x)) k' → Turned know w p (Latch x) s b
+  pub latched : (x : ℕ) (s : State Page) → w.now.owner x ≡ Owner.Open → Does w.now p (Latch x) s → k'.middle ≡ k.middle → HoldsPage k'.holds x → ((y : ℕ) → HoldsPage k.holds y → HoldsPage k'.holds y) → Learns w (after w s (silent p (Latch x)) b w.status w.sep w.map) (silent p (Latch x)) k' → Turned know w p (Latch x) s b
   latched x s can does middle here places learns =
       let next : World P = after w s (silent p (Latch x)) b w.status w.sep w.map in
       let extends = Extends-after w s (silent p (Latch x)) b w.status w.sep w.map (record { enabled = can; changes = does.changes; on = does.on }) tt in
@@ -82,7 +82,7 @@ module _ {P : Type 0} (know : P → Know) (w : World P) (g : IsGood know w) (p :
       }
 
   -- it opens a page
-  pub opened : (x : ℕ) (s : State Page) → w.now.owner x ≡ Held p → Does w.now p (Act.Open x) s → (w.status x ≡ Live) ⊎ (w.status x ≡ Anchored) → k.middle ≡ None → k'.middle ≡ None → Each (λ h. h.status ≢ Gone) k.holds → ((y : ℕ) → y ≢ x → Holds k.holds y → Holds k'.holds y) → Learns w (after w s (silent p (Act.Open x)) b w.status w.sep w.map) (silent p (Act.Open x)) k' → Turned know w p (Act.Open x) s b
+  pub opened : (x : ℕ) (s : State Page) → w.now.owner x ≡ Held p → Does w.now p (Act.Open x) s → (w.status x ≡ Live) ⊎ (w.status x ≡ Anchored) → k.middle ≡ None → k'.middle ≡ None → Each (λ h. h.status ≢ Gone) k.holds → ((y : ℕ) → y ≢ x → HoldsPage k.holds y → HoldsPage k'.holds y) → Learns w (after w s (silent p (Act.Open x)) b w.status w.sep w.map) (silent p (Act.Open x)) k' → Turned know w p (Act.Open x) s b
   opened x s can does named none none' alive places learns =
       let next : World P = after w s (silent p (Act.Open x)) b w.status w.sep w.map in
       let extends = Extends-after w s (silent p (Act.Open x)) b w.status w.sep w.map (record { enabled = can; changes = does.changes; on = does.on }) tt in
@@ -105,7 +105,7 @@ module _ {P : Type 0} (know : P → Know) (w : World P) (g : IsGood know w) (p :
       }
 
   -- it takes a page
-  pub taken : (y : ℕ) (s : State Page) → w.now.owner y ≡ Released → y < w.size → Does w.now p (Take y) s → k'.middle ≡ k.middle → Holds k'.holds y → ((x : ℕ) → Holds k.holds x → Holds k'.holds x) → IsSure (after w s (silent p (Take y)) b (put_at y Fresh w.status) w.sep w.map) p k' → Turned know w p (Take y) s b
+  pub taken : (y : ℕ) (s : State Page) → w.now.owner y ≡ Released → y < w.size → Does w.now p (Take y) s → k'.middle ≡ k.middle → HoldsPage k'.holds y → ((x : ℕ) → HoldsPage k.holds x → HoldsPage k'.holds x) → IsSure (after w s (silent p (Take y)) b (put_at y Fresh w.status) w.sep w.map) p k' → Turned know w p (Take y) s b
   taken y s can within does middle here places own =
       let next : World P = after w s (silent p (Take y)) b (put_at y Fresh w.status) w.sep w.map in
       let extends = Extends-after w s (silent p (Take y)) b (put_at y Fresh w.status) w.sep w.map (record { enabled = can; changes = does.changes; on = does.on }) tt in
@@ -129,7 +129,7 @@ module _ {P : Type 0} (know : P → Know) (w : World P) (g : IsGood know w) (p :
       }
 
   -- it begins
-  pub began : (s : State Page) → w.now.phase p ≡ Phase.Waiting → Does w.now p Begin s → k'.middle ≡ k.middle → ((x : ℕ) → Holds k.holds x → Holds k'.holds x) → IsSure (after w s (silent p Begin) b w.status w.sep w.map) p k' → Turned know w p Begin s b
+  pub began : (s : State Page) → w.now.phase p ≡ Phase.Waiting → Does w.now p Begin s → k'.middle ≡ k.middle → ((x : ℕ) → HoldsPage k.holds x → HoldsPage k'.holds x) → IsSure (after w s (silent p Begin) b w.status w.sep w.map) p k' → Turned know w p Begin s b
   began s can does middle places own =
       let next : World P = after w s (silent p Begin) b w.status w.sep w.map in
       let extends = Extends-after w s (silent p Begin) b w.status w.sep w.map (record { enabled = can; changes = does.changes; on = does.on }) tt in
@@ -149,7 +149,7 @@ module _ {P : Type 0} (know : P → Know) (w : World P) (g : IsGood know w) (p :
       }
 
   -- it ends
-  pub finished : (reply : Option Reply) (s : State Page) → Enabled w.now p (End reply) → Does w.now p (End reply) s → Answered w.trail p reply → k'.middle ≡ k.middle → ((x : ℕ) → Holds k.holds x → Holds k'.holds x) → IsSure (after w s (silent p (End reply)) b w.status w.sep w.map) p k' → Turned know w p (End reply) s b
+  pub finished : (reply : Option Reply) (s : State Page) → Enabled w.now p (End reply) → Does w.now p (End reply) s → Answered w.trail p reply → k'.middle ≡ k.middle → ((x : ℕ) → HoldsPage k.holds x → HoldsPage k'.holds x) → IsSure (after w s (silent p (End reply)) b w.status w.sep w.map) p k' → Turned know w p (End reply) s b
   finished reply s can does told middle places own =
       let next : World P = after w s (silent p (End reply)) b w.status w.sep w.map in
       let extends = Extends-after w s (silent p (End reply)) b w.status w.sep w.map (record { enabled = can; changes = does.changes; on = does.on }) tt in

@@ -11,7 +11,7 @@ use Rattle.bl_tree.specs.Moves.{IsAtTwo, IsJoin, IsLeftGain, IsRightGain}
 use Rattle.bl_laws.specs.Pages.{node_of}
 use Rattle.bl_trails.specs.Trails.{Mark}
 use Rattle.bl_trails.proofs.Pushes.{HasSaid-silent}
-use Rattle.bl_steps.specs.Worlds.{Know, World, nodes, Holds, IsSure, IsGood, silent, put_mark}
+use Rattle.bl_steps.specs.Worlds.{Know, World, nodes, HoldsPage, IsSure, IsGood, silent, put_mark}
 use Rattle.bl_steps.proofs.After.{after, Extends-after, put_at, is_put_at}
 use Rattle.bl_steps.proofs.Outside.{Retires-keeps}
 use Rattle.bl_puts.specs.Puts.{Owes}

@@ -6,7 +6,7 @@ use Rattle.bl_page.specs.Machine.{Name, State, Act}
 use Rattle.bl_page.specs.Machine.Act.{Get}
 use Rattle.bl_trails.specs.Trails.{Mark}
 use Rattle.bl_trails.proofs.Pushes.{HasSaid-silent}
-use Rattle.bl_steps.specs.Worlds.{Holds, Know, World, nodes, MapsTo, IsSure, IsGood, silent}
+use Rattle.bl_steps.specs.Worlds.{HoldsPage, Know, World, nodes, MapsTo, IsSure, IsGood, silent}
 use Rattle.bl_descents.proofs.Descents.{held_leaf_says, not_released}
 use Rattle.bl_tree.proofs.Statuses.{live_live}
 use Rattle.bl_ways.specs.declared.acts.Seen.{Seen}
@@ -68,7 +68,7 @@ module _ {P : Type 0} (know : P → Know) (w : World P) (g : IsGood know w) (p :
       let aim = delete_aim key removed in
       let page = w.now.contents x in
       watched know w g p b _ _ before then (Get x) (Some page) None s tt (is.stage, not_released know w g p x is.goes.0.may) does refl (change_middle aim (λ z. page) c)
-      (λ y h. elim h [ inl e ↦ subst (λ z. Holds (know_change aim (λ u. page) c).holds z) e (drops_places aim x key page c drops) | inr n ↦ absurd n ]) (λ it e. cc) (λ k. refl)
+      (λ y h. elim h [ inl e ↦ subst (λ z. HoldsPage (know_change aim (λ u. page) c).holds z) e (drops_places aim x key page c drops) | inr n ↦ absurd n ]) (λ it e. cc) (λ k. refl)
       (drops_learns w _ p (Get x) (Some page) aim x page c (record {
         stage = is.stage;
         said = is.said;

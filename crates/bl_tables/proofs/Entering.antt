@@ -6,7 +6,7 @@ use Rattle.bl_page.specs.Machine.Owner.{Held}
 use Rattle.bl_tree.specs.Trees.Status.{Live}
 use Rattle.bl_trails.specs.Trails.{HasSaid}
 use Rattle.bl_trails.proofs.Pushes.{HasSaid-silent}
-use Rattle.bl_steps.specs.Worlds.{Stage, World, Each, IsStage, IsRelied, Holds}
+use Rattle.bl_steps.specs.Worlds.{Stage, World, Each, IsStage, IsRelied, HoldsPage}
 use Rattle.bl_steps.proofs.Watches.{Learns}
 use Rattle.bl_puts.proofs.Fitted.{fits_row, without_row}
 use Rattle.bl_ways.specs.declared.changing.Change.{Change}
@@ -68,7 +68,7 @@ drops_learns w w' p a saw aim x c (OpeningNew y z s) h is e = absurd e
 drops_learns w w' p a saw aim x c (Opening y o) h is e = absurd e
 
 -- a change begins with the page that it holds, and with no other
-pub enters_places : (aim : Aim) (x word key : ℕ) (c : Page) (change : Change) → EntersPair x c key word change → Holds (know_change aim (λ z. c) change).holds x
+pub enters_places : (aim : Aim) (x word key : ℕ) (c : Page) (change : Change) → EntersPair x c key word change → HoldsPage (know_change aim (λ z. c) change).holds x
 enters_places aim x word key c (Putting y page) e = inl e.0
 enters_places aim x word key c (Taking full) e = inl e.0
 enters_places aim x word key c (PuttingNew t) e = absurd e
@@ -76,7 +76,7 @@ enters_places aim x word key c (PuttingOld t) e = absurd e
 enters_places aim x word key c (OpeningNew y z s) e = absurd e
 enters_places aim x word key c (Opening y o) e = absurd e
 
-pub drops_places : (aim : Aim) (x key : ℕ) (c : Page) (change : Change) → DropsPair x c key change → Holds (know_change aim (λ z. c) change).holds x
+pub drops_places : (aim : Aim) (x key : ℕ) (c : Page) (change : Change) → DropsPair x c key change → HoldsPage (know_change aim (λ z. c) change).holds x
 drops_places aim x key c (Putting y page) e = inl e.0
 drops_places aim x key c (Taking full) e = absurd e
 drops_places aim x key c (PuttingNew t) e = absurd e

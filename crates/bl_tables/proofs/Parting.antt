@@ -10,7 +10,7 @@ use Rattle.bl_tree.specs.Trees.Status.{Fresh, Live, Left, Right, Gone}
 use Rattle.bl_tree.specs.Moves.{IsAtTwo, IsRightLoss, IsLeftLoss}
 use Rattle.bl_laws.specs.Pages.{node_of}
 use Rattle.bl_trails.proofs.Pushes.{HasSaid-silent}
-use Rattle.bl_steps.specs.Worlds.{Hold, Know, World, nodes, IsHeld, IsSure, IsGood, Holds, put_mark}
+use Rattle.bl_steps.specs.Worlds.{Hold, Know, World, nodes, IsHeld, IsSure, IsGood, HoldsPage, put_mark}
 use Rattle.bl_steps.proofs.After.{after, Extends-after, put_at}
 use Rattle.bl_puts.specs.Compressions.{Parts}
 use Rattle.bl_puts.proofs.Partings.{PutsRightLoss-keeps, PutsLeftLoss-keeps, PutsDead-keeps}
@@ -62,7 +62,7 @@ module _ {P : Type 0} (know : P → Know) (w : World P) (g : IsGood know w) (p :
   right_held : (z : ℕ) (c : Page) (a : Status) → Does w.now p (Put z c) s → IsHeld (next z c a) p (record { at = u.at.right; status = a; sep = None; page = None })
   right_held z c a does = record { owner = does.changes.1 u.at.right ∙ sure.holds.1.1.0.owner; status = (two a).at_two; sep = tt; page = tt }
 
-  parts : (z : ℕ) (c : Page) (a : Status) → w.now.owner z ≡ Owner.Held p → Does w.now p (Put z c) s → ((v : ℕ) → Holds (know (w.proc p)).holds v → Holds (know b).holds v) → IsSure (next z c a) p (know b) → (nodes w.now u.at.left).shape.level ≡ (nodes w.now u.at.right).shape.level → (nodes w.now u.at.left).shape.low < (nodes w.now u.at.right).shape.low → Parts know w (next z c a) p u.at.parent u.at.left u.at.right z c b
+  parts : (z : ℕ) (c : Page) (a : Status) → w.now.owner z ≡ Owner.Held p → Does w.now p (Put z c) s → ((v : ℕ) → HoldsPage (know (w.proc p)).holds v → HoldsPage (know b).holds v) → IsSure (next z c a) p (know b) → (nodes w.now u.at.left).shape.level ≡ (nodes w.now u.at.right).shape.level → (nodes w.now u.at.left).shape.low < (nodes w.now u.at.right).shape.low → Parts know w (next z c a) p u.at.parent u.at.left u.at.right z c b
   parts z c a held does places own same below = record {
     owes = record {
       extends = Extends-after w s (put_mark p z c None) b (put_at u.at.right a (put_at u.at.left Live w.status)) w.sep w.map (record { enabled = held; changes = does.changes; on = does.on }) tt;

@@ -10,7 +10,7 @@ use Rattle.bl_tree.specs.Trees.{IsChild}
 use Rattle.bl_laws.specs.Pages.{node_of}
 use Rattle.bl_trails.specs.Trails.{Mark}
 use Rattle.bl_trails.proofs.Pushes.{HasSaid-silent}
-use Rattle.bl_steps.specs.Worlds.{Holds, Stage, Know, World, nodes, tree_of, IsGoes, IsSure, IsGood}
+use Rattle.bl_steps.specs.Worlds.{HoldsPage, Stage, Know, World, nodes, tree_of, IsGoes, IsSure, IsGood}
 use Rattle.bl_descents.proofs.Descents.{goes_down, not_released, anchor_not_released}
 use Rattle.bl_descents.proofs.Children.{child_found}
 use Rattle.bl_ways.specs.declared.acts.Seen.{Seen}
@@ -224,7 +224,7 @@ module _ {P : Type 0} (know : P → Know) (w : World P) (g : IsGood know w) (p :
         let above : (nodes w.now v.at).shape.level ≡ suc (nodes w.now v.child).shape.level = (let lo = to.least in let hi = to.most in omega (arith, level_is, least)) in
         let found = child_found know w p v.at v.child key g held.owner held.status covers above (rw before refl) to.may t.0.0 (t.1 ∙ key_is) in
         watched know w g p b _ _ before then (Get v.child) (Some (w.now.contents v.child)) None s tt (is.stage, not_released know w g p v.child to.may) does refl (change_middle aim (λ z. page) c)
-        (λ y h. elim h [ inl e ↦ subst (λ z. Holds (know_change aim (λ u. page) c).holds z) e (enters_places aim v.at v.child key page c enters) | inr n ↦ absurd n ]) (λ it e. cc) (λ k. refl)
+        (λ y h. elim h [ inl e ↦ subst (λ z. HoldsPage (know_change aim (λ u. page) c).holds z) e (enters_places aim v.at v.child key page c enters) | inr n ↦ absurd n ]) (λ it e. cc) (λ k. refl)
         (enters_learns w _ p (Get v.child) (Some (w.now.contents v.child)) aim v.at v.child page c (record {
           stage = is.stage;
           said = is.said;

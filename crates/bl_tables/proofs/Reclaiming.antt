@@ -22,7 +22,7 @@ use Rattle.bl_proc.specs.declared.reclaiming.Round.{Round}
 use Rattle.bl_proc.specs.declared.reclaiming.ReclaimStage.{ReclaimStage}
 use Rattle.bl_proc.specs.declared.reclaiming.ReclaimStage.TheVariants.{Seeing, Looking, Releasing, Over}
 use Rattle.bl_proc.specs.Reclaims.{reclaim_next_in, GoesPast, ReclaimGoes}
-use Rattle.bl_tables.specs.Turns.{numbered, event_of, IsSeen, IsShown, Does, Turned}
+use Rattle.bl_tables.specs.Turns.{numbered, event_of, IsOwnerShown, IsShown, Does, Turned}
 use Rattle.bl_tables.specs.Tables.{idle}
 use Rattle.bl_tables.specs.Knowing.{looks, round, all, know_reclaim, retired_since, reclaim_time}
 use Rattle.bl_tables.proofs.Acts.{watched}
@@ -61,7 +61,7 @@ module _ {P : Type 0} (know : P → Know) (w : World P) (g : IsGood know w) (p :
       (record { stage = is.stage; said = HasSaid-silent w.trail m p None refl is.said; holds = tt; goes = tt; children = tt; passed = passed; sound = tt; log = tt })
 
   -- it saw the page retired
-  first_round : (time started own : ℕ) (passed : Passed) → ((q : Name) → q.number ≡ 0 → 0 < q.pass → q.pass ≤ started → q.pass ≢ own → IsAhead passed q) → passed.time ≡ retired_since (w.now.owner page) time → w.now.phase p ≡ Waiting → IsSeen w.now p page true started own → IsPassed w (Some passed)
+  first_round : (time started own : ℕ) (passed : Passed) → ((q : Name) → q.number ≡ 0 → 0 < q.pass → q.pass ≤ started → q.pass ≢ own → IsAhead passed q) → passed.time ≡ retired_since (w.now.owner page) time → w.now.phase p ≡ Waiting → IsOwnerShown w.now p page true started own → IsPassed w (Some passed)
   first_round time started own passed ahead same waits shown =
       let kept = shown.is_retired refl in
       let when : passed.time ≡ kept.0 = same ∙ ap (λ o. retired_since o time) kept.1 in

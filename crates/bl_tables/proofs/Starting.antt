@@ -5,7 +5,7 @@ use Rattle.bl_page.specs.Machine.Phase.{Waiting}
 use Rattle.bl_trails.specs.Moments.{HasLaws}
 use Rattle.bl_trails.specs.Trails.{marks_of, HasSaid}
 use Rattle.bl_trails.proofs.Pushes.{name_cases}
-use Rattle.bl_steps.specs.Worlds.{Know, World, Holds, IsHeld, IsGoes, IsRelied, IsSure, IsGood, IsPassed, MayGet}
+use Rattle.bl_steps.specs.Worlds.{Know, World, HoldsPage, IsHeld, IsGoes, IsRelied, IsSure, IsGood, IsPassed, MayGet}
 use Rattle.bl_steps.proofs.Frames.{Each-map}
 use Rattle.bl_steps.proofs.After.{put_name, is_put_name}
 use Rattle.bl_starts.specs.Blank.{IsBlank}
@@ -58,7 +58,7 @@ bare_enters_good w p b g waiting old new =
         opened = g.owned.opened;
         retired = g.owned.retired;
         held = λ x q o. elim (name_cases q p) [
-          | inl e ↦ absurd (subst (λ hs. Holds hs x) (ap (λ n. (bare (w.proc n)).holds) e ∙ old.holds) (g.owned.held x q o))
+          | inl e ↦ absurd (subst (λ hs. HoldsPage hs x) (ap (λ n. (bare (w.proc n)).holds) e ∙ old.holds) (g.owned.held x q o))
           | inr n ↦ rw (put.others q n) (g.owned.held x q o)
         ];
         small = g.owned.small;
@@ -85,7 +85,7 @@ bare_enters_good w p b g waiting old new =
       middles = λ x y e.
           let m = g.middles x y e in
           let is : (bare (put_name p b w.proc m.by)).middle ≡ Some (record { parent = m.parent; left = x; right = y }) = elim (name_cases m.by p) [
-            | inl i ↦ absurd (subst (λ hs. Holds hs y) (ap (λ n. (bare (w.proc n)).holds) i ∙ old.holds) (g.owned.held y m.by m.held))
+            | inl i ↦ absurd (subst (λ hs. HoldsPage hs y) (ap (λ n. (bare (w.proc n)).holds) i ∙ old.holds) (g.owned.held y m.by m.held))
             | inr n ↦ ap (λ r. (bare r).middle) (put.others m.by n) ∙ m.is
           ] in
           record {

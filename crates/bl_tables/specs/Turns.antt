@@ -42,7 +42,7 @@ IsTold s size action what = Unit {0}
 
 -- What p was told of the owner of x: if that is retired, the page is; and each process that runs has a number up to that of
 -- the last that was started.
-pub record IsSeen (s : State Page) (p : Name) (x : ℕ) (retired : Bool) (started own : ℕ) : Type 0 where
+pub record IsOwnerShown (s : State Page) (p : Name) (x : ℕ) (retired : Bool) (started own : ℕ) : Type 0 where
   pub is_retired : retired ≡ true → (time : ℕ) × (s.owner x ≡ Retired time)
   pub is_own : p ≡ numbered own
   pub among : (q : Name) (since : ℕ) → s.phase q ≡ Running since → (number : ℕ) × (0 < number) × (number ≤ started) × (q ≡ numbered number)
@@ -50,7 +50,7 @@ pub record IsSeen (s : State Page) (p : Name) (x : ℕ) (retired : Bool) (starte
 -- What it was told of owners and of processes is true, where it saw a page retired at that time: a process that does not
 -- block, if it runs, began after that; and a page that is released is retired since then.
 abbrev pub IsShown : State Page → Name → ℕ → Action → Seen → Type 0
-IsShown s p time (act.See x) (seen.Owner retired started own) = IsSeen s p x retired started own
+IsShown s p time (act.See x) (seen.Owner retired started own) = IsOwnerShown s p x retired started own
 IsShown s p time (act.Look q) (seen.Blocks blocks) = blocks ≡ false → (since : ℕ) → s.phase (numbered q) ≡ Running since → time < since
 IsShown s p time (act.Release x) seen.Done = s.owner x ≡ Retired time
 IsShown s p time action what = Unit {0}

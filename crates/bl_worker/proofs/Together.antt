@@ -25,8 +25,8 @@ adds_as pass it old new e a = subst (λ (z : ℕ). Adds z old new) e a
 pub call_adds : (pass it : ℕ) (old new : Trail) → it ≡ pass → AddsIn it old new → Adds pass old new
 call_adds pass it old new e a = adds_as pass it old new e (record { begins = (_, a.holds.begins); seen = λ s. a.seen; none = a.none })
 
-pub sweep_adds : (pass it : ℕ) (old new : Trail) → it ≡ pass → Sweeps it old new → Adds pass old new
-sweep_adds pass it old new e s = adds_as pass it old new e (record { begins = (s.more, s.begins); seen = s.seen; none = s.none })
+pub sweep_adds : (pass it answer : ℕ) (old new : Trail) → it ≡ pass → Sweeps it answer old new → Adds pass old new
+sweep_adds pass it answer old new e s = adds_as pass it old new e (record { begins = (s.more, s.begins); seen = s.seen; none = s.none })
 
 pub call_works : (pass it : ℕ) (op : Op) (reply : Reply) (old new : Trail) → it ≡ pass → Answers it op reply old new → Works pass op reply old new
 call_works pass it op reply old new e a = subst (λ (z : ℕ). Works z op reply old new) e (record { begins = (_, a.holds.begins); seen = a.seen; once = a.once })

@@ -41,7 +41,7 @@ use Rattle.bl_world.specs.Views.{View, name_of}
 use Rattle.bl_world.specs.Deeds.{Way}
 use Rattle.bl_world.specs.Retirements.{MeansReclaimed}
 use Rattle.bl_world.specs.declared.turns.Event.{Event}
-use Rattle.bl_world.specs.Accounts.{op_of, HasEnd, Answers, IsOwn, Account, Continues}
+use Rattle.bl_world.specs.Accounts.{op_of, HasEnd, Replies, IsOwn, Account, Continues}
 use Rattle.bl_world.specs.Worlds.{IsReclaiming, IsWorld}
 use Rattle.bl_world.specs.Lone.{IsLoneWalk, HasWalk}
 use Rattle.bl_world.proofs.Arms.{stands}
@@ -93,7 +93,7 @@ module _ (v : View) (h : Has v) where
         absurd (let f : None ≡ Some said = sym none ∙ is in cc)
   ]
 
-  answers : (n : ℕ) (p : Proc) (reply : _) (hint : Option Hint) → slice_get v.processes n ≡ Some p → answer_of p ≡ Some (answer.Op reply hint) → Answers h.world.trail (name_of (n + 1)) (op_of p) reply
+  answers : (n : ℕ) (p : Proc) (reply : _) (hint : Option Hint) → slice_get v.processes n ≡ Some p → answer_of p ≡ Some (answer.Op reply hint) → Replies h.world.trail (name_of (n + 1)) (op_of p) reply
   answers n p reply hint stood e =
       let r = h.world.proc (name_of (suc n)) in
       let a = answered_said r.got r.child r.time p reply hint e in

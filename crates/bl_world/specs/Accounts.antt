@@ -64,7 +64,7 @@ HasEnd (proc.Reclaim p) = ⊥
 HasEnd p = Unit {0}
 
 -- The operation of p has its point in the trail, with that reply.
-pub record Answers (trail : Trail) (p : Name) (is : Option Op) (answer : Reply) : Type 0 where
+pub record Replies (trail : Trail) (p : Name) (is : Option Op) (answer : Reply) : Type 0 where
   pub place : ℕ
   pub said : Said
   pub says : SaysAt trail place p said
@@ -106,7 +106,7 @@ pub record Account (v : View) : Type 0 where
   pub ordered : IsOrdered trail
   -- each entry is the operation of a process that was started; and what a process answered is what its entry says
   pub own : (i : ℕ) (q : Name) (said : Said) → SaysAt trail i q said → IsOwn v q said
-  pub answers : (n : ℕ) (p : Proc) (reply : Reply) (hint : Option Hint) → slice_get v.processes n ≡ Some p → answer_of p ≡ Some (answer.Op reply hint) → Answers trail (name_of (n + 1)) (op_of p) reply
+  pub answers : (n : ℕ) (p : Proc) (reply : Reply) (hint : Option Hint) → slice_get v.processes n ≡ Some p → answer_of p ≡ Some (answer.Op reply hint) → Replies trail (name_of (n + 1)) (op_of p) reply
   pub ended : (n : ℕ) (p : Proc) (a : Answer) → slice_get v.processes n ≡ Some p → HasEnd p → answer_of p ≡ Some a → (i : ℕ) × (reply : Option Reply) × DoesAt trail i (name_of (n + 1)) (End reply)
   -- what a post answered means what it says, and so does its hint, by what its process has done
   pub posted : (n : ℕ) (p : Post) (a : Posted) (hint : Option Hint) → slice_get v.processes n ≡ Some (proc.Post p) → answer_of (proc.Post p) ≡ Some (answer.Post a hint) → MeansPosted p.level p.key a (marks_of (name_of (n + 1)) trail)

@@ -4,9 +4,9 @@ ghost use Rattle.std.specs.Prelude.{IfSome, ◌<◌, ◌≤◌};
 ghost use Rattle.bl_index.specs.Calls.{IsPassOf, IsSamePass};
 
 use arrayvec::ArrayVec;
-use bl_index::{Config, Index, OpenFault, OutOfTurns, Pass};
-use bl_model::{Next, Reply};
-use bl_proc::{Hint, Level, Posted, Squeezed};
+use bl_index::{
+    Config, Hint, Index, Level, Next, OpenFault, OutOfTurns, Pass, Posted, Reply, Squeezed,
+};
 use std::alloc::Global;
 use std::sync::Wait;
 use std::test::Fail;

@@ -3,8 +3,7 @@
 ghost use Rattle.std.specs.Prelude.{All, IfSome};
 ghost use Rattle.bl_index.specs.Calls.{IsPassOf, IsSamePass};
 
-use bl_index::{Config, Index, Pass};
-use bl_model::Reply;
+use bl_index::{Config, Index, Pass, Reply};
 use std::alloc::Global;
 use std::sync::Wait;
 use std::test::Fail;

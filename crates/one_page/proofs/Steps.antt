@@ -6,7 +6,7 @@ use native.Mathlib.Decide.{ℕ_discrete}
 use lib.ListN.{get_elem?}
 use Rattle.atomic_table.proofs.Lists.{at_set, set_here, set_else, at_last, at_longer}
 use Rattle.bl_layout.specs.declared.layout.Layout.{Layout}
-use Rattle.bl_store.specs.Pages.{Owner, Released, Open, Held, Retired, Stage, Idle, Running, Pages, Stands, told, owned, written, Begins, Ends, Gets, Puts, Takes, Latches, Misses, Opens, Retires, Refuses, Meets, Sweeps}
+use Rattle.bl_store.specs.Pages.{Owner, Released, Open, Held, Retired, Stage, Idle, Running, Pages, Stands, told, owned, written, Begins, Ends, Gets, Puts, Takes, Latches, Misses, Opens, Retires, Refuses, Meets, ReleasesMany}
 use Rattle.bl_store.specs.Opening.{is_blank, first_owner, first_pages, IsDealt}
 use Rattle.one_page.specs.declared.Mine.{Mine}
 use Rattle.std.proofs.lemmas.List.{get_or-replicate, length-replicate, length-append}
@@ -140,11 +140,11 @@ module _ (l : Layout) (n : ℕ) (d : Mine) where
   pub refuses : Refuses Fits l n d same_at_time
   refuses s st r o at = (d, told_same s n st st d at r, refl)
 
-pub sweeps : (l : Layout) (n : ℕ) (d : Mine) → Sweeps Fits l n d same_after
+pub sweeps : (l : Layout) (n : ℕ) (d : Mine) → ReleasesMany Fits l n d same_after
 sweeps l n d = (
   refl,
-  (λ e f is next. next ∙ is),
-  λ e x time is s st words r o at page after. (
+  (λ e f k is next. next ∙ is),
+  λ e k x time is s st words r o at page after. (
     e,
     told_same (owned s x Released) n st st e at (owned_else s x (Retired time) Released page.1 (λ m e. cc) (λ m e. cc) (λ low. r.fixed x (Retired time) low page.1) r),
     refl,

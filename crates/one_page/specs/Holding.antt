@@ -53,8 +53,8 @@ lost d x owner words e = e ≡ holding None
 abbrev pub lost_at_time : Mine → ℕ → Mine → Type 0
 lost_at_time d time e = e ≡ holding None
 
-abbrev pub same_after : Mine → Mine → Type 0
-same_after d e = e ≡ d
+abbrev pub same_after : Mine → ℕ → Mine → Type 0
+same_after d released e = e ≡ d
 
 -- a hand that has done nothing
 abbrev pub IsFresh : TableId → Layout → Hand Mine → Type 0

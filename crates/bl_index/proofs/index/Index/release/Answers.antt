@@ -1,6 +1,6 @@
 use Rattle.std.proofs.Common.{ℕ, subst}
 use Rattle.bl_store.specs.Hands.{known}
-use Rattle.bl_store.specs.Pages.{Sweeps}
+use Rattle.bl_store.specs.Pages.{ReleasesMany}
 use Rattle.bl_passes.specs.Fitting.{Fits}
 use Rattle.bl_passes.specs.Told.{sweeps}
 use Rattle.bl_passes.proofs.Releasing.{sweeps_pages}
@@ -8,8 +8,8 @@ use Rattle.bl_index.proofs.Withins.{sweep_within}
 use Rattle.bl_index.proofs.index.Index.release.Goals as goal
 
 pub sweep-requires-clause-rule : goal.sweep-requires-clause-rule
-sweep-requires-clause-rule g c = subst (λ (z : ℕ × ℕ). Sweeps Fits c.args.self.now.store.layout c.args.hand.now.number (known c.args.hand.now.seat) (sweeps z.0 g.J.Sweeper.number z.1)) (λ i. (c.requires.names.0 i, c.requires.names.2 i))
+sweep-requires-clause-rule g c = subst (λ (z : ℕ × ℕ). ReleasesMany Fits c.args.self.now.store.layout c.args.hand.now.number (known c.args.hand.now.seat) (sweeps z.0 g.J.Sweeper.number z.1)) (λ i. (c.requires.names.0 i, c.requires.names.2 i))
     (sweeps_pages c.args.self.now.store.layout c.args.hand.now.number g.J.Sweeper.number (known c.args.hand.now.seat) c.requires.rests c.requires.names.1)
 
 pub returns-clause-within : goal.returns-clause-within
-returns-clause-within g c = sweep_within c.args.self.now.store.layout c.args.hand.now.seat c.sweep.new.hand.seat _ _ _ c.requires.own.1 c.sweep.ensures.same.0.1 c.requires.names.2 c.requires.within c.sweep.ensures.told
+returns-clause-within g c = sweep_within c.args.self.now.store.layout c.args.hand.now.seat c.sweep.new.hand.seat _ _ _ _ c.requires.own.1 c.sweep.ensures.same.0.1 c.requires.names.2 c.requires.within c.sweep.ensures.told.2

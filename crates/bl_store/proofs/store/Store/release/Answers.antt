@@ -11,8 +11,8 @@ pub compare_exchange-found-requires : goal.compare_exchange-found-requires
 compare_exchange-found-requires g c = let st = c.args.self.now in let wide = st.wide in let own = c.args.hand.now.own in let passes = ap (λ (z : Layout). z.passes) st.key in let pages = ap (λ (z : Layout). z.pages) st.key in let state = c.requires.state.0 in let before = c.requires.state.1 in (
   search rules,
   omega arith,
-  frees _ _ _ g.M.SweepPlay.then _ _ _ _ c.args.at (c.args.state / 4) c.args.oldest _ (omega arith) (omega arith) (omega arith) before (c.requires.own.1 ∙ sym st.key) (c.requires.swept ∙ ap (λ (z : ℕ). Over c.args.oldest z) (sym passes))
-      (subst (λ (z : Layout × ℕ). Releases g.R.PageRule.holds z.0 z.1 c.args.hand.now.seat.me.0.known c.args.at (c.args.state / 4) (g.M.SweepPlay.then c.args.hand.now.seat.me.0.known)) (λ i. (sym st.key i, own.0 i)) (c.requires.rule c.args.at (c.args.state / 4))) (live_hand c.args.hand.now),
+  frees _ _ _ (λ d e. g.M.SweepPlay.then d 1 e) _ _ _ _ c.args.at (c.args.state / 4) c.args.oldest _ (omega arith) (omega arith) (omega arith) before (c.requires.own.1 ∙ sym st.key) (c.requires.swept ∙ ap (λ (z : ℕ). Over c.args.oldest z) (sym passes))
+      (subst (λ (z : Layout × ℕ). Releases g.R.PageRule.holds z.0 z.1 c.args.hand.now.seat.me.0.known c.args.at (c.args.state / 4) (g.M.SweepPlay.then c.args.hand.now.seat.me.0.known 1)) (λ i. (sym st.key i, own.0 i)) (c.requires.rule c.args.at (c.args.state / 4))) (live_hand c.args.hand.now),
 )
 
 pub compare_exchange-found-requires-2 : goal.compare_exchange-found-requires-2
