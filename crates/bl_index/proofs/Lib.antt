@@ -13,7 +13,7 @@ pub mod Withins
 pub mod Alone
 pub mod Released
 pub mod Quiet
-pub mod Posted
+pub mod Posts
 pub mod Pressed
 pub mod Paces
 pub mod Learning

@@ -1,5 +1,5 @@
 use Rattle.std.proofs.Common.{◌∙◌, sym, Some}
-use Rattle.bl_index.proofs.Posted.{post_has_answer, post_answered}
+use Rattle.bl_index.proofs.Posts.{post_has_answer, post_answered}
 use Rattle.bl_index.proofs.index.Index.post.Goals as goal
 
 pub posted-requires : goal.posted-requires
