@@ -2,11 +2,15 @@
 //! whether each page that they get is whole. What it prints is the same whatever the schedule.
 //!
 //! The rule is that of `one_page`, by which no page can be torn: the run shows that the compiled code keeps it.
+//!
+//! With arguments it is a load for a benchmark instead (`loading`).
 #![tactic(auto)]
 
 ghost use Rattle.std.specs.Prelude.{◌≡◌, ◌<◌, ◌≤◌, ℕ, All, length, slice_index_or};
 ghost use Rattle.bl_store.specs.Hands.{IsSameHand};
 ghost use Rattle.one_page.specs.Holding.{IsFresh};
+
+mod loading;
 
 use bl_store::Hand;
 use one_page::{Held, Mine, change, hands, read_once, shut, sweep};
@@ -89,6 +93,10 @@ fn race<T: Threads + Sync>(rt: &T, store: &Held, hands: &mut [Hand<Mine>], seen:
 }
 
 fn main(rt: HostRuntime) -> anyhow::Result<()> {
+    let words: Vec<String> = std::env::args(&rt)?.collect(rt.alloc())?;
+    if words.len() > 1 {
+        return loading::carry_out(&rt, &rt, words.as_slice());
+    }
     let (store, mut hands) = hands(rt.alloc(), 4, 4)?;
     let seen = Seen {
         reads: AtomicU64::new(0),

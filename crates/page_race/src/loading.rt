@@ -1,6 +1,5 @@
 //! A load on a store of pages, for `bench/pages`: so many threads each do so many gets, puts with their sweeps, or
 //! sweeps. It prints how many were done, and measures nothing itself.
-#![tactic(auto)]
 
 ghost use Rattle.std.specs.Prelude.{◌≡◌, ◌<◌, ◌≤◌, All};
 ghost use Rattle.one_page.specs.Holding.{IsFresh};
@@ -123,14 +122,18 @@ fn run<T: Threads + Sync>(rt: &T, store: &Held, hands: &mut [Hand<Mine>], load: 
     done.load(Ordering::SeqCst)
 }
 
-fn main(rt: HostRuntime) -> anyhow::Result<()> {
-    let words: Vec<String> = std::env::args(&rt)?.collect(rt.alloc())?;
-    let Some(load) = Load::read(words.as_slice()) else {
-        eprintln!(&rt; "usage: page_load get|put|sweep PAGES THREADS ROUNDS")?;
+/// Carries out the load that the words of the command line name, by these threads, and prints how much was done.
+pub(crate) fn carry_out<T: Threads + Sync>(
+    rt: &HostRuntime,
+    threads: &T,
+    words: &[String],
+) -> anyhow::Result<()> {
+    let Some(load) = Load::read(words) else {
+        eprintln!(rt; "usage: page_race [get|put|sweep PAGES THREADS ROUNDS]")?;
         return Ok(());
     };
     let (store, mut hands) = hands(rt.alloc(), load.pages, load.threads)?;
-    let done = run(&rt, &store, hands.as_mut_slice(), load);
+    let done = run(threads, &store, hands.as_mut_slice(), load);
     println!(rt; "{done}")?;
     Ok(())
 }

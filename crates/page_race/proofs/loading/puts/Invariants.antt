@@ -1,7 +1,7 @@
 use Rattle.std.proofs.Common.{◌≡◌, ◌≤◌, ◌<◌, Some}
 use Rattle.bl_store.specs.Hands.{IsOf, HasNoStock, known}
 use Rattle.one_page.specs.Holding.{holding}
-use Rattle.page_load.proofs.puts.Given as goal
+use Rattle.page_race.proofs.loading.puts.Given as goal
 
 abbrev pub invariant-loop-round : goal.invariant-loop-round
 invariant-loop-round l = record {
