@@ -25,9 +25,11 @@ mod meeting;
 mod opening;
 mod posting;
 mod running;
+mod scanning;
 mod shown;
 mod stepping;
 mod sweeping;
 
 pub use config::{Config, OpenFault, OutOfTurns};
 pub use index::{Index, Pass};
+pub use scanning::ScanFault;
