@@ -18,3 +18,6 @@ pub mod Pressed
 pub mod Paces
 pub mod Learning
 pub mod Encounters
+pub mod Ranges
+pub mod Scanned
+pub mod Onward

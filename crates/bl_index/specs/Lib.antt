@@ -4,3 +4,4 @@ pub mod Events
 pub mod Opened
 pub mod Searching
 pub mod Meetings
+pub mod Scans

@@ -1,0 +1,188 @@
+-- What a part tells of the map, and where its entry stands.
+use Rattle.std.proofs.Common.{◌≡◌, ◌≢◌, ⊎_elim, ℕ, get_or, ◌<◌, ◌≤◌, Bool, true, false, Option, Some, None, List, [], ◌∷◌, ◌++◌, cond, refl, sym, ap, ◌∙◌, subst, append_assoc, arith}
+use Rattle.std.specs.Prelude.{◌↔◌, ◌==◌, All, Contains}
+use Rattle.std.proofs.lemmas.Bool.{cases_lt}
+use Rattle.std.proofs.lemmas.List.{append_cancel_left}
+use Rattle.std.proofs.lemmas.List.Elements.{All-append, All-contains, All-filter, All-weaker, Contains-append_left, Contains-append_right, Contains-append_cases, Contains-get_or}
+use Rattle.bl_model.specs.Map.{Map, empty, MayAnswer}
+use Rattle.bl_model.specs.History.{IsLegalFrom, final_map, entries_of_pass}
+use Rattle.bl_model.proofs.Histories.{legal_rest, entries_of_pass-append}
+use Rattle.bl_model.specs.Rows.{HasRisingKeys}
+use Rattle.bl_model.specs.declared.operation.Entry.{Entry}
+use Rattle.bl_model.specs.declared.operation.Next.TheVariants.{More, End}
+use Rattle.bl_model.specs.declared.operation.Op.TheVariants.{Part}
+use Rattle.bl_model.specs.declared.operation.Reply.{Reply}
+use Rattle.bl_model.specs.declared.operation.Reply.TheVariants.{Found, Absent, Inserted, Present, Deleted, Rows, NoRoom}
+use Rattle.bl_index.specs.Scans.{IsBelow, is_below, rows_of, ended_at, rows_below, AreParts, IsRight}
+use Rattle.bl_index.proofs.Ranges.{below_true, filter_keeps, filter_has, rising_filter, rising_behind}
+
+-- an end behind a key
+abbrev pub IsBehind : ℕ → Option ℕ → Type 0
+IsBehind key None = Unit {0}
+IsBehind key (Some end) = key < end
+
+-- the reply of a part: the pairs of the map from its key on up to where it ended
+pub record IsPartOf (m : Map) (from : ℕ) (reply : Reply) : Type 0 where
+  pub rising : HasRisingKeys (rows_of reply)
+  pub further : IsBehind from (ended_at reply)
+  pub pairs : (key value : ℕ) → Contains (rows_of reply) (key, value) ↔ ((m key ≡ Some value) × (from ≤ key) × IsBelow (ended_at reply) key)
+
+pub part_is : (m : Map) (from : ℕ) (reply : Reply) → MayAnswer m (Part from) reply → IsPartOf m from reply
+part_is m from (Rows rows (More next)) may = record {
+  rising = may.1.rising;
+  further = may.0;
+  pairs = λ key value. let both = may.1.pairs key value in (λ c. let there = both.0 c in (there.0, there.1.0, there.1.1), λ (is, low, high). both.1 (is, (low, high)));
+}
+part_is m from (Rows rows End) may = record {
+  rising = may.rising;
+  further = tt;
+  pairs = λ key value. let both = may.pairs key value in (λ c. let there = both.0 c in (there.0, there.1, tt), λ (is, low, high). both.1 (is, low));
+}
+part_is m from (Found v) may = absurd may
+part_is m from Absent may = absurd may
+part_is m from Inserted may = absurd may
+part_is m from (Present v) may = absurd may
+part_is m from (Deleted v) may = absurd may
+part_is m from NoRoom may = absurd may
+
+-- nothing but rows answers a part
+pub only_rows : (m : Map) (from : ℕ) (reply : Reply) → MayAnswer m (Part from) reply → ((rows : _) (next : _) → reply ≢ Rows rows next) → ⊥
+only_rows m from (Rows rows next) may none = none rows next refl
+only_rows m from (Found v) may none = may
+only_rows m from Absent may none = may
+only_rows m from Inserted may none = may
+only_rows m from (Present v) may none = may
+only_rows m from (Deleted v) may none = may
+only_rows m from NoRoom may none = may
+
+-- ---- where an entry stands
+
+-- the entry stands among others
+pub record Stands (e : Entry) (es : List Entry) : Type 0 where
+  pub before : List Entry
+  pub after : List Entry
+  pub is : es ≡ before ++ e ∷ after
+
+stands_cons : (e x : Entry) (xs mine : List Entry) (b : Bool) → cond b (x ∷ mine) mine ≡ e ∷ [] → (mine ≡ e ∷ [] → Stands e xs) → Stands e (x ∷ xs)
+stands_cons e x xs mine true h rest = let same : x ≡ e = cc in record { before = []; after = xs; is = ap (λ (z : Entry). z ∷ xs) same }
+stands_cons e x xs mine false h rest = let there = rest h in record { before = x ∷ there.before; after = there.after; is = ap (λ (z : List Entry). x ∷ z) there.is }
+
+-- the only entry of a pass stands somewhere
+pub stands : (pass : ℕ) (e : Entry) (es : List Entry) → entries_of_pass pass es ≡ e ∷ [] → Stands e es
+stands pass e [] h = let none : ⊥ = cc in absurd none
+stands pass e (x ∷ xs) h = stands_cons e x xs (entries_of_pass pass xs) (x.pass == pass) h (stands pass e xs)
+
+-- ---- the parts of a scan
+
+pub parts_push : (pass : ℕ) (to from : Option ℕ) (es : List Entry) (at : ℕ) (reply : Reply) → AreParts pass to from es (Some at) → IsBelow to at
+    → AreParts pass to from (es ++ record { pass = pass; op = Part at; reply = reply } ∷ []) (ended_at reply)
+parts_push pass to from [] at reply are below = rw (sym are) (refl, refl, below, refl)
+parts_push pass to None (e ∷ es) at reply are below = absurd are
+parts_push pass to (Some from) (e ∷ es) at reply are below = (are.0, are.1, are.2, parts_push pass to (ended_at e.reply) es at reply are.3 below)
+
+-- where the entry of a call stands in the history, and that it is answered on the map before it
+pub record Answered (e : Entry) (old new : List Entry) : Type 0 where
+  pub before : List Entry
+  pub after : List Entry
+  pub stands : new ≡ old ++ (before ++ e ∷ after)
+  pub may : MayAnswer (final_map empty (old ++ before)) e.op e.reply
+
+pub answered : (pass : ℕ) (e : Entry) (old more new : List Entry) → new ≡ old ++ more → IsLegalFrom empty new → entries_of_pass pass new ≡ entries_of_pass pass old ++ e ∷ [] → Answered e old new
+answered pass e old more new on legal once =
+    let mine : entries_of_pass pass more ≡ e ∷ [] = append_cancel_left (entries_of_pass pass old) (entries_of_pass pass more) (e ∷ [])
+    (sym (ap (entries_of_pass pass) on ∙ entries_of_pass-append pass old more) ∙ once) in
+    let there : Stands e more = stands pass e more mine in
+    let is : new ≡ old ++ (there.before ++ e ∷ there.after) = on ∙ ap (λ (z : List Entry). old ++ z) there.is in
+    record {
+      before = there.before;
+      after = there.after;
+      stands = is;
+      may = (legal_rest empty (old ++ there.before) (e ∷ there.after) (subst (IsLegalFrom empty) (is ∙ sym (append_assoc old there.before (e ∷ there.after))) legal)).0;
+    }
+
+-- ---- one part more
+
+below_behind : (end : Option ℕ) (at key : ℕ) → IsBehind at end → key < at → IsBelow end key
+below_behind None at key further lt = tt
+below_behind (Some end) at key further lt = omega arith
+
+-- the key of a row is at or above one, and below the other
+abbrev pub IsFrom : ℕ → Option ℕ → ℕ × ℕ → Type 0
+IsFrom from upto row = (from ≤ row.0) × IsBelow upto row.0
+
+module _ (pass from at : ℕ) (to : Option ℕ) (old more mid new : List Entry) (e : Entry) (listed : List (ℕ × ℕ)) where
+  abbrev fresh : List (ℕ × ℕ)
+  fresh = rows_below to e.reply
+
+  module _ (is_part : (m : Map) → MayAnswer m e.op e.reply → IsPartOf m at e.reply) (on : mid ≡ old ++ more) (a : Answered e mid new) (mine : e.pass ≡ pass) (low : from ≤ at) (within : All (IsFrom from (Some at)) listed) where
+    part : IsPartOf (final_map empty (mid ++ a.before)) at e.reply
+    part = is_part (final_map empty (mid ++ a.before)) a.may
+
+    same_map : (key : ℕ) → final_map empty (mid ++ a.before) key ≡ final_map empty (old ++ (more ++ a.before)) key
+    same_map key = ap (λ (z : List Entry). final_map empty z key) (ap (λ (z : List Entry). z ++ a.before) on ∙ append_assoc old more a.before)
+
+    fresh_is : (key value : ℕ) → Contains fresh (key, value) → Contains (rows_of e.reply) (key, value)
+    fresh_is key value c = (filter_has (λ row. is_below to row.0) (rows_of e.reply) (key, value) c).0
+
+    right_still : (key : ℕ) → key < at → IsRight pass old mid listed key → IsRight pass old new (listed ++ fresh) key
+    right_still key lt r =
+        let tail : List Entry = a.before ++ e ∷ a.after in
+        record {
+          before = r.before;
+          part = r.part;
+          after = r.after ++ tail;
+          stands = a.stands ∙ (ap (λ (z : List Entry). z ++ tail) r.stands
+              ∙ (append_assoc old (r.before ++ r.part ∷ r.after) tail ∙ ap (λ (z : List Entry). old ++ z) (append_assoc r.before (r.part ∷ r.after) tail)));
+          mine = r.mine;
+          right = λ value. (
+            λ c. ⊎_elim
+                (λ (l : Contains listed (key, value)). (r.right value).0 l)
+                (λ (f : Contains fresh (key, value)). let there = (part.pairs key value).0 (fresh_is key value f) in absurd (omega (arith, there.1)))
+                (Contains-append_cases listed fresh (key, value) c),
+            λ is. Contains-append_left listed fresh (key, value) ((r.right value).1 is),
+          );
+        }
+
+    right_now : (key : ℕ) → at ≤ key → IsBelow (ended_at e.reply) key → IsBelow to key → IsRight pass old new (listed ++ fresh) key
+    right_now key le below below_to = record {
+      before = more ++ a.before;
+      part = e;
+      after = a.after;
+      stands = a.stands ∙ (ap (λ (z : List Entry). z ++ (a.before ++ e ∷ a.after)) on
+          ∙ (append_assoc old more (a.before ++ e ∷ a.after) ∙ ap (λ (z : List Entry). old ++ z) (sym (append_assoc more a.before (e ∷ a.after)))));
+      mine = mine;
+      right = λ value. (
+        λ c. ⊎_elim
+            (λ (l : Contains listed (key, value)). let there = All-contains (IsFrom from (Some at)) listed (key, value) within l in absurd (omega (arith, there.1)))
+            (λ (f : Contains fresh (key, value)). sym (same_map key) ∙ ((part.pairs key value).0 (fresh_is key value f)).0)
+            (Contains-append_cases listed fresh (key, value) c),
+        λ is. Contains-append_right listed fresh (key, value) (filter_keeps (λ row. is_below to row.0) (rows_of e.reply) (key, value)
+            ((part.pairs key value).1 (same_map key ∙ is, le, below)) (below_true to key below_to)),
+      );
+    }
+
+    pub right_more : ((key : ℕ) → from ≤ key → key < at → IsBelow to key → IsRight pass old mid listed key)
+        → (key : ℕ) → from ≤ key → IsBelow (ended_at e.reply) key → IsBelow to key → IsRight pass old new (listed ++ fresh) key
+    right_more right key least below below_to = ⊎_elim
+        (λ (lt : key < at). right_still key lt (right key least lt below_to))
+        (λ (le : at ≤ key). right_now key le below below_to)
+        (cases_lt key at)
+
+    from_part : All (IsFrom at (ended_at e.reply)) (rows_of e.reply)
+    from_part k d lt = let row = get_or (rows_of e.reply) k d in let there = (part.pairs row.0 row.1).0 (Contains-get_or (rows_of e.reply) k d lt) in (there.1, there.2)
+
+    from_fresh : All (IsFrom at (ended_at e.reply)) fresh
+    from_fresh = All-filter (λ row. is_below to row.0) (IsFrom at (ended_at e.reply)) (rows_of e.reply) from_part
+
+    pub from_more : All (IsFrom from (ended_at e.reply)) (listed ++ fresh)
+    from_more = All-append (IsFrom from (ended_at e.reply)) listed fresh
+        (All-weaker (IsFrom from (Some at)) (IsFrom from (ended_at e.reply)) (λ r is. (is.0, below_behind (ended_at e.reply) at r.0 part.further is.1)) listed within)
+        (All-weaker (IsFrom at (ended_at e.reply)) (IsFrom from (ended_at e.reply)) (λ r is. (let l = is.0 in omega arith, is.1)) fresh from_fresh)
+
+    pub rising_more : HasRisingKeys listed → HasRisingKeys (listed ++ fresh)
+    rising_more rising = rising_behind at listed fresh rising (rising_filter (λ row. is_below to row.0) (rows_of e.reply) part.rising)
+        (All-weaker (IsFrom from (Some at)) (λ r. r.0 < at) (λ r is. is.1) listed within)
+        (All-weaker (IsFrom at (ended_at e.reply)) (λ r. at ≤ r.0) (λ r is. is.0) fresh from_fresh)
+
+    pub goes_further : IsBehind at (ended_at e.reply)
+    goes_further = part.further

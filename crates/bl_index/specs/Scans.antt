@@ -1,0 +1,140 @@
+-- What a scan tells the pass that makes it: parts, each from where the last one ended, and the rows that they list together.
+use Rattle.std.specs.Prelude.{◌≡◌, ℕ, ◌<◌, ◌≤◌, ◌++◌, ◌↔◌, Bool, true, List, [], ◌∷◌, Option, Some, None, Result, All, Contains, filter, flat_map, length, nat_lt, OnOk, IfOk, IfErr}
+use Rattle.bl_model.specs.Map.{empty}
+use Rattle.bl_model.specs.History.{final_map}
+use Rattle.bl_model.specs.Rows.{HasRisingKeys}
+use Rattle.bl_model.specs.declared.operation.Entry.{Entry}
+use Rattle.bl_model.specs.declared.operation.Next.{Next}
+use Rattle.bl_model.specs.declared.operation.Next.TheVariants.{More, End}
+use Rattle.bl_model.specs.declared.operation.Op.TheVariants.{Part}
+use Rattle.bl_model.specs.declared.operation.Reply.{Reply}
+use Rattle.bl_model.specs.declared.operation.Reply.TheVariants.{Rows}
+use Rattle.bl_trails.specs.Trails.{Trail, history_of}
+use Rattle.bl_passes.specs.Seeing.{IsSeen, own, GoesOnFrom}
+use Rattle.bl_index.specs.Calls.{Finds, RunsOut}
+use Rattle.bl_index.specs.declared.scanning.ScanFault.{ScanFault}
+use Rattle.bl_index.specs.declared.scanning.ScanFault.TheVariants.{Memory, OutOfTurns}
+
+-- the key is below an end, if there is one
+abbrev pub IsBelow : Option ℕ → ℕ → Type 0
+IsBelow None key = Unit {0}
+IsBelow (Some end) key = key < end
+
+-- the test of it
+abbrev pub is_below : Option ℕ → ℕ → Bool
+is_below None key = true
+is_below (Some end) key = nat_lt key end
+
+-- the rows of a part
+abbrev pub rows_of : Reply → List (ℕ × ℕ)
+rows_of (Rows rows next) = rows.items
+rows_of reply = []
+
+-- the key that a part ended before; none, where it went to the end of the map
+abbrev pub end_of : Next → Option ℕ
+end_of (More key) = Some key
+end_of End = None
+
+abbrev pub ended_at : Reply → Option ℕ
+ended_at (Rows rows next) = end_of next
+ended_at reply = None
+
+-- the rows of a part that lie below the end of a scan
+abbrev pub rows_below : Option ℕ → Reply → List (ℕ × ℕ)
+rows_below to reply = filter (λ row. is_below to row.0) (rows_of reply)
+
+-- Entries of the pass that are parts: the first from that key on, and each further one from where the last one ended, all of
+-- them from below the scan's end. Together they end before upto, or go to the end of the map.
+abbrev pub AreParts : ℕ → Option ℕ → Option ℕ → List Entry → Option ℕ → Type 0
+AreParts pass to from [] upto = upto ≡ from
+AreParts pass to None (e ∷ es) upto = ⊥
+AreParts pass to (Some from) (e ∷ es) upto = (e.pass ≡ pass) × (e.op ≡ Part from) × IsBelow to from × AreParts pass to (ended_at e.reply) es upto
+
+-- The pass has made calls that were answered so, one after another, and nothing else.
+abbrev pub AreCalls : ℕ → ℕ → List Entry → Trail → Trail → Type 0
+AreCalls pages pass [] old new = new ≡ old
+AreCalls pages pass (e ∷ es) old new = (mid : Trail) × Finds pages pass e.op e.reply old mid × AreCalls pages pass es mid new
+
+-- A scan answers a key right: its rows list the key with the value that the map had for it, or do not list it, as the map stood
+-- where one of its parts stands in the history. The history was old before the scan, and is new after it.
+pub record IsRight (pass : ℕ) (old new : List Entry) (rows : List (ℕ × ℕ)) (key : ℕ) : Type 0 where
+  pub before : List Entry
+  pub part : Entry
+  pub after : List Entry
+  pub stands : new ≡ old ++ (before ++ part ∷ after)
+  pub mine : part.pass ≡ pass
+  pub right : (value : ℕ) → Contains rows (key, value) ↔ (final_map empty (old ++ before) key ≡ Some value)
+
+-- The pass has scanned from a key on up to another, or to the end of the map: its new entries are the parts, and their rows below
+-- the scan's end are these, whose keys rise, and which answer each key on the way right.
+pub record Scans (pages pass from : ℕ) (to upto : Option ℕ) (rows : List (ℕ × ℕ)) (old new : Trail) : Type 0 where
+  pub parts : List Entry
+  pub are_parts : AreParts pass to (Some from) parts upto
+  pub calls : AreCalls pages pass parts old new
+  pub begins : GoesOnFrom old new
+  pub seen : IsSeen old → IsSeen new
+  pub mine : own pass new ≡ own pass old ++ parts
+  pub listed : rows ≡ flat_map (λ part. rows_below to part.reply) parts
+  pub rising : HasRisingKeys rows
+  pub within : All (λ row. (from ≤ row.0) × IsBelow upto row.0) rows
+  pub right : (key : ℕ) → from ≤ key → IsBelow upto key → IsBelow to key → IsRight pass (history_of old) (history_of new) rows key
+
+-- nothing of a scan is left from there on
+abbrev pub IsOver : Option ℕ → Option ℕ → Type 0
+IsOver to None = Unit {0}
+IsOver None (Some from) = ⊥
+IsOver (Some end) (Some from) = end ≤ from
+
+-- A scan has ended: it has come to the end of the map, or to its own.
+pub record EndsScan (pages pass from : ℕ) (to : Option ℕ) (rows : List (ℕ × ℕ)) (old new : Trail) : Type 0 where
+  pub upto : Option ℕ
+  pub over : IsOver to upto
+  pub scans : Scans pages pass from to upto rows old new
+
+-- the key from which a scan that stopped goes on
+abbrev pub key_of : ScanFault → ℕ
+key_of (Memory from) = from
+key_of (OutOfTurns from) = from
+
+-- A part was answered, and of its rows more lie below the scan's end than there is room for.
+pub record FindsNoRoom (pages pass from : ℕ) (to : Option ℕ) (room : ℕ) (old new : Trail) : Type 0 where
+  pub reply : Reply
+  pub finds : Finds pages pass (Part from) reply old new
+  pub more : room < length (rows_below to reply)
+
+-- why a scan stopped at a part: its rows had no room, or it ran out of turns
+abbrev pub StopsAt : ℕ → ℕ → ℕ → Option ℕ → ℕ → ScanFault → Trail → Trail → Type 0
+StopsAt pages pass turns to room (Memory from) old new = FindsNoRoom pages pass from to room old new
+StopsAt pages pass turns to room (OutOfTurns from) old new = RunsOut pages pass turns old new
+
+-- A scan has stopped at a part below its end. Up to there it has scanned, and nothing of that part is among its rows.
+pub record StopsScan (pages pass turns from : ℕ) (to : Option ℕ) (room : ℕ) (fault : ScanFault) (rows : List (ℕ × ℕ)) (old new : Trail) : Type 0 where
+  pub mid : Trail
+  pub scans : Scans pages pass from to (Some (key_of fault)) rows old mid
+  pub left : IsBelow to (key_of fault)
+  pub stops : StopsAt pages pass turns to room fault mid new
+
+-- A scan has ended or stopped, and its rows stand behind those of before. There is room for so many more.
+pub record MayScan (pages pass turns from : ℕ) (to : Option ℕ) (room : ℕ) (result : Result (Unit {0}) ScanFault) (before after : List (ℕ × ℕ)) (old new : Trail) : Type 0 where
+  pub rows : List (ℕ × ℕ)
+  pub appended : after ≡ before ++ rows
+  pub ended : OnOk result (EndsScan pages pass from to rows old new)
+  pub stopped : IfErr result (λ fault. StopsScan pages pass turns from to room fault rows old new)
+
+-- One part of a scan was answered, and its rows below the scan's end stand behind those of before.
+pub record AppendsPart (pages pass from : ℕ) (to : Option ℕ) (next : Next) (before after : List (ℕ × ℕ)) (old new : Trail) : Type 0 where
+  pub reply : Reply
+  pub finds : Finds pages pass (Part from) reply old new
+  pub ends : ended_at reply ≡ end_of next
+  pub appended : after ≡ before ++ rows_below to reply
+
+-- The scan stops at that part, and the rows are those of before.
+pub record LeavesPart (pages pass turns from : ℕ) (to : Option ℕ) (room : ℕ) (fault : ScanFault) (before after : List (ℕ × ℕ)) (old new : Trail) : Type 0 where
+  pub key : key_of fault ≡ from
+  pub kept : after ≡ before
+  pub stops : StopsAt pages pass turns to room fault old new
+
+-- One or the other.
+pub record MayAppend (pages pass turns from : ℕ) (to : Option ℕ) (room : ℕ) (result : Result Next ScanFault) (before after : List (ℕ × ℕ)) (old new : Trail) : Type 0 where
+  pub listed : IfOk result (λ next. AppendsPart pages pass from to next before after old new)
+  pub left : IfErr result (λ fault. LeavesPart pages pass turns from to room fault before after old new)
