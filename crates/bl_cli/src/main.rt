@@ -1,7 +1,7 @@
 //! The program `blink`: what its command line asks for, over the files of the system and its standard streams.
 //!
-//! Promised to whoever runs it: `serve` writes what is served for what it reads, over an index with one pass; and what
-//! `bl_commands` promises of `check` and `replay`.
+//! Promised to whoever runs it: `serve` writes what is served for what it reads, over a new index and by as many workers and
+//! compressors as are wanted; and what `bl_commands` promises of `check` and `replay`.
 #![tactic(auto)]
 
 mod serve;
@@ -14,6 +14,7 @@ use serve::serve_index;
 use std::io;
 use std::process::ExitCode;
 use std::sync::Wait;
+use std::thread::Threads;
 
 fn main(rt: HostRuntime) -> anyhow::Result<ExitCode> {
     match carry_out(&rt, &rt) {
@@ -26,15 +27,18 @@ fn main(rt: HostRuntime) -> anyhow::Result<ExitCode> {
     }
 }
 
-/// Carries out what the command line asks for. Where it waits, it waits by the second handle.
-fn carry_out<W: Wait>(rt: &HostRuntime, wait: &W) -> Result<ExitCode, CommandFault> {
+/// Carries out what the command line asks for. Where it waits or starts threads, it does so by the second handle.
+fn carry_out<T: Threads + Wait + Sync>(
+    rt: &HostRuntime,
+    threads: &T,
+) -> Result<ExitCode, CommandFault> {
     let alloc = rt.alloc();
     let words: Vec<String> = std::env::args(rt)?.collect(alloc)?;
     match read_words(alloc, words.as_slice()) {
         Ok(Invocation::Serve(options)) => {
             let mut reader = Watched::new(rt.stdin());
             let mut writer = Watched::new(io::writer(rt));
-            serve_index(wait, alloc, options.pages, &mut reader, &mut writer)?;
+            serve_index(threads, alloc, options, &mut reader, &mut writer)?;
             Ok(ExitCode::SUCCESS)
         }
         Ok(Invocation::Check(file)) => {

@@ -14,9 +14,9 @@ use std::alloc::Global;
 pub struct ServeOptions {
     /// Pages of the index, 4 to 65,536.
     pub pages: u32,
-    /// Threads that serve. One, so far.
+    /// Threads that answer requests, 1 to 32.
     pub workers: u32,
-    /// Threads that compress. None, so far.
+    /// Threads that merge and even out pages, 0 to 16.
     pub compressors: u32,
 }
 
@@ -58,15 +58,15 @@ pub fn read_words(alloc: Global, words: &[String]) -> Result<Invocation, Error>
     let workers = Arg::new(alloc, "workers")
         .long("workers")
         .value_name("N")
-        .help("Threads that serve: 1 so far")
-        .value_parser(value_parser!(u32).range(1..=1))
-        .default_value("1");
+        .help("Threads that answer requests, 1 to 32")
+        .value_parser(value_parser!(u32).range(1..=32))
+        .default_value("4");
     let compressors = Arg::new(alloc, "compressors")
         .long("compressors")
         .value_name("N")
-        .help("Threads that compress: 0 so far")
-        .value_parser(value_parser!(u32).range(0..=0))
-        .default_value("0");
+        .help("Threads that merge thin pages, 0 to 16")
+        .value_parser(value_parser!(u32).range(0..=16))
+        .default_value("1");
     let serve = Command::new(alloc, "serve")
         .about("Answers request lines from standard input")
         .after_help(ABOUT_SERVE)
@@ -85,8 +85,8 @@ pub fn read_words(alloc: Global, words: &[String]) -> Result<Invocation, Error>
     match matches.subcommand() {
         Some(("serve", found)) => Ok(Invocation::Serve(ServeOptions {
             pages: held(found.get_one::<u32>("pages"), 1024, 4, 65536),
-            workers: held(found.get_one::<u32>("workers"), 1, 1, 1),
-            compressors: held(found.get_one::<u32>("compressors"), 0, 0, 0),
+            workers: held(found.get_one::<u32>("workers"), 4, 1, 32),
+            compressors: held(found.get_one::<u32>("compressors"), 1, 0, 16),
         })),
         Some(("check", found)) => match found.get_str("FILE") {
             Some(file) => Ok(Invocation::Check(String::from_str(alloc, file)?)),

@@ -6,7 +6,7 @@ pub(crate) const VERSION: &str = "0.1.0, proved with rattle-kit-13b logic dac820
 /// Of all commands.
 pub(crate) const ABOUT_ALL: &str = "\
 Exit status: 0 all is well; 1 check found a broken rule; 2 the command line is refused; 3 reading or writing failed, or a \
-script is bad; 4 out of memory.
+script is bad; 4 out of memory; 5 the answer of a request was lost.
 
 `blink help COMMAND` has the lines that a command reads, and examples.";
 
@@ -18,13 +18,15 @@ Request lines, in lower case with one space between words; numbers are 0 to 1844
   delete K        deleted V, or absent; or noroom
   sync            synced: the end of a section
 Any other line is malformed. Each reply stands behind the number of its line. Replies are written at each sync and at \
-the end of the input.
+the end of the input. All requests before a sync are carried out before those behind it; requests between two syncs are \
+carried out in any order, and by number where there is one worker.
 
 Examples:
-  printf 'insert 5 50\\nfind 5\\n' | blink serve
-  blink serve --pages 65536 <requests >replies
+  printf 'insert 5 50\\nsync\\nfind 5\\n' | blink serve
+  printf 'insert 5 50\\nfind 5\\n' | blink serve --workers 1
+  blink serve --pages 65536 --workers 8 <requests >replies
 
-Exit status: 0 all is well; 3 reading or writing failed; 4 out of memory.";
+Exit status: 0 all is well; 3 reading or writing failed; 4 out of memory; 5 the answer of a request was lost.";
 
 /// Of `check`.
 pub(crate) const ABOUT_CHECK: &str = "\

@@ -1,3 +1,4 @@
+pub mod Requests
 pub mod Weaving
 pub mod Pieces
 pub mod Lines

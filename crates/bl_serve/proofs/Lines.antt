@@ -17,7 +17,7 @@ use Rattle.bl_lines.specs.Text.{numbered, reply_text, response_text}
 use Rattle.bl_lines.specs.Turns.{Shows}
 use Rattle.bl_trails.specs.Trails.{Trail}
 use Rattle.bl_passes.specs.Seeing.{own, GoesOnFrom}
-use Rattle.bl_worker.specs.Works.{Works, Adds}
+use Rattle.bl_serve.specs.Works.{Works, Adds}
 use Rattle.bl_index.specs.declared.index.Pass.{Pass}
 use Rattle.bl_index.specs.Calls.{IsSamePass, number_of, trail}
 use Rattle.bl_serve.specs.declared.working.Written.{Written}

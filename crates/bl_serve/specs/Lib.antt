@@ -1,3 +1,4 @@
+pub mod Works
 pub mod Answering
 pub mod Turns
 pub mod Joining

@@ -3,7 +3,7 @@
 ghost use Rattle.std.specs.Prelude.{◌≡◌, suc, ◌+◌, ◌<◌, ◌≤◌, ◌^◌, ◌++◌, length, Some, IfOk};
 ghost use Rattle.bl_model.specs.declared.operation.Op.TheVariants as op;
 ghost use Rattle.bl_index.specs.Calls.{IsPassOf, IsSamePass, number_of, trail};
-ghost use Rattle.bl_worker.specs.Works.{Works, Adds};
+ghost use Rattle.bl_serve.specs.Works.{Works, Adds};
 ghost use Rattle.bl_serve.specs.Answering.{AnswersLine, AnswersLines};
 
 use crate::compressing::{leave, post};

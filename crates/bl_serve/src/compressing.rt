@@ -2,7 +2,7 @@
 
 ghost use Rattle.std.specs.Prelude.{◌≡◌};
 ghost use Rattle.bl_index.specs.Calls.{IsPassOf, IsSamePass, number_of, trail};
-ghost use Rattle.bl_worker.specs.Works.{Adds};
+ghost use Rattle.bl_serve.specs.Works.{Adds};
 
 use bl_hints::Hints;
 use bl_index::{Index, Pass};

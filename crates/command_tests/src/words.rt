@@ -23,31 +23,44 @@ fn invoked(alloc: Global, text: &str) -> Result<Option<Invocation>, Fail> {
 fn words_of_the_command_line(rt: HostRuntime) -> Result<(), Fail> {
     let plain = ServeOptions {
         pages: 1024,
-        workers: 1,
-        compressors: 0,
+        workers: 4,
+        compressors: 1,
     };
     assert_eq!(rt;
         invoked(rt.alloc(), "blink serve")?,
         Some(Invocation::Serve(plain))
     );
-    let wide = ServeOptions {
-        pages: 65536,
-        ..plain
+    let least = ServeOptions {
+        pages: 4,
+        workers: 1,
+        compressors: 0,
     };
     assert_eq!(rt;
         invoked(
             rt.alloc(),
-            "blink serve --pages 65536 --workers 1 --compressors 0"
+            "blink serve --pages 4 --workers 1 --compressors 0"
         )?,
-        Some(Invocation::Serve(wide))
+        Some(Invocation::Serve(least))
+    );
+    let most = ServeOptions {
+        pages: 65536,
+        workers: 32,
+        compressors: 16,
+    };
+    assert_eq!(rt;
+        invoked(
+            rt.alloc(),
+            "blink serve --pages 65536 --workers 32 --compressors 16"
+        )?,
+        Some(Invocation::Serve(most))
     );
     for refused in [
         "blink",
         "blink serve --pages 3",
         "blink serve --pages 65537",
         "blink serve --workers 0",
-        "blink serve --workers 2",
-        "blink serve --compressors 1",
+        "blink serve --workers 33",
+        "blink serve --compressors 17",
         "blink serve --pages x",
         "blink server",
     ] {

@@ -8,7 +8,7 @@ ghost use Rattle.bl_index.specs.Calls.{IsPassOf};
 
 use bl_index::{Config, Index, Pass};
 use bl_model::Reply;
-use bl_worker::{delete, find, insert};
+use bl_proc::{Hint, Posted};
 use std::alloc::Global;
 use std::sync::Wait;
 use std::sync::atomic::{AtomicU64, Ordering};
@@ -24,6 +24,9 @@ struct Load {
     mixed: u64,
     ghost threads_within: { (1 ≤ threads) × (threads ≤ 4) },
 }
+
+/// How many levels a tree may have: a split is followed by at most one post on each.
+const LEVELS: u32 = 12;
 
 /// The number of the first pass that works. The passes before it make the frames begin with a cache line where the system's
 /// allocator puts a large block 16 bytes behind the begin of a line, as glibc's does.
@@ -72,6 +75,68 @@ fn after(seed: u64) -> u64 {
 // One of the rows, or row 0 where there are none.
 fn row_of(seed: u64, rows: u64) -> u64 {
     if rows == 0 { 0 } else { (seed >> 24) % rows }
+}
+
+// Searches until it is answered.
+fn find<R: Wait>(rt: &R, index: &Index, pass: &mut Pass, key: u64) -> Reply
+    requires { IsPassOf index.now pass.old }
+    ensures { IsPassOf index.now pass.new }
+{
+    let turns = index.patience();
+    for _ in rt.forever() {
+        if let Ok(reply) = index.find(pass, key, turns) {
+            return reply;
+        }
+    }
+    unreachable!()
+}
+
+// Gives back what was retired, where that is due.
+fn sweep(index: &Index, pass: &mut Pass)
+    requires { IsPassOf index.now pass.old }
+    ensures { IsPassOf index.now pass.new }
+{
+    if pass.is_due() {
+        index.sweep(pass);
+    }
+}
+
+// Posts what an insertion has parted, and goes on with the hints that posting gives.
+fn post<R: Wait>(rt: &R, index: &Index, pass: &mut Pass, hint: Option<Hint>)
+    requires { IsPassOf index.now pass.old }
+    ensures { IsPassOf index.now pass.new }
+{
+    let mut hint = hint;
+    for _level in 0..LEVELS {
+        let Some(next) = hint else {
+            return;
+        };
+        match index.post(rt, pass, next) {
+            (Posted::Done, more) => hint = more,
+            _ => return,
+        }
+    }
+}
+
+// Inserts a row, with its posts and a sweep where one is due.
+fn insert<R: Wait>(rt: &R, index: &Index, pass: &mut Pass, key: u64, value: u64) -> Reply
+    requires { IsPassOf index.now pass.old }
+    ensures { IsPassOf index.now pass.new }
+{
+    let (reply, hint) = index.insert(rt, pass, key, value);
+    post(rt, index, pass, hint);
+    sweep(index, pass);
+    reply
+}
+
+// Deletes a row, with a sweep where one is due.
+fn delete<R: Wait>(rt: &R, index: &Index, pass: &mut Pass, key: u64) -> Reply
+    requires { IsPassOf index.now pass.old }
+    ensures { IsPassOf index.now pass.new }
+{
+    let (reply, _) = index.delete(rt, pass, key);
+    sweep(index, pass);
+    reply
 }
 
 // Inserts the thread's share of the rows: every so many-th is its own. Returns how many were inserted.

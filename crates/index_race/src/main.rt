@@ -12,7 +12,6 @@ ghost use Rattle.bl_index.specs.Calls.{IsPassOf};
 use bl_index::{Config, Index, Pass};
 use bl_model::Reply;
 use bl_proc::{Hint, Squeezed};
-use bl_worker::{delete, find, insert};
 use std::alloc::Global;
 use std::sync::Wait;
 use std::sync::atomic::{AtomicU64, Ordering};
@@ -28,7 +27,7 @@ const THREADS: u64 = 4;
 /// Of so many rows of a thread the first is kept while the tree shrinks.
 const KEPT: u64 = 10;
 
-/// How many levels a tree may have: a merge is followed by at most one on each.
+/// How many levels a tree may have: a split or a merge is followed by at most one on each.
 const LEVELS: u32 = 12;
 
 /// What the threads have been answered.
@@ -46,7 +45,31 @@ fn count(counter: &AtomicU64) {
     counter.fetch_add(1, Ordering::SeqCst);
 }
 
-// The keys of the threads lie between each other: every fourth key is of one of them.
+// Searches until it is answered.
+fn find<R: Wait>(rt: &R, index: &Index, pass: &mut Pass, key: u64) -> Reply
+    requires { IsPassOf index.now pass.old }
+    ensures { IsPassOf index.now pass.new }
+{
+    let turns = index.patience();
+    for _ in rt.forever() {
+        if let Ok(reply) = index.find(pass, key, turns) {
+            return reply;
+        }
+    }
+    unreachable!()
+}
+
+// Gives back what was retired, where that is due.
+fn sweep(index: &Index, pass: &mut Pass)
+    requires { IsPassOf index.now pass.old }
+    ensures { IsPassOf index.now pass.new }
+{
+    if pass.is_due() {
+        index.sweep(pass);
+    }
+}
+
+// The keys of the threads lie between each other: every fourth key is of one of them. Leaves that are parted are posted.
 fn fill<R: Wait>(rt: &R, index: &Index, pass: &mut Pass, place: usize, counts: &Counts)
     requires { IsPassOf index.now pass.old }
     ensures { IsPassOf index.now pass.new }
@@ -54,10 +77,13 @@ fn fill<R: Wait>(rt: &R, index: &Index, pass: &mut Pass, place: usize, counts: &
     let first = place as u64 % THREADS;
     for row in 0..ROWS {
         let key = THREADS * row + first;
-        match insert(rt, index, pass, key, key + 1) {
+        let (reply, hint) = index.insert(rt, pass, key, key + 1);
+        match reply {
             Reply::Inserted => count(&counts.inserted),
             _ => count(&counts.wrong),
         }
+        follow(rt, index, pass, hint, counts);
+        sweep(index, pass);
     }
 }
 
@@ -114,11 +140,13 @@ fn clear<R: Wait>(rt: &R, index: &Index, pass: &mut Pass, counts: &Counts)
     ensures { IsPassOf index.now pass.new }
 {
     for key in 0..THREADS * ROWS {
-        match delete(rt, index, pass, key) {
+        let (reply, _) = index.delete(rt, pass, key);
+        match reply {
             Reply::Deleted(value) if value == key + 1 => count(&counts.deleted),
             Reply::Absent => count(&counts.absent),
             _ => count(&counts.wrong),
         }
+        sweep(index, pass);
         match find(rt, index, pass, key) {
             Reply::Absent => {}
             _ => count(&counts.wrong),

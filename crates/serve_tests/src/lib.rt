@@ -1,8 +1,17 @@
-//! Tests of the server: what it writes and counts, that workers work at once, and that a section ends before the next begins.
+//! Tests of the server: what it writes and counts, that workers work at once, that a section ends before the next begins, and
+//! that hints are followed.
 //!
 //! They stand apart from `bl_serve`, and nothing else uses them: whatever is built on the server need not wait until these
 //! tests are proved.
 #![tactic(auto)]
 
 #[cfg(test)]
-mod sections;
+mod gates;
+#[cfg(test)]
+mod hints;
+#[cfg(test)]
+mod passes;
+#[cfg(test)]
+mod served;
+#[cfg(test)]
+mod texts;

@@ -1,28 +1,37 @@
-use Rattle.std.proofs.Common.{◌≡◌, List, [], ℕ, ◌++◌, Result, Ok, Err, subst, true}
-use Rattle.std.specs.Prelude.{MatchResult}
+use Rattle.std.proofs.Common.{◌≡◌, List, [], ℕ, ◌++◌, ap, subst, true}
 use Rattle.std.proofs.lemmas.Result.{err_from_is_err_and}
 use Rattle.bl_model.specs.Map.{Map, empty}
 use Rattle.bl_lines.specs.declared.serving.Totals.{Totals}
 use Rattle.bl_lines.specs.declared.serving.ServeFault.{ServeFault}
-use Rattle.bl_lines.specs.Served.{Served, Serves, Stops}
-use Rattle.bl_lines.specs.Streams.{EndsRead}
+use Rattle.bl_lines.specs.Served.{Served, Stops}
 use Rattle.bl_lines.proofs.Known.{consumes_start, appends_start}
 use Rattle.bl_lines.proofs.Progress.{stops_at_once}
+use Rattle.bl_index.specs.declared.index.Index.{Index}
+use Rattle.bl_index.specs.declared.index.Pass.{Pass}
+use Rattle.bl_index.specs.Calls.{map_of}
+use Rattle.bl_serve.specs.Serving.{Serves, seen_by}
 use Rattle.bl_cli.proofs.serve.serve_index.Goals as goal
 
--- what the server promises, without the map that it leaves
-without_map : (start after : Map) (input ahead output : List ℕ) (at_end reader_failed writer_failed : Type 0) (r : Result Totals ServeFault) → start ≡ empty
-    → MatchResult r (λ totals. Serves start after input output totals × EndsRead input ahead at_end) (λ fault. Stops start (input ++ ahead) output fault reader_failed writer_failed)
-    → MatchResult r (λ totals. Served empty input output totals × EndsRead input ahead at_end) (λ fault. Stops empty (input ++ ahead) output fault reader_failed writer_failed)
-without_map start after input ahead output at_end reader_failed writer_failed (Ok totals) is h = (subst (λ m. Served m input output totals) is h.0.0, h.1)
-without_map start after input ahead output at_end reader_failed writer_failed (Err fault) is h = subst (λ m. Stops m (input ++ ahead) output fault reader_failed writer_failed) is h
+-- new passes have seen nothing, so that what they have served is served from the empty map
+from_empty : (index : Index) (olds news : List Pass) (input output : List ℕ) (totals : Totals) → seen_by olds ≡ [] → Serves index olds news input output totals → Served empty input output totals
+from_empty index olds news input output totals unseen s = subst (λ (m : Map). Served m input output totals) (ap map_of unseen) s.served.served
+
+stops_empty : (olds : List Pass) (input output : List ℕ) (fault : ServeFault) (reader_failed writer_failed : Type 0) → seen_by olds ≡ [] → Stops (map_of (seen_by olds)) input output fault reader_failed writer_failed → Stops empty input output fault reader_failed writer_failed
+stops_empty olds input output fault reader_failed writer_failed unseen s = subst (λ (m : Map). Stops m input output fault reader_failed writer_failed) (ap map_of unseen) s
 
 -- no memory for the index
-pub returns-in_err-worker : goal.returns-in_err-worker
-returns-in_err-worker g c = let p = err_from_is_err_and c.from_residual.result c.from_residual.ensures.1 in
+pub returns-in_err-index : goal.returns-in_err-index
+returns-in_err-index g c = let p = err_from_is_err_and c.from_residual.result c.from_residual.ensures.1 in
     rw (p.1, p.2) ([], [], [], consumes_start _, appends_start _, stops_at_once empty (c.args.reader.now.failed ≡ true) (c.args.writer.now.failed ≡ true))
+
+pub returns-in-Ok : goal.returns-in-Ok
+returns-in-Ok g c =
+    let h = c.serve.ensures in
+    let s = rw c.in-Ok.is at h.5 in
+    (h.0, h.1, h.2, h.3, h.4, (from_empty c.in_ok-index.index c.in_ok-index.passes.items c.in-Ok.field-0-1.items h.0 h.2 c.in-Ok.totals c.in_ok-index.ensures.unseen s.0, s.1))
 
 pub returns : goal.returns
 returns g c =
     let h = c.serve.ensures in
-    (h.0, h.1, h.2, h.3, h.4, without_map _ _ h.0 h.1 h.2 _ _ _ c.serve.result c.in_ok-worker.ensures h.5)
+    let s = rw c.in-Err.is at h.5 in
+    (h.0, h.1, h.2, h.3, h.4, stops_empty c.in_ok-index.passes.items (h.0 ++ h.1) h.2 c.in-Err.fault (c.serve.new.reader.failed ≡ true) (c.serve.new.writer.failed ≡ true) c.in_ok-index.ensures.unseen s)

@@ -1,5 +1,5 @@
 use Rattle.std.proofs.Common.{refl}
-use Rattle.bl_worker.proofs.Together.{sweep_adds, works_on}
+use Rattle.bl_serve.proofs.Requests.{sweep_adds, works_on}
 use Rattle.bl_serve.proofs.answering.carry_out.Goals as goal
 
 pub returns-clause-works : goal.returns-clause-works

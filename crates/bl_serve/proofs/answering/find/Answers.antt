@@ -1,5 +1,5 @@
 use Rattle.std.proofs.Common.{rules, refl, ◌∙◌}
-use Rattle.bl_worker.proofs.Together.{nothing, then_adds, call_adds, call_works, adds_works}
+use Rattle.bl_serve.proofs.Requests.{nothing, then_adds, call_adds, call_works, adds_works}
 use Rattle.bl_serve.proofs.answering.find.Goals as goal
 
 pub loop-init : goal.loop-init

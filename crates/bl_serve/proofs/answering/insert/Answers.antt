@@ -1,5 +1,5 @@
 use Rattle.std.proofs.Common.{refl, ◌∙◌}
-use Rattle.bl_worker.proofs.Together.{call_works, adds_as, works_on}
+use Rattle.bl_serve.proofs.Requests.{call_works, adds_as, works_on}
 use Rattle.bl_serve.proofs.answering.insert.Goals as goal
 
 pub returns-clause-works : goal.returns-clause-works

@@ -1,5 +1,5 @@
 use Rattle.bl_index.specs.Calls.{IsSamePass, number_of, trail}
-use Rattle.bl_worker.specs.Works.{Adds}
+use Rattle.bl_serve.specs.Works.{Adds}
 use Rattle.bl_serve.proofs.answering.part.Given as goal
 
 abbrev pub invariant-loop : goal.invariant-loop

@@ -1,5 +1,5 @@
 use Rattle.std.proofs.Common.{rules, refl, ◌∙◌}
-use Rattle.bl_worker.proofs.Together.{nothing, then_adds, adds_as}
+use Rattle.bl_serve.proofs.Requests.{nothing, then_adds, adds_as}
 use Rattle.bl_serve.proofs.compressing.post.Goals as goal
 
 pub loop-level-init : goal.loop-level-init

@@ -1,6 +1,0 @@
-use Rattle.std.proofs.Common.{refl}
-use Rattle.bl_worker.proofs.Together.{call_works, adds_as, works_on}
-use Rattle.bl_worker.proofs.working.delete.Goals as goal
-
-pub returns-clause-works : goal.returns-clause-works
-returns-clause-works g c = works_on _ _ _ _ _ _ (call_works _ _ _ _ _ _ refl c.delete-reply.ensures.deletes.answers) (adds_as _ _ _ _ c.delete-reply.ensures.same.2 c.sweep_due.ensures.adds)

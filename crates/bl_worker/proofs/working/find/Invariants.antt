@@ -1,9 +1,0 @@
-use Rattle.bl_index.specs.Calls.{IsSamePass, number_of, trail}
-use Rattle.bl_worker.specs.Works.{Adds}
-use Rattle.bl_worker.proofs.working.find.Given as goal
-
-abbrev pub invariant-loop : goal.invariant-loop
-invariant-loop g l = record {
-  same : IsSamePass l.fn.pass l.pass;
-  adds : Adds (number_of l.fn.pass) (trail l.fn.pass) (trail l.pass);
-}

@@ -1,6 +1,0 @@
-use Rattle.std.proofs.Common.{◌≡◌, ◌∙◌, arith}
-use Rattle.bl_serve.proofs.Beginning.{opened_together}
-use Rattle.serve_tests.proofs.sections.opened.Goals as goal
-
-pub returns-in-Ok : goal.returns-in-Ok
-returns-in-Ok c = (opened_together _ c.in-Ok.index c.in-Ok.passes.items c.in-Ok.ensures.ok, (let a = c.in-Ok.ensures.ok.count in let b = c.in-Ok.passes.ok in omega (arith, a, b)))

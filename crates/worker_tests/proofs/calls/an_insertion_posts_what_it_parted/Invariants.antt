@@ -1,5 +1,0 @@
-use Rattle.bl_index.specs.Calls.{IsPassOf}
-use Rattle.worker_tests.proofs.calls.an_insertion_posts_what_it_parted.Given as goal
-
-abbrev pub invariant-loop-key : goal.invariant-loop-key
-invariant-loop-key g l = IsPassOf l.index l.pass
