@@ -50,7 +50,7 @@ module _ (pages pass at : ℕ) (reply : Reply) (mid new : Trail) (finds : Finds 
   more = finds.answers.holds.before ++ finds.answers.holds.first ∷ (finds.answers.holds.between ++ finds.answers.holds.last ∷ [])
 
   stands_there : Answered entry (history_of mid) (history_of new)
-  stands_there = answered pass entry (history_of mid) (history_of more) (history_of new) (ap history_of finds.answers.holds.begins ∙ history_append mid more) finds.answers.seen.legal finds.answers.once
+  stands_there = answered pass entry (history_of mid) (history_of more) (history_of new) (ap history_of finds.answers.holds.begins ∙ history_append mid more) finds.answers.seen.linear.legal finds.answers.once
 
   -- the rows of a part have rising keys
   pub part_rises : HasRisingKeys (rows_of reply)
