@@ -1,7 +1,7 @@
 -- Two passes that have learned of each other, one after the other.
 use Rattle.std.proofs.Common.{ℕ, ◌≡◌, sym, ap, ◌∙◌, subst}
 use Rattle.bl_trails.specs.Trails.{Trail}
-use Rattle.bl_passes.specs.Seeing.{IsSeen, own, GoesOnFrom}
+use Rattle.bl_passes.specs.Seeing.{IsSeen, own}
 use Rattle.bl_index.specs.Meetings.{Learns, Meet}
 
 -- one learned, two was told then, and neither forgot

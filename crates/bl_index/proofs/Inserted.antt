@@ -1,5 +1,5 @@
 -- An insertion at its leaf.
-use Rattle.std.proofs.Common.{ℕ, Bool, true, false, ◌≡◌, ◌<◌, List, Option, Some, None, length, refl, sym, ap, ◌∙◌, arith}
+use Rattle.std.proofs.Common.{ℕ, Bool, true, false, ◌≡◌, ◌<◌, ◌≤◌, List, Option, Some, None, length, refl, sym, ap, ◌∙◌, arith}
 use Rattle.bl_page.specs.declared.page.Page.{Page}
 use Rattle.bl_page.specs.declared.page.Page.TheVariants as page
 use Rattle.bl_page.specs.Words.{head, layout, entries_of, words_of}
@@ -11,6 +11,7 @@ use Rattle.bl_ways.specs.declared.acts.Seen.TheVariants as seen
 use Rattle.bl_ways.specs.declared.approaching.Approach.TheVariants as approach
 use Rattle.bl_ways.specs.declared.onwards.Onward.TheVariants.{Here}
 use Rattle.bl_ways.specs.declared.changing.Change.TheVariants as change
+use Rattle.bl_ways.specs.declared.changing.Full.{Full}
 use Rattle.bl_ways.specs.declared.changing.Outcome.{Outcome}
 use Rattle.bl_ways.specs.declared.changing.Outcome.TheVariants as outcome
 use Rattle.bl_ways.specs.Onwards.{Leads}
@@ -61,11 +62,6 @@ module _ (key value at : ℕ) (c : Page) (state : Proc) (takes : Takes (insertin
       let course = insert_goes (record { key = key; value = value; stage = insert.Coming (approach.Latched at) }) (seen.Words c) refl tt in
       course.only state takes ∙ sym (course.only (inserting key value stage) (refl, refl, goes))
 
-  pub stands_as : (p : Insert) → Takes (inserting key value (insert.Coming (approach.Latched at))) (seen.Words c) (proc.Insert p) → state ≡ proc.Insert p
-  stands_as p goes =
-      let course = insert_goes (record { key = key; value = value; stage = insert.Coming (approach.Latched at) }) (seen.Words c) refl tt in
-      course.only state takes ∙ sym (course.only (proc.Insert p) goes)
-
   pub stands_present : (there : ℕ) → Some there ≡ (node_of c).look key → state ≡ inserting key value (insert.Present at there)
   stands_present there e = stands (insert.Present at there) (at, c, (refl, refl, leads), (refl, sym e))
 
@@ -75,6 +71,11 @@ module _ (key value at : ℕ) (c : Page) (state : Proc) (takes : Takes (insertin
       let fits = fits_some c key value 0 (leaf_covers c key 0 leads) absent (leaf_holds c key value leads) room in
       let pairs : pairs_of fits.0 ≡ entered key value (pairs_of c) = rows_one 0 (pairs_of fits.0) (entered key value (pairs_of c)) (rising fits.0) (RisesFrom-entered key value 0 (pairs_of c) (omega arith) absent (rising c)) (λ j. fits.1.2 j ∙ sym (map_of-entered key value (pairs_of c) absent j)) in
       (fits.0, spelled_by c fits.0 (entered key value (pairs_of c)) fits.1.1 pairs, stands (insert.Changing (change.Putting at fits.0)) (at, c, (refl, refl, leads), (sym e, (refl, fits.1))))
+
+  pub stands_taking : None ≡ (node_of c).look key → 14 ≤ length (pairs_of c) → (f : Full) × (f.at ≡ at) × (f.key ≡ key) × (f.word ≡ value) × (f.page ≡ c) × (state ≡ inserting key value (insert.Changing (change.Taking f)))
+  stands_taking e full =
+      let f : Full = record { at = at; key = key; word = value; page = c; covers = leaf_covers c key 0 leads; absent = leaf_lists c key (sym e); fits = leaf_holds c key value leads; full = full } in
+      (f, refl, refl, refl, refl, stands (insert.Changing (change.Taking f)) (at, c, (refl, refl, leads), (sym e, (refl, refl, refl, refl))))
 
 pub opens_present : (key value at there : ℕ) → OpensLast (inserting key value (insert.Present at there)) at (inserting key value (insert.Ending (inserted.Present there))) (inserting key value (insert.Over (inserted.Present there)))
 opens_present key value at there = record {

@@ -150,3 +150,6 @@ done_from pass old e earlier first last done op work = record {
   log = done.log;
   tidy = done.tidy;
 }
+
+pub same_number : {a b : ℕ} → Some a ≡ Some b → a ≡ b
+same_number e = cc

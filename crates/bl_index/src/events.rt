@@ -1,7 +1,8 @@
 //! The events of a process of which there is no value: the hand's pass knows where it stands.
 
-ghost use Rattle.std.specs.Prelude.{◌≡◌, ℕ, true, false};
+ghost use Rattle.std.specs.Prelude.{◌≡◌, ◌<◌, ◌+◌, ℕ, true, false, MatchOption};
 ghost use Rattle.bl_page.specs.declared.page.Page.{Page};
+ghost use Rattle.bl_page.specs.Pairs.{IsChild};
 ghost use Rattle.bl_page.specs.Words.{words_of};
 ghost use Rattle.bl_ways.specs.declared.acts.Action.TheVariants as act;
 ghost use Rattle.bl_ways.specs.declared.acts.Seen.TheVariants as seen;
@@ -9,7 +10,7 @@ ghost use Rattle.bl_proc.specs.declared.kinds.Proc.{Proc};
 ghost use Rattle.bl_proc.specs.Processes.{next_of};
 ghost use Rattle.bl_courses.specs.Courses.{GoesOn};
 ghost use Rattle.bl_courses.specs.Frames.{op_of, work_of};
-ghost use Rattle.bl_store.specs.Hands.{known, read_words, IsOf, IsIdle, IsRunning, IsSameHand, IsSameStage, IsSameStock, HasNoStock, ReadsFrom};
+ghost use Rattle.bl_store.specs.Hands.{known, read_words, IsOf, IsIdle, IsRunning, IsSameHand, IsSameStage, IsSameStock, HasNoStock, IsStockOf, ReadsFrom};
 ghost use Rattle.bl_passes.specs.declared.known.Mine.{Mine as Knows};
 ghost use Rattle.bl_passes.specs.Noting.{trail_of};
 ghost use Rattle.bl_passes.specs.Seeing.{IsSeen};
@@ -19,7 +20,7 @@ ghost use Rattle.bl_index.specs.Events.{OpensLast};
 
 use crate::index::Index;
 use bl_passes::{Ended, Got, Mine, Opened, Put, Refused, Took, Tried};
-use bl_store::{Glance, Hand};
+use bl_store::{Glance, Hand, Stock};
 
 impl Index {
     /// The process gets the page.
@@ -91,6 +92,47 @@ impl Index {
             }
             Err(_) => false,
         }
+    }
+
+    /// The process reserves a page and two frames, and takes the page, or is refused.
+    pub(crate) fn take_page(&self, hand: &mut Hand<Mine>) -> Option<(u32, Stock)>
+        requires own { IsOf self.now.store.table.shared.table_id self.now.store.layout hand.old.seat }
+        requires running { IsRunning hand.old.seat }
+        requires process { IsOn self.now.store.layout (known hand.old.seat) (known hand.old.seat).state }
+        requires next { next_of (known hand.old.seat).state ≡ act.Take }
+        requires course { ((y : ℕ) → IsChild y → GoesOn (known hand.old.seat).state (seen.Took y)) × GoesOn (known hand.old.seat).state seen.Refused }
+        requires empty { HasNoStock hand.old.seat }
+        ensures same { IsSameHand hand.old.seat hand.new.seat × IsSameStage hand.old.seat hand.new.seat }
+        ensures took { MatchOption result (HasNoStock hand.new.seat × Goes seen.Refused (known hand.old.seat) (known hand.new.seat)) (λ t. IsChild t.0 × IsStockOf hand.new.seat t.1 × (t.1.count ≡ 2) × Goes (seen.Took t.0) (known hand.old.seat) (known hand.new.seat)) }
+    {
+        match self.store.reserve::<Took, Refused>(hand, 1, 2) {
+            Ok(stock) => match stock.page() {
+                Some(page) => Some((page, stock)),
+                None => unreachable!(),
+            },
+            Err(_) => None,
+        }
+    }
+
+    /// The process puts the page with these words, in a frame that it has reserved.
+    pub(crate) fn put_reserved(
+        &self,
+        hand: &mut Hand<Mine>,
+        page: u32,
+        words: &[u64; 32],
+        stock: &mut Stock,
+    )
+        requires own { IsOf self.now.store.table.shared.table_id self.now.store.layout hand.old.seat }
+        requires running { IsRunning hand.old.seat }
+        requires process { IsOn self.now.store.layout (known hand.old.seat) (known hand.old.seat).state }
+        requires next { (c : Page) × (next_of (known hand.old.seat).state ≡ act.Put page c) × (words.now ≡ words_of c) }
+        requires course { GoesOn (known hand.old.seat).state seen.Done }
+        requires stock { IsStockOf hand.old.seat stock.old × (0 < stock.old.count) }
+        ensures same { IsSameHand hand.old.seat hand.new.seat × IsSameStage hand.old.seat hand.new.seat }
+        ensures stock { IsStockOf hand.new.seat stock.new × (stock.new.count + 1 ≡ stock.old.count) }
+        ensures goes { Goes seen.Done (known hand.old.seat) (known hand.new.seat) }
+    {
+        self.store.put::<Put>(hand, page, words, stock);
     }
 
     /// The process opens the only page that it holds, and ends.

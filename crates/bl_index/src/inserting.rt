@@ -1,5 +1,4 @@
-//! Insertions, by the words of pages. A leaf that has room gets its new words from those that were read; a full one is parted
-//! by pages.
+//! Insertions, by the words of pages. A leaf that has room gets its new words from those that were read.
 
 ghost use Rattle.std.specs.Prelude.{◌≡◌, ℕ, ◌<◌, None, Some, false, length};
 ghost use Rattle.bl_page.specs.declared.page.Page.{Page};
@@ -7,10 +6,13 @@ ghost use Rattle.bl_page.specs.Words.{words_of};
 ghost use Rattle.bl_laws.specs.Pages.{IsTreePage};
 ghost use Rattle.bl_rearrange.specs.Entered.{entered};
 ghost use Rattle.bl_rearrange.specs.Rearranged.{pairs_of};
+ghost use Rattle.bl_ways.specs.declared.answers.Answer.TheVariants as answers;
 ghost use Rattle.bl_ways.specs.declared.approaching.Approach.TheVariants as approach;
 ghost use Rattle.bl_ways.specs.declared.changing.Change.TheVariants as change;
+ghost use Rattle.bl_ways.specs.declared.changing.Full.{Full};
 ghost use Rattle.bl_ways.specs.Respelled.{words_by};
 ghost use Rattle.bl_proc.specs.declared.inserting.InsertStage.TheVariants as insert;
+ghost use Rattle.bl_proc.specs.Inserts.{insert_reply, inserted_answer};
 ghost use Rattle.bl_proc.specs.declared.kinds.Proc.TheVariants as proc;
 ghost use Rattle.bl_store.specs.Hands.{known, read_words, IsOf, IsIdle, IsRunning, IsSameHand, HasNoStock, ReadsFrom};
 ghost use Rattle.bl_passes.specs.declared.known.Mine.{Mine as Knows};
@@ -19,17 +21,33 @@ ghost use Rattle.bl_passes.specs.Seeing.{IsSeen};
 ghost use Rattle.bl_index.specs.Runs.{IsOn, IsSince, IsWithin};
 ghost use Rattle.bl_index.specs.Events.{IsThere, HasInserted};
 
-use crate::changing::answered;
 use crate::errands::Inserting;
 use crate::index::Index;
 use crate::shown::Shown;
 use bl_model::Reply;
-use bl_page::{LEVEL_UNIT, WordSource};
+use bl_page::{LEVEL_UNIT, WordSource, words_from};
 use bl_passes::Mine;
-use bl_proc::{Hint, Insert, InsertStage, Process, Reader};
+use bl_proc::Hint;
 use bl_store::{Glance, Hand};
-use bl_ways::{Approach, row_in, words_with};
+use bl_ways::{Level, Outcome, row_in, words_with};
 use std::sync::Wait;
+
+/// The reply of an insertion, and its hint, by what became of its leaf.
+fn inserted_by(outcome: Outcome) -> (Reply, Option<Hint>)
+    ensures { inserted_answer (insert_reply outcome) ≡ answers.Op result.0 result.1 }
+{
+    match outcome {
+        Outcome::Changed => (Reply::Inserted, None),
+        Outcome::Parted(separator) => {
+            let hint = Hint::Post {
+                level: Level::new(1),
+                key: separator,
+            };
+            (Reply::Inserted, Some(hint))
+        }
+        Outcome::Refused => (Reply::NoRoom, None),
+    }
+}
 
 impl Index {
     /// The leaf that it holds has the key, and stays as it is.
@@ -90,11 +108,10 @@ impl Index {
         }
     }
 
-    /// The leaf that it holds is parted. This is rare, and goes by pages.
+    /// The leaf that it holds is full, and is parted.
     #[inline(never)]
-    fn part_full<R: Wait>(
+    fn part_leaf(
         &self,
-        rt: &R,
         hand: &mut Hand<Mine>,
         at: u32,
         errand: Inserting,
@@ -103,9 +120,7 @@ impl Index {
         requires own { IsOf self.now.store.table.shared.table_id self.now.store.layout hand.old.seat }
         requires running { IsRunning hand.old.seat × HasNoStock hand.old.seat }
         requires reads { ReadsFrom hand.old.seat glance }
-        requires process { IsOn self.now.store.layout (known hand.old.seat) (known hand.old.seat).state }
-        requires since { (pass : ℕ) × (old : Knows) × IsSince pass old (known hand.old.seat) }
-        requires there { IsThere 0 errand.key (proc.Insert (record { key = errand.key; value = errand.value; stage = insert.Coming (approach.Latched at) })) (read_words hand.old.seat) (known hand.old.seat) }
+        requires full { (f : Full) × (f.at ≡ at) × (f.key ≡ errand.key) × (f.word ≡ errand.value) × (read_words hand.old.seat ≡ words_of f.page) × IsOn self.now.store.layout (known hand.old.seat) (proc.Insert (record { key = errand.key; value = errand.value; stage = insert.Changing (change.Taking f) })) }
         ensures same { IsSameHand hand.old.seat hand.new.seat }
         ensures idle { IsIdle hand.new.seat × HasNoStock hand.new.seat }
         ensures within { IsWithin hand.new.seat }
@@ -117,21 +132,16 @@ impl Index {
             store: &self.store,
             glance,
         };
-        let mut process = Insert {
-            key: errand.key,
-            value: errand.value,
-            stage: InsertStage::Coming(Approach::Latched(at)),
-        };
-        process.took_words(&shown, hand);
-        let process = self.carry_on(rt, hand, process);
-        answered(process.answer())
+        let words = words_from(&shown, hand);
+        let outcome = self.part_full(hand, &errand, at, &words, errand.key, errand.value);
+        self.conclude(hand, at);
+        inserted_by(outcome)
     }
 
     /// At the leaf that it holds, which covers the key.
     #[inline(always)]
-    fn insert_there<R: Wait>(
+    fn insert_there(
         &self,
-        rt: &R,
         hand: &mut Hand<Mine>,
         at: u32,
         errand: Inserting,
@@ -141,7 +151,6 @@ impl Index {
         requires running { IsRunning hand.old.seat × HasNoStock hand.old.seat }
         requires reads { ReadsFrom hand.old.seat glance }
         requires process { IsOn self.now.store.layout (known hand.old.seat) (known hand.old.seat).state }
-        requires since { (pass : ℕ) × (old : Knows) × IsSince pass old (known hand.old.seat) }
         requires there { IsThere 0 errand.key (proc.Insert (record { key = errand.key; value = errand.value; stage = insert.Coming (approach.Latched at) })) (read_words hand.old.seat) (known hand.old.seat) }
         ensures same { IsSameHand hand.old.seat hand.new.seat }
         ensures idle { IsIdle hand.new.seat × HasNoStock hand.new.seat }
@@ -160,7 +169,7 @@ impl Index {
         if shown.word(hand, 0) % LEVEL_UNIT < 14 {
             self.enter(hand, at, errand, glance)
         } else {
-            self.part_full(rt, hand, at, errand, glance)
+            self.part_leaf(hand, at, errand, glance)
         }
     }
 
@@ -184,6 +193,6 @@ impl Index {
         let errand = Inserting { key, value };
         self.depart(hand, &errand);
         let (at, glance) = self.come(rt, hand, &errand);
-        self.insert_there(rt, hand, at, errand, glance)
+        self.insert_there(hand, at, errand, glance)
     }
 }

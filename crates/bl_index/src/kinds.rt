@@ -1,6 +1,6 @@
 //! Kinds of processes, each by its own type.
 
-use bl_proc::{Compress, Find, Insert, Part, Post, Process, Reader};
+use bl_proc::{Compress, Find, Part, Post, Process, Reader};
 
 /// A kind of process that the index carries out: each is one of the kinds that the world of processes knows, and goes on
 /// in one way.
@@ -58,32 +58,6 @@ impl Kind for Find {
     ghost follows = { find_follows };
 
     ghost retires = { find_retires };
-}
-
-impl Kind for Insert {
-    ghost use Rattle.std.specs.Prelude.{refl};
-    ghost use Rattle.bl_proc.specs.declared.kinds.Proc.TheVariants as proc;
-    ghost use Rattle.bl_courses.proofs.Insertions.{insert_goes};
-    ghost use Rattle.bl_courses.proofs.Following.{insert_wants, insert_follows};
-    ghost use Rattle.bl_courses.proofs.Retirements.{insert_retires};
-
-    ghost proc_of = { λ p. proc.Insert p };
-
-    ghost acts = { λ p. refl };
-
-    ghost asks = { λ p. refl };
-
-    ghost answers = { λ p. refl };
-
-    ghost goes = { λ p q what t. t };
-
-    ghost courses = { insert_goes };
-
-    ghost wants = { insert_wants };
-
-    ghost follows = { insert_follows };
-
-    ghost retires = { insert_retires };
 }
 
 impl Kind for Post {

@@ -9,6 +9,7 @@
 //! mean what it did.
 #![tactic(auto)]
 
+mod changers;
 mod changing;
 mod coming;
 mod compressing;
@@ -23,6 +24,7 @@ mod kinds;
 mod listing;
 mod meeting;
 mod opening;
+mod parting;
 mod posting;
 mod running;
 mod scanning;

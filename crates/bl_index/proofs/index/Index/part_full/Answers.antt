@@ -1,40 +1,37 @@
-use Rattle.std.proofs.Common.{Some, refl, sym, subst, ◌∙◌}
-use Rattle.bl_model.specs.declared.operation.Op.TheVariants as op
-use Rattle.bl_proc.specs.declared.inserting.InsertStage.TheVariants as insert
-use Rattle.bl_proc.specs.declared.kinds.Proc.TheVariants as proc
-use Rattle.bl_store.specs.Hands.{known}
-use Rattle.bl_store.specs.declared.store.Hand.{Hand}
-use Rattle.bl_passes.specs.declared.known.Mine.{Mine}
-use Rattle.bl_index.specs.Runs.{IsOn, IsSince}
-use Rattle.bl_index.proofs.Ends.{op_has_answer}
-use Rattle.bl_index.proofs.Standing.{on_as, done_from}
-use Rattle.bl_index.proofs.Inserted.{inserting, stands_as}
+use Rattle.std.proofs.Common.{refl, sym, ap, ◌∙◌}
+use Rattle.bl_ways.specs.declared.acts.Seen.TheVariants as seen
+use Rattle.bl_ways.specs.declared.changing.Change.TheVariants as change
+use Rattle.bl_ways.specs.declared.changing.Outcome.TheVariants as outcome
+use Rattle.bl_proc.specs.Processes.{next_of}
+use Rattle.bl_index.proofs.Standing.{on_itself, on_goes, same_goes, same_all, course_at}
 use Rattle.bl_index.proofs.index.Index.part_full.Goals as goal
 
-pub took_words-requires-clause-gets : goal.took_words-requires-clause-gets
-took_words-requires-clause-gets g c = (c.args.at, refl)
+pub take_page-requires-clause-process : goal.take_page-requires-clause-process
+take_page-requires-clause-process g c = on_itself _ _ _ c.requires.full.5
 
-pub carry_on-process-requires-clause-process : goal.carry_on-process-requires-clause-process
-carry_on-process-requires-clause-process g c =
-    let there = c.requires.there in
-    let stands = stands_as c.args.errand.key c.args.errand.value c.args.at there.page _ there.takes there.leads c.took_words.new.self (c.took_words.ensures.takes there.page there.is) in
-    subst (λ (h : Hand Mine). IsOn c.args.self.now.store.layout (known h.seat) (proc.Insert c.took_words.new.self)) (sym c.took_words.ensures.same) (on_as _ _ _ c.requires.process stands)
+pub take_page-requires-clause-next : goal.take_page-requires-clause-next
+take_page-requires-clause-next g c = ap next_of c.requires.full.5.state ∙ g.J.Changer.acts c.args.changer.now (change.Taking c.requires.full.0)
 
-pub answered-requires : goal.answered-requires
-answered-requires g c =
-    let there = c.requires.there in
-    let begun = c.requires.since in
-    let takes = c.took_words.ensures.takes there.page there.is in
-    let since = subst (λ (h : Hand Mine). IsSince begun.0 begun.1 (known h.seat)) (sym c.took_words.ensures.same) begun.2 in
-    op_has_answer _ _ _ _ _ _ (c.carry_on-process.ensures.done begun.0 begun.1 since) (λ i. Some (op.Insert (takes.0 i) (takes.1 i))) _ c.answer.ensures
+pub take_page-requires-clause-course : goal.take_page-requires-clause-course
+take_page-requires-clause-course g c =
+    let taking = change.Taking c.requires.full.0 in let is = c.requires.full.5.state in
+    (λ y child. course_at (seen.Took y) _ _ is (g.J.Changer.courses c.args.changer.now taking (seen.Took y) child), course_at seen.Refused _ _ is (g.J.Changer.courses c.args.changer.now taking seen.Refused refl))
 
-pub returns-clause-inserted : goal.returns-clause-inserted
-returns-clause-inserted g c = λ pass old begun.
-    let there = c.requires.there in
-    let takes = c.took_words.ensures.takes there.page there.is in
-    let since = subst (λ (h : Hand Mine). IsSince pass old (known h.seat)) (sym c.took_words.ensures.same) begun in
-    record {
-      last = c.carry_on-process.result;
-      done = done_from pass old _ (inserting c.args.errand.key c.args.errand.value insert.New) (proc.Insert c.took_words.new.self) _ (c.carry_on-process.ensures.done pass old since) (λ i. Some (op.Insert (takes.0 i) (takes.1 i))) refl;
-      answer = sym c.answer.ensures ∙ c.answered.ensures;
-    }
+pub parting-parting-requires-clause-full : goal.parting-parting-requires-clause-full
+parting-parting-requires-clause-full g c = let f = c.requires.full in (f.0, f.1, f.2, f.3, f.4)
+
+pub put_parts-requires-clause-process : goal.put_parts-requires-clause-process
+put_parts-requires-clause-process g c =
+    let f = c.requires.full in
+    on_goes _ _ _ _ _ _ f.5 c.in-Some.ensures.took.3 (g.J.Changer.goes c.args.changer.now (change.Taking f.0) (change.PuttingNew c.parting-parting.result) (seen.Took c.in-Some.new) (c.parting-parting.ensures f.0 f.1 f.2 f.3 f.4))
+
+pub returns-in-None-clause-process : goal.returns-in-None-clause-process
+returns-in-None-clause-process g c =
+    let f = c.requires.full in
+    on_goes _ _ _ _ _ _ f.5 c.in-None.ensures.took.1 (g.J.Changer.goes c.args.changer.now (change.Taking f.0) (change.Opening c.args.at outcome.Refused) seen.Refused (λ i. change.Opening (sym f.1 i) outcome.Refused))
+
+pub returns-in-None-clause-since : goal.returns-in-None-clause-since
+returns-in-None-clause-since g c = same_goes _ _ _ c.in-None.ensures.took.1
+
+pub returns-in-Some-clause-since : goal.returns-in-Some-clause-since
+returns-in-Some-clause-since g c = same_all _ _ _ (same_goes _ _ _ c.in-Some.ensures.took.3) c.put_parts.ensures.since
