@@ -6,8 +6,9 @@
 
 mod serve;
 
-use bl_commands::{CommandFault, Invocation, check_file, read_words, replay_file};
+use bl_commands::{CommandFault, check_file, replay_file};
 use bl_model::Watched;
+use bl_options::{Invocation, read_words};
 use clap::Error;
 use clap::error::ErrorKind;
 use serve::serve_index;

@@ -5,12 +5,12 @@ ghost use Rattle.std.specs.Io.KnownBytes.{Appends, Consumes, IsAtEnd};
 ghost use Rattle.bl_model.specs.Map.{empty};
 ghost use Rattle.bl_lines.specs.Served.{Served, Stops};
 ghost use Rattle.bl_lines.specs.Streams.{EndsRead};
-ghost use Rattle.bl_commands.specs.Limits.{AreWithin};
+ghost use Rattle.bl_options.specs.Limits.{AreWithin};
 ghost use Rattle.bl_serve.specs.Serving.{AreTogether, seen_by};
 
-use bl_commands::ServeOptions;
 use bl_index::{Config, Index, OpenFault, Pass};
 use bl_model::Watched;
+use bl_options::ServeOptions;
 use bl_serve::{OpenGate, ServeFault, Totals, serve};
 use std::alloc::{AllocError, Global};
 use std::io::{Read, Write};

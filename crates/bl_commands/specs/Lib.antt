@@ -1,4 +1,3 @@
 pub mod Statuses
-pub mod Limits
 pub mod Checks
 pub mod Replays

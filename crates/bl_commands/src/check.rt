@@ -7,11 +7,9 @@ ghost use Rattle.bl_commands.specs.Checks.{report_text, fault_text, IsVerdict, R
 ghost use Rattle.bl_commands.specs.declared.fault.CommandFault.TheVariants as command;
 
 use crate::fault::CommandFault;
-use crate::texts::ABOUT_CHECK;
 use bl_check::{Fault, Report, check};
 use bl_lines::source::read_some;
 use bl_model::{Watched, write_out};
-use clap::{Arg, ArgAction, Command, Error};
 use std::alloc::{AllocError, Global};
 use std::fs;
 use std::fs::OpenFile;
@@ -20,20 +18,6 @@ use std::rt::Files;
 
 /// How many bytes one call reads at most.
 const PIECE: usize = 16_384;
-
-/// The command line of `check`.
-pub fn check_command<'a>(alloc: Global) -> Result<Command<'a>, Error> {
-    let file = Arg::new(alloc, "FILE")
-        .required(true)
-        .action(ArgAction::Set)
-        .help("The image to check");
-    Ok(
-        Command::new(alloc, "check")
-            .about("Checks whether an image is a sound tree")
-            .after_help(ABOUT_CHECK)
-            .arg(file)?,
-    )
-}
 
 /// All bytes of a reader.
 fn read_whole<R: Read>(alloc: Global, reader: &mut Watched<R>) -> Result<Vec<u8>, CommandFault>

@@ -5,29 +5,13 @@ ghost use Rattle.std.specs.Io.KnownBytes.{Consumes, IsAtEnd};
 ghost use Rattle.bl_commands.specs.Replays.{Replays, StopsReplay};
 
 use crate::fault::CommandFault;
-use crate::texts::ABOUT_REPLAY;
 use bl_model::Watched;
 use bl_replay::{PLAYED, replay};
 use bl_script::read_script;
-use clap::{Arg, ArgAction, Command, Error};
 use std::alloc::Global;
 use std::fs;
 use std::io::{Read, Write};
 use std::rt::Files;
-
-/// The command line of `replay`.
-pub fn replay_command<'a>(alloc: Global) -> Result<Command<'a>, Error> {
-    let file = Arg::new(alloc, "FILE")
-        .required(true)
-        .action(ArgAction::Set)
-        .help("The script to carry out");
-    Ok(
-        Command::new(alloc, "replay")
-            .about("Carries out a script of processes and turns, and prints each event")
-            .after_help(ABOUT_REPLAY)
-            .arg(file)?,
-    )
-}
 
 /// Reads a whole script, carries it out, and prints each event. Nothing is written where the script is bad or the reader
 /// fails. Lend a reader and a writer on which no call has failed.

@@ -1,6 +1,7 @@
 //! The command `check` over bytes, over streams that fail, and over paths that are no file.
 
-use bl_commands::{CommandFault, Invocation, check_file, check_image, read_words};
+use bl_commands::{CommandFault, check_file, check_image};
+use bl_options::{Invocation, read_words};
 use bl_model::Watched;
 use std::alloc::Global;
 use std::io;

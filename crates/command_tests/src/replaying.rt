@@ -1,6 +1,7 @@
 //! The command `replay` over bytes.
 
-use bl_commands::{CommandFault, Invocation, read_words, replay_file, replay_script};
+use bl_commands::{CommandFault, replay_file, replay_script};
+use bl_options::{Invocation, read_words};
 use bl_model::Watched;
 use std::alloc::Global;
 use std::io;

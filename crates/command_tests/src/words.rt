@@ -1,6 +1,7 @@
 //! The words of the command line, and the words on standard error.
 
-use bl_commands::{CommandFault, Invocation, ServeOptions, read_words};
+use bl_commands::CommandFault;
+use bl_options::{Invocation, ServeOptions, read_words};
 use bl_lines::ServeFault;
 use std::alloc::Global;
 use std::test::Fail;

@@ -1,8 +1,8 @@
 -- The limits of the command line's options.
 use Rattle.std.specs.Prelude.{◌≤◌}
-use Rattle.bl_commands.specs.declared.command.Invocation.{Invocation}
-use Rattle.bl_commands.specs.declared.command.Invocation.TheVariants.{Serve, Check, Replay, Nothing}
-use Rattle.bl_commands.specs.declared.command.ServeOptions.{ServeOptions}
+use Rattle.bl_options.specs.declared.command.Invocation.{Invocation}
+use Rattle.bl_options.specs.declared.command.Invocation.TheVariants.{Serve, Check, Replay, Nothing}
+use Rattle.bl_options.specs.declared.command.ServeOptions.{ServeOptions}
 
 -- 4 to 65,536 pages, 1 to 32 workers, 16 compressors at most
 abbrev pub AreWithin : ServeOptions → Type 0

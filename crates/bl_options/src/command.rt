@@ -1,12 +1,10 @@
 //! The command line.
 
 ghost use Rattle.std.specs.Prelude.{◌≡◌, ◌≤◌, ℕ, Some, None, IfOk};
-ghost use Rattle.bl_commands.specs.Limits.{IsWithinLimits};
+ghost use Rattle.bl_options.specs.Limits.{IsWithinLimits};
 
-use crate::check::check_command;
-use crate::replay::replay_command;
-use crate::texts::{ABOUT_ALL, ABOUT_SERVE, VERSION};
-use clap::{Arg, Command, Error, value_parser};
+use crate::texts::{ABOUT_ALL, ABOUT_CHECK, ABOUT_REPLAY, ABOUT_SERVE, VERSION};
+use clap::{Arg, ArgAction, Command, Error, value_parser};
 use std::alloc::Global;
 
 /// The options of `serve`.
@@ -42,6 +40,34 @@ fn held(value: Option<u32>, default: u32, least: u32, most: u32) -> u32
     ensures absent { value ≡ None → least ≤ default → default ≤ most → result ≡ default }
 {
     value.unwrap_or(default).clamp(least, most)
+}
+
+/// The command line of `check`.
+fn check_command<'a>(alloc: Global) -> Result<Command<'a>, Error> {
+    let file = Arg::new(alloc, "FILE")
+        .required(true)
+        .action(ArgAction::Set)
+        .help("The image to check");
+    Ok(
+        Command::new(alloc, "check")
+            .about("Checks whether an image is a sound tree")
+            .after_help(ABOUT_CHECK)
+            .arg(file)?,
+    )
+}
+
+/// The command line of `replay`.
+fn replay_command<'a>(alloc: Global) -> Result<Command<'a>, Error> {
+    let file = Arg::new(alloc, "FILE")
+        .required(true)
+        .action(ArgAction::Set)
+        .help("The script to carry out");
+    Ok(
+        Command::new(alloc, "replay")
+            .about("Carries out a script of processes and turns, and prints each event")
+            .after_help(ABOUT_REPLAY)
+            .arg(file)?,
+    )
 }
 
 /// Reads the words of the command line, of which the first is the program's name. What clap refuses, or asks to be
