@@ -34,7 +34,7 @@ fn thin_hint(level: u32, key: u64) -> Hint
     Hint::Thin { level, key }
 }
 
-fn one_pass(alloc: Global, pages: u32) -> Option<(Index, Pass)>
+pub fn one_pass(alloc: Global, pages: u32) -> Option<(Index, Pass)>
     ensures { IfSome result (λ t. IsPassOf t.0 t.1) }
 {
     match Index::open(alloc, config(pages, 1)) {

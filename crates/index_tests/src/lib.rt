@@ -9,3 +9,5 @@
 mod calls;
 #[cfg(test)]
 mod meetings;
+#[cfg(test)]
+mod scans;

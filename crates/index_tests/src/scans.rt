@@ -1,0 +1,307 @@
+//! Scans of one thread, and one beside threads that write.
+
+ghost use Rattle.std.specs.Prelude.{All, IfSome};
+ghost use Rattle.bl_index.specs.Calls.{IsPassOf};
+
+use crate::calls::one_pass;
+use bl_index::{Config, Index, Pass, ScanFault};
+use bl_model::Reply;
+use bl_proc::Hint;
+use std::alloc::Global;
+use std::sync::Wait;
+use std::sync::atomic::{AtomicU64, Ordering};
+use std::test::Fail;
+use std::thread;
+use std::thread::Threads;
+
+/// How many keys are written beside a scan, or are there from the beginning.
+const KEYS: u64 = 2_000;
+
+/// Of so many keys one is there from the beginning, and nobody touches it.
+const KEPT: u64 = 10;
+
+/// How often each writer goes over its keys.
+const ROUNDS: u64 = 6;
+
+/// How often the keys are scanned meanwhile.
+const SCANS: u64 = 40;
+
+/// How many threads write.
+const WRITERS: u64 = 4;
+
+/// How many levels a tree may have.
+const LEVELS: u32 = 12;
+
+/// Keys 1 to 15 with ten times themselves are in two leaves. The upper one, from 9 on, is not listed yet: a search gets the
+/// anchor, the lower leaf and then the upper one.
+fn fifteen_rows<R: Wait>(rt: &R, index: &Index, pass: &mut Pass)
+    requires { IsPassOf index.now pass.old }
+    ensures { IsPassOf index.now pass.new }
+{
+    for key in 1..16u64 {
+        let _reply = index.insert(rt, pass, key, 10 * key);
+    }
+}
+
+fn are(rows: &Vec<(u64, u64)>, wanted: &[(u64, u64)]) -> bool {
+    rows.as_slice() == wanted
+}
+
+// A scan ends before its end, and stands behind the rows of an earlier one.
+#[test]
+fn scans_list_the_rows_of_two_leaves(rt: HostRuntime) -> Result<(), Fail> {
+    let Some((index, mut pass)) = one_pass(rt.alloc(), 8) else {
+        assert!(rt; false);
+        return Ok(());
+    };
+    fifteen_rows(&rt, &index, &mut pass);
+    let mut rows = Vec::new(rt.alloc());
+    let some = index.scan_into(&mut pass, 7, Some(11), 3, &mut rows);
+    assert!(rt; some == Ok(()));
+    assert!(rt; are(&rows, &[(7, 70), (8, 80), (9, 90), (10, 100)]));
+    let none = index.scan_into(&mut pass, 11, Some(11), 3, &mut rows);
+    assert!(rt; none == Ok(()));
+    assert!(rt; are(&rows, &[(7, 70), (8, 80), (9, 90), (10, 100)]));
+    let rest = index.scan_into(&mut pass, 14, None, 3, &mut rows);
+    assert!(rt; rest == Ok(()));
+    assert!(rt;
+        are(
+            &rows,
+            &[(7, 70), (8, 80), (9, 90), (10, 100), (14, 140), (15, 150)]
+        )
+    );
+    Ok(())
+}
+
+// Two gets lead to the lower leaf, and not to the upper one. The scan goes on where it stopped.
+#[test]
+fn scans_run_out_of_turns(rt: HostRuntime) -> Result<(), Fail> {
+    let Some((index, mut pass)) = one_pass(rt.alloc(), 8) else {
+        assert!(rt; false);
+        return Ok(());
+    };
+    fifteen_rows(&rt, &index, &mut pass);
+    let mut rows = Vec::new(rt.alloc());
+    let few = index.scan_into(&mut pass, 7, Some(11), 1, &mut rows);
+    assert!(rt; few == Err(ScanFault::OutOfTurns(7)));
+    assert!(rt; rows.is_empty());
+    let half = index.scan_into(&mut pass, 7, Some(11), 2, &mut rows);
+    assert!(rt; half == Err(ScanFault::OutOfTurns(9)));
+    assert!(rt; are(&rows, &[(7, 70), (8, 80)]));
+    let rest = index.scan_into(&mut pass, 9, Some(11), 3, &mut rows);
+    assert!(rt; rest == Ok(()));
+    assert!(rt; are(&rows, &[(7, 70), (8, 80), (9, 90), (10, 100)]));
+    Ok(())
+}
+
+// The upper leaf is empty, and still there.
+#[test]
+fn scans_after_deletions(rt: HostRuntime) -> Result<(), Fail> {
+    let Some((index, mut pass)) = one_pass(rt.alloc(), 8) else {
+        assert!(rt; false);
+        return Ok(());
+    };
+    fifteen_rows(&rt, &index, &mut pass);
+    for key in 9..16u64 {
+        let _reply = index.delete(&rt, &mut pass, key);
+        let _released = index.sweep(&mut pass);
+    }
+    let mut rows = Vec::new(rt.alloc());
+    let upper = index.scan_into(&mut pass, 9, None, 3, &mut rows);
+    assert!(rt; upper == Ok(()) && rows.is_empty());
+    let both = index.scan_into(&mut pass, 8, None, 3, &mut rows);
+    assert!(rt; both == Ok(()));
+    assert!(rt; are(&rows, &[(8, 80)]));
+    Ok(())
+}
+
+#[test]
+fn a_scan_at_the_greatest_key(rt: HostRuntime) -> Result<(), Fail> {
+    let Some((index, mut pass)) = one_pass(rt.alloc(), 8) else {
+        assert!(rt; false);
+        return Ok(());
+    };
+    let inserted = index.insert(&rt, &mut pass, u64::MAX, 1);
+    assert!(rt; matches!(inserted, (Reply::Inserted, None)));
+    let mut rows = Vec::new(rt.alloc());
+    let below = index.scan_into(&mut pass, 0, Some(u64::MAX), 2, &mut rows);
+    assert!(rt; below == Ok(()) && rows.is_empty());
+    let all = index.scan_into(&mut pass, u64::MAX, None, 2, &mut rows);
+    assert!(rt; all == Ok(()));
+    assert!(rt; are(&rows, &[(u64::MAX, 1)]));
+    Ok(())
+}
+
+/// Scans all keys, again and again from where a part had no room or ran out of turns.
+fn scan_all<R: Wait>(rt: &R, index: &Index, pass: &mut Pass, rows: &mut Vec<(u64, u64)>)
+    requires { IsPassOf index.now pass.old }
+    ensures { IsPassOf index.now pass.new }
+{
+    let mut from = 0;
+    for _ in rt.forever() {
+        match index.scan_into(pass, from, None, index.patience(), rows) {
+            Ok(()) => return,
+            Err(ScanFault::Memory(at)) => from = at,
+            Err(ScanFault::OutOfTurns(at)) => from = at,
+        }
+    }
+}
+
+// Whichever allocation is refused, no row is lost and none is listed twice.
+#[test]
+fn scans_go_on_after_want_of_memory(rt: HostRuntime) -> Result<(), Fail> {
+    let Some((index, mut pass)) = one_pass(rt.alloc(), 8) else {
+        return Ok(());
+    };
+    fifteen_rows(&rt, &index, &mut pass);
+    let mut rows = Vec::new(rt.alloc());
+    scan_all(&rt, &index, &mut pass, &mut rows);
+    assert!(rt; rows.len() == 15 && rises(rows.as_slice()));
+    Ok(())
+}
+
+/// Whether each key is greater than the one before it.
+fn rises(rows: &[(u64, u64)]) -> bool {
+    let mut least = 0;
+    for row in rows {
+        if row.0 < least {
+            return false;
+        }
+        least = row.0.saturating_add(1);
+    }
+    true
+}
+
+/// How many of the keys that nobody touches are there with their values.
+fn kept(rows: &[(u64, u64)]) -> u64 {
+    rows.iter()
+        .filter(|row| row.0 % KEPT == 0 && row.1 == row.0)
+        .count() as u64
+}
+
+/// Posts or compresses, and goes on with the hints that this gives.
+fn follow<R: Wait>(rt: &R, index: &Index, pass: &mut Pass, hint: Option<Hint>)
+    requires { IsPassOf index.now pass.old }
+    ensures { IsPassOf index.now pass.new }
+{
+    let mut hint = hint;
+    for _level in 0..LEVELS {
+        let Some(next) = hint else {
+            return;
+        };
+        hint = match next {
+            Hint::Post { .. } => index.post(rt, pass, next).1,
+            Hint::Thin { .. } => index.compress(rt, pass, next).1,
+        };
+    }
+}
+
+/// Inserts a key with itself, or takes it away.
+fn change<R: Wait>(rt: &R, index: &Index, pass: &mut Pass, key: u64, inserts: bool)
+    requires { IsPassOf index.now pass.old }
+    ensures { IsPassOf index.now pass.new }
+{
+    let (_reply, hint) = if inserts {
+        index.insert(rt, pass, key, key)
+    } else {
+        index.delete(rt, pass, key)
+    };
+    follow(rt, index, pass, hint);
+    index.sweep(pass);
+}
+
+/// Inserts the keys that nobody touches.
+fn keep<R: Wait>(rt: &R, index: &Index, pass: &mut Pass)
+    requires { IsPassOf index.now pass.old }
+    ensures { IsPassOf index.now pass.new }
+{
+    for key in 0..KEYS {
+        if key % KEPT == 0 {
+            change(rt, index, pass, key, true);
+        }
+    }
+}
+
+/// Inserts and deletes in turn the writer's share of the other keys.
+fn write<R: Wait>(rt: &R, index: &Index, pass: &mut Pass, writer: u64)
+    requires { IsPassOf index.now pass.old }
+    ensures { IsPassOf index.now pass.new }
+{
+    for step in 0..ROUNDS * KEYS {
+        let key = step % KEYS;
+        if key % KEPT != 0 && key % WRITERS == writer {
+            change(rt, index, pass, key, step / KEYS % 2 == 0);
+        }
+    }
+}
+
+/// Scans again and again, and counts the scans that are as they must be.
+fn scan<R: Wait>(rt: &R, alloc: Global, index: &Index, pass: &mut Pass, good: &AtomicU64)
+    requires { IsPassOf index.now pass.old }
+    ensures { IsPassOf index.now pass.new }
+{
+    let mut rows = Vec::new(alloc);
+    for _scan in 0..SCANS {
+        rows.clear();
+        scan_all(rt, index, pass, &mut rows);
+        if rises(rows.as_slice()) && kept(rows.as_slice()) == KEYS / KEPT {
+            good.fetch_add(1, Ordering::SeqCst);
+        }
+    }
+}
+
+/// Each pass works in a thread of its own: the first ones write, the last one scans.
+fn work<R: Threads + Wait + Sync>(
+    rt: &R,
+    alloc: Global,
+    index: &Index,
+    passes: &mut [Pass],
+    good: &AtomicU64,
+)
+    requires { All (IsPassOf index.now) passes.old }
+{
+    thread::for_each_mut(
+        rt,
+        passes,
+        5,
+        &|place, pass| {
+            let place = place as u64;
+            if place < WRITERS {
+                write(rt, index, pass, place);
+            } else {
+                scan(rt, alloc, index, pass, good);
+            }
+        },
+    );
+}
+
+/// An index with six passes, the last of which stands beside the others.
+fn six_passes(alloc: Global) -> Option<(Index, Vec<Pass>, Pass)>
+    ensures { IfSome result (λ t. All (IsPassOf t.0) t.1.items × IsPassOf t.0 t.2) }
+{
+    let config = Config {
+        pages: 1024,
+        passes: 6,
+    };
+    match Index::open(alloc, config) {
+        Ok((index, mut passes)) => {
+            let last = passes.pop()?;
+            Some((index, passes, last))
+        }
+        Err(_) => None,
+    }
+}
+
+// Four threads write, and one scans: its keys rise, and keys that nobody touches are all there.
+#[test]
+fn a_scan_beside_four_writers(rt: HostRuntime) -> Result<(), Fail> {
+    let Some((index, mut passes, mut last)) = six_passes(rt.alloc()) else {
+        assert!(rt; false);
+        return Ok(());
+    };
+    keep(&rt, &index, &mut last);
+    let good = AtomicU64::new(0);
+    work(&rt, rt.alloc(), &index, passes.as_mut_slice(), &good);
+    assert!(rt; good.load(Ordering::SeqCst) == SCANS);
+    Ok(())
+}
