@@ -1,11 +1,12 @@
 -- A process of which a pass has no value: it knows where the process stands.
-use Rattle.std.specs.Prelude.{◌≡◌, ℕ, Option, Some, List}
+use Rattle.std.specs.Prelude.{◌≡◌, ℕ, Option, Some, None, List}
 use Rattle.atomic_table.specs.declared.shared.Seat.{Seat}
 use Rattle.bl_page.specs.declared.page.Page.{Page}
 use Rattle.bl_page.specs.Words.{words_of}
 use Rattle.bl_layout.specs.declared.layout.Layout.{Layout}
 use Rattle.bl_model.specs.declared.operation.Reply.{Reply}
 use Rattle.bl_store.specs.declared.view.View.{View}
+use Rattle.bl_store.specs.declared.store.Glance.{Glance}
 use Rattle.bl_store.specs.Hands.{known, read_words, ReadsFrom}
 use Rattle.bl_ways.specs.declared.acts.Action.TheVariants as act
 use Rattle.bl_ways.specs.declared.acts.Seen.TheVariants as seen
@@ -49,6 +50,11 @@ pub record IsThere (level key : ℕ) (latched : Proc) (words : List ℕ) (d : Mi
 abbrev pub HasArrived : ℕ → ℕ → (Approach → Proc) → ℕ → Layout → Seat (Unit {0}) (View Mine) → Arrived → Type 0
 HasArrived level key at x l h (There glance) = ReadsFrom h glance × IsThere level key (at (Latched x)) (read_words h) (known h) × IsOn l (known h) (known h).state
 HasArrived level key at x l h (Away to) = IsOn l (known h) (at (Leaving x to))
+
+-- It is at the page of its level that covers its key; or its way begins again.
+abbrev pub HasCome : ℕ → ℕ → (Approach → Proc) → Layout → Seat (Unit {0}) (View Mine) → Option (ℕ × Glance) → Type 0
+HasCome level key at l h (Some t) = ReadsFrom h t.1 × IsThere level key (at (Latched t.0)) (read_words h) (known h) × IsOn l (known h) (known h).state
+HasCome level key at l h None = IsOn l (known h) (at Start)
 
 -- The process opens that page, then ends, and is the last one then.
 pub record OpensLast (state : Proc) (page : ℕ) (ending last : Proc) : Type 0 where
