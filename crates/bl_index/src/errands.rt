@@ -200,7 +200,7 @@ impl Errand for Posting {
 
     ghost courses = { λ j a what g. post_goes (record { level = j.level; key = j.key; stage = post.Coming a; least = j.least; most = j.most; below = tt }) what refl g };
 
-    ghost enters = { λ j a c led t. (refl, refl, led, t) };
+    ghost enters = { λ j a c led t. (refl, refl, (led, t)) };
 
     ghost goes = { λ j a b what past t. (refl, refl, nears j.level j.key a b what past t) };
 }
