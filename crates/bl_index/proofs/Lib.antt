@@ -14,6 +14,7 @@ pub mod Alone
 pub mod Released
 pub mod Quiet
 pub mod Posts
+pub mod Parents
 pub mod Pressed
 pub mod Paces
 pub mod Learning

@@ -36,7 +36,7 @@ on_as l d p on is = record { runs = on.runs; state = is; pages = on.pages; passe
 pub opens_at : (state p ending last : Proc) (page : ℕ) → state ≡ p → OpensLast p page ending last → OpensLast state page ending last
 opens_at state p ending last page is opens = subst (λ (z : Proc). OpensLast z page ending last) (sym is) opens
 
-pub none_of : (o : Option ℕ) → ((v : ℕ) → o ≡ Some v → ⊥) → o ≡ None
+pub none_of : {A : Type 0} (o : Option A) → ((v : A) → o ≡ Some v → ⊥) → o ≡ None
 none_of None not = refl
 none_of (Some v) not = absurd (not v refl)
 

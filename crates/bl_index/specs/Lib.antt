@@ -1,5 +1,6 @@
 pub mod Calls
 pub mod Runs
+pub mod Ways
 pub mod Events
 pub mod Opened
 pub mod Searching

@@ -1,6 +1,8 @@
 //! Who changes a page that it holds.
 
-use crate::errands::Inserting;
+ghost use Rattle.std.specs.Prelude.{◌<◌};
+
+use crate::errands::{Inserting, Posting};
 
 /// Who changes a page that it holds and has got. There is a process that does so, of which there is no value.
 pub(crate) trait Changer {
@@ -36,6 +38,28 @@ impl Changer for Inserting {
     ghost acts = { λ j c. refl };
 
     ghost courses = { λ j c what g. insert_goes (record { key = j.key; value = j.value; stage = insert.Changing c }) what refl g };
+
+    ghost goes = { λ j c d what t. (refl, refl, t) };
+}
+
+/// The listing of a child in its parent, which is below the last level that a tree may have.
+#[derive(Clone, Copy)]
+pub(crate) struct Listing {
+    pub(crate) posting: Posting,
+    pub(crate) ghost below: { posting.level < 12 },
+}
+
+impl Changer for Listing {
+    ghost use Rattle.std.specs.Prelude.{refl};
+    ghost use Rattle.bl_proc.specs.declared.posting.PostStage.TheVariants as post;
+    ghost use Rattle.bl_courses.proofs.Posts.{post_goes};
+    ghost use Rattle.bl_index.specs.Events.{posting};
+
+    ghost changing = { λ j c. posting j.posting (post.Changing c) j.below };
+
+    ghost acts = { λ j c. refl };
+
+    ghost courses = { λ j c what g. post_goes (record { level = j.posting.level; key = j.posting.key; stage = post.Changing c; least = j.posting.least; most = j.posting.most; below = j.below }) what refl g };
 
     ghost goes = { λ j c d what t. (refl, refl, t) };
 }

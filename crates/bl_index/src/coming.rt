@@ -1,16 +1,16 @@
 //! The way of a writer to the page that covers its key, by the words of the pages on it.
 
-ghost use Rattle.std.specs.Prelude.{◌≡◌, true, false};
+ghost use Rattle.std.specs.Prelude.{◌≡◌, true, false, MatchOption};
+ghost use Rattle.bl_page.specs.declared.page.Page.{Page};
 ghost use Rattle.bl_ways.specs.declared.acts.Action.TheVariants as act;
 ghost use Rattle.bl_ways.specs.declared.approaching.Approach.TheVariants as approach;
-ghost use Rattle.bl_ways.specs.Approaches.{approach_next, IsToLook};
 ghost use Rattle.bl_store.specs.Hands.{known, read_words, IsOf, IsIdle, IsRunning, IsSameHand, IsSameStage, IsSameStock, ReadsFrom};
 ghost use Rattle.bl_ways.specs.declared.acts.Seen.TheVariants as seen;
 ghost use Rattle.bl_proc.specs.Processes.{next_of};
 ghost use Rattle.bl_courses.specs.Courses.{GoesOn};
 ghost use Rattle.bl_passes.specs.Told.{Begins, IsUnborn};
 ghost use Rattle.bl_index.specs.Runs.{IsOn, IsSince};
-ghost use Rattle.bl_index.specs.Events.{IsSameProcess, HoldsNone, IsThere, HasArrived};
+ghost use Rattle.bl_index.specs.Events.{IsSameProcess, HoldsNone, IsThere, HasArrived, HasCome};
 
 use crate::errands::Errand;
 use crate::index::Index;
@@ -29,19 +29,6 @@ pub(crate) enum Arrived {
     There(Glance),
     /// It doesn't, and is to be opened. The way goes on at the other page, or from its beginning.
     Away(Option<u32>),
-}
-
-/// The page that is to be got.
-#[inline(always)]
-fn page_of(approach: Approach) -> u32
-    requires { IsToLook approach }
-    ensures { approach_next approach ≡ act.Get result }
-{
-    match approach {
-        Approach::Start => 0,
-        Approach::At(page) => page,
-        _ => unreachable!(),
-    }
 }
 
 impl Index {
@@ -76,27 +63,46 @@ impl Index {
         self.set_out::<Brand, J>(hand, errand);
     }
 
-    /// It gets the next page on its way, and goes on by its words.
+    /// It gets the anchor, and goes on by its words.
     #[inline(always)]
-    fn look_on<J: Errand>(&self, hand: &mut Hand<Mine>, errand: &J, approach: Approach) -> Approach
+    fn look_first<J: Errand>(&self, hand: &mut Hand<Mine>, errand: &J) -> Approach
         requires own { IsOf self.now.store.table.shared.table_id self.now.store.layout hand.old.seat }
         requires running { IsRunning hand.old.seat }
-        requires process { IsOn self.now.store.layout (known hand.old.seat) (J.at errand.now approach) }
-        requires looks { IsToLook approach }
+        requires process { IsOn self.now.store.layout (known hand.old.seat) (J.at errand.now approach.Start) }
+        requires led { (c : Page) → J.IsLedBy errand.now c }
         ensures same { IsSameHand hand.old.seat hand.new.seat × IsSameStage hand.old.seat hand.new.seat × IsSameStock hand.old.seat hand.new.seat }
         ensures process { IsOn self.now.store.layout (known hand.new.seat) (J.at errand.now result) }
         ensures free { HoldsNone result }
         ensures since { IsSameProcess (known hand.old.seat) (known hand.new.seat) }
     {
-        let glance = self.look(hand, page_of(approach));
+        let glance = self.look(hand, 0);
         let shown = Shown {
             store: &self.store,
             glance,
         };
-        approach.took_words(errand.level(), errand.key(), &shown, hand)
+        Approach::Start.took_words(errand.level(), errand.key(), &shown, hand)
     }
 
-    /// It goes on to the page that is to be latched.
+    /// It gets the page on its way, and goes on by its words.
+    #[inline(always)]
+    fn look_on<J: Errand>(&self, hand: &mut Hand<Mine>, errand: &J, page: u32) -> Approach
+        requires own { IsOf self.now.store.table.shared.table_id self.now.store.layout hand.old.seat }
+        requires running { IsRunning hand.old.seat }
+        requires process { IsOn self.now.store.layout (known hand.old.seat) (J.at errand.now (approach.At page)) }
+        ensures same { IsSameHand hand.old.seat hand.new.seat × IsSameStage hand.old.seat hand.new.seat × IsSameStock hand.old.seat hand.new.seat }
+        ensures process { IsOn self.now.store.layout (known hand.new.seat) (J.at errand.now result) }
+        ensures free { HoldsNone result }
+        ensures since { IsSameProcess (known hand.old.seat) (known hand.new.seat) }
+    {
+        let glance = self.look(hand, page);
+        let shown = Shown {
+            store: &self.store,
+            glance,
+        };
+        Approach::At(page).took_words(errand.level(), errand.key(), &shown, hand)
+    }
+
+    /// It goes on to the page that is to be latched, unless the way begins again.
     #[inline(always)]
     fn seek<J: Errand, R: Wait>(
         &self,
@@ -104,21 +110,23 @@ impl Index {
         hand: &mut Hand<Mine>,
         errand: &J,
         from: Approach,
-    ) -> u32
+    ) -> Option<u32>
         requires own { IsOf self.now.store.table.shared.table_id self.now.store.layout hand.old.seat }
         requires running { IsRunning hand.old.seat }
         requires process { IsOn self.now.store.layout (known hand.old.seat) (J.at errand.now from) }
         requires free { HoldsNone from }
         ensures same { IsSameHand hand.old.seat hand.new.seat × IsSameStage hand.old.seat hand.new.seat × IsSameStock hand.old.seat hand.new.seat }
-        ensures process { IsOn self.now.store.layout (known hand.new.seat) (J.at errand.now (approach.Latching result)) }
+        ensures process { MatchOption result (IsOn self.now.store.layout (known hand.new.seat) (J.at errand.now approach.Start)) (λ x. IsOn self.now.store.layout (known hand.new.seat) (J.at errand.now (approach.Latching x))) }
         ensures since { IsSameProcess (known hand.old.seat) (known hand.new.seat) }
     {
         let mut approach = from;
         for _ in rt.forever() {
-            if let Approach::Latching(page) = approach {
-                return page;
+            match approach {
+                Approach::At(page) => approach = self.look_on(hand, errand, page),
+                Approach::Latching(page) => return Some(page),
+                Approach::Start => return None,
+                Approach::Latched(_) | Approach::Leaving(_, _) => unreachable!(),
             }
-            approach = self.look_on(hand, errand, approach);
         }
         unreachable!()
     }
@@ -185,8 +193,46 @@ impl Index {
         }
     }
 
-    /// It comes to the page of its level that covers its key, which it holds then and got last. After a miss the thread
-    /// pauses.
+    /// From there it comes to the page of its level that covers its key, which it holds then and got last, unless the way
+    /// begins again. After a miss the thread pauses.
+    #[inline(always)]
+    pub(crate) fn come_from<J: Errand, R: Wait>(
+        &self,
+        rt: &R,
+        hand: &mut Hand<Mine>,
+        errand: &J,
+        from: Approach,
+    ) -> Option<(u32, Glance)>
+        requires own { IsOf self.now.store.table.shared.table_id self.now.store.layout hand.old.seat }
+        requires running { IsRunning hand.old.seat }
+        requires process { IsOn self.now.store.layout (known hand.old.seat) (J.at errand.now from) }
+        requires free { HoldsNone from }
+        ensures same { IsSameHand hand.old.seat hand.new.seat × IsSameStage hand.old.seat hand.new.seat × IsSameStock hand.old.seat hand.new.seat }
+        ensures came { HasCome (J.level_of errand.now) (J.key_of errand.now) (J.at errand.now) self.now.store.layout hand.new.seat result }
+        ensures since { IsSameProcess (known hand.old.seat) (known hand.new.seat) }
+    {
+        let backoff = Backoff::new();
+        let mut from = from;
+        for _ in rt.forever() {
+            let page = match self.seek(rt, hand, errand, from) {
+                Some(page) => page,
+                None => return None,
+            };
+            if self.latch_there(hand, errand, page) {
+                backoff.reset();
+                match self.look_there(hand, errand, page) {
+                    Arrived::There(glance) => return Some((page, glance)),
+                    Arrived::Away(to) => from = self.leave_for(hand, errand, page, to),
+                }
+            } else {
+                backoff.snooze();
+                from = Approach::At(page);
+            }
+        }
+        unreachable!()
+    }
+
+    /// It comes to the page of its level that covers its key, which it holds then and got last.
     #[inline(always)]
     pub(crate) fn come<J: Errand, R: Wait>(
         &self,
@@ -197,25 +243,17 @@ impl Index {
         requires own { IsOf self.now.store.table.shared.table_id self.now.store.layout hand.old.seat }
         requires running { IsRunning hand.old.seat }
         requires process { IsOn self.now.store.layout (known hand.old.seat) (J.at errand.now approach.Start) }
+        requires led { (c : Page) → J.IsLedBy errand.now c }
         ensures same { IsSameHand hand.old.seat hand.new.seat × IsSameStage hand.old.seat hand.new.seat × IsSameStock hand.old.seat hand.new.seat }
         ensures process { IsOn self.now.store.layout (known hand.new.seat) (known hand.new.seat).state }
         ensures reads { ReadsFrom hand.new.seat result.1 }
         ensures there { IsThere (J.level_of errand.now) (J.key_of errand.now) (J.at errand.now (approach.Latched result.0)) (read_words hand.new.seat) (known hand.new.seat) }
         ensures since { IsSameProcess (known hand.old.seat) (known hand.new.seat) }
     {
-        let backoff = Backoff::new();
-        let mut from = Approach::Start;
         for _ in rt.forever() {
-            let page = self.seek(rt, hand, errand, from);
-            if self.latch_there(hand, errand, page) {
-                backoff.reset();
-                match self.look_there(hand, errand, page) {
-                    Arrived::There(glance) => return (page, glance),
-                    Arrived::Away(to) => from = self.leave_for(hand, errand, page, to),
-                }
-            } else {
-                backoff.snooze();
-                from = Approach::At(page);
+            let from = self.look_first(hand, errand);
+            if let Some(found) = self.come_from(rt, hand, errand, from) {
+                return found;
             }
         }
         unreachable!()

@@ -1,13 +1,53 @@
-//! Posts.
+//! Posts, by the words of pages.
 
-ghost use Rattle.std.specs.Prelude.{◌≡◌, Some};
+ghost use Rattle.std.specs.Prelude.{◌≡◌, ◌<◌, ◌≤◌, ◌-◌, ℕ, Some, None, false};
+ghost use Rattle.bl_page.specs.declared.page.Page.{Page};
+ghost use Rattle.bl_page.specs.Words.{words_of};
+ghost use Rattle.bl_laws.specs.Pages.{node_of, IsTreePage};
+ghost use Rattle.bl_ways.specs.declared.acts.Seen.TheVariants as seen;
 ghost use Rattle.bl_ways.specs.declared.answers.Answer.TheVariants as answers;
-ghost use Rattle.bl_index.specs.Searching.{IsPostAnswer};
+ghost use Rattle.bl_ways.specs.declared.approaching.Approach.TheVariants as approach;
+ghost use Rattle.bl_ways.specs.declared.changing.Change.{Change};
+ghost use Rattle.bl_ways.specs.declared.onwards.Onward.TheVariants as onward;
 ghost use Rattle.bl_ways.specs.Hints.{level_of, key_of};
+ghost use Rattle.bl_ways.specs.Onwards.{Leads};
+ghost use Rattle.bl_proc.specs.declared.kinds.Proc.{Proc};
+ghost use Rattle.bl_proc.specs.declared.posting.PostStage.TheVariants as post;
+ghost use Rattle.bl_proc.specs.Levels.{IsBelowTop, MayReply};
+ghost use Rattle.bl_proc.specs.Posts.{post_reply, posted_answer};
+ghost use Rattle.bl_proc.specs.Processes.{Takes};
+ghost use Rattle.bl_courses.specs.Frames.{work_of};
+ghost use Rattle.bl_store.specs.Hands.{known, read_words, IsOf, IsIdle, IsRunning, IsSameHand, IsSameStage, IsSameStock, HasNoStock, ReadsFrom};
+ghost use Rattle.bl_passes.specs.declared.known.Mine.{Mine as Knows};
+ghost use Rattle.bl_passes.specs.Noting.{trail_of};
+ghost use Rattle.bl_passes.specs.Seeing.{IsSeen};
+ghost use Rattle.bl_index.specs.Runs.{IsOn, IsSince, IsWithin};
+ghost use Rattle.bl_index.specs.Events.{posting, IsThere, IsToEnter, IsWalking, HasWalked, HasPosted, IsPostOver, IsSameProcess};
+ghost use Rattle.bl_index.specs.Searching.{IsPostAnswer};
 
+use crate::changers::Listing;
+use crate::errands::Posting;
 use crate::index::{Index, Pass};
-use bl_proc::{Answer, Hint, Post, Posted, Process};
+use crate::shown::Shown;
+use bl_page::{WordSource, words_from};
+use bl_passes::Mine;
+use bl_proc::{Answer, Hint, Post, PostReply, PostStage, Posted, Process, Reader};
+use bl_store::{Glance, Hand};
+use bl_ways::{Approach, Level, Onward, Outcome, levels_in, row_in, way_in};
 use std::sync::Wait;
+
+/// What a walk from a parent to a child sees at a page.
+#[derive(Clone, Copy)]
+pub(crate) enum Walked {
+    /// It is to get that page.
+    On(u32),
+    /// It is the child that the parent is to list.
+    Found,
+    /// It is the child that covers the key, and has another low.
+    Stale,
+    /// The way begins again.
+    Lost,
+}
 
 /// What became of a post, and its hint.
 fn posted(answer: Option<Answer>) -> (Posted, Option<Hint>)
@@ -18,6 +58,59 @@ fn posted(answer: Option<Answer>) -> (Posted, Option<Hint>)
         Some(Answer::Post(posted, hint)) => (posted, hint),
         _ => unreachable!(),
     }
+}
+
+/// The same of a post to that level, by its reply.
+fn posted_by(level: u32, reply: PostReply) -> (Posted, Option<Hint>)
+    requires { MayReply level reply }
+    ensures { posted_answer level reply ≡ answers.Post result.0 result.1 }
+{
+    match reply {
+        PostReply::Done(None) => (Posted::Done, None),
+        PostReply::Done(Some(separator)) => {
+            let hint = Hint::Post {
+                level: Level::new(level + 1),
+                key: separator,
+            };
+            (Posted::Done, Some(hint))
+        }
+        PostReply::Already => (Posted::Already, None),
+        PostReply::Stale => (Posted::Stale, None),
+        PostReply::NoRoom => (Posted::NoRoom, None),
+        PostReply::TooTall => (Posted::TooTall, None),
+    }
+}
+
+/// The reply of a post, by what became of its parent.
+fn reply_by(outcome: Outcome) -> PostReply
+    ensures { result ≡ post_reply outcome }
+{
+    match outcome {
+        Outcome::Changed => PostReply::Done(None),
+        Outcome::Parted(separator) => PostReply::Done(Some(separator)),
+        Outcome::Refused => PostReply::NoRoom,
+    }
+}
+
+/// The child that a walk begins with, by the words of its parent, which covers the key.
+fn first_child(parent: &[u64; 32], level: u32, key: u64) -> u32
+    requires least { 0 < level }
+    requires page { (c : Page) × (parent.now ≡ words_of c) × Leads c key level onward.Here }
+    ensures { (c : Page) → parent.now ≡ words_of c → Leads c key (level - 1) (onward.Down result) }
+{
+    match way_in(parent, &mut (), key, level - 1) {
+        Onward::Down(child) => child,
+        _ => unreachable!(),
+    }
+}
+
+/// The low of a leaf or an inner page with these words.
+fn low_in<W: WordSource>(source: &W, hand: &mut W::Hand) -> u64
+    requires sees { W.Sees source.now hand.old }
+    ensures same { hand.new ≡ hand.old }
+    ensures low { (c : Page) → IsTreePage c → W.shown source.now hand.old ≡ words_of c → result ≡ (node_of c).shape.low }
+{
+    source.word(hand, 1)
 }
 
 impl Index {
@@ -31,8 +124,259 @@ impl Index {
         ensures same { IsSamePass pass.old pass.new }
         ensures posts { Posts (number_of pass.old) (level_of hint) (key_of hint) result.0 result.1 (trail pass.old) (trail pass.new) }
     {
-        let post = Post::new(hint.level(), hint.key());
-        let process = self.carry_out(rt, &mut pass.hand, post);
+        self.post_by(rt, &mut pass.hand, hint.level(), hint.key())
+    }
+
+    /// The parent that it holds stays as it is.
+    fn stay(
+        &self,
+        hand: &mut Hand<Mine>,
+        errand: Posting,
+        at: u32,
+        reply: PostReply,
+    ) -> (Posted, Option<Hint>)
+        requires own { IsOf self.now.store.table.shared.table_id self.now.store.layout hand.old.seat }
+        requires running { IsRunning hand.old.seat × HasNoStock hand.old.seat }
+        requires process { (below : MayReply errand.level reply) × IsOn self.now.store.layout (known hand.old.seat) (posting errand (post.Staying at reply) below) }
+        ensures same { IsSameHand hand.old.seat hand.new.seat }
+        ensures over { IsPostOver self.now.store.layout errand (known hand.old.seat) hand.new.seat (Some result) }
+    {
+        self.conclude(hand, at);
+        posted_by(errand.level, reply)
+    }
+
+    /// The parent that it holds, with these words, lists the child.
+    fn list(
+        &self,
+        hand: &mut Hand<Mine>,
+        errand: Posting,
+        at: u32,
+        parent: &[u64; 32],
+        child: u32,
+    ) -> (Posted, Option<Hint>)
+        requires own { IsOf self.now.store.table.shared.table_id self.now.store.layout hand.old.seat }
+        requires running { IsRunning hand.old.seat × HasNoStock hand.old.seat }
+        requires page { (below : errand.level < 12) × (c : Change) × IsToEnter at errand.key child parent.now c × IsOn self.now.store.layout (known hand.old.seat) (posting errand (post.Changing c) below) }
+        ensures same { IsSameHand hand.old.seat hand.new.seat }
+        ensures over { IsPostOver self.now.store.layout errand (known hand.old.seat) hand.new.seat (Some result) }
+    {
+        let listing = Listing { posting: errand };
+        let outcome = self.enter_page(hand, &listing, at, parent, errand.key, child as u64);
+        self.conclude(hand, at);
+        posted_by(errand.level, reply_by(outcome))
+    }
+
+    /// It gets the next page on its way from the parent, with these words, to the child that covers its key.
+    fn walk_on(
+        &self,
+        hand: &mut Hand<Mine>,
+        errand: Posting,
+        at: u32,
+        parent: &[u64; 32],
+        child: u32,
+    ) -> Walked
+        requires own { IsOf self.now.store.table.shared.table_id self.now.store.layout hand.old.seat }
+        requires running { IsRunning hand.old.seat }
+        requires process { IsOn self.now.store.layout (known hand.old.seat) (known hand.old.seat).state }
+        requires walking { IsWalking errand at parent.now child (known hand.old.seat).state }
+        ensures same { IsSameHand hand.old.seat hand.new.seat × IsSameStage hand.old.seat hand.new.seat × IsSameStock hand.old.seat hand.new.seat }
+        ensures walked { HasWalked self.now.store.layout errand at parent.now child (known hand.new.seat) result }
+        ensures since { IsSameProcess (known hand.old.seat) (known hand.new.seat) }
+    {
+        let _ = at;
+        let _ = parent;
+        let glance = self.look(hand, child);
+        let shown = Shown {
+            store: &self.store,
+            glance,
+        };
+        match way_in(&shown, hand, errand.key, errand.level - 1) {
+            Onward::Here => {
+                if low_in(&shown, hand) == errand.key {
+                    Walked::Found
+                } else {
+                    Walked::Stale
+                }
+            }
+            Onward::Right(next) => {
+                if next == 0 {
+                    Walked::Lost
+                } else {
+                    Walked::On(next)
+                }
+            }
+            Onward::Again => Walked::Lost,
+            Onward::Down(_child) => Walked::Lost,
+        }
+    }
+
+    /// It walks from the parent, with these words, to the child that covers its key. What it answers, unless its way begins
+    /// again.
+    fn walk<R: Wait>(
+        &self,
+        rt: &R,
+        hand: &mut Hand<Mine>,
+        errand: Posting,
+        at: u32,
+        parent: &[u64; 32],
+        child: u32,
+    ) -> Option<(Posted, Option<Hint>)>
+        requires own { IsOf self.now.store.table.shared.table_id self.now.store.layout hand.old.seat }
+        requires running { IsRunning hand.old.seat × HasNoStock hand.old.seat }
+        requires process { IsOn self.now.store.layout (known hand.old.seat) (known hand.old.seat).state }
+        requires walking { IsWalking errand at parent.now child (known hand.old.seat).state }
+        ensures same { IsSameHand hand.old.seat hand.new.seat }
+        ensures over { IsPostOver self.now.store.layout errand (known hand.old.seat) hand.new.seat result }
+    {
+        let mut child = child;
+        for _ in rt.forever() {
+            match self.walk_on(hand, errand, at, parent, child) {
+                Walked::On(next) => child = next,
+                Walked::Found => return Some(self.list(hand, errand, at, parent, child)),
+                Walked::Stale => return Some(self.stay(hand, errand, at, PostReply::Stale)),
+                Walked::Lost => {
+                    self.reopen(hand, at);
+                    return None;
+                }
+            }
+        }
+        unreachable!()
+    }
+
+    /// At the parent that it holds, which covers the key.
+    fn post_there<R: Wait>(
+        &self,
+        rt: &R,
+        hand: &mut Hand<Mine>,
+        errand: Posting,
+        at: u32,
+        glance: Glance,
+    ) -> Option<(Posted, Option<Hint>)>
+        requires own { IsOf self.now.store.table.shared.table_id self.now.store.layout hand.old.seat }
+        requires running { IsRunning hand.old.seat × HasNoStock hand.old.seat }
+        requires reads { ReadsFrom hand.old.seat glance }
+        requires process { IsOn self.now.store.layout (known hand.old.seat) (known hand.old.seat).state }
+        requires there { IsThere errand.level errand.key (posting errand (post.Coming (approach.Latched at)) tt) (read_words hand.old.seat) (known hand.old.seat) }
+        ensures same { IsSameHand hand.old.seat hand.new.seat }
+        ensures over { IsPostOver self.now.store.layout errand (known hand.old.seat) hand.new.seat result }
+    {
+        let shown = Shown {
+            store: &self.store,
+            glance,
+        };
+        if let Some(_child) = row_in(&shown, hand, errand.key) {
+            return Some(self.stay(hand, errand, at, PostReply::Already));
+        }
+        let parent = words_from(&shown, hand);
+        let child = first_child(&parent, errand.level, errand.key);
+        self.walk(rt, hand, errand, at, &parent, child)
+    }
+
+    /// The tree has no such level: it gets one more, or the post ends. This is rare, and goes by a process value.
+    #[inline(never)]
+    fn post_above<R: Wait>(
+        &self,
+        rt: &R,
+        hand: &mut Hand<Mine>,
+        errand: Posting,
+        glance: Glance,
+    ) -> (Posted, Option<Hint>)
+        requires own { IsOf self.now.store.table.shared.table_id self.now.store.layout hand.old.seat }
+        requires running { IsRunning hand.old.seat × HasNoStock hand.old.seat }
+        requires reads { ReadsFrom hand.old.seat glance }
+        requires process { IsOn self.now.store.layout (known hand.old.seat) (known hand.old.seat).state }
+        requires since { (pass : ℕ) × (old : Knows) × IsSince pass old (known hand.old.seat) }
+        requires anchor { (c : Page) × (read_words hand.old.seat ≡ words_of c) × Takes (posting errand (post.Coming approach.Start) tt) (seen.Words c) (known hand.old.seat).state }
+        ensures same { IsSameHand hand.old.seat hand.new.seat }
+        ensures over { IsPostOver self.now.store.layout errand (known hand.old.seat) hand.new.seat (Some result) }
+    {
+        let shown = Shown {
+            store: &self.store,
+            glance,
+        };
+        let mut process = Post {
+            level: errand.level,
+            key: errand.key,
+            stage: PostStage::Coming(Approach::Start),
+        };
+        process.took_words(&shown, hand);
+        let process = self.carry_on(rt, hand, process);
         posted(process.answer())
+    }
+
+    /// From the anchor on. What it answers, unless its way begins again.
+    fn post_on<R: Wait>(
+        &self,
+        rt: &R,
+        hand: &mut Hand<Mine>,
+        errand: Posting,
+    ) -> Option<(Posted, Option<Hint>)>
+        requires own { IsOf self.now.store.table.shared.table_id self.now.store.layout hand.old.seat }
+        requires running { IsRunning hand.old.seat × HasNoStock hand.old.seat }
+        requires process { IsOn self.now.store.layout (known hand.old.seat) (posting errand (post.Coming approach.Start) tt) }
+        requires since { (pass : ℕ) × (old : Knows) × IsSince pass old (known hand.old.seat) }
+        ensures same { IsSameHand hand.old.seat hand.new.seat }
+        ensures over { IsPostOver self.now.store.layout errand (known hand.old.seat) hand.new.seat result }
+    {
+        let glance = self.look(hand, 0);
+        let shown = Shown {
+            store: &self.store,
+            glance,
+        };
+        if levels_in(&shown, hand) <= errand.level {
+            return Some(self.post_above(rt, hand, errand, glance));
+        }
+        let from = Approach::Start.took_words(errand.level, errand.key, &shown, hand);
+        match self.come_from(rt, hand, &errand, from) {
+            Some((at, glance)) => self.post_there(rt, hand, errand, at, glance),
+            None => None,
+        }
+    }
+
+    /// On to its end.
+    fn post_until<R: Wait>(
+        &self,
+        rt: &R,
+        hand: &mut Hand<Mine>,
+        errand: Posting,
+    ) -> (Posted, Option<Hint>)
+        requires own { IsOf self.now.store.table.shared.table_id self.now.store.layout hand.old.seat }
+        requires running { IsRunning hand.old.seat × HasNoStock hand.old.seat }
+        requires process { IsOn self.now.store.layout (known hand.old.seat) (posting errand (post.Coming approach.Start) tt) }
+        requires since { (pass : ℕ) × (old : Knows) × IsSince pass old (known hand.old.seat) }
+        ensures same { IsSameHand hand.old.seat hand.new.seat }
+        ensures over { IsPostOver self.now.store.layout errand (known hand.old.seat) hand.new.seat (Some result) }
+    {
+        for _ in rt.forever() {
+            match self.post_on(rt, hand, errand) {
+                Some(answer) => return answer,
+                None => {}
+            }
+        }
+        unreachable!()
+    }
+
+    /// Carries a post out, from its begin to its end.
+    fn post_by<R: Wait>(
+        &self,
+        rt: &R,
+        hand: &mut Hand<Mine>,
+        level: u32,
+        key: u64,
+    ) -> (Posted, Option<Hint>)
+        requires own { IsOf self.now.store.table.shared.table_id self.now.store.layout hand.old.seat }
+        requires idle { IsIdle hand.old.seat × HasNoStock hand.old.seat }
+        requires least { 0 < level }
+        requires most { level ≤ 12 }
+        ensures same { IsSameHand hand.old.seat hand.new.seat }
+        ensures idle { IsIdle hand.new.seat × HasNoStock hand.new.seat }
+        ensures within { IsWithin hand.new.seat }
+        ensures rests { (known hand.new.seat).runs ≡ false }
+        ensures seen { IsSeen (trail_of (known hand.new.seat).trail) }
+        ensures posted { (first : Proc) × (work_of first ≡ Some (level, key)) × HasPosted hand.old.number (known hand.old.seat) (known hand.new.seat) first result.0 result.1 }
+    {
+        let errand = Posting { level, key };
+        self.depart(hand, &errand);
+        self.post_until(rt, hand, errand)
     }
 }

@@ -1,31 +1,17 @@
-use Rattle.std.proofs.Common.{rules}
-use Rattle.bl_index.proofs.Standing.{same_all}
+use Rattle.std.proofs.Common.{ℕ, Option, subst, rules}
+use Rattle.bl_store.specs.declared.store.Glance.{Glance}
+use Rattle.bl_index.specs.Events.{HasCome}
+use Rattle.bl_index.proofs.Standing.{same_all, none_of}
 use Rattle.bl_index.proofs.index.Index.come.Goals as goal
 
-pub returns-in-There-clause-since : goal.returns-in-There-clause-since
-returns-in-There-clause-since g c =
-    let sought = same_all _ _ _ c.loop.invariant.since c.seek-page.ensures.since in
-    let latched = same_all _ _ _ sought c.latch_there.ensures.since in
-    same_all _ _ _ latched c.look_there.ensures.since
-
-pub loop-preserved-in-Away : goal.loop-preserved-in-Away
-loop-preserved-in-Away g c =
-    let sought = same_all _ _ _ c.loop.invariant.since c.seek-page.ensures.since in
-    let latched = same_all _ _ _ sought c.latch_there.ensures.since in
-    let looked = same_all _ _ _ latched c.look_there.ensures.since in
-    record {
-      same = search rules;
-      process = c.leave_for-from.ensures.process;
-      free = c.leave_for-from.ensures.free;
-      since = same_all _ _ _ looked c.leave_for-from.ensures.since;
-    }
+pub returns-in-Some-come_from-clause-since : goal.returns-in-Some-come_from-clause-since
+returns-in-Some-come_from-clause-since g c = same_all _ _ _ (same_all _ _ _ c.loop.invariant.since c.look_first-from.ensures.since) c.come_from.ensures.since
 
 pub loop-preserved : goal.loop-preserved
 loop-preserved g c =
-    let sought = same_all _ _ _ c.loop.invariant.since c.seek-page.ensures.since in
+    let j = c.args.errand.now in
     record {
       same = search rules;
-      process = c.latch_there.ensures.missed c.if-latch_there.false;
-      free = tt;
-      since = same_all _ _ _ sought c.latch_there.ensures.since;
+      process = subst (λ (z : Option (ℕ × Glance)). HasCome (g.J.Errand.level_of j) (g.J.Errand.key_of j) (g.J.Errand.at j) c.args.self.now.store.layout c.come_from.new.hand.seat z) (none_of c.come_from.result c.in_default.not-Some) c.come_from.ensures.came;
+      since = same_all _ _ _ (same_all _ _ _ c.loop.invariant.since c.look_first-from.ensures.since) c.come_from.ensures.since;
     }

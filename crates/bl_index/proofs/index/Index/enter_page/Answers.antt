@@ -1,0 +1,55 @@
+use Rattle.std.proofs.Common.{◌<◌, ◌≤◌, length, refl, sym, ap, subst, ◌∙◌, arith}
+use Rattle.bl_rearrange.specs.Rearranged.{pairs_of}
+use Rattle.bl_ways.specs.declared.acts.Seen.TheVariants as seen
+use Rattle.bl_ways.specs.declared.changing.Change.{Change}
+use Rattle.bl_ways.specs.declared.changing.Change.TheVariants as change
+use Rattle.bl_ways.specs.declared.changing.Outcome.TheVariants as outcome
+use Rattle.bl_ways.proofs.Spellings.{pairs_counted}
+use Rattle.bl_proc.specs.Processes.{next_of}
+use Rattle.bl_store.specs.Hands.{known}
+use Rattle.bl_index.specs.Runs.{IsOn}
+use Rattle.bl_index.proofs.Standing.{on_goes, same_goes}
+use Rattle.bl_index.proofs.Parents.{enters_putting, enters_taking}
+use Rattle.bl_index.proofs.index.Index.enter_page.Goals as goal
+
+pub part_full-requires-clause-full : goal.part_full-requires-clause-full
+part_full-requires-clause-full g c =
+    let enter = c.requires.page.1 in
+    let full : 14 ≤ length (pairs_of enter.page) = omega (arith, pairs_counted enter.page c.args.words.now enter.tree enter.is, c.if-words-ge14.true) in
+    let taking = enters_taking c.args.at c.args.key c.args.word c.args.words.now c.requires.page.0 enter full in
+    (taking.0, taking.1, taking.2, taking.3, taking.4, subst (λ (z : Change). IsOn c.args.self.now.store.layout (known c.args.hand.now.seat) (g.J.Changer.changing c.args.changer.now z)) taking.5 c.requires.page.2)
+
+pub words_with-requires-clause-page : goal.words_with-requires-clause-page
+words_with-requires-clause-page g c =
+    let enter = c.requires.page.1 in
+    let room : length (pairs_of enter.page) < 14 = omega (arith, pairs_counted enter.page c.args.words.now enter.tree enter.is, c.if-words-ge14.false) in
+    (enter.page, enter.tree, enter.is, room)
+
+pub replace-requires-clause-next : goal.replace-requires-clause-next
+replace-requires-clause-next g c =
+    let enter = c.requires.page.1 in
+    let room : length (pairs_of enter.page) < 14 = omega (arith, pairs_counted enter.page c.args.words.now enter.tree enter.is, c.if-words-ge14.false) in
+    let putting = enters_putting c.args.at c.args.key c.args.word c.args.words.now c.requires.page.0 enter room in
+    (putting.0, ap next_of (c.requires.page.2.state ∙ ap (g.J.Changer.changing c.args.changer.now) putting.2) ∙ g.J.Changer.acts c.args.changer.now (change.Putting c.args.at putting.0), c.words_with.ensures.words enter.page enter.is ∙ sym putting.1)
+
+pub returns-then-replace-clause-process : goal.returns-then-replace-clause-process
+returns-then-replace-clause-process g c =
+    let enter = c.requires.page.1 in let j = c.args.changer.now in let layout = c.args.self.now.store.layout in
+    let room : length (pairs_of enter.page) < 14 = omega (arith, pairs_counted enter.page c.args.words.now enter.tree enter.is, c.if-words-ge14.false) in
+    let putting = enters_putting c.args.at c.args.key c.args.word c.args.words.now c.requires.page.0 enter room in
+    let on = subst (λ (z : Change). IsOn layout (known c.args.hand.now.seat) (g.J.Changer.changing j z)) putting.2 c.requires.page.2 in
+    on_goes layout seen.Done _ _ _ _ on (c.replace.ensures.done c.if-replace.true) (g.J.Changer.goes j (change.Putting c.args.at putting.0) (change.Opening c.args.at outcome.Changed) seen.Done refl)
+
+pub returns-then-replace-clause-since : goal.returns-then-replace-clause-since
+returns-then-replace-clause-since g c = same_goes _ _ _ (c.replace.ensures.done c.if-replace.true)
+
+pub returns-else-replace-clause-process : goal.returns-else-replace-clause-process
+returns-else-replace-clause-process g c =
+    let enter = c.requires.page.1 in let j = c.args.changer.now in let layout = c.args.self.now.store.layout in
+    let room : length (pairs_of enter.page) < 14 = omega (arith, pairs_counted enter.page c.args.words.now enter.tree enter.is, c.if-words-ge14.false) in
+    let putting = enters_putting c.args.at c.args.key c.args.word c.args.words.now c.requires.page.0 enter room in
+    let on = subst (λ (z : Change). IsOn layout (known c.args.hand.now.seat) (g.J.Changer.changing j z)) putting.2 c.requires.page.2 in
+    on_goes layout seen.Refused _ _ _ _ on (c.replace.ensures.refused c.if-replace.false) (g.J.Changer.goes j (change.Putting c.args.at putting.0) (change.Opening c.args.at outcome.Refused) seen.Refused refl)
+
+pub returns-else-replace-clause-since : goal.returns-else-replace-clause-since
+returns-else-replace-clause-since g c = same_goes _ _ _ (c.replace.ensures.refused c.if-replace.false)

@@ -1,0 +1,46 @@
+use Rattle.std.proofs.Common.{Some, refl, sym, subst, ◌∙◌}
+use Rattle.bl_ways.specs.declared.acts.Seen.TheVariants as seen
+use Rattle.bl_ways.specs.declared.approaching.Approach.TheVariants as approach
+use Rattle.bl_proc.specs.declared.posting.PostStage.TheVariants as post
+use Rattle.bl_proc.specs.declared.kinds.Proc.TheVariants as proc
+use Rattle.bl_store.specs.Hands.{known}
+use Rattle.bl_store.specs.declared.store.Hand.{Hand}
+use Rattle.bl_passes.specs.declared.known.Mine.{Mine}
+use Rattle.bl_courses.proofs.Posts.{post_goes}
+use Rattle.bl_index.specs.Runs.{IsOn, IsSince}
+use Rattle.bl_index.specs.Events.{posting}
+use Rattle.bl_index.proofs.Posted.{post_has_answer}
+use Rattle.bl_index.proofs.Standing.{on_as, done_from}
+use Rattle.bl_index.proofs.index.Index.post_above.Goals as goal
+
+pub carry_on-process-requires-clause-process : goal.carry_on-process-requires-clause-process
+carry_on-process-requires-clause-process g c =
+    let j = c.args.errand in let anchor = c.requires.anchor in
+    let takes = c.took_words.ensures.takes anchor.0 anchor.1 in
+    let course = post_goes (record { level = j.level; key = j.key; stage = post.Coming approach.Start; least = j.least; most = j.most; below = tt }) (seen.Words anchor.0) refl tt in
+    let stands = course.only _ anchor.2 ∙ sym (course.only (proc.Post c.took_words.new.self) takes) in
+    subst (λ (h : Hand Mine). IsOn c.args.self.now.store.layout (known h.seat) (proc.Post c.took_words.new.self)) (sym c.took_words.ensures.same) (on_as _ _ _ c.requires.process stands)
+
+pub posted-requires : goal.posted-requires
+posted-requires g c =
+    let anchor = c.requires.anchor in let begun = c.requires.since in
+    let takes = c.took_words.ensures.takes anchor.0 anchor.1 in
+    let since = subst (λ (h : Hand Mine). IsSince begun.0 begun.1 (known h.seat)) (sym c.took_words.ensures.same) begun.2 in
+    post_has_answer _ _ _ _ _ _ _ (c.carry_on-process.ensures.done begun.0 begun.1 since) (λ i. Some (takes.0 i, takes.1 i)) _ c.answer.ensures
+
+pub returns-clause-over : goal.returns-clause-over
+returns-clause-over g c =
+    let anchor = c.requires.anchor in
+    let takes = c.took_words.ensures.takes anchor.0 anchor.1 in (
+      c.carry_on-process.ensures.idle,
+      c.carry_on-process.ensures.within,
+      c.carry_on-process.ensures.rests,
+      c.carry_on-process.ensures.seen,
+      λ pass old begun.
+          let since = subst (λ (h : Hand Mine). IsSince pass old (known h.seat)) (sym c.took_words.ensures.same) begun in
+          record {
+            last = c.carry_on-process.result;
+            done = done_from pass old _ (posting c.args.errand post.New tt) (proc.Post c.took_words.new.self) _ (c.carry_on-process.ensures.done pass old since) refl (λ i. Some (takes.0 i, takes.1 i));
+            answer = sym c.answer.ensures ∙ c.posted.ensures;
+          },
+    )

@@ -1,0 +1,12 @@
+use Rattle.bl_store.specs.Hands.{known, IsSameHand, IsSameStage, IsSameStock}
+use Rattle.bl_index.specs.Runs.{IsOn}
+use Rattle.bl_index.specs.Events.{IsSameProcess, IsWalking}
+use Rattle.bl_index.proofs.index.Index.walk.Given as goal
+
+abbrev pub invariant-loop : goal.invariant-loop
+invariant-loop g l = record {
+  same : IsSameHand l.fn.hand.seat l.hand.seat × IsSameStage l.fn.hand.seat l.hand.seat × IsSameStock l.fn.hand.seat l.hand.seat;
+  process : IsOn l.self.store.layout (known l.hand.seat) (known l.hand.seat).state;
+  walking : IsWalking l.errand l.at l.parent l.child (known l.hand.seat).state;
+  since : IsSameProcess (known l.fn.hand.seat) (known l.hand.seat);
+}
