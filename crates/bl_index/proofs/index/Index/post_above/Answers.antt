@@ -9,7 +9,7 @@ use Rattle.bl_passes.specs.declared.known.Mine.{Mine}
 use Rattle.bl_courses.proofs.Posts.{post_goes}
 use Rattle.bl_index.specs.Runs.{IsOn, IsSince}
 use Rattle.bl_index.specs.Events.{posting}
-use Rattle.bl_index.proofs.Posted.{post_has_answer}
+use Rattle.bl_index.proofs.Posts.{post_has_answer}
 use Rattle.bl_index.proofs.Standing.{on_as, done_from}
 use Rattle.bl_index.proofs.index.Index.post_above.Goals as goal
 
