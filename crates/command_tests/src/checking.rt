@@ -1,8 +1,8 @@
 //! The command `check` over bytes, over streams that fail, and over paths that are no file.
 
 use bl_commands::{CommandFault, check_file, check_image};
-use bl_options::{Invocation, read_words};
 use bl_model::Watched;
+use bl_options::{Invocation, read_words};
 use std::alloc::Global;
 use std::io;
 use std::io::{ErrorKind, Read, Write};

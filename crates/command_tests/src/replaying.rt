@@ -1,8 +1,8 @@
 //! The command `replay` over bytes.
 
 use bl_commands::{CommandFault, replay_file, replay_script};
-use bl_options::{Invocation, read_words};
 use bl_model::Watched;
+use bl_options::{Invocation, read_words};
 use std::alloc::Global;
 use std::io;
 use std::io::{ErrorKind, Read, Write};

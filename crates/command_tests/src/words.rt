@@ -1,8 +1,8 @@
 //! The words of the command line, and the words on standard error.
 
 use bl_commands::CommandFault;
-use bl_options::{Invocation, ServeOptions, read_words};
 use bl_lines::ServeFault;
+use bl_options::{Invocation, ServeOptions, read_words};
 use std::alloc::Global;
 use std::test::Fail;
 

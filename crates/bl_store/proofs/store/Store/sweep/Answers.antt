@@ -13,24 +13,24 @@ release-requires-clause-rule g c = let inv = c.loop-i-2.invariant in let number 
 pub loop-i-2-preserved : goal.loop-i-2-preserved
 loop-i-2-preserved g c = let inv = c.loop-i-2.invariant in elim c.if-state-eq3-2.branch [
   | then-state-eq3-2+then-state-oldest+then-release w ↦ record {
-      same = search rules;
-      told = counts_on g.M.SweepPlay.then _ (known c.loop-i-2.hand.seat) (known w.release.new.hand.seat) _ w.release.result c.loop-i-2.released _ c.requires.rule.1 (ap (λ z. known z.seat) w.hand-is) (omega arith) (λ e. omega arith) inv.told w.release.ensures.told;
-      swept = search rules;
-      count = search rules;
-      few = search rules;
-    }
+    same = search rules;
+    told = counts_on g.M.SweepPlay.then _ (known c.loop-i-2.hand.seat) (known w.release.new.hand.seat) _ w.release.result c.loop-i-2.released _ c.requires.rule.1 (ap (λ z. known z.seat) w.hand-is) (omega arith) (λ e. omega arith) inv.told w.release.ensures.told;
+    swept = search rules;
+    count = search rules;
+    few = search rules;
+  }
   | then-state-eq3-2+then-state-oldest+else-release w ↦ record {
-      same = search rules;
-      told = counts_on g.M.SweepPlay.then _ (known c.loop-i-2.hand.seat) (known w.release.new.hand.seat) _ w.release.result c.loop-i-2.released _ c.requires.rule.1 (ap (λ z. known z.seat) w.hand-is) (omega arith) (λ e. absurd (let f = w.if-release.false in cc)) inv.told w.release.ensures.told;
-      swept = search rules;
-      count = search rules;
-      few = search rules;
-    }
+    same = search rules;
+    told = counts_on g.M.SweepPlay.then _ (known c.loop-i-2.hand.seat) (known w.release.new.hand.seat) _ w.release.result c.loop-i-2.released _ c.requires.rule.1 (ap (λ z. known z.seat) w.hand-is) (omega arith) (λ e. absurd (let f = w.if-release.false in cc)) inv.told w.release.ensures.told;
+    swept = search rules;
+    count = search rules;
+    few = search rules;
+  }
   | else-state-eq3-2 w ↦ record {
-      same = search rules;
-      told = counts_on g.M.SweepPlay.then _ (known c.loop-i-2.hand.seat) (known c.loop-i-2.hand.seat) _ false c.loop-i-2.released _ c.requires.rule.1 (ap (λ z. known z.seat) w.hand-is) (omega arith) (λ e. absurd (false≢true e)) inv.told (inr refl);
-      swept = search rules;
-      count = search rules;
-      few = search rules;
-    }
+    same = search rules;
+    told = counts_on g.M.SweepPlay.then _ (known c.loop-i-2.hand.seat) (known c.loop-i-2.hand.seat) _ false c.loop-i-2.released _ c.requires.rule.1 (ap (λ z. known z.seat) w.hand-is) (omega arith) (λ e. absurd (false≢true e)) inv.told (inr refl);
+    swept = search rules;
+    count = search rules;
+    few = search rules;
+  }
 ]
