@@ -89,26 +89,14 @@ fn operate<R: Wait>(rt: &R, index: &Index, hints: &Hints, pass: &mut Pass, op: O
     }
 }
 
-/// Sweeps where that is worth its time: a search leaves nothing to sweep, and a put gets its frames back without a sweep most of
-/// the time.
-fn sweep_due(index: &Index, pass: &mut Pass)
-    requires { IsPassOf index.now pass.old }
-    ensures same { IsSamePass pass.old pass.new }
-    ensures adds { Adds (number_of pass.old) (trail pass.old) (trail pass.new) }
-{
-    if pass.is_due() {
-        index.sweep(pass);
-    }
-}
-
-/// Carries an operation out, and sweeps where that is due.
+/// Carries an operation out, and sweeps.
 fn carry_out<R: Wait>(rt: &R, index: &Index, hints: &Hints, pass: &mut Pass, op: Op) -> Reply
     requires { IsPassOf index.now pass.old }
     ensures same { IsSamePass pass.old pass.new }
     ensures works { Works (number_of pass.old) op result (trail pass.old) (trail pass.new) }
 {
     let reply = operate(rt, index, hints, pass, op);
-    sweep_due(index, pass);
+    index.sweep(pass);
     reply
 }
 
