@@ -3,7 +3,7 @@ use Rattle.std.proofs.Common.{◌≡◌, ℕ, zero, suc, ◌+◌, ◌-◌, ◌<�
 use Rattle.std.specs.Prelude.{All, Option, Result, Ok, Err, IfOk, flat_map, remove, IsPermutation}
 use Rattle.std.specs.List.{AllZip}
 use Rattle.std.specs.declared.alloc.AllocError.{AllocError}
-use Rattle.std.proofs.lemmas.List.{map-append, take_all, nil_from_length}
+use Rattle.std.proofs.lemmas.List.{map-append, take_all, nil_from_length, take-append-drop}
 use Rattle.std.proofs.lemmas.List.Concat.{flat_map-append}
 use Rattle.std.proofs.lemmas.List.Elements.{All-nil, All-cons, All-head, All-tail, All-append, All-map, All-weaker}
 use Rattle.std.proofs.lemmas.List.Sorted.{All-permutation, IsPermutation-map}
@@ -41,6 +41,10 @@ turn_more all (p ∷ ps) rest turns turns' turn more is low at left =
     ∙ (ap (λ (z : List Pass). map (λ t. t.pass) turns ++ turn.pass ∷ z) left
     ∙ (ap (λ (z : Pass). map (λ t. t.pass) turns ++ z ∷ ps) at
     ∙ is))))
+
+pub own_rest : (index : Index) (left rest : List Turn) → rest ≡ remove left 0 → All (λ (t : Turn). IsPassOf index t.pass) left → All (λ (t : Turn). IsPassOf index t.pass) rest
+own_rest index [] rest is own = subst (All (λ (t : Turn). IsPassOf index t.pass)) (sym is) own
+own_rest index (t ∷ ts) rest is own = subst (All (λ (t : Turn). IsPassOf index t.pass)) (sym is) (All-tail (λ (t : Turn). IsPassOf index t.pass) t ts own)
 
 pub turns_all : (all left : List Pass) (turns : List Turn) → length left ≡ 0 → map (λ t. t.pass) turns ++ left ≡ all → map (λ t. t.pass) turns ≡ all
 turns_all all left turns none is = sym (append-nil (map (λ t. t.pass) turns)) ∙ (ap (λ (z : List Pass). map (λ t. t.pass) turns ++ z) (sym (nil_from_length left none)) ∙ is)
@@ -97,6 +101,52 @@ length_oks (v ∷ vs) = ap suc (length_oks vs)
 module _ (first : ℕ) (lines : List (Option Request)) where
   abbrev Each : List Turn → List (Result Worked AllocError) → Type 0
   Each turns results = (i : ℕ) (t : Turn) (d : Result Worked AllocError) → i < length turns → IfOk (get_or results i d) (IsTurn first lines (get_or turns i t).pass)
+
+  -- ---- turns that are carried out one part after another
+
+  each_append : (ts us : List Turn) (rs qs : List (Result Worked AllocError)) → length rs ≡ length ts → Each ts rs → Each us qs → Each (ts ++ us) (rs ++ qs)
+  each_append [] us [] qs long h k = k
+  each_append [] us (r ∷ rs) qs long h k = absurd (omega arith)
+  each_append (t ∷ ts) us [] qs long h k = absurd (omega arith)
+  each_append (t ∷ ts) us (r ∷ rs) qs long h k = go (each_append ts us rs qs (omega arith) (λ j u e l. h (suc j) u e (omega arith)) k)
+    where
+      go : Each (ts ++ us) (rs ++ qs) → Each ((t ∷ ts) ++ us) ((r ∷ rs) ++ qs)
+      go rest zero t' d low = h 0 t' d (omega arith)
+      go rest (suc i) t' d low = rest i t' d (omega arith)
+
+  pub each_part : (turns ts us : List Turn) (n : ℕ) (rs qs all : List (Result Worked AllocError)) → ts ≡ take n turns → us ≡ drop n turns → length rs ≡ length ts → Each ts rs → Each us qs → all ≡ rs ++ qs → Each turns all
+  each_part turns ts us n rs qs all ts_are us_are long h k is =
+      let whole : ts ++ us ≡ turns = ap (λ (z : List Turn). z ++ us) ts_are ∙ (ap (λ (z : List Turn). take n turns ++ z) us_are ∙ take-append-drop n turns) in
+      subst (λ (z : List Turn). Each z all) whole (subst (λ (z : List (Result Worked AllocError)). Each (ts ++ us) z) (sym is) (each_append ts us rs qs long h k))
+
+  -- the first ones were carried out, and these are left
+  pub record WorksSo (all left : List Turn) (results : List (Result Worked AllocError)) : Type 0 where
+    pub begun : List Turn
+    pub are : begun ++ left ≡ all
+    pub count : length results ≡ length begun
+    pub each : Each begun results
+
+  pub works_none : (all : List Turn) (results : List (Result Worked AllocError)) → results ≡ [] → WorksSo all all results
+  works_none all results is = record { begun = []; are = refl; count = ap length is; each = λ i t d low. absurd (omega arith) }
+
+  pub works_more : (all left rest : List Turn) (turn : Turn) (results results' : List (Result Worked AllocError)) (r : Result Worked AllocError) → WorksSo all left results → 0 < length left → turn ≡ get_or left 0 turn → rest ≡ remove left 0 → results' ≡ results ++ r ∷ [] → IfOk r (IsTurn first lines turn.pass) → WorksSo all rest results'
+  works_more all [] rest turn results results' r so low at left more is = absurd (omega arith)
+  works_more all (t ∷ ts) rest turn results results' r so low at left more is = record {
+    begun = so.begun ++ turn ∷ [];
+    are = append_assoc so.begun (turn ∷ []) rest ∙ (ap (λ (z : List Turn). so.begun ++ turn ∷ z) left ∙ (ap (λ (z : Turn). so.begun ++ z ∷ ts) at ∙ so.are));
+    count = ap length more ∙ (length-append results (r ∷ []) ∙ (ap (λ (k : ℕ). k + 1) so.count ∙ sym (length-append so.begun (turn ∷ []))));
+    each = subst (Each (so.begun ++ turn ∷ [])) (sym more) (each_append so.begun (turn ∷ []) results (r ∷ []) so.count so.each one);
+  }
+    where
+      one : Each (turn ∷ []) (r ∷ [])
+      one zero t' d low' = is
+      one (suc i) t' d low' = absurd (omega arith)
+
+  pub works_all : (all left : List Turn) (results : List (Result Worked AllocError)) → length left ≡ 0 → WorksSo all left results → (length results ≡ length all) × Each all results
+  works_all all [] results none so =
+      let whole : so.begun ≡ all = sym (append-nil so.begun) ∙ so.are in
+      (so.count ∙ ap length whole, subst (λ (z : List Turn). Each z results) whole so.each)
+  works_all all (t ∷ ts) results none so = absurd (omega arith)
 
   zip_each : (turns : List Turn) (ws : List Worked) → length ws ≡ length turns → Each turns (map (λ w. Ok w) ws) → AllZip (IsTurn first lines) (map (λ t. t.pass) turns) ws
   zip_each [] [] long each = tt

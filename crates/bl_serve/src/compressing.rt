@@ -13,6 +13,10 @@ use std::sync::atomic::{AtomicU64, Ordering};
 /// How many levels a tree may have: a split is followed by at most one post on each.
 const LEVELS: u32 = 12;
 
+/// A compressor follows so many waiting hints, whether or not workers are at work still. So hints are followed too where it comes
+/// behind workers that have ended, as in a section that is too short for threads.
+const BEHIND: u32 = 64;
+
 /// A hint waits for a compressor.
 pub fn leave<R: Wait>(rt: &R, hints: &Hints, hint: Option<Hint>) {
     if let Some(hint) = hint {
@@ -122,7 +126,20 @@ impl Shift {
     }
 }
 
-/// Follows hints until the workers have ended.
+/// Follows hints that wait, so many at most.
+fn follow_some<R: Wait>(rt: &R, index: &Index, hints: &Hints, pass: &mut Pass)
+    requires { IsPassOf index.now pass.old }
+    ensures same { IsSamePass pass.old pass.new }
+    ensures adds { Adds (number_of pass.old) (trail pass.old) (trail pass.new) }
+{
+    for _number in 0..BEHIND {
+        if !follow_hint(rt, index, hints, pass) {
+            return;
+        }
+    }
+}
+
+/// Follows hints until the workers have ended, and some at least.
 pub fn follow_hints<R: Wait>(
     rt: &R,
     index: &Index,
@@ -135,6 +152,7 @@ pub fn follow_hints<R: Wait>(
     ensures adds { Adds (number_of pass) (trail pass) (trail result) }
 {
     let mut pass = pass;
+    follow_some(rt, index, hints, &mut pass);
     for _ in rt.forever() {
         let rung = shift.bell.load(Ordering::SeqCst);
         if shift.working.load(Ordering::SeqCst) == 0 {

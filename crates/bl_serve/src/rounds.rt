@@ -15,6 +15,7 @@ use bl_hints::Hints;
 use bl_index::{Index, Pass};
 use bl_lines::ServeFault;
 use bl_lines::request::Request;
+use bl_model::Op;
 use crossbeam_channel::{Receiver, unbounded};
 use std::alloc::{AllocError, Global};
 use std::sync::Wait;
@@ -66,8 +67,28 @@ fn turns(alloc: Global, passes: Vec<Pass>, workers: usize) -> Result<Vec<Turn>, 
     Ok(turns)
 }
 
+/// How many of the turns are worth a thread of their own. A lone request needs none; else there is one for each, up to the number
+/// of workers. Where there are many, and deletions among them, compressors work beside them.
+fn threads_for(lines: &[Option<Request>], workers: usize, passes: usize) -> usize {
+    let asked = lines
+        .iter()
+        .filter(|asked| matches!(asked, Some(Request::Ask(_))))
+        .count();
+    let deleted = lines
+        .iter()
+        .filter(|asked| matches!(asked, Some(Request::Ask(Op::Delete(_)))))
+        .count();
+    if asked < 2 {
+        0
+    } else if asked >= SINGLE && deleted > 0 {
+        passes
+    } else {
+        asked.min(workers)
+    }
+}
+
 /// Each turn is carried out by a thread.
-fn work<R: Threads + Wait + Sync, G: Gate + Sync>(
+fn work_abreast<R: Threads + Wait + Sync, G: Gate + Sync>(
     rt: &R,
     alloc: Global,
     index: &Index,
@@ -96,6 +117,68 @@ fn work<R: Threads + Wait + Sync, G: Gate + Sync>(
             )
         },
     )
+}
+
+/// The turns are carried out one after another.
+fn work_in_turn<R: Wait, G: Gate>(
+    rt: &R,
+    alloc: Global,
+    index: &Index,
+    hints: &Hints,
+    gate: &G,
+    shift: &Shift,
+    batches: &Receiver<Batch>,
+    done: u64,
+    lines: &[Option<Request>],
+    turns: Vec<Turn>,
+) -> Result<Vec<Result<Worked, AllocError>>, AllocError>
+    requires own { All (λ t. IsPassOf index.now t.pass) turns.items }
+    requires room { done + length lines.now < 2 ^ 64 }
+    ensures len { IfOk result (λ v. vec_len v ≡ vec_len turns) }
+    ensures each { IfOk result (λ v. (i : ℕ) (t : _) (d : _) → i < vec_len turns → IfOk (slice_index_or v.items i d) (IsTurn (suc done) lines.now (slice_index_or turns.items i t).pass)) }
+{
+    let mut turns = turns;
+    let count = turns.len();
+    let mut results = Vec::with_capacity(alloc, count)?;
+    for _number in 0..count {
+        let turn = turns.remove(0);
+        let worked = take_turn(
+            rt, alloc, index, hints, gate, shift, batches, done, lines, turn,
+        );
+        results.push(worked)?;
+    }
+    Ok(results)
+}
+
+/// So many turns are carried out by threads, and then the others by this one.
+fn work<R: Threads + Wait + Sync, G: Gate + Sync>(
+    rt: &R,
+    alloc: Global,
+    index: &Index,
+    hints: &Hints,
+    gate: &G,
+    shift: &Shift,
+    batches: &Receiver<Batch>,
+    done: u64,
+    lines: &[Option<Request>],
+    turns: Vec<Turn>,
+    threads: usize,
+) -> Result<Vec<Result<Worked, AllocError>>, AllocError>
+    requires own { All (λ t. IsPassOf index.now t.pass) turns.items }
+    requires room { done + length lines.now < 2 ^ 64 }
+    ensures len { IfOk result (λ v. vec_len v ≡ vec_len turns) }
+    ensures each { IfOk result (λ v. (i : ℕ) (t : _) (d : _) → i < vec_len turns → IfOk (slice_index_or v.items i d) (IsTurn (suc done) lines.now (slice_index_or turns.items i t).pass)) }
+{
+    let mut turns = turns;
+    let later = turns.split_off(threads.min(turns.len()))?;
+    let mut results = work_abreast(
+        rt, alloc, index, hints, gate, shift, batches, done, lines, turns,
+    )?;
+    let mut others = work_in_turn(
+        rt, alloc, index, hints, gate, shift, batches, done, lines, later,
+    )?;
+    results.append(&mut others)?;
+    Ok(results)
 }
 
 /// The passes come back, and what was written.
@@ -138,9 +221,10 @@ pub fn answer_section<R: Threads + Wait + Sync, G: Gate + Sync>(
 {
     let batches = batches(rt, alloc, lines.len())?;
     let shift = Shift::new(workers as u64);
+    let threads = threads_for(lines, workers, passes.len());
     let turns = turns(alloc, passes, workers)?;
     let results = work(
-        rt, alloc, index, hints, gate, &shift, &batches, done, lines, turns,
+        rt, alloc, index, hints, gate, &shift, &batches, done, lines, turns, threads,
     )?;
     let (passes, written) = gather(alloc, results)?;
     let text = collect(alloc, written, done, lines.len())?;

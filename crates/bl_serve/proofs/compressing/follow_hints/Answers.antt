@@ -1,9 +1,9 @@
 use Rattle.std.proofs.Common.{rules, refl, ◌∙◌}
-use Rattle.bl_serve.proofs.Requests.{nothing, then_adds, adds_as}
+use Rattle.bl_serve.proofs.Requests.{then_adds, adds_as}
 use Rattle.bl_serve.proofs.compressing.follow_hints.Goals as goal
 
 pub loop-init : goal.loop-init
-loop-init g c = record { same = search rules; adds = nothing _ _ }
+loop-init g c = record { same = search rules; adds = c.follow_some.ensures.adds }
 
 pub loop-preserved : goal.loop-preserved
 loop-preserved g c = record {
