@@ -1,5 +1,5 @@
-//! The load of `index_load` on a plain Rust `RwLock<BTreeMap>`, for comparison. `index_twin ROWS THREADS FINDS MIXED` prints
-//! what `index_load` prints.
+//! The load of `index_load` on a plain Rust `RwLock<BTreeMap>`, for comparison. `index_twin ROWS THREADS FINDS MIXED SCANS`
+//! prints what `index_load` prints.
 
 use std::collections::BTreeMap;
 use std::env;
@@ -17,6 +17,10 @@ fn after(seed: u64) -> u64 {
 
 fn row_of(seed: u64, rows: u64) -> u64 {
     if rows == 0 { 0 } else { (seed >> 24) % rows }
+}
+
+fn width(rows: u64) -> u64 {
+    if rows <= 100 { u64::MAX } else { u64::MAX / (rows / 100) }
 }
 
 type Map = RwLock<BTreeMap<u64, u64>>;
@@ -82,6 +86,21 @@ fn mix(map: &Map, place: u64, rows: u64, mixed: u64) -> u64 {
     done
 }
 
+fn scan(map: &Map, place: u64, rows: u64, scans: u64) -> u64 {
+    let width = width(rows);
+    let mut listed = Vec::new();
+    let mut done = 0;
+    let mut seed = place;
+    for _ in 0..scans {
+        seed = after(seed);
+        listed.clear();
+        let end = seed.saturating_add(width);
+        listed.extend(map.read().unwrap().range(seed..end).map(|(key, value)| (*key, *value)));
+        done += listed.len() as u64;
+    }
+    done
+}
+
 fn run(threads: u64, work: impl Fn(u64) -> u64 + Sync) -> u64 {
     let done = AtomicU64::new(0);
     thread::scope(|scope| {
@@ -95,13 +114,14 @@ fn run(threads: u64, work: impl Fn(u64) -> u64 + Sync) -> u64 {
 
 fn main() {
     let words: Vec<u64> = env::args().skip(1).filter_map(|word| word.parse().ok()).collect();
-    let [rows, threads, finds, mixed] = words[..] else {
-        eprintln!("usage: index_twin ROWS THREADS FINDS MIXED");
+    let [rows, threads, finds, mixed, scans] = words[..] else {
+        eprintln!("usage: index_twin ROWS THREADS FINDS MIXED SCANS");
         std::process::exit(2);
     };
     let map = RwLock::new(BTreeMap::new());
     let inserted = run(threads, |place| fill(&map, place, rows, threads));
     let found = run(threads, |place| search(&map, place, rows, finds));
     let mixed = run(threads, |place| mix(&map, place, rows, mixed));
-    println!("rows {inserted}, found {found}, mixed {mixed}");
+    let listed = run(threads, |place| scan(&map, place, rows, scans));
+    println!("rows {inserted}, found {found}, mixed {mixed}, listed {listed}");
 }

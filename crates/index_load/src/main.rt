@@ -1,6 +1,6 @@
-//! A load on an index, for `bench/index`: so many threads insert so many rows in an order that looks random, and then each
-//! does so many searches, or so many operations of which half are searches. It prints how many replies were as they should
-//! be, and measures nothing itself.
+//! A load on an index, for `bench/index` and `bench/scan`: so many threads insert so many rows in an order that looks random, and
+//! then each does so many searches, so many operations of which half are searches, and so many scans of about 100 rows. It
+//! prints how many replies were as they should be and how many rows were listed, and measures nothing itself.
 #![tactic(auto)]
 
 ghost use Rattle.std.specs.Prelude.{◌≡◌, ◌≤◌, ◌<◌, All, IfSome};
@@ -22,6 +22,7 @@ struct Load {
     threads: u32,
     finds: u64,
     mixed: u64,
+    scans: u64,
     ghost threads_within: { (1 ≤ threads) × (threads ≤ 4) },
 }
 
@@ -38,17 +39,19 @@ enum Part {
     Rows,
     Finds,
     Mixed,
+    Scans,
 }
 
 impl Load {
     fn read(words: &[String]) -> Option<Load> {
-        let [_, rows, threads, finds, mixed] = words else {
+        let [_, rows, threads, finds, mixed, scans] = words else {
             return None;
         };
         let rows = rows.parse::<u64>().ok()?;
         let threads = threads.parse::<u32>().ok()?;
         let finds = finds.parse::<u64>().ok()?;
         let mixed = mixed.parse::<u64>().ok()?;
+        let scans = scans.parse::<u64>().ok()?;
         if threads < 1 || threads > 4 {
             return None;
         }
@@ -57,6 +60,7 @@ impl Load {
             threads,
             finds,
             mixed,
+            scans,
         })
     }
 }
@@ -75,6 +79,15 @@ fn after(seed: u64) -> u64 {
 // One of the rows, or row 0 where there are none.
 fn row_of(seed: u64, rows: u64) -> u64 {
     if rows == 0 { 0 } else { (seed >> 24) % rows }
+}
+
+// How far the ends of a scan of about 100 rows are apart, of so many rows whose keys look random.
+fn width(rows: u64) -> u64 {
+    if rows <= 100 {
+        u64::MAX
+    } else {
+        u64::MAX / (rows / 100)
+    }
 }
 
 // Searches until it is answered.
@@ -197,9 +210,31 @@ fn mix<R: Wait>(rt: &R, index: &Index, pass: &mut Pass, place: u64, load: Load) 
     done
 }
 
-// Each pass works in a thread of its own. Returns how many replies were as they should be.
+// Scans from keys that look random. Returns how many rows were listed.
+fn scan(alloc: Global, index: &Index, pass: &mut Pass, place: u64, load: Load) -> u64
+    requires { IsPassOf index.now pass.old }
+    ensures { IsPassOf index.now pass.new }
+{
+    let turns = index.patience();
+    let width = width(load.rows);
+    let mut rows = Vec::new(alloc);
+    let mut done = 0u64;
+    let mut seed = place;
+    for _round in 0..load.scans {
+        seed = after(seed);
+        rows.clear();
+        let end = seed.saturating_add(width);
+        if let Ok(()) = index.scan_into(pass, seed, Some(end), turns, &mut rows) {
+            done = done.wrapping_add(rows.len() as u64);
+        }
+    }
+    done
+}
+
+// Each pass works in a thread of its own. Returns how many replies were as they should be, or how many rows were listed.
 fn run<R: Threads + Wait + Sync>(
     rt: &R,
+    alloc: Global,
     index: &Index,
     passes: &mut [Pass],
     load: Load,
@@ -219,6 +254,7 @@ fn run<R: Threads + Wait + Sync>(
                 Part::Rows => fill(rt, index, pass, place, load),
                 Part::Finds => search(index, pass, place, load),
                 Part::Mixed => mix(rt, index, pass, place, load),
+                Part::Scans => scan(alloc, index, pass, place, load),
             };
             done.fetch_add(mine, Ordering::SeqCst);
         },
@@ -262,16 +298,19 @@ fn opened(alloc: Global, load: Load) -> Option<(Index, Vec<Pass>)>
 fn main(rt: HostRuntime) -> anyhow::Result<()> {
     let words: Vec<String> = std::env::args(&rt)?.collect(rt.alloc())?;
     let Some(load) = Load::read(words.as_slice()) else {
-        eprintln!(&rt; "usage: index_load ROWS THREADS FINDS MIXED")?;
+        eprintln!(&rt; "usage: index_load ROWS THREADS FINDS MIXED SCANS")?;
         return Ok(());
     };
-    let Some((index, mut passes)) = opened(rt.alloc(), load) else {
+    let alloc = rt.alloc();
+    let Some((index, mut passes)) = opened(alloc, load) else {
         eprintln!(&rt; "out of memory")?;
         return Ok(());
     };
-    let rows = run(&rt, &index, passes.as_mut_slice(), load, Part::Rows);
-    let finds = run(&rt, &index, passes.as_mut_slice(), load, Part::Finds);
-    let mixed = run(&rt, &index, passes.as_mut_slice(), load, Part::Mixed);
-    println!(rt; "rows {rows}, found {finds}, mixed {mixed}")?;
+    let passes = passes.as_mut_slice();
+    let rows = run(&rt, alloc, &index, passes, load, Part::Rows);
+    let finds = run(&rt, alloc, &index, passes, load, Part::Finds);
+    let mixed = run(&rt, alloc, &index, passes, load, Part::Mixed);
+    let listed = run(&rt, alloc, &index, passes, load, Part::Scans);
+    println!(rt; "rows {rows}, found {finds}, mixed {mixed}, listed {listed}")?;
     Ok(())
 }
