@@ -23,3 +23,8 @@ pub mod CompressionSteps
 pub mod Compressions
 pub mod CompressionsFollowing
 pub mod Retirements
+pub mod Refusals
+pub mod RefusedCompressions
+pub mod RefusedTurns
+pub mod RefusedAnswers
+pub mod RefusedNexts

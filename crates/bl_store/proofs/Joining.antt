@@ -177,10 +177,10 @@ module _ {D : Type 0} (l : Layout) (first : D) (holds : Pages D → Type 0) wher
   meets then' slots id i me j js has live asked st r _ at _ = let mine = r.seats id me.0 at live in let counted = mine.counted in let here : get_elem? me.0.joined 0 ≡ some j = ap (λ (z : List (Joined D)). get_elem? z 0) has in
       let apart : j.number ≢ me.0.number = (λ e. ⊎_elim (λ (h : j.number < me.0.number). omega arith) (λ (h : me.0.upto ≤ j.number). omega arith) (r.apart.joined id id me.0 me.0 at at live live 0 j here)) in
       let t = asked r.pages (stage_of me.0.stamp) r.kept r.orderly mine.stands (mine.joined 0 j here).0 apart in (
-        record me.0 { reading = me.0.reading; known = t.0 },
+        record me.0 { reading = me.0.reading; refused = me.0.refused; known = t.0 },
         keeps,
         tt,
-        told_load l first holds st r i id me.1 me.0 me.0.reading t.0 at live mine.reads t.1,
+        told_load l first holds st r i id me.1 me.0 me.0.reading me.0.refused t.0 at live mine.reads t.1,
         ((refl, refl, refl, refl), refl, (refl, refl, refl), refl, λ g gs e. let same : j ≡ g = some-injective j g (ap (λ (z : List (Joined D)). get_elem? z 0) (sym has ∙ e)) in subst (λ (z : Joined D). then' me.0.known z.known t.0) same t.2),
       )
 

@@ -1,4 +1,5 @@
 -- Pages are taken, latched, opened and released: their owners change.
+use Rattle.std.specs.Prelude.{Some}
 use Rattle.std.proofs.Common.{◌≡◌, ◌≢◌, ℕ, ◌+◌, ◌*◌, ◌<◌, ◌≤◌, eqb, List, get_or, set, sym, refl, ap, ◌∙◌, subst, inl, inr, ⊎_elim, arith, le_refl, get_or-set_other}
 use mathlib.Core.Option.{none, some}
 use lib.ListN.{get_elem?}
@@ -8,7 +9,7 @@ use Rattle.atomic_table.proofs.Lists.{at_set, set_else, exchanged}
 use Rattle.bl_layout.specs.declared.layout.Layout.{Layout}
 use Rattle.bl_store.specs.Pages.{Owner, Released, Open, Held, Retired, Stage, Running, Pages, AllBeganAfter, told, owned, Takes, Latches, Misses, Opens, Refuses, Releases}
 use Rattle.bl_store.specs.Frames.{process_at, owner_at, IsTaken, OwnerIs, ProcessIs, stage_of, Seals, Swept, SweepIs, Shows, IsLive, IsSealing, Kept}
-use Rattle.bl_store.specs.Told.{took, tried, opened, freed, refused}
+use Rattle.bl_store.specs.Told.{took, tried, opened, freed, refused, wanted}
 use Rattle.bl_store.specs.declared.view.View.{View}
 use Rattle.bl_store.specs.declared.view.Sealing.{Sealing}
 use Rattle.bl_store.specs.declared.view.Sealing.TheVariants.{Unsealed, Sealed}
@@ -130,10 +131,10 @@ module _ {D : Type 0} (l : Layout) (first : D) (holds : Pages D → Type 0) wher
       ))
       (λ miss. let not : own.0 ≢ Open = (λ e. miss (subst (OwnerIs (get_or st.words i 0)) e own.2)) in
       let t = else s (stage_of me.0.stamp) page.0 own.0 r.kept r.orderly mine.stands (page.1, own.1) not in (
-        record me.0 { reading = me.0.reading; known = t.0 },
+        record me.0 { reading = me.0.reading; refused = me.0.refused; known = t.0 },
         keeps,
         tt,
-        told_load l first holds st r i id me.1 me.0 me.0.reading t.0 at live mine.reads t.1,
+        told_load l first holds st r i id me.1 me.0 me.0.reading me.0.refused t.0 at live mine.reads t.1,
         ((refl, refl, refl, refl), refl, (refl, refl, refl), λ y equal. let back : x ≡ y = omega arith in (own.0, page.0, (λ hit. absurd (miss hit)), (λ _. not), subst (λ (z : ℕ). then' me.0.known z own.0 page.0 t.0) back t.2)),
       ))
 
@@ -145,7 +146,7 @@ module _ {D : Type 0} (l : Layout) (first : D) (holds : Pages D → Type 0) wher
         keeps,
         tt,
         owner_step st r i 1 id me.1 me.0 x me.0.releases own.0 Open t.1 at live i_is own.1 refl (λ u e. cc) (λ j u e is. let no : Held me.0.number ≡ Retired u = sym t.0 ∙ is in cc) t.2,
-        ((refl, refl, refl, refl), refl, (refl, refl, refl), λ y equal. let back : x ≡ y = omega arith in (page.0, subst (λ (z : ℕ × Owner). then' me.0.known z.0 z.1 page.0 t.1) (λ k. (back k, t.0 k)) t.3)),
+        ((refl, refl, refl, refl), refl, (refl, refl, refl), λ y equal. let back : x ≡ y = omega arith in (page.0, subst (λ (z : ℕ × Owner). then' me.0.known z.0 z.1 page.0 t.1) (λ k. (back k, t.0 k)) t.3), refl),
       )
 
   -- a page that was retired before each process began is released
@@ -166,11 +167,11 @@ module _ {D : Type 0} (l : Layout) (first : D) (holds : Pages D → Type 0) wher
       (λ miss. (me.0, keeps, tt, idle_step l first holds st r i id me.1 me.0 at live, ((refl, refl, refl, refl), refl, (refl, refl, refl), refl, (λ hit. absurd (miss hit)), λ _. (refl, refl))))
 
   -- a reservation is refused, at a load
-  pub refuses : (then' : D → ℕ → D → Type 0) (slots id i : ℕ) (me : M) → Refuses holds l me.0.number me.0.known then' → IsLive me.0 → Allows Rule slots id me i (λ n. n) (refused then' (step slots i 0 0 none) me)
-  refuses then' slots id i me asked live st r _ at _ = let mine = r.seats id me.0 at live in let s : Pages D = r.pages in let t = asked s (stage_of me.0.stamp) r.kept r.orderly mine.stands in (
-    record me.0 { reading = me.0.reading; known = t.0 },
+  pub refuses : (pages frames : ℕ) (then' : D → ℕ → D → Type 0) (slots id i : ℕ) (me : M) → Refuses holds l me.0.number me.0.known then' → IsLive me.0 → Allows Rule slots id me i (λ n. n) (refused pages frames then' (step slots i 0 0 none) me)
+  refuses pages frames then' slots id i me asked live st r _ at _ = let mine = r.seats id me.0 at live in let s : Pages D = r.pages in let t = asked s (stage_of me.0.stamp) r.kept r.orderly mine.stands in (
+    record me.0 { reading = me.0.reading; refused = Some (wanted pages frames); known = t.0 },
     keeps,
     tt,
-    told_load l first holds st r i id me.1 me.0 me.0.reading t.0 at live mine.reads t.1,
-    ((refl, refl, refl, refl), refl, (refl, refl, refl), refl, refl, (s.clock, t.2)),
+    told_load l first holds st r i id me.1 me.0 me.0.reading (Some (wanted pages frames)) t.0 at live mine.reads t.1,
+    ((refl, refl, refl, refl), refl, (refl, refl, refl), refl, refl, refl, (s.clock, t.2)),
   )

@@ -1,4 +1,5 @@
 -- A process begins and ends, and a page is read.
+use Rattle.std.specs.Prelude.{Option, None}
 use Rattle.std.proofs.Common.{◌≡◌, ◌≢◌, ◌⊎◌, ℕ, ◌+◌, ◌<◌, ◌≤◌, List, [], length, replicate, get_or, set, sym, refl, ap, ◌∙◌, subst, inl, inr, ⊎_elim, arith, le_refl, get_or-set_other}
 use mathlib.Core.Option.{none, some}
 use lib.ListN.{get_elem?}
@@ -10,6 +11,7 @@ use Rattle.bl_store.specs.Pages.{Owner, Stage, Running, Pages, Stands, IsOrderly
 use Rattle.bl_store.specs.Frames.{process_at, page_at, owner_at, place_at, Use, drafted, shown, dropped, timed, retired, Frame, used, Full, PageIs, ProcessIs, stage_of, IsRead, MayRead, Reads, Budgeted, Shows, IsLive, Kept}
 use Rattle.bl_store.specs.Told.{clocked, stamped, ended, looked, copied}
 use Rattle.bl_store.specs.declared.view.View.{View}
+use Rattle.bl_store.specs.declared.view.Wanted.{Wanted}
 use Rattle.bl_store.specs.declared.view.Stamp.{Stamp}
 use Rattle.bl_store.specs.declared.view.Stamp.TheVariants.{Out, Clocked, In}
 use Rattle.bl_store.specs.declared.view.Reading.{Reading}
@@ -79,11 +81,11 @@ module _ {D : Type 0} (l : Layout) (first : D) (holds : Pages D → Type 0) wher
   Rule = Kept l first holds
 
   -- a load at which the hand is told something and reads as it says
-  pub told_load : (st : St) (r : Rule st) (i id : ℕ) (cs : List (ℕ × Unit {0})) (v : View D) (rd : Reading) (d : D) → get_elem? st.views id ≡ some v → IsLive v → Reads r.frames v.stamp rd
-      → holds (told r.pages v.number (stage_of v.stamp) d) → Rule (stepped st i (get_or st.words i 0) id cs (record v { reading = rd; known = d }) keeps)
-  told_load st r i id cs v rd d at live reads kept = let mine = r.seats id v at live in let s : Pages D = r.pages in let low = mine.counted in let dealt = mine.dealt in
+  pub told_load : (st : St) (r : Rule st) (i id : ℕ) (cs : List (ℕ × Unit {0})) (v : View D) (rd : Reading) (rf : Option Wanted) (d : D) → get_elem? st.views id ≡ some v → IsLive v → Reads r.frames v.stamp rd
+      → holds (told r.pages v.number (stage_of v.stamp) d) → Rule (stepped st i (get_or st.words i 0) id cs (record v { reading = rd; refused = rf; known = d }) keeps)
+  told_load st r i id cs v rd rf d at live reads kept = let mine = r.seats id v at live in let s : Pages D = r.pages in let low = mine.counted in let dealt = mine.dealt in
       let go : Goes l st.words st.words s (told s v.number (stage_of v.stamp) d) r.frames r.frames r.budgets r.budgets v.number = goes_told l st.words st.words s r.frames r.budgets v.number (stage_of v.stamp) (stage_of v.stamp) v.known d mine.stands (λ b e. inl e) (λ x _. refl) in
-      unmoved l first holds st r i id cs v (record v { reading = rd; known = d }) (told s v.number (stage_of v.stamp) d) r.budgets at live
+      unmoved l first holds st r i id cs v (record v { reading = rd; refused = rf; known = d }) (told s v.number (stage_of v.stamp) d) r.budgets at live
       (orderly_told l s v.number (stage_of v.stamp) d (began_by l s v.number v.stamp v.known r.orderly mine.stands) r.orderly)
       (shows_told l st.words s r.frames v.number (stage_of v.stamp) d (r.shows.process v.number (stage_of v.stamp) v.known (omega arith) mine.stands) r.shows)
       r.budgeted go
@@ -103,14 +105,14 @@ module _ {D : Type 0} (l : Layout) (first : D) (holds : Pages D → Type 0) wher
       } refl refl kept
 
   -- a process word changes, and the hand reads nothing
-  process_step : (st : St) (r : Rule st) (i id n : ℕ) (cs : List (ℕ × Unit {0})) (v : View D) (sp : Stamp) (d : D) → get_elem? st.views id ≡ some v → IsLive v → i ≡ process_at v.number → ProcessIs n (stage_of sp) → IsRead r.pages.clock sp
-      → ((b : ℕ) → stage_of sp ≡ Running b → b ≡ r.pages.clock) → holds (told r.pages v.number (stage_of sp) d) → Rule (stepped st i n id cs (record v { stamp = sp; reading = Nowhere; known = d }) keeps)
-  process_step st r i id n cs v sp d at live i_is is clocked' begun kept = let mine = r.seats id v at live in let s : Pages D = r.pages in let low = mine.counted in let dealt = mine.dealt in let orderly = r.orderly in let counts = orderly.owners in
+  process_step : (st : St) (r : Rule st) (i id n : ℕ) (cs : List (ℕ × Unit {0})) (v : View D) (sp : Stamp) (rf : Option Wanted) (d : D) → get_elem? st.views id ≡ some v → IsLive v → i ≡ process_at v.number → ProcessIs n (stage_of sp) → IsRead r.pages.clock sp
+      → ((b : ℕ) → stage_of sp ≡ Running b → b ≡ r.pages.clock) → holds (told r.pages v.number (stage_of sp) d) → Rule (stepped st i n id cs (record v { stamp = sp; reading = Nowhere; refused = rf; known = d }) keeps)
+  process_step st r i id n cs v sp rf d at live i_is is clocked' begun kept = let mine = r.seats id v at live in let s : Pages D = r.pages in let low = mine.counted in let dealt = mine.dealt in let orderly = r.orderly in let counts = orderly.owners in
       let ws : List ℕ = set st.words i n in
       let owners : (x : ℕ) → x < length s.owners → get_or ws (owner_at l x) 0 ≡ get_or st.words (owner_at l x) 0 = (λ x below. get_or-set_other st.words i (owner_at l x) n 0 (λ z. omega arith)) in
       let go : Goes l st.words ws s (told s v.number (stage_of sp) d) r.frames r.frames r.budgets r.budgets v.number = goes_told l st.words ws s r.frames r.budgets v.number (stage_of v.stamp) (stage_of sp) v.known d mine.stands
       (λ b e. let now = begun b e in inr (omega arith)) owners in
-      moved l first holds st r i n id cs v (record v { stamp = sp; reading = Nowhere; known = d }) (told s v.number (stage_of sp) d) r.frames r.budgets at live
+      moved l first holds st r i n id cs v (record v { stamp = sp; reading = Nowhere; refused = rf; known = d }) (told s v.number (stage_of sp) d) r.frames r.budgets at live
       (orderly_told l s v.number (stage_of sp) d (λ b e. let now = begun b e in omega arith) r.orderly)
       (subst (λ (z : ℕ). Shows l (set st.words z n) (told s v.number (stage_of sp) d) r.frames) (sym i_is) (shows_process l st.words s r.frames v.number n (stage_of sp) d (omega arith) is r.shows))
       r.budgeted go
@@ -127,7 +129,7 @@ module _ {D : Type 0} (l : Layout) (first : D) (holds : Pages D → Type 0) wher
         sweeps = sweeps_stay go v.sweep mine.sweeps;
         budget = mine.budget;
         joined = refl;
-      } (sealing_stays l st.words ws s.owners st.views id v (record v { stamp = sp; reading = Nowhere; known = d }) at refl (λ k. k) owners r.sealing) kept
+      } (sealing_stays l st.words ws s.owners st.views id v (record v { stamp = sp; reading = Nowhere; refused = rf; known = d }) at refl (λ k. k) owners r.sealing) kept
 
   -- a load of the clock, outside a process
   pub reads_clock : (slots id i : ℕ) (me : M) → i ≡ 0 → me.0.stamp ≡ Out → IsLive me.0 → Allows Rule slots id me i (λ n. n) (clocked (step slots i 0 0 none) me)
@@ -159,22 +161,22 @@ module _ {D : Type 0} (l : Layout) (first : D) (holds : Pages D → Type 0) wher
       → IsLive me.0 → Allows Rule slots id me i (λ _. n) (λ _. stamped then' (step slots i n 0 none) me n)
   stamps then' slots id i n c me i_is n_is is asked live st r _ at _ = let mine = r.seats id me.0 at live in let s : Pages D = r.pages in let seen : c ≤ s.clock = subst (IsRead s.clock) is mine.clocked in
       let t = asked s r.kept r.orderly (mine.stands ∙ ap (λ (z : Stamp). some (stage_of z, me.0.known)) is) in (
-        record me.0 { stamp = In s.clock; reading = Nowhere; known = t.0 },
+        record me.0 { stamp = In s.clock; reading = Nowhere; refused = None; known = t.0 },
         keeps,
         tt,
-        process_step st r i id n me.1 me.0 (In s.clock) t.0 at live i_is (omega arith, omega arith) tt (λ b e. cc) t.1,
-        ((refl, refl, refl, refl), (refl, refl, refl), (s.clock, refl, t.2)),
+        process_step st r i id n me.1 me.0 (In s.clock) None t.0 at live i_is (omega arith, omega arith) tt (λ b e. cc) t.1,
+        ((refl, refl, refl, refl), (refl, refl, refl), refl, (s.clock, refl, t.2)),
       )
 
   pub finishes : (then' : D → ℕ → D → Type 0) (slots id i b : ℕ) (me : M) → i ≡ process_at me.0.number → me.0.stamp ≡ In b → Ends holds l me.0.number me.0.known then'
       → IsLive me.0 → Allows Rule slots id me i (λ _. 0) (λ _. ended then' (step slots i 0 0 none) me 0)
   finishes then' slots id i b me i_is is asked live st r _ at _ = let mine = r.seats id me.0 at live in let s : Pages D = r.pages in
       let t = asked s b r.kept r.orderly (mine.stands ∙ ap (λ (z : Stamp). some (stage_of z, me.0.known)) is) in (
-        record me.0 { stamp = Out; reading = Nowhere; known = t.1 },
+        record me.0 { stamp = Out; reading = Nowhere; refused = me.0.refused; known = t.1 },
         keeps,
         tt,
-        process_step st r i id 0 me.1 me.0 Out t.1 at live i_is refl tt (λ b e. cc) t.2,
-        ((refl, refl, refl, refl), (refl, refl, refl), refl, (s.clock, t.3)),
+        process_step st r i id 0 me.1 me.0 Out me.0.refused t.1 at live i_is refl tt (λ b e. cc) t.2,
+        ((refl, refl, refl, refl), (refl, refl, refl), refl, refl, (s.clock, t.3)),
       )
 
   pub looks : (then' : D → ℕ → Owner → List ℕ → D → Type 0) (slots id i b x : ℕ) (me : M) → i ≡ page_at l x → x < l.pages → me.0.layout ≡ l → me.0.stamp ≡ In b → Gets holds l me.0.number me.0.known x then'
@@ -190,14 +192,14 @@ module _ {D : Type 0} (l : Layout) (first : D) (holds : Pages D → Type 0) wher
         record me.0 { reading = me.0.reading; known = t.1 },
         keeps,
         tt,
-        told_load st r i id me.1 me.0 me.0.reading t.1 at live mine.reads kept,
+        told_load st r i id me.1 me.0 me.0.reading me.0.refused t.1 at live mine.reads kept,
         ((refl, refl, refl, refl), refl, (refl, refl, refl), λ y equal. let back : x ≡ y = omega arith in (own.0, page.0, ((λ _. e.1), λ some_frame. absurd (some_frame e.0)), subst (λ (z : ℕ). then' me.0.known z own.0 page.0 t.1) back t.3)),
       ))
       (λ (e : (f : ℕ) × (n ≡ f + 1) × (get_elem? r.frames f ≡ some (used (shown x) page.0))). let up = e.1 in let within = at_below r.frames e.0 (used (shown x) page.0) e.2 in (
         record me.0 { reading = At e.0 page.0; known = t.1 },
         keeps,
         tt,
-        told_load st r i id me.1 me.0 (At e.0 page.0) t.1 at live (b, is, (shown x, e.2, tt)) kept,
+        told_load st r i id me.1 me.0 (At e.0 page.0) me.0.refused t.1 at live (b, is, (shown x, e.2, tt)) kept,
         (
           (refl, refl, refl, refl),
           refl,

@@ -1,6 +1,6 @@
 -- What the words of the table show: the pages of the store's user, by frames, stamps and times.
 -- Each frame has one state, and every other fact is a look-up in these states. So no two pages name one frame, and nobody reads a frame that is not written.
-use Rattle.std.specs.Prelude.{◌≡◌, ◌≢◌, ◌⊎◌, ℕ, ◌+◌, ◌*◌, ◌<◌, ◌≤◌, List, [], ◌∷◌, length, replicate, slice_index}
+use Rattle.std.specs.Prelude.{None, ◌≡◌, ◌≢◌, ◌⊎◌, ℕ, ◌+◌, ◌*◌, ◌<◌, ◌≤◌, List, [], ◌∷◌, length, replicate, slice_index}
 use mathlib.Core.Option.{some}
 use lib.ListN.{get_elem?}
 use native.Mathlib.Nat.{le_refl, le-add_right}
@@ -166,7 +166,7 @@ module _ {D : Type 0} where
 
   -- what a hand knows that has done nothing, has the number n, and deals out the numbers from the next one up to m
   abbrev pub share : Layout → D → ℕ → ℕ → View D
-  share l d n m = record { layout = l; number = n; upto = m; stamp = Out; reading = Nowhere; stock = []; dropping = Empty; sealing = Unsealed; sweep = Still; puts = 0; retires = 0; releases = 0; seen = []; got = []; known = d; joined = [] }
+  share l d n m = record { layout = l; number = n; upto = m; stamp = Out; reading = Nowhere; stock = []; dropping = Empty; sealing = Unsealed; sweep = Still; puts = 0; retires = 0; releases = 0; seen = []; got = []; refused = None; known = d; joined = [] }
 
   abbrev pub joined : ℕ → D → Joined D
   joined n d = record { number = n; known = d }
@@ -188,7 +188,7 @@ module _ {D : Type 0} where
 
   -- what a seat knows that has given its hand to another: its number is no hand's
   abbrev pub spent_view : D → View D
-  spent_view d = record { layout = smallest; number = 1; upto = 0; stamp = Out; reading = Nowhere; stock = []; dropping = Empty; sealing = Unsealed; sweep = Still; puts = 0; retires = 0; releases = 0; seen = []; got = []; known = d; joined = [] }
+  spent_view d = record { layout = smallest; number = 1; upto = 0; stamp = Out; reading = Nowhere; stock = []; dropping = Empty; sealing = Unsealed; sweep = Still; puts = 0; retires = 0; releases = 0; seen = []; got = []; refused = None; known = d; joined = [] }
 
   -- and one that has no hand yet
   abbrev pub without_hand : View D → View D

@@ -5,7 +5,7 @@ use Rattle.atomic_table.specs.declared.shared.Seat.{Seat}
 use Rattle.bl_layout.specs.declared.layout.Layout.{Layout}
 use Rattle.bl_layout.specs.Words.{frame_count}
 use Rattle.bl_store.specs.Frames.{owner_at, state_at, place_at}
-use Rattle.bl_store.specs.Told.{draft}
+use Rattle.bl_store.specs.Told.{draft, wanted}
 use Rattle.bl_store.specs.declared.stock.Stock.{Stock}
 use Rattle.bl_store.specs.declared.stock.NoRoom.{NoRoom}
 use Rattle.bl_store.specs.declared.stock.NoRoom.TheVariants.{Pages, Frames, Clock}
@@ -114,6 +114,14 @@ module _ {D : Type 0} where
   IsWhy h pages frames Pages = (pages ≡ 1) × ((x : ℕ) → 0 < x → x < h.me.0.layout.pages → SawTaken h (owner_at h.me.0.layout x))
   IsWhy h pages frames Frames = (length h.me.0.got < frames) × ((f : ℕ) → f < frame_count h.me.0.layout → IsTried h f)
   IsWhy h pages frames Clock = SawTaken h 0
+
+  -- since the hand's process began, a reservation of so many pages and frames was refused, and none has been since
+  abbrev pub WasRefused : Seat (Unit {0}) (View D) → ℕ → ℕ → Type 0
+  WasRefused h pages frames = h.me.0.refused ≡ Some (wanted pages frames)
+
+  -- no reservation has been refused since
+  abbrev pub IsSameRefusal : Seat (Unit {0}) (View D) → Seat (Unit {0}) (View D) → Type 0
+  IsSameRefusal h h' = h'.me.0.refused ≡ h.me.0.refused
 
   -- all but the stock and what it saw taken is as before
   abbrev pub IsQuiet : Seat (Unit {0}) (View D) → Seat (Unit {0}) (View D) → Type 0

@@ -1,5 +1,5 @@
 -- What each atomic step tells the seat that makes it.
-use Rattle.std.specs.Prelude.{◌≡◌, ◌≢◌, ℕ, zero, suc, ◌+◌, ◌<◌, ◌≤◌, min, List, [], ◌∷◌, ◌++◌, length, replicate, slice_index}
+use Rattle.std.specs.Prelude.{Option, None, Some, ◌≡◌, ◌≢◌, ℕ, zero, suc, ◌+◌, ◌<◌, ◌≤◌, min, List, [], ◌∷◌, ◌++◌, length, replicate, slice_index}
 use Rattle.atomic_table.specs.Table.{Me, Step}
 use Rattle.bl_layout.specs.Words.{frame_count}
 use Rattle.bl_store.specs.Pages.{Owner, Released, Open, Held}
@@ -9,6 +9,7 @@ use Rattle.bl_store.specs.declared.view.Joined.{Joined}
 use Rattle.bl_store.specs.declared.view.Stamp.TheVariants.{Out, Clocked, In}
 use Rattle.bl_store.specs.declared.view.Reading.TheVariants.{At}
 use Rattle.bl_store.specs.declared.view.Draft.{Draft}
+use Rattle.bl_store.specs.declared.view.Wanted.{Wanted}
 use Rattle.bl_store.specs.declared.view.Dropping.TheVariants.{Empty, Dropped, Timed}
 use Rattle.bl_store.specs.declared.view.Sealing.TheVariants.{Unsealed, Sealed}
 use Rattle.bl_store.specs.declared.view.Sweep.TheVariants.{Over}
@@ -18,6 +19,10 @@ Sat D = Me (Unit {0}) (View D)
 
 abbrev Play : Type 0
 Play = Step (Unit {0})
+
+-- what a reservation of so many pages and frames asks for
+abbrev pub wanted : ℕ → ℕ → Wanted
+wanted pages frames = record { pages = pages; frames = frames }
 
 abbrev pub draft : ℕ → List ℕ → Draft
 draft f xs = record { frame = f; words = xs }
@@ -51,10 +56,10 @@ module _ {D : Type 0} where
   clocked st m r m' = IsThere m m' × IsStocked m.0 m'.0 × (m'.0.known ≡ m.0.known) × (m'.0.stamp ≡ Clocked r) × (r < 2305843009213693952)
 
   abbrev pub stamped : (D → ℕ → D → Type 0) → Play → Sat D → ℕ → Sat D → Type 0
-  stamped then st m r m' = IsThere m m' × IsStocked m.0 m'.0 × ((b : ℕ) × (m'.0.stamp ≡ In b) × then m.0.known b m'.0.known)
+  stamped then st m r m' = IsThere m m' × IsStocked m.0 m'.0 × (m'.0.refused ≡ None) × ((b : ℕ) × (m'.0.stamp ≡ In b) × then m.0.known b m'.0.known)
 
   abbrev pub ended : (D → ℕ → D → Type 0) → Play → Sat D → ℕ → Sat D → Type 0
-  ended then st m r m' = IsThere m m' × IsStocked m.0 m'.0 × (m'.0.stamp ≡ Out) × ((b : ℕ) × then m.0.known b m'.0.known)
+  ended then st m r m' = IsThere m m' × IsStocked m.0 m'.0 × (m'.0.stamp ≡ Out) × (m'.0.refused ≡ m.0.refused) × ((b : ℕ) × then m.0.known b m'.0.known)
 
   -- the words of a page in the frame that the number r names
   abbrev pub Found : View D → ℕ → List ℕ → Type 0
@@ -119,6 +124,7 @@ module _ {D : Type 0} where
   abbrev pub opened : (D → ℕ → Owner → List ℕ → D → Type 0) → Play → Sat D → ℕ → Sat D → Type 0
   opened then st m r m' = IsThere m m' × (m'.0.stamp ≡ m.0.stamp) × IsStocked m.0 m'.0
       × ((x : ℕ) → st.word ≡ owner_at m.0.layout x → (xs : List ℕ) × then m.0.known x (Held m.0.number) xs m'.0.known)
+      × (m'.0.refused ≡ m.0.refused)
 
   -- the tick of the clock by which a page is retired
   abbrev pub sealed : ℕ → (D → ℕ → D → Type 0) → Play → Sat D → ℕ → Sat D → Type 0
@@ -151,6 +157,6 @@ module _ {D : Type 0} where
   met then st m r m' = IsThere m m' × (m'.0.stamp ≡ m.0.stamp) × IsStocked m.0 m'.0 × (m'.0.joined ≡ m.0.joined)
       × ((j : Joined D) (js : List (Joined D)) → m.0.joined ≡ j ∷ js → then m.0.known j.known m'.0.known)
 
-  -- the event of a reservation that is refused
-  abbrev pub refused : (D → ℕ → D → Type 0) → Play → Sat D → ℕ → Sat D → Type 0
-  refused then st m r m' = IsThere m m' × (m'.0.stamp ≡ m.0.stamp) × IsStocked m.0 m'.0 × (m'.0.seen ≡ m.0.seen) × (m'.0.got ≡ m.0.got) × ((now : ℕ) × then m.0.known now m'.0.known)
+  -- the event of a reservation that is refused, of so many pages and frames
+  abbrev pub refused : ℕ → ℕ → (D → ℕ → D → Type 0) → Play → Sat D → ℕ → Sat D → Type 0
+  refused pages frames then st m r m' = IsThere m m' × (m'.0.stamp ≡ m.0.stamp) × IsStocked m.0 m'.0 × (m'.0.seen ≡ m.0.seen) × (m'.0.got ≡ m.0.got) × (m'.0.refused ≡ Some (wanted pages frames)) × ((now : ℕ) × then m.0.known now m'.0.known)

@@ -31,4 +31,4 @@ mod view;
 pub use rule::{MeetPlay, PagePlay, PageRule, SweepPlay, TimePlay};
 pub use stock::{NoRoom, Stock};
 pub use store::{Glance, Hand, Store};
-pub use view::{Draft, Dropping, Framed, Reading, Sealing, Stamp, Sweep, View};
+pub use view::{Draft, Dropping, Framed, Reading, Sealing, Stamp, Sweep, View, Wanted};

@@ -1,7 +1,7 @@
 //! Latches, and the retirement of a page.
 ghost use Rattle.std.specs.Prelude.{◌≡◌, ℕ, ◌+◌, ◌<◌, ◌≤◌, ◌↔◌, List, [], IsTrue};
 ghost use Rattle.bl_store.specs.Pages.{Owner, Open, Held, Latches, Misses, Opens, Retires};
-ghost use Rattle.bl_store.specs.Hands.{known, IsOf, IsSameHand, IsSameStage, IsSameStock, MayRetire};
+ghost use Rattle.bl_store.specs.Hands.{known, IsOf, IsSameHand, IsSameStage, IsSameStock, IsSameRefusal, MayRetire};
 ghost use Rattle.bl_store.specs.declared.view.Sealing.TheVariants.{Unsealed, Sealed};
 ghost use Rattle.bl_store.specs.Frames.{IsLive};
 
@@ -37,6 +37,7 @@ impl<D, R: PageRule<D>, A: Allocator> Store<D, R, A> {
         requires page { page < self.now.layout.pages }
         requires rule { Opens R.holds self.now.layout hand.old.number (known hand.old.seat) page M.then }
         ensures same { IsSameHand hand.old.seat hand.new.seat × IsSameStage hand.old.seat hand.new.seat × IsSameStock hand.old.seat hand.new.seat }
+        ensures refusal { IsSameRefusal hand.old.seat hand.new.seat }
         ensures told { (words : List ℕ) × M.then (known hand.old.seat) page (Held hand.old.number) words (known hand.new.seat) }
     {
         let at = self.layout.page_owner(page);

@@ -118,12 +118,26 @@ impl<D, M: TimePlay<D>> Play<(), View<D>> for Leave<M> {
     ghost then = { ended M.then };
 }
 
-pub(crate) struct Refuse<M> {
-    play: PhantomData<M>,
+/// For how many pages and frames a reservation asks.
+pub(crate) trait Ask {
+    ghost pages: { ℕ };
+
+    ghost frames: { ℕ };
 }
 
-impl<D, M: TimePlay<D>> Play<(), View<D>> for Refuse<M> {
-    ghost then = { refused M.then };
+impl Ask for Brand {
+    ghost pages = { 0 };
+
+    ghost frames = { 0 };
+}
+
+pub(crate) struct Refuse<M, J> {
+    play: PhantomData<M>,
+    ask: PhantomData<J>,
+}
+
+impl<D, M: TimePlay<D>, J: Ask> Play<(), View<D>> for Refuse<M, J> {
+    ghost then = { refused J.pages J.frames M.then };
 }
 
 pub(crate) struct Look<M> {

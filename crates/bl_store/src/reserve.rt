@@ -3,13 +3,14 @@ ghost use Rattle.std.specs.Prelude.{◌≡◌, ◌≢◌, ◌⊎◌, ℕ, ◌+�
 ghost use Rattle.bl_layout.specs.Words.{frame_count, word_count};
 ghost use Rattle.bl_store.specs.Pages.{Released, Takes, Refuses};
 ghost use Rattle.bl_store.specs.Frames.{owner_at};
-ghost use Rattle.bl_store.specs.Hands.{known, IsOf, IsSameHand, IsSameStage, IsSameStock, IsQuiet, HasNoStock, IsStockOf, MayRetire, SawTaken, IsTried, IsWhy};
+ghost use Rattle.bl_store.specs.Hands.{known, IsOf, IsSameHand, IsSameStage, IsSameStock, IsQuiet, HasNoStock, IsStockOf, MayRetire, SawTaken, IsTried, IsWhy, WasRefused};
 
-use crate::plays::{Allot, Note, Refuse, Reserve, Return, Take};
+use crate::plays::{Allot, Ask, Note, Refuse, Reserve, Return, Take};
 use crate::rule::{PagePlay, PageRule, TimePlay};
 use crate::stock::{NoRoom, Stock};
 use crate::store::{Hand, RING, Store};
 use std::alloc::Allocator;
+use std::marker::Brand;
 use std::sync::atomic::Ordering;
 
 /// At this time and later no reservation is given.
@@ -38,6 +39,7 @@ impl<D, R: PageRule<D>, A: Allocator> Store<D, R, A> {
         ensures page { pages ≡ 1 → IfOk result (λ s. (x : ℕ) × (s.page ≡ Some x) × (0 < x) × (x < self.now.layout.pages) × ((words : List ℕ) × T.then (known hand.old.seat) x Released words (known hand.new.seat))) }
         ensures refused { IfErr result (λ _. HasNoStock hand.new.seat × ((now : ℕ) × M.then (known hand.old.seat) now (known hand.new.seat))) }
         ensures why { IfErr result (IsWhy hand.new.seat pages frames) }
+        ensures asked { IfErr result (λ _. WasRefused hand.new.seat pages frames) }
     {
         self.prepare(hand, frames);
         let clock = self
@@ -45,7 +47,7 @@ impl<D, R: PageRule<D>, A: Allocator> Store<D, R, A> {
             .shared
             .load::<Allot>(&mut hand.seat, self.layout.clock());
         if clock >= END_OF_TIME {
-            self.refuse::<M>(hand);
+            self.refuse::<M, Brand>(hand, pages, frames);
             return Err(NoRoom::Clock);
         }
         let mut stock = Stock {
@@ -56,14 +58,14 @@ impl<D, R: PageRule<D>, A: Allocator> Store<D, R, A> {
         self.reserve_frames(hand, &mut stock, frames);
         if stock.count < frames {
             self.give_back(hand, &mut stock);
-            self.refuse::<M>(hand);
+            self.refuse::<M, Brand>(hand, pages, frames);
             return Err(NoRoom::Frames);
         }
         if pages > 0 {
             stock.page = self.take::<T>(hand);
             if stock.page.is_none() {
                 self.give_back(hand, &mut stock);
-                self.refuse::<M>(hand);
+                self.refuse::<M, Brand>(hand, pages, frames);
                 return Err(NoRoom::Pages);
             }
         }
@@ -71,16 +73,18 @@ impl<D, R: PageRule<D>, A: Allocator> Store<D, R, A> {
     }
 
     // The reservation's one event, where it is refused.
-    fn refuse<M: TimePlay<D>>(&self, hand: &mut Hand<D>)
+    fn refuse<M: TimePlay<D>, J: Ask>(&self, hand: &mut Hand<D>, pages: u32, frames: u32)
         requires own { IsOf self.now.table.shared.table_id self.now.layout hand.old.seat }
+        requires asked { (pages ≡ J.pages) × (frames ≡ J.frames) }
         requires refuses { Refuses R.holds self.now.layout hand.old.number (known hand.old.seat) M.then }
         ensures same { IsSameHand hand.old.seat hand.new.seat × IsSameStage hand.old.seat hand.new.seat }
         ensures stock { (hand.new.seat.me.0.stock ≡ hand.old.seat.me.0.stock) × (hand.new.seat.me.0.seen ≡ hand.old.seat.me.0.seen) × (hand.new.seat.me.0.got ≡ hand.old.seat.me.0.got) }
+        ensures refused { WasRefused hand.new.seat pages frames }
         ensures told { (now : ℕ) × M.then (known hand.old.seat) now (known hand.new.seat) }
     {
         self.table
             .shared
-            .load::<Refuse<M>>(&mut hand.seat, self.layout.clock());
+            .load::<Refuse<M, J>>(&mut hand.seat, self.layout.clock());
     }
 
     // Tries each frame once, from the hand's cursor on, until there are enough.

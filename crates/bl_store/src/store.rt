@@ -1,9 +1,9 @@
 //! The store, and the calls that begin and end a process and read pages.
-ghost use Rattle.std.specs.Prelude.{◌≡◌, ◌≢◌, ℕ, ◌+◌, ◌*◌, ◌<◌, ◌≤◌, true, false, List, [], length, slice_index};
+ghost use Rattle.std.specs.Prelude.{◌≡◌, ◌≢◌, ℕ, ◌+◌, ◌*◌, ◌<◌, ◌≤◌, true, false, List, [], length, slice_index, None};
 ghost use Rattle.bl_layout.specs.Words.{frame_count, word_count};
 ghost use Rattle.bl_store.specs.Frames.{page_at, place_at};
 ghost use Rattle.bl_store.specs.Pages.{Owner, Begins, Ends, Gets};
-ghost use Rattle.bl_store.specs.Hands.{known, read_words, IsOf, IsIdle, IsRunning, IsSameHand, IsSameStage, IsSameStock, ReadsFrom, HasSeen};
+ghost use Rattle.bl_store.specs.Hands.{known, read_words, IsOf, IsIdle, IsRunning, IsSameHand, IsSameStage, IsSameStock, IsSameRefusal, ReadsFrom, HasSeen};
 ghost use Rattle.bl_store.specs.declared.view.Reading.TheVariants.{At};
 ghost use Rattle.bl_store.specs.declared.view.Sealing.TheVariants.{Unsealed};
 
@@ -88,6 +88,7 @@ impl<D, R: PageRule<D>, A: Allocator> Store<D, R, A> {
         requires rule { Begins R.holds self.now.layout hand.old.number (known hand.old.seat) M.then }
         ensures same { IsSameHand hand.old.seat hand.new.seat × IsSameStock hand.old.seat hand.new.seat }
         ensures running { IsRunning hand.new.seat }
+        ensures none { hand.new.seat.me.0.refused ≡ None }
         ensures told { (now : ℕ) × M.then (known hand.old.seat) now (known hand.new.seat) }
     {
         let clock = self
@@ -107,6 +108,7 @@ impl<D, R: PageRule<D>, A: Allocator> Store<D, R, A> {
         requires rule { Ends R.holds self.now.layout hand.old.number (known hand.old.seat) M.then }
         ensures same { IsSameHand hand.old.seat hand.new.seat × IsSameStock hand.old.seat hand.new.seat }
         ensures idle { IsIdle hand.new.seat }
+        ensures refusal { IsSameRefusal hand.old.seat hand.new.seat }
         ensures told { (now : ℕ) × M.then (known hand.old.seat) now (known hand.new.seat) }
     {
         let process = self.layout.process(hand.number);

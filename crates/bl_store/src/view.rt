@@ -51,6 +51,12 @@ pub enum Sweep {
     Over(u64, u32),
 }
 
+/// What a reservation asks for.
+pub struct Wanted {
+    pub pages: u32,
+    pub frames: u32,
+}
+
 /// What a seat at the table knows. The hand with this number deals out the numbers from the next one up to `upto`.
 /// A seat whose hand another seat has taken in has a number that no hand has.
 pub struct View<D> {
@@ -74,6 +80,8 @@ pub struct View<D> {
     pub seen: LinkedList<u64>,
     /// The frames that its last reservation got, also those that it gave back since.
     pub got: LinkedList<u32>,
+    /// What its last refused reservation asked for, if one was refused since its process began.
+    pub refused: Option<Wanted>,
     pub known: D,
     /// The hands that it has taken in, the last one first.
     pub joined: LinkedList<Joined<D>>,

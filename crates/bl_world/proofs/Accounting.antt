@@ -49,7 +49,7 @@ use Rattle.bl_world.proofs.ReclaimArms.{named}
 use Rattle.bl_world.proofs.Moments.{world_map}
 use Rattle.bl_world.proofs.Orders.{ordered, ended_in, none_released}
 use Rattle.bl_world.proofs.Entries.{said_op, answered_said, answered_late}
-use Rattle.bl_world.proofs.RefusedAnswers.{answers_refused}
+use Rattle.bl_courses.proofs.RefusedAnswers.{answers_refused}
 use Rattle.bl_world.proofs.Ways.{events_count, first_refused}
 use Rattle.bl_world.proofs.Keeping.{Has, GrowsTo}
 

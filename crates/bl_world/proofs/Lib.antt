@@ -16,10 +16,7 @@ pub mod Keeping
 pub mod Runs
 pub mod Orders
 pub mod Entries
-pub mod RefusedCompressions
-pub mod Refusals
-pub mod RefusedTurns
-pub mod RefusedAnswers
+pub mod RefusedBegins
 pub mod Entering
 pub mod Ways
 pub mod Accounting

@@ -17,9 +17,9 @@ use Rattle.bl_world.specs.Deeds.{IsOpening, Deed, MayStart, Starts, DoneTo, Lead
 use Rattle.bl_world.specs.Deeds.Deed.{Starting, Turning}
 use Rattle.bl_world.proofs.Arms.{set_here, set_other}
 use Rattle.bl_world.proofs.Places.{push_plus, push_cases}
-use Rattle.bl_world.proofs.Refusals.{IsRefused}
-use Rattle.bl_world.proofs.RefusedTurns.{takes_refused}
-use Rattle.bl_world.proofs.RefusedAnswers.{begins_free, reclaim_free}
+use Rattle.bl_courses.specs.Refusals.{IsRefused}
+use Rattle.bl_courses.proofs.RefusedTurns.{takes_refused}
+use Rattle.bl_world.proofs.RefusedBegins.{begins_free, reclaim_free}
 
 -- Ways go on
 

@@ -34,7 +34,8 @@ use Rattle.bl_bounds.specs.Latches.{IsTidy}
 use Rattle.bl_world.specs.declared.owners.Owner.{Owner}
 use Rattle.bl_world.specs.Views.{View, name_of, owner_of, events_shown}
 use Rattle.bl_world.specs.Retirements.{MeansReclaimed, ReleasesSeen}
-use Rattle.bl_world.specs.Deeds.{Way, turns_in, IsNoRoom, WasRefused}
+use Rattle.bl_courses.specs.Refusals.{IsNoRoom}
+use Rattle.bl_world.specs.Deeds.{Way, turns_in, WasRefused}
 
 -- no released page is got: before each get its page is not released
 abbrev pub NoneReleased : State Page → Trail → Type 0

@@ -1,14 +1,9 @@
 -- What the user of a world does with it, and where that leads.
 use Rattle.std.specs.Prelude.{◌≡◌, ◌⊎◌, ℕ, ◌<◌, ◌+◌, ◌++◌, Some, None, List, [], ◌∷◌, length, slice_get}
-use Rattle.bl_model.specs.declared.operation.Reply.TheVariants as reply
 use Rattle.bl_page.specs.declared.page.Page.{Page}
 use Rattle.bl_tree.specs.Nodes.{unbounded}
 use Rattle.bl_laws.specs.Pages.{node_of}
 use Rattle.bl_ways.specs.declared.acts.Action.TheVariants as act
-use Rattle.bl_ways.specs.declared.answers.Answer.{Answer}
-use Rattle.bl_ways.specs.declared.answers.Answer.TheVariants as answer
-use Rattle.bl_ways.specs.declared.answers.Posted.TheVariants as posted
-use Rattle.bl_ways.specs.declared.answers.Squeezed.TheVariants as squeezed
 use Rattle.bl_ways.specs.Growths.{IsAnchor}
 use Rattle.bl_proc.specs.declared.kinds.Proc.{Proc}
 use Rattle.bl_proc.specs.Processes.{next_of, IsReclaim}
@@ -79,13 +74,6 @@ pub record Way (v : View) : Type 0 where
   pub opening : IsOpening size opened
   pub deeds : List Deed
   pub led : LeadsTo opened deeds v
-
--- there was no room
-abbrev pub IsNoRoom : Answer → Type 0
-IsNoRoom (answer.Op reply.NoRoom hint) = Unit {0}
-IsNoRoom (answer.Post posted.NoRoom hint) = Unit {0}
-IsNoRoom (answer.Compress squeezed.NoRoom hint) = Unit {0}
-IsNoRoom other = ⊥
 
 -- One of the deeds was to refuse the process at place n what it was about to reserve.
 pub record WasRefused (opened : View) (deeds : List Deed) (n : ℕ) : Type 0 where

@@ -9,6 +9,6 @@ pub load-requires : goal.load-requires
 load-requires g c = let st = c.args.self.now in let wide = st.wide in let own = c.args.hand.now.own in (
   search rules,
   omega arith,
-  refuses _ _ _ g.M.TimePlay.then _ _ _ _
+  refuses _ _ _ g.J.Ask.pages g.J.Ask.frames g.M.TimePlay.then _ _ _ _
       (subst (λ (z : Layout × ℕ). Refuses g.R.PageRule.holds z.0 z.1 c.args.hand.now.seat.me.0.known g.M.TimePlay.then) (λ i. (sym st.key i, own.0 i)) c.requires.refuses) (live_hand c.args.hand.now),
 )

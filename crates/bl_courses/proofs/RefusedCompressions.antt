@@ -18,45 +18,8 @@ use Rattle.bl_compress.specs.declared.squeezing.CompressReply.{CompressReply}
 use Rattle.bl_compress.specs.declared.squeezing.CompressReply.TheVariants as pressed
 use Rattle.bl_compress.specs.declared.squeezing.CompressStage.{CompressStage}
 use Rattle.bl_compress.specs.declared.squeezing.CompressStage.TheVariants as compress
+use Rattle.bl_courses.specs.Refusals.{FateRefused, SqueezeRefused, PressNoRoom, CompressRefused, SqueezePuts, CompressPuts}
 use Rattle.bl_compress.specs.Compresses.{compress_reply, CompressStarts, CompressArrives, CompressNears, CompressComes, CompressGoes}
-
--- It goes on without room. Puts with such a fate count too, though none are ever decided.
-abbrev pub FateRefused : Fate → Type 0
-FateRefused (fate.Merged hint) = ⊥
-FateRefused fate.Evened = ⊥
-FateRefused fate.Enough = ⊥
-FateRefused (fate.Unposted hint) = ⊥
-FateRefused fate.Refused = Unit {0}
-FateRefused fate.Lost = ⊥
-
-abbrev pub SqueezeRefused : Compression → Type 0
-SqueezeRefused (LatchingLeft f) = ⊥
-SqueezeRefused (LatchedLeft f) = ⊥
-SqueezeRefused (LatchingRight f page) = ⊥
-SqueezeRefused (LatchedRight f page) = ⊥
-SqueezeRefused (PuttingFirst u) = FateRefused u.fate
-SqueezeRefused (PuttingParent u) = FateRefused u.fate
-SqueezeRefused (PuttingLast u) = FateRefused u.fate
-SqueezeRefused (Retiring at end) = FateRefused end
-SqueezeRefused (OpeningRight at end) = FateRefused end
-SqueezeRefused (OpeningLeft at end) = FateRefused end
-SqueezeRefused (OpeningParent x end) = FateRefused end
-
-abbrev pub PressNoRoom : CompressReply → Type 0
-PressNoRoom (pressed.Merged hint) = ⊥
-PressNoRoom pressed.Evened = ⊥
-PressNoRoom pressed.Enough = ⊥
-PressNoRoom pressed.Alone = ⊥
-PressNoRoom (pressed.Unposted hint) = ⊥
-PressNoRoom pressed.NoRoom = Unit {0}
-
-abbrev pub CompressRefused : CompressStage → Type 0
-CompressRefused compress.New = ⊥
-CompressRefused (compress.Coming a) = ⊥
-CompressRefused (compress.Compressing c) = SqueezeRefused c
-CompressRefused (compress.Staying x) = ⊥
-CompressRefused (compress.Ending r) = PressNoRoom r
-CompressRefused (compress.Over r) = PressNoRoom r
 
 -- Steps of the compression of two children
 
@@ -195,6 +158,107 @@ squeezes_refused (OpeningParent x end) (seen.Owner retired started own) new h r 
 squeezes_refused (OpeningParent x end) (seen.Blocks it) new h r = absurd h
 squeezes_refused (OpeningParent x end) seen.Missed new h r = absurd h
 squeezes_refused (OpeningParent x end) seen.Refused new h r = absurd h
+
+-- What is decided is never refused.
+after_puts_not : (at : Trio) (end : Fate) → SqueezePuts (after_puts at end) → ⊥
+after_puts_not at (fate.Merged hint) r = r
+after_puts_not at fate.Evened r = r
+after_puts_not at fate.Enough r = r
+after_puts_not at (fate.Unposted hint) r = r
+after_puts_not at fate.Refused r = r
+after_puts_not at fate.Lost r = r
+
+puts_are : (c : Compression) → SqueezePuts c → SqueezeRefused c
+puts_are (LatchingLeft f) r = absurd r
+puts_are (LatchedLeft f) r = absurd r
+puts_are (LatchingRight f page) r = absurd r
+puts_are (LatchedRight f page) r = absurd r
+puts_are (PuttingFirst u) r = r
+puts_are (PuttingParent u) r = r
+puts_are (PuttingLast u) r = r
+puts_are (Retiring at end) r = r
+puts_are (OpeningRight at end) r = absurd r
+puts_are (OpeningLeft at end) r = absurd r
+puts_are (OpeningParent x end) r = absurd r
+
+squeezes_puts : (c : Compression) (what : Seen) (d : Compression) → Compresses c what (step.On d) → SqueezePuts d → SqueezePuts c
+squeezes_puts (LatchingLeft f) seen.Done d h r = absurd (subst SqueezePuts h r)
+squeezes_puts (LatchingLeft f) (seen.Words y) d h r = absurd h
+squeezes_puts (LatchingLeft f) (seen.Took y) d h r = absurd h
+squeezes_puts (LatchingLeft f) (seen.Owner retired started own) d h r = absurd h
+squeezes_puts (LatchingLeft f) (seen.Blocks it) d h r = absurd h
+squeezes_puts (LatchingLeft f) seen.Missed d h r = absurd (subst SqueezePuts h r)
+squeezes_puts (LatchingLeft f) seen.Refused d h r = absurd h
+squeezes_puts (LatchedLeft f) seen.Done d h r = absurd h
+squeezes_puts (LatchedLeft f) (seen.Words y) d h r = absurd (links_not f y d h (puts_are d r))
+squeezes_puts (LatchedLeft f) (seen.Took y) d h r = absurd h
+squeezes_puts (LatchedLeft f) (seen.Owner retired started own) d h r = absurd h
+squeezes_puts (LatchedLeft f) (seen.Blocks it) d h r = absurd h
+squeezes_puts (LatchedLeft f) seen.Missed d h r = absurd h
+squeezes_puts (LatchedLeft f) seen.Refused d h r = absurd h
+squeezes_puts (LatchingRight f page) seen.Done d h r = absurd (subst SqueezePuts h r)
+squeezes_puts (LatchingRight f page) (seen.Words y) d h r = absurd h
+squeezes_puts (LatchingRight f page) (seen.Took y) d h r = absurd h
+squeezes_puts (LatchingRight f page) (seen.Owner retired started own) d h r = absurd h
+squeezes_puts (LatchingRight f page) (seen.Blocks it) d h r = absurd h
+squeezes_puts (LatchingRight f page) seen.Missed d h r = absurd (subst SqueezePuts h r)
+squeezes_puts (LatchingRight f page) seen.Refused d h r = absurd h
+squeezes_puts (LatchedRight f page) seen.Done d h r = absurd h
+squeezes_puts (LatchedRight f page) (seen.Words y) d h r = absurd (decides_not f page y d h (puts_are d r))
+squeezes_puts (LatchedRight f page) (seen.Took y) d h r = absurd h
+squeezes_puts (LatchedRight f page) (seen.Owner retired started own) d h r = absurd h
+squeezes_puts (LatchedRight f page) (seen.Blocks it) d h r = absurd h
+squeezes_puts (LatchedRight f page) seen.Missed d h r = absurd h
+squeezes_puts (LatchedRight f page) seen.Refused d h r = absurd h
+squeezes_puts (PuttingFirst u) seen.Done d h r = subst SqueezePuts h r
+squeezes_puts (PuttingFirst u) (seen.Words y) d h r = absurd h
+squeezes_puts (PuttingFirst u) (seen.Took y) d h r = absurd h
+squeezes_puts (PuttingFirst u) (seen.Owner retired started own) d h r = absurd h
+squeezes_puts (PuttingFirst u) (seen.Blocks it) d h r = absurd h
+squeezes_puts (PuttingFirst u) seen.Missed d h r = absurd h
+squeezes_puts (PuttingFirst u) seen.Refused d h r = absurd (subst SqueezePuts h r)
+squeezes_puts (PuttingParent u) seen.Done d h r = subst SqueezePuts h r
+squeezes_puts (PuttingParent u) (seen.Words y) d h r = absurd h
+squeezes_puts (PuttingParent u) (seen.Took y) d h r = absurd h
+squeezes_puts (PuttingParent u) (seen.Owner retired started own) d h r = absurd h
+squeezes_puts (PuttingParent u) (seen.Blocks it) d h r = absurd h
+squeezes_puts (PuttingParent u) seen.Missed d h r = absurd h
+squeezes_puts (PuttingParent u) seen.Refused d h r = absurd h
+squeezes_puts (PuttingLast u) seen.Done d h r = absurd (after_puts_not u.at u.fate (subst SqueezePuts h r))
+squeezes_puts (PuttingLast u) (seen.Words y) d h r = absurd h
+squeezes_puts (PuttingLast u) (seen.Took y) d h r = absurd h
+squeezes_puts (PuttingLast u) (seen.Owner retired started own) d h r = absurd h
+squeezes_puts (PuttingLast u) (seen.Blocks it) d h r = absurd h
+squeezes_puts (PuttingLast u) seen.Missed d h r = absurd h
+squeezes_puts (PuttingLast u) seen.Refused d h r = absurd h
+squeezes_puts (Retiring at end) seen.Done d h r = absurd (subst SqueezePuts h r)
+squeezes_puts (Retiring at end) (seen.Words y) d h r = absurd h
+squeezes_puts (Retiring at end) (seen.Took y) d h r = absurd h
+squeezes_puts (Retiring at end) (seen.Owner retired started own) d h r = absurd h
+squeezes_puts (Retiring at end) (seen.Blocks it) d h r = absurd h
+squeezes_puts (Retiring at end) seen.Missed d h r = absurd h
+squeezes_puts (Retiring at end) seen.Refused d h r = absurd h
+squeezes_puts (OpeningRight at end) seen.Done d h r = subst SqueezePuts h r
+squeezes_puts (OpeningRight at end) (seen.Words y) d h r = absurd h
+squeezes_puts (OpeningRight at end) (seen.Took y) d h r = absurd h
+squeezes_puts (OpeningRight at end) (seen.Owner retired started own) d h r = absurd h
+squeezes_puts (OpeningRight at end) (seen.Blocks it) d h r = absurd h
+squeezes_puts (OpeningRight at end) seen.Missed d h r = absurd h
+squeezes_puts (OpeningRight at end) seen.Refused d h r = absurd h
+squeezes_puts (OpeningLeft at end) seen.Done d h r = subst SqueezePuts h r
+squeezes_puts (OpeningLeft at end) (seen.Words y) d h r = absurd h
+squeezes_puts (OpeningLeft at end) (seen.Took y) d h r = absurd h
+squeezes_puts (OpeningLeft at end) (seen.Owner retired started own) d h r = absurd h
+squeezes_puts (OpeningLeft at end) (seen.Blocks it) d h r = absurd h
+squeezes_puts (OpeningLeft at end) seen.Missed d h r = absurd h
+squeezes_puts (OpeningLeft at end) seen.Refused d h r = absurd h
+squeezes_puts (OpeningParent x end) seen.Done d h r = absurd h
+squeezes_puts (OpeningParent x end) (seen.Words y) d h r = absurd h
+squeezes_puts (OpeningParent x end) (seen.Took y) d h r = absurd h
+squeezes_puts (OpeningParent x end) (seen.Owner retired started own) d h r = absurd h
+squeezes_puts (OpeningParent x end) (seen.Blocks it) d h r = absurd h
+squeezes_puts (OpeningParent x end) seen.Missed d h r = absurd h
+squeezes_puts (OpeningParent x end) seen.Refused d h r = absurd h
 
 -- Steps of its process
 
@@ -337,3 +401,34 @@ compress_refused level key (compress.Ending t) seen.Refused (compress.Over s) h 
 compress_refused level key (compress.Over t) what (compress.Compressing d) h r = absurd h
 compress_refused level key (compress.Over t) what (compress.Ending s) h r = absurd h
 compress_refused level key (compress.Over t) what (compress.Over s) h r = absurd h
+
+pub compress_puts : (level key : ℕ) (a : CompressStage) (what : Seen) (b : CompressStage) → CompressGoes level key a what b → CompressPuts b → CompressPuts a
+compress_puts level key a what compress.New h r = absurd r
+compress_puts level key a what (compress.Coming w) h r = absurd r
+compress_puts level key a what (compress.Staying x) h r = absurd r
+compress_puts level key a what (compress.Ending s) h r = absurd r
+compress_puts level key a what (compress.Over s) h r = absurd r
+compress_puts level key (compress.Coming w) what (compress.Compressing d) h r = absurd (press_comes_not level key w what (compress.Compressing d) h (puts_are d r))
+compress_puts level key (compress.Compressing c) what (compress.Compressing d) h r = squeezes_puts c what d h r
+compress_puts level key compress.New seen.Done (compress.Compressing d) h r = absurd h
+compress_puts level key compress.New (seen.Words y) (compress.Compressing d) h r = absurd h
+compress_puts level key compress.New (seen.Took y) (compress.Compressing d) h r = absurd h
+compress_puts level key compress.New (seen.Owner retired started own) (compress.Compressing d) h r = absurd h
+compress_puts level key compress.New (seen.Blocks it) (compress.Compressing d) h r = absurd h
+compress_puts level key compress.New seen.Missed (compress.Compressing d) h r = absurd h
+compress_puts level key compress.New seen.Refused (compress.Compressing d) h r = absurd h
+compress_puts level key (compress.Staying x) seen.Done (compress.Compressing d) h r = absurd h
+compress_puts level key (compress.Staying x) (seen.Words y) (compress.Compressing d) h r = absurd h
+compress_puts level key (compress.Staying x) (seen.Took y) (compress.Compressing d) h r = absurd h
+compress_puts level key (compress.Staying x) (seen.Owner retired started own) (compress.Compressing d) h r = absurd h
+compress_puts level key (compress.Staying x) (seen.Blocks it) (compress.Compressing d) h r = absurd h
+compress_puts level key (compress.Staying x) seen.Missed (compress.Compressing d) h r = absurd h
+compress_puts level key (compress.Staying x) seen.Refused (compress.Compressing d) h r = absurd h
+compress_puts level key (compress.Ending t) seen.Done (compress.Compressing d) h r = absurd h
+compress_puts level key (compress.Ending t) (seen.Words y) (compress.Compressing d) h r = absurd h
+compress_puts level key (compress.Ending t) (seen.Took y) (compress.Compressing d) h r = absurd h
+compress_puts level key (compress.Ending t) (seen.Owner retired started own) (compress.Compressing d) h r = absurd h
+compress_puts level key (compress.Ending t) (seen.Blocks it) (compress.Compressing d) h r = absurd h
+compress_puts level key (compress.Ending t) seen.Missed (compress.Compressing d) h r = absurd h
+compress_puts level key (compress.Ending t) seen.Refused (compress.Compressing d) h r = absurd h
+compress_puts level key (compress.Over t) what (compress.Compressing d) h r = absurd h

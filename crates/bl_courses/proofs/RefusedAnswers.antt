@@ -1,6 +1,5 @@
--- A process that answers that there was no room goes on without room, and one that is to begin does not.
+-- A process that answers that there was no room goes on without room.
 use Rattle.std.proofs.Common.{ℕ, ◌≡◌, Some, None, subst}
-use Rattle.bl_ways.specs.declared.acts.Action.TheVariants as act
 use Rattle.bl_ways.specs.declared.answers.Answer.{Answer}
 use Rattle.bl_proc.specs.declared.searching.FindStage.{FindStage}
 use Rattle.bl_proc.specs.declared.searching.FindStage.TheVariants as find
@@ -22,18 +21,15 @@ use Rattle.bl_proc.specs.declared.reclaiming.ReclaimStage.{ReclaimStage}
 use Rattle.bl_proc.specs.declared.reclaiming.ReclaimStage.TheVariants as reclaim
 use Rattle.bl_proc.specs.declared.kinds.Proc.{Proc}
 use Rattle.bl_proc.specs.declared.kinds.Proc.TheVariants as proc
-use Rattle.bl_proc.specs.Processes.{next_of, answer_of, IsReclaim}
+use Rattle.bl_proc.specs.Processes.{answer_of}
 use Rattle.bl_proc.specs.Searches.{find_answer_in}
 use Rattle.bl_proc.specs.Parts.{part_answer_in}
-use Rattle.bl_proc.specs.Inserts.{insert_next_in, insert_answer_in}
-use Rattle.bl_proc.specs.Deletes.{delete_next_in, delete_answer_in}
-use Rattle.bl_proc.specs.Posts.{post_next_in, post_answer_in}
-use Rattle.bl_compress.specs.Compresses.{compress_next_in, compress_answer_in}
+use Rattle.bl_proc.specs.Inserts.{insert_answer_in}
+use Rattle.bl_proc.specs.Deletes.{delete_answer_in}
+use Rattle.bl_proc.specs.Posts.{post_answer_in}
+use Rattle.bl_compress.specs.Compresses.{compress_answer_in}
 use Rattle.bl_proc.specs.Reclaims.{reclaim_answer_in}
-use Rattle.bl_world.specs.Deeds.{IsNoRoom}
-use Rattle.bl_world.proofs.Begins.{change_begins, growth_begins, squeeze_begins}
-use Rattle.bl_world.proofs.RefusedCompressions.{CompressRefused}
-use Rattle.bl_world.proofs.Refusals.{InsertRefused, DeleteRefused, PostRefused, IsRefused}
+use Rattle.bl_courses.specs.Refusals.{IsNoRoom, InsertRefused, DeleteRefused, PostRefused, CompressRefused, IsRefused}
 
 -- An answer
 
@@ -119,58 +115,3 @@ answers_refused (proc.Post p) a e r = post_answers p.level p.stage a e r
 answers_refused (proc.Part p) a e r = part_answers p.stage a e r
 answers_refused (proc.Compress p) a e r = compress_answers p.stage a e r
 answers_refused (proc.Reclaim p) a e r = reclaim_answers p.stage a e r
-
--- A process that is to begin was not refused.
-
-insert_free : (a : InsertStage) → insert_next_in a ≡ act.Begin → InsertRefused a → ⊥
-insert_free insert.New e r = r
-insert_free (insert.Coming a) e r = r
-insert_free (insert.Present x v) e r = r
-insert_free (insert.Changing c) e r = change_begins c e
-insert_free (insert.Ending x) e r = cc
-insert_free (insert.Over x) e r = cc
-
-delete_free : (a : DeleteStage) → delete_next_in a ≡ act.Begin → DeleteRefused a → ⊥
-delete_free delete.New e r = r
-delete_free (delete.Coming a) e r = r
-delete_free (delete.Absent x) e r = r
-delete_free (delete.Changing v c) e r = change_begins c e
-delete_free (delete.Ending x) e r = cc
-delete_free (delete.Over x) e r = cc
-
-post_free : (a : PostStage) → post_next_in a ≡ act.Begin → PostRefused a → ⊥
-post_free post.New e r = r
-post_free (post.Coming a) e r = r
-post_free (post.Growing g) e r = growth_begins g e
-post_free (post.Walking w) e r = r
-post_free (post.Changing c) e r = change_begins c e
-post_free (post.Staying x s) e r = cc
-post_free (post.Ending x) e r = cc
-post_free (post.Over x) e r = cc
-
-compress_free : (a : CompressStage) → compress_next_in a ≡ act.Begin → CompressRefused a → ⊥
-compress_free compress.New e r = r
-compress_free (compress.Coming a) e r = r
-compress_free (compress.Compressing c) e r = squeeze_begins c e
-compress_free (compress.Staying x) e r = r
-compress_free (compress.Ending s) e r = cc
-compress_free (compress.Over s) e r = cc
-
-pub begins_free : (p : Proc) → next_of p ≡ act.Begin → IsRefused p → ⊥
-begins_free (proc.Find p) e r = r
-begins_free (proc.Insert p) e r = insert_free p.stage e r
-begins_free (proc.Delete p) e r = delete_free p.stage e r
-begins_free (proc.Post p) e r = post_free p.stage e r
-begins_free (proc.Part p) e r = r
-begins_free (proc.Compress p) e r = compress_free p.stage e r
-begins_free (proc.Reclaim p) e r = r
-
--- Nor is one that is to release a page.
-pub reclaim_free : (x : ℕ) (p : Proc) → IsReclaim x p → IsRefused p → ⊥
-reclaim_free x (proc.Reclaim p) e r = r
-reclaim_free x (proc.Find p) e r = e
-reclaim_free x (proc.Insert p) e r = e
-reclaim_free x (proc.Delete p) e r = e
-reclaim_free x (proc.Post p) e r = e
-reclaim_free x (proc.Part p) e r = e
-reclaim_free x (proc.Compress p) e r = e

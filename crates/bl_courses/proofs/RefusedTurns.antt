@@ -24,8 +24,9 @@ use Rattle.bl_proc.specs.Processes.{Takes}
 use Rattle.bl_proc.specs.Inserts.{InsertGoes, insert_reply}
 use Rattle.bl_proc.specs.Deletes.{DeleteGoes, delete_reply}
 use Rattle.bl_proc.specs.Posts.{PostComes, PostGoes, post_reply}
-use Rattle.bl_world.proofs.RefusedCompressions.{compress_refused}
-use Rattle.bl_world.proofs.Refusals.{OutcomeRefused, InsertNoRoom, InsertRefused, DeleteNoRoom, DeleteRefused, PostNoRoom, PostRefused, IsRefused, changes_refused, changes_over, grows_refused, grows_over, enters_not, drops_not}
+use Rattle.bl_courses.specs.Refusals.{OutcomeRefused, InsertNoRoom, InsertRefused, DeleteNoRoom, DeleteRefused, PostNoRoom, PostRefused, IsRefused, PutsRefused}
+use Rattle.bl_courses.proofs.RefusedCompressions.{compress_refused, compress_puts}
+use Rattle.bl_courses.proofs.Refusals.{changes_refused, changes_over, grows_refused, grows_over, enters_not, drops_not}
 
 insert_outcome : (o : Outcome) → inserted.NoRoom ≡ insert_reply o → OutcomeRefused o
 insert_outcome outcome.Changed e = absurd cc
@@ -499,3 +500,19 @@ takes_refused (proc.Post p) what (proc.Compress q) t r = absurd t
 takes_refused (proc.Part p) what (proc.Compress q) t r = absurd t
 takes_refused (proc.Compress p) what (proc.Compress q) t r = compress_refused p.level p.key p.stage what q.stage t.2 r
 takes_refused (proc.Reclaim p) what (proc.Compress q) t r = absurd t
+
+-- nor does one come to such puts
+pub takes_puts : (p : Proc) (what : Seen) (q : Proc) → Takes p what q → PutsRefused q → PutsRefused p
+takes_puts p what (proc.Find q) t r = absurd r
+takes_puts p what (proc.Insert q) t r = absurd r
+takes_puts p what (proc.Delete q) t r = absurd r
+takes_puts p what (proc.Post q) t r = absurd r
+takes_puts p what (proc.Part q) t r = absurd r
+takes_puts p what (proc.Reclaim q) t r = absurd r
+takes_puts (proc.Find p) what (proc.Compress q) t r = absurd t
+takes_puts (proc.Insert p) what (proc.Compress q) t r = absurd t
+takes_puts (proc.Delete p) what (proc.Compress q) t r = absurd t
+takes_puts (proc.Post p) what (proc.Compress q) t r = absurd t
+takes_puts (proc.Part p) what (proc.Compress q) t r = absurd t
+takes_puts (proc.Reclaim p) what (proc.Compress q) t r = absurd t
+takes_puts (proc.Compress p) what (proc.Compress q) t r = compress_puts p.level p.key p.stage what q.stage t.2 r
