@@ -22,3 +22,4 @@ pub mod Encounters
 pub mod Ranges
 pub mod Scanned
 pub mod Onward
+pub mod Rooms

@@ -15,7 +15,7 @@ use Rattle.bl_ways.specs.declared.answers.Squeezed.{Squeezed}
 use Rattle.bl_tables.specs.Answers.{MeansPosted, MeansHint}
 use Rattle.bl_tables.specs.Hinted.{MeansInserted, MeansDeleted}
 use Rattle.bl_tables.specs.Squeezed.{MeansSqueezed}
-use Rattle.bl_store.specs.Hands.{known, IsOf}
+use Rattle.bl_store.specs.Hands.{known, IsOf, WasRefused}
 use Rattle.bl_passes.specs.Noting.{trail_of}
 use Rattle.bl_passes.specs.Seeing.{IsSeen, own, Holds}
 use Rattle.bl_passes.specs.Fitting.{name}
@@ -48,6 +48,11 @@ map_of trail = final_map empty (history_of trail)
 -- how many pages and frames the pass has released
 abbrev pub released_by : Pass → ℕ
 released_by pass = pass.hand.seat.me.0.releases
+
+-- In its last call the pass was refused a reservation of so many pages and frames: what it tried of them was in use. It was the
+-- last reservation of that call.
+abbrev pub MetNoRoom : Pass → ℕ → ℕ → Type 0
+MetNoRoom pass pages frames = WasRefused pass.hand.seat pages frames
 
 -- The same pass of the same index
 abbrev pub IsSamePass : Pass → Pass → Type 0

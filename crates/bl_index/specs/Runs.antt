@@ -26,6 +26,7 @@ use Rattle.bl_passes.specs.Noting.{trail_of}
 use Rattle.bl_passes.specs.Seeing.{own, AreWithin, AreElse, AreOnlyOf}
 use Rattle.bl_passes.specs.Fitting.{name}
 use Rattle.bl_passes.specs.Told.{IsNear, HasOwn, Steps, Finishes}
+use Rattle.bl_index.specs.Rooms.{TellsRoom}
 
 -- the pass runs this process, in an index of that layout
 pub record IsOn (l : Layout) (d : Mine) (process : Proc) : Type 0 where
@@ -79,7 +80,7 @@ pub record IsDone (pass : ℕ) (old e : Mine) (first last : Proc) : Type 0 where
 
 -- After a step of the process p, which is then q: it has gone on by one event; or it is to end, and nothing has happened.
 abbrev pub IsAfter : Layout → Seat (Unit {0}) (View Mine) → Seat (Unit {0}) (View Mine) → Proc → Proc → Stepped → Type 0
-IsAfter l h h' p q (On held) = IsOn l (known h') q × Moves (known h) (known h') × HasReserved h' held q × ((what : Seen) × Follows p what q) × (next_of p ≢ act.End)
+IsAfter l h h' p q (On held) = IsOn l (known h') q × Moves (known h) (known h') × HasReserved h' held q × ((what : Seen) × Follows p what q × Takes p what q × TellsRoom h h' p what) × (next_of p ≢ act.End)
 IsAfter l h h' p q AtEnd = (next_of p ≡ act.End) × (q ≡ p) × (known h' ≡ known h) × HasNoStock h'
 
 -- A search that the pass began as its process of that number has got so many pages, within its bound, and may get one more.

@@ -1,8 +1,11 @@
 //! Insertions and deletions.
 
-ghost use Rattle.std.specs.Prelude.{◌≡◌, ◌≢◌, ℕ, None, Some, false};
+ghost use Rattle.std.specs.Prelude.{◌≡◌, ◌≢◌, ◌⊎◌, ℕ, None, Some, false};
 ghost use Rattle.bl_ways.specs.declared.acts.Action.TheVariants as act;
+ghost use Rattle.bl_model.specs.declared.operation.Reply.TheVariants as reply;
+ghost use Rattle.bl_ways.specs.declared.answers.Answer.{Answer as AnswerIs};
 ghost use Rattle.bl_ways.specs.declared.answers.Answer.TheVariants as answers;
+ghost use Rattle.bl_courses.specs.Refusals.{IsNoRoom, IsRefused, PutsRefused};
 ghost use Rattle.bl_index.specs.Searching.{IsOpAnswer};
 ghost use Rattle.bl_store.specs.Hands.{known, IsOf, IsIdle, IsRunning, IsSameHand, HasNoStock};
 ghost use Rattle.bl_passes.specs.Noting.{trail_of};
@@ -10,6 +13,7 @@ ghost use Rattle.bl_passes.specs.Seeing.{IsSeen};
 ghost use Rattle.bl_passes.specs.Told.{IsUnborn};
 ghost use Rattle.bl_passes.specs.declared.known.Mine.{Mine as Knows};
 ghost use Rattle.bl_index.specs.Runs.{IsOn, IsSince, IsDone, IsWithin, HasReserved};
+ghost use Rattle.bl_index.specs.Rooms.{LacksRoom, LacksAsked};
 
 use crate::index::{Index, Pass};
 use crate::kinds::Kind;
@@ -33,7 +37,7 @@ pub(crate) fn answered(answer: Option<Answer>) -> (Reply, Option<Hint>)
 }
 
 impl Index {
-    ghost use Rattle.bl_index.specs.Calls.{IsPassOf, IsSamePass, number_of, trail, Inserts, Deletes};
+    ghost use Rattle.bl_index.specs.Calls.{IsPassOf, IsSamePass, number_of, trail, Inserts, Deletes, MetNoRoom};
 
     /// Puts the value at the key, where the key has none. Where the leaf was parted, there is a hint to post its upper part.
     pub fn insert<R: Wait>(
@@ -46,6 +50,7 @@ impl Index {
         requires { IsPassOf self.now pass.old }
         ensures same { IsSamePass pass.old pass.new }
         ensures inserts { Inserts (number_of pass.old) key value result.0 result.1 (trail pass.old) (trail pass.new) }
+        ensures no_room { result.0 ≡ reply.NoRoom → MetNoRoom pass.new 0 1 ⊎ MetNoRoom pass.new 1 2 }
     {
         self.insert_by(rt, &mut pass.hand, key, value)
     }
@@ -55,6 +60,7 @@ impl Index {
         requires { IsPassOf self.now pass.old }
         ensures same { IsSamePass pass.old pass.new }
         ensures deletes { Deletes (number_of pass.old) key result.0 result.1 (trail pass.old) (trail pass.new) }
+        ensures no_room { result.0 ≡ reply.NoRoom → MetNoRoom pass.new 0 1 }
     {
         self.delete_by(rt, &mut pass.hand, key)
     }
@@ -64,12 +70,14 @@ impl Index {
         requires own { IsOf self.now.store.table.shared.table_id self.now.store.layout hand.old.seat }
         requires idle { IsIdle hand.old.seat × HasNoStock hand.old.seat }
         requires new { (P.answer_of process ≡ None) × (P.next_of process ≡ act.Begin) × IsUnborn (P.proc_of process) }
+        requires free { (IsRefused (P.proc_of process) → ⊥) × (PutsRefused (P.proc_of process) → ⊥) }
         ensures same { IsSameHand hand.old.seat hand.new.seat }
         ensures idle { IsIdle hand.new.seat × HasNoStock hand.new.seat }
         ensures within { IsWithin hand.new.seat }
         ensures rests { (known hand.new.seat).runs ≡ false }
         ensures seen { IsSeen (trail_of (known hand.new.seat).trail) }
         ensures done { IsDone hand.old.number (known hand.old.seat) (known hand.new.seat) (P.proc_of process) (P.proc_of result) }
+        ensures no_room { (a : AnswerIs) → P.answer_of result ≡ Some a → IsNoRoom a → LacksAsked hand.new.seat (P.proc_of result) }
     {
         let mut process = process;
         self.begin(hand, &mut process);
@@ -83,12 +91,14 @@ impl Index {
         requires process { IsOn self.now.store.layout (known hand.old.seat) (P.proc_of process) }
         requires going { (P.answer_of process ≡ None) × (P.next_of process ≢ act.Begin) }
         requires reserved { HasReserved hand.old.seat None (P.proc_of process) }
+        requires free { (IsRefused (P.proc_of process) → ⊥) × (PutsRefused (P.proc_of process) → ⊥) }
         ensures same { IsSameHand hand.old.seat hand.new.seat }
         ensures idle { IsIdle hand.new.seat × HasNoStock hand.new.seat }
         ensures within { IsWithin hand.new.seat }
         ensures rests { (known hand.new.seat).runs ≡ false }
         ensures seen { IsSeen (trail_of (known hand.new.seat).trail) }
         ensures done { (pass : ℕ) (old : Knows) → IsSince pass old (known hand.old.seat) → IsDone pass old (known hand.new.seat) (P.proc_of process) (P.proc_of result) }
+        ensures no_room { (a : AnswerIs) → P.answer_of result ≡ Some a → IsNoRoom a → LacksAsked hand.new.seat (P.proc_of result) }
     {
         let backoff = Backoff::new();
         let mut process = process;

@@ -1,6 +1,7 @@
 //! Deletions, by the words of pages: a leaf gets its new words from those that were read.
 
 ghost use Rattle.std.specs.Prelude.{◌≡◌, ℕ, None, Some, false};
+ghost use Rattle.bl_model.specs.declared.operation.Reply.TheVariants as replies;
 ghost use Rattle.bl_page.specs.declared.page.Page.{Page};
 ghost use Rattle.bl_page.specs.Words.{words_of};
 ghost use Rattle.bl_model.specs.Rows.{map_of};
@@ -13,7 +14,7 @@ ghost use Rattle.bl_ways.specs.Respelled.{words_by};
 ghost use Rattle.bl_ways.specs.Thin.{thin_low, thin_hint};
 ghost use Rattle.bl_proc.specs.declared.deleting.DeleteStage.TheVariants as delete;
 ghost use Rattle.bl_proc.specs.declared.kinds.Proc.TheVariants as proc;
-ghost use Rattle.bl_store.specs.Hands.{known, read_words, IsOf, IsIdle, IsRunning, IsSameHand, HasNoStock, ReadsFrom};
+ghost use Rattle.bl_store.specs.Hands.{known, read_words, IsOf, IsIdle, IsRunning, IsSameHand, HasNoStock, ReadsFrom, WasRefused};
 ghost use Rattle.bl_passes.specs.declared.known.Mine.{Mine as Knows};
 ghost use Rattle.bl_passes.specs.Noting.{trail_of};
 ghost use Rattle.bl_passes.specs.Seeing.{IsSeen};
@@ -52,6 +53,7 @@ impl Index {
         ensures rests { (known hand.new.seat).runs ≡ false }
         ensures seen { IsSeen (trail_of (known hand.new.seat).trail) }
         ensures deleted { (pass : ℕ) (old : Knows) → IsSince pass old (known hand.old.seat) → HasDeleted pass old (known hand.new.seat) (proc.Delete (record { key = errand.key; stage = delete.New })) result.0 result.1 }
+        ensures reply { result.0 ≡ replies.Absent }
     {
         let _ = errand;
         self.conclude(hand, at);
@@ -78,6 +80,7 @@ impl Index {
         ensures rests { (known hand.new.seat).runs ≡ false }
         ensures seen { IsSeen (trail_of (known hand.new.seat).trail) }
         ensures deleted { (pass : ℕ) (old : Knows) → IsSince pass old (known hand.old.seat) → HasDeleted pass old (known hand.new.seat) (proc.Delete (record { key = errand.key; stage = delete.New })) result.0 result.1 }
+        ensures no_room { result.0 ≡ replies.NoRoom → WasRefused hand.new.seat 0 1 }
     {
         let shown = Shown {
             store: &self.store,
@@ -115,6 +118,7 @@ impl Index {
         ensures rests { (known hand.new.seat).runs ≡ false }
         ensures seen { IsSeen (trail_of (known hand.new.seat).trail) }
         ensures deleted { (pass : ℕ) (old : Knows) → IsSince pass old (known hand.old.seat) → HasDeleted pass old (known hand.new.seat) (proc.Delete (record { key = errand.key; stage = delete.New })) result.0 result.1 }
+        ensures no_room { result.0 ≡ replies.NoRoom → WasRefused hand.new.seat 0 1 }
     {
         let shown = Shown {
             store: &self.store,
@@ -141,6 +145,7 @@ impl Index {
         ensures rests { (known hand.new.seat).runs ≡ false }
         ensures seen { IsSeen (trail_of (known hand.new.seat).trail) }
         ensures deleted { HasDeleted hand.old.number (known hand.old.seat) (known hand.new.seat) (proc.Delete (record { key = key; stage = delete.New })) result.0 result.1 }
+        ensures no_room { result.0 ≡ replies.NoRoom → WasRefused hand.new.seat 0 1 }
     {
         let errand = Deleting { key };
         self.depart(hand, &errand);

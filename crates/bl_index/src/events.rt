@@ -1,6 +1,6 @@
 //! The events of a process of which there is no value: the hand's pass knows where it stands.
 
-ghost use Rattle.std.specs.Prelude.{◌≡◌, ◌<◌, ◌+◌, ℕ, true, false, MatchOption};
+ghost use Rattle.std.specs.Prelude.{◌≡◌, ◌<◌, ◌+◌, ℕ, true, false, MatchOption, IfNone};
 ghost use Rattle.bl_page.specs.declared.page.Page.{Page};
 ghost use Rattle.bl_page.specs.Pairs.{IsChild};
 ghost use Rattle.bl_page.specs.Words.{words_of};
@@ -10,7 +10,7 @@ ghost use Rattle.bl_proc.specs.declared.kinds.Proc.{Proc};
 ghost use Rattle.bl_proc.specs.Processes.{next_of};
 ghost use Rattle.bl_courses.specs.Courses.{GoesOn};
 ghost use Rattle.bl_courses.specs.Frames.{op_of, work_of};
-ghost use Rattle.bl_store.specs.Hands.{known, read_words, IsOf, IsIdle, IsRunning, IsSameHand, IsSameStage, IsSameStock, HasNoStock, IsStockOf, ReadsFrom};
+ghost use Rattle.bl_store.specs.Hands.{known, read_words, IsOf, IsIdle, IsRunning, IsSameHand, IsSameStage, IsSameStock, HasNoStock, IsStockOf, ReadsFrom, WasRefused, IsSameRefusal};
 ghost use Rattle.bl_passes.specs.declared.known.Mine.{Mine as Knows};
 ghost use Rattle.bl_passes.specs.Noting.{trail_of};
 ghost use Rattle.bl_passes.specs.Seeing.{IsSeen};
@@ -66,6 +66,7 @@ impl Index {
         requires course { GoesOn (known hand.old.seat).state seen.Done }
         ensures same { IsSameHand hand.old.seat hand.new.seat × IsSameStage hand.old.seat hand.new.seat × IsSameStock hand.old.seat hand.new.seat }
         ensures goes { Goes seen.Done (known hand.old.seat) (known hand.new.seat) }
+        ensures refusal { IsSameRefusal hand.old.seat hand.new.seat }
     {
         self.store.open::<Opened>(hand, page);
     }
@@ -83,6 +84,7 @@ impl Index {
         ensures empty { HasNoStock hand.new.seat }
         ensures done { result ≡ true → Goes seen.Done (known hand.old.seat) (known hand.new.seat) }
         ensures refused { result ≡ false → Goes seen.Refused (known hand.old.seat) (known hand.new.seat) }
+        ensures asked { result ≡ false → WasRefused hand.new.seat 0 1 }
     {
         match self.store.reserve::<Took, Refused>(hand, 0, 1) {
             Ok(stock) => {
@@ -104,6 +106,7 @@ impl Index {
         requires empty { HasNoStock hand.old.seat }
         ensures same { IsSameHand hand.old.seat hand.new.seat × IsSameStage hand.old.seat hand.new.seat }
         ensures took { MatchOption result (HasNoStock hand.new.seat × Goes seen.Refused (known hand.old.seat) (known hand.new.seat)) (λ t. IsChild t.0 × IsStockOf hand.new.seat t.1 × (t.1.count ≡ 2) × Goes (seen.Took t.0) (known hand.old.seat) (known hand.new.seat)) }
+        ensures asked { IfNone result (WasRefused hand.new.seat 1 2) }
     {
         match self.store.reserve::<Took, Refused>(hand, 1, 2) {
             Ok(stock) => match stock.page() {
@@ -148,6 +151,7 @@ impl Index {
         ensures rests { (known hand.new.seat).runs ≡ false }
         ensures seen { IsSeen (trail_of (known hand.new.seat).trail) }
         ensures done { (pass : ℕ) (old : Knows) (first ending last : Proc) → IsSince pass old (known hand.old.seat) → OpensLast (known hand.old.seat).state page ending last → op_of ending ≡ op_of first → work_of ending ≡ work_of first → IsDone pass old (known hand.new.seat) first last }
+        ensures refusal { IsSameRefusal hand.old.seat hand.new.seat }
     {
         self.reopen(hand, page);
         self.store.end::<Ended>(hand);

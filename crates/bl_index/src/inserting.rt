@@ -1,6 +1,7 @@
 //! Insertions, by the words of pages. A leaf that has room gets its new words from those that were read.
 
 ghost use Rattle.std.specs.Prelude.{◌≡◌, ℕ, ◌<◌, None, Some, false, length};
+ghost use Rattle.bl_model.specs.declared.operation.Reply.TheVariants as replies;
 ghost use Rattle.bl_page.specs.declared.page.Page.{Page};
 ghost use Rattle.bl_page.specs.Words.{words_of};
 ghost use Rattle.bl_laws.specs.Pages.{IsTreePage};
@@ -10,6 +11,7 @@ ghost use Rattle.bl_ways.specs.declared.answers.Answer.TheVariants as answers;
 ghost use Rattle.bl_ways.specs.declared.approaching.Approach.TheVariants as approach;
 ghost use Rattle.bl_ways.specs.declared.changing.Change.TheVariants as change;
 ghost use Rattle.bl_ways.specs.declared.changing.Full.{Full};
+ghost use Rattle.bl_ways.specs.declared.changing.Outcome.TheVariants as outcomes;
 ghost use Rattle.bl_ways.specs.Respelled.{words_by};
 ghost use Rattle.bl_proc.specs.declared.inserting.InsertStage.TheVariants as insert;
 ghost use Rattle.bl_proc.specs.Inserts.{insert_reply, inserted_answer};
@@ -20,6 +22,7 @@ ghost use Rattle.bl_passes.specs.Noting.{trail_of};
 ghost use Rattle.bl_passes.specs.Seeing.{IsSeen};
 ghost use Rattle.bl_index.specs.Runs.{IsOn, IsSince, IsWithin};
 ghost use Rattle.bl_index.specs.Events.{IsThere, HasInserted};
+ghost use Rattle.bl_index.specs.Rooms.{LacksRoom};
 
 use crate::errands::Inserting;
 use crate::index::Index;
@@ -34,7 +37,8 @@ use std::sync::Wait;
 
 /// The reply of an insertion, and its hint, by what became of its leaf.
 fn inserted_by(outcome: Outcome) -> (Reply, Option<Hint>)
-    ensures { inserted_answer (insert_reply outcome) ≡ answers.Op result.0 result.1 }
+    ensures answer { inserted_answer (insert_reply outcome) ≡ answers.Op result.0 result.1 }
+    ensures no_room { result.0 ≡ replies.NoRoom → outcome ≡ outcomes.Refused }
 {
     match outcome {
         Outcome::Changed => (Reply::Inserted, None),
@@ -67,6 +71,7 @@ impl Index {
         ensures rests { (known hand.new.seat).runs ≡ false }
         ensures seen { IsSeen (trail_of (known hand.new.seat).trail) }
         ensures inserted { (pass : ℕ) (old : Knows) → IsSince pass old (known hand.old.seat) → HasInserted pass old (known hand.new.seat) (proc.Insert (record { key = errand.key; value = errand.value; stage = insert.New })) result.0 result.1 }
+        ensures reply { result.0 ≡ replies.Present there }
     {
         let _ = errand;
         self.conclude(hand, at);
@@ -92,6 +97,7 @@ impl Index {
         ensures rests { (known hand.new.seat).runs ≡ false }
         ensures seen { IsSeen (trail_of (known hand.new.seat).trail) }
         ensures inserted { (pass : ℕ) (old : Knows) → IsSince pass old (known hand.old.seat) → HasInserted pass old (known hand.new.seat) (proc.Insert (record { key = errand.key; value = errand.value; stage = insert.New })) result.0 result.1 }
+        ensures no_room { result.0 ≡ replies.NoRoom → LacksRoom hand.new.seat }
     {
         let shown = Shown {
             store: &self.store,
@@ -127,6 +133,7 @@ impl Index {
         ensures rests { (known hand.new.seat).runs ≡ false }
         ensures seen { IsSeen (trail_of (known hand.new.seat).trail) }
         ensures inserted { (pass : ℕ) (old : Knows) → IsSince pass old (known hand.old.seat) → HasInserted pass old (known hand.new.seat) (proc.Insert (record { key = errand.key; value = errand.value; stage = insert.New })) result.0 result.1 }
+        ensures no_room { result.0 ≡ replies.NoRoom → LacksRoom hand.new.seat }
     {
         let shown = Shown {
             store: &self.store,
@@ -158,6 +165,7 @@ impl Index {
         ensures rests { (known hand.new.seat).runs ≡ false }
         ensures seen { IsSeen (trail_of (known hand.new.seat).trail) }
         ensures inserted { (pass : ℕ) (old : Knows) → IsSince pass old (known hand.old.seat) → HasInserted pass old (known hand.new.seat) (proc.Insert (record { key = errand.key; value = errand.value; stage = insert.New })) result.0 result.1 }
+        ensures no_room { result.0 ≡ replies.NoRoom → LacksRoom hand.new.seat }
     {
         let shown = Shown {
             store: &self.store,
@@ -189,6 +197,7 @@ impl Index {
         ensures rests { (known hand.new.seat).runs ≡ false }
         ensures seen { IsSeen (trail_of (known hand.new.seat).trail) }
         ensures inserted { HasInserted hand.old.number (known hand.old.seat) (known hand.new.seat) (proc.Insert (record { key = key; value = value; stage = insert.New })) result.0 result.1 }
+        ensures no_room { result.0 ≡ replies.NoRoom → LacksRoom hand.new.seat }
     {
         let errand = Inserting { key, value };
         self.depart(hand, &errand);

@@ -10,9 +10,11 @@ ghost use Rattle.bl_ways.specs.declared.changing.Change.{Change};
 ghost use Rattle.bl_ways.specs.declared.changing.Change.TheVariants as change;
 ghost use Rattle.bl_ways.specs.declared.changing.Changed.TheVariants as changed;
 ghost use Rattle.bl_ways.specs.Changes.{Changes};
-ghost use Rattle.bl_store.specs.Hands.{known, IsOf, IsRunning, IsSameHand, IsSameStage, IsStockOf, HasNoStock};
+ghost use Rattle.bl_store.specs.Hands.{known, IsOf, IsRunning, IsSameHand, IsSameStage, IsStockOf, HasNoStock, WasRefused};
 ghost use Rattle.bl_index.specs.Runs.{IsOn};
 ghost use Rattle.bl_index.specs.Events.{IsSameProcess, IsToEnter};
+ghost use Rattle.bl_ways.specs.declared.changing.Outcome.TheVariants as outcomes;
+ghost use Rattle.bl_index.specs.Rooms.{LacksRoom};
 
 use crate::changers::Changer;
 use crate::index::Index;
@@ -60,6 +62,7 @@ impl Index {
         ensures empty { HasNoStock hand.new.seat }
         ensures process { IsOn self.now.store.layout (known hand.new.seat) (J.changing changer.now (change.Opening parting.now.at result)) }
         ensures since { IsSameProcess (known hand.old.seat) (known hand.new.seat) }
+        ensures parted { result ≡ outcomes.Parted parting.now.separator }
     {
         let _ = changer;
         let mut stock = stock;
@@ -90,6 +93,7 @@ impl Index {
         ensures empty { HasNoStock hand.new.seat }
         ensures process { IsOn self.now.store.layout (known hand.new.seat) (J.changing changer.now (change.Opening at result)) }
         ensures since { IsSameProcess (known hand.old.seat) (known hand.new.seat) }
+        ensures asked { result ≡ outcomes.Refused → WasRefused hand.new.seat 1 2 }
     {
         match self.take_page(hand) {
             Some((new, stock)) => {
@@ -117,6 +121,7 @@ impl Index {
         ensures empty { HasNoStock hand.new.seat }
         ensures process { IsOn self.now.store.layout (known hand.new.seat) (J.changing changer.now (change.Opening at result)) }
         ensures since { IsSameProcess (known hand.old.seat) (known hand.new.seat) }
+        ensures asked { result ≡ outcomes.Refused → LacksRoom hand.new.seat }
     {
         if words[0] % LEVEL_UNIT >= 14 {
             return self.part_full(hand, changer, at, words, key, word);

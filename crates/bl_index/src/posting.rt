@@ -1,6 +1,6 @@
 //! Posts, by the words of pages.
 
-ghost use Rattle.std.specs.Prelude.{◌≡◌, ◌<◌, ◌≤◌, ◌-◌, ℕ, Some, None, false};
+ghost use Rattle.std.specs.Prelude.{◌≡◌, ◌≢◌, ◌⊎◌, ◌<◌, ◌≤◌, ◌-◌, ℕ, Some, None, false};
 ghost use Rattle.bl_page.specs.declared.page.Page.{Page};
 ghost use Rattle.bl_page.specs.Words.{words_of};
 ghost use Rattle.bl_laws.specs.Pages.{node_of, IsTreePage};
@@ -24,6 +24,9 @@ ghost use Rattle.bl_passes.specs.Seeing.{IsSeen};
 ghost use Rattle.bl_index.specs.Runs.{IsOn, IsSince, IsWithin};
 ghost use Rattle.bl_index.specs.Events.{posting, IsThere, IsToEnter, IsWalking, HasWalked, HasPosted, IsPostOver, IsSameProcess};
 ghost use Rattle.bl_index.specs.Searching.{IsPostAnswer};
+ghost use Rattle.bl_index.specs.Rooms.{LacksRoom};
+ghost use Rattle.bl_ways.specs.declared.answers.Posted.TheVariants as postings;
+ghost use Rattle.bl_proc.specs.declared.posting.PostReply.TheVariants as replies;
 
 use crate::changers::Listing;
 use crate::errands::Posting;
@@ -63,7 +66,8 @@ fn posted(answer: Option<Answer>) -> (Posted, Option<Hint>)
 /// The same of a post to that level, by its reply.
 fn posted_by(level: u32, reply: PostReply) -> (Posted, Option<Hint>)
     requires { MayReply level reply }
-    ensures { posted_answer level reply ≡ answers.Post result.0 result.1 }
+    ensures answer { posted_answer level reply ≡ answers.Post result.0 result.1 }
+    ensures no_room { result.0 ≡ postings.NoRoom → reply ≡ replies.NoRoom }
 {
     match reply {
         PostReply::Done(None) => (Posted::Done, None),
@@ -114,7 +118,7 @@ fn low_in<W: WordSource>(source: &W, hand: &mut W::Hand) -> u64
 }
 
 impl Index {
-    ghost use Rattle.bl_index.specs.Calls.{IsPassOf, IsSamePass, number_of, trail, Posts};
+    ghost use Rattle.bl_index.specs.Calls.{IsPassOf, IsSamePass, number_of, trail, Posts, MetNoRoom};
 
     /// Lists the page whose low is the hint's key in its parent, which is of the hint's level. The parent then reaches it
     /// without the link of its left neighbour. A hint of either kind will do, and a late or repeated one does no harm.
@@ -123,6 +127,7 @@ impl Index {
         requires own { IsPassOf self.now pass.old }
         ensures same { IsSamePass pass.old pass.new }
         ensures posts { Posts (number_of pass.old) (level_of hint) (key_of hint) result.0 result.1 (trail pass.old) (trail pass.new) }
+        ensures no_room { result.0 ≡ postings.NoRoom → MetNoRoom pass.new 0 1 ⊎ MetNoRoom pass.new 1 2 }
     {
         self.post_by(rt, &mut pass.hand, hint.level(), hint.key())
     }
@@ -137,6 +142,7 @@ impl Index {
     ) -> (Posted, Option<Hint>)
         requires own { IsOf self.now.store.table.shared.table_id self.now.store.layout hand.old.seat }
         requires running { IsRunning hand.old.seat × HasNoStock hand.old.seat }
+        requires reply { reply ≢ replies.NoRoom }
         requires process { (below : MayReply errand.level reply) × IsOn self.now.store.layout (known hand.old.seat) (posting errand (post.Staying at reply) below) }
         ensures same { IsSameHand hand.old.seat hand.new.seat }
         ensures over { IsPostOver self.now.store.layout errand (known hand.old.seat) hand.new.seat (Some result) }
@@ -374,6 +380,7 @@ impl Index {
         ensures rests { (known hand.new.seat).runs ≡ false }
         ensures seen { IsSeen (trail_of (known hand.new.seat).trail) }
         ensures posted { (first : Proc) × (work_of first ≡ Some (level, key)) × HasPosted hand.old.number (known hand.old.seat) (known hand.new.seat) first result.0 result.1 }
+        ensures no_room { result.0 ≡ postings.NoRoom → LacksRoom hand.new.seat }
     {
         let errand = Posting { level, key };
         self.depart(hand, &errand);

@@ -13,7 +13,7 @@ ghost use Rattle.bl_bounds.specs.Latches.{OnlyLooks, IsTidy};
 ghost use Rattle.bl_trails.specs.Trails.{marks_of};
 ghost use Rattle.bl_passes.specs.Noting.{trail_of};
 ghost use Rattle.bl_passes.specs.Fitting.{name};
-ghost use Rattle.bl_store.specs.Hands.{known, IsOf, IsIdle, IsRunning, IsSameHand, IsSameStage, IsSameStock};
+ghost use Rattle.bl_store.specs.Hands.{known, IsOf, IsIdle, IsRunning, IsSameHand, IsSameStage, IsSameStock, IsSameRefusal};
 ghost use Rattle.bl_passes.specs.Told.{Begins, Steps, Finishes, IsUnborn, MayGiveUp};
 ghost use Rattle.bl_index.specs.Runs.{IsOn, IsSince, IsWithin, Moves};
 
@@ -98,6 +98,7 @@ impl Index {
         ensures log { proc_log (P.proc_of process.new) (marks_of (name (known hand.old.seat).pass (known hand.old.seat).number) (trail_of (known hand.new.seat).trail)) }
         ensures takes { P.Takes process.old seen.Done process.new }
         ensures within { IsWithin hand.new.seat }
+        ensures refusal { IsSameRefusal hand.old.seat hand.new.seat }
     {
         self.store.end::<Ended>(hand);
         process.took(Seen::Done);

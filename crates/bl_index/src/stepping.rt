@@ -6,6 +6,7 @@ ghost use Rattle.bl_ways.specs.declared.acts.Seen.{Seen as SeenIs};
 ghost use Rattle.bl_ways.specs.declared.acts.Seen.TheVariants as seen;
 ghost use Rattle.bl_store.specs.Hands.{known, IsOf, IsRunning, IsSameHand, IsSameStage, IsSameStock, HasNoStock, IsStockOf, MayRetire};
 ghost use Rattle.bl_index.specs.Runs.{IsOn, Moves, HasReserved, IsAfter};
+ghost use Rattle.bl_index.specs.Rooms.{TellsRoom};
 
 use crate::index::Index;
 use crate::kinds::Kind;
@@ -34,7 +35,7 @@ impl Index {
         ensures same { IsSameHand hand.old.seat hand.new.seat × IsSameStage hand.old.seat hand.new.seat }
         ensures process { IsOn self.now.store.layout (known hand.new.seat) (P.proc_of process.new) }
         ensures moves { Moves (known hand.old.seat) (known hand.new.seat) }
-        ensures takes { (what : SeenIs) × P.Takes process.old what process.new }
+        ensures takes { (what : SeenIs) × P.Takes process.old what process.new × TellsRoom hand.old.seat hand.new.seat (P.proc_of process.old) what }
         ensures stock { IsSameStock hand.old.seat hand.new.seat }
     {
         if self.store.try_latch::<Tried>(hand, page) {
@@ -56,7 +57,7 @@ impl Index {
         ensures same { IsSameHand hand.old.seat hand.new.seat × IsSameStage hand.old.seat hand.new.seat }
         ensures process { IsOn self.now.store.layout (known hand.new.seat) (P.proc_of process.new) }
         ensures moves { Moves (known hand.old.seat) (known hand.new.seat) }
-        ensures takes { (what : SeenIs) × P.Takes process.old what process.new }
+        ensures takes { (what : SeenIs) × P.Takes process.old what process.new × TellsRoom hand.old.seat hand.new.seat (P.proc_of process.old) what }
         ensures stock { IsSameStock hand.old.seat hand.new.seat }
     {
         self.store.open::<Opened>(hand, page);
@@ -75,7 +76,7 @@ impl Index {
         ensures same { IsSameHand hand.old.seat hand.new.seat × IsSameStage hand.old.seat hand.new.seat }
         ensures process { IsOn self.now.store.layout (known hand.new.seat) (P.proc_of process.new) }
         ensures moves { Moves (known hand.old.seat) (known hand.new.seat) }
-        ensures takes { (what : SeenIs) × P.Takes process.old what process.new }
+        ensures takes { (what : SeenIs) × P.Takes process.old what process.new × TellsRoom hand.old.seat hand.new.seat (P.proc_of process.old) what }
         ensures stock { HasNoStock hand.new.seat }
     {
         self.store.retire::<Retired>(hand, page);
@@ -127,7 +128,7 @@ impl Index {
         ensures same { IsSameHand hand.old.seat hand.new.seat × IsSameStage hand.old.seat hand.new.seat }
         ensures process { IsOn self.now.store.layout (known hand.new.seat) (P.proc_of process.new) }
         ensures moves { Moves (known hand.old.seat) (known hand.new.seat) }
-        ensures takes { (what : SeenIs) × P.Takes process.old what process.new }
+        ensures takes { (what : SeenIs) × P.Takes process.old what process.new × TellsRoom hand.old.seat hand.new.seat (P.proc_of process.old) what }
         ensures stock { HasReserved hand.new.seat result (P.proc_of process.new) }
     {
         match self.store.reserve::<Took, Refused>(hand, 0, frames) {
@@ -151,7 +152,7 @@ impl Index {
         ensures same { IsSameHand hand.old.seat hand.new.seat × IsSameStage hand.old.seat hand.new.seat }
         ensures process { IsOn self.now.store.layout (known hand.new.seat) (P.proc_of process.new) }
         ensures moves { Moves (known hand.old.seat) (known hand.new.seat) }
-        ensures takes { (what : SeenIs) × P.Takes process.old what process.new }
+        ensures takes { (what : SeenIs) × P.Takes process.old what process.new × TellsRoom hand.old.seat hand.new.seat (P.proc_of process.old) what }
         ensures stock { HasReserved hand.new.seat result (P.proc_of process.new) }
     {
         match self.store.reserve::<Took, Refused>(hand, 1, 2) {
@@ -187,7 +188,7 @@ impl Index {
         ensures same { IsSameHand hand.old.seat hand.new.seat × IsSameStage hand.old.seat hand.new.seat }
         ensures process { IsOn self.now.store.layout (known hand.new.seat) (P.proc_of process.new) }
         ensures moves { Moves (known hand.old.seat) (known hand.new.seat) }
-        ensures takes { (what : SeenIs) × P.Takes process.old what process.new }
+        ensures takes { (what : SeenIs) × P.Takes process.old what process.new × TellsRoom hand.old.seat hand.new.seat (P.proc_of process.old) what }
         ensures stock { HasReserved hand.new.seat result (P.proc_of process.new) }
     {
         if let Some((_, frames)) = process.needs() {

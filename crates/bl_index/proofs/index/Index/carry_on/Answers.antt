@@ -10,6 +10,8 @@ use Rattle.bl_passes.specs.Noting.{trail_of}
 use Rattle.bl_passes.specs.Fitting.{name}
 use Rattle.bl_index.specs.Runs.{IsSince}
 use Rattle.bl_index.proofs.Calls.{since_step}
+use Rattle.bl_courses.proofs.RefusedAnswers.{answers_refused}
+use Rattle.bl_index.proofs.Rooms.{KeepsRoom, keeps_room, ends_room, free_room}
 use Rattle.bl_index.proofs.index.Index.carry_on.Goals as goal
 
 pub loop-preserved : goal.loop-preserved
@@ -27,6 +29,7 @@ loop-preserved g c =
       op = follows.op ∙ inv.op;
       work = follows.work ∙ inv.work;
       reserved = after.2;
+      room = keeps_room _ _ _ _ _ after.3.2 after.3.3 after.4 inv.room;
     }
 
 pub returns-in-AtEnd-clause-done : goal.returns-in-AtEnd-clause-done
@@ -47,3 +50,11 @@ returns-in-AtEnd-clause-done g c = λ pass old begun.
       log = subst (λ (z : ℕ × ℕ). proc_log (g.P.Kind.proc_of c.finish.new.process) (marks_of (name z.0 z.1) (trail_of (known c.finish.new.hand.seat).trail))) (λ i. (since.named i, since.number i)) c.finish.ensures.log;
       tidy = subst (λ (z : ℕ × ℕ). IsTidy (g.P.Kind.proc_of c.finish.new.process) (marks_of (name z.0 z.1) (trail_of (known c.finish.new.hand.seat).trail))) (λ i. (since.named i, since.number i)) c.finish.ensures.tidy;
     }
+
+pub returns-in-AtEnd-clause-no_room : goal.returns-in-AtEnd-clause-no_room
+returns-in-AtEnd-clause-no_room g c = λ a is none.
+    let laws = g.met.P.Kind in
+    let inv = c.loop.invariant in
+    let after = c.in-AtEnd.ensures.after in
+    let keeps = subst (λ (z : Mine × Proc). KeepsRoom c.step.new.hand.seat z.1) refl inv.room in
+    ends_room _ _ _ _ (laws.goes _ _ _ c.finish.ensures.takes) c.finish.ensures.refusal keeps (answers_refused _ a (laws.answers c.finish.new.process ∙ is) none)

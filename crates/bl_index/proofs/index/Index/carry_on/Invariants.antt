@@ -4,6 +4,7 @@ use Rattle.bl_store.specs.Hands.{known, IsRunning, IsSameHand}
 use Rattle.bl_courses.specs.Frames.{op_of, work_of}
 use Rattle.bl_index.specs.Runs.{IsOn, HasReserved}
 use Rattle.bl_index.specs.Events.{IsSameProcess}
+use Rattle.bl_index.proofs.Rooms.{KeepsRoom}
 use Rattle.bl_index.proofs.index.Index.carry_on.Given as goal
 
 abbrev pub invariant-loop : goal.invariant-loop
@@ -16,4 +17,5 @@ invariant-loop g l = record {
   op : op_of (g.P.Kind.proc_of l.process) ≡ op_of (g.P.Kind.proc_of l.fn.process);
   work : work_of (g.P.Kind.proc_of l.process) ≡ work_of (g.P.Kind.proc_of l.fn.process);
   reserved : HasReserved l.hand.seat l.held (g.P.Kind.proc_of l.process);
+  room : KeepsRoom l.hand.seat (g.P.Kind.proc_of l.process);
 }

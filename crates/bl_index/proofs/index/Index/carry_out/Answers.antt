@@ -1,3 +1,6 @@
+use Rattle.std.proofs.Common.{inl, inr}
+use Rattle.bl_courses.proofs.RefusedTurns.{takes_refused, takes_puts}
+use Rattle.bl_index.proofs.Rooms.{done_not_refused}
 use Rattle.bl_index.proofs.Standing.{done_from}
 use Rattle.bl_index.proofs.index.Index.carry_out.Goals as goal
 
@@ -5,3 +8,8 @@ pub returns-clause-done : goal.returns-clause-done
 returns-clause-done g c =
     let follows = g.met.P.Kind.follows _ _ _ c.begin.ensures.takes in
     done_from _ _ _ _ _ _ (c.carry_on.ensures.done _ _ c.begin.ensures.begun) follows.op follows.work
+
+pub carry_on-requires-clause-free : goal.carry_on-requires-clause-free
+carry_on-requires-clause-free g c =
+    let takes = g.met.P.Kind.goes _ _ _ c.begin.ensures.takes in
+    ((λ r. elim (takes_refused _ _ _ takes r) [ inl was ↦ c.requires.free.0 was | inr told ↦ done_not_refused told ]), λ r. c.requires.free.1 (takes_puts _ _ _ takes r))

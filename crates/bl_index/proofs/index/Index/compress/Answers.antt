@@ -1,4 +1,8 @@
-use Rattle.std.proofs.Common.{◌∙◌, sym, Some}
+use Rattle.std.proofs.Common.{◌∙◌, sym, subst, Some}
+use Rattle.bl_ways.specs.declared.answers.Answer.TheVariants as answer
+use Rattle.bl_ways.specs.declared.answers.Squeezed.{Squeezed}
+use Rattle.bl_courses.specs.Refusals.{IsNoRoom, CompressRefused, CompressPuts}
+use Rattle.bl_index.proofs.Rooms.{lacks_three}
 use Rattle.bl_index.proofs.Pressed.{compress_has_answer, compress_answered}
 use Rattle.bl_index.proofs.index.Index.compress.Goals as goal
 
@@ -7,3 +11,9 @@ squeezed-requires g c = compress_has_answer _ _ _ _ _ _ _ c.carry_out-process.en
 
 pub returns-clause-compresses : goal.returns-clause-compresses
 returns-clause-compresses g c = compress_answered _ _ _ _ _ _ _ _ _ c.carry_out-process.ensures.done (λ i. Some ((c.new-compress.ensures.level ∙ c.level.ensures.named) i, (c.new-compress.ensures.key ∙ c.key.ensures) i)) (sym c.answer.ensures ∙ c.squeezed.ensures)
+
+pub carry_out-process-requires-clause-free : goal.carry_out-process-requires-clause-free
+carry_out-process-requires-clause-free g c = let new = sym c.new-compress.ensures.stage in (λ r. subst CompressRefused (sym new) r, λ r. subst CompressPuts (sym new) r)
+
+pub returns-clause-no_room : goal.returns-clause-no_room
+returns-clause-no_room g c = λ none. lacks_three _ _ (c.carry_out-process.ensures.no_room _ (sym c.answer.ensures ∙ c.squeezed.ensures) (subst (λ (z : Squeezed). IsNoRoom (answer.Compress z c.squeezed.result.1)) (sym none) tt))

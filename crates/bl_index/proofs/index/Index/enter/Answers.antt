@@ -1,4 +1,4 @@
-use Rattle.std.proofs.Common.{Bool, refl, sym, ap, subst, ◌∙◌}
+use Rattle.std.proofs.Common.{Bool, inl, refl, sym, ap, subst, ◌∙◌}
 use Rattle.bl_proc.specs.declared.inserting.InsertStage.TheVariants as insert
 use Rattle.bl_proc.specs.Inserts.{insert_reply, inserted_answer}
 use Rattle.bl_proc.specs.Processes.{next_of}
@@ -54,3 +54,6 @@ returns-else-changed-clause-inserted c = λ pass old since.
     let after = same_goes _ _ _ goes pass old (subst (λ (h : Hand Mine). IsSince pass old (known h.seat)) (sym c.words_with.ensures.same) since) in
     has_inserted key value pass old _ (insert_reply (outcome_by b)) _ _ (c.conclude.ensures.done pass old (inserting key value insert.New) (inserting key value (insert.Ending (insert_reply (outcome_by b)))) (inserting key value (insert.Over (insert_reply (outcome_by b)))) after opens refl refl)
     (ap (λ (z : Bool). inserted_answer (insert_reply (outcome_by z))) c.if-changed.false)
+
+pub returns-else-changed-clause-no_room : goal.returns-else-changed-clause-no_room
+returns-else-changed-clause-no_room c = λ none. inl (c.conclude.ensures.refusal ∙ c.replace-changed.ensures.asked c.if-changed.false)

@@ -1,4 +1,4 @@
-use Rattle.std.proofs.Common.{◌<◌, ◌≤◌, length, refl, sym, ap, subst, ◌∙◌, arith}
+use Rattle.std.proofs.Common.{◌<◌, ◌≤◌, length, inl, inr, refl, sym, ap, subst, ◌∙◌, arith}
 use Rattle.bl_rearrange.specs.Rearranged.{pairs_of}
 use Rattle.bl_ways.specs.declared.acts.Seen.TheVariants as seen
 use Rattle.bl_ways.specs.declared.changing.Change.{Change}
@@ -53,3 +53,9 @@ returns-else-replace-clause-process g c =
 
 pub returns-else-replace-clause-since : goal.returns-else-replace-clause-since
 returns-else-replace-clause-since g c = same_goes _ _ _ (c.replace.ensures.refused c.if-replace.false)
+
+pub returns-then-words-ge14-clause-asked : goal.returns-then-words-ge14-clause-asked
+returns-then-words-ge14-clause-asked g c = λ none. inr (c.part_full.ensures.asked none)
+
+pub returns-else-replace-clause-asked : goal.returns-else-replace-clause-asked
+returns-else-replace-clause-asked g c = λ none. inl (c.replace.ensures.asked c.if-replace.false)

@@ -9,6 +9,7 @@ use Rattle.bl_index.specs.Runs.{IsOn}
 use Rattle.bl_index.specs.Events.{posting}
 use Rattle.bl_index.proofs.Standing.{opens_at}
 use Rattle.bl_index.proofs.Parents.{may_reply, opens_listed, posting_same}
+use Rattle.bl_index.proofs.Rooms.{lacks_on, reply_refused}
 use Rattle.bl_index.proofs.index.Index.list.Goals as goal
 
 pub enter_page-outcome-requires-clause-page : goal.enter_page-outcome-requires-clause-page
@@ -27,9 +28,10 @@ returns-clause-over c =
       c.conclude.ensures.within,
       c.conclude.ensures.rests,
       c.conclude.ensures.seen,
+      (λ none. lacks_on _ _ c.conclude.ensures.refusal (c.enter_page-outcome.ensures.asked (reply_refused o (sym c.reply_by.ensures ∙ c.posted_by.ensures.no_room none)))),
       λ pass old since. record {
         last = record { level = j.level; key = j.key; stage = post.Over (post_reply o); least = j.least; most = j.most; below = may_reply j o below };
         done = c.conclude.ensures.done pass old (posting j post.New tt) (posting j (post.Ending (post_reply o)) (may_reply j o below)) (posting j (post.Over (post_reply o)) (may_reply j o below)) (c.enter_page-outcome.ensures.since pass old since) opens refl refl;
-        answer = ap (λ (z : PostReply). Some (posted_answer j.level z)) (sym c.reply_by.ensures) ∙ ap Some c.posted_by.ensures;
+        answer = ap (λ (z : PostReply). Some (posted_answer j.level z)) (sym c.reply_by.ensures) ∙ ap Some c.posted_by.ensures.answer;
       },
     )

@@ -1,4 +1,4 @@
-use Rattle.std.proofs.Common.{refl, sym, subst, ◌∙◌}
+use Rattle.std.proofs.Common.{inr, refl, sym, subst, ◌∙◌}
 use Rattle.bl_ways.specs.declared.changing.Change.TheVariants as change
 use Rattle.bl_proc.specs.declared.inserting.InsertStage.TheVariants as insert
 use Rattle.bl_proc.specs.Inserts.{insert_reply}
@@ -30,4 +30,7 @@ returns-clause-inserted c = λ pass old since.
     let opens = opens_at _ _ _ _ _ c.part_full-outcome.ensures.process.state (opens_changed key value c.args.at o) in
     let after = c.part_full-outcome.ensures.since pass old (subst (λ (h : Hand Mine). IsSince pass old (known h.seat)) (sym c.words_from-words.ensures.same) since) in
     has_inserted key value pass old _ (insert_reply o) _ _ (c.conclude.ensures.done pass old (inserting key value insert.New) (inserting key value (insert.Ending (insert_reply o))) (inserting key value (insert.Over (insert_reply o))) after opens refl refl)
-    c.inserted_by.ensures
+    c.inserted_by.ensures.answer
+
+pub returns-clause-no_room : goal.returns-clause-no_room
+returns-clause-no_room c = λ none. inr (c.conclude.ensures.refusal ∙ c.part_full-outcome.ensures.asked (c.inserted_by.ensures.no_room none))

@@ -1,4 +1,4 @@
-use Rattle.std.proofs.Common.{Some, refl, sym, subst, ◌∙◌}
+use Rattle.std.proofs.Common.{inl, inr, Some, refl, sym, subst, ◌∙◌}
 use Rattle.bl_ways.specs.declared.acts.Seen.TheVariants as seen
 use Rattle.bl_ways.specs.declared.approaching.Approach.TheVariants as approach
 use Rattle.bl_proc.specs.declared.posting.PostStage.TheVariants as post
@@ -11,6 +11,11 @@ use Rattle.bl_index.specs.Runs.{IsOn, IsSince}
 use Rattle.bl_index.specs.Events.{posting}
 use Rattle.bl_index.proofs.Posts.{post_has_answer}
 use Rattle.bl_index.proofs.Standing.{on_as, done_from}
+use Rattle.bl_ways.specs.declared.answers.Answer.TheVariants as answer
+use Rattle.bl_ways.specs.declared.answers.Posted.{Posted}
+use Rattle.bl_courses.specs.Refusals.{IsNoRoom}
+use Rattle.bl_courses.proofs.RefusedTurns.{takes_refused, takes_puts}
+use Rattle.bl_index.proofs.Rooms.{lacks_asked, words_not_refused}
 use Rattle.bl_index.proofs.index.Index.post_above.Goals as goal
 
 pub carry_on-process-requires-clause-process : goal.carry_on-process-requires-clause-process
@@ -36,6 +41,7 @@ returns-clause-over g c =
       c.carry_on-process.ensures.within,
       c.carry_on-process.ensures.rests,
       c.carry_on-process.ensures.seen,
+      (λ none. lacks_asked _ _ (c.carry_on-process.ensures.no_room _ (sym c.answer.ensures ∙ c.posted.ensures) (subst (λ (z : Posted). IsNoRoom (answer.Post z c.posted.result.1)) (sym none) tt))),
       λ pass old begun.
           let since = subst (λ (h : Hand Mine). IsSince pass old (known h.seat)) (sym c.took_words.ensures.same) begun in
           record {
@@ -44,3 +50,9 @@ returns-clause-over g c =
             answer = sym c.answer.ensures ∙ c.posted.ensures;
           },
     )
+
+pub carry_on-process-requires-clause-free : goal.carry_on-process-requires-clause-free
+carry_on-process-requires-clause-free g c =
+    let anchor = c.requires.anchor in
+    let takes = c.took_words.ensures.takes anchor.0 anchor.1 in
+    ((λ r. elim (takes_refused _ (seen.Words anchor.0) (proc.Post c.took_words.new.self) takes r) [ inl was ↦ was | inr told ↦ words_not_refused _ told ]), λ r. takes_puts _ (seen.Words anchor.0) (proc.Post c.took_words.new.self) takes r)

@@ -67,3 +67,6 @@ returns-else-changed-clause-deleted c = λ pass old since.
     let after = same_goes _ _ _ goes pass old (subst (λ (h : Hand Mine). IsSince pass old (known h.seat)) (sym c.words_without.ensures.same) since) in
     has_deleted key pass old _ (delete_reply removed (outcome_by b)) _ _ (c.conclude.ensures.done pass old (deleting key delete.New) (deleting key (delete.Ending (delete_reply removed (outcome_by b)))) (deleting key (delete.Over (delete_reply removed (outcome_by b)))) after opens refl refl)
     (ap (λ (z : Bool). deleted_answer (delete_reply removed (outcome_by z))) c.if-changed.false)
+
+pub returns-else-changed-clause-no_room : goal.returns-else-changed-clause-no_room
+returns-else-changed-clause-no_room c = λ none. c.conclude.ensures.refusal ∙ c.replace-changed.ensures.asked c.if-changed.false

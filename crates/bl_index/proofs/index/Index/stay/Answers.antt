@@ -21,9 +21,10 @@ returns-clause-over c =
       c.conclude.ensures.within,
       c.conclude.ensures.rests,
       c.conclude.ensures.seen,
+      (λ none. absurd (c.requires.reply (c.posted_by.ensures.no_room none))),
       λ pass old since. record {
         last = record { level = j.level; key = j.key; stage = post.Over r; least = j.least; most = j.most; below = below };
         done = c.conclude.ensures.done pass old (posting j post.New tt) (posting j (post.Ending r) below) (posting j (post.Over r) below) since opens refl refl;
-        answer = ap Some c.posted_by.ensures;
+        answer = ap Some c.posted_by.ensures.answer;
       },
     )

@@ -1,0 +1,28 @@
+-- What a hand was refused that found no room.
+use Rattle.std.specs.Prelude.{◌≡◌, ◌⊎◌, ℕ, Some}
+use Rattle.atomic_table.specs.declared.shared.Seat.{Seat}
+use Rattle.bl_ways.specs.declared.acts.Action.TheVariants as act
+use Rattle.bl_ways.specs.declared.acts.Seen.{Seen}
+use Rattle.bl_ways.specs.declared.acts.Seen.TheVariants as seen
+use Rattle.bl_proc.specs.declared.kinds.Proc.{Proc}
+use Rattle.bl_proc.specs.Processes.{next_of, needs_of}
+use Rattle.bl_courses.specs.Refusals.{MayAsk}
+use Rattle.bl_store.specs.declared.view.View.{View}
+use Rattle.bl_store.specs.Hands.{WasRefused, IsSameRefusal}
+use Rattle.bl_passes.specs.declared.known.Mine.{Mine}
+
+abbrev H : Type 0
+H = Seat (Unit {0}) (View Mine)
+
+-- for an insertion or a post: a frame, to put one page; or a page and two frames, to put two pages of which one is new
+abbrev pub LacksRoom : H → Type 0
+LacksRoom h = WasRefused h 0 1 ⊎ WasRefused h 1 2
+
+-- for a process of this kind
+abbrev pub LacksAsked : H → Proc → Type 0
+LacksAsked h p = (ask : ℕ × ℕ) × MayAsk p ask × WasRefused h ask.0 ask.1
+
+-- One event of the process p, by which it was told that: where it was refused, the hand was refused what it had asked for; and
+-- at an open nothing changes of what the hand was refused.
+abbrev pub TellsRoom : H → H → Proc → Seen → Type 0
+TellsRoom h h' p what = (what ≡ seen.Refused → (ask : ℕ × ℕ) × (needs_of p ≡ Some ask) × WasRefused h' ask.0 ask.1) × ((x : ℕ) → next_of p ≡ act.Open x → IsSameRefusal h h')
