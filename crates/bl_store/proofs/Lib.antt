@@ -8,6 +8,7 @@ mod Ticking
 mod Sweeping
 mod Living
 mod StockLemmas
+mod Written
 mod Dealing
 mod Joining
 mod Ending

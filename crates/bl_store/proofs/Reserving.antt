@@ -226,9 +226,9 @@ module _ {D : Type 0} (l : Layout) (first : D) (holds : Pages D → Type 0) wher
             (λ j b d u ys stands low e may. let after : m ≤ b = swept.later j b d stands low in let one : retired t ≡ u = cc in let soon : b ≤ t = subst (MayRead b) (sym one) may in absurd (omega arith))
             (λ j k ys other e. cc) (λ j ys other e. cc) (λ j u ys other e. cc)
             (stocks_kept r.frames f old free q me.0.stock was.1 (λ k ys _ e. cc) mine.stocks) (drops_kept r.frames f old free q me.0.dropping was.1 (λ ys e. cc) (λ u ys e. cc) mine.drops),
-        (((refl, refl, refl, refl), refl, (refl, refl, refl), refl), refl, (λ _. refl), λ miss. absurd (miss hit)),
+        (((refl, refl, refl, refl), refl, (refl, refl, refl), refl), refl, (λ _. refl), (λ miss. absurd (miss hit)), refl),
       ))
-      (λ miss. (me.0, keeps, tt, idle_step st r i id me.1 me.0 at live, (((refl, refl, refl, refl), refl, (refl, refl, refl), refl), refl, (λ hit. absurd (miss hit)), λ _. refl)))
+      (λ miss. (me.0, keeps, tt, idle_step st r i id me.1 me.0 at live, (((refl, refl, refl, refl), refl, (refl, refl, refl), refl), refl, (λ hit. absurd (miss hit)), (λ _. refl), refl)))
     where
       was_retired : (st : St) (r : Rule st) (fr : Frame) → get_elem? r.frames f ≡ some fr → FrameIs l st.words f fr → get_or st.words (state_at l f) 0 ≡ 4 * t + 3 → (xs : List ℕ) × (get_elem? r.frames f ≡ some (used (retired t) xs))
       was_retired st r free at_f fact now = absurd (omega arith)

@@ -58,7 +58,7 @@ module _ {D : Type 0} (l : Layout) (first : D) (holds : Pages D → Type 0) wher
         keeps,
         tt,
         silent_load l first holds st r i id me.1 me.0 me.0.puts me.0.retires (Over n 0) me.0.seen me.0.got r.budgets at live r.budgeted (λ k _. refl) mine.budget record { past = omega arith; later = λ k b d stands low. absurd (omega arith) },
-        (((refl, refl, refl, refl), refl, (refl, refl, refl), refl), refl, refl),
+        (((refl, refl, refl, refl), refl, (refl, refl, refl), refl), refl, refl, refl),
       )
 
   pub passes : (slots id i m k : ℕ) (me : M) → i ≡ process_at k → me.0.sweep ≡ Over m k → IsLive me.0 → Allows Rule slots id me i (λ n. n) (passed (step slots i 0 0 none) me)
@@ -75,7 +75,7 @@ module _ {D : Type 0} (l : Layout) (first : D) (holds : Pages D → Type 0) wher
         keeps,
         tt,
         silent_load l first holds st r i id me.1 me.0 me.0.puts me.0.retires (Over (lower m n) (k + 1)) me.0.seen me.0.got r.budgets at live r.budgeted (λ j _. refl) mine.budget further,
-        (((refl, refl, refl, refl), refl, (refl, refl, refl), refl), refl, λ m' k' e equal. let is_k : k ≡ k' = omega arith in let is_m : m ≡ m' = ap time_of (sym is ∙ e) in λ z. Over (lower (is_m z) n) (is_k z + 1)),
+        (((refl, refl, refl, refl), refl, (refl, refl, refl), refl), refl, (λ m' k' e equal. let is_k : k ≡ k' = omega arith in let is_m : m ≡ m' = ap time_of (sym is ∙ e) in λ z. Over (lower (is_m z) n) (is_k z + 1)), refl),
       )
 
 -- how many pages were released by some releases, and then by one more, which may have been of a page

@@ -72,6 +72,10 @@ module _ {D : Type 0} where
   abbrev pub read_words : Seat (Unit {0}) (View D) → List ℕ
   read_words h = words_in h.me.0.reading
 
+  -- the hand looked nowhere else since
+  abbrev pub IsSameReading : Seat (Unit {0}) (View D) → Seat (Unit {0}) (View D) → Type 0
+  IsSameReading h h' = h'.me.0.reading ≡ h.me.0.reading
+
   -- the hand looked there last
   abbrev pub ReadsFrom : Seat (Unit {0}) (View D) → Glance → Type 0
   ReadsFrom h glance = BeginsAt h.me.0.layout glance.first h.me.0.reading

@@ -137,15 +137,15 @@ module _ {D : Type 0} where
 
   -- a load of the clock by which a round of looks begins
   abbrev pub horizoned : Play → Sat D → ℕ → Sat D → Type 0
-  horizoned st m r m' = IsSilent m m' × (m'.0.releases ≡ m.0.releases) × (m'.0.sweep ≡ Over r 0)
+  horizoned st m r m' = IsSilent m m' × (m'.0.releases ≡ m.0.releases) × (m'.0.sweep ≡ Over r 0) × (m'.0.reading ≡ m.0.reading)
 
   -- a load of the next process word
   abbrev pub passed : Play → Sat D → ℕ → Sat D → Type 0
-  passed st m r m' = IsSilent m m' × (m'.0.releases ≡ m.0.releases) × ((n k : ℕ) → m.0.sweep ≡ Over n k → st.word ≡ process_at k → m'.0.sweep ≡ Over (lower n r) (k + 1))
+  passed st m r m' = IsSilent m m' × (m'.0.releases ≡ m.0.releases) × ((n k : ℕ) → m.0.sweep ≡ Over n k → st.word ≡ process_at k → m'.0.sweep ≡ Over (lower n r) (k + 1)) × (m'.0.reading ≡ m.0.reading)
 
   -- a frame that was found retired is free
   abbrev pub released : Play → Sat D → ℕ → Sat D → Type 0
-  released st m r m' = IsSilent m m' × (m'.0.sweep ≡ m.0.sweep) × (r ≡ st.first → m'.0.releases ≡ m.0.releases + 1) × (r ≢ st.first → m'.0.releases ≡ m.0.releases)
+  released st m r m' = IsSilent m m' × (m'.0.sweep ≡ m.0.sweep) × (r ≡ st.first → m'.0.releases ≡ m.0.releases + 1) × (r ≢ st.first → m'.0.releases ≡ m.0.releases) × (m'.0.reading ≡ m.0.reading)
 
   -- the event of a page that is released, where it was found retired
   abbrev pub freed : (D → D → Type 0) → Play → Sat D → ℕ → Sat D → Type 0

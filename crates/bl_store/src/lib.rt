@@ -28,6 +28,7 @@ mod store;
 mod sweep;
 mod view;
 
+pub use put::Spread;
 pub use rule::{MeetPlay, PagePlay, PageRule, SweepPlay, TimePlay};
 pub use stock::{NoRoom, Stock};
 pub use store::{Glance, Hand, Store};

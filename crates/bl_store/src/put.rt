@@ -1,8 +1,9 @@
 //! Puts.
-ghost use Rattle.std.specs.Prelude.{◌≡◌, ℕ, ◌+◌, ◌<◌, ◌≤◌, List, [], ◌∷◌};
+ghost use Rattle.std.specs.Prelude.{◌≡◌, ℕ, ◌+◌, ◌*◌, ◌-◌, ◌<◌, ◌≤◌, List, [], ◌∷◌, length, slice_index};
 ghost use Rattle.bl_layout.specs.Words.{frame_count};
+ghost use Rattle.bl_store.specs.Drafts.{draft_words, other_drafts, HasDraft, IsSpread};
 ghost use Rattle.bl_store.specs.Pages.{Held, Puts};
-ghost use Rattle.bl_store.specs.Hands.{known, IsOf, IsSameHand, IsSameStage, IsQuiet, IsStockOf, HasRetired};
+ghost use Rattle.bl_store.specs.Hands.{known, read_words, IsOf, IsSameHand, IsSameReading, IsSameStage, IsQuiet, IsStockOf, HasRetired, ReadsFrom};
 ghost use Rattle.bl_store.specs.Told.{draft};
 ghost use Rattle.bl_store.specs.declared.view.Draft.{Draft};
 ghost use Rattle.bl_store.specs.declared.view.Dropping.TheVariants.{Dropped};
@@ -10,9 +11,19 @@ ghost use Rattle.bl_store.specs.declared.view.Dropping.TheVariants.{Dropped};
 use crate::plays::{Settle, Swap, Tick, Write};
 use crate::rule::{PagePlay, PageRule};
 use crate::stock::Stock;
-use crate::store::{Hand, RING, Store};
+use crate::store::{Glance, Hand, RING, Store};
 use crate::sweep::LOOKS;
 use std::alloc::Allocator;
+
+/// How the words of a page are to change: they get another first one, and two words enter behind 4 + 2 * place of them.
+#[derive(Clone, Copy)]
+pub struct Spread {
+    pub first: u64,
+    /// 0 to 13.
+    pub place: usize,
+    pub key: u64,
+    pub word: u64,
+}
 
 /// After so many puts a sweep is due.
 const PUTS_TO_SWEEP: u32 = 64;
@@ -42,6 +53,51 @@ impl<D, R: PageRule<D>, A: Allocator> Store<D, R, A> {
         stock.count -= 1;
         let frame = stock.frames[stock.count as usize];
         self.write(hand, frame, words);
+        self.name_frame::<M>(hand, page, frame);
+    }
+
+    /// The same, with words that are those of the page that the hand looked at last, but for the first one, and for two words
+    /// that enter behind 4 + 2 * place of them. What stands from there on moves up by two words, and the last two are lost.
+    /// They are written from frame to frame.
+    #[inline(always)]
+    pub fn put_spread<M: PagePlay<D>>(
+        &self,
+        hand: &mut Hand<D>,
+        page: u32,
+        glance: Glance,
+        change: Spread,
+        stock: &mut Stock,
+    )
+        requires own { IsOf self.now.table.shared.table_id self.now.layout hand.old.seat }
+        requires page { page < self.now.layout.pages }
+        requires reads { ReadsFrom hand.old.seat glance }
+        requires place { change.place < 14 }
+        requires stock { IsStockOf hand.old.seat stock.old × (0 < stock.old.count) }
+        requires rule { (words : List ℕ) × IsSpread change (read_words hand.old.seat) words × Puts R.holds self.now.layout hand.old.number (known hand.old.seat) page words M.then }
+        ensures same { IsSameHand hand.old.seat hand.new.seat × IsSameStage hand.old.seat hand.new.seat × (hand.new.seat.me.0.retires ≡ hand.old.seat.me.0.retires) }
+        ensures stock { IsStockOf hand.new.seat stock.new × (stock.new.count + 1 ≡ stock.old.count) × (stock.new.page ≡ stock.old.page) }
+        ensures told { (old : List ℕ) × M.then (known hand.old.seat) page (Held hand.old.number) old (known hand.new.seat) }
+        ensures retired { HasRetired hand.new.seat }
+    {
+        stock.count -= 1;
+        let frame = stock.frames[stock.count as usize];
+        self.write_spread(hand, frame, glance, change);
+        self.name_frame::<M>(hand, page, frame);
+    }
+
+    // The page gets the frame that was written last, at one event, and the frame that it had is retired.
+    fn name_frame<M: PagePlay<D>>(&self, hand: &mut Hand<D>, page: u32, frame: u32)
+        requires own { IsOf self.now.table.shared.table_id self.now.layout hand.old.seat }
+        requires page { page < self.now.layout.pages }
+        requires frame { frame < frame_count self.now.layout }
+        requires ticks { 0 < hand.old.seat.me.0.puts }
+        requires draft { HasDraft hand.old.seat frame 32 }
+        requires rule { Puts R.holds self.now.layout hand.old.number (known hand.old.seat) page (draft_words hand.old.seat) M.then }
+        ensures same { IsSameHand hand.old.seat hand.new.seat × IsSameStage hand.old.seat hand.new.seat × (hand.new.seat.me.0.retires ≡ hand.old.seat.me.0.retires) }
+        ensures stock { (hand.new.seat.me.0.stock ≡ other_drafts hand.old.seat) × (hand.old.seat.me.0.puts ≤ hand.new.seat.me.0.puts + 1) }
+        ensures told { (old : List ℕ) × M.then (known hand.old.seat) page (Held hand.old.number) old (known hand.new.seat) }
+        ensures retired { HasRetired hand.new.seat }
+    {
         let before = self
             .table
             .shared
@@ -65,6 +121,71 @@ impl<D, R: PageRule<D>, A: Allocator> Store<D, R, A> {
                 .shared
                 .store::<Write>(&mut hand.seat, first + i, words[i]);
         }
+    }
+
+    // The next word of the frame that was reserved last, which has so many.
+    #[inline(always)]
+    fn write_next(&self, hand: &mut Hand<D>, frame: u32, at: usize, word: u64)
+        requires own { IsOf self.now.table.shared.table_id self.now.layout hand.old.seat }
+        requires frame { frame < frame_count self.now.layout }
+        requires draft { (at < 32) × HasDraft hand.old.seat frame at }
+        ensures same { IsQuiet hand.old.seat hand.new.seat × IsSameReading hand.old.seat hand.new.seat }
+        ensures draft { HasDraft hand.new.seat frame (at + 1) × (other_drafts hand.new.seat ≡ other_drafts hand.old.seat) }
+        ensures kept { (k : ℕ) → k < at → slice_index (draft_words hand.new.seat) k ≡ slice_index (draft_words hand.old.seat) k }
+        ensures there { slice_index (draft_words hand.new.seat) at ≡ word }
+    {
+        let first = self.layout.frame_word(frame, 0);
+        self.table
+            .shared
+            .store::<Write>(&mut hand.seat, first + at, word);
+    }
+
+    // The next words of the frame that was reserved last, up to that many, are those of the page that the hand looked at last,
+    // from the word `source` on.
+    #[inline(always)]
+    fn carry(
+        &self,
+        hand: &mut Hand<D>,
+        frame: u32,
+        glance: Glance,
+        from: usize,
+        upto: usize,
+        source: usize,
+    )
+        requires own { IsOf self.now.table.shared.table_id self.now.layout hand.old.seat }
+        requires frame { frame < frame_count self.now.layout }
+        requires reads { ReadsFrom hand.old.seat glance }
+        requires range { (from ≤ upto) × (upto ≤ 32) × (source ≤ from) }
+        requires draft { HasDraft hand.old.seat frame from }
+        ensures same { IsQuiet hand.old.seat hand.new.seat × IsSameReading hand.old.seat hand.new.seat }
+        ensures draft { HasDraft hand.new.seat frame upto × (other_drafts hand.new.seat ≡ other_drafts hand.old.seat) }
+        ensures kept { (k : ℕ) → k < from → slice_index (draft_words hand.new.seat) k ≡ slice_index (draft_words hand.old.seat) k }
+        ensures carried { (k : ℕ) → from ≤ k → k < upto → slice_index (draft_words hand.new.seat) k ≡ slice_index (read_words hand.old.seat) (k - from + source) }
+    {
+        for at in from..upto {
+            let word = self.word(hand, glance, at - from + source);
+            self.write_next(hand, frame, at, word);
+        }
+    }
+
+    // Writes the words into the frame that was reserved last, from those of the page that the hand looked at last.
+    #[inline(always)]
+    fn write_spread(&self, hand: &mut Hand<D>, frame: u32, glance: Glance, change: Spread)
+        requires own { IsOf self.now.table.shared.table_id self.now.layout hand.old.seat }
+        requires frame { frame < frame_count self.now.layout }
+        requires reads { ReadsFrom hand.old.seat glance }
+        requires place { change.place < 14 }
+        requires draft { HasDraft hand.old.seat frame 0 }
+        ensures same { IsQuiet hand.old.seat hand.new.seat }
+        ensures draft { HasDraft hand.new.seat frame 32 × (other_drafts hand.new.seat ≡ other_drafts hand.old.seat) }
+        ensures words { IsSpread change (read_words hand.old.seat) (draft_words hand.new.seat) }
+    {
+        let place = change.place;
+        self.write_next(hand, frame, 0, change.first);
+        self.carry(hand, frame, glance, 1, 4 + 2 * place, 1);
+        self.write_next(hand, frame, 4 + 2 * place, change.key);
+        self.write_next(hand, frame, 5 + 2 * place, change.word);
+        self.carry(hand, frame, glance, 6 + 2 * place, 32, 4 + 2 * place);
     }
 
     // The frame that the hand took from a page is retired, at a time that no other has.

@@ -3,7 +3,7 @@ ghost use Rattle.std.specs.Prelude.{◌≡◌, ◌≢◌, ◌⊎◌, ℕ, ◌+�
 ghost use Rattle.bl_layout.specs.Words.{frame_count, word_count};
 ghost use Rattle.bl_store.specs.Pages.{Released, Takes, Refuses};
 ghost use Rattle.bl_store.specs.Frames.{owner_at};
-ghost use Rattle.bl_store.specs.Hands.{known, IsOf, IsSameHand, IsSameStage, IsSameStock, IsQuiet, HasNoStock, IsStockOf, MayRetire, SawTaken, IsTried, IsWhy, WasRefused};
+ghost use Rattle.bl_store.specs.Hands.{known, IsOf, IsSameHand, IsSameReading, IsSameStage, IsSameStock, IsQuiet, HasNoStock, IsStockOf, MayRetire, SawTaken, IsTried, IsWhy, WasRefused};
 
 use crate::plays::{Allot, Ask, Note, Refuse, Reserve, Return, Take};
 use crate::rule::{PagePlay, PageRule, TimePlay};
@@ -40,6 +40,7 @@ impl<D, R: PageRule<D>, A: Allocator> Store<D, R, A> {
         ensures refused { IfErr result (λ _. HasNoStock hand.new.seat × ((now : ℕ) × M.then (known hand.old.seat) now (known hand.new.seat))) }
         ensures why { IfErr result (IsWhy hand.new.seat pages frames) }
         ensures asked { IfErr result (λ _. WasRefused hand.new.seat pages frames) }
+        ensures reads { pages ≡ 0 → IfOk result (λ _. IsSameReading hand.old.seat hand.new.seat) }
     {
         self.prepare(hand, frames);
         let clock = self
@@ -87,7 +88,8 @@ impl<D, R: PageRule<D>, A: Allocator> Store<D, R, A> {
             .load::<Refuse<M, J>>(&mut hand.seat, self.layout.clock());
     }
 
-    // Tries each frame once, from the hand's cursor on, until there are enough.
+    // Tries the frames that it has released itself, then each frame once, until there are enough.
+    #[inline(always)]
     fn reserve_frames(&self, hand: &mut Hand<D>, stock: &mut Stock, wanted: u32)
         requires own { IsOf self.now.table.shared.table_id self.now.layout hand.old.seat }
         requires wanted { (wanted ≤ 3) × (wanted ≤ hand.old.seat.me.0.puts) }
@@ -96,13 +98,33 @@ impl<D, R: PageRule<D>, A: Allocator> Store<D, R, A> {
         ensures stock { IsStockOf hand.new.seat stock.new × (stock.new.count ≤ wanted) }
         ensures got { length hand.new.seat.me.0.got + stock.old.count ≡ length hand.old.seat.me.0.got + stock.new.count }
         ensures seen { stock.new.count < wanted → (f : ℕ) → f < frame_count hand.new.seat.me.0.layout → IsTried hand.new.seat f }
+        ensures reads { IsSameReading hand.old.seat hand.new.seat }
     {
         self.try_released(hand, stock, wanted);
+        if stock.count < wanted {
+            self.search_frames(hand, stock, wanted);
+        }
+    }
+
+    // Tries each frame once, from the hand's cursor on, until there are enough. Frames of the ring leave the cursor where it
+    // is, as most of those around them are in use.
+    #[inline(never)]
+    fn search_frames(&self, hand: &mut Hand<D>, stock: &mut Stock, wanted: u32)
+        requires own { IsOf self.now.table.shared.table_id self.now.layout hand.old.seat }
+        requires wanted { (wanted ≤ 3) × (wanted ≤ hand.old.seat.me.0.puts) }
+        requires stock { IsStockOf hand.old.seat stock.old × (stock.old.count < wanted) }
+        ensures same { IsQuiet hand.old.seat hand.new.seat × (stock.new.page ≡ stock.old.page) }
+        ensures stock { IsStockOf hand.new.seat stock.new × (stock.new.count ≤ wanted) }
+        ensures got { length hand.new.seat.me.0.got + stock.old.count ≡ length hand.old.seat.me.0.got + stock.new.count }
+        ensures seen { stock.new.count < wanted → (f : ℕ) → f < frame_count hand.new.seat.me.0.layout → IsTried hand.new.seat f }
+        ensures reads { IsSameReading hand.old.seat hand.new.seat }
+    {
+        let ready = stock.count;
         let total = self.layout.frames();
         let first = hand.frame.min(total);
         self.try_frames(hand, stock, first, total, wanted);
         self.try_frames(hand, stock, 0, first, wanted);
-        if stock.count > 0 {
+        if stock.count > ready {
             hand.frame = stock.frames[stock.count as usize - 1];
         }
     }
@@ -112,6 +134,7 @@ impl<D, R: PageRule<D>, A: Allocator> Store<D, R, A> {
     fn prepare(&self, hand: &mut Hand<D>, frames: u32)
         requires own { IsOf self.now.table.shared.table_id self.now.layout hand.old.seat }
         ensures same { IsSameHand hand.old.seat hand.new.seat × IsSameStage hand.old.seat hand.new.seat × IsSameStock hand.old.seat hand.new.seat × (known hand.new.seat ≡ known hand.old.seat) }
+        ensures reads { IsSameReading hand.old.seat hand.new.seat }
     {
         if hand.ready < frames && hand.untried >= RETIRED_TO_TRY {
             self.recycle(hand);
@@ -126,6 +149,7 @@ impl<D, R: PageRule<D>, A: Allocator> Store<D, R, A> {
         ensures same { IsQuiet hand.old.seat hand.new.seat × (stock.new.page ≡ stock.old.page) }
         ensures stock { IsStockOf hand.new.seat stock.new × (stock.new.count ≤ wanted) }
         ensures got { length hand.new.seat.me.0.got + stock.old.count ≡ length hand.old.seat.me.0.got + stock.new.count }
+        ensures reads { IsSameReading hand.old.seat hand.new.seat }
     {
         let total = self.layout.frames();
         for _ in 0..wanted {
@@ -152,6 +176,7 @@ impl<D, R: PageRule<D>, A: Allocator> Store<D, R, A> {
         ensures seen { stock.new.count < wanted → (f : ℕ) → from ≤ f → f < to → IsTried hand.new.seat f }
         ensures kept { (f : ℕ) → IsTried hand.old.seat f → IsTried hand.new.seat f }
         ensures more { stock.old.count ≤ stock.new.count }
+        ensures reads { IsSameReading hand.old.seat hand.new.seat }
     {
         for frame in from..to {
             if stock.count == wanted {
@@ -171,6 +196,7 @@ impl<D, R: PageRule<D>, A: Allocator> Store<D, R, A> {
         ensures got { length hand.new.seat.me.0.got + stock.old.count ≡ length hand.old.seat.me.0.got + stock.new.count }
         ensures tried { IsTried hand.new.seat frame }
         ensures kept { (f : ℕ) → IsTried hand.old.seat f → IsTried hand.new.seat f }
+        ensures reads { IsSameReading hand.old.seat hand.new.seat }
     {
         let at = self.layout.frame_owner(frame);
         if self.table.shared.load::<Note>(&mut hand.seat, at) != 0 {

@@ -2,7 +2,7 @@
 ghost use Rattle.std.specs.Prelude.{◌≡◌, ◌⊎◌, ℕ, ◌+◌, ◌*◌, ◌/◌, ◌%◌, ◌<◌, ◌≤◌, true, false, List, length};
 ghost use Rattle.bl_layout.specs.Words.{frame_count};
 ghost use Rattle.bl_store.specs.Pages.{Releases, ReleasesMany};
-ghost use Rattle.bl_store.specs.Hands.{known, IsOf, IsSameHand, IsSameStage, IsSameStock};
+ghost use Rattle.bl_store.specs.Hands.{known, IsOf, IsSameHand, IsSameReading, IsSameStage, IsSameStock};
 ghost use Rattle.bl_store.specs.declared.view.Sweep.TheVariants.{Over};
 
 use crate::plays::{Free, Horizon, Pass, Release};
@@ -80,6 +80,7 @@ impl<D, R: PageRule<D>, A: Allocator> Store<D, R, A> {
         requires own { IsOf self.now.table.shared.table_id self.now.layout hand.old.seat }
         ensures same { IsSameHand hand.old.seat hand.new.seat × IsSameStage hand.old.seat hand.new.seat × IsSameStock hand.old.seat hand.new.seat × (known hand.new.seat ≡ known hand.old.seat) × (hand.new.seat.me.0.releases ≡ hand.old.seat.me.0.releases) }
         ensures swept { hand.new.seat.me.0.sweep ≡ Over result self.now.layout.passes }
+        ensures reads { IsSameReading hand.old.seat hand.new.seat }
     {
         let mut oldest = self
             .table
@@ -102,6 +103,7 @@ impl<D, R: PageRule<D>, A: Allocator> Store<D, R, A> {
     pub(crate) fn recycle(&self, hand: &mut Hand<D>)
         requires own { IsOf self.now.table.shared.table_id self.now.layout hand.old.seat }
         ensures same { IsSameHand hand.old.seat hand.new.seat × IsSameStage hand.old.seat hand.new.seat × IsSameStock hand.old.seat hand.new.seat × (known hand.new.seat ≡ known hand.old.seat) }
+        ensures reads { IsSameReading hand.old.seat hand.new.seat }
     {
         hand.untried = 0;
         let oldest = self.oldest(hand);
@@ -136,6 +138,7 @@ impl<D, R: PageRule<D>, A: Allocator> Store<D, R, A> {
         requires swept { hand.old.seat.me.0.sweep ≡ Over oldest self.now.layout.passes }
         ensures same { IsSameHand hand.old.seat hand.new.seat × IsSameStage hand.old.seat hand.new.seat × IsSameStock hand.old.seat hand.new.seat × (known hand.new.seat ≡ known hand.old.seat) × (hand.new.seat.me.0.sweep ≡ hand.old.seat.me.0.sweep) }
         ensures kept { (hand.new.retired ≡ hand.old.retired) × (hand.new.waiting ≡ hand.old.waiting) }
+        ensures reads { IsSameReading hand.old.seat hand.new.seat }
     {
         let word = self.layout.frame_owner(frame);
         let found = self

@@ -1,8 +1,7 @@
-use Rattle.std.proofs.Common.{rules, arith, length, ◌≡◌, ℕ, ◌-◌, List, ◌∙◌, ap, sym, subst}
+use Rattle.std.proofs.Common.{rules, arith, length, ◌≡◌, ℕ, List, ◌∙◌, ap, sym, subst}
 use Rattle.bl_layout.specs.declared.layout.Layout.{Layout}
 use Rattle.bl_layout.specs.Words.{frame_count}
 use Rattle.bl_store.specs.Pages.{Gets}
-use Rattle.bl_store.specs.Frames.{place_at}
 use Rattle.bl_store.specs.Hands.{words_in}
 use Rattle.bl_store.specs.declared.view.Reading.TheVariants.{At}
 use Rattle.bl_store.proofs.Time.{looks}

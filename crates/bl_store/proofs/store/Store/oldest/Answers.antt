@@ -18,5 +18,6 @@ loop-pass-preserved g c = let e = c.load-stamp.ensures.2.2 c.loop-pass.oldest c.
       same = ((search rules, search rules, search rules), search rules, (search rules, search rules, search rules));
       known = search rules;
       releases = search rules;
+      reads = c.load-stamp.ensures.2.3 ∙ c.loop-pass.invariant.reads;
       swept = e ∙ ap (λ (z : ℕ). Over z (c.loop-pass.pass + 1)) lower_is;
     }

@@ -1,5 +1,5 @@
 use Rattle.std.proofs.Common.{◌≡◌}
-use Rattle.bl_store.specs.Hands.{IsSameHand, IsSameStage, IsSameStock, known}
+use Rattle.bl_store.specs.Hands.{IsSameHand, IsSameReading, IsSameStage, IsSameStock, known}
 use Rattle.bl_store.specs.declared.view.Sweep.TheVariants.{Over}
 use Rattle.bl_store.proofs.store.Store.oldest.Given as goal
 
@@ -9,4 +9,5 @@ invariant-loop-pass g l = record {
   known : known l.hand.seat ≡ known l.fn.hand.seat;
   releases : l.hand.seat.me.0.releases ≡ l.fn.hand.seat.me.0.releases;
   swept : l.hand.seat.me.0.sweep ≡ Over l.oldest l.pass;
+  reads : IsSameReading l.fn.hand.seat l.hand.seat;
 }

@@ -1,5 +1,5 @@
-use Rattle.std.proofs.Common.{◌≡◌, ◌≤◌, length}
-use Rattle.bl_store.specs.Hands.{IsSameHand, IsSameStage, IsSameStock, known}
+use Rattle.std.proofs.Common.{◌≡◌, ◌≤◌}
+use Rattle.bl_store.specs.Hands.{IsSameHand, IsSameReading, IsSameStage, IsSameStock, known}
 use Rattle.bl_store.specs.declared.view.Sweep.TheVariants.{Over}
 use Rattle.bl_store.proofs.store.Store.recycle.Given as goal
 
@@ -9,4 +9,5 @@ invariant-loop-i g l = record {
   known : known l.hand.seat ≡ known l.fn.hand.seat;
   swept : l.hand.seat.me.0.sweep ≡ Over l.oldest l.fn.self.layout.passes;
   few : l.kept ≤ l.i;
+  reads : IsSameReading l.fn.hand.seat l.hand.seat;
 }

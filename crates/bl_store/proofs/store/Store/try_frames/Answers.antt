@@ -14,4 +14,5 @@ loop-frame-preserved g c = let inv = c.loop-frame.invariant in let e = c.try_fra
   got = (let t = e.got in let u = inv.got in omega arith);
   seen = λ f low high. dite (ℕ_discrete f c.loop-frame.frame) (λ is. subst (λ (z : ℕ). IsTried c.try_frame.new.hand.seat z) (sym is) e.tried) (λ ne. e.kept f (inv.seen f low (omega arith)));
   kept = λ f h. e.kept f (inv.kept f h);
+  reads = e.reads ∙ inv.reads;
 }

@@ -1,5 +1,5 @@
 use Rattle.std.proofs.Common.{◌≡◌, ℕ, ◌+◌, ◌≤◌, ◌<◌, length}
-use Rattle.bl_store.specs.Hands.{IsQuiet, IsStockOf, IsTried}
+use Rattle.bl_store.specs.Hands.{IsQuiet, IsSameReading, IsStockOf, IsTried}
 use Rattle.bl_store.proofs.store.Store.try_frames.Given as goal
 
 abbrev pub invariant-loop-frame : goal.invariant-loop-frame
@@ -12,4 +12,5 @@ invariant-loop-frame g l = record {
   got : length l.hand.seat.me.0.got + l.fn.stock.count ≡ length l.fn.hand.seat.me.0.got + l.stock.count;
   seen : (f : ℕ) → l.fn.from ≤ f → f < l.frame → IsTried l.hand.seat f;
   kept : (f : ℕ) → IsTried l.fn.hand.seat f → IsTried l.hand.seat f;
+  reads : IsSameReading l.fn.hand.seat l.hand.seat;
 }

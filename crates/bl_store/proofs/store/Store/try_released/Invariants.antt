@@ -1,5 +1,5 @@
 use Rattle.std.proofs.Common.{◌≡◌, ◌+◌, ◌≤◌, length}
-use Rattle.bl_store.specs.Hands.{IsQuiet, IsStockOf}
+use Rattle.bl_store.specs.Hands.{IsQuiet, IsSameReading, IsStockOf}
 use Rattle.bl_store.proofs.store.Store.try_released.Given as goal
 
 abbrev pub invariant-loop : goal.invariant-loop
@@ -10,4 +10,5 @@ invariant-loop g l = record {
   few : l.stock.count ≤ l.fn.wanted;
   more : l.fn.stock.count ≤ l.stock.count;
   got : length l.hand.seat.me.0.got + l.fn.stock.count ≡ length l.fn.hand.seat.me.0.got + l.stock.count;
+  reads : IsSameReading l.fn.hand.seat l.hand.seat;
 }
