@@ -4,14 +4,12 @@
 //! compressors as are wanted; and what `bl_commands` promises of `check` and `replay`.
 #![tactic(auto)]
 
-mod serve;
-
 use bl_commands::{CommandFault, check_file, replay_file};
 use bl_model::Watched;
-use bl_options::{Invocation, read_words};
+use bl_options::{Invocation, ServeOptions, read_words};
+use bl_serve::serve_index;
 use clap::Error;
 use clap::error::ErrorKind;
-use serve::serve_index;
 use std::io;
 use std::process::ExitCode;
 use std::sync::Wait;
@@ -37,9 +35,22 @@ fn carry_out<T: Threads + Wait + Sync>(
     let words: Vec<String> = std::env::args(rt)?.collect(alloc)?;
     match read_words(alloc, words.as_slice()) {
         Ok(Invocation::Serve(options)) => {
+            let ServeOptions {
+                pages,
+                workers,
+                compressors,
+            } = options;
             let mut reader = Watched::new(rt.stdin());
             let mut writer = Watched::new(io::writer(rt));
-            serve_index(threads, alloc, options, &mut reader, &mut writer)?;
+            serve_index(
+                threads,
+                alloc,
+                pages,
+                workers,
+                compressors,
+                &mut reader,
+                &mut writer,
+            )?;
             Ok(ExitCode::SUCCESS)
         }
         Ok(Invocation::Check(file)) => {

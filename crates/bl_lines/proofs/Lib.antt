@@ -4,4 +4,3 @@ pub mod Examples
 pub mod Known
 mod Cuts
 pub mod Sections
-pub mod Progress

@@ -2,4 +2,3 @@ pub mod Text
 pub mod Lines
 pub mod Served
 pub mod Streams
-pub mod Turns

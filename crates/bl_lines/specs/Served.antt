@@ -1,8 +1,8 @@
 -- What is written for what is read.
 use Rattle.std.specs.Prelude.{◌≡◌, ◌≢◌, ℕ, ◌+◌, suc, List, [], ◌∷◌, ◌++◌, All, flat_map, map, length, sum_by}
 use Rattle.bl_model.specs.declared.operation.Entry.{Entry}
-use Rattle.bl_model.specs.Map.{Map, SameMap}
-use Rattle.bl_model.specs.History.{IsLegalFrom, final_map}
+use Rattle.bl_model.specs.Map.{Map}
+use Rattle.bl_model.specs.History.{IsLegalFrom}
 use Rattle.bl_lines.specs.declared.serving.ServeFault.{ServeFault}
 use Rattle.bl_lines.specs.declared.serving.ServeFault.TheVariants.{Read, Write, Memory, Lost}
 use Rattle.bl_lines.specs.declared.serving.Totals.{Totals}
@@ -103,10 +103,6 @@ pub record Stopped (start : Map) (input output : List ℕ) (fault : ServeFault) 
 -- the entries of a served input, in the order of its history
 abbrev pub whole_history : {start : Map} {input output : List ℕ} {totals : Totals} → Served start input output totals → List Entry
 whole_history served = history_of served.sections ++ served.last.history
-
--- The input is served, and the map is the one after its history.
-abbrev pub Serves : Map → Map → List ℕ → List ℕ → Totals → Type 0
-Serves start after input output totals = (served : Served start input output totals) × SameMap (final_map start (whole_history served)) after
 
 -- a read fault comes only from a reader that has failed, and a write fault from such a writer
 abbrev pub ComesFrom : ServeFault → Type 0 → Type 0 → Type 0

@@ -1,6 +1,5 @@
 -- The text of requests and of replies.
 use Rattle.std.specs.Prelude.{◌≡◌, ℕ, ◌<◌, ◌^◌, List, [], ◌∷◌, ◌++◌, flat_map, codes, decimal, None, Some, Option}
-use Rattle.bl_model.specs.declared.operation.Op.{Op}
 use Rattle.bl_model.specs.declared.operation.Op.TheVariants.{Find, Insert, Delete, Part}
 use Rattle.bl_model.specs.declared.operation.Next.{Next}
 use Rattle.bl_model.specs.declared.operation.Next.TheVariants.{More, End}
@@ -18,13 +17,6 @@ Spells line (Ask (Insert key value)) = (key < 2 ^ 64) × (value < 2 ^ 64) × (li
 Spells line (Ask (Delete key)) = (key < 2 ^ 64) × (line ≡ codes "delete " ++ decimal key)
 Spells line (Ask (Part from)) = ⊥
 Spells line Sync = line ≡ codes "sync"
-
--- a line may ask for the operation
-abbrev pub IsAsked : Op → Type 0
-IsAsked (Find key) = Unit {0}
-IsAsked (Insert key value) = Unit {0}
-IsAsked (Delete key) = Unit {0}
-IsAsked (Part from) = ⊥
 
 -- the line is a spelling of no request
 abbrev pub IsMalformed : List ℕ → Type 0

@@ -1,6 +1,6 @@
 //! The printed form of replies.
 
-ghost use Rattle.std.specs.Prelude.{◌≡◌, ◌++◌, ◌↔◌, flat_map, OnOk, IsTrue, codes, decimal};
+ghost use Rattle.std.specs.Prelude.{◌≡◌, ◌++◌, flat_map, OnOk, codes, decimal};
 ghost use Rattle.bl_lines.specs.Text.{row_text, next_text, reply_text, response_text, numbered};
 
 use bl_model::{Next, Reply};
@@ -16,15 +16,6 @@ pub enum Response {
     Synced,
     /// The line spells no request.
     Malformed,
-}
-
-impl Response {
-    /// Whether the line ended a section.
-    pub fn is_sync(&self) -> bool
-        ensures { IsTrue result ↔ (self.now ≡ Response.Synced) }
-    {
-        matches!(self, Response::Synced)
-    }
 }
 
 /// Appends a word and a number.

@@ -14,7 +14,6 @@ use Rattle.bl_lines.specs.declared.print.Response.{Response}
 use Rattle.bl_lines.specs.declared.print.Response.TheVariants as response
 use Rattle.bl_lines.specs.Lines.{Answer, Replied, Scanned, Synced, Malformed, entries, answer_text}
 use Rattle.bl_lines.specs.Text.{numbered, reply_text, response_text}
-use Rattle.bl_lines.specs.Turns.{Shows}
 use Rattle.bl_trails.specs.Trails.{Trail}
 use Rattle.bl_passes.specs.Seeing.{own, GoesOnFrom}
 use Rattle.bl_serve.specs.Works.{Works, Adds}
@@ -23,7 +22,7 @@ use Rattle.bl_index.specs.Calls.{IsSamePass, number_of, trail}
 use Rattle.bl_serve.specs.declared.working.Written.{Written}
 use Rattle.bl_serve.specs.Joining.{Chains, text_of}
 use Rattle.bl_serve.specs.Turns.{Piece, IsPiece, Logs, lines_in}
-use Rattle.bl_serve.specs.Answering.{IsFor, answers_text, AnswersLine, AnswersLines}
+use Rattle.bl_serve.specs.Answering.{IsFor, Shows, answers_text, AnswersLine, AnswersLines}
 
 shown_text : (answer : Answer) (shown : Response) → Shows answer shown → response_text shown ≡ answer_text answer
 shown_text (Replied entry) (response.Replied reply) h = ap reply_text h

@@ -15,7 +15,7 @@ use Rattle.bl_lines.specs.declared.request.Request.TheVariants.{Ask, Sync}
 use Rattle.bl_model.specs.Map.{Map, MayAnswer, map_step}
 use Rattle.bl_model.specs.History.{IsLegalFrom}
 use Rattle.bl_lines.specs.Lines.{Line, IsLine, HasNoLf, Fits, Answer, Replied, Scanned, Synced, Malformed, entries, answer_text, input_of, output_of}
-use Rattle.bl_lines.specs.Text.{Means, Spells, IsAsked, numbered}
+use Rattle.bl_lines.specs.Text.{Means, Spells, numbered}
 use Rattle.bl_lines.specs.Served.{HasNoSync, malformed_of}
 use Rattle.bl_serve.specs.Answering.{IsFor, answers_text}
 use Rattle.bl_serve.specs.Reading.{IsReadAs, bytes_of, AsksNoSync, AsksSyncLast}
@@ -126,29 +126,23 @@ sync_lines asked texts answers h k s = end_in_sync s.front texts answers (subst 
 
 -- ---- answers that are lawful: lines that nobody answered have them too
 
-asks : (bytes : List ℕ) (op : Op) → Spells bytes (Ask op) → IsAsked op
-asks bytes (Find key) s = tt
-asks bytes (Insert key value) s = tt
-asks bytes (Delete key) s = tt
-asks bytes (Part from) s = absurd s
-
-some_reply : (m : Map) (op : Op) → IsAsked op → (r : Reply) × MayAnswer m op r
-some_reply m (Find key) a = go (m key) refl
+some_reply : (m : Map) (bytes : List ℕ) (op : Op) → Spells bytes (Ask op) → (r : Reply) × MayAnswer m op r
+some_reply m bytes (Find key) a = go (m key) refl
   where
     go : (o : Option ℕ) → m key ≡ o → (r : Reply) × MayAnswer m (Find key) r
     go (Some v) is = (Found v, is)
     go None is = (Absent, is)
-some_reply m (Insert key value) a = go (m key) refl
+some_reply m bytes (Insert key value) a = go (m key) refl
   where
     go : (o : Option ℕ) → m key ≡ o → (r : Reply) × MayAnswer m (Insert key value) r
     go (Some v) is = (Present v, is)
     go None is = (NoRoom, is)
-some_reply m (Delete key) a = go (m key) refl
+some_reply m bytes (Delete key) a = go (m key) refl
   where
     go : (o : Option ℕ) → m key ≡ o → (r : Reply) × MayAnswer m (Delete key) r
     go (Some v) is = (NoRoom, subst IsSome (sym is) refl)
     go None is = (Absent, is)
-some_reply m (Part from) a = absurd a
+some_reply m bytes (Part from) a = absurd a
 
 pub record Lawful (m : Map) (asked : List (Option Request)) : Type 0 where
   pub answers : List Answer
@@ -160,5 +154,5 @@ lawful m [] texts h = record { answers = []; each = tt; legal = tt }
 lawful m (a ∷ asked) [] h = absurd h
 lawful m (None ∷ asked) (text ∷ texts) h = let r = lawful m asked texts h.1 in record { answers = Malformed ∷ r.answers; each = (tt, r.each); legal = r.legal }
 lawful m (Some Sync ∷ asked) (text ∷ texts) h = let r = lawful m asked texts h.1 in record { answers = Synced ∷ r.answers; each = (tt, r.each); legal = r.legal }
-lawful m (Some (Ask op) ∷ asked) (text ∷ texts) h = let one = some_reply m op (asks text op h.0.means) in let e : Entry = record { pass = 0; op = op; reply = one.0 } in let r = lawful (map_step op one.0 m) asked texts h.1 in
+lawful m (Some (Ask op) ∷ asked) (text ∷ texts) h = let one = some_reply m text op h.0.means in let e : Entry = record { pass = 0; op = op; reply = one.0 } in let r = lawful (map_step op one.0 m) asked texts h.1 in
     record { answers = Replied e ∷ r.answers; each = (refl, r.each); legal = (one.1, r.legal) }

@@ -4,9 +4,9 @@ use Rattle.std.specs.List.{AllZip}
 use Rattle.bl_lines.specs.declared.request.Request.{Request}
 use Rattle.bl_lines.specs.declared.request.Request.TheVariants.{Ask, Sync}
 use Rattle.bl_lines.specs.declared.print.Response.{Response}
+use Rattle.bl_lines.specs.declared.print.Response.TheVariants as response
 use Rattle.bl_lines.specs.Lines.{Answer, Replied, Scanned, Synced, Malformed, entries, answer_text}
 use Rattle.bl_lines.specs.Text.{numbered}
-use Rattle.bl_lines.specs.Turns.{Shows}
 use Rattle.bl_trails.specs.Trails.{Trail}
 use Rattle.bl_passes.specs.Seeing.{IsSeen, own, GoesOnFrom}
 
@@ -16,6 +16,13 @@ IsFor (Some (Ask op)) (Replied entry) = entry.op ≡ op
 IsFor (Some Sync) Synced = Unit {0}
 IsFor None Malformed = Unit {0}
 IsFor asked answer = ⊥
+
+-- the response prints the answer
+abbrev pub Shows : Answer → Response → Type 0
+Shows (Replied entry) (response.Replied reply) = reply ≡ entry.reply
+Shows Synced response.Synced = Unit {0}
+Shows Malformed response.Malformed = Unit {0}
+Shows answer shown = ⊥
 
 -- the answers as they are written, numbered from n on
 abbrev pub answers_text : ℕ → List Answer → List ℕ

@@ -14,9 +14,11 @@ mod meeting;
 mod reading;
 mod rounds;
 mod serving;
+mod starting;
 mod working;
 
 pub use bl_lines::{ServeFault, Totals};
 pub use compressing::follow_hint;
 pub use gate::{Gate, OpenGate};
 pub use serving::serve;
+pub use starting::serve_index;

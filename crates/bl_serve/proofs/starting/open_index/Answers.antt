@@ -1,6 +1,6 @@
 use Rattle.std.proofs.Common.{arith}
 use Rattle.bl_serve.proofs.Beginning.{opened_together, opened_unseen}
-use Rattle.bl_cli.proofs.serve.open_index.Goals as goal
+use Rattle.bl_serve.proofs.starting.open_index.Goals as goal
 
 pub returns-in-Ok : goal.returns-in-Ok
 returns-in-Ok c = record {

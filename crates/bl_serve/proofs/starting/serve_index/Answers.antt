@@ -5,12 +5,12 @@ use Rattle.bl_lines.specs.declared.serving.Totals.{Totals}
 use Rattle.bl_lines.specs.declared.serving.ServeFault.{ServeFault}
 use Rattle.bl_lines.specs.Served.{Served, Stops}
 use Rattle.bl_lines.proofs.Known.{consumes_start, appends_start}
-use Rattle.bl_lines.proofs.Progress.{stops_at_once}
+use Rattle.bl_lines.proofs.Sections.{stops_at_once}
 use Rattle.bl_index.specs.declared.index.Index.{Index}
 use Rattle.bl_index.specs.declared.index.Pass.{Pass}
 use Rattle.bl_index.specs.Calls.{map_of}
 use Rattle.bl_serve.specs.Serving.{Serves, seen_by}
-use Rattle.bl_cli.proofs.serve.serve_index.Goals as goal
+use Rattle.bl_serve.proofs.starting.serve_index.Goals as goal
 
 -- new passes have seen nothing, so that what they have served is served from the empty map
 from_empty : (index : Index) (olds news : List Pass) (input output : List ℕ) (totals : Totals) → seen_by olds ≡ [] → Serves index olds news input output totals → Served empty input output totals
