@@ -1,7 +1,7 @@
-use Rattle.std.proofs.Common.{refl, sym, subst, ◌∙◌}
+use Rattle.std.proofs.Common.{refl, sym, ap, subst, ◌∙◌}
 use Rattle.bl_ways.specs.declared.changing.Change.TheVariants as change
 use Rattle.bl_proc.specs.declared.inserting.InsertStage.TheVariants as insert
-use Rattle.bl_proc.specs.Inserts.{insert_reply}
+use Rattle.bl_proc.specs.Inserts.{insert_reply, inserted_answer}
 use Rattle.bl_store.specs.Hands.{known}
 use Rattle.bl_store.specs.declared.store.Hand.{Hand}
 use Rattle.bl_passes.specs.declared.known.Mine.{Mine}
@@ -25,9 +25,9 @@ conclude-requires-clause-opens c =
     (inserting key value (insert.Ending (insert_reply o)), inserting key value (insert.Over (insert_reply o)), opens_at _ _ _ _ _ c.part_full-outcome.ensures.process.state (opens_changed key value c.args.at o))
 
 pub returns-clause-inserted : goal.returns-clause-inserted
-returns-clause-inserted c = λ pass old since.
+returns-clause-inserted c = λ pass old since reply hint e.
     let key = c.args.errand.key in let value = c.args.errand.value in let o = c.part_full-outcome.result in
     let opens = opens_at _ _ _ _ _ c.part_full-outcome.ensures.process.state (opens_changed key value c.args.at o) in
     let after = c.part_full-outcome.ensures.since pass old (subst (λ (h : Hand Mine). IsSince pass old (known h.seat)) (sym c.words_from-words.ensures.same) since) in
     has_inserted key value pass old _ (insert_reply o) _ _ (c.conclude.ensures.done pass old (inserting key value insert.New) (inserting key value (insert.Ending (insert_reply o))) (inserting key value (insert.Over (insert_reply o))) after opens refl refl)
-    c.inserted_by.ensures
+    (ap inserted_answer (sym c.inserted_by.ensures) ∙ e)
