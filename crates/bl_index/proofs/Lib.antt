@@ -2,6 +2,7 @@ pub mod Calls
 pub mod Hands
 pub mod Standing
 pub mod Inserted
+mod Spreading
 pub mod Deleted
 pub mod Silent
 pub mod Searches

@@ -20,6 +20,8 @@ use Rattle.bl_proc.specs.declared.posting.PostReply.TheVariants as reply
 use Rattle.bl_proc.specs.declared.posting.Post.{Post}
 use Rattle.bl_proc.specs.declared.kinds.Proc.TheVariants as proc
 use Rattle.bl_compress.specs.declared.squeezing.Compress.{Compress}
+use Rattle.bl_proc.specs.declared.inserting.InsertReply.TheVariants as inserted
+use Rattle.bl_proc.specs.Inserts.{insert_reply}
 use Rattle.bl_proc.specs.Posts.{post_reply}
 use Rattle.bl_index.specs.Rooms.{LacksRoom, LacksAsked, TellsRoom}
 
@@ -41,17 +43,17 @@ tells_took h h' p y next = ((λ e. absurd (let f : seen.Took y ≡ seen.Refused 
 pub tells_refused : (h h' : H) (p : Proc) (ask : ℕ × ℕ) → ((x : ℕ) → next_of p ≢ act.Open x) → needs_of p ≡ Some ask → WasRefused h' ask.0 ask.1 → TellsRoom h h' p seen.Refused
 tells_refused h h' p ask not needs was = ((λ e. (ask, needs, was)), λ x opens. absurd (not x opens))
 
-pub latch_opens_not : {p : Proc} {x : ℕ} → next_of p ≡ act.Latch x → (y : ℕ) → next_of p ≢ act.Open y
-latch_opens_not {p} {x} next y opens = (let f : act.Latch x ≡ act.Open y = sym next ∙ opens in cc)
+pub latch_opens_not : (p : Proc) (x : ℕ) → next_of p ≡ act.Latch x → (y : ℕ) → next_of p ≢ act.Open y
+latch_opens_not p x next y opens = (let f : act.Latch x ≡ act.Open y = sym next ∙ opens in cc)
 
-pub put_opens_not : {p : Proc} {x : ℕ} {c : Page} → next_of p ≡ act.Put x c → (y : ℕ) → next_of p ≢ act.Open y
-put_opens_not {p} {x} {c} next y opens = (let f : act.Put x c ≡ act.Open y = sym next ∙ opens in cc)
+pub put_opens_not : (p : Proc) (x : ℕ) (c : Page) → next_of p ≡ act.Put x c → (y : ℕ) → next_of p ≢ act.Open y
+put_opens_not p x c next y opens = (let f : act.Put x c ≡ act.Open y = sym next ∙ opens in cc)
 
-pub take_opens_not : {p : Proc} → next_of p ≡ act.Take → (y : ℕ) → next_of p ≢ act.Open y
-take_opens_not {p} next y opens = (let f : act.Take ≡ act.Open y = sym next ∙ opens in cc)
+pub take_opens_not : (p : Proc) → next_of p ≡ act.Take → (y : ℕ) → next_of p ≢ act.Open y
+take_opens_not p next y opens = (let f : act.Take ≡ act.Open y = sym next ∙ opens in cc)
 
-pub retire_opens_not : {p : Proc} {x : ℕ} → next_of p ≡ act.Retire x → (y : ℕ) → next_of p ≢ act.Open y
-retire_opens_not {p} {x} next y opens = (let f : act.Retire x ≡ act.Open y = sym next ∙ opens in cc)
+pub retire_opens_not : (p : Proc) (x : ℕ) → next_of p ≡ act.Retire x → (y : ℕ) → next_of p ≢ act.Open y
+retire_opens_not p x next y opens = (let f : act.Retire x ≡ act.Open y = sym next ∙ opens in cc)
 
 -- A process that goes on without room was refused what it had asked for.
 abbrev pub KeepsRoom : H → Proc → Type 0
@@ -71,6 +73,10 @@ keeps_room h h' p what q takes tells going keeps = (
   ]),
   λ r. keeps.1 (takes_puts p what q takes r),
 )
+
+-- nothing has happened
+pub stays_room : (h h' : H) (p q : Proc) → q ≡ p → IsSameRefusal h h' → KeepsRoom h p → KeepsRoom h' q
+stays_room h h' p q is same keeps = subst (KeepsRoom h') (sym is) ((λ r. let lacks = keeps.0 r in (lacks.0, lacks.1, same ∙ lacks.2)), keeps.1)
 
 -- and it ends so
 pub ends_room : (h h' : H) (p q : Proc) → Takes p seen.Done q → IsSameRefusal h h' → KeepsRoom h p → IsRefused q → LacksAsked h' q
@@ -102,3 +108,8 @@ words_not_refused c e = (let f : seen.Words c ≡ seen.Refused = e in cc)
 
 pub done_not_refused : seen.Done ≡ seen.Refused → ⊥
 done_not_refused e = (let f : seen.Done ≡ seen.Refused = e in cc)
+
+pub insert_refused : (o : Outcome) → insert_reply o ≡ inserted.NoRoom → o ≡ outcome.Refused
+insert_refused outcome.Changed e = absurd (let f : inserted.Inserted None ≡ inserted.NoRoom = e in cc)
+insert_refused (outcome.Parted k) e = absurd (let f : inserted.Inserted (Some k) ≡ inserted.NoRoom = e in cc)
+insert_refused outcome.Refused e = refl

@@ -26,6 +26,10 @@ use Rattle.bl_ways.specs.declared.onwards.Onward.TheVariants.{Here}
 use Rattle.bl_ways.specs.Changes.{EntersPair}
 use Rattle.bl_ways.specs.Onwards.{Leads}
 use Rattle.bl_proc.specs.declared.inserting.Insert.{Insert}
+use Rattle.bl_proc.specs.declared.inserting.InsertReply.{InsertReply}
+use Rattle.bl_proc.specs.declared.deleting.DeleteReply.{DeleteReply}
+use Rattle.bl_proc.specs.Inserts.{inserted_answer}
+use Rattle.bl_proc.specs.Deletes.{deleted_answer}
 use Rattle.bl_proc.specs.declared.deleting.Delete.{Delete}
 use Rattle.bl_proc.specs.declared.posting.Post.{Post}
 use Rattle.bl_proc.specs.declared.posting.PostStage.{PostStage}
@@ -93,11 +97,18 @@ pub record HasInserted (pass : ℕ) (old e : Mine) (first : Proc) (reply : Reply
   pub done : IsDone pass old e first (proc.Insert last)
   pub answer : answer_of (proc.Insert last) ≡ Some (Op reply hint)
 
+-- It has ended with that reply, which says what it answers.
+abbrev pub HasInsertedBy : ℕ → Mine → Mine → Proc → InsertReply → Type 0
+HasInsertedBy pass old e first r = (reply : Reply) (hint : Option Hint) → inserted_answer r ≡ Op reply hint → HasInserted pass old e first reply hint
+
 -- The same of a deletion.
 pub record HasDeleted (pass : ℕ) (old e : Mine) (first : Proc) (reply : Reply) (hint : Option Hint) : Type 0 where
   pub last : Delete
   pub done : IsDone pass old e first (proc.Delete last)
   pub answer : answer_of (proc.Delete last) ≡ Some (Op reply hint)
+
+abbrev pub HasDeletedBy : ℕ → Mine → Mine → Proc → DeleteReply → Type 0
+HasDeletedBy pass old e first r = (reply : Reply) (hint : Option Hint) → deleted_answer r ≡ Op reply hint → HasDeleted pass old e first reply hint
 
 -- The same of a post.
 pub record HasPosted (pass : ℕ) (old e : Mine) (first : Proc) (what : Posted) (hint : Option Hint) : Type 0 where

@@ -4,7 +4,7 @@ use Rattle.atomic_table.specs.declared.shared.Seat.{Seat}
 use Rattle.bl_layout.specs.declared.layout.Layout.{Layout}
 use Rattle.bl_store.specs.declared.view.View.{View}
 use Rattle.bl_store.specs.declared.stock.Stock.{Stock}
-use Rattle.bl_store.specs.Hands.{HasNoStock, IsStockOf, MayRetire}
+use Rattle.bl_store.specs.Hands.{HasNoStock, IsStockOf, MayRetire, IsSameRefusal}
 use Rattle.bl_ways.specs.declared.acts.Action.TheVariants as act
 use Rattle.bl_ways.specs.declared.acts.Seen.TheVariants as seen
 use Rattle.bl_tables.specs.Knowing.{end_of_proc}
@@ -81,7 +81,7 @@ pub record IsDone (pass : ℕ) (old e : Mine) (first last : Proc) : Type 0 where
 -- After a step of the process p, which is then q: it has gone on by one event; or it is to end, and nothing has happened.
 abbrev pub IsAfter : Layout → Seat (Unit {0}) (View Mine) → Seat (Unit {0}) (View Mine) → Proc → Proc → Stepped → Type 0
 IsAfter l h h' p q (On held) = IsOn l (known h') q × Moves (known h) (known h') × HasReserved h' held q × ((what : Seen) × Follows p what q × Takes p what q × TellsRoom h h' p what) × (next_of p ≢ act.End)
-IsAfter l h h' p q AtEnd = (next_of p ≡ act.End) × (q ≡ p) × (known h' ≡ known h) × HasNoStock h'
+IsAfter l h h' p q AtEnd = (next_of p ≡ act.End) × (q ≡ p) × (known h' ≡ known h) × HasNoStock h' × IsSameRefusal h h'
 
 -- A search that the pass began as its process of that number has got so many pages, within its bound, and may get one more.
 pub record IsAtTurn (pages pass number turns : ℕ) (trail : Trail) : Type 0 where

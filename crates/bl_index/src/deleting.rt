@@ -8,10 +8,13 @@ ghost use Rattle.bl_model.specs.Rows.{map_of};
 ghost use Rattle.bl_laws.specs.Pages.{IsTreePage};
 ghost use Rattle.bl_rearrange.specs.Entered.{dropped};
 ghost use Rattle.bl_rearrange.specs.Rearranged.{pairs_of};
+ghost use Rattle.bl_ways.specs.declared.answers.Answer.TheVariants as answers;
 ghost use Rattle.bl_ways.specs.declared.approaching.Approach.TheVariants as approach;
 ghost use Rattle.bl_ways.specs.declared.changing.Change.TheVariants as change;
 ghost use Rattle.bl_ways.specs.Respelled.{words_by};
 ghost use Rattle.bl_ways.specs.Thin.{thin_low, thin_hint};
+ghost use Rattle.bl_proc.specs.Deletes.{deleted_answer};
+ghost use Rattle.bl_proc.specs.declared.deleting.DeleteReply.TheVariants as removal;
 ghost use Rattle.bl_proc.specs.declared.deleting.DeleteStage.TheVariants as delete;
 ghost use Rattle.bl_proc.specs.declared.kinds.Proc.TheVariants as proc;
 ghost use Rattle.bl_store.specs.Hands.{known, read_words, IsOf, IsIdle, IsRunning, IsSameHand, HasNoStock, ReadsFrom, WasRefused};
@@ -19,14 +22,14 @@ ghost use Rattle.bl_passes.specs.declared.known.Mine.{Mine as Knows};
 ghost use Rattle.bl_passes.specs.Noting.{trail_of};
 ghost use Rattle.bl_passes.specs.Seeing.{IsSeen};
 ghost use Rattle.bl_index.specs.Runs.{IsOn, IsSince, IsWithin};
-ghost use Rattle.bl_index.specs.Events.{IsThere, HasDeleted};
+ghost use Rattle.bl_index.specs.Events.{IsThere, HasDeleted, HasDeletedBy};
 
 use crate::errands::Deleting;
 use crate::index::Index;
 use crate::shown::Shown;
 use bl_model::Reply;
 use bl_passes::Mine;
-use bl_proc::Hint;
+use bl_proc::{DeleteReply, Hint, Removed};
 use bl_store::{Glance, Hand};
 use bl_ways::{Level, hint_of_thin, row_in, thin_in, words_without};
 use std::sync::Wait;
@@ -41,9 +44,22 @@ fn hint_of(thin: Option<u64>) -> Option<Hint>
     }
 }
 
+/// What a deletion answers, with its hint.
+#[inline(always)]
+fn answer_of(reply: DeleteReply) -> (Reply, Option<Hint>)
+    ensures answer { deleted_answer reply ≡ answers.Op result.0 result.1 }
+    ensures no_room { result.0 ≡ replies.NoRoom → reply ≡ removal.NoRoom }
+{
+    match reply {
+        DeleteReply::Deleted(removed) => (Reply::Deleted(removed.value), hint_of(removed.thin)),
+        DeleteReply::Absent => (Reply::Absent, None),
+        DeleteReply::NoRoom => (Reply::NoRoom, None),
+    }
+}
+
 impl Index {
     /// The leaf that it holds does not have the key.
-    fn keep_absent(&self, hand: &mut Hand<Mine>, at: u32, errand: Deleting) -> (Reply, Option<Hint>)
+    fn keep_absent(&self, hand: &mut Hand<Mine>, at: u32, errand: Deleting) -> DeleteReply
         requires own { IsOf self.now.store.table.shared.table_id self.now.store.layout hand.old.seat }
         requires running { IsRunning hand.old.seat × HasNoStock hand.old.seat }
         requires process { IsOn self.now.store.layout (known hand.old.seat) (proc.Delete (record { key = errand.key; stage = delete.Absent at })) }
@@ -52,12 +68,12 @@ impl Index {
         ensures within { IsWithin hand.new.seat }
         ensures rests { (known hand.new.seat).runs ≡ false }
         ensures seen { IsSeen (trail_of (known hand.new.seat).trail) }
-        ensures deleted { (pass : ℕ) (old : Knows) → IsSince pass old (known hand.old.seat) → HasDeleted pass old (known hand.new.seat) (proc.Delete (record { key = errand.key; stage = delete.New })) result.0 result.1 }
-        ensures reply { result.0 ≡ replies.Absent }
+        ensures deleted { (pass : ℕ) (old : Knows) → IsSince pass old (known hand.old.seat) → HasDeletedBy pass old (known hand.new.seat) (proc.Delete (record { key = errand.key; stage = delete.New })) result }
+        ensures reply { result ≡ removal.Absent }
     {
         let _ = errand;
         self.conclude(hand, at);
-        (Reply::Absent, None)
+        DeleteReply::Absent
     }
 
     /// The key leaves the leaf that it holds, which has it with that value.
@@ -69,7 +85,7 @@ impl Index {
         errand: Deleting,
         value: u64,
         glance: Glance,
-    ) -> (Reply, Option<Hint>)
+    ) -> DeleteReply
         requires own { IsOf self.now.store.table.shared.table_id self.now.store.layout hand.old.seat }
         requires running { IsRunning hand.old.seat × HasNoStock hand.old.seat }
         requires reads { ReadsFrom hand.old.seat glance }
@@ -79,8 +95,8 @@ impl Index {
         ensures within { IsWithin hand.new.seat }
         ensures rests { (known hand.new.seat).runs ≡ false }
         ensures seen { IsSeen (trail_of (known hand.new.seat).trail) }
-        ensures deleted { (pass : ℕ) (old : Knows) → IsSince pass old (known hand.old.seat) → HasDeleted pass old (known hand.new.seat) (proc.Delete (record { key = errand.key; stage = delete.New })) result.0 result.1 }
-        ensures no_room { result.0 ≡ replies.NoRoom → WasRefused hand.new.seat 0 1 }
+        ensures deleted { (pass : ℕ) (old : Knows) → IsSince pass old (known hand.old.seat) → HasDeletedBy pass old (known hand.new.seat) (proc.Delete (record { key = errand.key; stage = delete.New })) result }
+        ensures no_room { result ≡ removal.NoRoom → WasRefused hand.new.seat 0 1 }
     {
         let shown = Shown {
             store: &self.store,
@@ -92,9 +108,9 @@ impl Index {
         let changed = self.replace(hand, at, &words);
         self.conclude(hand, at);
         if changed {
-            (Reply::Deleted(value), hint_of(thin))
+            DeleteReply::Deleted(Removed { value, thin })
         } else {
-            (Reply::NoRoom, None)
+            DeleteReply::NoRoom
         }
     }
 
@@ -106,7 +122,7 @@ impl Index {
         at: u32,
         errand: Deleting,
         glance: Glance,
-    ) -> (Reply, Option<Hint>)
+    ) -> DeleteReply
         requires own { IsOf self.now.store.table.shared.table_id self.now.store.layout hand.old.seat }
         requires running { IsRunning hand.old.seat × HasNoStock hand.old.seat }
         requires reads { ReadsFrom hand.old.seat glance }
@@ -117,8 +133,8 @@ impl Index {
         ensures within { IsWithin hand.new.seat }
         ensures rests { (known hand.new.seat).runs ≡ false }
         ensures seen { IsSeen (trail_of (known hand.new.seat).trail) }
-        ensures deleted { (pass : ℕ) (old : Knows) → IsSince pass old (known hand.old.seat) → HasDeleted pass old (known hand.new.seat) (proc.Delete (record { key = errand.key; stage = delete.New })) result.0 result.1 }
-        ensures no_room { result.0 ≡ replies.NoRoom → WasRefused hand.new.seat 0 1 }
+        ensures deleted { (pass : ℕ) (old : Knows) → IsSince pass old (known hand.old.seat) → HasDeletedBy pass old (known hand.new.seat) (proc.Delete (record { key = errand.key; stage = delete.New })) result }
+        ensures no_room { result ≡ removal.NoRoom → WasRefused hand.new.seat 0 1 }
     {
         let shown = Shown {
             store: &self.store,
@@ -150,6 +166,6 @@ impl Index {
         let errand = Deleting { key };
         self.depart(hand, &errand);
         let (at, glance) = self.come(rt, hand, &errand);
-        self.delete_there(hand, at, errand, glance)
+        answer_of(self.delete_there(hand, at, errand, glance))
     }
 }

@@ -10,6 +10,7 @@ ghost use Rattle.bl_proc.specs.declared.kinds.Proc.{Proc};
 ghost use Rattle.bl_proc.specs.Processes.{next_of};
 ghost use Rattle.bl_courses.specs.Courses.{GoesOn};
 ghost use Rattle.bl_courses.specs.Frames.{op_of, work_of};
+ghost use Rattle.bl_store.specs.Drafts.{IsSpread};
 ghost use Rattle.bl_store.specs.Hands.{known, read_words, IsOf, IsIdle, IsRunning, IsSameHand, IsSameStage, IsSameStock, HasNoStock, IsStockOf, ReadsFrom, WasRefused, IsSameRefusal};
 ghost use Rattle.bl_passes.specs.declared.known.Mine.{Mine as Knows};
 ghost use Rattle.bl_passes.specs.Noting.{trail_of};
@@ -20,7 +21,7 @@ ghost use Rattle.bl_index.specs.Events.{OpensLast};
 
 use crate::index::Index;
 use bl_passes::{Ended, Got, Mine, Opened, Put, Refused, Took, Tried};
-use bl_store::{Glance, Hand, Stock};
+use bl_store::{Glance, Hand, Spread, Stock};
 
 impl Index {
     /// The process gets the page.
@@ -90,6 +91,40 @@ impl Index {
             Ok(stock) => {
                 let mut stock = stock;
                 self.store.put::<Put>(hand, page, words, &mut stock);
+                true
+            }
+            Err(_) => false,
+        }
+    }
+
+    /// The process reserves a frame and puts the page, whose words are those that it looked at last, spread so, or is refused.
+    #[inline(always)]
+    pub(crate) fn replace_spread(
+        &self,
+        hand: &mut Hand<Mine>,
+        page: u32,
+        glance: Glance,
+        change: Spread,
+    ) -> bool
+        requires own { IsOf self.now.store.table.shared.table_id self.now.store.layout hand.old.seat }
+        requires running { IsRunning hand.old.seat }
+        requires process { IsOn self.now.store.layout (known hand.old.seat) (known hand.old.seat).state }
+        requires reads { ReadsFrom hand.old.seat glance }
+        requires place { change.place < 14 }
+        requires next { (c : Page) × (next_of (known hand.old.seat).state ≡ act.Put page c) × IsSpread change (read_words hand.old.seat) (words_of c) }
+        requires course { GoesOn (known hand.old.seat).state seen.Done × GoesOn (known hand.old.seat).state seen.Refused }
+        requires empty { HasNoStock hand.old.seat }
+        ensures same { IsSameHand hand.old.seat hand.new.seat × IsSameStage hand.old.seat hand.new.seat }
+        ensures empty { HasNoStock hand.new.seat }
+        ensures done { result ≡ true → Goes seen.Done (known hand.old.seat) (known hand.new.seat) }
+        ensures refused { result ≡ false → Goes seen.Refused (known hand.old.seat) (known hand.new.seat) }
+        ensures asked { result ≡ false → WasRefused hand.new.seat 0 1 }
+    {
+        match self.store.reserve::<Took, Refused>(hand, 0, 1) {
+            Ok(stock) => {
+                let mut stock = stock;
+                self.store
+                    .put_spread::<Put>(hand, page, glance, change, &mut stock);
                 true
             }
             Err(_) => false,

@@ -1,55 +1,67 @@
 //! Insertions, by the words of pages. A leaf that has room gets its new words from those that were read.
 
-ghost use Rattle.std.specs.Prelude.{◌≡◌, ℕ, ◌<◌, None, Some, false, length};
+ghost use Rattle.std.specs.Prelude.{◌≡◌, ℕ, ◌<◌, None, Some, false};
 ghost use Rattle.bl_model.specs.declared.operation.Reply.TheVariants as replies;
 ghost use Rattle.bl_page.specs.declared.page.Page.{Page};
 ghost use Rattle.bl_page.specs.Words.{words_of};
 ghost use Rattle.bl_laws.specs.Pages.{IsTreePage};
-ghost use Rattle.bl_rearrange.specs.Entered.{entered};
-ghost use Rattle.bl_rearrange.specs.Rearranged.{pairs_of};
 ghost use Rattle.bl_ways.specs.declared.answers.Answer.TheVariants as answers;
 ghost use Rattle.bl_ways.specs.declared.approaching.Approach.TheVariants as approach;
 ghost use Rattle.bl_ways.specs.declared.changing.Change.TheVariants as change;
 ghost use Rattle.bl_ways.specs.declared.changing.Full.{Full};
-ghost use Rattle.bl_ways.specs.declared.changing.Outcome.TheVariants as outcomes;
-ghost use Rattle.bl_ways.specs.Respelled.{words_by};
+ghost use Rattle.bl_proc.specs.declared.inserting.InsertReply.TheVariants as inserted;
 ghost use Rattle.bl_proc.specs.declared.inserting.InsertStage.TheVariants as insert;
 ghost use Rattle.bl_proc.specs.Inserts.{insert_reply, inserted_answer};
 ghost use Rattle.bl_proc.specs.declared.kinds.Proc.TheVariants as proc;
+ghost use Rattle.bl_store.specs.Drafts.{IsSpread};
 ghost use Rattle.bl_store.specs.Hands.{known, read_words, IsOf, IsIdle, IsRunning, IsSameHand, HasNoStock, ReadsFrom};
 ghost use Rattle.bl_passes.specs.declared.known.Mine.{Mine as Knows};
 ghost use Rattle.bl_passes.specs.Noting.{trail_of};
 ghost use Rattle.bl_passes.specs.Seeing.{IsSeen};
 ghost use Rattle.bl_index.specs.Runs.{IsOn, IsSince, IsWithin};
-ghost use Rattle.bl_index.specs.Events.{IsThere, HasInserted};
+ghost use Rattle.bl_index.specs.Events.{IsThere, HasInserted, HasInsertedBy};
 ghost use Rattle.bl_index.specs.Rooms.{LacksRoom};
 
 use crate::errands::Inserting;
 use crate::index::Index;
+use crate::placing::listed_at;
 use crate::shown::Shown;
 use bl_model::Reply;
-use bl_page::{LEVEL_UNIT, WordSource, words_from};
+use bl_page::{LEVEL_UNIT, WordSource, place_in, words_from};
 use bl_passes::Mine;
-use bl_proc::Hint;
-use bl_store::{Glance, Hand};
-use bl_ways::{Level, Outcome, row_in, words_with};
+use bl_proc::{Hint, InsertReply};
+use bl_store::{Glance, Hand, Spread};
+use bl_ways::{Level, Outcome};
 use std::sync::Wait;
 
-/// The reply of an insertion, and its hint, by what became of its leaf.
-fn inserted_by(outcome: Outcome) -> (Reply, Option<Hint>)
-    ensures answer { inserted_answer (insert_reply outcome) ≡ answers.Op result.0 result.1 }
-    ensures no_room { result.0 ≡ replies.NoRoom → outcome ≡ outcomes.Refused }
+/// The reply of an insertion, by what became of its leaf.
+fn inserted_by(outcome: Outcome) -> InsertReply
+    ensures { result ≡ insert_reply outcome }
 {
     match outcome {
-        Outcome::Changed => (Reply::Inserted, None),
-        Outcome::Parted(separator) => {
+        Outcome::Changed => InsertReply::Inserted(None),
+        Outcome::Parted(separator) => InsertReply::Inserted(Some(separator)),
+        Outcome::Refused => InsertReply::NoRoom,
+    }
+}
+
+/// What an insertion answers, with its hint.
+#[inline(always)]
+fn answer_of(reply: InsertReply) -> (Reply, Option<Hint>)
+    ensures answer { inserted_answer reply ≡ answers.Op result.0 result.1 }
+    ensures no_room { result.0 ≡ replies.NoRoom → reply ≡ inserted.NoRoom }
+{
+    match reply {
+        InsertReply::Inserted(None) => (Reply::Inserted, None),
+        InsertReply::Inserted(Some(separator)) => {
             let hint = Hint::Post {
                 level: Level::new(1),
                 key: separator,
             };
             (Reply::Inserted, Some(hint))
         }
-        Outcome::Refused => (Reply::NoRoom, None),
+        InsertReply::Present(value) => (Reply::Present(value), None),
+        InsertReply::NoRoom => (Reply::NoRoom, None),
     }
 }
 
@@ -61,7 +73,7 @@ impl Index {
         at: u32,
         errand: Inserting,
         there: u64,
-    ) -> (Reply, Option<Hint>)
+    ) -> InsertReply
         requires own { IsOf self.now.store.table.shared.table_id self.now.store.layout hand.old.seat }
         requires running { IsRunning hand.old.seat × HasNoStock hand.old.seat }
         requires process { IsOn self.now.store.layout (known hand.old.seat) (proc.Insert (record { key = errand.key; value = errand.value; stage = insert.Present at there })) }
@@ -70,15 +82,15 @@ impl Index {
         ensures within { IsWithin hand.new.seat }
         ensures rests { (known hand.new.seat).runs ≡ false }
         ensures seen { IsSeen (trail_of (known hand.new.seat).trail) }
-        ensures inserted { (pass : ℕ) (old : Knows) → IsSince pass old (known hand.old.seat) → HasInserted pass old (known hand.new.seat) (proc.Insert (record { key = errand.key; value = errand.value; stage = insert.New })) result.0 result.1 }
-        ensures reply { result.0 ≡ replies.Present there }
+        ensures inserted { (pass : ℕ) (old : Knows) → IsSince pass old (known hand.old.seat) → HasInsertedBy pass old (known hand.new.seat) (proc.Insert (record { key = errand.key; value = errand.value; stage = insert.New })) result }
+        ensures reply { result ≡ inserted.Present there }
     {
         let _ = errand;
         self.conclude(hand, at);
-        (Reply::Present(there), None)
+        InsertReply::Present(there)
     }
 
-    /// The pair enters the leaf that it holds, which has room.
+    /// The pair enters the leaf that it holds, which has room: its words are spread so.
     #[inline(always)]
     fn enter(
         &self,
@@ -86,31 +98,28 @@ impl Index {
         at: u32,
         errand: Inserting,
         glance: Glance,
-    ) -> (Reply, Option<Hint>)
+        spread: Spread,
+    ) -> InsertReply
         requires own { IsOf self.now.store.table.shared.table_id self.now.store.layout hand.old.seat }
         requires running { IsRunning hand.old.seat × HasNoStock hand.old.seat }
         requires reads { ReadsFrom hand.old.seat glance }
-        requires page { (c : Page) × (p : Page) × IsTreePage c × (read_words hand.old.seat ≡ words_of c) × (length (pairs_of c) < 14) × (words_of p ≡ words_by c (entered errand.key errand.value (pairs_of c))) × IsOn self.now.store.layout (known hand.old.seat) (proc.Insert (record { key = errand.key; value = errand.value; stage = insert.Changing (change.Putting at p) })) }
+        requires place { spread.place < 14 }
+        requires page { (p : Page) × IsSpread spread (read_words hand.old.seat) (words_of p) × IsOn self.now.store.layout (known hand.old.seat) (proc.Insert (record { key = errand.key; value = errand.value; stage = insert.Changing (change.Putting at p) })) }
         ensures same { IsSameHand hand.old.seat hand.new.seat }
         ensures idle { IsIdle hand.new.seat × HasNoStock hand.new.seat }
         ensures within { IsWithin hand.new.seat }
         ensures rests { (known hand.new.seat).runs ≡ false }
         ensures seen { IsSeen (trail_of (known hand.new.seat).trail) }
-        ensures inserted { (pass : ℕ) (old : Knows) → IsSince pass old (known hand.old.seat) → HasInserted pass old (known hand.new.seat) (proc.Insert (record { key = errand.key; value = errand.value; stage = insert.New })) result.0 result.1 }
-        ensures no_room { result.0 ≡ replies.NoRoom → LacksRoom hand.new.seat }
+        ensures inserted { (pass : ℕ) (old : Knows) → IsSince pass old (known hand.old.seat) → HasInsertedBy pass old (known hand.new.seat) (proc.Insert (record { key = errand.key; value = errand.value; stage = insert.New })) result }
+        ensures no_room { result ≡ inserted.NoRoom → LacksRoom hand.new.seat }
     {
-        let shown = Shown {
-            store: &self.store,
-            glance,
-        };
-        let mut words = [0; 32];
-        words_with(&shown, hand, errand.key, errand.value, &mut words);
-        let changed = self.replace(hand, at, &words);
+        let _ = errand;
+        let changed = self.replace_spread(hand, at, glance, spread);
         self.conclude(hand, at);
         if changed {
-            (Reply::Inserted, None)
+            InsertReply::Inserted(None)
         } else {
-            (Reply::NoRoom, None)
+            InsertReply::NoRoom
         }
     }
 
@@ -122,7 +131,7 @@ impl Index {
         at: u32,
         errand: Inserting,
         glance: Glance,
-    ) -> (Reply, Option<Hint>)
+    ) -> InsertReply
         requires own { IsOf self.now.store.table.shared.table_id self.now.store.layout hand.old.seat }
         requires running { IsRunning hand.old.seat × HasNoStock hand.old.seat }
         requires reads { ReadsFrom hand.old.seat glance }
@@ -132,8 +141,8 @@ impl Index {
         ensures within { IsWithin hand.new.seat }
         ensures rests { (known hand.new.seat).runs ≡ false }
         ensures seen { IsSeen (trail_of (known hand.new.seat).trail) }
-        ensures inserted { (pass : ℕ) (old : Knows) → IsSince pass old (known hand.old.seat) → HasInserted pass old (known hand.new.seat) (proc.Insert (record { key = errand.key; value = errand.value; stage = insert.New })) result.0 result.1 }
-        ensures no_room { result.0 ≡ replies.NoRoom → LacksRoom hand.new.seat }
+        ensures inserted { (pass : ℕ) (old : Knows) → IsSince pass old (known hand.old.seat) → HasInsertedBy pass old (known hand.new.seat) (proc.Insert (record { key = errand.key; value = errand.value; stage = insert.New })) result }
+        ensures no_room { result ≡ inserted.NoRoom → LacksRoom hand.new.seat }
     {
         let shown = Shown {
             store: &self.store,
@@ -153,7 +162,7 @@ impl Index {
         at: u32,
         errand: Inserting,
         glance: Glance,
-    ) -> (Reply, Option<Hint>)
+    ) -> InsertReply
         requires own { IsOf self.now.store.table.shared.table_id self.now.store.layout hand.old.seat }
         requires running { IsRunning hand.old.seat × HasNoStock hand.old.seat }
         requires reads { ReadsFrom hand.old.seat glance }
@@ -164,18 +173,27 @@ impl Index {
         ensures within { IsWithin hand.new.seat }
         ensures rests { (known hand.new.seat).runs ≡ false }
         ensures seen { IsSeen (trail_of (known hand.new.seat).trail) }
-        ensures inserted { (pass : ℕ) (old : Knows) → IsSince pass old (known hand.old.seat) → HasInserted pass old (known hand.new.seat) (proc.Insert (record { key = errand.key; value = errand.value; stage = insert.New })) result.0 result.1 }
-        ensures no_room { result.0 ≡ replies.NoRoom → LacksRoom hand.new.seat }
+        ensures inserted { (pass : ℕ) (old : Knows) → IsSince pass old (known hand.old.seat) → HasInsertedBy pass old (known hand.new.seat) (proc.Insert (record { key = errand.key; value = errand.value; stage = insert.New })) result }
+        ensures no_room { result ≡ inserted.NoRoom → LacksRoom hand.new.seat }
     {
         let shown = Shown {
             store: &self.store,
             glance,
         };
-        if let Some(there) = row_in(&shown, hand, errand.key) {
+        let head = shown.word(hand, 0);
+        let count = (head % LEVEL_UNIT) as usize;
+        let place = place_in(&shown, hand, count, errand.key);
+        if let Some(there) = listed_at(&shown, hand, place, errand.key) {
             return self.keep_present(hand, at, errand, there);
         }
-        if shown.word(hand, 0) % LEVEL_UNIT < 14 {
-            self.enter(hand, at, errand, glance)
+        if count < 14 {
+            let spread = Spread {
+                first: head + 1,
+                place,
+                key: errand.key,
+                word: errand.value,
+            };
+            self.enter(hand, at, errand, glance, spread)
         } else {
             self.part_leaf(hand, at, errand, glance)
         }
@@ -202,6 +220,6 @@ impl Index {
         let errand = Inserting { key, value };
         self.depart(hand, &errand);
         let (at, glance) = self.come(rt, hand, &errand);
-        self.insert_there(hand, at, errand, glance)
+        answer_of(self.insert_there(hand, at, errand, glance))
     }
 }

@@ -25,6 +25,7 @@ mod listing;
 mod meeting;
 mod opening;
 mod parting;
+mod placing;
 mod posting;
 mod running;
 mod scanning;

@@ -2,6 +2,7 @@
 ghost use Rattle.std.specs.Prelude.{◌≡◌, ℕ, ◌+◌, ◌*◌, ◌-◌, ◌<◌, ◌≤◌, List, [], ◌∷◌, length, slice_index};
 ghost use Rattle.bl_layout.specs.Words.{frame_count};
 ghost use Rattle.bl_store.specs.Drafts.{draft_words, other_drafts, HasDraft, IsSpread};
+ghost use Rattle.bl_store.specs.Frames.{place_at};
 ghost use Rattle.bl_store.specs.Pages.{Held, Puts};
 ghost use Rattle.bl_store.specs.Hands.{known, read_words, IsOf, IsSameHand, IsSameReading, IsSameStage, IsQuiet, IsStockOf, HasRetired, ReadsFrom};
 ghost use Rattle.bl_store.specs.Told.{draft};
@@ -123,18 +124,18 @@ impl<D, R: PageRule<D>, A: Allocator> Store<D, R, A> {
         }
     }
 
-    // The next word of the frame that was reserved last, which has so many.
+    // The next word of the frame that was reserved last, which has so many. The first one stands
+    // there in the table.
     #[inline(always)]
-    fn write_next(&self, hand: &mut Hand<D>, frame: u32, at: usize, word: u64)
+    fn write_next(&self, hand: &mut Hand<D>, frame: u32, first: usize, at: usize, word: u64)
         requires own { IsOf self.now.table.shared.table_id self.now.layout hand.old.seat }
-        requires frame { frame < frame_count self.now.layout }
+        requires frame { (frame < frame_count self.now.layout) × (first ≡ place_at self.now.layout frame 0) }
         requires draft { (at < 32) × HasDraft hand.old.seat frame at }
         ensures same { IsQuiet hand.old.seat hand.new.seat × IsSameReading hand.old.seat hand.new.seat }
         ensures draft { HasDraft hand.new.seat frame (at + 1) × (other_drafts hand.new.seat ≡ other_drafts hand.old.seat) }
         ensures kept { (k : ℕ) → k < at → slice_index (draft_words hand.new.seat) k ≡ slice_index (draft_words hand.old.seat) k }
         ensures there { slice_index (draft_words hand.new.seat) at ≡ word }
     {
-        let first = self.layout.frame_word(frame, 0);
         self.table
             .shared
             .store::<Write>(&mut hand.seat, first + at, word);
@@ -147,13 +148,14 @@ impl<D, R: PageRule<D>, A: Allocator> Store<D, R, A> {
         &self,
         hand: &mut Hand<D>,
         frame: u32,
+        first: usize,
         glance: Glance,
         from: usize,
         upto: usize,
         source: usize,
     )
         requires own { IsOf self.now.table.shared.table_id self.now.layout hand.old.seat }
-        requires frame { frame < frame_count self.now.layout }
+        requires frame { (frame < frame_count self.now.layout) × (first ≡ place_at self.now.layout frame 0) }
         requires reads { ReadsFrom hand.old.seat glance }
         requires range { (from ≤ upto) × (upto ≤ 32) × (source ≤ from) }
         requires draft { HasDraft hand.old.seat frame from }
@@ -164,7 +166,7 @@ impl<D, R: PageRule<D>, A: Allocator> Store<D, R, A> {
     {
         for at in from..upto {
             let word = self.word(hand, glance, at - from + source);
-            self.write_next(hand, frame, at, word);
+            self.write_next(hand, frame, first, at, word);
         }
     }
 
@@ -181,11 +183,12 @@ impl<D, R: PageRule<D>, A: Allocator> Store<D, R, A> {
         ensures words { IsSpread change (read_words hand.old.seat) (draft_words hand.new.seat) }
     {
         let place = change.place;
-        self.write_next(hand, frame, 0, change.first);
-        self.carry(hand, frame, glance, 1, 4 + 2 * place, 1);
-        self.write_next(hand, frame, 4 + 2 * place, change.key);
-        self.write_next(hand, frame, 5 + 2 * place, change.word);
-        self.carry(hand, frame, glance, 6 + 2 * place, 32, 4 + 2 * place);
+        let first = self.layout.frame_word(frame, 0);
+        self.write_next(hand, frame, first, 0, change.first);
+        self.carry(hand, frame, first, glance, 1, 4 + 2 * place, 1);
+        self.write_next(hand, frame, first, 4 + 2 * place, change.key);
+        self.write_next(hand, frame, first, 5 + 2 * place, change.word);
+        self.carry(hand, frame, first, glance, 6 + 2 * place, 32, 4 + 2 * place);
     }
 
     // The frame that the hand took from a page is retired, at a time that no other has.

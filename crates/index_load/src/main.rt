@@ -1,9 +1,9 @@
-//! A load on an index, for `bench/index` and `bench/scan`: so many threads insert so many rows in an order that looks random, and
+//! A load on an index, for `bench/index`, `bench/scan` and `checks/crowding`: so many threads insert so many rows in an order that looks random, and
 //! then each does so many searches, so many operations of which half are searches, and so many scans of about 100 rows. It
 //! prints how many replies were as they should be and how many rows were listed, and measures nothing itself.
 #![tactic(auto)]
 
-ghost use Rattle.std.specs.Prelude.{◌≡◌, ◌≤◌, ◌<◌, All, IfSome};
+ghost use Rattle.std.specs.Prelude.{◌≡◌, ◌+◌, ◌*◌, ◌≤◌, ◌<◌, All, IfSome};
 ghost use Rattle.bl_index.specs.Calls.{IsPassOf};
 
 use bl_index::{Config, Index, Pass};
@@ -23,7 +23,7 @@ struct Load {
     finds: u64,
     mixed: u64,
     scans: u64,
-    ghost threads_within: { (1 ≤ threads) × (threads ≤ 4) },
+    ghost threads_within: { (1 ≤ threads) × (threads ≤ 16) },
 }
 
 /// How many levels a tree may have: a split is followed by at most one post on each.
@@ -32,6 +32,9 @@ const LEVELS: u32 = 12;
 /// The number of the first pass that works. The passes before it make the frames begin with a cache line where the system's
 /// allocator puts a large block 16 bytes behind the begin of a line, as glibc's does.
 const FIRST: usize = 5;
+
+/// So many threads at most.
+const MOST_THREADS: u32 = 16;
 
 /// The parts of a load, one after another.
 #[derive(Clone, Copy)]
@@ -52,7 +55,7 @@ impl Load {
         let finds = finds.parse::<u64>().ok()?;
         let mixed = mixed.parse::<u64>().ok()?;
         let scans = scans.parse::<u64>().ok()?;
-        if threads < 1 || threads > 4 {
+        if threads < 1 || threads > MOST_THREADS {
             return None;
         }
         Some(Load {
@@ -247,7 +250,7 @@ fn run<R: Threads + Wait + Sync>(
     thread::for_each_mut(
         rt,
         passes,
-        4,
+        MOST_THREADS as usize,
         &|place, pass| {
             let place = place as u64;
             let mine = match part {
@@ -262,16 +265,26 @@ fn run<R: Threads + Wait + Sync>(
     done.load(Ordering::SeqCst)
 }
 
-// Every eighth pass from the back. A begin and an end write to a word of their pass, these words follow each other, and a
-// cache line holds eight words: so no two of these passes write to one line.
-fn every_eighth(alloc: Global, index: &Index, passes: Vec<Pass>) -> Option<Vec<Pass>>
-    requires { All (IsPassOf index.now) passes.items }
+// How far the passes that work are apart. A begin and an end write to a word of their pass, these words follow each other,
+// and a cache line holds eight words: so no two of seven passes write to one line. Of more than that some do.
+fn spacing(threads: u32) -> u32
+    requires { (1 ≤ threads) × (threads ≤ 16) }
+    ensures { (1 ≤ result) × (result * threads + 5 ≤ 64) }
+{
+    if threads <= 7 { 8 } else { 59 / threads }
+}
+
+// Of the passes that many apart, from the back.
+fn spaced(alloc: Global, index: &Index, passes: Vec<Pass>, spacing: u32) -> Option<Vec<Pass>>
+    requires apart { 1 ≤ spacing }
+    requires passes { All (IsPassOf index.now) passes.items }
     ensures { IfSome result (λ v. All (IsPassOf index.now) v.items) }
 {
     let mut passes = passes;
     let mut apart = Vec::new(alloc);
     while let Some(pass) = passes.pop() {
-        if passes.len() % 8 == FIRST {
+        let number = passes.len();
+        if number >= FIRST && (number - FIRST) % spacing as usize == 0 {
             apart.push(pass).ok()?;
         }
     }
@@ -282,13 +295,14 @@ fn every_eighth(alloc: Global, index: &Index, passes: Vec<Pass>) -> Option<Vec<P
 fn opened(alloc: Global, load: Load) -> Option<(Index, Vec<Pass>)>
     ensures { IfSome result (λ t. All (IsPassOf t.0) t.1.items) }
 {
+    let spacing = spacing(load.threads);
     let config = Config {
         pages: 65_536,
-        passes: 8 * load.threads + FIRST as u32,
+        passes: spacing * load.threads + FIRST as u32,
     };
     match Index::open(alloc, config) {
         Ok((index, passes)) => {
-            let apart = every_eighth(alloc, &index, passes)?;
+            let apart = spaced(alloc, &index, passes, spacing)?;
             Some((index, apart))
         }
         Err(_) => None,

@@ -11,7 +11,7 @@ use Rattle.bl_passes.specs.Fitting.{name}
 use Rattle.bl_index.specs.Runs.{IsSince}
 use Rattle.bl_index.proofs.Calls.{since_step}
 use Rattle.bl_courses.proofs.RefusedAnswers.{answers_refused}
-use Rattle.bl_index.proofs.Rooms.{KeepsRoom, keeps_room, ends_room, free_room}
+use Rattle.bl_index.proofs.Rooms.{keeps_room, stays_room, ends_room}
 use Rattle.bl_index.proofs.index.Index.carry_on.Goals as goal
 
 pub loop-preserved : goal.loop-preserved
@@ -29,7 +29,7 @@ loop-preserved g c =
       op = follows.op ∙ inv.op;
       work = follows.work ∙ inv.work;
       reserved = after.2;
-      room = keeps_room _ _ _ _ _ after.3.2 after.3.3 after.4 inv.room;
+      room = keeps_room c.loop.hand.seat c.step.new.hand.seat (g.P.Kind.proc_of c.loop.process) after.3.0 (g.P.Kind.proc_of c.step.new.process) after.3.2 after.3.3 after.4 inv.room;
     }
 
 pub returns-in-AtEnd-clause-done : goal.returns-in-AtEnd-clause-done
@@ -56,5 +56,6 @@ returns-in-AtEnd-clause-no_room g c = λ a is none.
     let laws = g.met.P.Kind in
     let inv = c.loop.invariant in
     let after = c.in-AtEnd.ensures.after in
-    let keeps = subst (λ (z : Mine × Proc). KeepsRoom c.step.new.hand.seat z.1) refl inv.room in
-    ends_room _ _ _ _ (laws.goes _ _ _ c.finish.ensures.takes) c.finish.ensures.refusal keeps (answers_refused _ a (laws.answers c.finish.new.process ∙ is) none)
+    let p = g.P.Kind.proc_of c.loop.process in let q = g.P.Kind.proc_of c.step.new.process in
+    let keeps = stays_room c.loop.hand.seat c.step.new.hand.seat p q after.1 after.4 inv.room in
+    ends_room c.step.new.hand.seat c.finish.new.hand.seat q (g.P.Kind.proc_of c.finish.new.process) (laws.goes _ _ _ c.finish.ensures.takes) c.finish.ensures.refusal keeps (answers_refused _ a (laws.answers c.finish.new.process ∙ is) none)

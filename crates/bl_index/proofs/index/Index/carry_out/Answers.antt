@@ -1,3 +1,4 @@
+use Rattle.bl_ways.specs.declared.acts.Seen.TheVariants as seen
 use Rattle.std.proofs.Common.{inl, inr}
 use Rattle.bl_courses.proofs.RefusedTurns.{takes_refused, takes_puts}
 use Rattle.bl_index.proofs.Rooms.{done_not_refused}
@@ -12,4 +13,5 @@ returns-clause-done g c =
 pub carry_on-requires-clause-free : goal.carry_on-requires-clause-free
 carry_on-requires-clause-free g c =
     let takes = g.met.P.Kind.goes _ _ _ c.begin.ensures.takes in
-    ((λ r. elim (takes_refused _ _ _ takes r) [ inl was ↦ c.requires.free.0 was | inr told ↦ done_not_refused told ]), λ r. c.requires.free.1 (takes_puts _ _ _ takes r))
+    let p = g.P.Kind.proc_of c.args.process in let q = g.P.Kind.proc_of c.begin.new.process in
+    ((λ r. elim (takes_refused p seen.Done q takes r) [ inl was ↦ c.requires.free.0 was | inr told ↦ done_not_refused told ]), λ r. c.requires.free.1 (takes_puts p seen.Done q takes r))

@@ -16,4 +16,4 @@ pub carry_out-process-requires-clause-free : goal.carry_out-process-requires-cla
 carry_out-process-requires-clause-free g c = let new = sym c.new-compress.ensures.stage in (λ r. subst CompressRefused (sym new) r, λ r. subst CompressPuts (sym new) r)
 
 pub returns-clause-no_room : goal.returns-clause-no_room
-returns-clause-no_room g c = λ none. lacks_three _ _ (c.carry_out-process.ensures.no_room _ (sym c.answer.ensures ∙ c.squeezed.ensures) (subst (λ (z : Squeezed). IsNoRoom (answer.Compress z c.squeezed.result.1)) (sym none) tt))
+returns-clause-no_room g c = λ none. lacks_three c.carry_out-process.new.hand.seat c.carry_out-process.result (c.carry_out-process.ensures.no_room _ (sym c.answer.ensures ∙ c.squeezed.ensures) (subst (λ (z : Squeezed). IsNoRoom (answer.Compress z c.squeezed.result.1)) (sym none) tt))

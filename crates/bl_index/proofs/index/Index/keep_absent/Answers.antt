@@ -11,7 +11,7 @@ conclude-requires-clause-opens c =
     (deleting key (delete.Ending deleted.Absent), deleting key (delete.Over deleted.Absent), opens_at _ _ _ _ _ c.requires.process.state (opens_absent key c.args.at))
 
 pub returns-clause-deleted : goal.returns-clause-deleted
-returns-clause-deleted c = λ pass old since.
+returns-clause-deleted c = λ pass old since reply hint e.
     let key = c.args.errand.key in
     let opens = opens_at _ _ _ _ _ c.requires.process.state (opens_absent key c.args.at) in
-    has_deleted key pass old _ deleted.Absent _ _ (c.conclude.ensures.done pass old (deleting key delete.New) (deleting key (delete.Ending deleted.Absent)) (deleting key (delete.Over deleted.Absent)) since opens refl refl) refl
+    has_deleted key pass old _ deleted.Absent _ _ (c.conclude.ensures.done pass old (deleting key delete.New) (deleting key (delete.Ending deleted.Absent)) (deleting key (delete.Over deleted.Absent)) since opens refl refl) e

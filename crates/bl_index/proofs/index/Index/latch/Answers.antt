@@ -15,7 +15,7 @@ pub try_latch-requires-clause-misses : goal.try_latch-requires-clause-misses
 try_latch-requires-clause-misses g c = let laws = g.met.P.Kind in misses_page _ _ (known c.args.hand.now.seat) c.requires.process.runs _ (ap next_of c.requires.process.state ∙ (laws.acts c.args.process.now ∙ c.requires.next.1)) (subst (λ (z : Proc). GoesOn z seen.Missed) (sym c.requires.process.state) (laws.courses c.args.process.now seen.Missed c.requires.next.0 (rw c.requires.next.1 tt)))
 
 pub returns-then-try_latch-clause-takes : goal.returns-then-try_latch-clause-takes
-returns-then-try_latch-clause-takes g c = (seen.Done, c.took.ensures, tells_done _ _ _ (λ x opens. absurd (latch_opens_not (g.met.P.Kind.acts c.args.process.now ∙ c.requires.next.1) x opens)))
+returns-then-try_latch-clause-takes g c = (seen.Done, c.took.ensures, tells_done c.args.hand.now.seat c.try_latch.new.hand.seat (g.P.Kind.proc_of c.args.process.now) (λ x opens. absurd (latch_opens_not (g.P.Kind.proc_of c.args.process.now) _ (g.met.P.Kind.acts c.args.process.now ∙ c.requires.next.1) x opens)))
 
 pub returns-else-try_latch-clause-takes : goal.returns-else-try_latch-clause-takes
-returns-else-try_latch-clause-takes g c = (seen.Missed, c.took-2.ensures, tells_missed _ _ _ _ (g.met.P.Kind.acts c.args.process.now ∙ c.requires.next.1))
+returns-else-try_latch-clause-takes g c = (seen.Missed, c.took-else-try_latch.ensures, tells_missed c.args.hand.now.seat c.try_latch.new.hand.seat (g.P.Kind.proc_of c.args.process.now) _ (g.met.P.Kind.acts c.args.process.now ∙ c.requires.next.1))

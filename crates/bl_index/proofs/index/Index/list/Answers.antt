@@ -28,7 +28,7 @@ returns-clause-over c =
       c.conclude.ensures.within,
       c.conclude.ensures.rests,
       c.conclude.ensures.seen,
-      (λ none. lacks_on _ _ c.conclude.ensures.refusal (c.enter_page-outcome.ensures.asked (reply_refused o (sym c.reply_by.ensures ∙ c.posted_by.ensures.no_room none)))),
+      (λ none. lacks_on c.enter_page-outcome.new.hand.seat c.conclude.new.hand.seat c.conclude.ensures.refusal (c.enter_page-outcome.ensures.asked (reply_refused o (sym c.reply_by.ensures ∙ c.posted_by.ensures.no_room none)))),
       λ pass old since. record {
         last = record { level = j.level; key = j.key; stage = post.Over (post_reply o); least = j.least; most = j.most; below = may_reply j o below };
         done = c.conclude.ensures.done pass old (posting j post.New tt) (posting j (post.Ending (post_reply o)) (may_reply j o below)) (posting j (post.Over (post_reply o)) (may_reply j o below)) (c.enter_page-outcome.ensures.since pass old since) opens refl refl;

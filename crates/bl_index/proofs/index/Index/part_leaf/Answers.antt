@@ -1,13 +1,14 @@
-use Rattle.std.proofs.Common.{inr, refl, sym, subst, ◌∙◌}
+use Rattle.std.proofs.Common.{inr, refl, sym, ap, subst, ◌∙◌}
 use Rattle.bl_ways.specs.declared.changing.Change.TheVariants as change
 use Rattle.bl_proc.specs.declared.inserting.InsertStage.TheVariants as insert
-use Rattle.bl_proc.specs.Inserts.{insert_reply}
+use Rattle.bl_proc.specs.Inserts.{insert_reply, inserted_answer}
 use Rattle.bl_store.specs.Hands.{known}
 use Rattle.bl_store.specs.declared.store.Hand.{Hand}
 use Rattle.bl_passes.specs.declared.known.Mine.{Mine}
 use Rattle.bl_index.specs.Runs.{IsOn, IsSince}
 use Rattle.bl_index.proofs.Standing.{on_itself, opens_at}
 use Rattle.bl_index.proofs.Inserted.{inserting, opens_changed, has_inserted}
+use Rattle.bl_index.proofs.Rooms.{insert_refused}
 use Rattle.bl_index.proofs.index.Index.part_leaf.Goals as goal
 
 pub part_full-outcome-requires-clause-full : goal.part_full-outcome-requires-clause-full
@@ -25,12 +26,12 @@ conclude-requires-clause-opens c =
     (inserting key value (insert.Ending (insert_reply o)), inserting key value (insert.Over (insert_reply o)), opens_at _ _ _ _ _ c.part_full-outcome.ensures.process.state (opens_changed key value c.args.at o))
 
 pub returns-clause-inserted : goal.returns-clause-inserted
-returns-clause-inserted c = λ pass old since.
+returns-clause-inserted c = λ pass old since reply hint e.
     let key = c.args.errand.key in let value = c.args.errand.value in let o = c.part_full-outcome.result in
     let opens = opens_at _ _ _ _ _ c.part_full-outcome.ensures.process.state (opens_changed key value c.args.at o) in
     let after = c.part_full-outcome.ensures.since pass old (subst (λ (h : Hand Mine). IsSince pass old (known h.seat)) (sym c.words_from-words.ensures.same) since) in
     has_inserted key value pass old _ (insert_reply o) _ _ (c.conclude.ensures.done pass old (inserting key value insert.New) (inserting key value (insert.Ending (insert_reply o))) (inserting key value (insert.Over (insert_reply o))) after opens refl refl)
-    c.inserted_by.ensures.answer
+    (ap inserted_answer (sym c.inserted_by.ensures) ∙ e)
 
 pub returns-clause-no_room : goal.returns-clause-no_room
-returns-clause-no_room c = λ none. inr (c.conclude.ensures.refusal ∙ c.part_full-outcome.ensures.asked (c.inserted_by.ensures.no_room none))
+returns-clause-no_room c = λ none. inr (c.conclude.ensures.refusal ∙ c.part_full-outcome.ensures.asked (insert_refused _ (sym c.inserted_by.ensures ∙ none)))

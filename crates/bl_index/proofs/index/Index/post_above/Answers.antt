@@ -41,7 +41,7 @@ returns-clause-over g c =
       c.carry_on-process.ensures.within,
       c.carry_on-process.ensures.rests,
       c.carry_on-process.ensures.seen,
-      (λ none. lacks_asked _ _ (c.carry_on-process.ensures.no_room _ (sym c.answer.ensures ∙ c.posted.ensures) (subst (λ (z : Posted). IsNoRoom (answer.Post z c.posted.result.1)) (sym none) tt))),
+      (λ none. lacks_asked c.carry_on-process.new.hand.seat c.carry_on-process.result (c.carry_on-process.ensures.no_room _ (sym c.answer.ensures ∙ c.posted.ensures) (subst (λ (z : Posted). IsNoRoom (answer.Post z c.posted.result.1)) (sym none) tt))),
       λ pass old begun.
           let since = subst (λ (h : Hand Mine). IsSince pass old (known h.seat)) (sym c.took_words.ensures.same) begun in
           record {
@@ -55,4 +55,5 @@ pub carry_on-process-requires-clause-free : goal.carry_on-process-requires-claus
 carry_on-process-requires-clause-free g c =
     let anchor = c.requires.anchor in
     let takes = c.took_words.ensures.takes anchor.0 anchor.1 in
-    ((λ r. elim (takes_refused _ (seen.Words anchor.0) (proc.Post c.took_words.new.self) takes r) [ inl was ↦ was | inr told ↦ words_not_refused _ told ]), λ r. takes_puts _ (seen.Words anchor.0) (proc.Post c.took_words.new.self) takes r)
+    let j = c.args.errand in let start = posting j (post.Coming approach.Start) tt in
+    ((λ r. elim (takes_refused start (seen.Words anchor.0) (proc.Post c.took_words.new.self) takes r) [ inl was ↦ was | inr told ↦ words_not_refused _ told ]), λ r. takes_puts start (seen.Words anchor.0) (proc.Post c.took_words.new.self) takes r)

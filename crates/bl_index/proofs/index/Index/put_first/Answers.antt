@@ -12,7 +12,7 @@ pub reserve-requires-clause-refuses : goal.reserve-requires-clause-refuses
 reserve-requires-clause-refuses g c = let laws = g.met.P.Kind in refuses_put _ _ (known c.args.hand.now.seat) c.requires.process.runs _ c.args.contents.now (ap next_of c.requires.process.state ∙ (laws.acts c.args.process.now ∙ c.requires.next.1)) (subst (λ (z : Proc). GoesOn z seen.Refused) (sym c.requires.process.state) (laws.courses c.args.process.now seen.Refused c.requires.next.0 (rw (c.requires.next.1, c.requires.needs.0) refl)))
 
 pub returns-in-Ok-clause-takes : goal.returns-in-Ok-clause-takes
-returns-in-Ok-clause-takes g c = (seen.Done, c.put_with.ensures.takes, tells_done _ _ _ (λ x opens. absurd (put_opens_not (g.met.P.Kind.acts c.args.process.now ∙ c.requires.next.1) x opens)))
+returns-in-Ok-clause-takes g c = (seen.Done, c.put_with.ensures.takes, tells_done c.args.hand.now.seat c.put_with.new.hand.seat (g.P.Kind.proc_of c.args.process.now) (λ x opens. absurd (put_opens_not (g.P.Kind.proc_of c.args.process.now) _ _ (g.met.P.Kind.acts c.args.process.now ∙ c.requires.next.1) x opens)))
 
 pub returns-in-Err-clause-takes : goal.returns-in-Err-clause-takes
-returns-in-Err-clause-takes g c = (seen.Refused, c.took.ensures, tells_refused _ _ _ (0, c.args.frames) (put_opens_not (g.met.P.Kind.acts c.args.process.now ∙ c.requires.next.1)) (g.met.P.Kind.asks c.args.process.now ∙ c.requires.needs.0) c.in-Err.ensures.asked)
+returns-in-Err-clause-takes g c = (seen.Refused, c.took.ensures, tells_refused c.args.hand.now.seat c.reserve.new.hand.seat (g.P.Kind.proc_of c.args.process.now) (0, c.args.frames) (put_opens_not (g.P.Kind.proc_of c.args.process.now) _ _ (g.met.P.Kind.acts c.args.process.now ∙ c.requires.next.1)) (g.met.P.Kind.asks c.args.process.now ∙ c.requires.needs.0) c.in-Err.ensures.asked)

@@ -1,5 +1,5 @@
 use Rattle.std.proofs.Common.{ℕ, Bool, Option, refl, sym, ap, subst, ◌∙◌}
-use Rattle.bl_model.specs.declared.operation.Reply.TheVariants as reply
+use Rattle.bl_model.specs.declared.operation.Reply.TheVariants as answered
 use Rattle.bl_ways.specs.declared.answers.Answer.TheVariants.{Op}
 use Rattle.bl_ways.specs.declared.changing.Change.TheVariants as change
 use Rattle.bl_ways.specs.Thin.{thin_low, thin_hint}
@@ -45,7 +45,7 @@ conclude-requires-clause-opens c =
     (deleting key (delete.Ending (delete_reply removed (outcome_by b))), deleting key (delete.Over (delete_reply removed (outcome_by b))), opens_at _ _ _ _ _ stands (opens_removed key c.args.at removed (outcome_by b)))
 
 pub returns-then-changed-clause-deleted : goal.returns-then-changed-clause-deleted
-returns-then-changed-clause-deleted c = λ pass old since.
+returns-then-changed-clause-deleted c = λ pass old since reply hint e.
     let key = c.args.errand.key in let b = c.replace-changed.result in let page = c.requires.page.1 in
     let removed : Removed = record { value = c.args.value; thin = thin_low page } in
     let goes = goes_put b _ _ c.replace-changed.ensures.done c.replace-changed.ensures.refused in
@@ -54,11 +54,10 @@ returns-then-changed-clause-deleted c = λ pass old since.
     let after = same_goes _ _ _ goes pass old (subst (λ (h : Hand Mine). IsSince pass old (known h.seat)) (sym c.words_without.ensures.same) since) in
     has_deleted key pass old _ (delete_reply removed (outcome_by b)) _ _ (c.conclude.ensures.done pass old (deleting key delete.New) (deleting key (delete.Ending (delete_reply removed (outcome_by b)))) (deleting key (delete.Over (delete_reply removed (outcome_by b)))) after opens refl refl)
     (ap (λ (z : Bool). deleted_answer (delete_reply removed (outcome_by z))) c.if-changed.true
-    ∙ (ap (λ (z : Option ℕ). Op (reply.Deleted c.args.value) (thin_hint 1 z)) (sym (c.thin_in-thin.ensures page c.requires.page.3 (c.words_without.ensures.words c.requires.page.0 c.requires.page.4 ∙ sym c.requires.page.6)))
-    ∙ ap (Op (reply.Deleted c.args.value)) (sym c.hint_of.ensures)))
+    ∙ (ap (λ (z : Option ℕ). Op (answered.Deleted c.args.value) (thin_hint 1 z)) (sym (c.thin_in-thin.ensures page c.requires.page.3 (c.words_without.ensures.words c.requires.page.0 c.requires.page.4 ∙ sym c.requires.page.6))) ∙ e))
 
 pub returns-else-changed-clause-deleted : goal.returns-else-changed-clause-deleted
-returns-else-changed-clause-deleted c = λ pass old since.
+returns-else-changed-clause-deleted c = λ pass old since reply hint e.
     let key = c.args.errand.key in let b = c.replace-changed.result in let page = c.requires.page.1 in
     let removed : Removed = record { value = c.args.value; thin = thin_low page } in
     let goes = goes_put b _ _ c.replace-changed.ensures.done c.replace-changed.ensures.refused in
@@ -66,7 +65,7 @@ returns-else-changed-clause-deleted c = λ pass old since.
     let opens = opens_at _ _ _ _ _ stands (opens_removed key c.args.at removed (outcome_by b)) in
     let after = same_goes _ _ _ goes pass old (subst (λ (h : Hand Mine). IsSince pass old (known h.seat)) (sym c.words_without.ensures.same) since) in
     has_deleted key pass old _ (delete_reply removed (outcome_by b)) _ _ (c.conclude.ensures.done pass old (deleting key delete.New) (deleting key (delete.Ending (delete_reply removed (outcome_by b)))) (deleting key (delete.Over (delete_reply removed (outcome_by b)))) after opens refl refl)
-    (ap (λ (z : Bool). deleted_answer (delete_reply removed (outcome_by z))) c.if-changed.false)
+    (ap (λ (z : Bool). deleted_answer (delete_reply removed (outcome_by z))) c.if-changed.false ∙ e)
 
 pub returns-else-changed-clause-no_room : goal.returns-else-changed-clause-no_room
 returns-else-changed-clause-no_room c = λ none. c.conclude.ensures.refusal ∙ c.replace-changed.ensures.asked c.if-changed.false

@@ -12,4 +12,4 @@ pub retire-requires-clause-rule : goal.retire-requires-clause-rule
 retire-requires-clause-rule g c = let laws = g.met.P.Kind in retires_page _ _ (known c.args.hand.now.seat) c.requires.process.runs _ (ap next_of c.requires.process.state ∙ (laws.acts c.args.process.now ∙ c.requires.next.1)) (subst (λ (z : Proc). GoesOn z seen.Done) (sym c.requires.process.state) (laws.courses c.args.process.now seen.Done c.requires.next.0 (rw c.requires.next.1 tt)))
 
 pub returns-clause-takes : goal.returns-clause-takes
-returns-clause-takes g c = (seen.Done, c.took.ensures, tells_done _ _ _ (λ x opens. absurd (retire_opens_not (g.met.P.Kind.acts c.args.process.now ∙ c.requires.next.1) x opens)))
+returns-clause-takes g c = (seen.Done, c.took.ensures, tells_done c.args.hand.now.seat c.retire.new.hand.seat (g.P.Kind.proc_of c.args.process.now) (λ x opens. absurd (retire_opens_not (g.P.Kind.proc_of c.args.process.now) _ (g.met.P.Kind.acts c.args.process.now ∙ c.requires.next.1) x opens)))

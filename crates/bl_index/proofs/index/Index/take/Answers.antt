@@ -15,7 +15,7 @@ pub reserve-requires-clause-refuses : goal.reserve-requires-clause-refuses
 reserve-requires-clause-refuses g c = let laws = g.met.P.Kind in refuses_take _ _ (known c.args.hand.now.seat) c.requires.process.runs (ap next_of c.requires.process.state ∙ (laws.acts c.args.process.now ∙ c.requires.next.1)) (subst (λ (z : Proc). GoesOn z seen.Refused) (sym c.requires.process.state) (laws.courses c.args.process.now seen.Refused c.requires.next.0 (rw (c.requires.next.1, c.requires.needs) refl)))
 
 pub returns-in-Some-clause-takes : goal.returns-in-Some-clause-takes
-returns-in-Some-clause-takes g c = (seen.Took c.in-Some.page, c.took.ensures, tells_took _ _ _ _ (g.met.P.Kind.acts c.args.process.now ∙ c.requires.next.1))
+returns-in-Some-clause-takes g c = (seen.Took c.in-Some.page, c.took.ensures, tells_took c.args.hand.now.seat c.reserve.new.hand.seat (g.P.Kind.proc_of c.args.process.now) _ (g.met.P.Kind.acts c.args.process.now ∙ c.requires.next.1))
 
 pub returns-in-Err-clause-takes : goal.returns-in-Err-clause-takes
-returns-in-Err-clause-takes g c = (seen.Refused, c.took-2.ensures, tells_refused _ _ _ (1, 2) (take_opens_not (g.met.P.Kind.acts c.args.process.now ∙ c.requires.next.1)) (g.met.P.Kind.asks c.args.process.now ∙ c.requires.needs) c.in-Err.ensures.asked)
+returns-in-Err-clause-takes g c = (seen.Refused, c.took-in-Err.ensures, tells_refused c.args.hand.now.seat c.reserve.new.hand.seat (g.P.Kind.proc_of c.args.process.now) (1, 2) (take_opens_not (g.P.Kind.proc_of c.args.process.now) (g.met.P.Kind.acts c.args.process.now ∙ c.requires.next.1)) (g.met.P.Kind.asks c.args.process.now ∙ c.requires.needs) c.in-Err.ensures.asked)

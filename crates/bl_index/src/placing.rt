@@ -1,0 +1,30 @@
+//! Where a key stands in the words of a leaf.
+
+ghost use Rattle.std.specs.Prelude.{◌≡◌, ◌≤◌};
+ghost use Rattle.bl_model.specs.Rows.{map_of};
+ghost use Rattle.bl_page.specs.Faults.{HasPairs, pairs_of};
+ghost use Rattle.bl_page.specs.Pairs.{place as place_among};
+
+use bl_page::WordSource;
+
+/// What a leaf lists with the key, so many of whose keys are not above it.
+#[inline(always)]
+pub(crate) fn listed_at<W: WordSource>(
+    source: &W,
+    hand: &mut W::Hand,
+    place: usize,
+    key: u64,
+) -> Option<u64>
+    requires sees { W.Sees source.now hand.old }
+    requires pairs { HasPairs (W.shown source.now hand.old) }
+    requires place { place ≡ place_among key (pairs_of (W.shown source.now hand.old)) }
+    requires within { place ≤ 14 }
+    ensures same { hand.new ≡ hand.old }
+    ensures listed { result ≡ map_of (pairs_of (W.shown source.now hand.old)) key }
+{
+    if place > 0 && source.word(hand, 2 + 2 * place) == key {
+        Some(source.word(hand, 3 + 2 * place))
+    } else {
+        None
+    }
+}
