@@ -1,5 +1,6 @@
 -- An index of one pass: its history is the pass's own, so that a call is one step of the map.
-use Rattle.std.proofs.Common.{◌≡◌, ◌<◌, ◌++◌, suc, Option, Some, None, List, [], ◌∷◌, All, refl, sym, ap, ◌∙◌, subst, arith}
+use Rattle.std.specs.Prelude.{Result, Ok, Err, IfOk}
+use Rattle.std.proofs.Common.{ℕ, ◌≡◌, ◌<◌, ◌++◌, suc, Option, Some, None, List, [], ◌∷◌, All, refl, sym, ap, ◌∙◌, subst, arith}
 use Rattle.std.proofs.lemmas.List.Elements.{All-nil, All-cons}
 use Rattle.bl_layout.specs.declared.layout.Layout.{Layout}
 use Rattle.bl_model.specs.declared.operation.Op.{Op}
@@ -13,7 +14,14 @@ use Rattle.bl_trails.specs.Trails.{Said, Trail, entries_at, history_of}
 use Rattle.bl_passes.specs.Seeing.{IsSeen, own, AreWithin}
 use Rattle.bl_index.specs.declared.index.Index.{Index}
 use Rattle.bl_index.specs.declared.index.Pass.{Pass}
-use Rattle.bl_index.specs.Calls.{map_of, passes_of, trail, IsPassOf}
+use Rattle.bl_index.specs.declared.config.OutOfTurns.{OutOfTurns}
+use Rattle.bl_index.specs.Calls.{map_of, passes_of, number_of, trail, IsPassOf, Answers, AnswersOrRunsOut, StepsAlone}
+use Rattle.bl_index.specs.Runs.{IsWithin}
+use Rattle.atomic_table.specs.declared.shared.Seat.{Seat}
+use Rattle.bl_store.specs.declared.view.View.{View}
+use Rattle.bl_store.specs.Hands.{known, IsSameHand}
+use Rattle.bl_passes.specs.declared.known.Mine.{Mine}
+use Rattle.bl_passes.specs.Noting.{trail_of}
 
 abbrev OfFirst : Entry → Type 0
 OfFirst e = e.pass ≡ 0
@@ -48,3 +56,25 @@ alone_answers op reply old new w v seen once =
 -- what a pass has seen was done by the passes of its index
 pub pass_within : (index : Index) (pass : Pass) → IsPassOf index pass → AreWithin (passes_of index) (trail pass)
 pass_within index pass of = subst (λ (z : Layout). AreWithin z.passes (trail pass)) of.1 pass.within
+
+-- a call of the only pass
+module _ (index : Index) (old : Pass) (h : Seat (Unit {0}) (View Mine)) (op : Op) (of : IsPassOf index old) (same : IsSameHand old.hand.seat h) (within : IsWithin h) where
+  abbrev new : Trail
+  new = trail_of (known h).trail
+
+  pub steps_alone : (reply : Reply) → Answers (number_of old) op reply (trail old) new → StepsAlone index op reply (trail old) new
+  steps_alone reply answers one =
+      let l : Layout = old.hand.seat.me.0.layout in
+      let passes : l.passes ≡ 1 = ap (λ (z : Layout). z.passes) of.1 ∙ one in
+      let mine = old.hand.own in
+      let first : number_of old ≡ 0 = omega (arith, mine.0, mine.1, passes) in
+      let all : h.me.0.layout.passes ≡ 1 = ap (λ (z : Layout). z.passes) same.1 ∙ passes in
+      alone_answers op reply (trail old) new
+          (subst (λ (z : ℕ). AreWithin z (trail old)) one (pass_within index old of))
+          (subst (λ (z : ℕ). AreWithin z new) all within)
+          answers.seen
+          (subst (λ (n : ℕ). own n new ≡ own n (trail old) ++ record { pass = n; op = op; reply = reply } ∷ []) first answers.once)
+
+  pub finds_alone : (pages turns : ℕ) (result : Result Reply OutOfTurns) → AnswersOrRunsOut pages (number_of old) turns op result (trail old) new → IfOk result (λ reply. StepsAlone index op reply (trail old) new)
+  finds_alone pages turns (Ok reply) answered = steps_alone reply answered.answered.answers
+  finds_alone pages turns (Err fault) answered = tt

@@ -1,6 +1,6 @@
 -- What a call tells the pass that makes it.
 use Rattle.std.specs.Prelude.{◌≡◌, ◌≢◌, ℕ, ◌++◌, Option, Some, None, [], ◌∷◌, length, ◌≤◌, Result, IfOk, IfErr}
-use Rattle.bl_model.specs.Map.{Map, empty}
+use Rattle.bl_model.specs.Map.{Map, empty, IsMapStep}
 use Rattle.bl_model.specs.History.{final_map}
 use Rattle.bl_model.specs.declared.operation.Op.{Op}
 use Rattle.bl_model.specs.declared.operation.Op.TheVariants as op
@@ -66,6 +66,10 @@ pub record Answers (pass : ℕ) (op : Op) (reply : Reply) (old new : Trail) : Ty
   pub holds : Holds (name pass number) (Some reply) old new
   pub seen : IsSeen new
   pub once : own pass new ≡ own pass old ++ record { pass = pass; op = op; reply = reply } ∷ []
+
+-- In an index of one pass each call is a step of one map.
+abbrev pub StepsAlone : Index → Op → Reply → Trail → Trail → Type 0
+StepsAlone index op reply old new = passes_of index ≡ 1 → IsMapStep (map_of old) op reply (map_of new)
 
 -- The same of a call that says nothing of the map.
 pub record Adds (pass : ℕ) (old new : Trail) : Type 0 where

@@ -2,6 +2,7 @@
 
 ghost use Rattle.std.specs.Prelude.{◌≡◌, ◌≢◌, ◌⊎◌, ℕ, None, Some, false};
 ghost use Rattle.bl_ways.specs.declared.acts.Action.TheVariants as act;
+ghost use Rattle.bl_model.specs.declared.operation.Op.TheVariants as op;
 ghost use Rattle.bl_model.specs.declared.operation.Reply.TheVariants as reply;
 ghost use Rattle.bl_ways.specs.declared.answers.Answer.{Answer as AnswerIs};
 ghost use Rattle.bl_ways.specs.declared.answers.Answer.TheVariants as answers;
@@ -37,7 +38,7 @@ pub(crate) fn answered(answer: Option<Answer>) -> (Reply, Option<Hint>)
 }
 
 impl Index {
-    ghost use Rattle.bl_index.specs.Calls.{IsPassOf, IsSamePass, number_of, trail, Inserts, Deletes, MetNoRoom};
+    ghost use Rattle.bl_index.specs.Calls.{IsPassOf, IsSamePass, number_of, trail, Inserts, Deletes, MetNoRoom, StepsAlone};
 
     /// Puts the value at the key, where the key has none. Where the leaf was parted, there is a hint to post its upper part.
     pub fn insert<R: Wait>(
@@ -51,6 +52,7 @@ impl Index {
         ensures same { IsSamePass pass.old pass.new }
         ensures inserts { Inserts (number_of pass.old) key value result.0 result.1 (trail pass.old) (trail pass.new) }
         ensures no_room { result.0 ≡ reply.NoRoom → MetNoRoom pass.new 0 1 ⊎ MetNoRoom pass.new 1 2 }
+        ensures alone { StepsAlone self.now (op.Insert key value) result.0 (trail pass.old) (trail pass.new) }
     {
         self.insert_by(rt, &mut pass.hand, key, value)
     }
@@ -61,6 +63,7 @@ impl Index {
         ensures same { IsSamePass pass.old pass.new }
         ensures deletes { Deletes (number_of pass.old) key result.0 result.1 (trail pass.old) (trail pass.new) }
         ensures no_room { result.0 ≡ reply.NoRoom → MetNoRoom pass.new 0 1 }
+        ensures alone { StepsAlone self.now (op.Delete key) result.0 (trail pass.old) (trail pass.new) }
     {
         self.delete_by(rt, &mut pass.hand, key)
     }

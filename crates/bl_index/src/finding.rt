@@ -1,6 +1,6 @@
 //! Searches.
 
-ghost use Rattle.std.specs.Prelude.{◌≡◌, None, false};
+ghost use Rattle.std.specs.Prelude.{◌≡◌, None, false, IfOk};
 ghost use Rattle.bl_model.specs.declared.operation.Op.TheVariants as op;
 ghost use Rattle.bl_tables.specs.Knowing.{found_reply};
 ghost use Rattle.bl_store.specs.Hands.{known, IsOf, IsIdle, IsSameHand, IsSameStock};
@@ -43,7 +43,7 @@ fn page_of(stage: FindStage) -> u32
 }
 
 impl Index {
-    ghost use Rattle.bl_index.specs.Calls.{IsPassOf, IsSamePass, pages_of, number_of, trail, AnswersOrRunsOut};
+    ghost use Rattle.bl_index.specs.Calls.{IsPassOf, IsSamePass, pages_of, number_of, trail, AnswersOrRunsOut, StepsAlone};
 
     /// The value of a key, or that the key is absent. It gets at most so many pages, the anchor included.
     #[inline(always)]
@@ -51,6 +51,7 @@ impl Index {
         requires { IsPassOf self.now pass.old }
         ensures same { IsSamePass pass.old pass.new }
         ensures answers { AnswersOrRunsOut (pages_of self.now) (number_of pass.old) turns (op.Find key) result (trail pass.old) (trail pass.new) }
+        ensures alone { IfOk result (λ reply. StepsAlone self.now (op.Find key) reply (trail pass.old) (trail pass.new)) }
     {
         self.find_by(&mut pass.hand, key, turns)
     }

@@ -1,6 +1,6 @@
 //! Parts of the map.
 
-ghost use Rattle.std.specs.Prelude.{◌≡◌, false};
+ghost use Rattle.std.specs.Prelude.{◌≡◌, false, IfOk};
 ghost use Rattle.bl_model.specs.declared.operation.Op.TheVariants as op;
 ghost use Rattle.bl_store.specs.Hands.{known, IsOf, IsIdle, IsSameHand, IsSameStock};
 ghost use Rattle.bl_passes.specs.Noting.{trail_of};
@@ -31,7 +31,7 @@ fn page_of(stage: &PartStage) -> u32
 }
 
 impl Index {
-    ghost use Rattle.bl_index.specs.Calls.{IsPassOf, IsSamePass, pages_of, number_of, trail, AnswersOrRunsOut};
+    ghost use Rattle.bl_index.specs.Calls.{IsPassOf, IsSamePass, pages_of, number_of, trail, AnswersOrRunsOut, StepsAlone};
 
     /// The pairs of one leaf from a key on, in rising order, and the key from which the next part begins, where there is
     /// one. It gets at most so many pages, the anchor included.
@@ -39,6 +39,7 @@ impl Index {
         requires { IsPassOf self.now pass.old }
         ensures same { IsSamePass pass.old pass.new }
         ensures answers { AnswersOrRunsOut (pages_of self.now) (number_of pass.old) turns (op.Part from) result (trail pass.old) (trail pass.new) }
+        ensures alone { IfOk result (λ reply. StepsAlone self.now (op.Part from) reply (trail pass.old) (trail pass.new)) }
     {
         self.part_by(&mut pass.hand, from, turns)
     }

@@ -1,5 +1,7 @@
 use Rattle.std.proofs.Common.{refl}
 use Rattle.bl_index.proofs.Ends.{op_answered, op_beside}
+use Rattle.bl_model.specs.declared.operation.Op.TheVariants as op
+use Rattle.bl_index.proofs.Alone.{steps_alone}
 use Rattle.bl_index.proofs.index.Index.delete.Goals as goal
 
 pub returns-clause-deletes : goal.returns-clause-deletes
@@ -10,3 +12,6 @@ returns-clause-deletes g c =
       latches = deleted.done.tidy;
       hint = op_beside _ _ _ _ _ _ _ deleted.done deleted.answer;
     }
+
+pub returns-clause-alone : goal.returns-clause-alone
+returns-clause-alone g c = let e = c.delete_by.ensures in steps_alone c.args.self.now c.args.pass.now c.delete_by.new.hand.seat (op.Delete c.args.key) c.requires e.same e.within _ (op_answered _ _ _ _ _ _ _ _ e.deleted.done refl e.deleted.answer)
