@@ -22,9 +22,11 @@ put_spread-requires-clause-reads c =
 pub put_spread-requires-clause-rule : goal.put_spread-requires-clause-rule
 put_spread-requires-clause-rule c =
     let same : known c.reserve.new.hand.seat ≡ known c.args.hand.now.seat = (c.in-Ok.ensures.no_page refl).1 in
-    let state = ap (λ (d : Mine). d.state) same in
-    (words_of c.requires.next.0, subst (λ (z : Reading). IsSpread c.args.change (words_in z) (words_of c.requires.next.0)) (sym (c.in-Ok.ensures.reads refl)) c.requires.next.2,
-    puts_page _ _ (known c.reserve.new.hand.seat) (ap (λ (d : Mine). d.runs) same ∙ c.requires.process.runs) _ _ c.requires.next.0 (ap next_of state ∙ c.requires.next.1) refl (course_at seen.Done _ _ state c.requires.course.0))
+    let state = ap (λ (d : Mine). d.state) same in (
+      words_of c.requires.next.0,
+      subst (λ (z : Reading). IsSpread c.args.change (words_in z) (words_of c.requires.next.0)) (sym (c.in-Ok.ensures.reads refl)) c.requires.next.2,
+      puts_page _ _ (known c.reserve.new.hand.seat) (ap (λ (d : Mine). d.runs) same ∙ c.requires.process.runs) _ _ c.requires.next.0 (ap next_of state ∙ c.requires.next.1) refl (course_at seen.Done _ _ state c.requires.course.0),
+    )
 
 pub returns-in-Ok-clause-done : goal.returns-in-Ok-clause-done
 returns-in-Ok-clause-done c = λ e.
