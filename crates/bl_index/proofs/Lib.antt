@@ -22,3 +22,6 @@ pub mod Encounters
 pub mod Ranges
 pub mod Scanned
 pub mod Onward
+pub mod Holders
+pub mod Gathered
+pub mod AtRest

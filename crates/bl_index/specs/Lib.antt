@@ -6,3 +6,4 @@ pub mod Opened
 pub mod Searching
 pub mod Meetings
 pub mod Scans
+pub mod Closed
