@@ -7,7 +7,7 @@ use bl_image::Image;
 
 /// A sound image: no page breaks a rule.
 ///
-/// Only the checker makes one.
+/// The checker makes one of an image that it has found sound; so does whoever has proved that an image is.
 #[derive(Drop)]
 pub struct Quiet {
     image: Image,
@@ -15,8 +15,8 @@ pub struct Quiet {
 }
 
 impl Quiet {
-    /// What the checker has found sound.
-    pub(crate) fn new(image: Image) -> Quiet
+    /// The sound image with these pages. It looks at none of them: that no page breaks a rule is what it asks for.
+    pub fn new(image: Image) -> Quiet
         requires { AreSound image.pages.items }
         ensures { result.image ≡ image }
     {

@@ -17,7 +17,7 @@ use Rattle.bl_image.specs.Images.{word_bytes, page_words, page_bytes, image_byte
 use Rattle.bl_image.specs.declared.fault.ImageFault.{ImageFault}
 use Rattle.bl_image.specs.declared.fault.ImageFault.TheVariants as fault
 
-no_kind : (p : Page) → words_of p ≡ replicate 32 0 → ⊥
+pub no_kind : (p : Page) → words_of p ≡ replicate 32 0 → ⊥
 no_kind p e = let kind : kind_in (words_of p) ≡ 0 = ap kind_in e in no_number (kind_of p) (sym (fits p).is_of ∙ kind)
   where
     no_number : (k : Kind) → number k ≡ 0 → ⊥
@@ -130,7 +130,7 @@ fits_64 (word ∷ words) h = (h 0, fits_64 words (λ i. h (suc i)))
 pub no_page : (words bytes : List ℕ) → length words ≡ 32 → Fits64 words → word_bytes words ≡ bytes → ((page : Option Page) → words ≡ page_words page → ⊥) → ¬ ArePage bytes
 no_page words bytes long small is refused (page, fits, spelled) = refused page (word_bytes-same words (page_words page) (long ∙ sym (length-page_words page)) small fits (is ∙ spelled))
 
-pages_words-same : (a b : Option Page) → page_words a ≡ page_words b → a ≡ b
+pub pages_words-same : (a b : Option Page) → page_words a ≡ page_words b → a ≡ b
 pages_words-same None None e = refl
 pages_words-same None (Some q) e = absurd (no_kind q (sym e))
 pages_words-same (Some p) None e = absurd (no_kind p e)

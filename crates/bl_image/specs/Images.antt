@@ -20,6 +20,10 @@ page_words (Some page) = words_of page
 abbrev pub word_bytes : List ℕ → List ℕ
 word_bytes words = flat_map (little_bytes 8) words
 
+-- the words of a page, or of one that is not in use
+abbrev pub IsSpelled : List ℕ → Type 0
+IsSpelled words = (page : Option Page) × (words ≡ page_words page)
+
 abbrev pub page_bytes : Option Page → List ℕ
 page_bytes page = word_bytes (page_words page)
 

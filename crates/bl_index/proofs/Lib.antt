@@ -24,3 +24,6 @@ pub mod Ranges
 pub mod Scanned
 pub mod Onward
 pub mod Rooms
+pub mod Holders
+pub mod Gathered
+pub mod AtRest

@@ -7,3 +7,4 @@ pub mod Searching
 pub mod Meetings
 pub mod Scans
 pub mod Rooms
+pub mod Closed

@@ -21,6 +21,15 @@ pub enum OpenFault {
     Memory,
 }
 
+/// Why an index could not be closed.
+#[derive(Clone, Copy, Debug, PartialEq, Eq)]
+pub enum CloseFault {
+    /// A pass is missing.
+    Pass,
+    /// There was no memory.
+    Memory,
+}
+
 /// A search or a part has got as many pages as it was allowed, and has answered nothing.
 #[derive(Clone, Copy, Debug, PartialEq, Eq)]
 pub struct OutOfTurns;

@@ -14,7 +14,9 @@ use bl_store::{Hand, Store};
 pub struct Index {
     pub(crate) store: Store<Mine, Passes>,
     pub(crate) pages: u32,
+    pub(crate) passes: u32,
     pub ghost sized: { pages ≡ store.layout.pages },
+    pub ghost shared: { passes ≡ store.layout.passes },
 }
 
 /// One who works with an index. Each thread has a pass of its own, and between two calls it runs no process. What it has

@@ -11,6 +11,7 @@
 
 mod changers;
 mod changing;
+mod closing;
 mod coming;
 mod compressing;
 mod config;
@@ -35,6 +36,6 @@ mod sweeping;
 
 pub use bl_model::{Next, Reply};
 pub use bl_proc::{Hint, Level, Posted, Squeezed};
-pub use config::{Config, OpenFault, OutOfTurns};
+pub use config::{CloseFault, Config, OpenFault, OutOfTurns};
 pub use index::{Index, Pass};
 pub use scanning::ScanFault;

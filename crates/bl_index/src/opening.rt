@@ -103,6 +103,7 @@ impl Index {
         let index = Index {
             store,
             pages: config.pages,
+            passes: config.passes,
         };
         Ok((index, passes))
     }

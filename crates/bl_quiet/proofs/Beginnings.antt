@@ -20,14 +20,14 @@ use Rattle.bl_check.proofs.Rising.{span_wide}
 use Rattle.bl_quiet.specs.Begins.{node_in, roots_in, live_in, MayBegin}
 
 -- what a live page says, as a span and as a node
-record Says (page : Option Page) (s : Span) : Type 0 where
+pub record Says (page : Option Page) (s : Span) : Type 0 where
   pub level : (node_in page).shape.level ≡ s.level
   pub low : (node_in page).shape.low ≡ s.low
   pub end : (node_in page).shape.end ≡ end_of s.high
   pub right : (node_in page).shape.right ≡ s.right
   pub fits : Fits64 (page_words page) → s.high < 2 ^ 64
 
-says : (page : Option Page) (s : Span) → span_of page ≡ Some s → Says page s
+pub says : (page : Option Page) (s : Span) → span_of page ≡ Some s → Says page s
 says None s is = absurd cc
 says (Some (Anchor a)) s is = absurd cc
 says (Some (Leaf l)) s is = let same : (record { level = 0; low = l.low; high = l.high; right = l.right }) ≡ s = cc in
@@ -56,13 +56,13 @@ stands pages x level low h = let (s, at, l, k) = stands_span (span_at pages x) l
 
 -- bounds
 
-no_bound : (high : ℕ) → high < 2 ^ 64 → end_of high ≡ unbounded → high ≡ 0
+pub no_bound : (high : ℕ) → high < 2 ^ 64 → end_of high ≡ unbounded → high ≡ 0
 no_bound high lt is = grind arith
 
-some_bound : (high : ℕ) → end_of high < unbounded → high ≢ 0
+pub some_bound : (high : ℕ) → end_of high < unbounded → high ≢ 0
 some_bound high lt none = absurd (let e : end_of high ≡ unbounded = ap end_of none in omega arith)
 
-bound_is : (high : ℕ) → high ≢ 0 → end_of high ≡ high
+pub bound_is : (high : ℕ) → high ≢ 0 → end_of high ≡ high
 bound_is high some = grind arith
 
 end_within : (high : ℕ) → high < 2 ^ 64 → end_of high ≤ unbounded
@@ -95,10 +95,10 @@ anchored (Some (Dead d)) is = absurd cc
 abbrev nodes : List (Option Page) → ℕ → Node
 nodes pages x = node_in (page_at pages x)
 
-abbrev AllFit : List (Option Page) → Type 0
+abbrev pub AllFit : List (Option Page) → Type 0
 AllFit pages = AllByRecursion (λ page. Fits64 (page_words page)) pages
 
-fits_span : (pages : List (Option Page)) (x : ℕ) (s : Span) → AllFit pages → span_at pages x ≡ Some s → s.high < 2 ^ 64
+pub fits_span : (pages : List (Option Page)) (x : ℕ) (s : Span) → AllFit pages → span_at pages x ≡ Some s → s.high < 2 ^ 64
 fits_span pages x s fit at = (says (page_at pages x) s at).fits (fits_at x pages fit (live_below pages x s at))
 
 reaches : (pages : List (Option Page)) (x y : ℕ) → AllFit pages → Reaches pages x y → IsReached (nodes pages) x y

@@ -3,4 +3,5 @@ pub mod RowLemmas
 pub mod SameNodes
 pub mod RowsFound
 pub mod Opened
+pub mod Resting
 mod Examples

@@ -1,5 +1,5 @@
 -- What an index that is opened from an image begins with.
-use Rattle.std.specs.Prelude.{◌≡◌, ℕ, List, [], Bool, Option, Some, None, is_some}
+use Rattle.std.specs.Prelude.{◌≡◌, ◌≢◌, ℕ, List, [], Bool, Option, Some, None, is_some}
 use Rattle.bl_model.specs.Map.{SameMap}
 use Rattle.bl_model.specs.Rows.{map_of, HasRisingKeys}
 use Rattle.bl_page.specs.declared.page.Page.{Page}
@@ -49,3 +49,13 @@ pub record IsOpened (pages : List (Option Page)) (s : State Page) : Type 0 where
 pub record BeginsWithRows (s : State Page) (rows : List (ℕ × ℕ)) : Type 0 where
   pub map : SameMap (map_of rows) (start_map (λ x. node_of (s.contents x)) (roots_of (s.contents 0)) 0)
   pub laws : HasLaws s [] (map_of rows)
+
+-- what an image keeps of page x as the machine has it: what it holds where it is open, else nothing
+abbrev pub IsLeft : State Page → ℕ → Option Page → Type 0
+IsLeft s x None = s.owner x ≢ Owner.Open
+IsLeft s x (Some page) = (s.owner x ≡ Owner.Open) × (s.contents x ≡ page)
+
+-- The pages of an image are what is left of the machine's, of which nobody holds one.
+pub record AreLeft (pages : List (Option Page)) (s : State Page) : Type 0 where
+  pub pages_are : (x : ℕ) → IsLeft s x (page_at pages x)
+  pub none_held : (x : ℕ) (p : Name) → s.owner x ≢ Owner.Held p

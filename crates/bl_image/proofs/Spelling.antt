@@ -1,0 +1,19 @@
+-- The pages that words spell, one after another.
+use Rattle.std.proofs.Common.{◌≡◌, ℕ, zero, suc, ◌+◌, ◌<◌, List, [], ◌∷◌, ◌++◌, length, get_or, map, take, Option, refl, ap, sym, ◌∙◌, arith}
+use Rattle.std.specs.List.{AllByRecursion}
+use Rattle.std.proofs.lemmas.List.{take_more}
+use Rattle.bl_page.specs.declared.page.Page.{Page}
+use Rattle.bl_image.specs.Images.{page_words, IsSpelled}
+
+pub spelled_at : (i : ℕ) (all : List (List ℕ)) → AllByRecursion IsSpelled all → i < length all → IsSpelled (get_or all i [])
+spelled_at i [] h lt = absurd (omega arith)
+spelled_at zero (words ∷ all) h lt = h.0
+spelled_at (suc i) (words ∷ all) h lt = spelled_at i all h.1 (omega arith)
+
+map-push : (pages : List (Option Page)) (page : Option Page) → map page_words (pages ++ page ∷ []) ≡ map page_words pages ++ page_words page ∷ []
+map-push [] page = refl
+map-push (first ∷ pages) page = ap (λ t. page_words first ∷ t) (map-push pages page)
+
+pub words_more : (pages new : List (Option Page)) (page : Option Page) (all : List (List ℕ)) (i : ℕ) → i < length all → new ≡ pages ++ page ∷ [] → page_words page ≡ get_or all i [] → map page_words pages ≡ take i all → map page_words new ≡ take (i + 1) all
+words_more pages new page all i lt pushed spelled so_far =
+    ap (map page_words) pushed ∙ map-push pages page ∙ ap (λ t. t ++ page_words page ∷ []) so_far ∙ ap (λ w. take i all ++ w ∷ []) spelled ∙ sym (take_more all i [] lt)

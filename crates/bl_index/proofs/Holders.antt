@@ -1,0 +1,144 @@
+-- A process that holds a page runs.
+use Rattle.std.proofs.Common.{ℕ, ◌≡◌, ◌⊎◌, None, Some, List, [], refl, inl, inr, subst}
+use Rattle.bl_page.specs.Machine.{Phase}
+use Rattle.bl_page.specs.declared.page.Page.{Page}
+use Rattle.bl_steps.specs.Worlds.{Hold, Stage, Know, HoldsPage, IsStage}
+use Rattle.bl_ways.specs.declared.approaching.Approach.{Approach}
+use Rattle.bl_ways.specs.declared.approaching.Approach.TheVariants as approach
+use Rattle.bl_ways.specs.declared.changing.Change.{Change}
+use Rattle.bl_ways.specs.declared.changing.Change.TheVariants as change
+use Rattle.bl_ways.specs.declared.growing.Growth.{Growth}
+use Rattle.bl_ways.specs.declared.growing.Growth.TheVariants as growth
+use Rattle.bl_compress.specs.declared.squeezing.CompressStage.{CompressStage}
+use Rattle.bl_compress.specs.declared.squeezing.CompressStage.TheVariants as compress
+use Rattle.bl_proc.specs.declared.searching.FindStage.{FindStage}
+use Rattle.bl_proc.specs.declared.searching.FindStage.TheVariants as find
+use Rattle.bl_proc.specs.declared.inserting.InsertStage.{InsertStage}
+use Rattle.bl_proc.specs.declared.inserting.InsertStage.TheVariants as insert
+use Rattle.bl_proc.specs.declared.deleting.DeleteStage.{DeleteStage}
+use Rattle.bl_proc.specs.declared.deleting.DeleteStage.TheVariants as delete
+use Rattle.bl_proc.specs.declared.parts.PartStage.{PartStage}
+use Rattle.bl_proc.specs.declared.parts.PartStage.TheVariants as part
+use Rattle.bl_proc.specs.declared.posting.PostStage.{PostStage}
+use Rattle.bl_proc.specs.declared.posting.PostStage.TheVariants as post
+use Rattle.bl_proc.specs.declared.reclaiming.ReclaimStage.{ReclaimStage}
+use Rattle.bl_proc.specs.declared.reclaiming.ReclaimStage.TheVariants as reclaim
+use Rattle.bl_proc.specs.declared.kinds.Proc.{Proc}
+use Rattle.bl_proc.specs.declared.kinds.Proc.TheVariants as proc
+use Rattle.bl_tables.specs.Tables.{Aim, know_approach, know_change}
+use Rattle.bl_tables.specs.Compressing.{know_squeeze}
+use Rattle.bl_tables.specs.Knowing.{Run, know, know_of, know_find, know_part, know_insert, know_delete, know_growth, know_post, know_compress, know_reclaim}
+use Rattle.bl_compress.specs.declared.compressing.Compression.{Compression}
+use Rattle.bl_compress.specs.declared.compressing.Compression.TheVariants as compression
+
+-- it runs, or holds nothing
+abbrev MayHold : Know → Type 0
+MayHold k = (k.stage ≡ Stage.Busy) ⊎ (k.holds ≡ [])
+
+approach_holds : (level key : ℕ) (a : Approach) → (know_approach level key a).stage ≡ Stage.Busy
+approach_holds level key approach.Start = refl
+approach_holds level key (approach.At x) = refl
+approach_holds level key (approach.Latching x) = refl
+approach_holds level key (approach.Latched x) = refl
+approach_holds level key (approach.Leaving x None) = refl
+approach_holds level key (approach.Leaving x (Some y)) = refl
+
+change_holds : (aim : Aim) (got : ℕ → Page) (c : Change) → (know_change aim got c).stage ≡ Stage.Busy
+change_holds aim got (change.Putting x page) = refl
+change_holds aim got (change.Taking full) = refl
+change_holds aim got (change.PuttingNew p) = refl
+change_holds aim got (change.PuttingOld p) = refl
+change_holds aim got (change.OpeningNew x new separator) = refl
+change_holds aim got (change.Opening x o) = refl
+
+growth_holds : (level key : ℕ) (got : ℕ → Page) (g : Growth) → (know_growth level key got g).stage ≡ Stage.Busy
+growth_holds level key got growth.Latching = refl
+growth_holds level key got growth.Latched = refl
+growth_holds level key got (growth.Taking rise) = refl
+growth_holds level key got (growth.PuttingTop r) = refl
+growth_holds level key got (growth.PuttingAnchor r) = refl
+growth_holds level key got (growth.OpeningTop x) = refl
+growth_holds level key got growth.OpeningGrown = refl
+growth_holds level key got growth.OpeningRefused = refl
+
+squeeze_holds : (level key : ℕ) (got : ℕ → Page) (c : Compression) → (know_squeeze level key got c).stage ≡ Stage.Busy
+squeeze_holds level key got (compression.LatchingLeft f) = refl
+squeeze_holds level key got (compression.LatchedLeft f) = refl
+squeeze_holds level key got (compression.LatchingRight f c) = refl
+squeeze_holds level key got (compression.LatchedRight f c) = refl
+squeeze_holds level key got (compression.PuttingFirst p) = refl
+squeeze_holds level key got (compression.PuttingParent p) = refl
+squeeze_holds level key got (compression.PuttingLast p) = refl
+squeeze_holds level key got (compression.Retiring t fate) = refl
+squeeze_holds level key got (compression.OpeningRight t fate) = refl
+squeeze_holds level key got (compression.OpeningLeft t fate) = refl
+squeeze_holds level key got (compression.OpeningParent x fate) = refl
+
+find_holds : (key : ℕ) (a : FindStage) → MayHold (know_find key a)
+find_holds key find.New = inr refl
+find_holds key find.AtAnchor = inr refl
+find_holds key (find.At x) = inr refl
+find_holds key (find.Ending value) = inr refl
+find_holds key (find.Over value) = inr refl
+
+part_holds : (key : ℕ) (a : PartStage) → MayHold (know_part key a)
+part_holds key part.New = inr refl
+part_holds key part.AtAnchor = inr refl
+part_holds key (part.At x) = inr refl
+part_holds key (part.Ending r) = inr refl
+part_holds key (part.Over r) = inr refl
+
+insert_holds : (key value : ℕ) (got : ℕ → Page) (a : InsertStage) → MayHold (know_insert key value got a)
+insert_holds key value got insert.New = inr refl
+insert_holds key value got (insert.Coming a) = inl (approach_holds 0 key a)
+insert_holds key value got (insert.Present x there) = inl refl
+insert_holds key value got (insert.Changing c) = inl (change_holds _ got c)
+insert_holds key value got (insert.Ending r) = inr refl
+insert_holds key value got (insert.Over r) = inr refl
+
+delete_holds : (key : ℕ) (got : ℕ → Page) (a : DeleteStage) → MayHold (know_delete key got a)
+delete_holds key got delete.New = inr refl
+delete_holds key got (delete.Coming a) = inl (approach_holds 0 key a)
+delete_holds key got (delete.Absent x) = inl refl
+delete_holds key got (delete.Changing removed c) = inl (change_holds _ got c)
+delete_holds key got (delete.Ending r) = inr refl
+delete_holds key got (delete.Over r) = inr refl
+
+post_holds : (level key : ℕ) (got : ℕ → Page) (child : ℕ) (a : PostStage) → MayHold (know_post level key got child a)
+post_holds level key got child post.New = inr refl
+post_holds level key got child (post.Coming a) = inl (approach_holds level key a)
+post_holds level key got child (post.Growing g) = inl (growth_holds level key got g)
+post_holds level key got child (post.Walking w) = inl refl
+post_holds level key got child (post.Changing c) = inl (change_holds _ got c)
+post_holds level key got child (post.Staying x r) = inl refl
+post_holds level key got child (post.Ending r) = inr refl
+post_holds level key got child (post.Over r) = inr refl
+
+compress_holds : (level key : ℕ) (got : ℕ → Page) (a : CompressStage) → MayHold (know_compress level key got a)
+compress_holds level key got compress.New = inr refl
+compress_holds level key got (compress.Coming a) = inl (approach_holds level key a)
+compress_holds level key got (compress.Compressing c) = inl (squeeze_holds level key got c)
+compress_holds level key got (compress.Staying x) = inl refl
+compress_holds level key got (compress.Ending r) = inr refl
+compress_holds level key got (compress.Over r) = inr refl
+
+reclaim_holds : (time : ℕ) (a : ReclaimStage) → MayHold (know_reclaim time a)
+reclaim_holds time reclaim.Seeing = inr refl
+reclaim_holds time (reclaim.Looking r) = inr refl
+reclaim_holds time reclaim.Releasing = inr refl
+reclaim_holds time (reclaim.Over what) = inr refl
+
+proc_holds : (got : ℕ → Page) (child time : ℕ) (p : Proc) → MayHold (know_of got child time p)
+proc_holds got child time (proc.Find p) = find_holds p.key p.stage
+proc_holds got child time (proc.Insert p) = insert_holds p.key p.value got p.stage
+proc_holds got child time (proc.Delete p) = delete_holds p.key got p.stage
+proc_holds got child time (proc.Post p) = post_holds p.level p.key got child p.stage
+proc_holds got child time (proc.Part p) = part_holds p.from p.stage
+proc_holds got child time (proc.Compress p) = compress_holds p.level p.key got p.stage
+proc_holds got child time (proc.Reclaim p) = reclaim_holds time p.stage
+
+pub held_busy : (r : Run) (x : ℕ) (phase : Phase) → IsStage (know r).stage phase → HoldsPage (know r).holds x → (since : ℕ) × (phase ≡ Phase.Running since)
+held_busy r x phase stage holds = elim (proc_holds r.got r.child r.time r.state) [
+  | inl busy ↦ subst (λ (z : Stage). IsStage z phase) busy stage
+  | inr none ↦ absurd (subst (λ (z : List Hold). HoldsPage z x) none holds)
+]

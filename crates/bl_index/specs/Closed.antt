@@ -1,0 +1,85 @@
+-- An index that is closed.
+use Rattle.std.specs.Prelude.{◌≡◌, ℕ, ◌<◌, ◌≤◌, List, [], Option, All, length, vec_capacity}
+use mathlib.Core.Option.{some}
+use lib.ListN.{get_elem?}
+use Rattle.bl_model.specs.Map.{SameMap}
+use Rattle.bl_model.specs.Rows.{map_of as map_of_rows}
+use Rattle.bl_page.specs.declared.page.Page.{Page}
+use Rattle.bl_check.specs.Rows.{AreRowsOf}
+use Rattle.bl_trails.specs.Trails.{Trail}
+use Rattle.bl_quiet.specs.Begins.{AreLeft}
+use Rattle.bl_store.specs.declared.store.Hand.{Hand}
+use Rattle.bl_passes.specs.declared.known.Mine.{Mine}
+use Rattle.bl_passes.specs.Seeing.{IsSeen, AreWithin, own, GoesOnFrom}
+use Rattle.bl_index.specs.declared.closing.Room.{Room}
+use Rattle.bl_index.specs.declared.config.CloseFault.{CloseFault}
+use Rattle.bl_index.specs.declared.config.CloseFault.TheVariants as fault
+use Rattle.bl_index.specs.declared.index.Index.{Index}
+use Rattle.bl_index.specs.declared.index.Pass.{Pass}
+use Rattle.bl_index.specs.Calls.{pages_of, passes_of, IsPassOf, number_of, trail, map_of}
+
+-- one of the passes has that number
+pub record HasPass (passes : List Pass) (n : ℕ) : Type 0 where
+  pub place : ℕ
+  pub pass : Pass
+  pub at : get_elem? passes place ≡ some pass
+  pub numbered : number_of pass ≡ n
+
+-- all passes are of this index
+abbrev pub AreOf : Index → List Pass → Type 0
+AreOf index passes = All (IsPassOf index) passes
+
+-- each of the index's passes is among them
+abbrev pub AreAll : Index → List Pass → Type 0
+AreAll index passes = (n : ℕ) → n < passes_of index → HasPass passes n
+
+-- One trail that the index may have is all that has happened in it: it begins with what each pass has seen, has no other entries
+-- of that pass, and none of anybody else. The pages of the image are those that it leaves open, and their rows are the map after it.
+pub record Closes (index : Index) (passes : List Pass) (pages : List (Option Page)) : Type 0 where
+  pub whole : Trail
+  pub seen : IsSeen whole
+  pub all : AreAll index passes
+  pub begins : (k : ℕ) (pass : Pass) → get_elem? passes k ≡ some pass → GoesOnFrom (trail pass) whole
+  pub none : (k : ℕ) (pass : Pass) → get_elem? passes k ≡ some pass → own (number_of pass) whole ≡ own (number_of pass) (trail pass)
+  pub within : AreWithin (passes_of index) whole
+  pub count : length pages ≡ pages_of index
+  pub left : AreLeft pages seen.linear.now
+  pub rows : List (ℕ × ℕ)
+  pub are_rows : AreRowsOf pages rows
+  pub map : SameMap (map_of whole) (map_of_rows rows)
+
+-- Why an index was not closed: one of its passes is missing; or all are there, and there was no memory.
+abbrev pub IsCloseFault : Index → List Pass → CloseFault → Type 0
+IsCloseFault index passes fault.Pass = (n : ℕ) × (n < passes_of index) × ¬ HasPass passes n
+IsCloseFault index passes fault.Memory = AreAll index passes
+
+-- The index and the passes come back as they were.
+pub record IsRefused (index : Index) (passes : List Pass) (back : Index) (passes_back : List Pass) (why : CloseFault) : Type 0 where
+  pub index_is : back ≡ index
+  pub passes_are : passes_back ≡ passes
+  pub why_is : IsCloseFault index passes why
+
+-- empty vectors with room for so many hands and pages
+pub record HasRoom (hands pages : ℕ) (room : Room) : Type 0 where
+  pub hands_empty : room.hands.items ≡ []
+  pub hands_fit : hands ≤ vec_capacity room.hands
+  pub words_empty : room.words.items ≡ []
+  pub words_fit : pages ≤ vec_capacity room.words
+  pub pages_empty : room.pages.items ≡ []
+  pub pages_fit : pages ≤ vec_capacity room.pages
+
+-- the hand is that of a pass
+pub record IsHandOf (passes : List Pass) (hand : Hand Mine) : Type 0 where
+  pub place : ℕ
+  pub pass : Pass
+  pub at : get_elem? passes place ≡ some pass
+  pub is : pass.hand ≡ hand
+
+-- the hand is among them
+abbrev pub IsAmong : List (Hand Mine) → Hand Mine → Type 0
+IsAmong hands hand = (k : ℕ) × (get_elem? hands k ≡ some hand)
+
+-- the hands of the passes, and no others
+pub record AreHandsOf (passes : List Pass) (hands : List (Hand Mine)) : Type 0 where
+  pub only : (k : ℕ) (hand : Hand Mine) → get_elem? hands k ≡ some hand → IsHandOf passes hand
+  pub all : (k : ℕ) (pass : Pass) → get_elem? passes k ≡ some pass → IsAmong hands pass.hand

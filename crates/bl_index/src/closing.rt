@@ -1,0 +1,111 @@
+//! An index is closed: all its passes come back, and what its pages hold is a sound image.
+
+ghost use Rattle.std.specs.Prelude.{◌≡◌, ℕ, ◌<◌, ◌≤◌, true, false, [], length, vec_capacity, IfOk, IfErr};
+ghost use Rattle.bl_index.specs.Closed.{HasPass, HasRoom, AreHandsOf};
+
+use crate::config::CloseFault;
+use crate::index::{Index, Pass};
+use bl_check::Quiet;
+use bl_image::Image;
+use bl_page::Page;
+use bl_passes::Mine;
+use bl_store::Hand;
+use std::alloc::{AllocError, Global};
+
+// What a close fills.
+#[derive(Drop)]
+struct Room {
+    hands: Vec<Hand<Mine>>,
+    words: Vec<[u64; 32]>,
+    pages: Vec<Option<Page>>,
+}
+
+impl Room {
+    fn of(alloc: Global, hands: usize, pages: usize) -> Result<Room, AllocError>
+        ensures { IfOk result (HasRoom hands pages) }
+    {
+        Ok(Room {
+            hands: Vec::with_capacity(alloc, hands)?,
+            words: Vec::with_capacity(alloc, pages)?,
+            pages: Vec::with_capacity(alloc, pages)?,
+        })
+    }
+}
+
+/// Whether one of the passes has that number.
+fn has_pass(passes: &[Pass], number: u32) -> bool
+    ensures yes { result ≡ true → HasPass passes.now number }
+    ensures no { result ≡ false → ¬ HasPass passes.now number }
+{
+    for pass in passes {
+        if pass.hand.number() == number {
+            return true;
+        }
+    }
+    false
+}
+
+/// Whether there is a pass of each of the first so many numbers.
+fn has_all(passes: &[Pass], count: u32) -> bool
+    ensures yes { result ≡ true → (n : ℕ) → n < count → HasPass passes.now n }
+    ensures no { result ≡ false → (n : ℕ) × (n < count) × ¬ HasPass passes.now n }
+{
+    for number in 0..count {
+        if !has_pass(passes, number) {
+            return false;
+        }
+    }
+    true
+}
+
+/// The hands of the passes.
+fn hands_of(mut passes: Vec<Pass>, mut room: Vec<Hand<Mine>>) -> Vec<Hand<Mine>>
+    requires { (room.items ≡ []) × (length passes.items ≤ vec_capacity room) }
+    ensures { AreHandsOf passes.items result.items }
+{
+    while let Some(pass) = passes.pop() {
+        room.push_reserved(pass.hand);
+    }
+    room
+}
+
+impl Index {
+    ghost use Rattle.bl_index.specs.Closed.{AreOf, AreAll, Closes, IsRefused};
+
+    /// Closes the index: the image of its pages, which is sound, and whose rows are the map after all that has happened. It
+    /// takes all passes. Where one is missing, or there is no memory, the index and the passes come back as they were.
+    pub fn close(
+        self,
+        alloc: Global,
+        passes: Vec<Pass>,
+    ) -> Result<Quiet, (Index, Vec<Pass>, CloseFault)>
+        requires own { AreOf self passes.items }
+        ensures ok { IfOk result (λ quiet. Closes self passes.items quiet.image.pages.items) }
+        ensures fault { IfErr result (λ t. IsRefused self passes.items t.0 t.1.items t.2) }
+    {
+        if !has_all(passes.as_slice(), self.passes) {
+            return Err((self, passes, CloseFault::Pass));
+        }
+        match Room::of(alloc, passes.len(), self.pages as usize) {
+            Ok(room) => Ok(self.shut(passes, room)),
+            Err(_) => Err((self, passes, CloseFault::Memory)),
+        }
+    }
+
+    fn shut(self, passes: Vec<Pass>, room: Room) -> Quiet
+        requires own { AreOf self passes.items }
+        requires all { AreAll self passes.items }
+        requires room { HasRoom (length passes.items) self.pages room }
+        ensures { Closes self passes.items result.image.pages.items }
+    {
+        let Room {
+            hands,
+            words,
+            pages,
+        } = room;
+        let hands = hands_of(passes, hands);
+        let words = self.store.close(hands, words);
+        let image = Image::from_words(words.as_slice(), pages);
+        Quiet::new(image)
+    }
+}
