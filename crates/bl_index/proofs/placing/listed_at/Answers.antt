@@ -1,5 +1,4 @@
-use Rattle.std.proofs.Common.{◌≡◌, ℕ, ◌+◌, ◌*◌, ◌-◌, ◌<◌, ◌≤◌, length, get_or, Some, None, ap, subst, sym, ◌∙◌, arith}
-use Rattle.bl_model.specs.Rows.{map_of}
+use Rattle.std.proofs.Common.{◌≡◌, ◌+◌, ◌*◌, ◌-◌, ◌≤◌, length, get_or, Some, ap, sym, ◌∙◌, arith}
 use Rattle.bl_page.specs.Pairs.{place}
 use Rattle.bl_page.specs.Faults.{count_in, pairs_of}
 use Rattle.bl_page.proofs.Lookups.{place-le}

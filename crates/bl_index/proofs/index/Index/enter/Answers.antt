@@ -1,4 +1,4 @@
-use Rattle.std.proofs.Common.{inl, Bool, refl, sym, ap, ◌∙◌}
+use Rattle.std.proofs.Common.{inl, Bool, refl, ap, ◌∙◌}
 use Rattle.bl_proc.specs.declared.inserting.InsertStage.TheVariants as insert
 use Rattle.bl_proc.specs.Inserts.{insert_reply, inserted_answer}
 use Rattle.bl_proc.specs.Processes.{next_of}

@@ -5,7 +5,6 @@ use Rattle.bl_page.specs.declared.page.Page.{Page}
 use Rattle.bl_page.specs.Faults.{HasPairs, pairs_of as pairs_in_words}
 use Rattle.bl_page.specs.Pairs.{place}
 use Rattle.bl_page.specs.Words.{words_of}
-use Rattle.bl_page.proofs.Lookups.{place-le}
 use Rattle.bl_rearrange.specs.Rearranged.{pairs_of}
 use Rattle.bl_ways.specs.declared.changing.Change.TheVariants as change
 use Rattle.bl_ways.specs.declared.changing.Full.{Full}
