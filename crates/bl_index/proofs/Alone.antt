@@ -70,10 +70,10 @@ module _ (index : Index) (old : Pass) (h : Seat (Unit {0}) (View Mine)) (op : Op
       let first : number_of old ≡ 0 = omega (arith, mine.0, mine.1, passes) in
       let all : h.me.0.layout.passes ≡ 1 = ap (λ (z : Layout). z.passes) same.1 ∙ passes in
       alone_answers op reply (trail old) new
-          (subst (λ (z : ℕ). AreWithin z (trail old)) one (pass_within index old of))
-          (subst (λ (z : ℕ). AreWithin z new) all within)
-          answers.seen
-          (subst (λ (n : ℕ). own n new ≡ own n (trail old) ++ record { pass = n; op = op; reply = reply } ∷ []) first answers.once)
+      (subst (λ (z : ℕ). AreWithin z (trail old)) one (pass_within index old of))
+      (subst (λ (z : ℕ). AreWithin z new) all within)
+      answers.seen
+      (subst (λ (n : ℕ). own n new ≡ own n (trail old) ++ record { pass = n; op = op; reply = reply } ∷ []) first answers.once)
 
   pub finds_alone : (pages turns : ℕ) (result : Result Reply OutOfTurns) → AnswersOrRunsOut pages (number_of old) turns op result (trail old) new → IfOk result (λ reply. StepsAlone index op reply (trail old) new)
   finds_alone pages turns (Ok reply) answered = steps_alone reply answered.answered.answers

@@ -140,8 +140,8 @@ module _ (l : Layout) (hands : List (Hand Mine)) (result : List (List ℕ)) (c :
           let past : page_at pages x ≡ None = get_or_past pages x None (omega (arith, ge, count, long)) in
           let size = c.kept.size in let contents = c.orderly.contents in
           let shut : w.now.owner x ≢ machine.Owner.Open = λ o.
-              let low = c.kept.good.owned.small x (λ free. let z : machine.Released ≡ machine.Owner.Open = sym (c.kept.good.owned.free x free) ∙ o in cc) in
-              absurd (omega (arith, low, ge, size, contents)) in
+          let low = c.kept.good.owned.small x (λ free. let z : machine.Released ≡ machine.Owner.Open = sym (c.kept.good.owned.free x free) ∙ o in cc) in
+          absurd (omega (arith, low, ge, size, contents)) in
           subst (IsLeft w.now x) (sym past) shut
     ]
 

@@ -163,9 +163,11 @@ module _ {P : Type 0} (know : P → Know) (w : World P) (g : IsGood know w) (pag
   has_next : (x : ℕ) (h : IsLive (w.status x)) → (node x).shape.end < unbounded → HasNext pages (here x h).span
   has_next x h lt =
       let t = here x h in
-      let some : t.span.high ≢ 0 = some_bound t.span.high (subst (λ (e : ℕ). e < unbounded) t.end lt) in
-      (some, subst (λ (z : ℕ). StandsAt pages z t.span.level t.span.high) t.right (stands_at (node x).shape.right t.span.level t.span.high
-      (g.tree.side.link_live x h lt) (g.tree.side.link_level x h lt ∙ t.level) (g.tree.side.link_same x h lt (not_left x (node x).shape.right h) ∙ (t.end ∙ bound_is t.span.high some))))
+      let some : t.span.high ≢ 0 = some_bound t.span.high (subst (λ (e : ℕ). e < unbounded) t.end lt) in (
+        some,
+        subst (λ (z : ℕ). StandsAt pages z t.span.level t.span.high) t.right (stands_at (node x).shape.right t.span.level t.span.high
+            (g.tree.side.link_live x h lt) (g.tree.side.link_level x h lt ∙ t.level) (g.tree.side.link_same x h lt (not_left x (node x).shape.right h) ∙ (t.end ∙ bound_is t.span.high some))),
+      )
 
   link_fits : (x : ℕ) (h : IsLive (w.status x)) → LinkFits pages (here x h).span
   link_fits x h =
@@ -240,9 +242,10 @@ module _ {P : Type 0} (know : P → Know) (w : World P) (g : IsGood know w) (pag
   on_chain x h =
       let below = g.tree.below x h in
       let c = has_chain (node x).shape.level middles g.tree below in
-      let begins = c.begins in
-      (subst (λ (n : ℕ). (node x).shape.level < n) (sym level_count) below,
-      subst (λ (z : ℕ). Reaches pages z x) (sym (leftmost_page (node x).shape.level)) (reach (node x).shape.level ((roots_of (w.now.contents 0)).leftmost (node x).shape.level) x c.rest c.chain h refl (omega (arith, begins))))
+      let begins = c.begins in (
+        subst (λ (n : ℕ). (node x).shape.level < n) (sym level_count) below,
+        subst (λ (z : ℕ). Reaches pages z x) (sym (leftmost_page (node x).shape.level)) (reach (node x).shape.level ((roots_of (w.now.contents 0)).leftmost (node x).shape.level) x c.rest c.chain h refl (omega (arith, begins))),
+      )
 
   -- children
 
