@@ -1,5 +1,5 @@
 -- Worked examples of the definitions.
-use Rattle.std.proofs.Common.{◌≡◌, List, [], ◌∷◌, codes, decimal, refl, lit<}
+use Rattle.std.proofs.Common.{◌≡◌, List, [], ◌∷◌, codes, decimal, refl, lit<, lit≤, Some}
 use Rattle.std.proofs.lemmas.Fmt.{decimal_digit}
 use Rattle.std.proofs.lemmas.List.Elements.{All-nil, All-cons}
 use Rattle.bl_model.specs.declared.operation.Op.TheVariants.{Find, Insert, Part}
@@ -8,9 +8,9 @@ use Rattle.bl_model.specs.declared.operation.Next.TheVariants.{More, End}
 use Rattle.bl_model.specs.declared.operation.Entry.{Entry}
 use Rattle.bl_model.specs.Map.{empty}
 use Rattle.bl_model.specs.History.{IsLegalFrom}
-use Rattle.bl_lines.specs.declared.request.Request.TheVariants.{Ask, Sync}
+use Rattle.bl_lines.specs.declared.request.Request.TheVariants.{Ask, Scan, Sync}
 use Rattle.bl_lines.specs.Text.{Spells}
-use Rattle.bl_lines.specs.Lines.{Line, Replied, Scanned, Synced, answer_text, input_of, output_of, rest_text}
+use Rattle.bl_lines.specs.Lines.{Line, AreParts, Replied, Scanned, Synced, answer_text, input_of, output_of, rest_text}
 use Rattle.bl_lines.specs.Served.{Interleaves}
 
 abbrev inserted : Entry
@@ -76,7 +76,25 @@ as_written = simp (one, two, three, five)
 rest_written : rest_text 4 (codes "find") ≡ codes "4 malformed\n"
 rest_written = simp four
 
+scan_line : Spells (codes "scan 1 4") (Scan 1 4)
+scan_line = (lit< tt, lit< tt, simp (one, four))
+
+abbrev first_part : Entry
+first_part = record { pass = 0; op = Part 1; reply = Rows (record { items = (1, 2) ∷ (2, 3) ∷ [] }) (More 3) }
+
+abbrev second_part : Entry
+second_part = record { pass = 0; op = Part 3; reply = Rows (record { items = (3, 1) ∷ (4, 5) ∷ [] }) End }
+
+scan_parts : AreParts (Some 1) 4 (first_part ∷ second_part ∷ [])
+scan_parts = (lit< tt, refl, (lit< tt, refl, tt))
+
+-- a scan from 5 up to 5 has none
+no_parts : AreParts (Some 5) 5 []
+no_parts = lit≤ tt
+
+none_written : answer_text (Scanned 5 5 []) ≡ codes "rows"
+none_written = refl
+
 -- a scan from 1 up to 4 in two parts, of which the second goes on past its end
-scan_written : answer_text (Scanned 1 4 (record { pass = 0; op = Part 1; reply = Rows (record { items = (1, 2) ∷ (2, 3) ∷ [] }) (More 3) }
-    ∷ record { pass = 0; op = Part 3; reply = Rows (record { items = (3, 1) ∷ (4, 5) ∷ [] }) End } ∷ [])) ≡ codes "rows 1=2 2=3 3=1"
+scan_written : answer_text (Scanned 1 4 (first_part ∷ second_part ∷ [])) ≡ codes "rows 1=2 2=3 3=1"
 scan_written = simp (one, two, three)

@@ -4,7 +4,7 @@ use Rattle.std.proofs.lemmas.Fmt.{length-decimal-le}
 use Rattle.std.specs.Prelude.{Option, Some, None, IsNone}
 use Rattle.bl_model.specs.declared.operation.Op.TheVariants.{Find, Insert, Delete, Part}
 use Rattle.bl_lines.specs.declared.request.Request.{Request}
-use Rattle.bl_lines.specs.declared.request.Request.TheVariants.{Ask, Sync}
+use Rattle.bl_lines.specs.declared.request.Request.TheVariants.{Ask, Scan, Sync}
 use Rattle.bl_lines.specs.Text.{Spells, IsMalformed, Means}
 
 short_number : (n : ℕ) → n < 2 ^ 64 → length (decimal n) ≤ 20
@@ -20,6 +20,10 @@ short_request line (Ask (Insert k v)) (small, small_v, is) = let n = short_numbe
 short_request line (Ask (Delete k)) (small, is) = let n = short_number k small in let e = length-append (codes "delete ") (decimal k) in let w : length (codes "delete ") ≡ 7 = refl in
     let same : length line ≡ length (codes "delete " ++ decimal k) = ap length is in omega (arith, n, e, w, same)
 short_request line (Ask (Part from)) spells = absurd spells
+short_request line (Scan l h) (small, small_h, is) = let n = short_number l small in let m = short_number h small_h in
+    let a = length-append (codes "scan ") (decimal l) in let b = length-append (codes "scan " ++ decimal l) (codes " ") in let c = length-append (codes "scan " ++ decimal l ++ codes " ") (decimal h) in
+    let w : length (codes "scan ") ≡ 5 = refl in let x : length (codes " ") ≡ 1 = refl in
+    let same : length line ≡ length (codes "scan " ++ decimal l ++ codes " " ++ decimal h) = ap length is in omega (arith, n, m, a, b, c, w, x, same)
 short_request line Sync is = let same : length line ≡ 4 = ap length is in omega (arith, same)
 
 pub long_line : (line : List ℕ) → 64 < length line → IsMalformed line

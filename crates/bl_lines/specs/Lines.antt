@@ -1,9 +1,12 @@
 -- Lines of the input, their answers, and the lines of the output.
-use Rattle.std.specs.Prelude.{◌≢◌, ℕ, suc, List, [], ◌∷◌, ◌++◌, All, flat_map, filter, nat_lt, codes}
+use Rattle.std.specs.Prelude.{◌≡◌, ◌≢◌, ℕ, suc, ◌<◌, ◌≤◌, Option, Some, None, List, [], ◌∷◌, ◌++◌, All, flat_map, filter, nat_lt, codes}
+use Rattle.bl_model.specs.declared.operation.Next.{Next}
+use Rattle.bl_model.specs.declared.operation.Next.TheVariants.{More, End}
+use Rattle.bl_model.specs.declared.operation.Op.TheVariants.{Part}
 use Rattle.bl_model.specs.declared.operation.Reply.{Reply}
 use Rattle.bl_model.specs.declared.operation.Reply.TheVariants.{Rows}
 use Rattle.bl_model.specs.declared.operation.Entry.{Entry}
-use Rattle.bl_lines.specs.declared.request.Request.TheVariants.{Ask, Sync}
+use Rattle.bl_lines.specs.declared.request.Request.TheVariants.{Ask, Scan, Sync}
 use Rattle.bl_lines.specs.Text.{Spells, IsMalformed, reply_text, row_text, numbered}
 
 -- what a line is answered: an operation's entry; a scan's bounds and its parts in order; that a section ended; that it spells no request
@@ -22,10 +25,32 @@ pub record Line : Type 0 where
 abbrev pub HasNoLf : List ℕ → Type 0
 HasNoLf bytes = All (λ b. b ≢ 10) bytes
 
--- The answer is of the line's kind. No line asks for a scan yet.
+-- the rows of a part
+abbrev pub rows_of : Reply → List (ℕ × ℕ)
+rows_of (Rows rows next) = rows.items
+rows_of reply = []
+
+-- the key that a part ended before; none, where it went to the end of the map
+abbrev pub end_of : Next → Option ℕ
+end_of (More key) = Some key
+end_of End = None
+
+abbrev pub ended_at : Reply → Option ℕ
+ended_at (Rows rows next) = end_of next
+ended_at reply = None
+
+-- The parts of a scan up to its end: the first from that key on, each further one from where the last one ended, and each from below
+-- the scan's end. Behind the last one nothing is left: it went to the end of the map, or not less far than the scan.
+abbrev pub AreParts : Option ℕ → ℕ → List Entry → Type 0
+AreParts None high [] = Unit {0}
+AreParts (Some from) high [] = high ≤ from
+AreParts None high (e ∷ es) = ⊥
+AreParts (Some from) high (e ∷ es) = (from < high) × (e.op ≡ Part from) × AreParts (ended_at e.reply) high es
+
+-- The answer is of the line's kind.
 abbrev pub Fits : List ℕ → Answer → Type 0
 Fits bytes (Replied entry) = Spells bytes (Ask entry.op)
-Fits bytes (Scanned low high parts) = ⊥
+Fits bytes (Scanned low high parts) = Spells bytes (Scan low high) × AreParts (Some low) high parts
 Fits bytes Synced = Spells bytes Sync
 Fits bytes Malformed = IsMalformed bytes
 
@@ -40,15 +65,14 @@ entries (Scanned low high parts) = parts
 entries Synced = []
 entries Malformed = []
 
--- the rows of a part
-abbrev pub rows_of : Reply → List (ℕ × ℕ)
-rows_of (Rows rows next) = rows.items
-rows_of reply = []
+-- the rows that lie below a key
+abbrev pub rows_below : ℕ → List (ℕ × ℕ) → List (ℕ × ℕ)
+rows_below high rows = filter (λ row. nat_lt row.0 high) rows
 
 -- what is printed behind a line's number; of a scan, the rows of its parts that lie below its end
 abbrev pub answer_text : Answer → List ℕ
 answer_text (Replied entry) = reply_text entry.reply
-answer_text (Scanned low high parts) = codes "rows" ++ flat_map row_text (filter (λ row. nat_lt row.0 high) (flat_map (λ entry. rows_of entry.reply) parts))
+answer_text (Scanned low high parts) = codes "rows" ++ flat_map row_text (rows_below high (flat_map (λ entry. rows_of entry.reply) parts))
 answer_text Synced = codes "synced"
 answer_text Malformed = codes "malformed"
 

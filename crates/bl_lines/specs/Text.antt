@@ -6,16 +6,17 @@ use Rattle.bl_model.specs.declared.operation.Next.TheVariants.{More, End}
 use Rattle.bl_model.specs.declared.operation.Reply.{Reply}
 use Rattle.bl_model.specs.declared.operation.Reply.TheVariants.{Found, Absent, Inserted, Present, Deleted, Rows, NoRoom}
 use Rattle.bl_lines.specs.declared.request.Request.{Request}
-use Rattle.bl_lines.specs.declared.request.Request.TheVariants.{Ask, Sync}
+use Rattle.bl_lines.specs.declared.request.Request.TheVariants.{Ask, Scan, Sync}
 use Rattle.bl_lines.specs.declared.print.Response.{Response}
 use Rattle.bl_lines.specs.declared.print.Response.TheVariants.{Replied, Synced, Malformed}
 
--- the line is a spelling of the request, whose numbers have 64 bits; no line asks for a part
+-- the line is a spelling of the request, whose numbers have 64 bits; no line asks for one part alone
 abbrev pub Spells : List ℕ → Request → Type 0
 Spells line (Ask (Find key)) = (key < 2 ^ 64) × (line ≡ codes "find " ++ decimal key)
 Spells line (Ask (Insert key value)) = (key < 2 ^ 64) × (value < 2 ^ 64) × (line ≡ codes "insert " ++ decimal key ++ codes " " ++ decimal value)
 Spells line (Ask (Delete key)) = (key < 2 ^ 64) × (line ≡ codes "delete " ++ decimal key)
 Spells line (Ask (Part from)) = ⊥
+Spells line (Scan low high) = (low < 2 ^ 64) × (high < 2 ^ 64) × (line ≡ codes "scan " ++ decimal low ++ codes " " ++ decimal high)
 Spells line Sync = line ≡ codes "sync"
 
 -- the line is a spelling of no request

@@ -1,6 +1,7 @@
 //! The printed form of replies.
 
 ghost use Rattle.std.specs.Prelude.{◌≡◌, ◌++◌, flat_map, OnOk, codes, decimal};
+ghost use Rattle.bl_lines.specs.Lines.{rows_below};
 ghost use Rattle.bl_lines.specs.Text.{row_text, next_text, reply_text, response_text, numbered};
 
 use bl_model::{Next, Reply};
@@ -27,13 +28,32 @@ pub fn push_number(out: &mut Vec<u8>, word: &[u8], value: u64) -> Result<(), All
     out.extend_from_slice(buffer.format(value).as_bytes())
 }
 
+/// Appends a row.
+fn push_row(out: &mut Vec<u8>, row: &(u64, u64)) -> Result<(), AllocError>
+    ensures { OnOk result (out.new.items ≡ out.old.items ++ row_text row.now) }
+{
+    push_number(out, b" ", row.0)?;
+    push_number(out, b"=", row.1)
+}
+
 /// Appends the rows of a part.
 fn push_rows(out: &mut Vec<u8>, rows: &[(u64, u64)]) -> Result<(), AllocError>
     ensures { OnOk result (out.new.items ≡ out.old.items ++ flat_map row_text rows.now) }
 {
     for row in rows {
-        push_number(out, b" ", row.0)?;
-        push_number(out, b"=", row.1)?;
+        push_row(out, row)?;
+    }
+    Ok(())
+}
+
+/// Appends the rows whose keys lie below an end.
+pub fn push_rows_below(out: &mut Vec<u8>, rows: &[(u64, u64)], end: u64) -> Result<(), AllocError>
+    ensures { OnOk result (out.new.items ≡ out.old.items ++ flat_map row_text (rows_below end rows.now)) }
+{
+    for row in rows {
+        if row.0 < end {
+            push_row(out, row)?;
+        }
     }
     Ok(())
 }

@@ -14,6 +14,8 @@ pub const LINE_LIMIT: usize = 64;
 pub enum Request {
     /// One operation, which is no `Part`.
     Ask(Op),
+    /// The rows from the first key on, below the second one.
+    Scan(u64, u64),
     /// The end of a section.
     Sync,
 }
@@ -45,6 +47,12 @@ pub fn parse(line: &[u8]) -> Option<Request>
     if let Some(rest) = after(line, b"delete ") {
         return match number(rest) {
             Some(key) => Some(Request::Ask(Op::Delete(key))),
+            None => None,
+        };
+    }
+    if let Some(rest) = after(line, b"scan ") {
+        return match two_numbers(rest) {
+            Some((low, high)) => Some(Request::Scan(low, high)),
             None => None,
         };
     }

@@ -1,5 +1,5 @@
 use crate::number::{number, two_numbers};
-use crate::print::{Response, push_line};
+use crate::print::{Response, push_line, push_rows_below};
 use crate::request::{Request, parse};
 use crate::serving::ServeFault;
 use crate::source::{Cut, KEPT, Source};
@@ -11,7 +11,7 @@ use std::test::Fail;
 
 #[test]
 fn lines_spell_requests(rt: HostRuntime) {
-    let cases: [(&[u8], Request); 5] = [
+    let cases: [(&[u8], Request); 7] = [
         (b"find 5", Request::Ask(Op::Find(5))),
         (
             b"find 18446744073709551615",
@@ -19,6 +19,8 @@ fn lines_spell_requests(rt: HostRuntime) {
         ),
         (b"insert 1 10", Request::Ask(Op::Insert(1, 10))),
         (b"delete 0", Request::Ask(Op::Delete(0))),
+        (b"scan 5 5", Request::Scan(5, 5)),
+        (b"scan 0 18446744073709551615", Request::Scan(0, u64::MAX)),
         (b"sync", Request::Sync),
     ];
     for (line, request) in cases {
@@ -28,7 +30,7 @@ fn lines_spell_requests(rt: HostRuntime) {
 
 #[test]
 fn bad_lines_are_malformed(rt: HostRuntime) {
-    let cases: [&[u8]; 22] = [
+    let cases: [&[u8]; 27] = [
         b"",
         b"\r",
         b"find 1\r",
@@ -47,6 +49,11 @@ fn bad_lines_are_malformed(rt: HostRuntime) {
         b"insert 1",
         b"insert 1 2 3",
         b"sync ",
+        b"scan",
+        b"scan 1",
+        b"scan 1 2 3",
+        b"scan 01 2",
+        b"scan 1 18446744073709551616",
         b"change 1 2",
         b"part 1",
         b"\xff\xfe",
@@ -89,6 +96,19 @@ fn answers_are_printed_by_number(rt: HostRuntime) -> Result<(), Fail> {
         push_line(&mut out, 7, response)?;
         assert_eq!(rt; out.as_slice(), *line);
     }
+    Ok(())
+}
+
+#[test]
+fn rows_are_printed_below_an_end(rt: HostRuntime) -> Result<(), Fail> {
+    let rows = [(7, 70), (8, 80), (9, 90), (10, 100), (11, 110)];
+    let mut out = Vec::new(rt.alloc());
+    push_rows_below(&mut out, &rows, 9)?;
+    assert_eq!(rt; out.as_slice(), b" 7=70 8=80".as_slice());
+    push_rows_below(&mut out, &rows, 7)?;
+    assert_eq!(rt; out.as_slice(), b" 7=70 8=80".as_slice());
+    push_rows_below(&mut out, &rows[4..], 99)?;
+    assert_eq!(rt; out.as_slice(), b" 7=70 8=80 11=110".as_slice());
     Ok(())
 }
 

@@ -11,3 +11,4 @@ pub mod Holding
 pub mod Cutting
 pub mod Faults
 pub mod Beginning
+pub mod Scanning

@@ -1,6 +1,6 @@
 -- Lines that are answered one after another, and batches that follow each other.
-use Rattle.std.proofs.Common.{◌≡◌, ℕ, suc, ◌+◌, ◌-◌, ◌<◌, ◌≤◌, List, [], ◌∷◌, ◌++◌, length, take, drop, map, get_or, refl, sym, ap, ◌∙◌, subst, append_assoc, arith, length-append, append-nil}
-use Rattle.std.specs.Prelude.{All, Option, Some, None, flat_map}
+use Rattle.std.proofs.Common.{◌≡◌, ℕ, suc, ◌+◌, ◌<◌, ◌≤◌, List, [], ◌∷◌, ◌++◌, length, take, map, get_or, refl, sym, ap, ◌∙◌, subst, append_assoc, arith, append-nil}
+use Rattle.std.specs.Prelude.{Option, Some, None, flat_map, codes, decimal}
 use Rattle.std.specs.List.{AllZip}
 use Rattle.std.proofs.lemmas.List.{flat_map_more, take_more, take_all, length-take-le, map-append}
 use Rattle.std.proofs.lemmas.List.Concat.{flat_map-append}
@@ -9,32 +9,16 @@ use Rattle.bl_model.specs.declared.operation.Entry.{Entry}
 use Rattle.bl_model.specs.declared.operation.Op.{Op}
 use Rattle.bl_model.specs.declared.operation.Reply.{Reply}
 use Rattle.bl_lines.specs.declared.request.Request.{Request}
-use Rattle.bl_lines.specs.declared.request.Request.TheVariants.{Ask, Sync}
-use Rattle.bl_lines.specs.declared.print.Response.{Response}
-use Rattle.bl_lines.specs.declared.print.Response.TheVariants as response
-use Rattle.bl_lines.specs.Lines.{Answer, Replied, Scanned, Synced, Malformed, entries, answer_text}
-use Rattle.bl_lines.specs.Text.{numbered, reply_text, response_text}
+use Rattle.bl_lines.specs.declared.request.Request.TheVariants.{Ask, Scan, Sync}
+use Rattle.bl_lines.specs.Lines.{Answer, Replied, Scanned, Synced, Malformed, rows_of, rows_below, entries, answer_text}
+use Rattle.bl_lines.specs.Text.{numbered, reply_text, row_text}
 use Rattle.bl_trails.specs.Trails.{Trail}
 use Rattle.bl_passes.specs.Seeing.{own, GoesOnFrom}
 use Rattle.bl_serve.specs.Works.{Works, Adds}
-use Rattle.bl_index.specs.declared.index.Pass.{Pass}
-use Rattle.bl_index.specs.Calls.{IsSamePass, number_of, trail}
 use Rattle.bl_serve.specs.declared.working.Written.{Written}
 use Rattle.bl_serve.specs.Joining.{Chains, text_of}
 use Rattle.bl_serve.specs.Turns.{Piece, IsPiece, Logs, lines_in}
-use Rattle.bl_serve.specs.Answering.{IsFor, Shows, answers_text, AnswersLine, AnswersLines}
-
-shown_text : (answer : Answer) (shown : Response) → Shows answer shown → response_text shown ≡ answer_text answer
-shown_text (Replied entry) (response.Replied reply) h = ap reply_text h
-shown_text (Replied entry) response.Synced h = absurd h
-shown_text (Replied entry) response.Malformed h = absurd h
-shown_text (Scanned low high parts) shown h = absurd h
-shown_text Synced (response.Replied reply) h = absurd h
-shown_text Synced response.Synced h = refl
-shown_text Synced response.Malformed h = absurd h
-shown_text Malformed (response.Replied reply) h = absurd h
-shown_text Malformed response.Synced h = absurd h
-shown_text Malformed response.Malformed h = refl
+use Rattle.bl_serve.specs.Answering.{IsFor, answers_text, AnswersLine, AnswersLines, WritesRows}
 
 pub zip_append : {A B : Type 0} (R : A → B → Type 0) (xs us : List A) (ys vs : List B) → AllZip R xs ys → AllZip R us vs → AllZip R (xs ++ us) (ys ++ vs)
 zip_append R [] us [] vs h k = k
@@ -63,14 +47,13 @@ stays old = ([], sym (append-nil old))
 pub no_lines : (pass first : ℕ) (old : Trail) → AnswersLines pass first [] [] old old
 no_lines pass first old = record { answers = []; each = tt; prints = refl; begins = stays old; seen = λ s. s; mine = sym (append-nil (own pass old)) }
 
-pub one_more : (pass first n : ℕ) (lines : List (Option Request)) (asked : Option Request) (shown : Response) (text : List ℕ) (old mid new : Trail) → n ≡ first + length lines
-    → AnswersLines pass first lines text old mid → AnswersLine pass asked shown mid new → AnswersLines pass first (lines ++ asked ∷ []) (text ++ numbered n (response_text shown)) old new
-one_more pass first n lines asked shown text old mid new at a b = let long = zip_length IsFor lines a.answers a.each in
+pub one_more : (pass first n : ℕ) (lines : List (Option Request)) (asked : Option Request) (text more : List ℕ) (old mid new : Trail) → n ≡ first + length lines
+    → AnswersLines pass first lines text old mid → AnswersLine pass n asked text more mid new → AnswersLines pass first (lines ++ asked ∷ []) more old new
+one_more pass first n lines asked text more old mid new at a b = let long = zip_length IsFor lines a.answers a.each in
     let number : n ≡ first + length a.answers = omega arith in record {
       answers = a.answers ++ b.answer ∷ [];
       each = zip_append IsFor lines (asked ∷ []) a.answers (b.answer ∷ []) a.each (b.is_for, tt);
-      prints = ap (λ (z : List ℕ). z ++ numbered n (response_text shown)) a.prints
-          ∙ (ap (λ (z : List ℕ). answers_text first a.answers ++ numbered n z) (shown_text b.answer shown b.shows)
+      prints = b.prints ∙ (ap (λ (z : List ℕ). z ++ numbered n (answer_text b.answer)) a.prints
           ∙ (ap (λ (z : ℕ). answers_text first a.answers ++ numbered z (answer_text b.answer)) number
           ∙ (ap (λ (z : List ℕ). answers_text first a.answers ++ z) (sym (append-nil (numbered (first + length a.answers) (answer_text b.answer))))
           ∙ sym (text_append first a.answers (b.answer ∷ [])))));
@@ -81,29 +64,48 @@ one_more pass first n lines asked shown text old mid new at a b = let long = zip
 
 -- ---- single lines
 
-pub asked_line : (pass : ℕ) (op : Op) (reply : Reply) (old new : Trail) → Works pass op reply old new → AnswersLine pass (Some (Ask op)) (response.Replied reply) old new
-asked_line pass op reply old new w = record { answer = Replied (record { pass = pass; op = op; reply = reply }); shows = refl; is_for = refl; begins = w.begins; seen = λ s. w.seen; mine = w.once }
+asked_line : (pass n : ℕ) (op : Op) (reply : Reply) (before after : List ℕ) (old new : Trail) → Works pass op reply old new → after ≡ before ++ numbered n (reply_text reply) → AnswersLine pass n (Some (Ask op)) before after old new
+asked_line pass n op reply before after old new w is = record { answer = Replied (record { pass = pass; op = op; reply = reply }); is_for = refl; prints = is; begins = w.begins; seen = λ s. w.seen; mine = w.once }
 
-pub synced_line : (pass : ℕ) (old : Trail) → AnswersLine pass (Some Sync) response.Synced old old
-synced_line pass old = record { answer = Synced; shows = tt; is_for = tt; begins = stays old; seen = λ s. s; mine = sym (append-nil (own pass old)) }
+pub asked_as : (pass n : ℕ) (asked : Option Request) (request : Request) (op : Op) (reply : Reply) (before after : List ℕ) (old new : Trail) → asked ≡ Some request → request ≡ Ask op → Works pass op reply old new → after ≡ before ++ numbered n (reply_text reply)
+    → AnswersLine pass n asked before after old new
+asked_as pass n asked request op reply before after old new is ask w written = subst (λ (z : Option Request). AnswersLine pass n z before after old new) (sym (is ∙ ap Some ask)) (asked_line pass n op reply before after old new w written)
 
-pub malformed_line : (pass : ℕ) (old : Trail) → AnswersLine pass None response.Malformed old old
-malformed_line pass old = record { answer = Malformed; shows = tt; is_for = tt; begins = stays old; seen = λ s. s; mine = sym (append-nil (own pass old)) }
+pub scanned_line : (pass n low high : ℕ) (before head rows after : List ℕ) (old mid new : Trail) → head ≡ (before ++ decimal n) ++ codes " rows" → after ≡ rows ++ 10 ∷ [] → WritesRows pass low high head rows old mid → Adds pass mid new
+    → AnswersLine pass n (Some (Scan low high)) before after old new
+scanned_line pass n low high before head rows after old mid new headed is w a =
+    let listed : List ℕ = flat_map row_text (rows_below high (flat_map (λ entry. rows_of entry.reply) w.parts)) in record {
+      answer = Scanned low high w.parts;
+      is_for = (refl, refl, w.are_parts);
+      prints = is ∙ (ap (λ (z : List ℕ). z ++ 10 ∷ []) (w.prints ∙ ap (λ (z : List ℕ). z ++ listed) headed) ∙ line_of before (decimal n) listed);
+      begins = goes_on old mid new w.begins a.begins;
+      seen = λ s. a.seen (w.seen s);
+      mine = a.none ∙ w.mine;
+    }
+  where
+    line_of : (xs ys zs : List ℕ) → (((xs ++ ys) ++ codes " rows") ++ zs) ++ 10 ∷ [] ≡ xs ++ (ys ++ codes " " ++ (codes "rows" ++ zs) ++ 10 ∷ [])
+    line_of xs ys zs = append_assoc ((xs ++ ys) ++ codes " rows") zs (10 ∷ []) ∙ (append_assoc (xs ++ ys) (codes " rows") (zs ++ 10 ∷ []) ∙ (append_assoc xs ys (codes " rows" ++ (zs ++ 10 ∷ []))
+        ∙ ap (λ (t : List ℕ). xs ++ t) (sym (append_assoc (ys ++ codes " ") (codes "rows" ++ zs) (10 ∷ []) ∙ append_assoc ys (codes " ") ((codes "rows" ++ zs) ++ 10 ∷ [])))))
+
+pub synced_line : (pass n : ℕ) (before after : List ℕ) (old : Trail) → after ≡ before ++ numbered n (codes "synced") → AnswersLine pass n (Some Sync) before after old old
+synced_line pass n before after old is = record { answer = Synced; is_for = tt; prints = is; begins = stays old; seen = λ s. s; mine = sym (append-nil (own pass old)) }
+
+pub malformed_line : (pass n : ℕ) (before after : List ℕ) (old : Trail) → after ≡ before ++ numbered n (codes "malformed") → AnswersLine pass n None before after old old
+malformed_line pass n before after old is = record { answer = Malformed; is_for = tt; prints = is; begins = stays old; seen = λ s. s; mine = sym (append-nil (own pass old)) }
 
 -- ---- in a loop
 
 pub no_text : (pass first : ℕ) (text : List ℕ) (old : Trail) → text ≡ [] → AnswersLines pass first [] text old old
 no_text pass first text old is = subst (λ (z : List ℕ). AnswersLines pass first [] z old old) (sym is) (no_lines pass first old)
 
-pub next_line : (pass it first n i : ℕ) (lines : List (Option Request)) (asked d : Option Request) (shown : Response) (text more : List ℕ) (old mid new : Trail) → it ≡ pass → i < length lines → asked ≡ get_or lines i d → n ≡ first + i
-    → AnswersLines pass first (take i lines) text old mid → AnswersLine it asked shown mid new → more ≡ text ++ numbered n (response_text shown) → AnswersLines pass first (take (i + 1) lines) more old new
-next_line pass it first n i lines asked d shown text more old mid new same low at number a b is =
+pub next_line : (pass it first n i : ℕ) (lines : List (Option Request)) (asked d : Option Request) (text more : List ℕ) (old mid new : Trail) → it ≡ pass → i < length lines → asked ≡ get_or lines i d → n ≡ first + i
+    → AnswersLines pass first (take i lines) text old mid → AnswersLine it n asked text more mid new → AnswersLines pass first (take (i + 1) lines) more old new
+next_line pass it first n i lines asked d text more old mid new same low at number a b =
     let grown : take (i + 1) lines ≡ take i lines ++ asked ∷ [] = take_more lines i d low ∙ ap (λ (z : Option Request). take i lines ++ z ∷ []) (sym at) in
     let short : length (take i lines) ≡ i = length-take-le i lines (omega arith) in
-    let b' : AnswersLine pass asked shown mid new = subst (λ (z : ℕ). AnswersLine z asked shown mid new) same b in
+    let b' : AnswersLine pass n asked text more mid new = subst (λ (z : ℕ). AnswersLine z n asked text more mid new) same b in
     subst (λ (z : List (Option Request)). AnswersLines pass first z more old new) (sym grown)
-    (subst (λ (z : List ℕ). AnswersLines pass first (take i lines ++ asked ∷ []) z old new) (sym is)
-    (one_more pass first n (take i lines) asked shown text old mid new (omega arith) a b'))
+    (one_more pass first n (take i lines) asked text more old mid new (omega arith) a b')
 
 pub all_lines : (pass first i : ℕ) (lines : List (Option Request)) (text : List ℕ) (old new : Trail) → i ≡ length lines → AnswersLines pass first (take i lines) text old new → AnswersLines pass first lines text old new
 all_lines pass first i lines text old new is a = subst (λ (z : List (Option Request)). AnswersLines pass first z text old new) (take_all i lines (omega arith)) a

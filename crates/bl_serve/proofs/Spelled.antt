@@ -1,7 +1,8 @@
 -- Lines of the input, from their bytes and their answers.
-use Rattle.std.proofs.Common.{◌≡◌, ◌≢◌, ℕ, zero, suc, ◌+◌, ◌<◌, ◌≤◌, ◌^◌, ◌⊎◌, List, [], ◌∷◌, ◌++◌, length, map, refl, sym, ap, ◌∙◌, subst, append_assoc, append-nil, arith, length-append, inl, inr}
-use Rattle.std.specs.Prelude.{All, Option, Some, None, flat_map, sum_by, count_by, is_none, IsSome}
+use Rattle.std.proofs.Common.{◌≡◌, ◌≢◌, ℕ, zero, suc, ◌+◌, ◌<◌, ◌≤◌, List, [], ◌∷◌, ◌++◌, length, map, refl, sym, ap, ◌∙◌, subst, arith, ⊎_elim}
+use Rattle.std.specs.Prelude.{◌↔◌, All, Contains, Option, Some, None, flat_map, slice_index_or, sum_by, count_by, is_none, IsSome}
 use Rattle.std.specs.List.{AllZip}
+use Rattle.std.proofs.lemmas.Bool.{cases_lt}
 use Rattle.std.proofs.lemmas.Grind.{common_steps}
 use Rattle.std.proofs.lemmas.List.Concat.{flat_map-cons}
 use Rattle.std.proofs.lemmas.List.Elements.{All-nil, All-cons, All-head, All-tail}
@@ -9,12 +10,15 @@ use Rattle.bl_model.specs.declared.operation.Entry.{Entry}
 use Rattle.bl_model.specs.declared.operation.Op.{Op}
 use Rattle.bl_model.specs.declared.operation.Op.TheVariants.{Find, Insert, Delete, Part}
 use Rattle.bl_model.specs.declared.operation.Reply.{Reply}
-use Rattle.bl_model.specs.declared.operation.Reply.TheVariants.{Found, Absent, Present, NoRoom}
+use Rattle.bl_model.specs.declared.operation.Next.TheVariants.{More}
+use Rattle.bl_model.specs.declared.operation.Reply.TheVariants.{Found, Absent, Present, Rows, NoRoom}
 use Rattle.bl_lines.specs.declared.request.Request.{Request}
-use Rattle.bl_lines.specs.declared.request.Request.TheVariants.{Ask, Sync}
+use Rattle.bl_lines.specs.declared.request.Request.TheVariants.{Ask, Scan, Sync}
 use Rattle.bl_model.specs.Map.{Map, MayAnswer, map_step}
-use Rattle.bl_model.specs.History.{IsLegalFrom}
-use Rattle.bl_lines.specs.Lines.{Line, IsLine, HasNoLf, Fits, Answer, Replied, Scanned, Synced, Malformed, entries, answer_text, input_of, output_of}
+use Rattle.bl_model.specs.History.{IsLegalFrom, final_map}
+use Rattle.bl_model.specs.Rows.{HasRisingKeys}
+use Rattle.bl_model.proofs.Histories.{legal_append}
+use Rattle.bl_lines.specs.Lines.{Line, IsLine, AreParts, Fits, Answer, Replied, Scanned, Synced, Malformed, entries, answer_text, input_of, output_of}
 use Rattle.bl_lines.specs.Text.{Means, Spells, numbered}
 use Rattle.bl_lines.specs.Served.{HasNoSync, malformed_of}
 use Rattle.bl_serve.specs.Answering.{IsFor, answers_text}
@@ -30,6 +34,10 @@ fits_one (Some (Ask op)) (Replied entry) bytes m is = subst (λ (z : Op). Spells
 fits_one (Some (Ask op)) (Scanned low high parts) bytes m is = absurd is
 fits_one (Some (Ask op)) Synced bytes m is = absurd is
 fits_one (Some (Ask op)) Malformed bytes m is = absurd is
+fits_one (Some (Scan from to)) (Replied entry) bytes m is = absurd is
+fits_one (Some (Scan from to)) (Scanned low high parts) bytes m is = (subst (λ (z : ℕ). Spells bytes (Scan z high)) (sym is.0) (subst (λ (z : ℕ). Spells bytes (Scan from z)) (sym is.1) m), is.2)
+fits_one (Some (Scan from to)) Synced bytes m is = absurd is
+fits_one (Some (Scan from to)) Malformed bytes m is = absurd is
 fits_one (Some Sync) (Replied entry) bytes m is = absurd is
 fits_one (Some Sync) (Scanned low high parts) bytes m is = absurd is
 fits_one (Some Sync) Synced bytes m is = m
@@ -44,6 +52,10 @@ malformed_one (Some (Ask op)) (Replied entry) is = refl
 malformed_one (Some (Ask op)) (Scanned low high parts) is = absurd is
 malformed_one (Some (Ask op)) Synced is = absurd is
 malformed_one (Some (Ask op)) Malformed is = absurd is
+malformed_one (Some (Scan from to)) (Replied entry) is = absurd is
+malformed_one (Some (Scan from to)) (Scanned low high parts) is = refl
+malformed_one (Some (Scan from to)) Synced is = absurd is
+malformed_one (Some (Scan from to)) Malformed is = absurd is
 malformed_one (Some Sync) (Replied entry) is = absurd is
 malformed_one (Some Sync) (Scanned low high parts) is = absurd is
 malformed_one (Some Sync) Synced is = refl
@@ -55,6 +67,7 @@ malformed_one None Malformed is = refl
 
 not_synced : (asked : Option Request) (answer : Answer) → IsFor asked answer → asked ≢ Some Sync → answer ≢ Synced
 not_synced (Some (Ask op)) answer is other e = let h : IsFor (Some (Ask op)) Synced = subst (IsFor (Some (Ask op))) e is in absurd h
+not_synced (Some (Scan from to)) answer is other e = let h : IsFor (Some (Scan from to)) Synced = subst (IsFor (Some (Scan from to))) e is in absurd h
 not_synced (Some Sync) answer is other e = other refl
 not_synced None answer is other e = let h : IsFor None Synced = subst (IsFor None) e is in absurd h
 
@@ -144,6 +157,48 @@ some_reply m bytes (Delete key) a = go (m key) refl
     go None is = (Absent, is)
 some_reply m bytes (Part from) a = absurd a
 
+-- a row alone, if the map has the key
+abbrev one_row : ℕ → Option ℕ → List (ℕ × ℕ)
+one_row key (Some value) = (key, value) ∷ []
+one_row key None = []
+
+one_rises : (key : ℕ) (there : Option ℕ) → HasRisingKeys (one_row key there)
+one_rises key (Some value) i j low within = absurd (omega (arith, low, within))
+one_rises key None i j low within = let short : length (one_row key None) ≡ 0 = refl in absurd (omega (arith, low, within, short))
+
+one_pair : (m : Map) (at : ℕ) (there : Option ℕ) → m at ≡ there → (key value : ℕ) → Contains (one_row at there) (key, value) ↔ ((m key ≡ Some value) × ((at ≤ key) × (key < suc at)))
+one_pair m at (Some v) is key value = (
+  (λ (k, low, same). let first : k ≡ 0 = omega (arith, low) in let pair : ◌≡◌ {A = ℕ × ℕ} (at, v) (key, value) = subst (λ (z : ℕ). slice_index_or ((at, v) ∷ []) z (key, value) ≡ (key, value)) first same in
+      let e : at ≡ key = ap (λ (z : ℕ × ℕ). z.0) pair in let w : v ≡ value = ap (λ (z : ℕ × ℕ). z.1) pair in
+      (ap m (sym e) ∙ (is ∙ ap Some w), (omega (arith, e), omega (arith, e)))),
+  (λ (has, (low, high)). let e : at ≡ key = omega (arith, low, high) in let w : v ≡ value = let s : Some v ≡ Some value = sym is ∙ (ap m e ∙ has) in cc in
+      (0, omega arith, ap (λ (z : ℕ). (z, v)) e ∙ ap (λ (z : ℕ). (key, z)) w)),
+)
+one_pair m at None is key value = (
+  (λ (k, low, same). let short : length (one_row at None) ≡ 0 = refl in absurd (omega (arith, low, short))),
+  (λ (has, (low, high)). let e : at ≡ key = omega (arith, low, high) in let no : None ≡ Some value = sym is ∙ (ap m e ∙ has) in let never : ⊥ = cc in absurd never),
+)
+
+one_part : (m : Map) (at : ℕ) → MayAnswer m (Part at) (Rows (record { items = one_row at (m at) }) (More (suc at)))
+one_part m at = (omega arith, record { rising = one_rises at (m at); pairs = one_pair m at (m at) refl })
+
+-- parts of one key each
+pub record LawfulParts (m : Map) (low high : ℕ) : Type 0 where
+  pub parts : List Entry
+  pub are : AreParts (Some low) high parts
+  pub legal : IsLegalFrom m parts
+
+some_parts : (m : Map) (n low high : ℕ) → high ≤ low + n → LawfulParts m low high
+some_parts m zero low high within = record { parts = []; are = omega (arith, within); legal = tt }
+some_parts m (suc n) low high within = ⊎_elim
+    (λ (below : low < high). let r = some_parts m n (suc low) high (omega (arith, within)) in let reply : Reply = Rows (record { items = one_row low (m low) }) (More (suc low)) in record {
+      parts = record { pass = 0; op = Part low; reply = reply } ∷ r.parts;
+      are = (below, refl, r.are);
+      legal = (one_part m low, r.legal);
+    })
+    (λ (over : high ≤ low). record { parts = []; are = over; legal = tt })
+    (cases_lt low high)
+
 pub record Lawful (m : Map) (asked : List (Option Request)) : Type 0 where
   pub answers : List Answer
   pub each : AllZip IsFor asked answers
@@ -156,3 +211,5 @@ lawful m (None ∷ asked) (text ∷ texts) h = let r = lawful m asked texts h.1 
 lawful m (Some Sync ∷ asked) (text ∷ texts) h = let r = lawful m asked texts h.1 in record { answers = Synced ∷ r.answers; each = (tt, r.each); legal = r.legal }
 lawful m (Some (Ask op) ∷ asked) (text ∷ texts) h = let one = some_reply m text op h.0.means in let e : Entry = record { pass = 0; op = op; reply = one.0 } in let r = lawful (map_step op one.0 m) asked texts h.1 in
     record { answers = Replied e ∷ r.answers; each = (refl, r.each); legal = (one.1, r.legal) }
+lawful m (Some (Scan from to) ∷ asked) (text ∷ texts) h = let p = some_parts m to from to (omega arith) in let r = lawful (final_map m p.parts) asked texts h.1 in
+    record { answers = Scanned from to p.parts ∷ r.answers; each = ((refl, refl, p.are), r.each); legal = legal_append m p.parts (flat_map entries r.answers) p.legal r.legal }

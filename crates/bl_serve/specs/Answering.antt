@@ -1,39 +1,52 @@
 -- What the lines that a pass answers add to what it has seen.
 use Rattle.std.specs.Prelude.{◌≡◌, ℕ, suc, ◌++◌, List, [], ◌∷◌, Option, Some, None, flat_map}
 use Rattle.std.specs.List.{AllZip}
+use Rattle.bl_model.specs.declared.operation.Entry.{Entry}
+use Rattle.bl_model.specs.declared.operation.Next.{Next}
+use Rattle.bl_model.specs.declared.operation.Op.TheVariants.{Part}
+use Rattle.bl_model.specs.declared.operation.Reply.{Reply}
 use Rattle.bl_lines.specs.declared.request.Request.{Request}
-use Rattle.bl_lines.specs.declared.request.Request.TheVariants.{Ask, Sync}
-use Rattle.bl_lines.specs.declared.print.Response.{Response}
-use Rattle.bl_lines.specs.declared.print.Response.TheVariants as response
-use Rattle.bl_lines.specs.Lines.{Answer, Replied, Scanned, Synced, Malformed, entries, answer_text}
-use Rattle.bl_lines.specs.Text.{numbered}
+use Rattle.bl_lines.specs.declared.request.Request.TheVariants.{Ask, Scan, Sync}
+use Rattle.bl_lines.specs.Lines.{Answer, Replied, Scanned, Synced, Malformed, AreParts, ended_at, end_of, rows_of, rows_below, entries, answer_text}
+use Rattle.bl_lines.specs.Text.{numbered, row_text}
 use Rattle.bl_trails.specs.Trails.{Trail}
 use Rattle.bl_passes.specs.Seeing.{IsSeen, own, GoesOnFrom}
+use Rattle.bl_serve.specs.Works.{Works}
 
 -- the answer is one to what was asked
 abbrev pub IsFor : Option Request → Answer → Type 0
 IsFor (Some (Ask op)) (Replied entry) = entry.op ≡ op
+IsFor (Some (Scan from to)) (Scanned low high parts) = (low ≡ from) × (high ≡ to) × AreParts (Some low) high parts
 IsFor (Some Sync) Synced = Unit {0}
 IsFor None Malformed = Unit {0}
 IsFor asked answer = ⊥
-
--- the response prints the answer
-abbrev pub Shows : Answer → Response → Type 0
-Shows (Replied entry) (response.Replied reply) = reply ≡ entry.reply
-Shows Synced response.Synced = Unit {0}
-Shows Malformed response.Malformed = Unit {0}
-Shows answer shown = ⊥
 
 -- the answers as they are written, numbered from n on
 abbrev pub answers_text : ℕ → List Answer → List ℕ
 answers_text n [] = []
 answers_text n (answer ∷ answers) = numbered n (answer_text answer) ++ answers_text (suc n) answers
 
--- The line was answered: the new entries of the pass are those of the answer.
-pub record AnswersLine (pass : ℕ) (asked : Option Request) (shown : Response) (old new : Trail) : Type 0 where
+-- A part was answered, and its rows that lie below an end were written behind what there was.
+pub record WritesPart (pass from high : ℕ) (next : Next) (before after : List ℕ) (old new : Trail) : Type 0 where
+  pub reply : Reply
+  pub works : Works pass (Part from) reply old new
+  pub ends : ended_at reply ≡ end_of next
+  pub prints : after ≡ before ++ flat_map row_text (rows_below high (rows_of reply))
+
+-- A scan was answered by its parts, which are the new entries of the pass, and their rows that lie below its end were written.
+pub record WritesRows (pass low high : ℕ) (before after : List ℕ) (old new : Trail) : Type 0 where
+  pub parts : List Entry
+  pub are_parts : AreParts (Some low) high parts
+  pub prints : after ≡ before ++ flat_map row_text (rows_below high (flat_map (λ entry. rows_of entry.reply) parts))
+  pub begins : GoesOnFrom old new
+  pub seen : IsSeen old → IsSeen new
+  pub mine : own pass new ≡ own pass old ++ parts
+
+-- The line of that number was answered, and its answer was written: the new entries of the pass are those of the answer.
+pub record AnswersLine (pass number : ℕ) (asked : Option Request) (before after : List ℕ) (old new : Trail) : Type 0 where
   pub answer : Answer
-  pub shows : Shows answer shown
   pub is_for : IsFor asked answer
+  pub prints : after ≡ before ++ numbered number (answer_text answer)
   pub begins : GoesOnFrom old new
   pub seen : IsSeen old → IsSeen new
   pub mine : own pass new ≡ own pass old ++ entries answer

@@ -1,5 +1,5 @@
 -- All passes meet.
-use Rattle.std.specs.Prelude.{◌≡◌, ℕ, List, All}
+use Rattle.std.specs.Prelude.{◌≡◌, List, All}
 use Rattle.std.specs.List.{AllZip}
 use Rattle.bl_index.specs.declared.index.Pass.{Pass}
 use Rattle.bl_trails.specs.Trails.{Trail}

@@ -1,11 +1,10 @@
 -- The lines of a section, as they are read.
-use Rattle.std.specs.Prelude.{◌≡◌, ◌≢◌, ℕ, ◌+◌, ◌<◌, ◌≤◌, ◌⊎◌, List, [], ◌∷◌, ◌++◌, All, Option, Some, None, Result, Ok, Err, flat_map, length}
+use Rattle.std.specs.Prelude.{◌≡◌, ◌≢◌, ℕ, ◌<◌, ◌≤◌, ◌⊎◌, List, [], ◌∷◌, ◌++◌, All, Option, Some, Result, Ok, Err, flat_map, length}
 use Rattle.std.specs.List.{AllZip}
 use Rattle.bl_lines.specs.declared.request.Request.{Request}
 use Rattle.bl_lines.specs.declared.request.Request.TheVariants.{Sync}
 use Rattle.bl_lines.specs.declared.serving.ServeFault.{ServeFault}
 use Rattle.bl_lines.specs.declared.serving.ServeFault.TheVariants.{Read, Write, Memory, Lost}
-use Rattle.bl_lines.specs.declared.serving.Totals.{Totals}
 use Rattle.bl_serve.specs.declared.reading.Reading.{Reading}
 use Rattle.bl_serve.specs.declared.reading.Reading.TheVariants as reading
 use Rattle.bl_serve.specs.declared.reading.SectionEnd.{SectionEnd}

@@ -1,9 +1,8 @@
 -- A section that was answered.
-use Rattle.std.specs.Prelude.{◌≡◌, ℕ, ◌<◌, ◌++◌, List, All, Option, flat_map, map, length, Result, Ok}
+use Rattle.std.specs.Prelude.{◌≡◌, ℕ, ◌++◌, List, All, Option, flat_map, map, Result, Ok}
 use Rattle.std.specs.List.{AllZip}
 use Rattle.std.specs.declared.alloc.AllocError.{AllocError}
 use Rattle.bl_model.specs.declared.operation.Entry.{Entry}
-use Rattle.bl_model.specs.History.{entries_of_pass}
 use Rattle.bl_lines.specs.declared.request.Request.{Request}
 use Rattle.bl_lines.specs.Lines.{Answer, entries}
 use Rattle.bl_lines.specs.Served.{Interleaves}

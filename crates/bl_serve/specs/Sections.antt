@@ -1,5 +1,5 @@
 -- Sections that are answered and counted.
-use Rattle.std.specs.Prelude.{◌≡◌, ℕ, suc, ◌+◌, map, List, [], ◌∷◌, ◌++◌, Option, Some, None, length, is_none, count_by, codes}
+use Rattle.std.specs.Prelude.{◌≡◌, ℕ, suc, ◌+◌, map, List, [], Option, length, is_none, count_by, codes}
 use Rattle.std.specs.List.{AllZip}
 use Rattle.bl_lines.specs.declared.request.Request.{Request}
 use Rattle.bl_lines.specs.declared.serving.Totals.{Totals}

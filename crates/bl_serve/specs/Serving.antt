@@ -1,6 +1,5 @@
 -- What the server promises.
 use Rattle.std.specs.Prelude.{◌≡◌, ℕ, suc, ◌+◌, List, [], ◌∷◌, ◌++◌, Option, length}
-use Rattle.bl_model.specs.declared.operation.Entry.{Entry}
 use Rattle.bl_lines.specs.declared.request.Request.{Request}
 use Rattle.bl_lines.specs.declared.serving.Totals.{Totals}
 use Rattle.bl_lines.specs.declared.serving.ServeFault.{ServeFault}

@@ -1,18 +1,18 @@
 //! Requests are answered by a pass of the index.
 
-ghost use Rattle.std.specs.Prelude.{◌≡◌, suc, ◌+◌, ◌<◌, ◌≤◌, ◌^◌, ◌++◌, length, Some, IfOk};
+ghost use Rattle.std.specs.Prelude.{◌≡◌, suc, ◌+◌, ◌<◌, ◌≤◌, ◌^◌, ◌++◌, length, Some, IfOk, OnOk};
 ghost use Rattle.bl_model.specs.declared.operation.Op.TheVariants as op;
 ghost use Rattle.bl_index.specs.Calls.{IsPassOf, IsSamePass, number_of, trail};
 ghost use Rattle.bl_serve.specs.Works.{Works, Adds};
-ghost use Rattle.bl_serve.specs.Answering.{AnswersLine, AnswersLines};
+ghost use Rattle.bl_serve.specs.Answering.{AnswersLine, AnswersLines, WritesPart, WritesRows};
 
 use crate::compressing::{leave, post};
 use crate::gate::Gate;
 use bl_hints::Hints;
 use bl_index::{Index, Pass};
-use bl_lines::print::{Response, push_line};
+use bl_lines::print::{Response, push_line, push_number, push_rows_below};
 use bl_lines::request::Request;
-use bl_model::{Op, Reply};
+use bl_model::{Next, Op, Reply};
 use std::alloc::{AllocError, Global};
 use std::sync::Wait;
 
@@ -100,7 +100,72 @@ fn carry_out<R: Wait>(rt: &R, index: &Index, hints: &Hints, pass: &mut Pass, op:
     reply
 }
 
-/// Answers the request of that number.
+/// Writes the rows of a part that lie below an end, and says where the part ended.
+fn write_part<R: Wait>(
+    rt: &R,
+    index: &Index,
+    pass: &mut Pass,
+    from: u64,
+    high: u64,
+    text: &mut Vec<u8>,
+) -> Result<Next, AllocError>
+    requires { IsPassOf index.now pass.old }
+    ensures same { IsSamePass pass.old pass.new }
+    ensures writes { IfOk result (λ next. WritesPart (number_of pass.old) from high next text.old.items text.new.items (trail pass.old) (trail pass.new)) }
+{
+    let Reply::Rows(rows, next) = part(rt, index, pass, from) else {
+        unreachable!()
+    };
+    push_rows_below(text, rows.as_slice(), high)?;
+    Ok(next)
+}
+
+/// Writes the rows of a scan: of one part after another, from a key on up to an end.
+fn write_rows<R: Wait>(
+    rt: &R,
+    index: &Index,
+    pass: &mut Pass,
+    low: u64,
+    high: u64,
+    text: &mut Vec<u8>,
+) -> Result<(), AllocError>
+    requires { IsPassOf index.now pass.old }
+    ensures same { IsSamePass pass.old pass.new }
+    ensures writes { OnOk result (WritesRows (number_of pass.old) low high text.old.items text.new.items (trail pass.old) (trail pass.new)) }
+{
+    let mut at = low;
+    while at < high {
+        match write_part(rt, index, pass, at, high, text)? {
+            Next::More(next) => at = next,
+            Next::End => return Ok(()),
+        }
+    }
+    Ok(())
+}
+
+/// Answers a scan, and sweeps.
+fn scan<R: Wait>(
+    rt: &R,
+    index: &Index,
+    pass: &mut Pass,
+    number: u64,
+    low: u64,
+    high: u64,
+    text: &mut Vec<u8>,
+) -> Result<(), AllocError>
+    requires { IsPassOf index.now pass.old }
+    ensures same { IsSamePass pass.old pass.new }
+    ensures answers { OnOk result (AnswersLine (number_of pass.old) number (Some (Request.Scan low high)) text.old.items text.new.items (trail pass.old) (trail pass.new)) }
+{
+    push_number(text, b"", number)?;
+    text.extend_from_slice(b" rows")?;
+    write_rows(rt, index, pass, low, high, text)?;
+    text.push(b'\n')?;
+    index.sweep(pass);
+    Ok(())
+}
+
+/// Answers the line of that number.
 fn answer<R: Wait, G: Gate>(
     rt: &R,
     index: &Index,
@@ -108,40 +173,28 @@ fn answer<R: Wait, G: Gate>(
     gate: &G,
     pass: &mut Pass,
     number: u64,
-    request: Request,
-) -> Response
+    asked: Option<Request>,
+    text: &mut Vec<u8>,
+) -> Result<(), AllocError>
     requires { IsPassOf index.now pass.old }
     ensures same { IsSamePass pass.old pass.new }
-    ensures answers { AnswersLine (number_of pass.old) (Some request) result (trail pass.old) (trail pass.new) }
+    ensures answers { OnOk result (AnswersLine (number_of pass.old) number asked text.old.items text.new.items (trail pass.old) (trail pass.new)) }
 {
-    match request {
-        Request::Ask(op) => {
+    match asked {
+        Some(Request::Ask(op)) => {
             gate.before(number);
             let reply = carry_out(rt, index, hints, pass, op);
             gate.after(number);
-            Response::Replied(reply)
+            push_line(text, number, &Response::Replied(reply))
         }
-        Request::Sync => Response::Synced,
-    }
-}
-
-/// Answers the line of that number.
-fn respond<R: Wait, G: Gate>(
-    rt: &R,
-    index: &Index,
-    hints: &Hints,
-    gate: &G,
-    pass: &mut Pass,
-    number: u64,
-    asked: Option<Request>,
-) -> Response
-    requires { IsPassOf index.now pass.old }
-    ensures same { IsSamePass pass.old pass.new }
-    ensures answers { AnswersLine (number_of pass.old) asked result (trail pass.old) (trail pass.new) }
-{
-    match asked {
-        Some(request) => answer(rt, index, hints, gate, pass, number, request),
-        None => Response::Malformed,
+        Some(Request::Scan(low, high)) => {
+            gate.before(number);
+            let answered = scan(rt, index, pass, number, low, high, text);
+            gate.after(number);
+            answered
+        }
+        Some(Request::Sync) => push_line(text, number, &Response::Synced),
+        None => push_line(text, number, &Response::Malformed),
     }
 }
 
@@ -165,8 +218,7 @@ pub fn answer_lines<R: Wait, G: Gate>(
     let mut number = done;
     for asked in lines {
         number += 1;
-        let response = respond(rt, index, hints, gate, pass, number, *asked);
-        push_line(&mut text, number, &response)?;
+        answer(rt, index, hints, gate, pass, number, *asked, &mut text)?;
     }
     Ok(text)
 }

@@ -72,7 +72,7 @@ fn turns(alloc: Global, passes: Vec<Pass>, workers: usize) -> Result<Vec<Turn>, 
 fn threads_for(lines: &[Option<Request>], workers: usize, passes: usize) -> usize {
     let asked = lines
         .iter()
-        .filter(|asked| matches!(asked, Some(Request::Ask(_))))
+        .filter(|asked| matches!(asked, Some(Request::Ask(_) | Request::Scan(..))))
         .count();
     let deleted = lines
         .iter()

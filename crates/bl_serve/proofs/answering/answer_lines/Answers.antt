@@ -1,4 +1,4 @@
-use Rattle.std.proofs.Common.{rules, refl, ◌∙◌, arith}
+use Rattle.std.proofs.Common.{rules, refl, arith}
 use Rattle.bl_serve.proofs.Lines.{no_text, next_line, all_lines}
 use Rattle.bl_serve.proofs.answering.answer_lines.Goals as goal
 
@@ -9,7 +9,7 @@ pub loop-asked-preserved : goal.loop-asked-preserved
 loop-asked-preserved g c = record {
   number = omega arith;
   same = search rules;
-  so_far = next_line _ _ _ _ _ c.args.lines.now _ _ _ _ _ _ _ _ c.loop-asked.invariant.same.2 c.loop-asked-test.true refl (omega arith) c.loop-asked.invariant.so_far c.respond-response.ensures.answers c.in_ok-push_line.ensures;
+  so_far = next_line _ _ _ _ _ c.args.lines.now _ _ _ _ _ _ _ c.loop-asked.invariant.same.2 c.loop-asked-test.true refl (omega arith) c.loop-asked.invariant.so_far c.in_ok-answer.ensures.answers;
 }
 
 pub returns : goal.returns
