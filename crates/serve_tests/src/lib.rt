@@ -1,5 +1,5 @@
-//! Tests of the server: what it writes and counts, that workers work at once, that a section ends before the next begins, and
-//! that hints are followed.
+//! Tests of the server: what it writes and counts, that workers work at once, that a section ends before the next begins,
+//! that hints are followed, and streams that fail at each place.
 //!
 //! They stand apart from `bl_serve`, and nothing else uses them: whatever is built on the server need not wait until these
 //! tests are proved.
@@ -13,5 +13,7 @@ mod hints;
 mod passes;
 #[cfg(test)]
 mod served;
+#[cfg(test)]
+mod streams;
 #[cfg(test)]
 mod texts;

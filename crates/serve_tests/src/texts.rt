@@ -50,6 +50,38 @@ fn small_inputs(rt: HostRuntime) {
     }
 }
 
+// A scan lists the keys from its first number on, below its second one.
+#[test]
+fn scans_list_rows(rt: HostRuntime) -> Result<(), Fail> {
+    for (input, output) in [
+        (b"scan 5 5\n".as_slice(), b"1 rows\n".as_slice()),
+        (
+            b"insert 5 50\nsync\nscan 5 6\nscan 6 5\nscan 0 18446744073709551615\n".as_slice(),
+            b"1 inserted\n2 synced\n3 rows 5=50\n4 rows\n5 rows 5=50\n".as_slice(),
+        ),
+        // the greatest key lies below no end
+        (
+            b"insert 18446744073709551615 1\nsync\nscan 0 18446744073709551615\n".as_slice(),
+            b"1 inserted\n2 synced\n3 rows\n".as_slice(),
+        ),
+    ] {
+        assert!(rt; answers(&rt, rt.alloc(), input, output, 1, 0));
+        assert!(rt; answers(&rt, rt.alloc(), input, output, 4, 1));
+    }
+    // key 15 parts the leaf at 9: the scan has two parts, of which the second goes on past its end
+    let mut input = inserts(rt.alloc(), 15)?;
+    input.extend_from_slice(b"sync\nscan 7 11\nscan 1 3\nscan 15 99\n")?;
+    let Some((text, totals)) = serve_new(&rt, rt.alloc(), 8, input.as_slice(), 2, 1) else {
+        assert!(rt; false);
+        return Ok(());
+    };
+    let last: &[u8] =
+        b"\n16 synced\n17 rows 7=70 8=80 9=90 10=100\n18 rows 1=10 2=20\n19 rows 15=150\n";
+    assert!(rt; text.as_slice().ends_with(last));
+    assert_eq!(rt; totals.malformed, 0);
+    Ok(())
+}
+
 // A section's lines are answered before those of the next.
 #[test]
 fn sections_stand_in_order(rt: HostRuntime) {
