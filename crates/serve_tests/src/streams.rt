@@ -148,7 +148,7 @@ fn ends_at<R: Threads + Wait + Sync>(
 fn a_read_that_fails_at_each_place(rt: HostRuntime) -> Result<(), Fail> {
     for place in 0..27usize {
         let reader = Halting {
-            text: &INPUT[..place],
+            text: &INPUT[..INPUT.len().min(place)],
             interrupts: false,
             fails: true,
         };
@@ -158,7 +158,7 @@ fn a_read_that_fails_at_each_place(rt: HostRuntime) -> Result<(), Fail> {
         };
         assert_eq!(rt; fault, Some(ServeFault::Read));
         let finished = if place < 17 { 0 } else { 20 };
-        assert!(rt; text.as_slice() == &OUTPUT[..finished]);
+        assert!(rt; text.as_slice() == &OUTPUT[..OUTPUT.len().min(finished)]);
     }
     let whole = Halting {
         text: INPUT,
@@ -189,7 +189,7 @@ fn a_write_that_fails_at_each_place(rt: HostRuntime) {
         };
         assert_eq!(rt; fault, wanted);
         assert_eq!(rt; narrow.count, room);
-        assert!(rt; narrow.taken[..narrow.count] == OUTPUT[..room]);
+        assert!(rt; narrow.taken[..narrow.count] == OUTPUT[..OUTPUT.len().min(room)]);
         assert_eq!(rt;
             narrow.flushes,
             if room < 20 {
