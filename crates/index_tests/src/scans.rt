@@ -15,16 +15,16 @@ use std::thread;
 use std::thread::Threads;
 
 /// How many keys are written beside a scan, or are there from the beginning.
-const KEYS: u64 = 2_000;
+pub const KEYS: u64 = 2_000;
 
 /// Of so many keys one is there from the beginning, and nobody touches it.
-const KEPT: u64 = 10;
+pub const KEPT: u64 = 10;
 
 /// How often each writer goes over its keys.
 const ROUNDS: u64 = 6;
 
 /// How often the keys are scanned meanwhile.
-const SCANS: u64 = 40;
+pub const SCANS: u64 = 40;
 
 /// How many threads write.
 const WRITERS: u64 = 4;
@@ -133,7 +133,7 @@ fn a_scan_at_the_greatest_key(rt: HostRuntime) -> Result<(), Fail> {
 }
 
 /// Scans all keys, again and again from where a part had no room or ran out of turns.
-fn scan_all<R: Wait>(rt: &R, index: &Index, pass: &mut Pass, rows: &mut Vec<(u64, u64)>)
+pub fn scan_all<R: Wait>(rt: &R, index: &Index, pass: &mut Pass, rows: &mut Vec<(u64, u64)>)
     requires { IsPassOf index.now pass.old }
     ensures { IsPassOf index.now pass.new }
 {
@@ -161,7 +161,7 @@ fn scans_go_on_after_want_of_memory(rt: HostRuntime) -> Result<(), Fail> {
 }
 
 /// Whether each key is greater than the one before it.
-fn rises(rows: &[(u64, u64)]) -> bool {
+pub fn rises(rows: &[(u64, u64)]) -> bool {
     let mut least = 0;
     for row in rows {
         if row.0 < least {
@@ -173,14 +173,14 @@ fn rises(rows: &[(u64, u64)]) -> bool {
 }
 
 /// How many of the keys that nobody touches are there with their values.
-fn kept(rows: &[(u64, u64)]) -> u64 {
+pub fn kept(rows: &[(u64, u64)]) -> u64 {
     rows.iter()
         .filter(|row| row.0 % KEPT == 0 && row.1 == row.0)
         .count() as u64
 }
 
 /// Posts or compresses, and goes on with the hints that this gives.
-fn follow<R: Wait>(rt: &R, index: &Index, pass: &mut Pass, hint: Option<Hint>)
+pub fn follow<R: Wait>(rt: &R, index: &Index, pass: &mut Pass, hint: Option<Hint>)
     requires { IsPassOf index.now pass.old }
     ensures { IsPassOf index.now pass.new }
 {
@@ -211,7 +211,7 @@ fn change<R: Wait>(rt: &R, index: &Index, pass: &mut Pass, key: u64, inserts: bo
 }
 
 /// Inserts the keys that nobody touches.
-fn keep<R: Wait>(rt: &R, index: &Index, pass: &mut Pass)
+pub fn keep<R: Wait>(rt: &R, index: &Index, pass: &mut Pass)
     requires { IsPassOf index.now pass.old }
     ensures { IsPassOf index.now pass.new }
 {
@@ -251,7 +251,7 @@ fn scan<R: Wait>(rt: &R, alloc: Global, index: &Index, pass: &mut Pass, good: &A
 }
 
 /// Each pass works in a thread of its own: the first ones write, the last one scans.
-fn work<R: Threads + Wait + Sync>(
+pub fn work<R: Threads + Wait + Sync>(
     rt: &R,
     alloc: Global,
     index: &Index,
@@ -259,6 +259,7 @@ fn work<R: Threads + Wait + Sync>(
     good: &AtomicU64,
 )
     requires { All (IsPassOf index.now) passes.old }
+    ensures { All (IsPassOf index.now) passes.new }
 {
     thread::for_each_mut(
         rt,
@@ -276,7 +277,7 @@ fn work<R: Threads + Wait + Sync>(
 }
 
 /// An index with six passes, the last of which stands beside the others.
-fn six_passes(alloc: Global) -> Option<(Index, Vec<Pass>, Pass)>
+pub fn six_passes(alloc: Global) -> Option<(Index, Vec<Pass>, Pass)>
     ensures { IfSome result (λ t. All (IsPassOf t.0) t.1.items × IsPassOf t.0 t.2) }
 {
     let config = Config {
