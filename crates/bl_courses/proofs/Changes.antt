@@ -43,18 +43,12 @@ module _ (x : ℕ) (c : Page) (key word : ℕ) (in_it : Covers c key) (absent : 
   put_only : (p : Page) → length (pairs_of c) < 14 → IsFitted c key word 0 (Fits p) → (other : Change) → EntersPair x c key word other → other ≡ Putting x p
   put_only p room f (Putting u v) t = (let e = fits_one c key word 0 v p t.1 f in λ i. Putting (t.0 i) (e i))
   put_only p room f (Taking u) t = (let full : 14 ≤ length (pairs_of c) = subst (λ (z : Page). 14 ≤ length (pairs_of z)) t.3 u.full in absurd (omega arith))
-  put_only p room f (PuttingNew u) t = absurd t
-  put_only p room f (PuttingOld u) t = absurd t
-  put_only p room f (OpeningNew u v s) t = absurd t
-  put_only p room f (Opening u v) t = absurd t
+  put_only p room f old t = absurd t
 
   take_only : (f : Full) → 14 ≤ length (pairs_of c) → f.at ≡ x → f.key ≡ key → f.word ≡ word → f.page ≡ c → (other : Change) → EntersPair x c key word other → other ≡ Taking f
   take_only f full e1 e2 e3 e4 (Putting u v) t = (let room = t.1.0 in absurd (omega arith))
   take_only f full e1 e2 e3 e4 (Taking u) t = ap Taking (full_same u f (t.0 ∙ sym e1) (t.1 ∙ sym e2) (t.2 ∙ sym e3) (t.3 ∙ sym e4))
-  take_only f full e1 e2 e3 e4 (PuttingNew u) t = absurd t
-  take_only f full e1 e2 e3 e4 (PuttingOld u) t = absurd t
-  take_only f full e1 e2 e3 e4 (OpeningNew u v s) t = absurd t
-  take_only f full e1 e2 e3 e4 (Opening u v) t = absurd t
+  take_only f full e1 e2 e3 e4 old t = absurd t
 
   pub enter_one : One (EntersPair x c key word)
   enter_one = elim (cases_lt (length (pairs_of c)) 14) [
@@ -66,11 +60,7 @@ module _ (x : ℕ) (c : Page) (key word : ℕ) (in_it : Covers c key) (absent : 
 module _ (x : ℕ) (c : Page) (key : ℕ) (in_it : Covers c key) (may : MayLose c key) where
   drop_only : (p : Page) → IsWithout c key p → (other : Change) → DropsPair x c key other → other ≡ Putting x p
   drop_only p f (Putting u v) t = (let e = without_one c key v p t.1 f in λ i. Putting (t.0 i) (e i))
-  drop_only p f (Taking u) t = absurd t
-  drop_only p f (PuttingNew u) t = absurd t
-  drop_only p f (PuttingOld u) t = absurd t
-  drop_only p f (OpeningNew u v s) t = absurd t
-  drop_only p f (Opening u v) t = absurd t
+  drop_only p f old t = absurd t
 
   pub drop_one : One (DropsPair x c key)
   drop_one = (let p = without_some c key in_it may in record { new = Putting x p.0; goes = (refl, p.1); only = drop_only p.0 p.1 })
@@ -105,12 +95,7 @@ opened x what (Over o) t = ap Over t
 
 taken_only : (full : Full) (y : ℕ) (p : Parting) → Changes (Taking full) (seen.Took y) (On (PuttingNew p)) → (other : Changed) → Changes (Taking full) (seen.Took y) other → other ≡ On (PuttingNew p)
 taken_only full y p f (On (PuttingNew u)) t = (let s = split_one full.page full.key full.word y u.left u.right u.separator p.left p.right p.separator t.2 f.2 in λ i. On (PuttingNew (record { at = (t.0 ∙ sym f.0) i; new = (t.1 ∙ sym f.1) i; left = s.left_one i; right = s.right_one i; separator = s.separator_one i })))
-taken_only full y p f (On (Putting u v)) t = absurd t
-taken_only full y p f (On (Taking u)) t = absurd t
-taken_only full y p f (On (PuttingOld u)) t = absurd t
-taken_only full y p f (On (OpeningNew u v s)) t = absurd t
-taken_only full y p f (On (Opening u v)) t = absurd t
-taken_only full y p f (Over o) t = absurd t
+taken_only full y p f old t = absurd t
 
 taken : (full : Full) (y : ℕ) → IsChild y → One (Changes (Taking full) (seen.Took y))
 taken full y child =
@@ -120,44 +105,13 @@ taken full y child =
 
 pub change_one : (c : Change) (what : Seen) → Gives (change_next c) (change_needs c) what → One (Changes c what)
 change_one (Putting u v) seen.Done g = record { new = On (Opening u outcome.Changed); goes = refl; only = put_done u v }
-change_one (Putting u v) (seen.Words c) g = absurd g
-change_one (Putting u v) (seen.Took y) g = absurd g
-change_one (Putting u v) (seen.Owner retired started own) g = absurd g
-change_one (Putting u v) (seen.Blocks b) g = absurd g
-change_one (Putting u v) seen.Missed g = absurd g
 change_one (Putting u v) seen.Refused g = record { new = On (Opening u outcome.Refused); goes = refl; only = put_refused u v }
-change_one (Taking u) seen.Done g = absurd g
-change_one (Taking u) (seen.Words c) g = absurd g
 change_one (Taking u) (seen.Took y) g = taken u y g
-change_one (Taking u) (seen.Owner retired started own) g = absurd g
-change_one (Taking u) (seen.Blocks b) g = absurd g
-change_one (Taking u) seen.Missed g = absurd g
 change_one (Taking u) seen.Refused g = record { new = On (Opening u.at outcome.Refused); goes = refl; only = take_refused u }
 change_one (PuttingNew u) seen.Done g = record { new = On (PuttingOld u); goes = refl; only = new_done u }
-change_one (PuttingNew u) (seen.Words c) g = absurd g
-change_one (PuttingNew u) (seen.Took y) g = absurd g
-change_one (PuttingNew u) (seen.Owner retired started own) g = absurd g
-change_one (PuttingNew u) (seen.Blocks b) g = absurd g
-change_one (PuttingNew u) seen.Missed g = absurd g
 change_one (PuttingNew u) seen.Refused g = absurd (false≢true g)
 change_one (PuttingOld u) seen.Done g = record { new = On (OpeningNew u.at u.new u.separator); goes = refl; only = old_done u }
-change_one (PuttingOld u) (seen.Words c) g = absurd g
-change_one (PuttingOld u) (seen.Took y) g = absurd g
-change_one (PuttingOld u) (seen.Owner retired started own) g = absurd g
-change_one (PuttingOld u) (seen.Blocks b) g = absurd g
-change_one (PuttingOld u) seen.Missed g = absurd g
 change_one (PuttingOld u) seen.Refused g = absurd (false≢true g)
 change_one (OpeningNew u v s) seen.Done g = record { new = On (Opening u (outcome.Parted s)); goes = refl; only = opened_new u v s }
-change_one (OpeningNew u v s) (seen.Words c) g = absurd g
-change_one (OpeningNew u v s) (seen.Took y) g = absurd g
-change_one (OpeningNew u v s) (seen.Owner retired started own) g = absurd g
-change_one (OpeningNew u v s) (seen.Blocks b) g = absurd g
-change_one (OpeningNew u v s) seen.Missed g = absurd g
-change_one (OpeningNew u v s) seen.Refused g = absurd g
 change_one (Opening u v) seen.Done g = record { new = Over v; goes = refl; only = opened u v }
-change_one (Opening u v) (seen.Words c) g = absurd g
-change_one (Opening u v) (seen.Took y) g = absurd g
-change_one (Opening u v) (seen.Owner retired started own) g = absurd g
-change_one (Opening u v) (seen.Blocks b) g = absurd g
-change_one (Opening u v) seen.Missed g = absurd g
-change_one (Opening u v) seen.Refused g = absurd g
+change_one old what g = absurd g

@@ -23,19 +23,10 @@ use Rattle.bl_courses.proofs.Decisions.{link_one, decide_one}
 -- what a put gives, whichever child is put
 put_gives : (s : Side) (p : Puts) (needs : Option (ℕ × ℕ)) (what : Seen) (Goal : Type 0) → (what ≡ seen.Done → Goal) → (what ≡ seen.Refused → IsSome needs → Goal) → Gives (put_of s p) needs what → Goal
 put_gives side.Left p needs seen.Done Goal put refused g = put refl
-put_gives side.Left p needs (seen.Words c) Goal put refused g = absurd g
-put_gives side.Left p needs (seen.Took y) Goal put refused g = absurd g
-put_gives side.Left p needs (seen.Owner retired started own) Goal put refused g = absurd g
-put_gives side.Left p needs (seen.Blocks b) Goal put refused g = absurd g
-put_gives side.Left p needs seen.Missed Goal put refused g = absurd g
 put_gives side.Left p needs seen.Refused Goal put refused g = refused refl g
 put_gives side.Right p needs seen.Done Goal put refused g = put refl
-put_gives side.Right p needs (seen.Words c) Goal put refused g = absurd g
-put_gives side.Right p needs (seen.Took y) Goal put refused g = absurd g
-put_gives side.Right p needs (seen.Owner retired started own) Goal put refused g = absurd g
-put_gives side.Right p needs (seen.Blocks b) Goal put refused g = absurd g
-put_gives side.Right p needs seen.Missed Goal put refused g = absurd g
 put_gives side.Right p needs seen.Refused Goal put refused g = refused refl g
+put_gives old p needs what new put refused g = absurd g
 
 -- What goes on goes on to one state.
 on_only : (old : Compression) (what : Seen) (new : Compression) → ((d : Compression) → Compresses old what (On d) → d ≡ new) → ((fate : Fate) → Compresses old what (Over fate) → ⊥) → (o : Compressed) → Compresses old what o → o ≡ On new
@@ -74,65 +65,15 @@ pub compression_one : (c : Compression) (what : Seen) → Gives (compression_nex
 compression_one (PuttingFirst p) what g = first_goes p what g
 compression_one (PuttingLast p) what g = last_goes p what g
 compression_one (LatchingLeft f) seen.Done g = record { new = On (LatchedLeft f); goes = refl; only = on_only (LatchingLeft f) seen.Done (LatchedLeft f) (λ n t. t) (λ z t. t) }
-compression_one (LatchingLeft f) (seen.Words c) g = absurd g
-compression_one (LatchingLeft f) (seen.Took y) g = absurd g
-compression_one (LatchingLeft f) (seen.Owner retired started own) g = absurd g
-compression_one (LatchingLeft f) (seen.Blocks b) g = absurd g
 compression_one (LatchingLeft f) seen.Missed g = record { new = On (LatchingLeft f); goes = refl; only = on_only (LatchingLeft f) seen.Missed (LatchingLeft f) (λ n t. t) (λ z t. t) }
-compression_one (LatchingLeft f) seen.Refused g = absurd g
-compression_one (LatchedLeft f) seen.Done g = absurd g
 compression_one (LatchedLeft f) (seen.Words c) g = link_goes f c
-compression_one (LatchedLeft f) (seen.Took y) g = absurd g
-compression_one (LatchedLeft f) (seen.Owner retired started own) g = absurd g
-compression_one (LatchedLeft f) (seen.Blocks b) g = absurd g
-compression_one (LatchedLeft f) seen.Missed g = absurd g
-compression_one (LatchedLeft f) seen.Refused g = absurd g
 compression_one (LatchingRight f d) seen.Done g = record { new = On (LatchedRight f d); goes = refl; only = on_only (LatchingRight f d) seen.Done (LatchedRight f d) (λ n t. t) (λ z t. t) }
-compression_one (LatchingRight f d) (seen.Words c) g = absurd g
-compression_one (LatchingRight f d) (seen.Took y) g = absurd g
-compression_one (LatchingRight f d) (seen.Owner retired started own) g = absurd g
-compression_one (LatchingRight f d) (seen.Blocks b) g = absurd g
 compression_one (LatchingRight f d) seen.Missed g = record { new = On (LatchingRight f d); goes = refl; only = on_only (LatchingRight f d) seen.Missed (LatchingRight f d) (λ n t. t) (λ z t. t) }
-compression_one (LatchingRight f d) seen.Refused g = absurd g
-compression_one (LatchedRight f d) seen.Done g = absurd g
 compression_one (LatchedRight f d) (seen.Words c) g = decide_goes f d c
-compression_one (LatchedRight f d) (seen.Took y) g = absurd g
-compression_one (LatchedRight f d) (seen.Owner retired started own) g = absurd g
-compression_one (LatchedRight f d) (seen.Blocks b) g = absurd g
-compression_one (LatchedRight f d) seen.Missed g = absurd g
-compression_one (LatchedRight f d) seen.Refused g = absurd g
 compression_one (PuttingParent p) seen.Done g = record { new = On (PuttingLast p); goes = refl; only = on_only (PuttingParent p) seen.Done (PuttingLast p) (λ n t. t) (λ z t. t) }
-compression_one (PuttingParent p) (seen.Words c) g = absurd g
-compression_one (PuttingParent p) (seen.Took y) g = absurd g
-compression_one (PuttingParent p) (seen.Owner retired started own) g = absurd g
-compression_one (PuttingParent p) (seen.Blocks b) g = absurd g
-compression_one (PuttingParent p) seen.Missed g = absurd g
 compression_one (PuttingParent p) seen.Refused g = absurd (false≢true g)
 compression_one (Retiring at fate) seen.Done g = record { new = On (OpeningLeft at fate); goes = refl; only = on_only (Retiring at fate) seen.Done (OpeningLeft at fate) (λ n t. t) (λ z t. t) }
-compression_one (Retiring at fate) (seen.Words c) g = absurd g
-compression_one (Retiring at fate) (seen.Took y) g = absurd g
-compression_one (Retiring at fate) (seen.Owner retired started own) g = absurd g
-compression_one (Retiring at fate) (seen.Blocks b) g = absurd g
-compression_one (Retiring at fate) seen.Missed g = absurd g
-compression_one (Retiring at fate) seen.Refused g = absurd g
 compression_one (OpeningRight at fate) seen.Done g = record { new = On (OpeningLeft at fate); goes = refl; only = on_only (OpeningRight at fate) seen.Done (OpeningLeft at fate) (λ n t. t) (λ z t. t) }
-compression_one (OpeningRight at fate) (seen.Words c) g = absurd g
-compression_one (OpeningRight at fate) (seen.Took y) g = absurd g
-compression_one (OpeningRight at fate) (seen.Owner retired started own) g = absurd g
-compression_one (OpeningRight at fate) (seen.Blocks b) g = absurd g
-compression_one (OpeningRight at fate) seen.Missed g = absurd g
-compression_one (OpeningRight at fate) seen.Refused g = absurd g
 compression_one (OpeningLeft at fate) seen.Done g = record { new = On (OpeningParent at.parent fate); goes = refl; only = on_only (OpeningLeft at fate) seen.Done (OpeningParent at.parent fate) (λ n t. t) (λ z t. t) }
-compression_one (OpeningLeft at fate) (seen.Words c) g = absurd g
-compression_one (OpeningLeft at fate) (seen.Took y) g = absurd g
-compression_one (OpeningLeft at fate) (seen.Owner retired started own) g = absurd g
-compression_one (OpeningLeft at fate) (seen.Blocks b) g = absurd g
-compression_one (OpeningLeft at fate) seen.Missed g = absurd g
-compression_one (OpeningLeft at fate) seen.Refused g = absurd g
 compression_one (OpeningParent x fate) seen.Done g = record { new = Over fate; goes = refl; only = opened x fate }
-compression_one (OpeningParent x fate) (seen.Words c) g = absurd g
-compression_one (OpeningParent x fate) (seen.Took y) g = absurd g
-compression_one (OpeningParent x fate) (seen.Owner retired started own) g = absurd g
-compression_one (OpeningParent x fate) (seen.Blocks b) g = absurd g
-compression_one (OpeningParent x fate) seen.Missed g = absurd g
-compression_one (OpeningParent x fate) seen.Refused g = absurd g
+compression_one old what g = absurd g

@@ -45,17 +45,9 @@ use Rattle.bl_courses.proofs.CompressionSteps.{compression_one}
 -- At the anchor.
 module _ (level key : ℕ) (c : Page) where
   starts_by : (Goal : CompressStage → Type 0) → ((roots_of c).levels ≤ level → Goal (Ending reply.Alone)) → ((a : Approach) → level < (roots_of c).levels → Approaches level key Start (seen.Words c) (came.On a) → Goal (Coming a)) → (other : CompressStage) → CompressStarts level key c other → Goal other
-  starts_by Goal alone come New t = absurd t
   starts_by Goal alone come (Coming a) t = come a t.0 t.1
-  starts_by Goal alone come (Compressing d) t = absurd t
-  starts_by Goal alone come (Staying x) t = absurd t
-  starts_by Goal alone come (Ending (reply.Merged h)) t = absurd t
-  starts_by Goal alone come (Ending reply.Evened) t = absurd t
-  starts_by Goal alone come (Ending reply.Enough) t = absurd t
   starts_by Goal alone come (Ending reply.Alone) t = alone t
-  starts_by Goal alone come (Ending (reply.Unposted h)) t = absurd t
-  starts_by Goal alone come (Ending reply.NoRoom) t = absurd t
-  starts_by Goal alone come (Over r) t = absurd t
+  starts_by old alone come what t = absurd t
 
   come_by : level < (roots_of c).levels → (o : Approached) → Approaches level key Start (seen.Words c) o → ((z : Approached) → Approaches level key Start (seen.Words c) z → z ≡ o) → One (CompressStarts level key c)
   come_by more (came.On a) h is = record {
@@ -78,22 +70,9 @@ module _ (level key : ℕ) (c : Page) where
 -- At the parent.
 module _ (key x : ℕ) (c : Page) where
   arrives_by : (Goal : CompressStage → Type 0) → ((f : Family) (parent : Inner) → c ≡ page.Inner parent → AreSiblings x key parent (Some f) → Goal (Compressing (LatchingLeft f))) → ((parent : Inner) → c ≡ page.Inner parent → AreSiblings x key parent None → Goal (Staying x)) → (other : CompressStage) → CompressArrives key x c other → Goal other
-  arrives_by Goal two one New t = absurd t
-  arrives_by Goal two one (Coming a) t = absurd t
   arrives_by Goal two one (Compressing (LatchingLeft f)) t = two f t.0 t.1 t.2
-  arrives_by Goal two one (Compressing (LatchedLeft f)) t = absurd t
-  arrives_by Goal two one (Compressing (LatchingRight f d)) t = absurd t
-  arrives_by Goal two one (Compressing (LatchedRight f d)) t = absurd t
-  arrives_by Goal two one (Compressing (PuttingFirst p)) t = absurd t
-  arrives_by Goal two one (Compressing (PuttingParent p)) t = absurd t
-  arrives_by Goal two one (Compressing (PuttingLast p)) t = absurd t
-  arrives_by Goal two one (Compressing (Retiring at fate)) t = absurd t
-  arrives_by Goal two one (Compressing (OpeningRight at fate)) t = absurd t
-  arrives_by Goal two one (Compressing (OpeningLeft at fate)) t = absurd t
-  arrives_by Goal two one (Compressing (OpeningParent z fate)) t = absurd t
   arrives_by Goal two one (Staying y) t = subst (λ (z : ℕ). Goal (Staying z)) (sym t.0) (one t.1.0 t.1.1 t.1.2)
-  arrives_by Goal two one (Ending r) t = absurd t
-  arrives_by Goal two one (Over r) t = absurd t
+  arrives_by old two one what t = absurd t
 
 module _ (key x : ℕ) (parent : Inner) where
   siblings : (other : Inner) (f : Option Family) → page.Inner parent ≡ page.Inner other → AreSiblings x key other f → AreSiblings x key parent f
@@ -155,16 +134,11 @@ module _ (level key : ℕ) (a : Approach) (what : Seen) where
 
 come_one : (level key : ℕ) (a : Approach) (what : Seen) → 0 < level → Gives (approach_next a) None what → One (CompressComes level key a what)
 come_one level key Start (seen.Words c) least g = start_one level key c
-come_one level key Start seen.Done least g = absurd g
-come_one level key Start (seen.Took y) least g = absurd g
-come_one level key Start (seen.Owner retired started own) least g = absurd g
-come_one level key Start (seen.Blocks b) least g = absurd g
-come_one level key Start seen.Missed least g = absurd g
-come_one level key Start seen.Refused least g = absurd g
 come_one level key (At z) what least g = near_one level key (At z) what least g
 come_one level key (Latching z) what least g = near_one level key (Latching z) what least g
 come_one level key (Latched z) what least g = near_one level key (Latched z) what least g
 come_one level key (Leaving z to) what least g = near_one level key (Leaving z to) what least g
+come_one level key old what least g = absurd g
 
 reply_one : (q r : CompressReply) → Some q ≡ Some r → q ≡ r
 reply_one q r e = cc
@@ -172,32 +146,26 @@ reply_one q r e = cc
 -- On with the children.
 module _ (level key : ℕ) (c : Compression) (what : Seen) where
   more_only : (d : Compression) → ((o : Compressed) → Compresses c what o → o ≡ step.On d) → (other : CompressStage) → CompressGoes level key (Compressing c) what other → other ≡ Compressing d
-  more_only d is New t = absurd t
   more_only d is (Coming a) t = absurd (step_not_over d t.0 (sym (is (step.Over t.0) t.1)))
   more_only d is (Compressing e) t = ap Compressing (step_on e d (is (step.On e) t))
-  more_only d is (Staying x) t = absurd t
   more_only d is (Ending r) t = absurd (step_not_over d t.0 (sym (is (step.Over t.0) t.1)))
-  more_only d is (Over r) t = absurd t
+  more_only d is old t = absurd t
 
   module _ (fate : Fate) (is : (o : Compressed) → Compresses c what o → o ≡ step.Over fate) where
     same_reply : (z : Fate) → Compresses c what (step.Over z) → compress_reply z ≡ compress_reply fate
     same_reply z t = ap compress_reply (step_over z fate (is (step.Over z) t))
 
     again_only : compress_reply fate ≡ None → (other : CompressStage) → CompressGoes level key (Compressing c) what other → other ≡ Coming Start
-    again_only none New t = absurd t
     again_only none (Coming a) t = ap Coming t.3
     again_only none (Compressing e) t = absurd (step_not_over e fate (is (step.On e) t))
-    again_only none (Staying x) t = absurd t
     again_only none (Ending r) t = absurd (let e : Some r ≡ None = sym t.2 ∙ (same_reply t.0 t.1 ∙ none) in cc)
-    again_only none (Over r) t = absurd t
+    again_only none old t = absurd t
 
     ended_only : (r : CompressReply) → compress_reply fate ≡ Some r → (other : CompressStage) → CompressGoes level key (Compressing c) what other → other ≡ Ending r
-    ended_only r some New t = absurd t
     ended_only r some (Coming a) t = absurd (let e : Some r ≡ None = sym some ∙ (sym (same_reply t.0 t.1) ∙ t.2) in cc)
     ended_only r some (Compressing e) t = absurd (step_not_over e fate (is (step.On e) t))
-    ended_only r some (Staying x) t = absurd t
     ended_only r some (Ending q) t = ap Ending (reply_one q r (sym t.2 ∙ (same_reply t.0 t.1 ∙ some)))
-    ended_only r some (Over q) t = absurd t
+    ended_only r some old t = absurd t
 
     over_by : Compresses c what (step.Over fate) → (r : Option CompressReply) → compress_reply fate ≡ r → One (CompressGoes level key (Compressing c) what)
     over_by h None e = record { new = Coming Start; goes = (fate, h, e, refl); only = again_only e }
@@ -209,54 +177,25 @@ module _ (level key : ℕ) (c : Compression) (what : Seen) where
 
 module _ (level key : ℕ) where
   begun_only : (other : CompressStage) → CompressGoes level key New seen.Done other → other ≡ Coming Start
-  begun_only New t = absurd t
   begun_only (Coming a) t = ap Coming t
-  begun_only (Compressing d) t = absurd t
-  begun_only (Staying y) t = absurd t
-  begun_only (Ending r) t = absurd t
-  begun_only (Over r) t = absurd t
+  begun_only old t = absurd t
 
   stays_only : (x : ℕ) → (other : CompressStage) → CompressGoes level key (Staying x) seen.Done other → other ≡ Ending reply.Alone
-  stays_only x New t = absurd t
-  stays_only x (Coming a) t = absurd t
-  stays_only x (Compressing d) t = absurd t
-  stays_only x (Staying y) t = absurd t
   stays_only x (Ending r) t = ap Ending t
-  stays_only x (Over r) t = absurd t
+  stays_only x old t = absurd t
 
   last_only : (q : CompressReply) → (other : CompressStage) → CompressGoes level key (Ending q) seen.Done other → other ≡ Over q
-  last_only q New t = absurd t
-  last_only q (Coming a) t = absurd t
-  last_only q (Compressing d) t = absurd t
-  last_only q (Staying y) t = absurd t
-  last_only q (Ending r) t = absurd t
   last_only q (Over r) t = ap Over t
+  last_only q old t = absurd t
 
   stage_one : 0 < level → (a : CompressStage) (what : Seen) → compress_answer_in a ≡ None → Gives (compress_next_in a) (compress_needs_in a) what → One (CompressGoes level key a what)
   stage_one least (Coming a) what r g = (let h = come_one level key a what least g in record { new = h.new; goes = h.goes; only = h.only })
   stage_one least (Compressing d) what r g = (let h = compression_one d what g in squeeze_by level key d what h.new h.goes h.only)
   stage_one least New seen.Done r g = record { new = Coming Start; goes = refl; only = begun_only }
-  stage_one least New (seen.Words c) r g = absurd g
-  stage_one least New (seen.Took y) r g = absurd g
-  stage_one least New (seen.Owner retired started own) r g = absurd g
-  stage_one least New (seen.Blocks b) r g = absurd g
-  stage_one least New seen.Missed r g = absurd g
-  stage_one least New seen.Refused r g = absurd g
   stage_one least (Staying x) seen.Done r g = record { new = Ending reply.Alone; goes = refl; only = stays_only x }
-  stage_one least (Staying x) (seen.Words c) r g = absurd g
-  stage_one least (Staying x) (seen.Took y) r g = absurd g
-  stage_one least (Staying x) (seen.Owner retired started own) r g = absurd g
-  stage_one least (Staying x) (seen.Blocks b) r g = absurd g
-  stage_one least (Staying x) seen.Missed r g = absurd g
-  stage_one least (Staying x) seen.Refused r g = absurd g
   stage_one least (Ending q) seen.Done r g = record { new = Over q; goes = refl; only = last_only q }
-  stage_one least (Ending q) (seen.Words c) r g = absurd g
-  stage_one least (Ending q) (seen.Took y) r g = absurd g
-  stage_one least (Ending q) (seen.Owner retired started own) r g = absurd g
-  stage_one least (Ending q) (seen.Blocks b) r g = absurd g
-  stage_one least (Ending q) seen.Missed r g = absurd g
-  stage_one least (Ending q) seen.Refused r g = absurd g
   stage_one least (Over q) what r g = absurd (let z : Some _ ≡ None = r in cc)
+  stage_one least old what r g = absurd g
 
 compress_only : (old : Compress) (what : Seen) (g : One (CompressGoes old.level old.key old.stage what)) (other : Proc) → Takes (proc.Compress old) what other → other ≡ proc.Compress (record { level = old.level; key = old.key; stage = g.new; least = old.least; most = old.most })
 compress_only old what g (proc.Find f) t = absurd t

@@ -37,17 +37,9 @@ few_or c d = elim (cases_lt (length (pairs_of c)) 7) [
 -- At the left child.
 module _ (f : Family) (c : Page) where
   links_by : (Goal : Compression → Type 0) → ((g : Family) (page : Page) → g ≡ f → page ≡ c → right_of c ≡ f.at.right → Goal (LatchingRight g page)) → ((at : Trio) (fate : Fate) → at ≡ f.at → right_of c ≢ f.at.right → fate ≡ Unposted (hint.Post f.parent.level (high_of c)) → Goal (OpeningLeft at fate)) → (other : Compression) → Links f c other → Goal other
-  links_by Goal right left (LatchingLeft g) t = absurd t
-  links_by Goal right left (LatchedLeft g) t = absurd t
   links_by Goal right left (LatchingRight g page) t = right g page t.0 t.1 t.2
-  links_by Goal right left (LatchedRight g page) t = absurd t
-  links_by Goal right left (PuttingFirst p) t = absurd t
-  links_by Goal right left (PuttingParent p) t = absurd t
-  links_by Goal right left (PuttingLast p) t = absurd t
-  links_by Goal right left (Retiring at fate) t = absurd t
-  links_by Goal right left (OpeningRight at fate) t = absurd t
   links_by Goal right left (OpeningLeft at fate) t = left at fate t.0 t.1 t.2
-  links_by Goal right left (OpeningParent x fate) t = absurd t
+  links_by old right left what t = absurd t
 
   pub link_one : One (Links f c)
   link_one = elim (cases_eq (right_of c) f.at.right) [
@@ -96,22 +88,10 @@ module _ (f : Family) (c d : Page) where
       relist_apart f.parent f.key v.separator f.at.right p.parent v.parent (subst (λ (z : ℕ). Relists f.parent f.key z f.at.right None) (sym key) u.2)
 
   decides_by : (Goal : Compression → Type 0) → ((p : Puts) → AreNeighbours c d → Merges f c d p → Goal (PuttingFirst p)) → ((p : Puts) → Evens f c d p → Goal (PuttingFirst p)) → ((at : Trio) → at ≡ f.at → AreNeighbours c d → 14 < together c d → ¬ IsFew c → ¬ IsFew d → Goal (OpeningRight at Enough)) → ((at : Trio) → at ≡ f.at → ¬ AreNeighbours c d → Goal (OpeningRight at Lost)) → ((at : Trio) → at ≡ f.at → MayEven c d → IsUnlisted → Goal (OpeningRight at Lost)) → (other : Compression) → Decides f c d other → Goal other
-  decides_by Goal merge even enough apart unlisted (LatchingLeft g) t = absurd t
-  decides_by Goal merge even enough apart unlisted (LatchedLeft g) t = absurd t
-  decides_by Goal merge even enough apart unlisted (LatchingRight g page) t = absurd t
-  decides_by Goal merge even enough apart unlisted (LatchedRight g page) t = absurd t
   decides_by Goal merge even enough apart unlisted (PuttingFirst p) t = elim t [ inl s ↦ merge p s.0 s.1 | inr v ↦ even p v ]
-  decides_by Goal merge even enough apart unlisted (PuttingParent p) t = absurd t
-  decides_by Goal merge even enough apart unlisted (PuttingLast p) t = absurd t
-  decides_by Goal merge even enough apart unlisted (Retiring at fate) t = absurd t
-  decides_by Goal merge even enough apart unlisted (OpeningRight at (Merged h)) t = absurd t
-  decides_by Goal merge even enough apart unlisted (OpeningRight at EvenedOut) t = absurd t
   decides_by Goal merge even enough apart unlisted (OpeningRight at Enough) t = enough at t.0 t.1 t.2 t.3 t.4
-  decides_by Goal merge even enough apart unlisted (OpeningRight at (Unposted h)) t = absurd t
-  decides_by Goal merge even enough apart unlisted (OpeningRight at Refused) t = absurd t
   decides_by Goal merge even enough apart unlisted (OpeningRight at Lost) t = elim t.1 [ inl differ ↦ apart at t.0 differ | inr u ↦ unlisted at t.0 u.0 u.1 ]
-  decides_by Goal merge even enough apart unlisted (OpeningLeft at fate) t = absurd t
-  decides_by Goal merge even enough apart unlisted (OpeningParent x fate) t = absurd t
+  decides_by old merge even enough apart unlisted what t = absurd t
 
   both_few : IsFew c ⊎ IsFew d → ¬ IsFew c → ¬ IsFew d → ⊥
   both_few few left right = elim few [ inl l ↦ left l | inr r ↦ right r ]

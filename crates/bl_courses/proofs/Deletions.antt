@@ -36,20 +36,14 @@ use Rattle.bl_proc.specs.Deletes.{delete_reply, thin_after, delete_next_in, dele
 
 module _ (key : ℕ) (x : ℕ) (c : Page) where
   absent_only : (node_of c).look key ≡ None → (other : DeleteStage) → DeleteArrives key x c other → other ≡ Absent x
-  absent_only e New t = absurd t
-  absent_only e (Coming b) t = absurd t
   absent_only e (Absent m) t = ap Absent t.0
   absent_only e (Changing v d) t = (let z : None ≡ Some v.value = sym e ∙ t.0 in cc)
-  absent_only e (Ending r) t = absurd t
-  absent_only e (Over r) t = absurd t
+  absent_only e old t = absurd t
 
   changing_only : (w : ℕ) (d : Change) → (node_of c).look key ≡ Some w → ((f : Change) → DropsPair x c key f → f ≡ d) → (other : DeleteStage) → DeleteArrives key x c other → other ≡ Changing (record { value = w; thin = thin_after d }) d
-  changing_only w d e one New t = absurd t
-  changing_only w d e one (Coming b) t = absurd t
   changing_only w d e one (Absent m) t = (let z : None ≡ Some w = sym t.1 ∙ e in cc)
   changing_only w d e one (Changing v f) t = (let same : Some v.value ≡ Some w = sym t.0 ∙ e in let s : v.value ≡ w = cc in let f_is = one f t.1 in let thin = t.2 ∙ ap thin_after f_is in λ i. Changing (record { value = s i; thin = thin i }) (f_is i))
-  changing_only w d e one (Ending r) t = absurd t
-  changing_only w d e one (Over r) t = absurd t
+  changing_only w d e one old t = absurd t
 
   arrive_by : Leads c key 0 Here → (look : Option ℕ) → (node_of c).look key ≡ look → One (DeleteArrives key x c)
   arrive_by h None e = record { new = Absent x; goes = (refl, e); only = absent_only e }
@@ -89,20 +83,14 @@ module _ (key : ℕ) (a : Approach) (what : Seen) where
 
 module _ (key : ℕ) (removed : Removed) (d : Change) (what : Seen) where
   more_only : (e : Change) → ((o : Changed) → Changes d what o → o ≡ change.On e) → (other : DeleteStage) → DeleteGoes key (Changing removed d) what other → other ≡ Changing removed e
-  more_only e is New t = absurd t
-  more_only e is (Coming b) t = absurd t
-  more_only e is (Absent m) t = absurd t
   more_only e is (Changing v f) t = (let f_is = on_one f e (is (change.On f) t.1) in λ i. Changing (t.0 i) (f_is i))
   more_only e is (Ending r) t = absurd (not_over e t.0 (sym (is (change.Over t.0) t.1)))
-  more_only e is (Over r) t = absurd t
+  more_only e is old t = absurd t
 
   over_only : (o : Outcome) → ((z : Changed) → Changes d what z → z ≡ change.Over o) → (other : DeleteStage) → DeleteGoes key (Changing removed d) what other → other ≡ Ending (delete_reply removed o)
-  over_only o is New t = absurd t
-  over_only o is (Coming b) t = absurd t
-  over_only o is (Absent m) t = absurd t
   over_only o is (Changing v f) t = absurd (not_over f o (is (change.On f) t.1))
   over_only o is (Ending r) t = ap Ending (t.2 ∙ ap (delete_reply removed) (over_one t.0 o (is (change.Over t.0) t.1)))
-  over_only o is (Over r) t = absurd t
+  over_only o is old t = absurd t
 
   changing_by : (n : Changed) → Changes d what n → ((z : Changed) → Changes d what z → z ≡ n) → One (DeleteGoes key (Changing removed d) what)
   changing_by (change.On e) h only = record { new = Changing removed e; goes = (refl, h); only = more_only e only }
@@ -110,63 +98,29 @@ module _ (key : ℕ) (removed : Removed) (d : Change) (what : Seen) where
 
 module _ (key : ℕ) where
   begun_only : (other : DeleteStage) → DeleteGoes key New seen.Done other → other ≡ Coming Start
-  begun_only New t = absurd t
   begun_only (Coming b) t = ap Coming t
-  begun_only (Absent m) t = absurd t
-  begun_only (Changing v d) t = absurd t
-  begun_only (Ending r) t = absurd t
-  begun_only (Over r) t = absurd t
+  begun_only old t = absurd t
 
   stays_only : (x : ℕ) → (other : DeleteStage) → DeleteGoes key (Absent x) seen.Done other → other ≡ Ending reply.Absent
-  stays_only x New t = absurd t
-  stays_only x (Coming b) t = absurd t
-  stays_only x (Absent m) t = absurd t
-  stays_only x (Changing v d) t = absurd t
   stays_only x (Ending r) t = ap Ending t
-  stays_only x (Over r) t = absurd t
+  stays_only x old t = absurd t
 
   ended_only : (q : DeleteReply) → (other : DeleteStage) → DeleteGoes key (Ending q) seen.Done other → other ≡ Over q
-  ended_only q New t = absurd t
-  ended_only q (Coming b) t = absurd t
-  ended_only q (Absent m) t = absurd t
-  ended_only q (Changing v d) t = absurd t
-  ended_only q (Ending r) t = absurd t
   ended_only q (Over r) t = ap Over t
+  ended_only q old t = absurd t
 
   stage_one : (a : DeleteStage) (what : Seen) → delete_answer_in a ≡ None → Gives (delete_next_in a) (delete_needs_in a) what → One (DeleteGoes key a what)
   stage_one (Coming a) what r g = (let h = approach_one 0 key a what g in coming_by key a what h.new h.goes h.only)
   stage_one (Changing v d) what r g = (let h = change_one d what g in changing_by key v d what h.new h.goes h.only)
   stage_one New seen.Done r g = record { new = Coming Start; goes = refl; only = begun_only }
-  stage_one New (seen.Words d) r g = absurd g
-  stage_one New (seen.Took y) r g = absurd g
-  stage_one New (seen.Owner retired started own) r g = absurd g
-  stage_one New (seen.Blocks b) r g = absurd g
-  stage_one New seen.Missed r g = absurd g
-  stage_one New seen.Refused r g = absurd g
   stage_one (Absent x) seen.Done r g = record { new = Ending reply.Absent; goes = refl; only = stays_only x }
-  stage_one (Absent x) (seen.Words d) r g = absurd g
-  stage_one (Absent x) (seen.Took y) r g = absurd g
-  stage_one (Absent x) (seen.Owner retired started own) r g = absurd g
-  stage_one (Absent x) (seen.Blocks b) r g = absurd g
-  stage_one (Absent x) seen.Missed r g = absurd g
-  stage_one (Absent x) seen.Refused r g = absurd g
   stage_one (Ending q) seen.Done r g = record { new = Over q; goes = refl; only = ended_only q }
-  stage_one (Ending q) (seen.Words d) r g = absurd g
-  stage_one (Ending q) (seen.Took y) r g = absurd g
-  stage_one (Ending q) (seen.Owner retired started own) r g = absurd g
-  stage_one (Ending q) (seen.Blocks b) r g = absurd g
-  stage_one (Ending q) seen.Missed r g = absurd g
-  stage_one (Ending q) seen.Refused r g = absurd g
   stage_one (Over q) what r g = (let z : Some _ ≡ None = r in cc)
+  stage_one old what r g = absurd g
 
 delete_only : (old : Delete) (what : Seen) (g : One (DeleteGoes old.key old.stage what)) (other : Proc) → Takes (proc.Delete old) what other → other ≡ proc.Delete (record { key = old.key; stage = g.new })
-delete_only old what g (proc.Find f) t = absurd t
-delete_only old what g (proc.Part f) t = absurd t
-delete_only old what g (proc.Reclaim f) t = absurd t
-delete_only old what g (proc.Compress f) t = absurd t
-delete_only old what g (proc.Insert f) t = absurd t
 delete_only old what g (proc.Delete f) t = (let e = g.only f.stage t.1 in λ i. proc.Delete (record { key = t.0 i; stage = e i }))
-delete_only old what g (proc.Post f) t = absurd t
+delete_only old what g new t = absurd t
 
 pub delete_goes : (old : Delete) (what : Seen) → delete_answer_in old.stage ≡ None → Gives (delete_next_in old.stage) (delete_needs_in old.stage) what → GoesOn (proc.Delete old) what
 delete_goes old what running given =

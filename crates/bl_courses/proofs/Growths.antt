@@ -38,12 +38,10 @@ anchor_one a b e = cc
 -- the first page of a level is known by its level and its child
 top_one : (level below : ℕ) (p q : Page) → IsTop level below p → IsTop level below q → p ≡ q
 top_one level below (page.Inner p) (page.Inner q) a b = ap page.Inner (inner_same p q (a.0 ∙ sym b.0) (a.1 ∙ sym b.1) (a.2 ∙ sym b.2) (a.3 ∙ sym b.3) (vec_one p.children q.children (a.4 ∙ sym b.4)))
-top_one level below (page.Anchor p) q a b = absurd a
-top_one level below (page.Leaf p) q a b = absurd a
-top_one level below (page.Dead p) q a b = absurd a
 top_one level below (page.Inner p) (page.Anchor q) a b = absurd b
 top_one level below (page.Inner p) (page.Leaf q) a b = absurd b
 top_one level below (page.Inner p) (page.Dead q) a b = absurd b
+top_one level below old q a b = absurd a
 
 -- and the anchor by its leftmost pages
 leftmost_one : (leftmost : List ℕ) (p q : Page) → IsAnchor leftmost p → IsAnchor leftmost q → p ≡ q
@@ -51,12 +49,10 @@ leftmost_one leftmost (page.Anchor p) (page.Anchor q) a b = ap page.Anchor (anch
   where
     items_one : (v w : ArrayVec ℕ) → v.items ≡ w.items → v ≡ w
     items_one v w e = ap (λ (xs : List ℕ). record { items = xs }) e
-leftmost_one leftmost (page.Leaf p) q a b = absurd a
-leftmost_one leftmost (page.Inner p) q a b = absurd a
-leftmost_one leftmost (page.Dead p) q a b = absurd a
 leftmost_one leftmost (page.Anchor p) (page.Leaf q) a b = absurd b
 leftmost_one leftmost (page.Anchor p) (page.Inner q) a b = absurd b
 leftmost_one leftmost (page.Anchor p) (page.Dead q) a b = absurd b
+leftmost_one leftmost old q a b = absurd a
 
 raised : (rise : Rise) (y : ℕ) → IsChild y → (top : Page) × (anchor : Page) × Raises rise.anchor.leftmost.items y top anchor
 raised rise y child =
@@ -135,26 +131,12 @@ module _ (level : ℕ) (c : Page) where
   rises_only : (rise : Rise) → c ≡ page.Anchor rise.anchor → (roots_of c).levels ≡ level → (other : Grew) → Grows level Latched (seen.Words c) other → other ≡ On (Taking rise)
   rises_only rise is levels (On (Taking u)) t = (let e = rise_same u rise (anchor_one u.anchor rise.anchor (sym t.0 ∙ is)) in λ i. On (Taking (e i)))
   rises_only rise is levels (On OpeningGrown) t = absurd (let room = rise.room in let count : (roots_of c).levels ≡ length rise.anchor.leftmost.items = ap (λ (z : Page). (roots_of z).levels) is in t (omega arith) levels)
-  rises_only rise is levels (On Latching) t = absurd t
-  rises_only rise is levels (On Latched) t = absurd t
-  rises_only rise is levels (On (PuttingTop u)) t = absurd t
-  rises_only rise is levels (On (PuttingAnchor u)) t = absurd t
-  rises_only rise is levels (On (OpeningTop u)) t = absurd t
-  rises_only rise is levels (On OpeningRefused) t = absurd t
-  rises_only rise is levels Grown t = absurd t
-  rises_only rise is levels Refused t = absurd t
+  rises_only rise is levels old t = absurd t
 
   stays_only : (level < 12 → (roots_of c).levels ≢ level) → (other : Grew) → Grows level Latched (seen.Words c) other → other ≡ On OpeningGrown
   stays_only differs (On (Taking u)) t = absurd (let room = u.room in let count : (roots_of c).levels ≡ length u.anchor.leftmost.items = ap (λ (z : Page). (roots_of z).levels) t.0 in let is = t.1 in differs (omega arith) is)
   stays_only differs (On OpeningGrown) t = refl
-  stays_only differs (On Latching) t = absurd t
-  stays_only differs (On Latched) t = absurd t
-  stays_only differs (On (PuttingTop u)) t = absurd t
-  stays_only differs (On (PuttingAnchor u)) t = absurd t
-  stays_only differs (On (OpeningTop u)) t = absurd t
-  stays_only differs (On OpeningRefused) t = absurd t
-  stays_only differs Grown t = absurd t
-  stays_only differs Refused t = absurd t
+  stays_only differs old t = absurd t
 
   stays : (level < 12 → (roots_of c).levels ≢ level) → One (Grows level Latched (seen.Words c))
   stays differs = record { new = On OpeningGrown; goes = differs; only = stays_only differs }
@@ -177,15 +159,7 @@ taken_only level u y r f (On (PuttingTop v)) t =
     let tops = top_one (length leftmost) (get_or leftmost (length leftmost - 1) 0) v.top r.top t.1.0 f.1.0 in
     let anchors = leftmost_one (leftmost ++ y ∷ []) v.anchor r.anchor t.1.1 f.1.1 in
     λ i. On (PuttingTop (record { new = (t.0 ∙ sym f.0) i; top = tops i; anchor = anchors i }))
-taken_only level u y r f (On Latching) t = absurd t
-taken_only level u y r f (On Latched) t = absurd t
-taken_only level u y r f (On (Taking v)) t = absurd t
-taken_only level u y r f (On (PuttingAnchor v)) t = absurd t
-taken_only level u y r f (On (OpeningTop v)) t = absurd t
-taken_only level u y r f (On OpeningGrown) t = absurd t
-taken_only level u y r f (On OpeningRefused) t = absurd t
-taken_only level u y r f Grown t = absurd t
-taken_only level u y r f Refused t = absurd t
+taken_only level u y r f old t = absurd t
 
 taken : (level : ℕ) (u : Rise) (y : ℕ) → IsChild y → One (Grows level (Taking u) (seen.Took y))
 taken level u y child =
@@ -195,58 +169,15 @@ taken level u y child =
 
 pub growth_one : (level : ℕ) → 0 < level → (g : Growth) (what : Seen) → Gives (growth_next g) (growth_needs g) what → One (Grows level g what)
 growth_one level least Latching seen.Done g = record { new = On Latched; goes = refl; only = latched level }
-growth_one level least Latching (seen.Words c) g = absurd g
-growth_one level least Latching (seen.Took y) g = absurd g
-growth_one level least Latching (seen.Owner retired started own) g = absurd g
-growth_one level least Latching (seen.Blocks b) g = absurd g
 growth_one level least Latching seen.Missed g = record { new = On Latching; goes = refl; only = missed level }
-growth_one level least Latching seen.Refused g = absurd g
-growth_one level least Latched seen.Done g = absurd g
 growth_one level least Latched (seen.Words c) g = got level least c
-growth_one level least Latched (seen.Took y) g = absurd g
-growth_one level least Latched (seen.Owner retired started own) g = absurd g
-growth_one level least Latched (seen.Blocks b) g = absurd g
-growth_one level least Latched seen.Missed g = absurd g
-growth_one level least Latched seen.Refused g = absurd g
-growth_one level least (Taking u) seen.Done g = absurd g
-growth_one level least (Taking u) (seen.Words c) g = absurd g
 growth_one level least (Taking u) (seen.Took y) g = taken level u y g
-growth_one level least (Taking u) (seen.Owner retired started own) g = absurd g
-growth_one level least (Taking u) (seen.Blocks b) g = absurd g
-growth_one level least (Taking u) seen.Missed g = absurd g
 growth_one level least (Taking u) seen.Refused g = record { new = On OpeningRefused; goes = refl; only = take_refused level u }
 growth_one level least (PuttingTop u) seen.Done g = record { new = On (PuttingAnchor u); goes = refl; only = top_put level u }
-growth_one level least (PuttingTop u) (seen.Words c) g = absurd g
-growth_one level least (PuttingTop u) (seen.Took y) g = absurd g
-growth_one level least (PuttingTop u) (seen.Owner retired started own) g = absurd g
-growth_one level least (PuttingTop u) (seen.Blocks b) g = absurd g
-growth_one level least (PuttingTop u) seen.Missed g = absurd g
 growth_one level least (PuttingTop u) seen.Refused g = absurd (false≢true g)
 growth_one level least (PuttingAnchor u) seen.Done g = record { new = On (OpeningTop u.new); goes = refl; only = anchor_put level u }
-growth_one level least (PuttingAnchor u) (seen.Words c) g = absurd g
-growth_one level least (PuttingAnchor u) (seen.Took y) g = absurd g
-growth_one level least (PuttingAnchor u) (seen.Owner retired started own) g = absurd g
-growth_one level least (PuttingAnchor u) (seen.Blocks b) g = absurd g
-growth_one level least (PuttingAnchor u) seen.Missed g = absurd g
 growth_one level least (PuttingAnchor u) seen.Refused g = absurd (false≢true g)
 growth_one level least (OpeningTop u) seen.Done g = record { new = On OpeningGrown; goes = refl; only = top_opened level u }
-growth_one level least (OpeningTop u) (seen.Words c) g = absurd g
-growth_one level least (OpeningTop u) (seen.Took y) g = absurd g
-growth_one level least (OpeningTop u) (seen.Owner retired started own) g = absurd g
-growth_one level least (OpeningTop u) (seen.Blocks b) g = absurd g
-growth_one level least (OpeningTop u) seen.Missed g = absurd g
-growth_one level least (OpeningTop u) seen.Refused g = absurd g
 growth_one level least OpeningGrown seen.Done g = record { new = Grown; goes = tt; only = grown level }
-growth_one level least OpeningGrown (seen.Words c) g = absurd g
-growth_one level least OpeningGrown (seen.Took y) g = absurd g
-growth_one level least OpeningGrown (seen.Owner retired started own) g = absurd g
-growth_one level least OpeningGrown (seen.Blocks b) g = absurd g
-growth_one level least OpeningGrown seen.Missed g = absurd g
-growth_one level least OpeningGrown seen.Refused g = absurd g
 growth_one level least OpeningRefused seen.Done g = record { new = Refused; goes = tt; only = refused level }
-growth_one level least OpeningRefused (seen.Words c) g = absurd g
-growth_one level least OpeningRefused (seen.Took y) g = absurd g
-growth_one level least OpeningRefused (seen.Owner retired started own) g = absurd g
-growth_one level least OpeningRefused (seen.Blocks b) g = absurd g
-growth_one level least OpeningRefused seen.Missed g = absurd g
-growth_one level least OpeningRefused seen.Refused g = absurd g
+growth_one level least old what g = absurd g

@@ -35,20 +35,14 @@ use Rattle.bl_proc.specs.Inserts.{insert_reply, insert_next_in, insert_needs_in,
 
 module _ (key value : ℕ) (x : ℕ) (c : Page) where
   present_only : (v : ℕ) → (node_of c).look key ≡ Some v → (other : InsertStage) → InsertArrives key value x c other → other ≡ Present x v
-  present_only v e New t = absurd t
-  present_only v e (Coming b) t = absurd t
   present_only v e (Present m n) t = (let same : Some n ≡ Some v = sym t.1 ∙ e in let one : n ≡ v = cc in λ i. Present (t.0 i) (one i))
   present_only v e (Changing d) t = (let z : None ≡ Some v = sym t.0 ∙ e in cc)
-  present_only v e (Ending r) t = absurd t
-  present_only v e (Over r) t = absurd t
+  present_only v e old t = absurd t
 
   changing_only : (d : Change) → (node_of c).look key ≡ None → ((f : Change) → EntersPair x c key value f → f ≡ d) → (other : InsertStage) → InsertArrives key value x c other → other ≡ Changing d
-  changing_only d e one New t = absurd t
-  changing_only d e one (Coming b) t = absurd t
   changing_only d e one (Present m n) t = (let z : None ≡ Some n = sym e ∙ t.1 in cc)
   changing_only d e one (Changing f) t = ap Changing (one f t.1)
-  changing_only d e one (Ending r) t = absurd t
-  changing_only d e one (Over r) t = absurd t
+  changing_only d e one old t = absurd t
 
   arrive_by : Leads c key 0 Here → (look : Option ℕ) → (node_of c).look key ≡ look → One (InsertArrives key value x c)
   arrive_by h None e = (let p = enter_one x c key value (leaf_covers c key 0 h) (leaf_lists c key e) (leaf_holds c key value h) in record { new = Changing p.new; goes = (e, p.goes); only = changing_only p.new e p.only })
@@ -88,20 +82,14 @@ module _ (key value : ℕ) (a : Approach) (what : Seen) where
 
 module _ (key value : ℕ) (d : Change) (what : Seen) where
   more_only : (e : Change) → ((o : Changed) → Changes d what o → o ≡ change.On e) → (other : InsertStage) → InsertGoes key value (Changing d) what other → other ≡ Changing e
-  more_only e is New t = absurd t
-  more_only e is (Coming b) t = absurd t
-  more_only e is (Present m n) t = absurd t
   more_only e is (Changing f) t = ap Changing (on_one f e (is (change.On f) t))
   more_only e is (Ending r) t = absurd (not_over e t.0 (sym (is (change.Over t.0) t.1)))
-  more_only e is (Over r) t = absurd t
+  more_only e is old t = absurd t
 
   over_only : (o : Outcome) → ((z : Changed) → Changes d what z → z ≡ change.Over o) → (other : InsertStage) → InsertGoes key value (Changing d) what other → other ≡ Ending (insert_reply o)
-  over_only o is New t = absurd t
-  over_only o is (Coming b) t = absurd t
-  over_only o is (Present m n) t = absurd t
   over_only o is (Changing f) t = absurd (not_over f o (is (change.On f) t))
   over_only o is (Ending r) t = ap Ending (t.2 ∙ ap insert_reply (over_one t.0 o (is (change.Over t.0) t.1)))
-  over_only o is (Over r) t = absurd t
+  over_only o is old t = absurd t
 
   changing_by : (n : Changed) → Changes d what n → ((z : Changed) → Changes d what z → z ≡ n) → One (InsertGoes key value (Changing d) what)
   changing_by (change.On e) h only = record { new = Changing e; goes = h; only = more_only e only }
@@ -109,63 +97,29 @@ module _ (key value : ℕ) (d : Change) (what : Seen) where
 
 module _ (key value : ℕ) where
   begun_only : (other : InsertStage) → InsertGoes key value New seen.Done other → other ≡ Coming Start
-  begun_only New t = absurd t
   begun_only (Coming b) t = ap Coming t
-  begun_only (Present m n) t = absurd t
-  begun_only (Changing d) t = absurd t
-  begun_only (Ending r) t = absurd t
-  begun_only (Over r) t = absurd t
+  begun_only old t = absurd t
 
   stays_only : (x v : ℕ) → (other : InsertStage) → InsertGoes key value (Present x v) seen.Done other → other ≡ Ending (reply.Present v)
-  stays_only x v New t = absurd t
-  stays_only x v (Coming b) t = absurd t
-  stays_only x v (Present m n) t = absurd t
-  stays_only x v (Changing d) t = absurd t
   stays_only x v (Ending r) t = ap Ending t
-  stays_only x v (Over r) t = absurd t
+  stays_only x v old t = absurd t
 
   ended_only : (q : InsertReply) → (other : InsertStage) → InsertGoes key value (Ending q) seen.Done other → other ≡ Over q
-  ended_only q New t = absurd t
-  ended_only q (Coming b) t = absurd t
-  ended_only q (Present m n) t = absurd t
-  ended_only q (Changing d) t = absurd t
-  ended_only q (Ending r) t = absurd t
   ended_only q (Over r) t = ap Over t
+  ended_only q old t = absurd t
 
   stage_one : (a : InsertStage) (what : Seen) → insert_answer_in a ≡ None → Gives (insert_next_in a) (insert_needs_in a) what → One (InsertGoes key value a what)
   stage_one (Coming a) what r g = (let h = approach_one 0 key a what g in coming_by key value a what h.new h.goes h.only)
   stage_one (Changing d) what r g = (let h = change_one d what g in changing_by key value d what h.new h.goes h.only)
   stage_one New seen.Done r g = record { new = Coming Start; goes = refl; only = begun_only }
-  stage_one New (seen.Words d) r g = absurd g
-  stage_one New (seen.Took y) r g = absurd g
-  stage_one New (seen.Owner retired started own) r g = absurd g
-  stage_one New (seen.Blocks b) r g = absurd g
-  stage_one New seen.Missed r g = absurd g
-  stage_one New seen.Refused r g = absurd g
   stage_one (Present x v) seen.Done r g = record { new = Ending (reply.Present v); goes = refl; only = stays_only x v }
-  stage_one (Present x v) (seen.Words d) r g = absurd g
-  stage_one (Present x v) (seen.Took y) r g = absurd g
-  stage_one (Present x v) (seen.Owner retired started own) r g = absurd g
-  stage_one (Present x v) (seen.Blocks b) r g = absurd g
-  stage_one (Present x v) seen.Missed r g = absurd g
-  stage_one (Present x v) seen.Refused r g = absurd g
   stage_one (Ending q) seen.Done r g = record { new = Over q; goes = refl; only = ended_only q }
-  stage_one (Ending q) (seen.Words d) r g = absurd g
-  stage_one (Ending q) (seen.Took y) r g = absurd g
-  stage_one (Ending q) (seen.Owner retired started own) r g = absurd g
-  stage_one (Ending q) (seen.Blocks b) r g = absurd g
-  stage_one (Ending q) seen.Missed r g = absurd g
-  stage_one (Ending q) seen.Refused r g = absurd g
   stage_one (Over q) what r g = (let z : Some _ ≡ None = r in cc)
+  stage_one old what r g = absurd g
 
 insert_only : (old : Insert) (what : Seen) (g : One (InsertGoes old.key old.value old.stage what)) (other : Proc) → Takes (proc.Insert old) what other → other ≡ proc.Insert (record { key = old.key; value = old.value; stage = g.new })
-insert_only old what g (proc.Find f) t = absurd t
-insert_only old what g (proc.Part f) t = absurd t
-insert_only old what g (proc.Reclaim f) t = absurd t
-insert_only old what g (proc.Compress f) t = absurd t
 insert_only old what g (proc.Insert f) t = (let e = g.only f.stage t.2 in λ i. proc.Insert (record { key = t.0 i; value = t.1 i; stage = e i }))
-insert_only old what g (proc.Delete f) t = absurd t
-insert_only old what g (proc.Post f) t = absurd t
+insert_only old what g new t = absurd t
 
 pub insert_goes : (old : Insert) (what : Seen) → insert_answer_in old.stage ≡ None → Gives (insert_next_in old.stage) (insert_needs_in old.stage) what → GoesOn (proc.Insert old) what
 insert_goes old what running given =

@@ -89,14 +89,7 @@ merged_some (Inner l) (Inner r) n fit =
       }),
       (fit, (refl, refl, refl, refl), refl),
     )
-merged_some (Leaf l) (Anchor a) n fit = absurd n
-merged_some (Leaf l) (Inner r) n fit = absurd n
-merged_some (Leaf l) (Dead e) n fit = absurd n
-merged_some (Inner l) (Anchor a) n fit = absurd n
-merged_some (Inner l) (Leaf r) n fit = absurd n
-merged_some (Inner l) (Dead e) n fit = absurd n
-merged_some (Anchor a) d n fit = absurd n
-merged_some (Dead e) d n fit = absurd n
+merged_some old d n fit = absurd n
 
 -- What is put in place of the right one.
 
@@ -105,9 +98,7 @@ buried_one x d (Dead p) (Dead q) a b = ap Dead (dead_same p q (a.0 ∙ sym b.0) 
 buried_one x d (Dead p) (Anchor q) a b = absurd b
 buried_one x d (Dead p) (Leaf q) a b = absurd b
 buried_one x d (Dead p) (Inner q) a b = absurd b
-buried_one x d (Anchor p) q a b = absurd a
-buried_one x d (Leaf p) q a b = absurd a
-buried_one x d (Inner p) q a b = absurd a
+buried_one x d old q a b = absurd a
 
 pub buried_some : (x : ℕ) (d : Page) → IsChild x → (p : Page) × IsBuried x d p
 buried_some x (Anchor a) child = (Dead (record { level = 0; low = 0; right = x; below_limit = omega arith; some = child.0; link = child.1 }), (refl, refl, refl))
@@ -193,11 +184,4 @@ evened_inners l r n past =
 pub evened_some : (c d : Page) → AreNeighbours c d → 14 < together c d → (e : Evened) × IsEvened c d e
 evened_some (Leaf l) (Leaf r) n past = evened_leaves l r n past
 evened_some (Inner l) (Inner r) n past = evened_inners l r n past
-evened_some (Leaf l) (Anchor a) n past = absurd n
-evened_some (Leaf l) (Inner r) n past = absurd n
-evened_some (Leaf l) (Dead e) n past = absurd n
-evened_some (Inner l) (Anchor a) n past = absurd n
-evened_some (Inner l) (Leaf r) n past = absurd n
-evened_some (Inner l) (Dead e) n past = absurd n
-evened_some (Anchor a) d n past = absurd n
-evened_some (Dead e) d n past = absurd n
+evened_some old d n past = absurd n

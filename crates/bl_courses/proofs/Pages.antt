@@ -38,30 +38,16 @@ now_one low high right (Inner c) (Inner p) (Inner q) a b e = ap Inner (inner_sam
 now_one low high right (Leaf c) (Leaf p) (Anchor q) a b e = absurd b
 now_one low high right (Leaf c) (Leaf p) (Inner q) a b e = absurd b
 now_one low high right (Leaf c) (Leaf p) (Dead q) a b e = absurd b
-now_one low high right (Leaf c) (Anchor p) q a b e = absurd a
-now_one low high right (Leaf c) (Inner p) q a b e = absurd a
-now_one low high right (Leaf c) (Dead p) q a b e = absurd a
 now_one low high right (Inner c) (Inner p) (Anchor q) a b e = absurd b
 now_one low high right (Inner c) (Inner p) (Leaf q) a b e = absurd b
 now_one low high right (Inner c) (Inner p) (Dead q) a b e = absurd b
-now_one low high right (Inner c) (Anchor p) q a b e = absurd a
-now_one low high right (Inner c) (Leaf p) q a b e = absurd a
-now_one low high right (Inner c) (Dead p) q a b e = absurd a
-now_one low high right (Anchor c) p q a b e = absurd a
-now_one low high right (Dead c) p q a b e = absurd a
+now_one low high right old p q a b e = absurd a
 
 -- such a page has these bounds
 pub now_bounds : (low high right : ℕ) (c p : Page) → IsNow low high right c p → (low_of p ≡ low) × (high_of p ≡ high)
 now_bounds low high right (Leaf c) (Leaf p) a = (a.0, a.1)
 now_bounds low high right (Inner c) (Inner p) a = (a.1, a.2)
-now_bounds low high right (Leaf c) (Anchor p) a = absurd a
-now_bounds low high right (Leaf c) (Inner p) a = absurd a
-now_bounds low high right (Leaf c) (Dead p) a = absurd a
-now_bounds low high right (Inner c) (Anchor p) a = absurd a
-now_bounds low high right (Inner c) (Leaf p) a = absurd a
-now_bounds low high right (Inner c) (Dead p) a = absurd a
-now_bounds low high right (Anchor c) p a = absurd a
-now_bounds low high right (Dead c) p a = absurd a
+now_bounds low high right old p a = absurd a
 
 now_within : (low high right : ℕ) (c p : Page) → IsNow low high right c p → AllWithin low high (pairs_of p)
 now_within low high right c p a = (let b = now_bounds low high right c p a in subst (λ (z : ℕ × ℕ). AllWithin z.0 z.1 (pairs_of p)) (λ i. (b.0 i, b.1 i)) (within p))

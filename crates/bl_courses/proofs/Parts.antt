@@ -30,25 +30,16 @@ record Goes (from : ℕ) (old : PartStage) (what : Seen) : Type 0 where
   pub only : (other : PartStage) → PartGoes from old what other → other ≡ new
 
 new_only : (from : ℕ) (other : PartStage) → PartGoes from New seen.Done other → other ≡ AtAnchor
-new_only from New t = absurd t
 new_only from AtAnchor t = refl
-new_only from (At y) t = absurd t
-new_only from (Ending r) t = absurd t
-new_only from (Over r) t = absurd t
+new_only from old t = absurd t
 
 anchor_only : (from : ℕ) (c : Page) (other : PartStage) → PartGoes from AtAnchor (seen.Words c) other → other ≡ At (top_of (roots_of c))
-anchor_only from c New t = absurd t
-anchor_only from c AtAnchor t = absurd t
 anchor_only from c (At y) t = ap At t
-anchor_only from c (Ending r) t = absurd t
-anchor_only from c (Over r) t = absurd t
+anchor_only from c old t = absurd t
 
 ending_only : (from : ℕ) (part : PartRows) (other : PartStage) → PartGoes from (Ending part) seen.Done other → other ≡ Over part
-ending_only from part New t = absurd t
-ending_only from part AtAnchor t = absurd t
-ending_only from part (At y) t = absurd t
-ending_only from part (Ending r) t = absurd t
 ending_only from part (Over r) t = ap Over t
+ending_only from part old t = absurd t
 
 same_page : (x y : ℕ) → find.At x ≡ find.At y → x ≡ y
 same_page x y e = cc
@@ -84,12 +75,7 @@ module _ (from x : ℕ) (c : Page) where
   at_one (Ending p) (At z) s t = absurd (let e : find.Ending ((node_of c).look from) ≡ find.At z = one (Ending p) (At z) s t in cc)
   at_one New b s t = absurd s
   at_one (Over r) b s t = absurd s
-  at_one AtAnchor New s t = absurd t
-  at_one AtAnchor (Over r) s t = absurd t
-  at_one (At y) New s t = absurd t
-  at_one (At y) (Over r) s t = absurd t
-  at_one (Ending p) New s t = absurd t
-  at_one (Ending p) (Over r) s t = absurd t
+  at_one old b s t = absurd t
 
   at_goes : (o : Onward) → Leads c from 0 o → Goes from (At x) (seen.Words c)
   at_goes Again a = record { new = AtAnchor; goes = a; only = λ other t. at_one other AtAnchor t a }
@@ -99,33 +85,9 @@ module _ (from x : ℕ) (c : Page) where
 
 stage_goes : (from : ℕ) (old : PartStage) (what : Seen) → part_answer_in old ≡ None → Gives (part_next_in old) None what → Goes from old what
 stage_goes from New seen.Done a g = record { new = AtAnchor; goes = tt; only = new_only from }
-stage_goes from New (seen.Words c) a g = absurd g
-stage_goes from New (seen.Took y) a g = absurd g
-stage_goes from New (seen.Owner retired started own) a g = absurd g
-stage_goes from New (seen.Blocks b) a g = absurd g
-stage_goes from New seen.Missed a g = absurd g
-stage_goes from New seen.Refused a g = absurd g
-stage_goes from AtAnchor seen.Done a g = absurd g
 stage_goes from AtAnchor (seen.Words c) a g = record { new = At (top_of (roots_of c)); goes = refl; only = anchor_only from c }
-stage_goes from AtAnchor (seen.Took y) a g = absurd g
-stage_goes from AtAnchor (seen.Owner retired started own) a g = absurd g
-stage_goes from AtAnchor (seen.Blocks b) a g = absurd g
-stage_goes from AtAnchor seen.Missed a g = absurd g
-stage_goes from AtAnchor seen.Refused a g = absurd g
-stage_goes from (At x) seen.Done a g = absurd g
 stage_goes from (At x) (seen.Words c) a g = (let o = leads_some c from 0 in at_goes from x c o.0 o.1)
-stage_goes from (At x) (seen.Took y) a g = absurd g
-stage_goes from (At x) (seen.Owner retired started own) a g = absurd g
-stage_goes from (At x) (seen.Blocks b) a g = absurd g
-stage_goes from (At x) seen.Missed a g = absurd g
-stage_goes from (At x) seen.Refused a g = absurd g
 stage_goes from (Ending p) seen.Done a g = record { new = Over p; goes = refl; only = ending_only from p }
-stage_goes from (Ending p) (seen.Words c) a g = absurd g
-stage_goes from (Ending p) (seen.Took y) a g = absurd g
-stage_goes from (Ending p) (seen.Owner retired started own) a g = absurd g
-stage_goes from (Ending p) (seen.Blocks b) a g = absurd g
-stage_goes from (Ending p) seen.Missed a g = absurd g
-stage_goes from (Ending p) seen.Refused a g = absurd g
 stage_goes from (Over p) seen.Done a g = absurd (cc)
 stage_goes from (Over p) (seen.Words c) a g = absurd (cc)
 stage_goes from (Over p) (seen.Took y) a g = absurd (cc)
@@ -133,15 +95,11 @@ stage_goes from (Over p) (seen.Owner retired started own) a g = absurd (cc)
 stage_goes from (Over p) (seen.Blocks b) a g = absurd (cc)
 stage_goes from (Over p) seen.Missed a g = absurd (cc)
 stage_goes from (Over p) seen.Refused a g = absurd (cc)
+stage_goes from old what a g = absurd g
 
 part_only : (old : PartState) (what : Seen) (g : Goes old.from old.stage what) (other : Proc) → Takes (Part old) what other → other ≡ Part (record { from = old.from; stage = g.new })
 part_only old what g (Part f) t = (let e = g.only f.stage (t.1) in λ i. Part (record { from = t.0 i; stage = e i }))
-part_only old what g (Find f) t = absurd t
-part_only old what g (Insert f) t = absurd t
-part_only old what g (Delete f) t = absurd t
-part_only old what g (Post f) t = absurd t
-part_only old what g (Reclaim f) t = absurd t
-part_only old what g (Compress f) t = absurd t
+part_only old what g new t = absurd t
 
 pub part_goes : (old : PartState) (what : Seen) → part_answer_in old.stage ≡ None → Gives (part_next_in old.stage) None what → GoesOn (Part old) what
 part_goes old what running given =

@@ -67,104 +67,32 @@ walk_same a b at key parent child = λ i. record {
 -- At the anchor.
 module _ (level key : ℕ) (c : Page) where
   stale_only : (roots_of c).levels < level → (other : PostStage) → PostStarts level key c other → other ≡ Ending reply.Stale
-  stale_only lt New t = absurd t
   stale_only lt (Coming b) t = absurd (let e = t.0 in omega arith)
   stale_only lt (Growing growth.Latching) t = absurd (let e = t.0 in omega arith)
-  stale_only lt (Growing growth.Latched) t = absurd t
-  stale_only lt (Growing (growth.Taking g)) t = absurd t
-  stale_only lt (Growing (growth.PuttingTop g)) t = absurd t
-  stale_only lt (Growing (growth.PuttingAnchor g)) t = absurd t
-  stale_only lt (Growing (growth.OpeningTop g)) t = absurd t
-  stale_only lt (Growing growth.OpeningGrown) t = absurd t
-  stale_only lt (Growing growth.OpeningRefused) t = absurd t
-  stale_only lt (Walking v) t = absurd t
-  stale_only lt (Changing d) t = absurd t
-  stale_only lt (Staying m (reply.Done s)) t = absurd t
-  stale_only lt (Staying m reply.Already) t = absurd t
-  stale_only lt (Staying m reply.Stale) t = absurd t
-  stale_only lt (Staying m reply.NoRoom) t = absurd t
-  stale_only lt (Staying m reply.TooTall) t = absurd t
-  stale_only lt (Ending (reply.Done s)) t = absurd t
-  stale_only lt (Ending reply.Already) t = absurd t
   stale_only lt (Ending reply.Stale) t = refl
-  stale_only lt (Ending reply.NoRoom) t = absurd t
   stale_only lt (Ending reply.TooTall) t = absurd (let e = t.0 in omega arith)
-  stale_only lt (Over r) t = absurd t
+  stale_only lt old t = absurd t
 
   tall_only : (roots_of c).levels ≡ level → level ≡ 12 → (other : PostStage) → PostStarts level key c other → other ≡ Ending reply.TooTall
-  tall_only is top New t = absurd t
   tall_only is top (Coming b) t = absurd (let e = t.0 in omega arith)
   tall_only is top (Growing growth.Latching) t = absurd (t.1 top)
-  tall_only is top (Growing growth.Latched) t = absurd t
-  tall_only is top (Growing (growth.Taking g)) t = absurd t
-  tall_only is top (Growing (growth.PuttingTop g)) t = absurd t
-  tall_only is top (Growing (growth.PuttingAnchor g)) t = absurd t
-  tall_only is top (Growing (growth.OpeningTop g)) t = absurd t
-  tall_only is top (Growing growth.OpeningGrown) t = absurd t
-  tall_only is top (Growing growth.OpeningRefused) t = absurd t
-  tall_only is top (Walking v) t = absurd t
-  tall_only is top (Changing d) t = absurd t
-  tall_only is top (Staying m (reply.Done s)) t = absurd t
-  tall_only is top (Staying m reply.Already) t = absurd t
-  tall_only is top (Staying m reply.Stale) t = absurd t
-  tall_only is top (Staying m reply.NoRoom) t = absurd t
-  tall_only is top (Staying m reply.TooTall) t = absurd t
-  tall_only is top (Ending (reply.Done s)) t = absurd t
-  tall_only is top (Ending reply.Already) t = absurd t
   tall_only is top (Ending reply.Stale) t = absurd (omega arith)
-  tall_only is top (Ending reply.NoRoom) t = absurd t
   tall_only is top (Ending reply.TooTall) t = refl
-  tall_only is top (Over r) t = absurd t
+  tall_only is top old t = absurd t
 
   grow_only : (roots_of c).levels ≡ level → level ≢ 12 → (other : PostStage) → PostStarts level key c other → other ≡ Growing growth.Latching
-  grow_only is low New t = absurd t
   grow_only is low (Coming b) t = absurd (let e = t.0 in omega arith)
   grow_only is low (Growing growth.Latching) t = refl
-  grow_only is low (Growing growth.Latched) t = absurd t
-  grow_only is low (Growing (growth.Taking g)) t = absurd t
-  grow_only is low (Growing (growth.PuttingTop g)) t = absurd t
-  grow_only is low (Growing (growth.PuttingAnchor g)) t = absurd t
-  grow_only is low (Growing (growth.OpeningTop g)) t = absurd t
-  grow_only is low (Growing growth.OpeningGrown) t = absurd t
-  grow_only is low (Growing growth.OpeningRefused) t = absurd t
-  grow_only is low (Walking v) t = absurd t
-  grow_only is low (Changing d) t = absurd t
-  grow_only is low (Staying m (reply.Done s)) t = absurd t
-  grow_only is low (Staying m reply.Already) t = absurd t
-  grow_only is low (Staying m reply.Stale) t = absurd t
-  grow_only is low (Staying m reply.NoRoom) t = absurd t
-  grow_only is low (Staying m reply.TooTall) t = absurd t
-  grow_only is low (Ending (reply.Done s)) t = absurd t
-  grow_only is low (Ending reply.Already) t = absurd t
   grow_only is low (Ending reply.Stale) t = absurd (omega arith)
-  grow_only is low (Ending reply.NoRoom) t = absurd t
   grow_only is low (Ending reply.TooTall) t = absurd (low t.1)
-  grow_only is low (Over r) t = absurd t
+  grow_only is low old t = absurd t
 
   come_only : (a : Approach) → level < (roots_of c).levels → ((o : Approached) → Approaches level key Start (seen.Words c) o → o ≡ came.On a) → (other : PostStage) → PostStarts level key c other → other ≡ Coming a
-  come_only a more is New t = absurd t
   come_only a more is (Coming b) t = ap Coming (came_on b a (is (came.On b) t.1))
   come_only a more is (Growing growth.Latching) t = absurd (let e = t.0 in omega arith)
-  come_only a more is (Growing growth.Latched) t = absurd t
-  come_only a more is (Growing (growth.Taking g)) t = absurd t
-  come_only a more is (Growing (growth.PuttingTop g)) t = absurd t
-  come_only a more is (Growing (growth.PuttingAnchor g)) t = absurd t
-  come_only a more is (Growing (growth.OpeningTop g)) t = absurd t
-  come_only a more is (Growing growth.OpeningGrown) t = absurd t
-  come_only a more is (Growing growth.OpeningRefused) t = absurd t
-  come_only a more is (Walking v) t = absurd t
-  come_only a more is (Changing d) t = absurd t
-  come_only a more is (Staying m (reply.Done s)) t = absurd t
-  come_only a more is (Staying m reply.Already) t = absurd t
-  come_only a more is (Staying m reply.Stale) t = absurd t
-  come_only a more is (Staying m reply.NoRoom) t = absurd t
-  come_only a more is (Staying m reply.TooTall) t = absurd t
-  come_only a more is (Ending (reply.Done s)) t = absurd t
-  come_only a more is (Ending reply.Already) t = absurd t
   come_only a more is (Ending reply.Stale) t = absurd (omega arith)
-  come_only a more is (Ending reply.NoRoom) t = absurd t
   come_only a more is (Ending reply.TooTall) t = absurd (let e = t.0 in omega arith)
-  come_only a more is (Over r) t = absurd t
+  come_only a more is old t = absurd t
 
   come_by : level < (roots_of c).levels → (o : Approached) → Approaches level key Start (seen.Words c) o → ((z : Approached) → Approaches level key Start (seen.Words c) z → z ≡ o) → One (PostStarts level key c)
   come_by more (came.On a) h is = record { new = Coming a; goes = (more, h); only = come_only a more is }
@@ -185,54 +113,14 @@ module _ (level key : ℕ) (c : Page) where
 -- At the parent.
 module _ (key x : ℕ) (c : Page) where
   already_only : (child : ℕ) → (node_of c).look key ≡ Some child → (other : PostStage) → PostArrives key x c other → other ≡ Staying x reply.Already
-  already_only child e New t = absurd t
-  already_only child e (Coming b) t = absurd t
-  already_only child e (Growing growth.Latching) t = absurd t
-  already_only child e (Growing growth.Latched) t = absurd t
-  already_only child e (Growing (growth.Taking g)) t = absurd t
-  already_only child e (Growing (growth.PuttingTop g)) t = absurd t
-  already_only child e (Growing (growth.PuttingAnchor g)) t = absurd t
-  already_only child e (Growing (growth.OpeningTop g)) t = absurd t
-  already_only child e (Growing growth.OpeningGrown) t = absurd t
-  already_only child e (Growing growth.OpeningRefused) t = absurd t
   already_only child e (Walking v) t = absurd (let same : Some child ≡ map_of v.parent.children.items key = sym e ∙ ap (λ (z : Page). (node_of z).look key) t.2 in let un : map_of v.parent.children.items key ≡ None = subst (λ (z : ℕ). map_of v.parent.children.items z ≡ None) t.1 v.unlisted in let z : Some child ≡ None = same ∙ un in cc)
-  already_only child e (Changing d) t = absurd t
-  already_only child e (Staying m (reply.Done s)) t = absurd t
   already_only child e (Staying m reply.Already) t = λ i. Staying (t.0 i) reply.Already
-  already_only child e (Staying m reply.Stale) t = absurd t
-  already_only child e (Staying m reply.NoRoom) t = absurd t
-  already_only child e (Staying m reply.TooTall) t = absurd t
-  already_only child e (Ending (reply.Done s)) t = absurd t
-  already_only child e (Ending reply.Already) t = absurd t
-  already_only child e (Ending reply.Stale) t = absurd t
-  already_only child e (Ending reply.NoRoom) t = absurd t
-  already_only child e (Ending reply.TooTall) t = absurd t
-  already_only child e (Over r) t = absurd t
+  already_only child e old t = absurd t
 
   walk_only : (w : Walk) → w.at ≡ x → w.key ≡ key → c ≡ page.Inner w.parent → IsChildOf (node_of c).look key w.child → (node_of c).look key ≡ None → (other : PostStage) → PostArrives key x c other → other ≡ Walking w
-  walk_only w at is parent child none New t = absurd t
-  walk_only w at is parent child none (Coming b) t = absurd t
-  walk_only w at is parent child none (Growing growth.Latching) t = absurd t
-  walk_only w at is parent child none (Growing growth.Latched) t = absurd t
-  walk_only w at is parent child none (Growing (growth.Taking g)) t = absurd t
-  walk_only w at is parent child none (Growing (growth.PuttingTop g)) t = absurd t
-  walk_only w at is parent child none (Growing (growth.PuttingAnchor g)) t = absurd t
-  walk_only w at is parent child none (Growing (growth.OpeningTop g)) t = absurd t
-  walk_only w at is parent child none (Growing growth.OpeningGrown) t = absurd t
-  walk_only w at is parent child none (Growing growth.OpeningRefused) t = absurd t
   walk_only w at is parent child none (Walking v) t = ap Walking (walk_same v w (t.0 ∙ sym at) (t.1 ∙ sym is) (inner_one v.parent w.parent (sym t.2 ∙ parent)) (child_one (node_of c).look key v.child w.child t.3 child))
-  walk_only w at is parent child none (Changing d) t = absurd t
-  walk_only w at is parent child none (Staying m (reply.Done s)) t = absurd t
   walk_only w at is parent child none (Staying m reply.Already) t = absurd (let z : Some t.1.0 ≡ None = sym t.1.1 ∙ none in cc)
-  walk_only w at is parent child none (Staying m reply.Stale) t = absurd t
-  walk_only w at is parent child none (Staying m reply.NoRoom) t = absurd t
-  walk_only w at is parent child none (Staying m reply.TooTall) t = absurd t
-  walk_only w at is parent child none (Ending (reply.Done s)) t = absurd t
-  walk_only w at is parent child none (Ending reply.Already) t = absurd t
-  walk_only w at is parent child none (Ending reply.Stale) t = absurd t
-  walk_only w at is parent child none (Ending reply.NoRoom) t = absurd t
-  walk_only w at is parent child none (Ending reply.TooTall) t = absurd t
-  walk_only w at is parent child none (Over r) t = absurd t
+  walk_only w at is parent child none old t = absurd t
 
 -- the parent is an inner page
 arrive_inner : (key x : ℕ) (parent : Inner) → IsWithin parent.low parent.high key → (look : Option ℕ) → map_of parent.children.items key ≡ look → One (PostArrives key x (page.Inner parent))
@@ -289,16 +177,11 @@ module _ (level key : ℕ) (a : Approach) (what : Seen) where
 
 come_one : (level key : ℕ) (a : Approach) (what : Seen) → 0 < level → Gives (approach_next a) None what → One (PostComes level key a what)
 come_one level key Start (seen.Words c) least g = start_one level key c
-come_one level key Start seen.Done least g = absurd g
-come_one level key Start (seen.Took y) least g = absurd g
-come_one level key Start (seen.Owner retired started own) least g = absurd g
-come_one level key Start (seen.Blocks b) least g = absurd g
-come_one level key Start seen.Missed least g = absurd g
-come_one level key Start seen.Refused least g = absurd g
 come_one level key (At z) what least g = near_one level key (At z) what least g
 come_one level key (Latching z) what least g = near_one level key (Latching z) what least g
 come_one level key (Latched z) what least g = near_one level key (Latched z) what least g
 come_one level key (Leaving z to) what least g = near_one level key (Leaving z to) what least g
+come_one level key old what least g = absurd g
 
 right_page : {x y : ℕ} → Right x ≡ Right y → x ≡ y
 right_page e = cc
@@ -309,104 +192,32 @@ module _ (level : ℕ) (w : Walk) (c : Page) where
   low_is = (node_of c).shape.low ≡ w.key
 
   found_only : (d : Change) → Leads c w.key (level - 1) Here → low_is → ((f : Change) → EntersPair w.at (page.Inner w.parent) w.key w.child f → f ≡ d) → (other : PostStage) → PostWalks level w c other → other ≡ Changing d
-  found_only d h low one New t = absurd t
   found_only d h low one (Coming b) t = absurd (subst IsLost (leads_one c w.key (level - 1) t.1.0 Here t.1.1 h) t.1.2)
-  found_only d h low one (Growing growth.Latching) t = absurd t
-  found_only d h low one (Growing growth.Latched) t = absurd t
-  found_only d h low one (Growing (growth.Taking g)) t = absurd t
-  found_only d h low one (Growing (growth.PuttingTop g)) t = absurd t
-  found_only d h low one (Growing (growth.PuttingAnchor g)) t = absurd t
-  found_only d h low one (Growing (growth.OpeningTop g)) t = absurd t
-  found_only d h low one (Growing growth.OpeningGrown) t = absurd t
-  found_only d h low one (Growing growth.OpeningRefused) t = absurd t
   found_only d h low one (Walking v) t = absurd (let e = leads_one c w.key (level - 1) Here (Right v.child) h t.3 in cc)
   found_only d h low one (Changing n) t = ap Changing (one n t.2)
-  found_only d h low one (Staying m (reply.Done s)) t = absurd t
-  found_only d h low one (Staying m reply.Already) t = absurd t
   found_only d h low one (Staying m reply.Stale) t = absurd (t.2 low)
-  found_only d h low one (Staying m reply.NoRoom) t = absurd t
-  found_only d h low one (Staying m reply.TooTall) t = absurd t
-  found_only d h low one (Ending (reply.Done s)) t = absurd t
-  found_only d h low one (Ending reply.Already) t = absurd t
-  found_only d h low one (Ending reply.Stale) t = absurd t
-  found_only d h low one (Ending reply.NoRoom) t = absurd t
-  found_only d h low one (Ending reply.TooTall) t = absurd t
-  found_only d h low one (Over r) t = absurd t
+  found_only d h low one old t = absurd t
 
   other_only : Leads c w.key (level - 1) Here → (low_is → ⊥) → (other : PostStage) → PostWalks level w c other → other ≡ Staying w.at reply.Stale
-  other_only h differs New t = absurd t
   other_only h differs (Coming b) t = absurd (subst IsLost (leads_one c w.key (level - 1) t.1.0 Here t.1.1 h) t.1.2)
-  other_only h differs (Growing growth.Latching) t = absurd t
-  other_only h differs (Growing growth.Latched) t = absurd t
-  other_only h differs (Growing (growth.Taking g)) t = absurd t
-  other_only h differs (Growing (growth.PuttingTop g)) t = absurd t
-  other_only h differs (Growing (growth.PuttingAnchor g)) t = absurd t
-  other_only h differs (Growing (growth.OpeningTop g)) t = absurd t
-  other_only h differs (Growing growth.OpeningGrown) t = absurd t
-  other_only h differs (Growing growth.OpeningRefused) t = absurd t
   other_only h differs (Walking v) t = absurd (let e = leads_one c w.key (level - 1) Here (Right v.child) h t.3 in cc)
   other_only h differs (Changing n) t = absurd (differs t.1)
-  other_only h differs (Staying m (reply.Done s)) t = absurd t
-  other_only h differs (Staying m reply.Already) t = absurd t
   other_only h differs (Staying m reply.Stale) t = λ i. Staying (t.0 i) reply.Stale
-  other_only h differs (Staying m reply.NoRoom) t = absurd t
-  other_only h differs (Staying m reply.TooTall) t = absurd t
-  other_only h differs (Ending (reply.Done s)) t = absurd t
-  other_only h differs (Ending reply.Already) t = absurd t
-  other_only h differs (Ending reply.Stale) t = absurd t
-  other_only h differs (Ending reply.NoRoom) t = absurd t
-  other_only h differs (Ending reply.TooTall) t = absurd t
-  other_only h differs (Over r) t = absurd t
+  other_only h differs old t = absurd t
 
   right_only : (v : Walk) → v.at ≡ w.at → v.key ≡ w.key → v.parent ≡ w.parent → Leads c w.key (level - 1) (Right v.child) → (other : PostStage) → PostWalks level w c other → other ≡ Walking v
-  right_only v at key parent h New t = absurd t
   right_only v at key parent h (Coming b) t = absurd (let zero_is : v.child ≡ 0 = subst IsLost (leads_one c w.key (level - 1) t.1.0 (Right v.child) t.1.1 h) t.1.2 in let some = v.names.0 in omega arith)
-  right_only v at key parent h (Growing growth.Latching) t = absurd t
-  right_only v at key parent h (Growing growth.Latched) t = absurd t
-  right_only v at key parent h (Growing (growth.Taking g)) t = absurd t
-  right_only v at key parent h (Growing (growth.PuttingTop g)) t = absurd t
-  right_only v at key parent h (Growing (growth.PuttingAnchor g)) t = absurd t
-  right_only v at key parent h (Growing (growth.OpeningTop g)) t = absurd t
-  right_only v at key parent h (Growing growth.OpeningGrown) t = absurd t
-  right_only v at key parent h (Growing growth.OpeningRefused) t = absurd t
   right_only v at key parent h (Walking u) t = ap Walking (walk_same u v (t.0 ∙ sym at) (t.1 ∙ sym key) (t.2 ∙ sym parent) (right_page (leads_one c w.key (level - 1) (Right u.child) (Right v.child) t.3 h)))
   right_only v at key parent h (Changing n) t = absurd (let e = leads_one c w.key (level - 1) (Right v.child) Here h t.0 in cc)
-  right_only v at key parent h (Staying m (reply.Done s)) t = absurd t
-  right_only v at key parent h (Staying m reply.Already) t = absurd t
   right_only v at key parent h (Staying m reply.Stale) t = absurd (let e = leads_one c w.key (level - 1) (Right v.child) Here h t.1 in cc)
-  right_only v at key parent h (Staying m reply.NoRoom) t = absurd t
-  right_only v at key parent h (Staying m reply.TooTall) t = absurd t
-  right_only v at key parent h (Ending (reply.Done s)) t = absurd t
-  right_only v at key parent h (Ending reply.Already) t = absurd t
-  right_only v at key parent h (Ending reply.Stale) t = absurd t
-  right_only v at key parent h (Ending reply.NoRoom) t = absurd t
-  right_only v at key parent h (Ending reply.TooTall) t = absurd t
-  right_only v at key parent h (Over r) t = absurd t
+  right_only v at key parent h old t = absurd t
 
   lost_only : (o : Onward) → Leads c w.key (level - 1) o → IsLost o → (other : PostStage) → PostWalks level w c other → other ≡ Coming (Leaving w.at None)
-  lost_only o h lost New t = absurd t
   lost_only o h lost (Coming b) t = ap Coming t.0
-  lost_only o h lost (Growing growth.Latching) t = absurd t
-  lost_only o h lost (Growing growth.Latched) t = absurd t
-  lost_only o h lost (Growing (growth.Taking g)) t = absurd t
-  lost_only o h lost (Growing (growth.PuttingTop g)) t = absurd t
-  lost_only o h lost (Growing (growth.PuttingAnchor g)) t = absurd t
-  lost_only o h lost (Growing (growth.OpeningTop g)) t = absurd t
-  lost_only o h lost (Growing growth.OpeningGrown) t = absurd t
-  lost_only o h lost (Growing growth.OpeningRefused) t = absurd t
   lost_only o h lost (Walking u) t = absurd (let zero_is : u.child ≡ 0 = subst IsLost (leads_one c w.key (level - 1) o (Right u.child) h t.3) lost in let some = u.names.0 in omega arith)
   lost_only o h lost (Changing n) t = absurd (subst IsLost (leads_one c w.key (level - 1) o Here h t.0) lost)
-  lost_only o h lost (Staying m (reply.Done s)) t = absurd t
-  lost_only o h lost (Staying m reply.Already) t = absurd t
   lost_only o h lost (Staying m reply.Stale) t = absurd (subst IsLost (leads_one c w.key (level - 1) o Here h t.1) lost)
-  lost_only o h lost (Staying m reply.NoRoom) t = absurd t
-  lost_only o h lost (Staying m reply.TooTall) t = absurd t
-  lost_only o h lost (Ending (reply.Done s)) t = absurd t
-  lost_only o h lost (Ending reply.Already) t = absurd t
-  lost_only o h lost (Ending reply.Stale) t = absurd t
-  lost_only o h lost (Ending reply.NoRoom) t = absurd t
-  lost_only o h lost (Ending reply.TooTall) t = absurd t
-  lost_only o h lost (Over r) t = absurd t
+  lost_only o h lost old t = absurd t
 
   lost : (o : Onward) → Leads c w.key (level - 1) o → IsLost o → One (PostWalks level w c)
   lost o h is = record { new = Coming (Leaving w.at None); goes = (refl, (o, h, is)); only = lost_only o h is }
@@ -435,34 +246,22 @@ module _ (level key : ℕ) (g : Growth) (what : Seen) where
   grew_on a b e = cc
 
   growing_only : (h : Growth) → ((o : Grew) → Grows level g what o → o ≡ grew.On h) → (other : PostStage) → PostGoes level key (Growing g) what other → other ≡ Growing h
-  growing_only h is New t = absurd t
   growing_only h is (Coming b) t = absurd (let e = is grew.Grown t.0 in cc)
   growing_only h is (Growing n) t = ap Growing (grew_on n h (is (grew.On n) t))
-  growing_only h is (Walking v) t = absurd t
-  growing_only h is (Changing d) t = absurd t
-  growing_only h is (Staying m r) t = absurd t
   growing_only h is (Ending r) t = absurd (let e = is grew.Refused t.0 in cc)
-  growing_only h is (Over r) t = absurd t
+  growing_only h is old t = absurd t
 
   grown_only : ((o : Grew) → Grows level g what o → o ≡ grew.Grown) → (other : PostStage) → PostGoes level key (Growing g) what other → other ≡ Coming Start
-  grown_only is New t = absurd t
   grown_only is (Coming b) t = ap Coming t.1
   grown_only is (Growing n) t = absurd (let e = is (grew.On n) t in cc)
-  grown_only is (Walking v) t = absurd t
-  grown_only is (Changing d) t = absurd t
-  grown_only is (Staying m r) t = absurd t
   grown_only is (Ending r) t = absurd (let e = is grew.Refused t.0 in cc)
-  grown_only is (Over r) t = absurd t
+  grown_only is old t = absurd t
 
   refused_only : ((o : Grew) → Grows level g what o → o ≡ grew.Refused) → (other : PostStage) → PostGoes level key (Growing g) what other → other ≡ Ending reply.NoRoom
-  refused_only is New t = absurd t
   refused_only is (Coming b) t = absurd (let e = is grew.Grown t.0 in cc)
   refused_only is (Growing n) t = absurd (let e = is (grew.On n) t in cc)
-  refused_only is (Walking v) t = absurd t
-  refused_only is (Changing d) t = absurd t
-  refused_only is (Staying m r) t = absurd t
   refused_only is (Ending r) t = ap Ending t.1
-  refused_only is (Over r) t = absurd t
+  refused_only is old t = absurd t
 
   growing_by : (n : Grew) → Grows level g what n → ((o : Grew) → Grows level g what o → o ≡ n) → One (PostGoes level key (Growing g) what)
   growing_by (grew.On h) goes only = record { new = Growing h; goes = goes; only = growing_only h only }
@@ -472,24 +271,14 @@ module _ (level key : ℕ) (g : Growth) (what : Seen) where
 -- On with the change of the parent.
 module _ (level key : ℕ) (d : Change) (what : Seen) where
   more_only : (e : Change) → ((o : Changed) → Changes d what o → o ≡ change.On e) → (other : PostStage) → PostGoes level key (Changing d) what other → other ≡ Changing e
-  more_only e is New t = absurd t
-  more_only e is (Coming b) t = absurd t
-  more_only e is (Growing n) t = absurd t
-  more_only e is (Walking v) t = absurd t
   more_only e is (Changing f) t = ap Changing (on_one f e (is (change.On f) t))
-  more_only e is (Staying m r) t = absurd t
   more_only e is (Ending r) t = absurd (not_over e t.0 (sym (is (change.Over t.0) t.1)))
-  more_only e is (Over r) t = absurd t
+  more_only e is old t = absurd t
 
   over_only : (o : Outcome) → ((z : Changed) → Changes d what z → z ≡ change.Over o) → (other : PostStage) → PostGoes level key (Changing d) what other → other ≡ Ending (post_reply o)
-  over_only o is New t = absurd t
-  over_only o is (Coming b) t = absurd t
-  over_only o is (Growing n) t = absurd t
-  over_only o is (Walking v) t = absurd t
   over_only o is (Changing f) t = absurd (not_over f o (is (change.On f) t))
-  over_only o is (Staying m r) t = absurd t
   over_only o is (Ending r) t = ap Ending (t.2 ∙ ap post_reply (over_one t.0 o (is (change.Over t.0) t.1)))
-  over_only o is (Over r) t = absurd t
+  over_only o is old t = absurd t
 
   changing_by : (n : Changed) → Changes d what n → ((z : Changed) → Changes d what z → z ≡ n) → One (PostGoes level key (Changing d) what)
   changing_by (change.On e) h only = record { new = Changing e; goes = h; only = more_only e only }
@@ -497,68 +286,27 @@ module _ (level key : ℕ) (d : Change) (what : Seen) where
 
 module _ (level key : ℕ) where
   begun_only : (other : PostStage) → PostGoes level key New seen.Done other → other ≡ Coming Start
-  begun_only New t = absurd t
   begun_only (Coming b) t = ap Coming t
-  begun_only (Growing n) t = absurd t
-  begun_only (Walking v) t = absurd t
-  begun_only (Changing f) t = absurd t
-  begun_only (Staying m r) t = absurd t
-  begun_only (Ending r) t = absurd t
-  begun_only (Over r) t = absurd t
+  begun_only old t = absurd t
 
   stays_only : (x : ℕ) (q : PostReply) → (other : PostStage) → PostGoes level key (Staying x q) seen.Done other → other ≡ Ending q
-  stays_only x q New t = absurd t
-  stays_only x q (Coming b) t = absurd t
-  stays_only x q (Growing n) t = absurd t
-  stays_only x q (Walking v) t = absurd t
-  stays_only x q (Changing f) t = absurd t
-  stays_only x q (Staying m r) t = absurd t
   stays_only x q (Ending r) t = ap Ending t
-  stays_only x q (Over r) t = absurd t
+  stays_only x q old t = absurd t
 
   ended_only : (q : PostReply) → (other : PostStage) → PostGoes level key (Ending q) seen.Done other → other ≡ Over q
-  ended_only q New t = absurd t
-  ended_only q (Coming b) t = absurd t
-  ended_only q (Growing n) t = absurd t
-  ended_only q (Walking v) t = absurd t
-  ended_only q (Changing f) t = absurd t
-  ended_only q (Staying m r) t = absurd t
-  ended_only q (Ending r) t = absurd t
   ended_only q (Over r) t = ap Over t
+  ended_only q old t = absurd t
 
   stage_one : 0 < level → (a : PostStage) (what : Seen) → post_answer_in level a ≡ None → Gives (post_next_in a) (post_needs_in a) what → One (PostGoes level key a what)
   stage_one least (Coming a) what r g = (let h = come_one level key a what least g in record { new = h.new; goes = h.goes; only = h.only })
   stage_one least (Growing n) what r g = (let h = growth_one level least n what g in growing_by level key n what h.new h.goes h.only)
   stage_one least (Changing d) what r g = (let h = change_one d what g in changing_by level key d what h.new h.goes h.only)
   stage_one least New seen.Done r g = record { new = Coming Start; goes = refl; only = begun_only }
-  stage_one least New (seen.Words c) r g = absurd g
-  stage_one least New (seen.Took y) r g = absurd g
-  stage_one least New (seen.Owner retired started own) r g = absurd g
-  stage_one least New (seen.Blocks b) r g = absurd g
-  stage_one least New seen.Missed r g = absurd g
-  stage_one least New seen.Refused r g = absurd g
-  stage_one least (Walking w) seen.Done r g = absurd g
   stage_one least (Walking w) (seen.Words c) r g = (let h = walk_one level w c in record { new = h.new; goes = h.goes; only = h.only })
-  stage_one least (Walking w) (seen.Took y) r g = absurd g
-  stage_one least (Walking w) (seen.Owner retired started own) r g = absurd g
-  stage_one least (Walking w) (seen.Blocks b) r g = absurd g
-  stage_one least (Walking w) seen.Missed r g = absurd g
-  stage_one least (Walking w) seen.Refused r g = absurd g
   stage_one least (Staying x q) seen.Done r g = record { new = Ending q; goes = refl; only = stays_only x q }
-  stage_one least (Staying x q) (seen.Words c) r g = absurd g
-  stage_one least (Staying x q) (seen.Took y) r g = absurd g
-  stage_one least (Staying x q) (seen.Owner retired started own) r g = absurd g
-  stage_one least (Staying x q) (seen.Blocks b) r g = absurd g
-  stage_one least (Staying x q) seen.Missed r g = absurd g
-  stage_one least (Staying x q) seen.Refused r g = absurd g
   stage_one least (Ending q) seen.Done r g = record { new = Over q; goes = refl; only = ended_only q }
-  stage_one least (Ending q) (seen.Words c) r g = absurd g
-  stage_one least (Ending q) (seen.Took y) r g = absurd g
-  stage_one least (Ending q) (seen.Owner retired started own) r g = absurd g
-  stage_one least (Ending q) (seen.Blocks b) r g = absurd g
-  stage_one least (Ending q) seen.Missed r g = absurd g
-  stage_one least (Ending q) seen.Refused r g = absurd g
   stage_one least (Over q) what r g = (let z : Some _ ≡ None = r in cc)
+  stage_one least old what r g = absurd g
 
 post_only : (old : Post) (what : Seen) (g : One (PostGoes old.level old.key old.stage what)) (other : Proc) → Takes (proc.Post old) what other → other ≡ proc.Post (record { level = old.level; key = old.key; stage = g.new; least = old.least; most = old.most; below = goes_below old.level old.key old.stage what g.new old.below g.goes })
 post_only old what g (proc.Find f) t = absurd t

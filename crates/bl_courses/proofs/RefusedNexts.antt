@@ -34,54 +34,34 @@ abbrev pub OpensOrEnds : Action → Type 0
 OpensOrEnds action = ((x : ℕ) × (action ≡ act.Open x)) ⊎ (action ≡ act.End)
 
 change_opens : (c : Change) → ChangeRefused c → OpensOrEnds (change_next c)
-change_opens (change.Putting x page) r = absurd r
-change_opens (change.Taking full) r = absurd r
-change_opens (change.PuttingNew p) r = absurd r
-change_opens (change.PuttingOld p) r = absurd r
-change_opens (change.OpeningNew x new separator) r = absurd r
 change_opens (change.Opening x o) r = inl (x, refl)
+change_opens old r = absurd r
 
 growth_opens : (g : Growth) → GrowthRefused g → OpensOrEnds (growth_next g)
-growth_opens growth.Latching r = absurd r
-growth_opens growth.Latched r = absurd r
-growth_opens (growth.Taking rise) r = absurd r
-growth_opens (growth.PuttingTop t) r = absurd r
-growth_opens (growth.PuttingAnchor t) r = absurd r
-growth_opens (growth.OpeningTop x) r = absurd r
-growth_opens growth.OpeningGrown r = absurd r
 growth_opens growth.OpeningRefused r = inl (0, refl)
+growth_opens old r = absurd r
 
 insert_opens : (s : InsertStage) → InsertRefused s → OpensOrEnds (insert_next_in s)
-insert_opens insert.New r = absurd r
-insert_opens (insert.Coming a) r = absurd r
-insert_opens (insert.Present x v) r = absurd r
 insert_opens (insert.Changing c) r = change_opens c r
 insert_opens (insert.Ending a) r = inr refl
 insert_opens (insert.Over a) r = inr refl
+insert_opens old r = absurd r
 
 delete_opens : (s : DeleteStage) → DeleteRefused s → OpensOrEnds (delete_next_in s)
-delete_opens delete.New r = absurd r
-delete_opens (delete.Coming a) r = absurd r
-delete_opens (delete.Absent x) r = absurd r
 delete_opens (delete.Changing v c) r = change_opens c r
 delete_opens (delete.Ending a) r = inr refl
 delete_opens (delete.Over a) r = inr refl
+delete_opens old r = absurd r
 
 post_opens : (s : PostStage) → PostRefused s → OpensOrEnds (post_next_in s)
-post_opens post.New r = absurd r
-post_opens (post.Coming a) r = absurd r
 post_opens (post.Growing g) r = growth_opens g r
-post_opens (post.Walking w) r = absurd r
 post_opens (post.Changing c) r = change_opens c r
 post_opens (post.Staying x a) r = inl (x, refl)
 post_opens (post.Ending a) r = inr refl
 post_opens (post.Over a) r = inr refl
+post_opens old r = absurd r
 
 squeeze_opens : (c : Compression) → SqueezeRefused c → (SqueezePuts c → ⊥) → OpensOrEnds (compression_next c)
-squeeze_opens (LatchingLeft f) r not = absurd r
-squeeze_opens (LatchedLeft f) r not = absurd r
-squeeze_opens (LatchingRight f page) r not = absurd r
-squeeze_opens (LatchedRight f page) r not = absurd r
 squeeze_opens (PuttingFirst u) r not = absurd (not r)
 squeeze_opens (PuttingParent u) r not = absurd (not r)
 squeeze_opens (PuttingLast u) r not = absurd (not r)
@@ -89,23 +69,20 @@ squeeze_opens (Retiring at end) r not = absurd (not r)
 squeeze_opens (OpeningRight at end) r not = inl (_, refl)
 squeeze_opens (OpeningLeft at end) r not = inl (_, refl)
 squeeze_opens (OpeningParent x end) r not = inl (_, refl)
+squeeze_opens old r not = absurd r
 
 compress_opens : (s : CompressStage) → CompressRefused s → (CompressPuts s → ⊥) → OpensOrEnds (compress_next_in s)
-compress_opens compress.New r not = absurd r
-compress_opens (compress.Coming a) r not = absurd r
 compress_opens (compress.Compressing c) r not = squeeze_opens c r not
-compress_opens (compress.Staying x) r not = absurd r
 compress_opens (compress.Ending a) r not = inr refl
 compress_opens (compress.Over a) r not = inr refl
+compress_opens old r not = absurd r
 
 pub refused_opens : (p : Proc) → IsRefused p → (PutsRefused p → ⊥) → OpensOrEnds (next_of p)
-refused_opens (proc.Find p) r not = absurd r
 refused_opens (proc.Insert p) r not = insert_opens p.stage r
 refused_opens (proc.Delete p) r not = delete_opens p.stage r
 refused_opens (proc.Post p) r not = post_opens p.stage r
-refused_opens (proc.Part p) r not = absurd r
 refused_opens (proc.Compress p) r not = compress_opens p.stage r not
-refused_opens (proc.Reclaim p) r not = absurd r
+refused_opens old r not = absurd r
 
 -- What it asks for
 
@@ -192,51 +169,10 @@ may_ask (proc.Reclaim p) b e = none_asks b e
 -- A step of a process leaves what its kind may ask for.
 pub may_ask_on : (p : Proc) (what : Seen) (q : Proc) (b : ℕ × ℕ) → Takes p what q → MayAsk p b → MayAsk q b
 may_ask_on (proc.Find p) what (proc.Find q) b t m = m
-may_ask_on (proc.Find p) what (proc.Insert q) b t m = absurd t
-may_ask_on (proc.Find p) what (proc.Delete q) b t m = absurd t
-may_ask_on (proc.Find p) what (proc.Post q) b t m = absurd t
-may_ask_on (proc.Find p) what (proc.Part q) b t m = absurd t
-may_ask_on (proc.Find p) what (proc.Compress q) b t m = absurd t
-may_ask_on (proc.Find p) what (proc.Reclaim q) b t m = absurd t
-may_ask_on (proc.Insert p) what (proc.Find q) b t m = absurd t
 may_ask_on (proc.Insert p) what (proc.Insert q) b t m = m
-may_ask_on (proc.Insert p) what (proc.Delete q) b t m = absurd t
-may_ask_on (proc.Insert p) what (proc.Post q) b t m = absurd t
-may_ask_on (proc.Insert p) what (proc.Part q) b t m = absurd t
-may_ask_on (proc.Insert p) what (proc.Compress q) b t m = absurd t
-may_ask_on (proc.Insert p) what (proc.Reclaim q) b t m = absurd t
-may_ask_on (proc.Delete p) what (proc.Find q) b t m = absurd t
-may_ask_on (proc.Delete p) what (proc.Insert q) b t m = absurd t
 may_ask_on (proc.Delete p) what (proc.Delete q) b t m = m
-may_ask_on (proc.Delete p) what (proc.Post q) b t m = absurd t
-may_ask_on (proc.Delete p) what (proc.Part q) b t m = absurd t
-may_ask_on (proc.Delete p) what (proc.Compress q) b t m = absurd t
-may_ask_on (proc.Delete p) what (proc.Reclaim q) b t m = absurd t
-may_ask_on (proc.Post p) what (proc.Find q) b t m = absurd t
-may_ask_on (proc.Post p) what (proc.Insert q) b t m = absurd t
-may_ask_on (proc.Post p) what (proc.Delete q) b t m = absurd t
 may_ask_on (proc.Post p) what (proc.Post q) b t m = m
-may_ask_on (proc.Post p) what (proc.Part q) b t m = absurd t
-may_ask_on (proc.Post p) what (proc.Compress q) b t m = absurd t
-may_ask_on (proc.Post p) what (proc.Reclaim q) b t m = absurd t
-may_ask_on (proc.Part p) what (proc.Find q) b t m = absurd t
-may_ask_on (proc.Part p) what (proc.Insert q) b t m = absurd t
-may_ask_on (proc.Part p) what (proc.Delete q) b t m = absurd t
-may_ask_on (proc.Part p) what (proc.Post q) b t m = absurd t
 may_ask_on (proc.Part p) what (proc.Part q) b t m = m
-may_ask_on (proc.Part p) what (proc.Compress q) b t m = absurd t
-may_ask_on (proc.Part p) what (proc.Reclaim q) b t m = absurd t
-may_ask_on (proc.Compress p) what (proc.Find q) b t m = absurd t
-may_ask_on (proc.Compress p) what (proc.Insert q) b t m = absurd t
-may_ask_on (proc.Compress p) what (proc.Delete q) b t m = absurd t
-may_ask_on (proc.Compress p) what (proc.Post q) b t m = absurd t
-may_ask_on (proc.Compress p) what (proc.Part q) b t m = absurd t
 may_ask_on (proc.Compress p) what (proc.Compress q) b t m = m
-may_ask_on (proc.Compress p) what (proc.Reclaim q) b t m = absurd t
-may_ask_on (proc.Reclaim p) what (proc.Find q) b t m = absurd t
-may_ask_on (proc.Reclaim p) what (proc.Insert q) b t m = absurd t
-may_ask_on (proc.Reclaim p) what (proc.Delete q) b t m = absurd t
-may_ask_on (proc.Reclaim p) what (proc.Post q) b t m = absurd t
-may_ask_on (proc.Reclaim p) what (proc.Part q) b t m = absurd t
-may_ask_on (proc.Reclaim p) what (proc.Compress q) b t m = absurd t
 may_ask_on (proc.Reclaim p) what (proc.Reclaim q) b t m = m
+may_ask_on old what new b t m = absurd t

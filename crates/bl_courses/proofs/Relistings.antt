@@ -32,9 +32,7 @@ listed_within low high key value (x ∷ pairs) w e = elim (cases_eq x.0 key) [
 -- a page with the frame of a parent covers the same keys, and may hold children
 kept_covers : (parent : Inner) (page : Page) (key : ℕ) → KeepsFrame (InnerPage parent) page → IsWithin parent.low parent.high key → Covers page key
 kept_covers parent (InnerPage i) key k w = subst (λ (z : ℕ × ℕ). IsWithin z.0 z.1 key) (λ j. (sym k.1 j, sym k.2 j)) w
-kept_covers parent (Anchor a) key k w = absurd k
-kept_covers parent (Leaf l) key k w = absurd k
-kept_covers parent (Dead d) key k w = absurd k
+kept_covers parent old key k w = absurd k
 
 child_holds : (page : Page) (child : ℕ) → IsChild child → MayHold page child
 child_holds (InnerPage i) child is = is

@@ -126,82 +126,20 @@ put_done side.Right p = tt
 -- a compression that goes on to the retirement
 to_retiring : (c : Compression) (what : Seen) (at : Trio) (fate : Fate) → Compresses c what (On (Retiring at fate)) → IsPutDone (compression_next c) what
 to_retiring (LatchingLeft f) seen.Done at fate t = (let e = t in cc)
-to_retiring (LatchingLeft f) (seen.Words page) at fate t = absurd t
-to_retiring (LatchingLeft f) (seen.Took y) at fate t = absurd t
-to_retiring (LatchingLeft f) (seen.Owner retired started own) at fate t = absurd t
-to_retiring (LatchingLeft f) (seen.Blocks b) at fate t = absurd t
 to_retiring (LatchingLeft f) seen.Missed at fate t = (let e = t in cc)
-to_retiring (LatchingLeft f) seen.Refused at fate t = absurd t
 to_retiring (LatchedLeft f) seen.Done at fate t = absurd t
-to_retiring (LatchedLeft f) (seen.Words page) at fate t = absurd t
-to_retiring (LatchedLeft f) (seen.Took y) at fate t = absurd t
-to_retiring (LatchedLeft f) (seen.Owner retired started own) at fate t = absurd t
-to_retiring (LatchedLeft f) (seen.Blocks b) at fate t = absurd t
-to_retiring (LatchedLeft f) seen.Missed at fate t = absurd t
-to_retiring (LatchedLeft f) seen.Refused at fate t = absurd t
 to_retiring (LatchingRight f c) seen.Done at fate t = (let e = t in cc)
-to_retiring (LatchingRight f c) (seen.Words page) at fate t = absurd t
-to_retiring (LatchingRight f c) (seen.Took y) at fate t = absurd t
-to_retiring (LatchingRight f c) (seen.Owner retired started own) at fate t = absurd t
-to_retiring (LatchingRight f c) (seen.Blocks b) at fate t = absurd t
 to_retiring (LatchingRight f c) seen.Missed at fate t = (let e = t in cc)
-to_retiring (LatchingRight f c) seen.Refused at fate t = absurd t
 to_retiring (LatchedRight f c) seen.Done at fate t = absurd t
-to_retiring (LatchedRight f c) (seen.Words page) at fate t = absurd t
-to_retiring (LatchedRight f c) (seen.Took y) at fate t = absurd t
-to_retiring (LatchedRight f c) (seen.Owner retired started own) at fate t = absurd t
-to_retiring (LatchedRight f c) (seen.Blocks b) at fate t = absurd t
-to_retiring (LatchedRight f c) seen.Missed at fate t = absurd t
-to_retiring (LatchedRight f c) seen.Refused at fate t = absurd t
 to_retiring (PuttingFirst p) seen.Done at fate t = (let e = t in cc)
-to_retiring (PuttingFirst p) (seen.Words page) at fate t = absurd t
-to_retiring (PuttingFirst p) (seen.Took y) at fate t = absurd t
-to_retiring (PuttingFirst p) (seen.Owner retired started own) at fate t = absurd t
-to_retiring (PuttingFirst p) (seen.Blocks b) at fate t = absurd t
-to_retiring (PuttingFirst p) seen.Missed at fate t = absurd t
 to_retiring (PuttingFirst p) seen.Refused at fate t = (let e = t in cc)
 to_retiring (PuttingParent p) seen.Done at fate t = (let e = t in cc)
-to_retiring (PuttingParent p) (seen.Words page) at fate t = absurd t
-to_retiring (PuttingParent p) (seen.Took y) at fate t = absurd t
-to_retiring (PuttingParent p) (seen.Owner retired started own) at fate t = absurd t
-to_retiring (PuttingParent p) (seen.Blocks b) at fate t = absurd t
-to_retiring (PuttingParent p) seen.Missed at fate t = absurd t
-to_retiring (PuttingParent p) seen.Refused at fate t = absurd t
 to_retiring (PuttingLast p) seen.Done at fate t = put_done (other p.gains) p
-to_retiring (PuttingLast p) (seen.Words page) at fate t = absurd t
-to_retiring (PuttingLast p) (seen.Took y) at fate t = absurd t
-to_retiring (PuttingLast p) (seen.Owner retired started own) at fate t = absurd t
-to_retiring (PuttingLast p) (seen.Blocks b) at fate t = absurd t
-to_retiring (PuttingLast p) seen.Missed at fate t = absurd t
-to_retiring (PuttingLast p) seen.Refused at fate t = absurd t
 to_retiring (Retiring u f) seen.Done at fate t = (let e = t in cc)
-to_retiring (Retiring u f) (seen.Words page) at fate t = absurd t
-to_retiring (Retiring u f) (seen.Took y) at fate t = absurd t
-to_retiring (Retiring u f) (seen.Owner retired started own) at fate t = absurd t
-to_retiring (Retiring u f) (seen.Blocks b) at fate t = absurd t
-to_retiring (Retiring u f) seen.Missed at fate t = absurd t
-to_retiring (Retiring u f) seen.Refused at fate t = absurd t
 to_retiring (OpeningRight u f) seen.Done at fate t = (let e = t in cc)
-to_retiring (OpeningRight u f) (seen.Words page) at fate t = absurd t
-to_retiring (OpeningRight u f) (seen.Took y) at fate t = absurd t
-to_retiring (OpeningRight u f) (seen.Owner retired started own) at fate t = absurd t
-to_retiring (OpeningRight u f) (seen.Blocks b) at fate t = absurd t
-to_retiring (OpeningRight u f) seen.Missed at fate t = absurd t
-to_retiring (OpeningRight u f) seen.Refused at fate t = absurd t
 to_retiring (OpeningLeft u f) seen.Done at fate t = (let e = t in cc)
-to_retiring (OpeningLeft u f) (seen.Words page) at fate t = absurd t
-to_retiring (OpeningLeft u f) (seen.Took y) at fate t = absurd t
-to_retiring (OpeningLeft u f) (seen.Owner retired started own) at fate t = absurd t
-to_retiring (OpeningLeft u f) (seen.Blocks b) at fate t = absurd t
-to_retiring (OpeningLeft u f) seen.Missed at fate t = absurd t
-to_retiring (OpeningLeft u f) seen.Refused at fate t = absurd t
 to_retiring (OpeningParent x f) seen.Done at fate t = absurd t
-to_retiring (OpeningParent x f) (seen.Words page) at fate t = absurd t
-to_retiring (OpeningParent x f) (seen.Took y) at fate t = absurd t
-to_retiring (OpeningParent x f) (seen.Owner retired started own) at fate t = absurd t
-to_retiring (OpeningParent x f) (seen.Blocks b) at fate t = absurd t
-to_retiring (OpeningParent x f) seen.Missed at fate t = absurd t
-to_retiring (OpeningParent x f) seen.Refused at fate t = absurd t
+to_retiring old what at fate t = absurd t
 
 -- and a process that may come to it from there alone
 after_unless : (old : Action) (what : Seen) (d : Compression) → ((at : Trio) (fate : Fate) → d ≡ Retiring at fate → IsPutDone old what) → RetiresAfter old what (compression_next d)
@@ -219,39 +157,15 @@ after_unless old what (OpeningParent x fate) done = tt
 
 stage_to_retiring : (level key : ℕ) (a : CompressStage) (what : Seen) (at : Trio) (fate : Fate) → CompressGoes level key a what (compress.Compressing (Retiring at fate)) → IsPutDone (compress_next_in a) what
 stage_to_retiring level key compress.New seen.Done at fate t = absurd t
-stage_to_retiring level key compress.New (seen.Words page) at fate t = absurd t
-stage_to_retiring level key compress.New (seen.Took y) at fate t = absurd t
-stage_to_retiring level key compress.New (seen.Owner retired started own) at fate t = absurd t
-stage_to_retiring level key compress.New (seen.Blocks b) at fate t = absurd t
-stage_to_retiring level key compress.New seen.Missed at fate t = absurd t
-stage_to_retiring level key compress.New seen.Refused at fate t = absurd t
 stage_to_retiring level key (compress.Coming way.Start) seen.Done at fate t = absurd t
-stage_to_retiring level key (compress.Coming way.Start) (seen.Words page) at fate t = absurd t
-stage_to_retiring level key (compress.Coming way.Start) (seen.Took y) at fate t = absurd t
-stage_to_retiring level key (compress.Coming way.Start) (seen.Owner retired started own) at fate t = absurd t
-stage_to_retiring level key (compress.Coming way.Start) (seen.Blocks b) at fate t = absurd t
-stage_to_retiring level key (compress.Coming way.Start) seen.Missed at fate t = absurd t
-stage_to_retiring level key (compress.Coming way.Start) seen.Refused at fate t = absurd t
 stage_to_retiring level key (compress.Coming (way.At x)) what at fate t = absurd t.3
 stage_to_retiring level key (compress.Coming (way.Latching x)) what at fate t = absurd t.3
 stage_to_retiring level key (compress.Coming (way.Latched x)) what at fate t = absurd t.3
 stage_to_retiring level key (compress.Coming (way.Leaving x to)) what at fate t = absurd t.3
 stage_to_retiring level key (compress.Compressing c) what at fate t = to_retiring c what at fate t
 stage_to_retiring level key (compress.Staying x) seen.Done at fate t = absurd t
-stage_to_retiring level key (compress.Staying x) (seen.Words page) at fate t = absurd t
-stage_to_retiring level key (compress.Staying x) (seen.Took y) at fate t = absurd t
-stage_to_retiring level key (compress.Staying x) (seen.Owner retired started own) at fate t = absurd t
-stage_to_retiring level key (compress.Staying x) (seen.Blocks b) at fate t = absurd t
-stage_to_retiring level key (compress.Staying x) seen.Missed at fate t = absurd t
-stage_to_retiring level key (compress.Staying x) seen.Refused at fate t = absurd t
 stage_to_retiring level key (compress.Ending r) seen.Done at fate t = absurd t
-stage_to_retiring level key (compress.Ending r) (seen.Words page) at fate t = absurd t
-stage_to_retiring level key (compress.Ending r) (seen.Took y) at fate t = absurd t
-stage_to_retiring level key (compress.Ending r) (seen.Owner retired started own) at fate t = absurd t
-stage_to_retiring level key (compress.Ending r) (seen.Blocks b) at fate t = absurd t
-stage_to_retiring level key (compress.Ending r) seen.Missed at fate t = absurd t
-stage_to_retiring level key (compress.Ending r) seen.Refused at fate t = absurd t
-stage_to_retiring level key (compress.Over r) what at fate t = absurd t
+stage_to_retiring level key old what at fate t = absurd t
 
 stage_after : (level key : ℕ) (a b : CompressStage) (what : Seen) → CompressGoes level key a what b → RetiresAfter (compress_next_in a) what (compress_next_in b)
 stage_after level key a compress.New what t = tt

@@ -24,25 +24,16 @@ record Goes (key : ℕ) (old : FindStage) (what : Seen) : Type 0 where
   pub only : (other : FindStage) → FindGoes key old what other → other ≡ new
 
 new_only : (key : ℕ) (other : FindStage) → FindGoes key New seen.Done other → other ≡ AtAnchor
-new_only key New t = absurd t
 new_only key AtAnchor t = refl
-new_only key (At y) t = absurd t
-new_only key (Ending v) t = absurd t
-new_only key (Over v) t = absurd t
+new_only key old t = absurd t
 
 anchor_only : (key : ℕ) (c : Page) (other : FindStage) → FindGoes key AtAnchor (seen.Words c) other → other ≡ (At (top_of (roots_of c)))
-anchor_only key c New t = absurd t
-anchor_only key c AtAnchor t = absurd t
 anchor_only key c (At y) t = ap At t
-anchor_only key c (Ending v) t = absurd t
-anchor_only key c (Over v) t = absurd t
+anchor_only key c old t = absurd t
 
 ending_only : (key : ℕ) (value : Option ℕ) (other : FindStage) → FindGoes key (Ending value) seen.Done other → other ≡ (Over value)
-ending_only key value New t = absurd t
-ending_only key value AtAnchor t = absurd t
-ending_only key value (At y) t = absurd t
-ending_only key value (Ending v) t = absurd t
 ending_only key value (Over v) t = ap Over t
+ending_only key value old t = absurd t
 
 module _ (key x : ℕ) (c : Page) where
   again_only : Leads c key 0 Again → (other : FindStage) → FindGoes key (At x) (seen.Words c) other → other ≡ AtAnchor
@@ -85,33 +76,9 @@ way_one key x c a b s t = (let o = leads_some c key 0 in let g = at_goes key x c
 
 stage_goes : (key : ℕ) (old : FindStage) (what : Seen) → find_answer_in old ≡ None → Gives (find_next_in old) None what → Goes key old what
 stage_goes key New seen.Done a g = record { new = AtAnchor; goes = tt; only = new_only key }
-stage_goes key New (seen.Words c) a g = absurd g
-stage_goes key New (seen.Took y) a g = absurd g
-stage_goes key New (seen.Owner retired started own) a g = absurd g
-stage_goes key New (seen.Blocks b) a g = absurd g
-stage_goes key New seen.Missed a g = absurd g
-stage_goes key New seen.Refused a g = absurd g
-stage_goes key AtAnchor seen.Done a g = absurd g
 stage_goes key AtAnchor (seen.Words c) a g = record { new = At (top_of (roots_of c)); goes = refl; only = anchor_only key c }
-stage_goes key AtAnchor (seen.Took y) a g = absurd g
-stage_goes key AtAnchor (seen.Owner retired started own) a g = absurd g
-stage_goes key AtAnchor (seen.Blocks b) a g = absurd g
-stage_goes key AtAnchor seen.Missed a g = absurd g
-stage_goes key AtAnchor seen.Refused a g = absurd g
-stage_goes key (At x) seen.Done a g = absurd g
 stage_goes key (At x) (seen.Words c) a g = (let o = leads_some c key 0 in at_goes key x c o.0 o.1)
-stage_goes key (At x) (seen.Took y) a g = absurd g
-stage_goes key (At x) (seen.Owner retired started own) a g = absurd g
-stage_goes key (At x) (seen.Blocks b) a g = absurd g
-stage_goes key (At x) seen.Missed a g = absurd g
-stage_goes key (At x) seen.Refused a g = absurd g
 stage_goes key (Ending v) seen.Done a g = record { new = Over v; goes = refl; only = ending_only key v }
-stage_goes key (Ending v) (seen.Words c) a g = absurd g
-stage_goes key (Ending v) (seen.Took y) a g = absurd g
-stage_goes key (Ending v) (seen.Owner retired started own) a g = absurd g
-stage_goes key (Ending v) (seen.Blocks b) a g = absurd g
-stage_goes key (Ending v) seen.Missed a g = absurd g
-stage_goes key (Ending v) seen.Refused a g = absurd g
 stage_goes key (Over v) seen.Done a g = absurd (cc)
 stage_goes key (Over v) (seen.Words c) a g = absurd (cc)
 stage_goes key (Over v) (seen.Took y) a g = absurd (cc)
@@ -119,15 +86,11 @@ stage_goes key (Over v) (seen.Owner retired started own) a g = absurd (cc)
 stage_goes key (Over v) (seen.Blocks b) a g = absurd (cc)
 stage_goes key (Over v) seen.Missed a g = absurd (cc)
 stage_goes key (Over v) seen.Refused a g = absurd (cc)
+stage_goes key old what a g = absurd g
 
 find_only : (old : FindState) (what : Seen) (g : Goes old.key old.stage what) (other : Proc) → Takes (Find old) what other → other ≡ Find (record { key = old.key; stage = g.new })
 find_only old what g (Find f) t = (let e = g.only f.stage (subst (λ k. FindGoes old.key old.stage what f.stage) t.0 t.1) in λ i. Find (record { key = t.0 i; stage = e i }))
-find_only old what g (Insert f) t = absurd t
-find_only old what g (Delete f) t = absurd t
-find_only old what g (Post f) t = absurd t
-find_only old what g (Part f) t = absurd t
-find_only old what g (Reclaim f) t = absurd t
-find_only old what g (Compress f) t = absurd t
+find_only old what g new t = absurd t
 
 pub find_goes : (old : FindState) (what : Seen) → find_answer_in old.stage ≡ None → Gives (find_next_in old.stage) None what → GoesOn (Find old) what
 find_goes old what running given =

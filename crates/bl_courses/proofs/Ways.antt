@@ -51,45 +51,31 @@ enter_one level roots = elim (cases_lt level roots.levels) [
 module _ (level x : ℕ) (c : Page) where
   again_turn : (other : Approach) → Turns level x c Again other → other ≡ Start
   again_turn Start t = refl
-  again_turn (At z) t = absurd t
-  again_turn (Latching z) t = absurd t
-  again_turn (Latched z) t = absurd t
-  again_turn (Leaving z to) t = absurd t
+  again_turn old t = absurd t
 
   here_turn : (other : Approach) → Turns level x c Here other → other ≡ Latching x
-  here_turn Start t = absurd t
-  here_turn (At z) t = absurd t
   here_turn (Latching z) t = ap Latching t
-  here_turn (Latched z) t = absurd t
-  here_turn (Leaving z to) t = absurd t
+  here_turn old t = absurd t
 
   right_latch : (y : ℕ) → (node_of c).shape.level ≡ level → (other : Approach) → Turns level x c (Right y) other → other ≡ Latching y
-  right_latch y h Start t = absurd t
   right_latch y h (At z) t = absurd (t.1 h)
   right_latch y h (Latching z) t = ap Latching t.0
-  right_latch y h (Latched z) t = absurd t
-  right_latch y h (Leaving z to) t = absurd t
+  right_latch y h old t = absurd t
 
   right_at : (y : ℕ) → (node_of c).shape.level ≢ level → (other : Approach) → Turns level x c (Right y) other → other ≡ At y
-  right_at y h Start t = absurd t
   right_at y h (At z) t = ap At t.0
   right_at y h (Latching z) t = absurd (h t.1)
-  right_at y h (Latched z) t = absurd t
-  right_at y h (Leaving z to) t = absurd t
+  right_at y h old t = absurd t
 
   down_latch : (y : ℕ) → (node_of c).shape.level ≡ suc level → (other : Approach) → Turns level x c (Down y) other → other ≡ Latching y
-  down_latch y h Start t = absurd t
   down_latch y h (At z) t = absurd (t.1 h)
   down_latch y h (Latching z) t = ap Latching t.0
-  down_latch y h (Latched z) t = absurd t
-  down_latch y h (Leaving z to) t = absurd t
+  down_latch y h old t = absurd t
 
   down_at : (y : ℕ) → (node_of c).shape.level ≢ suc level → (other : Approach) → Turns level x c (Down y) other → other ≡ At y
-  down_at y h Start t = absurd t
   down_at y h (At z) t = ap At t.0
   down_at y h (Latching z) t = absurd (h t.1)
-  down_at y h (Latched z) t = absurd t
-  down_at y h (Leaving z to) t = absurd t
+  down_at y h old t = absurd t
 
   turn_one : (o : Onward) → One (Turns level x c o)
   turn_one Again = record { new = Start; goes = tt; only = again_turn }
@@ -167,90 +153,21 @@ module _ (level key : ℕ) where
   again_only x (came.Here z p) t = absurd t
 
   pub approach_one : (a : Approach) (what : Seen) → Gives (approach_next a) None what → One (Approaches level key a what)
-  approach_one Start seen.Done g = absurd g
   approach_one Start (seen.Words c) g = record { new = came.On (enter_one level (roots_of c)).new; goes = (enter_one level (roots_of c)).goes; only = entered_only c }
-  approach_one Start (seen.Took y) g = absurd g
-  approach_one Start (seen.Owner retired started own) g = absurd g
-  approach_one Start (seen.Blocks b) g = absurd g
-  approach_one Start seen.Missed g = absurd g
-  approach_one Start seen.Refused g = absurd g
-  approach_one (At x) seen.Done g = absurd g
   approach_one (At x) (seen.Words c) g = (let o = leads_some c key level in record { new = came.On (turn_one level x c o.0).new; goes = (o.0, o.1, (turn_one level x c o.0).goes); only = turned_only x c o.0 o.1 })
-  approach_one (At x) (seen.Took y) g = absurd g
-  approach_one (At x) (seen.Owner retired started own) g = absurd g
-  approach_one (At x) (seen.Blocks b) g = absurd g
-  approach_one (At x) seen.Missed g = absurd g
-  approach_one (At x) seen.Refused g = absurd g
   approach_one (Latching x) seen.Done g = record { new = came.On (Latched x); goes = refl; only = latched_only x }
-  approach_one (Latching x) (seen.Words c) g = absurd g
-  approach_one (Latching x) (seen.Took y) g = absurd g
-  approach_one (Latching x) (seen.Owner retired started own) g = absurd g
-  approach_one (Latching x) (seen.Blocks b) g = absurd g
   approach_one (Latching x) seen.Missed g = record { new = came.On (At x); goes = refl; only = missed_only x }
-  approach_one (Latching x) seen.Refused g = absurd g
-  approach_one (Latched x) seen.Done g = absurd g
   approach_one (Latched x) (seen.Words c) g = (let o = leads_some c key level in quit_one level x c key o.0 o.1)
-  approach_one (Latched x) (seen.Took y) g = absurd g
-  approach_one (Latched x) (seen.Owner retired started own) g = absurd g
-  approach_one (Latched x) (seen.Blocks b) g = absurd g
-  approach_one (Latched x) seen.Missed g = absurd g
-  approach_one (Latched x) seen.Refused g = absurd g
   approach_one (Leaving x (Some z)) seen.Done g = record { new = came.On (Latching z); goes = refl; only = left_only x z }
-  approach_one (Leaving x (Some z)) (seen.Words c) g = absurd g
-  approach_one (Leaving x (Some z)) (seen.Took y) g = absurd g
-  approach_one (Leaving x (Some z)) (seen.Owner retired started own) g = absurd g
-  approach_one (Leaving x (Some z)) (seen.Blocks b) g = absurd g
-  approach_one (Leaving x (Some z)) seen.Missed g = absurd g
-  approach_one (Leaving x (Some z)) seen.Refused g = absurd g
   approach_one (Leaving x None) seen.Done g = record { new = came.On Start; goes = refl; only = again_only x }
-  approach_one (Leaving x None) (seen.Words c) g = absurd g
-  approach_one (Leaving x None) (seen.Took y) g = absurd g
-  approach_one (Leaving x None) (seen.Owner retired started own) g = absurd g
-  approach_one (Leaving x None) (seen.Blocks b) g = absurd g
-  approach_one (Leaving x None) seen.Missed g = absurd g
-  approach_one (Leaving x None) seen.Refused g = absurd g
+  approach_one old what g = absurd g
 
   -- a writer that is there has got a page of its level that covers its key
   pub here_leads : (a : Approach) (what : Seen) (x : ℕ) (c : Page) → Approaches level key a what (came.Here x c) → Leads c key level Here
   here_leads Start seen.Done x c t = absurd t
-  here_leads Start (seen.Words d) x c t = absurd t
-  here_leads Start (seen.Took y) x c t = absurd t
-  here_leads Start (seen.Owner retired started own) x c t = absurd t
-  here_leads Start (seen.Blocks b) x c t = absurd t
-  here_leads Start seen.Missed x c t = absurd t
-  here_leads Start seen.Refused x c t = absurd t
   here_leads (At z) seen.Done x c t = absurd t
-  here_leads (At z) (seen.Words d) x c t = absurd t
-  here_leads (At z) (seen.Took y) x c t = absurd t
-  here_leads (At z) (seen.Owner retired started own) x c t = absurd t
-  here_leads (At z) (seen.Blocks b) x c t = absurd t
-  here_leads (At z) seen.Missed x c t = absurd t
-  here_leads (At z) seen.Refused x c t = absurd t
   here_leads (Latching z) seen.Done x c t = absurd t
-  here_leads (Latching z) (seen.Words d) x c t = absurd t
-  here_leads (Latching z) (seen.Took y) x c t = absurd t
-  here_leads (Latching z) (seen.Owner retired started own) x c t = absurd t
-  here_leads (Latching z) (seen.Blocks b) x c t = absurd t
-  here_leads (Latching z) seen.Missed x c t = absurd t
-  here_leads (Latching z) seen.Refused x c t = absurd t
-  here_leads (Latched z) seen.Done x c t = absurd t
   here_leads (Latched z) (seen.Words d) x c t = subst (λ (p : Page). Leads p key level Here) (sym t.1) t.2
-  here_leads (Latched z) (seen.Took y) x c t = absurd t
-  here_leads (Latched z) (seen.Owner retired started own) x c t = absurd t
-  here_leads (Latched z) (seen.Blocks b) x c t = absurd t
-  here_leads (Latched z) seen.Missed x c t = absurd t
-  here_leads (Latched z) seen.Refused x c t = absurd t
   here_leads (Leaving z (Some v)) seen.Done x c t = absurd t
-  here_leads (Leaving z (Some v)) (seen.Words d) x c t = absurd t
-  here_leads (Leaving z (Some v)) (seen.Took y) x c t = absurd t
-  here_leads (Leaving z (Some v)) (seen.Owner retired started own) x c t = absurd t
-  here_leads (Leaving z (Some v)) (seen.Blocks b) x c t = absurd t
-  here_leads (Leaving z (Some v)) seen.Missed x c t = absurd t
-  here_leads (Leaving z (Some v)) seen.Refused x c t = absurd t
   here_leads (Leaving z None) seen.Done x c t = absurd t
-  here_leads (Leaving z None) (seen.Words d) x c t = absurd t
-  here_leads (Leaving z None) (seen.Took y) x c t = absurd t
-  here_leads (Leaving z None) (seen.Owner retired started own) x c t = absurd t
-  here_leads (Leaving z None) (seen.Blocks b) x c t = absurd t
-  here_leads (Leaving z None) seen.Missed x c t = absurd t
-  here_leads (Leaving z None) seen.Refused x c t = absurd t
+  here_leads old what x c t = absurd t

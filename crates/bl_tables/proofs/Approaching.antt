@@ -27,10 +27,8 @@ use Rattle.bl_tables.specs.Tables.{idle, holds_live, goes_to, know_approach}
 use Rattle.bl_tables.proofs.Acts.{watched, latched, opened}
 
 pub dead_end : (c : Page) → IsDead c → (node_of c).shape.end ≡ 0
-dead_end (Anchor a) h = absurd h
-dead_end (Leaf l) h = absurd h
-dead_end (Inner i) h = absurd h
 dead_end (Dead d) h = refl
+dead_end old h = absurd h
 
 -- the way ends by a get of a page that is held
 abbrev pub IsArrival : Approach → Seen → Type 0
@@ -44,46 +42,7 @@ IsArrival (Latched x) what = ⊥
 pub arrival : (level key : ℕ) (a : Approach) (what : Seen) (y : ℕ) (d : Page) → Approaches level key a what (came.Here y d) → IsArrival a what
 arrival level key (Latched x) (seen.Words c) y d h = tt
 arrival level key Start (seen.Words c) y d h = absurd h
-arrival level key Start seen.Done y d h = absurd h
-arrival level key Start (seen.Took n) y d h = absurd h
-arrival level key Start (seen.Owner retired started own) y d h = absurd h
-arrival level key Start (seen.Blocks it) y d h = absurd h
-arrival level key Start seen.Missed y d h = absurd h
-arrival level key Start seen.Refused y d h = absurd h
-arrival level key (At x) (seen.Words c) y d h = absurd h
-arrival level key (At x) seen.Done y d h = absurd h
-arrival level key (At x) (seen.Took n) y d h = absurd h
-arrival level key (At x) (seen.Owner retired started own) y d h = absurd h
-arrival level key (At x) (seen.Blocks it) y d h = absurd h
-arrival level key (At x) seen.Missed y d h = absurd h
-arrival level key (At x) seen.Refused y d h = absurd h
-arrival level key (Latching x) (seen.Words c) y d h = absurd h
-arrival level key (Latching x) seen.Done y d h = absurd h
-arrival level key (Latching x) (seen.Took n) y d h = absurd h
-arrival level key (Latching x) (seen.Owner retired started own) y d h = absurd h
-arrival level key (Latching x) (seen.Blocks it) y d h = absurd h
-arrival level key (Latching x) seen.Missed y d h = absurd h
-arrival level key (Latching x) seen.Refused y d h = absurd h
-arrival level key (Leaving x None) (seen.Words c) y d h = absurd h
-arrival level key (Leaving x None) seen.Done y d h = absurd h
-arrival level key (Leaving x None) (seen.Took n) y d h = absurd h
-arrival level key (Leaving x None) (seen.Owner retired started own) y d h = absurd h
-arrival level key (Leaving x None) (seen.Blocks it) y d h = absurd h
-arrival level key (Leaving x None) seen.Missed y d h = absurd h
-arrival level key (Leaving x None) seen.Refused y d h = absurd h
-arrival level key (Leaving x (Some z)) (seen.Words c) y d h = absurd h
-arrival level key (Leaving x (Some z)) seen.Done y d h = absurd h
-arrival level key (Leaving x (Some z)) (seen.Took n) y d h = absurd h
-arrival level key (Leaving x (Some z)) (seen.Owner retired started own) y d h = absurd h
-arrival level key (Leaving x (Some z)) (seen.Blocks it) y d h = absurd h
-arrival level key (Leaving x (Some z)) seen.Missed y d h = absurd h
-arrival level key (Leaving x (Some z)) seen.Refused y d h = absurd h
-arrival level key (Latched x) seen.Done y d h = absurd h
-arrival level key (Latched x) (seen.Took n) y d h = absurd h
-arrival level key (Latched x) (seen.Owner retired started own) y d h = absurd h
-arrival level key (Latched x) (seen.Blocks it) y d h = absurd h
-arrival level key (Latched x) seen.Missed y d h = absurd h
-arrival level key (Latched x) seen.Refused y d h = absurd h
+arrival level key old what y d h = absurd h
 
 -- A process that holds no page, or one, and may go to some.
 pub walks : {P : Type 0} (w w' : World P) (p : Name) (a : Act Page _) (saw : Option Page) (goes : List Goes) (S : Type 0) → IsStage Stage.Busy (w.now.phase p) → HasSaid w.trail p None → Each (IsGoes w p) goes → S → Learns w w' (record { event = record { process = p; act = a }; saw = saw; said = None }) (record (idle Stage.Busy) { goes = goes; sound = S })
@@ -253,9 +212,4 @@ module _ {P : Type 0} (know : P → Know) (w : World P) (g : IsGood know w) (p :
     approach_turn (Latched x) (Leaving y to) (seen.Words c) s low before then t told does = leave_turn x to c t.1.0 s before (subst (λ z. know b ≡ know_approach level key (Leaving z to)) t.0 then) told t.1.1 t.1.2 does
     approach_turn (Leaving x to) a' what s low before then t told does = leaving_turn x to a' what s before then t does
     approach_turn a a' (seen.Words c) s low before then t told does = absurd t
-    approach_turn a a' seen.Done s low before then t told does = absurd t
-    approach_turn a a' (seen.Took y) s low before then t told does = absurd t
-    approach_turn a a' (seen.Owner retired started own) s low before then t told does = absurd t
-    approach_turn a a' (seen.Blocks it) s low before then t told does = absurd t
-    approach_turn a a' seen.Missed s low before then t told does = absurd t
-    approach_turn a a' seen.Refused s low before then t told does = absurd t
+    approach_turn a a' what s low before then t told does = absurd t

@@ -134,46 +134,7 @@ IsLast (Opening x o) what = ⊥
 pub last : (c : Change) (what : Seen) (o : Outcome) → Changes c what (Over o) → IsLast c what
 last (Opening x o) seen.Done r h = tt
 last (Putting x page) (seen.Words q) r h = absurd h
-last (Putting x page) seen.Done r h = absurd h
-last (Putting x page) (seen.Took y) r h = absurd h
-last (Putting x page) (seen.Owner retired started own) r h = absurd h
-last (Putting x page) (seen.Blocks it) r h = absurd h
-last (Putting x page) seen.Missed r h = absurd h
-last (Putting x page) seen.Refused r h = absurd h
-last (Taking full) (seen.Words q) r h = absurd h
-last (Taking full) seen.Done r h = absurd h
-last (Taking full) (seen.Took y) r h = absurd h
-last (Taking full) (seen.Owner retired started own) r h = absurd h
-last (Taking full) (seen.Blocks it) r h = absurd h
-last (Taking full) seen.Missed r h = absurd h
-last (Taking full) seen.Refused r h = absurd h
-last (PuttingNew u) (seen.Words q) r h = absurd h
-last (PuttingNew u) seen.Done r h = absurd h
-last (PuttingNew u) (seen.Took y) r h = absurd h
-last (PuttingNew u) (seen.Owner retired started own) r h = absurd h
-last (PuttingNew u) (seen.Blocks it) r h = absurd h
-last (PuttingNew u) seen.Missed r h = absurd h
-last (PuttingNew u) seen.Refused r h = absurd h
-last (PuttingOld u) (seen.Words q) r h = absurd h
-last (PuttingOld u) seen.Done r h = absurd h
-last (PuttingOld u) (seen.Took y) r h = absurd h
-last (PuttingOld u) (seen.Owner retired started own) r h = absurd h
-last (PuttingOld u) (seen.Blocks it) r h = absurd h
-last (PuttingOld u) seen.Missed r h = absurd h
-last (PuttingOld u) seen.Refused r h = absurd h
-last (OpeningNew x z separator) (seen.Words q) r h = absurd h
-last (OpeningNew x z separator) seen.Done r h = absurd h
-last (OpeningNew x z separator) (seen.Took y) r h = absurd h
-last (OpeningNew x z separator) (seen.Owner retired started own) r h = absurd h
-last (OpeningNew x z separator) (seen.Blocks it) r h = absurd h
-last (OpeningNew x z separator) seen.Missed r h = absurd h
-last (OpeningNew x z separator) seen.Refused r h = absurd h
-last (Opening x o) (seen.Words q) r h = absurd h
-last (Opening x o) (seen.Took y) r h = absurd h
-last (Opening x o) (seen.Owner retired started own) r h = absurd h
-last (Opening x o) (seen.Blocks it) r h = absurd h
-last (Opening x o) seen.Missed r h = absurd h
-last (Opening x o) seen.Refused r h = absurd h
+last old what r h = absurd h
 
 module _ {P : Type 0} (know : P → Know) (w : World P) (g : IsGood know w) (p : Name) (b : P) (aim : Aim) (fine : IsAim aim) (got : ℕ → Page) where
   -- the page is put, with the pair
@@ -434,11 +395,6 @@ module _ {P : Type 0} (know : P → Know) (w : World P) (g : IsGood know w) (p :
   change_turn (PuttingNew u) d seen.Done s before then t told does = fresh_turn u s before (subst (λ e. know b ≡ know_change aim got e) t then) does
   change_turn (PuttingOld u) d seen.Done s before then t told does = split_turn u s before (subst (λ e. know b ≡ know_change aim got e) t then) does
   change_turn (OpeningNew x y separator) d seen.Done s before then t told does = open_new_turn x y separator s before (subst (λ e. know b ≡ know_change aim got e) t then) does
-  change_turn (Putting x page) d what s before then t told does = absurd t
-  change_turn (Taking full) d what s before then t told does = absurd t
-  change_turn (PuttingNew u) d what s before then t told does = absurd t
-  change_turn (PuttingOld u) d what s before then t told does = absurd t
-  change_turn (OpeningNew x y separator) d what s before then t told does = absurd t
   change_turn (Opening x o) d what s before then t told does = absurd (ends what t)
     where
       ends : (what : Seen) → Changes (Opening x o) what (On d) → ⊥
@@ -449,6 +405,7 @@ module _ {P : Type 0} (know : P → Know) (w : World P) (g : IsGood know w) (p :
       ends (seen.Blocks it) h = h
       ends seen.Missed h = h
       ends seen.Refused h = h
+  change_turn old d what s before then t told does = absurd t
 
   -- every turn that ends a change
   pub finish_turn : (c : Change) (o : Outcome) (what : Seen) (S : Type 0) (s : State Page) → know (w.proc p) ≡ know_change aim got c → know b ≡ record (idle Stage.Busy) { said = aim.said o; sound = S } → S → Changes c what (Over o) → Does w.now p (event_of None (change_next c) what) s → Turned know w p (event_of None (change_next c) what) s b
@@ -459,9 +416,4 @@ module _ {P : Type 0} (know : P → Know) (w : World P) (g : IsGood know w) (p :
   finish_turn (PuttingNew u) o what S s before then sound t does = absurd (last (PuttingNew u) what o t)
   finish_turn (PuttingOld u) o what S s before then sound t does = absurd (last (PuttingOld u) what o t)
   finish_turn (OpeningNew x z separator) o what S s before then sound t does = absurd (last (OpeningNew x z separator) what o t)
-  finish_turn (Opening x u) o (seen.Words page) S s before then sound t does = absurd t
-  finish_turn (Opening x u) o (seen.Took y) S s before then sound t does = absurd t
-  finish_turn (Opening x u) o (seen.Owner retired started own) S s before then sound t does = absurd t
-  finish_turn (Opening x u) o (seen.Blocks it) S s before then sound t does = absurd t
-  finish_turn (Opening x u) o seen.Missed S s before then sound t does = absurd t
-  finish_turn (Opening x u) o seen.Refused S s before then sound t does = absurd t
+  finish_turn old o what new s before then sound t does = absurd t

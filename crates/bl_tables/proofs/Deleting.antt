@@ -82,10 +82,7 @@ module _ {P : Type 0} (know : P → Know) (w : World P) (g : IsGood know w) (p :
   arrive_turn : (x : ℕ) (a : DeleteStage) (got : ℕ → Page) (s : State Page) → know (w.proc p) ≡ know_approach 0 key (way.Latched x) → know b ≡ know_delete key got a → got ≡ (λ z. w.now.contents x) → Leads (w.now.contents x) key 0 Here → DeleteArrives key x (w.now.contents x) a → Does w.now p (Get x) s → Turned know w p (Get x) s b
   arrive_turn x (delete.Absent y) got s before then same l t does = absent_turn x got s before (rw t.0 at then) l t.1 does
   arrive_turn x (delete.Changing removed c) got s before then same l t does = drop_turn x removed c s before (subst (λ f. know b ≡ know_change (delete_aim key removed) f c) same then) l t.0 t.1 does
-  arrive_turn x delete.New got s before then same l t does = absurd t
-  arrive_turn x (delete.Coming a) got s before then same l t does = absurd t
-  arrive_turn x (delete.Ending r) got s before then same l t does = absurd t
-  arrive_turn x (delete.Over r) got s before then same l t does = absurd t
+  arrive_turn x old got s before then same l t does = absurd t
 
   stay_turn : (x : ℕ) (got : ℕ → Page) (s : State Page) → know (w.proc p) ≡ know_delete key got (delete.Absent x) → know b ≡ know_delete key got (delete.Ending deleted.Absent) → Does w.now p (Act.Open x) s → Turned know w p (Act.Open x) s b
   stay_turn x got s before then does =
@@ -117,10 +114,7 @@ module _ {P : Type 0} (know : P → Know) (w : World P) (g : IsGood know w) (p :
       change_turn know w g p b (delete_aim key removed) (delete_fine key removed) got c d what s before (subst (λ v. know b ≡ know_change (delete_aim key v) got d) t.0 then) t.1 told does
   change_ends removed c (delete.Ending r) got what s before then (o, t, same) told does =
       finish_turn know w g p b (delete_aim key removed) (delete_fine key removed) got c o what _ s before (subst (λ z. know b ≡ know_delete key got (delete.Ending z)) same then) tt t does
-  change_ends removed c delete.New got what s before then t told does = absurd t
-  change_ends removed c (delete.Coming a) got what s before then t told does = absurd t
-  change_ends removed c (delete.Absent x) got what s before then t told does = absurd t
-  change_ends removed c (delete.Over r) got what s before then t told does = absurd t
+  change_ends removed c old got what s before then t told does = absurd t
 
   -- every turn of a deletion
   pub delete_turn : (a a' : DeleteStage) (got : ℕ → Page) (what : Seen) (s : State Page) → know (w.proc p) ≡ know_delete key got a → know b ≡ know_delete key (delete_got got a what) a' → DeleteGoes key a what a' → IsTold w.now w.size (delete_next_in a) what → Does w.now p (event_of (delete_end a) (delete_next_in a) what) s → Turned know w p (event_of (delete_end a) (delete_next_in a) what) s b
@@ -133,49 +127,6 @@ module _ {P : Type 0} (know : P → Know) (w : World P) (g : IsGood know w) (p :
   delete_turn (delete.Changing removed c) a' got what s before then t told does = change_ends removed c a' got what s before then t told does
   delete_turn delete.New delete.New got seen.Done s before then t told does = absurd t
   delete_turn delete.New (delete.Coming a') got seen.Done s before then t told does = begin_turn know w g p b key s before (rw t at then) does
-  delete_turn delete.New (delete.Absent y) got seen.Done s before then t told does = absurd t
-  delete_turn delete.New (delete.Changing v d) got seen.Done s before then t told does = absurd t
-  delete_turn delete.New (delete.Ending last) got seen.Done s before then t told does = absurd t
-  delete_turn delete.New (delete.Over last) got seen.Done s before then t told does = absurd t
-  delete_turn delete.New a' got (seen.Words page) s before then t told does = absurd t
-  delete_turn delete.New a' got (seen.Took n) s before then t told does = absurd t
-  delete_turn delete.New a' got (seen.Owner retired started own) s before then t told does = absurd t
-  delete_turn delete.New a' got (seen.Blocks it) s before then t told does = absurd t
-  delete_turn delete.New a' got seen.Missed s before then t told does = absurd t
-  delete_turn delete.New a' got seen.Refused s before then t told does = absurd t
-  delete_turn (delete.Absent x) delete.New got seen.Done s before then t told does = absurd t
-  delete_turn (delete.Absent x) (delete.Coming a') got seen.Done s before then t told does = absurd t
-  delete_turn (delete.Absent x) (delete.Absent y) got seen.Done s before then t told does = absurd t
-  delete_turn (delete.Absent x) (delete.Changing v d) got seen.Done s before then t told does = absurd t
   delete_turn (delete.Absent x) (delete.Ending last) got seen.Done s before then t told does = stay_turn x got s before (rw t at then) does
-  delete_turn (delete.Absent x) (delete.Over last) got seen.Done s before then t told does = absurd t
-  delete_turn (delete.Absent x) a' got (seen.Words page) s before then t told does = absurd t
-  delete_turn (delete.Absent x) a' got (seen.Took n) s before then t told does = absurd t
-  delete_turn (delete.Absent x) a' got (seen.Owner retired started own) s before then t told does = absurd t
-  delete_turn (delete.Absent x) a' got (seen.Blocks it) s before then t told does = absurd t
-  delete_turn (delete.Absent x) a' got seen.Missed s before then t told does = absurd t
-  delete_turn (delete.Absent x) a' got seen.Refused s before then t told does = absurd t
-  delete_turn (delete.Ending r) delete.New got seen.Done s before then t told does = absurd t
-  delete_turn (delete.Ending r) (delete.Coming a') got seen.Done s before then t told does = absurd t
-  delete_turn (delete.Ending r) (delete.Absent y) got seen.Done s before then t told does = absurd t
-  delete_turn (delete.Ending r) (delete.Changing v d) got seen.Done s before then t told does = absurd t
-  delete_turn (delete.Ending r) (delete.Ending last) got seen.Done s before then t told does = absurd t
   delete_turn (delete.Ending r) (delete.Over last) got seen.Done s before then t told does = end_turn know w g p b (deletes key r) s before (rw t at then) does
-  delete_turn (delete.Ending r) a' got (seen.Words page) s before then t told does = absurd t
-  delete_turn (delete.Ending r) a' got (seen.Took n) s before then t told does = absurd t
-  delete_turn (delete.Ending r) a' got (seen.Owner retired started own) s before then t told does = absurd t
-  delete_turn (delete.Ending r) a' got (seen.Blocks it) s before then t told does = absurd t
-  delete_turn (delete.Ending r) a' got seen.Missed s before then t told does = absurd t
-  delete_turn (delete.Ending r) a' got seen.Refused s before then t told does = absurd t
-  delete_turn (delete.Over r) delete.New got seen.Done s before then t told does = absurd t
-  delete_turn (delete.Over r) (delete.Coming a') got seen.Done s before then t told does = absurd t
-  delete_turn (delete.Over r) (delete.Absent y) got seen.Done s before then t told does = absurd t
-  delete_turn (delete.Over r) (delete.Changing v d) got seen.Done s before then t told does = absurd t
-  delete_turn (delete.Over r) (delete.Ending last) got seen.Done s before then t told does = absurd t
-  delete_turn (delete.Over r) (delete.Over last) got seen.Done s before then t told does = absurd t
-  delete_turn (delete.Over r) a' got (seen.Words page) s before then t told does = absurd t
-  delete_turn (delete.Over r) a' got (seen.Took n) s before then t told does = absurd t
-  delete_turn (delete.Over r) a' got (seen.Owner retired started own) s before then t told does = absurd t
-  delete_turn (delete.Over r) a' got (seen.Blocks it) s before then t told does = absurd t
-  delete_turn (delete.Over r) a' got seen.Missed s before then t told does = absurd t
-  delete_turn (delete.Over r) a' got seen.Refused s before then t told does = absurd t
+  delete_turn old a' got what s before then t told does = absurd t

@@ -211,15 +211,7 @@ module _ (ms : Trail) (m : Mark) where
     links_on : (f : Family) (c : Page) (d : Compression) → Links f c d → m.event.act ≡ Get f.at.left → m.saw ≡ Some c → AtFamily level key ms f (Get f.at.parent ∷ Latch f.at.left ∷ []) → squeeze_log level key d more
     links_on f c (LatchingRight h page) t did saw log = rw (← t.0, ← t.1) at (left_got c did saw log)
     links_on f c (OpeningLeft at ended) t did saw log = subst (λ z. fate_log level key z more) (sym t.2) (once_now (f, c, left_got c did saw log, (refl, t.1, refl)))
-    links_on f c (LatchingLeft h) t did saw log = absurd t
-    links_on f c (LatchedLeft h) t did saw log = absurd t
-    links_on f c (LatchedRight h page) t did saw log = absurd t
-    links_on f c (PuttingFirst z) t did saw log = absurd t
-    links_on f c (PuttingParent z) t did saw log = absurd t
-    links_on f c (PuttingLast z) t did saw log = absurd t
-    links_on f c (Retiring at fa) t did saw log = absurd t
-    links_on f c (OpeningRight at fa) t did saw log = absurd t
-    links_on f c (OpeningParent x fa) t did saw log = absurd t
+    links_on f c old t did saw log = absurd t
 
     decides_on : (f : Family) (c d : Page) (new : Compression) → Decides f c d new → m.event.act ≡ Get f.at.right → m.saw ≡ Some d → AtLeft level key ms f c (Get f.at.parent ∷ Latch f.at.left ∷ Get f.at.left ∷ Latch f.at.right ∷ []) → squeeze_log level key new more
     decides_on f c d (PuttingFirst u) t did saw log =
@@ -227,19 +219,7 @@ module _ (ms : Trail) (m : Mark) where
         record { family = f; left = c; right = d; at = same; both = subst (λ (z : Trio). AtBoth level key more f c d (to_right z)) (sym same) (right_got d did saw log); decided = t }
     decides_on f c d (OpeningRight at fate.Enough) t did saw log = once_now (f, c, d, right_got d did saw log, (refl, t.1, t.2, t.3, t.4))
     decides_on f c d (OpeningRight at fate.Lost) t did saw log = unwritten_on (ap writes_in did) (since_unwritten refl log.family.since)
-    decides_on f c d (LatchingLeft h) t did saw log = absurd t
-    decides_on f c d (LatchedLeft h) t did saw log = absurd t
-    decides_on f c d (LatchingRight h page) t did saw log = absurd t
-    decides_on f c d (LatchedRight h page) t did saw log = absurd t
-    decides_on f c d (PuttingParent z) t did saw log = absurd t
-    decides_on f c d (PuttingLast z) t did saw log = absurd t
-    decides_on f c d (Retiring at fa) t did saw log = absurd t
-    decides_on f c d (OpeningLeft at fa) t did saw log = absurd t
-    decides_on f c d (OpeningParent x fa) t did saw log = absurd t
-    decides_on f c d (OpeningRight at (fate.Merged h)) t did saw log = absurd t
-    decides_on f c d (OpeningRight at fate.Evened) t did saw log = absurd t
-    decides_on f c d (OpeningRight at (fate.Unposted h)) t did saw log = absurd t
-    decides_on f c d (OpeningRight at fate.Refused) t did saw log = absurd t
+    decides_on f c d old t did saw log = absurd t
 
     squeeze_on : (c d : Compression) (what : Seen) → Compresses c what (step.On d) → m.event.act ≡ event_of None (compression_next c) what → ((x : ℕ) (e : Page) → m.event.act ≡ Get x → what ≡ seen.Words e → m.saw ≡ Some e) → squeeze_log level key c ms → squeeze_log level key d more
     squeeze_on (LatchingLeft f) d seen.Done t did saw h = subst (λ z. squeeze_log level key z more) (sym t) (family_on (Latch f.at.left ∷ []) (ap acts_in did) h)
@@ -255,149 +235,13 @@ module _ (ms : Trail) (m : Mark) where
     squeeze_on (Retiring at ended) d seen.Done t did saw h = subst (λ z. squeeze_log level key z more) (sym t) (retired_on at ended did h)
     squeeze_on (OpeningRight at ended) d seen.Done t did saw h = subst (λ z. squeeze_log level key z more) (sym t) (fate_on ended (ap writes_in did) h)
     squeeze_on (OpeningLeft at ended) d seen.Done t did saw h = subst (λ z. squeeze_log level key z more) (sym t) (fate_on ended (ap writes_in did) h)
-    squeeze_on (LatchingLeft f) d (seen.Words y) t did saw h = absurd t
-    squeeze_on (LatchingLeft f) d (seen.Took n) t did saw h = absurd t
-    squeeze_on (LatchingLeft f) d (seen.Owner retired started own) t did saw h = absurd t
-    squeeze_on (LatchingLeft f) d (seen.Blocks it) t did saw h = absurd t
-    squeeze_on (LatchingLeft f) d seen.Refused t did saw h = absurd t
-    squeeze_on (LatchedLeft f) d seen.Done t did saw h = absurd t
-    squeeze_on (LatchedLeft f) d (seen.Took n) t did saw h = absurd t
-    squeeze_on (LatchedLeft f) d (seen.Owner retired started own) t did saw h = absurd t
-    squeeze_on (LatchedLeft f) d (seen.Blocks it) t did saw h = absurd t
-    squeeze_on (LatchedLeft f) d seen.Missed t did saw h = absurd t
-    squeeze_on (LatchedLeft f) d seen.Refused t did saw h = absurd t
-    squeeze_on (LatchingRight f page) d (seen.Words y) t did saw h = absurd t
-    squeeze_on (LatchingRight f page) d (seen.Took n) t did saw h = absurd t
-    squeeze_on (LatchingRight f page) d (seen.Owner retired started own) t did saw h = absurd t
-    squeeze_on (LatchingRight f page) d (seen.Blocks it) t did saw h = absurd t
-    squeeze_on (LatchingRight f page) d seen.Refused t did saw h = absurd t
-    squeeze_on (LatchedRight f page) d seen.Done t did saw h = absurd t
-    squeeze_on (LatchedRight f page) d (seen.Took n) t did saw h = absurd t
-    squeeze_on (LatchedRight f page) d (seen.Owner retired started own) t did saw h = absurd t
-    squeeze_on (LatchedRight f page) d (seen.Blocks it) t did saw h = absurd t
-    squeeze_on (LatchedRight f page) d seen.Missed t did saw h = absurd t
-    squeeze_on (LatchedRight f page) d seen.Refused t did saw h = absurd t
-    squeeze_on (PuttingFirst z) d (seen.Words y) t did saw h = absurd t
-    squeeze_on (PuttingFirst z) d (seen.Took n) t did saw h = absurd t
-    squeeze_on (PuttingFirst z) d (seen.Owner retired started own) t did saw h = absurd t
-    squeeze_on (PuttingFirst z) d (seen.Blocks it) t did saw h = absurd t
-    squeeze_on (PuttingFirst z) d seen.Missed t did saw h = absurd t
-    squeeze_on (PuttingParent z) d (seen.Words y) t did saw h = absurd t
-    squeeze_on (PuttingParent z) d (seen.Took n) t did saw h = absurd t
-    squeeze_on (PuttingParent z) d (seen.Owner retired started own) t did saw h = absurd t
-    squeeze_on (PuttingParent z) d (seen.Blocks it) t did saw h = absurd t
-    squeeze_on (PuttingParent z) d seen.Missed t did saw h = absurd t
-    squeeze_on (PuttingParent z) d seen.Refused t did saw h = absurd t
-    squeeze_on (PuttingLast z) d (seen.Words y) t did saw h = absurd t
-    squeeze_on (PuttingLast z) d (seen.Took n) t did saw h = absurd t
-    squeeze_on (PuttingLast z) d (seen.Owner retired started own) t did saw h = absurd t
-    squeeze_on (PuttingLast z) d (seen.Blocks it) t did saw h = absurd t
-    squeeze_on (PuttingLast z) d seen.Missed t did saw h = absurd t
-    squeeze_on (PuttingLast z) d seen.Refused t did saw h = absurd t
-    squeeze_on (Retiring at fa) d (seen.Words y) t did saw h = absurd t
-    squeeze_on (Retiring at fa) d (seen.Took n) t did saw h = absurd t
-    squeeze_on (Retiring at fa) d (seen.Owner retired started own) t did saw h = absurd t
-    squeeze_on (Retiring at fa) d (seen.Blocks it) t did saw h = absurd t
-    squeeze_on (Retiring at fa) d seen.Missed t did saw h = absurd t
-    squeeze_on (Retiring at fa) d seen.Refused t did saw h = absurd t
-    squeeze_on (OpeningRight at fa) d (seen.Words y) t did saw h = absurd t
-    squeeze_on (OpeningRight at fa) d (seen.Took n) t did saw h = absurd t
-    squeeze_on (OpeningRight at fa) d (seen.Owner retired started own) t did saw h = absurd t
-    squeeze_on (OpeningRight at fa) d (seen.Blocks it) t did saw h = absurd t
-    squeeze_on (OpeningRight at fa) d seen.Missed t did saw h = absurd t
-    squeeze_on (OpeningRight at fa) d seen.Refused t did saw h = absurd t
-    squeeze_on (OpeningLeft at fa) d (seen.Words y) t did saw h = absurd t
-    squeeze_on (OpeningLeft at fa) d (seen.Took n) t did saw h = absurd t
-    squeeze_on (OpeningLeft at fa) d (seen.Owner retired started own) t did saw h = absurd t
-    squeeze_on (OpeningLeft at fa) d (seen.Blocks it) t did saw h = absurd t
-    squeeze_on (OpeningLeft at fa) d seen.Missed t did saw h = absurd t
-    squeeze_on (OpeningLeft at fa) d seen.Refused t did saw h = absurd t
     squeeze_on (OpeningParent x fa) d seen.Done t did saw h = absurd t
-    squeeze_on (OpeningParent x fa) d (seen.Words y) t did saw h = absurd t
-    squeeze_on (OpeningParent x fa) d (seen.Took n) t did saw h = absurd t
-    squeeze_on (OpeningParent x fa) d (seen.Owner retired started own) t did saw h = absurd t
-    squeeze_on (OpeningParent x fa) d (seen.Blocks it) t did saw h = absurd t
-    squeeze_on (OpeningParent x fa) d seen.Missed t did saw h = absurd t
-    squeeze_on (OpeningParent x fa) d seen.Refused t did saw h = absurd t
+    squeeze_on old d what t did saw h = absurd t
 
     over_on : (c : Compression) (what : Seen) (ended : Fate) → Compresses c what (step.Over ended) → m.event.act ≡ event_of None (compression_next c) what → squeeze_log level key c ms → fate_log level key ended more
     over_on (OpeningParent x ended) seen.Done same t did h = subst (λ z. fate_log level key z more) (sym t) (fate_on ended (ap writes_in did) h)
     over_on (LatchingLeft h) seen.Done same t did log = absurd t
-    over_on (LatchingLeft h) (seen.Words y) same t did log = absurd t
-    over_on (LatchingLeft h) (seen.Took n) same t did log = absurd t
-    over_on (LatchingLeft h) (seen.Owner retired started own) same t did log = absurd t
-    over_on (LatchingLeft h) (seen.Blocks it) same t did log = absurd t
-    over_on (LatchingLeft h) seen.Missed same t did log = absurd t
-    over_on (LatchingLeft h) seen.Refused same t did log = absurd t
-    over_on (LatchedLeft h) seen.Done same t did log = absurd t
-    over_on (LatchedLeft h) (seen.Words y) same t did log = absurd t
-    over_on (LatchedLeft h) (seen.Took n) same t did log = absurd t
-    over_on (LatchedLeft h) (seen.Owner retired started own) same t did log = absurd t
-    over_on (LatchedLeft h) (seen.Blocks it) same t did log = absurd t
-    over_on (LatchedLeft h) seen.Missed same t did log = absurd t
-    over_on (LatchedLeft h) seen.Refused same t did log = absurd t
-    over_on (LatchingRight h page) seen.Done same t did log = absurd t
-    over_on (LatchingRight h page) (seen.Words y) same t did log = absurd t
-    over_on (LatchingRight h page) (seen.Took n) same t did log = absurd t
-    over_on (LatchingRight h page) (seen.Owner retired started own) same t did log = absurd t
-    over_on (LatchingRight h page) (seen.Blocks it) same t did log = absurd t
-    over_on (LatchingRight h page) seen.Missed same t did log = absurd t
-    over_on (LatchingRight h page) seen.Refused same t did log = absurd t
-    over_on (LatchedRight h page) seen.Done same t did log = absurd t
-    over_on (LatchedRight h page) (seen.Words y) same t did log = absurd t
-    over_on (LatchedRight h page) (seen.Took n) same t did log = absurd t
-    over_on (LatchedRight h page) (seen.Owner retired started own) same t did log = absurd t
-    over_on (LatchedRight h page) (seen.Blocks it) same t did log = absurd t
-    over_on (LatchedRight h page) seen.Missed same t did log = absurd t
-    over_on (LatchedRight h page) seen.Refused same t did log = absurd t
-    over_on (PuttingFirst z) seen.Done same t did log = absurd t
-    over_on (PuttingFirst z) (seen.Words y) same t did log = absurd t
-    over_on (PuttingFirst z) (seen.Took n) same t did log = absurd t
-    over_on (PuttingFirst z) (seen.Owner retired started own) same t did log = absurd t
-    over_on (PuttingFirst z) (seen.Blocks it) same t did log = absurd t
-    over_on (PuttingFirst z) seen.Missed same t did log = absurd t
-    over_on (PuttingFirst z) seen.Refused same t did log = absurd t
-    over_on (PuttingParent z) seen.Done same t did log = absurd t
-    over_on (PuttingParent z) (seen.Words y) same t did log = absurd t
-    over_on (PuttingParent z) (seen.Took n) same t did log = absurd t
-    over_on (PuttingParent z) (seen.Owner retired started own) same t did log = absurd t
-    over_on (PuttingParent z) (seen.Blocks it) same t did log = absurd t
-    over_on (PuttingParent z) seen.Missed same t did log = absurd t
-    over_on (PuttingParent z) seen.Refused same t did log = absurd t
-    over_on (PuttingLast z) seen.Done same t did log = absurd t
-    over_on (PuttingLast z) (seen.Words y) same t did log = absurd t
-    over_on (PuttingLast z) (seen.Took n) same t did log = absurd t
-    over_on (PuttingLast z) (seen.Owner retired started own) same t did log = absurd t
-    over_on (PuttingLast z) (seen.Blocks it) same t did log = absurd t
-    over_on (PuttingLast z) seen.Missed same t did log = absurd t
-    over_on (PuttingLast z) seen.Refused same t did log = absurd t
-    over_on (Retiring at fa) seen.Done same t did log = absurd t
-    over_on (Retiring at fa) (seen.Words y) same t did log = absurd t
-    over_on (Retiring at fa) (seen.Took n) same t did log = absurd t
-    over_on (Retiring at fa) (seen.Owner retired started own) same t did log = absurd t
-    over_on (Retiring at fa) (seen.Blocks it) same t did log = absurd t
-    over_on (Retiring at fa) seen.Missed same t did log = absurd t
-    over_on (Retiring at fa) seen.Refused same t did log = absurd t
-    over_on (OpeningRight at fa) seen.Done same t did log = absurd t
-    over_on (OpeningRight at fa) (seen.Words y) same t did log = absurd t
-    over_on (OpeningRight at fa) (seen.Took n) same t did log = absurd t
-    over_on (OpeningRight at fa) (seen.Owner retired started own) same t did log = absurd t
-    over_on (OpeningRight at fa) (seen.Blocks it) same t did log = absurd t
-    over_on (OpeningRight at fa) seen.Missed same t did log = absurd t
-    over_on (OpeningRight at fa) seen.Refused same t did log = absurd t
-    over_on (OpeningLeft at fa) seen.Done same t did log = absurd t
-    over_on (OpeningLeft at fa) (seen.Words y) same t did log = absurd t
-    over_on (OpeningLeft at fa) (seen.Took n) same t did log = absurd t
-    over_on (OpeningLeft at fa) (seen.Owner retired started own) same t did log = absurd t
-    over_on (OpeningLeft at fa) (seen.Blocks it) same t did log = absurd t
-    over_on (OpeningLeft at fa) seen.Missed same t did log = absurd t
-    over_on (OpeningLeft at fa) seen.Refused same t did log = absurd t
-    over_on (OpeningParent x fa) (seen.Words y) same t did log = absurd t
-    over_on (OpeningParent x fa) (seen.Took n) same t did log = absurd t
-    over_on (OpeningParent x fa) (seen.Owner retired started own) same t did log = absurd t
-    over_on (OpeningParent x fa) (seen.Blocks it) same t did log = absurd t
-    over_on (OpeningParent x fa) seen.Missed same t did log = absurd t
-    over_on (OpeningParent x fa) seen.Refused same t did log = absurd t
+    over_on old what same t did h = absurd t
 
     -- at the parent
     arrive_on : (x : ℕ) (c : Page) (new : CompressStage) → CompressArrives key x c new → Leads c key level Here → m.event.act ≡ Get x → m.saw ≡ Some c → Since ms x [] → compress_log level key new more
@@ -483,15 +327,7 @@ module _ (ms : Trail) (m : Mark) where
       start_on : (c : Page) (new : CompressStage) → CompressStarts level key c new → m.event.act ≡ Get 0 → m.saw ≡ Some c → Unwritten ms → compress_log level key new more
       start_on c (compress.Ending reply.Alone) t did saw log = once_now (inl (record { first = unwritten_on (ap writes_in did) log; anchor = c; got = got_last ms m did saw; few = t }))
       start_on c (compress.Coming a) t did saw log = way_on way.Start a (seen.Words c) t.1 did log
-      start_on c compress.New t did saw log = absurd t
-      start_on c (compress.Compressing v) t did saw log = absurd t
-      start_on c (compress.Staying v) t did saw log = absurd t
-      start_on c (compress.Ending (reply.Merged h)) t did saw log = absurd t
-      start_on c (compress.Ending reply.Evened) t did saw log = absurd t
-      start_on c (compress.Ending reply.Enough) t did saw log = absurd t
-      start_on c (compress.Ending (reply.Unposted h)) t did saw log = absurd t
-      start_on c (compress.Ending reply.NoRoom) t did saw log = absurd t
-      start_on c (compress.Over v) t did saw log = absurd t
+      start_on c old t did saw log = absurd t
 
       come_on : (a : Approach) (new : CompressStage) (what : Seen) → CompressComes level key a what new → m.event.act ≡ event_of None (approach_next a) what → ((x : ℕ) (e : Page) → m.event.act ≡ Get x → what ≡ seen.Words e → m.saw ≡ Some e) → way_log a ms → compress_log level key new more
       come_on way.Start new (seen.Words c) t did saw log = start_on c new t did (saw 0 c did refl) log
@@ -499,12 +335,7 @@ module _ (ms : Trail) (m : Mark) where
       come_on (way.Latching x) new what t did saw log = near_on (way.Latching x) new what t did saw log
       come_on (way.Latched x) new what t did saw log = near_on (way.Latched x) new what t did saw log
       come_on (way.Leaving x to) new what t did saw log = near_on (way.Leaving x to) new what t did saw log
-      come_on way.Start new seen.Done t did saw log = absurd t
-      come_on way.Start new (seen.Took n) t did saw log = absurd t
-      come_on way.Start new (seen.Owner retired started own) t did saw log = absurd t
-      come_on way.Start new (seen.Blocks it) t did saw log = absurd t
-      come_on way.Start new seen.Missed t did saw log = absurd t
-      come_on way.Start new seen.Refused t did saw log = absurd t
+      come_on old new what t did saw log = absurd t
 
       -- any step of a compression
       pub compress_on : (a a' : CompressStage) (what : Seen) → CompressGoes level key a what a' → m.event.act ≡ event_of None (compress_next_in a) what → ((x : ℕ) (e : Page) → m.event.act ≡ Get x → what ≡ seen.Words e → m.saw ≡ Some e) → compress_log level key a ms → compress_log level key a' more
@@ -516,53 +347,7 @@ module _ (ms : Trail) (m : Mark) where
       compress_on (compress.Staying x) (compress.Ending r) seen.Done t did saw h = subst (λ z. pressed_log level key z more) (sym t) (once_on (ap writes_in did) h)
       compress_on (compress.Ending r) (compress.Over r') seen.Done t did saw h = subst (λ z. pressed_log level key z more) (sym t) (pressed_on r (ap writes_in did) h)
       compress_on compress.New compress.New seen.Done t did saw h = absurd t
-      compress_on compress.New (compress.Compressing v) seen.Done t did saw h = absurd t
-      compress_on compress.New (compress.Staying v) seen.Done t did saw h = absurd t
-      compress_on compress.New (compress.Ending v) seen.Done t did saw h = absurd t
-      compress_on compress.New (compress.Over v) seen.Done t did saw h = absurd t
-      compress_on compress.New a' (seen.Words y) t did saw h = absurd t
-      compress_on compress.New a' (seen.Took n) t did saw h = absurd t
-      compress_on compress.New a' (seen.Owner retired started own) t did saw h = absurd t
-      compress_on compress.New a' (seen.Blocks it) t did saw h = absurd t
-      compress_on compress.New a' seen.Missed t did saw h = absurd t
-      compress_on compress.New a' seen.Refused t did saw h = absurd t
-      compress_on (compress.Compressing c) compress.New what t did saw h = absurd t
-      compress_on (compress.Compressing c) (compress.Staying v) what t did saw h = absurd t
-      compress_on (compress.Compressing c) (compress.Over v) what t did saw h = absurd t
-      compress_on (compress.Staying o) compress.New seen.Done t did saw h = absurd t
-      compress_on (compress.Staying o) (compress.Coming v) seen.Done t did saw h = absurd t
-      compress_on (compress.Staying o) (compress.Compressing v) seen.Done t did saw h = absurd t
-      compress_on (compress.Staying o) (compress.Staying v) seen.Done t did saw h = absurd t
-      compress_on (compress.Staying o) (compress.Over v) seen.Done t did saw h = absurd t
-      compress_on (compress.Staying o) a' (seen.Words y) t did saw h = absurd t
-      compress_on (compress.Staying o) a' (seen.Took n) t did saw h = absurd t
-      compress_on (compress.Staying o) a' (seen.Owner retired started own) t did saw h = absurd t
-      compress_on (compress.Staying o) a' (seen.Blocks it) t did saw h = absurd t
-      compress_on (compress.Staying o) a' seen.Missed t did saw h = absurd t
-      compress_on (compress.Staying o) a' seen.Refused t did saw h = absurd t
-      compress_on (compress.Ending o) compress.New seen.Done t did saw h = absurd t
-      compress_on (compress.Ending o) (compress.Coming v) seen.Done t did saw h = absurd t
-      compress_on (compress.Ending o) (compress.Compressing v) seen.Done t did saw h = absurd t
-      compress_on (compress.Ending o) (compress.Staying v) seen.Done t did saw h = absurd t
-      compress_on (compress.Ending o) (compress.Ending v) seen.Done t did saw h = absurd t
-      compress_on (compress.Ending o) a' (seen.Words y) t did saw h = absurd t
-      compress_on (compress.Ending o) a' (seen.Took n) t did saw h = absurd t
-      compress_on (compress.Ending o) a' (seen.Owner retired started own) t did saw h = absurd t
-      compress_on (compress.Ending o) a' (seen.Blocks it) t did saw h = absurd t
-      compress_on (compress.Ending o) a' seen.Missed t did saw h = absurd t
-      compress_on (compress.Ending o) a' seen.Refused t did saw h = absurd t
-      compress_on (compress.Over o) compress.New seen.Done t did saw h = absurd t
-      compress_on (compress.Over o) (compress.Coming v) seen.Done t did saw h = absurd t
-      compress_on (compress.Over o) (compress.Compressing v) seen.Done t did saw h = absurd t
-      compress_on (compress.Over o) (compress.Staying v) seen.Done t did saw h = absurd t
-      compress_on (compress.Over o) (compress.Ending v) seen.Done t did saw h = absurd t
-      compress_on (compress.Over o) (compress.Over v) seen.Done t did saw h = absurd t
-      compress_on (compress.Over o) a' (seen.Words y) t did saw h = absurd t
-      compress_on (compress.Over o) a' (seen.Took n) t did saw h = absurd t
-      compress_on (compress.Over o) a' (seen.Owner retired started own) t did saw h = absurd t
-      compress_on (compress.Over o) a' (seen.Blocks it) t did saw h = absurd t
-      compress_on (compress.Over o) a' seen.Missed t did saw h = absurd t
-      compress_on (compress.Over o) a' seen.Refused t did saw h = absurd t
+      compress_on old a' what t did saw h = absurd t
 
   -- a miss that is of no turn of its own changes nothing
   module _ (level key : ℕ) (did : m.event.act ≡ Miss) where

@@ -71,18 +71,11 @@ drops_learns w w' p a saw aim x c (Opening y o) h is e = absurd e
 pub enters_places : (aim : Aim) (x word key : ℕ) (c : Page) (change : Change) → EntersPair x c key word change → HoldsPage (know_change aim (λ z. c) change).holds x
 enters_places aim x word key c (Putting y page) e = inl e.0
 enters_places aim x word key c (Taking full) e = inl e.0
-enters_places aim x word key c (PuttingNew t) e = absurd e
-enters_places aim x word key c (PuttingOld t) e = absurd e
-enters_places aim x word key c (OpeningNew y z s) e = absurd e
-enters_places aim x word key c (Opening y o) e = absurd e
+enters_places aim x word key c old e = absurd e
 
 pub drops_places : (aim : Aim) (x key : ℕ) (c : Page) (change : Change) → DropsPair x c key change → HoldsPage (know_change aim (λ z. c) change).holds x
 drops_places aim x key c (Putting y page) e = inl e.0
-drops_places aim x key c (Taking full) e = absurd e
-drops_places aim x key c (PuttingNew t) e = absurd e
-drops_places aim x key c (PuttingOld t) e = absurd e
-drops_places aim x key c (OpeningNew y z s) e = absurd e
-drops_places aim x key c (Opening y o) e = absurd e
+drops_places aim x key c old e = absurd e
 
 pub change_middle : (aim : Aim) (got : ℕ → Page) (change : Change) → (know_change aim got change).middle ≡ None
 change_middle aim got (Putting y page) = refl

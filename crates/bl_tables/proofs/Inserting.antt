@@ -81,10 +81,7 @@ module _ {P : Type 0} (know : P → Know) (w : World P) (g : IsGood know w) (p :
   arrive_turn : (x : ℕ) (a : InsertStage) (got : ℕ → Page) (s : State Page) → know (w.proc p) ≡ know_approach 0 key (way.Latched x) → know b ≡ know_insert key value got a → got ≡ (λ z. w.now.contents x) → Leads (w.now.contents x) key 0 Here → InsertArrives key value x (w.now.contents x) a → Does w.now p (Get x) s → Turned know w p (Get x) s b
   arrive_turn x (insert.Present y there) got s before then same l t does = present_turn x there got s before (rw t.0 at then) l t.1 does
   arrive_turn x (insert.Changing c) got s before then same l t does = enter_turn x c s before (subst (λ f. know b ≡ know_change (insert_aim key value) f c) same then) l t.0 t.1 does
-  arrive_turn x insert.New got s before then same l t does = absurd t
-  arrive_turn x (insert.Coming a) got s before then same l t does = absurd t
-  arrive_turn x (insert.Ending r) got s before then same l t does = absurd t
-  arrive_turn x (insert.Over r) got s before then same l t does = absurd t
+  arrive_turn x old got s before then same l t does = absurd t
 
   stay_turn : (x there : ℕ) (got : ℕ → Page) (s : State Page) → know (w.proc p) ≡ know_insert key value got (insert.Present x there) → know b ≡ know_insert key value got (insert.Ending (inserted.Present there)) → Does w.now p (Act.Open x) s → Turned know w p (Act.Open x) s b
   stay_turn x there got s before then does =
@@ -115,10 +112,7 @@ module _ {P : Type 0} (know : P → Know) (w : World P) (g : IsGood know w) (p :
   change_ends c (insert.Changing d) got what s before then t told does = change_turn know w g p b (insert_aim key value) (insert_fine key value) got c d what s before then t told does
   change_ends c (insert.Ending r) got what s before then (o, t, same) told does =
       finish_turn know w g p b (insert_aim key value) (insert_fine key value) got c o what _ s before (subst (λ z. know b ≡ know_insert key value got (insert.Ending z)) same then) tt t does
-  change_ends c insert.New got what s before then t told does = absurd t
-  change_ends c (insert.Coming a) got what s before then t told does = absurd t
-  change_ends c (insert.Present x there) got what s before then t told does = absurd t
-  change_ends c (insert.Over r) got what s before then t told does = absurd t
+  change_ends c old got what s before then t told does = absurd t
 
   -- every turn of an insertion
   pub insert_turn : (a a' : InsertStage) (got : ℕ → Page) (what : Seen) (s : State Page) → know (w.proc p) ≡ know_insert key value got a → know b ≡ know_insert key value (insert_got got a what) a' → InsertGoes key value a what a' → IsTold w.now w.size (insert_next_in a) what → Does w.now p (event_of (insert_end a) (insert_next_in a) what) s → Turned know w p (event_of (insert_end a) (insert_next_in a) what) s b
@@ -131,49 +125,6 @@ module _ {P : Type 0} (know : P → Know) (w : World P) (g : IsGood know w) (p :
   insert_turn (insert.Changing c) a' got what s before then t told does = change_ends c a' got what s before then t told does
   insert_turn insert.New insert.New got seen.Done s before then t told does = absurd t
   insert_turn insert.New (insert.Coming a') got seen.Done s before then t told does = begin_turn know w g p b key s before (rw t at then) does
-  insert_turn insert.New (insert.Present y v) got seen.Done s before then t told does = absurd t
-  insert_turn insert.New (insert.Changing d) got seen.Done s before then t told does = absurd t
-  insert_turn insert.New (insert.Ending last) got seen.Done s before then t told does = absurd t
-  insert_turn insert.New (insert.Over last) got seen.Done s before then t told does = absurd t
-  insert_turn insert.New a' got (seen.Words page) s before then t told does = absurd t
-  insert_turn insert.New a' got (seen.Took y) s before then t told does = absurd t
-  insert_turn insert.New a' got (seen.Owner retired started own) s before then t told does = absurd t
-  insert_turn insert.New a' got (seen.Blocks it) s before then t told does = absurd t
-  insert_turn insert.New a' got seen.Missed s before then t told does = absurd t
-  insert_turn insert.New a' got seen.Refused s before then t told does = absurd t
-  insert_turn (insert.Present x there) insert.New got seen.Done s before then t told does = absurd t
-  insert_turn (insert.Present x there) (insert.Coming a') got seen.Done s before then t told does = absurd t
-  insert_turn (insert.Present x there) (insert.Present y v) got seen.Done s before then t told does = absurd t
-  insert_turn (insert.Present x there) (insert.Changing d) got seen.Done s before then t told does = absurd t
   insert_turn (insert.Present x there) (insert.Ending last) got seen.Done s before then t told does = stay_turn x there got s before (rw t at then) does
-  insert_turn (insert.Present x there) (insert.Over last) got seen.Done s before then t told does = absurd t
-  insert_turn (insert.Present x there) a' got (seen.Words page) s before then t told does = absurd t
-  insert_turn (insert.Present x there) a' got (seen.Took y) s before then t told does = absurd t
-  insert_turn (insert.Present x there) a' got (seen.Owner retired started own) s before then t told does = absurd t
-  insert_turn (insert.Present x there) a' got (seen.Blocks it) s before then t told does = absurd t
-  insert_turn (insert.Present x there) a' got seen.Missed s before then t told does = absurd t
-  insert_turn (insert.Present x there) a' got seen.Refused s before then t told does = absurd t
-  insert_turn (insert.Ending r) insert.New got seen.Done s before then t told does = absurd t
-  insert_turn (insert.Ending r) (insert.Coming a') got seen.Done s before then t told does = absurd t
-  insert_turn (insert.Ending r) (insert.Present y v) got seen.Done s before then t told does = absurd t
-  insert_turn (insert.Ending r) (insert.Changing d) got seen.Done s before then t told does = absurd t
-  insert_turn (insert.Ending r) (insert.Ending last) got seen.Done s before then t told does = absurd t
   insert_turn (insert.Ending r) (insert.Over last) got seen.Done s before then t told does = end_turn know w g p b (inserts key value r) s before (rw t at then) does
-  insert_turn (insert.Ending r) a' got (seen.Words page) s before then t told does = absurd t
-  insert_turn (insert.Ending r) a' got (seen.Took y) s before then t told does = absurd t
-  insert_turn (insert.Ending r) a' got (seen.Owner retired started own) s before then t told does = absurd t
-  insert_turn (insert.Ending r) a' got (seen.Blocks it) s before then t told does = absurd t
-  insert_turn (insert.Ending r) a' got seen.Missed s before then t told does = absurd t
-  insert_turn (insert.Ending r) a' got seen.Refused s before then t told does = absurd t
-  insert_turn (insert.Over r) insert.New got seen.Done s before then t told does = absurd t
-  insert_turn (insert.Over r) (insert.Coming a') got seen.Done s before then t told does = absurd t
-  insert_turn (insert.Over r) (insert.Present y v) got seen.Done s before then t told does = absurd t
-  insert_turn (insert.Over r) (insert.Changing d) got seen.Done s before then t told does = absurd t
-  insert_turn (insert.Over r) (insert.Ending last) got seen.Done s before then t told does = absurd t
-  insert_turn (insert.Over r) (insert.Over last) got seen.Done s before then t told does = absurd t
-  insert_turn (insert.Over r) a' got (seen.Words page) s before then t told does = absurd t
-  insert_turn (insert.Over r) a' got (seen.Took y) s before then t told does = absurd t
-  insert_turn (insert.Over r) a' got (seen.Owner retired started own) s before then t told does = absurd t
-  insert_turn (insert.Over r) a' got (seen.Blocks it) s before then t told does = absurd t
-  insert_turn (insert.Over r) a' got seen.Missed s before then t told does = absurd t
-  insert_turn (insert.Over r) a' got seen.Refused s before then t told does = absurd t
+  insert_turn old a' got what s before then t told does = absurd t

@@ -324,29 +324,17 @@ saw_words reply s size saw (act.Release x) seen.Refused told is y d e f = absurd
 pub log_turn : (old new : Proc) (what : Seen) (marks : Trail) (m : Mark) → Takes old what new → m.event.act ≡ event_of (end_of_proc old) (next_of old) what → ((x : ℕ) (c : Page) → m.event.act ≡ Get x → what ≡ seen.Words c → m.saw ≡ Some c) → proc_log old marks → proc_log new (marks ++ m ∷ [])
 log_turn (Post a) (Post c) what marks m t did saw h =
     subst (λ l. post_log l c.key c.stage (marks ++ m ∷ [])) (sym t.0) (subst (λ k. post_log a.level k c.stage (marks ++ m ∷ [])) (sym t.1) (post_on marks m a.level a.key a.least a.stage c.stage what t.2 did saw h))
-log_turn (Find a) (Post c) what marks m t did saw h = absurd t
-log_turn (Insert a) (Post c) what marks m t did saw h = absurd t
-log_turn (Delete a) (Post c) what marks m t did saw h = absurd t
-log_turn (Part a) (Post c) what marks m t did saw h = absurd t
 log_turn (Find a) (Find c) what marks m t did saw h = tt
-log_turn (Find a) (Insert c) what marks m t did saw h = absurd t
-log_turn (Find a) (Delete c) what marks m t did saw h = absurd t
 log_turn (Insert a) (Find c) what marks m t did saw h = tt
 log_turn (Insert a) (Insert c) what marks m t did saw h = insert_on marks m a.key a.value a.stage c.stage what t.2 did h
-log_turn (Insert a) (Delete c) what marks m t did saw h = absurd t
 log_turn (Delete a) (Find c) what marks m t did saw h = tt
-log_turn (Delete a) (Insert c) what marks m t did saw h = absurd t
 log_turn (Delete a) (Delete c) what marks m t did saw h = delete_on marks m a.key a.stage c.stage what t.1 did h
 log_turn (Post a) (Find c) what marks m t did saw h = tt
-log_turn (Post a) (Insert c) what marks m t did saw h = absurd t
-log_turn (Post a) (Delete c) what marks m t did saw h = absurd t
 log_turn (Find a) (Part c) what marks m t did saw h = tt
 log_turn (Insert a) (Part c) what marks m t did saw h = tt
 log_turn (Delete a) (Part c) what marks m t did saw h = tt
 log_turn (Post a) (Part c) what marks m t did saw h = tt
 log_turn (Part a) (Find c) what marks m t did saw h = tt
-log_turn (Part a) (Insert c) what marks m t did saw h = absurd t
-log_turn (Part a) (Delete c) what marks m t did saw h = absurd t
 log_turn (Part a) (Part c) what marks m t did saw h = tt
 log_turn (Find a) (Reclaim c) what marks m t did saw h = tt
 log_turn (Insert a) (Reclaim c) what marks m t did saw h = tt
@@ -354,25 +342,14 @@ log_turn (Delete a) (Reclaim c) what marks m t did saw h = tt
 log_turn (Post a) (Reclaim c) what marks m t did saw h = tt
 log_turn (Part a) (Reclaim c) what marks m t did saw h = tt
 log_turn (Reclaim a) (Reclaim c) what marks m t did saw h = tt
-log_turn (Reclaim a) (Post c) what marks m t did saw h = absurd t
 log_turn (Reclaim a) (Find c) what marks m t did saw h = tt
-log_turn (Reclaim a) (Insert c) what marks m t did saw h = absurd t
-log_turn (Reclaim a) (Delete c) what marks m t did saw h = absurd t
 log_turn (Reclaim a) (Part c) what marks m t did saw h = tt
 log_turn (Compress a) (Compress c) what marks m t did saw h =
     subst (λ l. compress_log l c.key c.stage (marks ++ m ∷ [])) (sym t.0) (subst (λ k. compress_log a.level k c.stage (marks ++ m ∷ [])) (sym t.1) (compress_on marks m a.level a.key a.least a.stage c.stage what t.2 did saw h))
-log_turn (Find a) (Compress c) what marks m t did saw h = absurd t
 log_turn (Compress a) (Find c) what marks m t did saw h = tt
-log_turn (Insert a) (Compress c) what marks m t did saw h = absurd t
-log_turn (Compress a) (Insert c) what marks m t did saw h = absurd t
-log_turn (Delete a) (Compress c) what marks m t did saw h = absurd t
-log_turn (Compress a) (Delete c) what marks m t did saw h = absurd t
-log_turn (Post a) (Compress c) what marks m t did saw h = absurd t
-log_turn (Compress a) (Post c) what marks m t did saw h = absurd t
-log_turn (Part a) (Compress c) what marks m t did saw h = absurd t
 log_turn (Compress a) (Part c) what marks m t did saw h = tt
-log_turn (Reclaim a) (Compress c) what marks m t did saw h = absurd t
 log_turn (Compress a) (Reclaim c) what marks m t did saw h = tt
+log_turn old new what marks m t did saw h = absurd t
 
 log_stays : (old : Proc) (marks : Trail) (m : Mark) → m.event.act ≡ Miss → proc_log old marks → proc_log old (marks ++ m ∷ [])
 log_stays (Find a) marks m did h = tt

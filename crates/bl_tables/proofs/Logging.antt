@@ -84,47 +84,12 @@ module _ (m : Mark) (level key : ℕ) where
   -- on the way a page is held from its latch on
   pub latched_on : (a : Approach) (y : ℕ) (what : Seen) → Approaches level key a what (came.On (way.Latched y)) → m.event.act ≡ event_of None (approach_next a) what → m.event.act ≡ Latch y
   latched_on way.Start y seen.Done t did = absurd t
-  latched_on way.Start y (seen.Words c) t did = absurd t
-  latched_on way.Start y (seen.Took n) t did = absurd t
-  latched_on way.Start y (seen.Owner retired started own) t did = absurd t
-  latched_on way.Start y (seen.Blocks it) t did = absurd t
-  latched_on way.Start y seen.Missed t did = absurd t
-  latched_on way.Start y seen.Refused t did = absurd t
-  latched_on (way.At x) y seen.Done t did = absurd t
   latched_on (way.At x) y (seen.Words c) (o, l, u) did = absurd (no_latched level x c o y u)
-  latched_on (way.At x) y (seen.Took n) t did = absurd t
-  latched_on (way.At x) y (seen.Owner retired started own) t did = absurd t
-  latched_on (way.At x) y (seen.Blocks it) t did = absurd t
-  latched_on (way.At x) y seen.Missed t did = absurd t
-  latched_on (way.At x) y seen.Refused t did = absurd t
   latched_on (way.Latching x) y seen.Done t did = did ∙ ap Latch (same_latched x y t)
-  latched_on (way.Latching x) y (seen.Words c) t did = absurd t
-  latched_on (way.Latching x) y (seen.Took n) t did = absurd t
-  latched_on (way.Latching x) y (seen.Owner retired started own) t did = absurd t
-  latched_on (way.Latching x) y (seen.Blocks it) t did = absurd t
   latched_on (way.Latching x) y seen.Missed t did = absurd (let e = t in cc)
-  latched_on (way.Latching x) y seen.Refused t did = absurd t
-  latched_on (way.Latched x) y seen.Done t did = absurd t
-  latched_on (way.Latched x) y (seen.Words c) t did = absurd t
-  latched_on (way.Latched x) y (seen.Took n) t did = absurd t
-  latched_on (way.Latched x) y (seen.Owner retired started own) t did = absurd t
-  latched_on (way.Latched x) y (seen.Blocks it) t did = absurd t
-  latched_on (way.Latched x) y seen.Missed t did = absurd t
-  latched_on (way.Latched x) y seen.Refused t did = absurd t
   latched_on (way.Leaving x None) y seen.Done t did = absurd (let e = t in cc)
-  latched_on (way.Leaving x None) y (seen.Words c) t did = absurd t
-  latched_on (way.Leaving x None) y (seen.Took n) t did = absurd t
-  latched_on (way.Leaving x None) y (seen.Owner retired started own) t did = absurd t
-  latched_on (way.Leaving x None) y (seen.Blocks it) t did = absurd t
-  latched_on (way.Leaving x None) y seen.Missed t did = absurd t
-  latched_on (way.Leaving x None) y seen.Refused t did = absurd t
   latched_on (way.Leaving x (Some z)) y seen.Done t did = absurd (let e = t in cc)
-  latched_on (way.Leaving x (Some z)) y (seen.Words c) t did = absurd t
-  latched_on (way.Leaving x (Some z)) y (seen.Took n) t did = absurd t
-  latched_on (way.Leaving x (Some z)) y (seen.Owner retired started own) t did = absurd t
-  latched_on (way.Leaving x (Some z)) y (seen.Blocks it) t did = absurd t
-  latched_on (way.Leaving x (Some z)) y seen.Missed t did = absurd t
-  latched_on (way.Leaving x (Some z)) y seen.Refused t did = absurd t
+  latched_on old y what t did = absurd t
 
 module _ (marks : Trail) (m : Mark) (level key : ℕ) (least : 0 < level) where
   abbrev more : Trail
@@ -203,48 +168,9 @@ module _ (marks : Trail) (m : Mark) (level key : ℕ) (least : 0 < level) where
 
   here_on : (a : Approach) (new : PostStage) (what : Seen) (y : ℕ) (d : Page) → Approaches level key a what (came.Here y d) → PostArrives key y d new → m.event.act ≡ event_of None (approach_next a) what → ((x : ℕ) (c : Page) → m.event.act ≡ Get x → what ≡ seen.Words c → m.saw ≡ Some c) → approach_log level a marks → post_log level key new more
   here_on way.Start new seen.Done y d t at did saw h = absurd t
-  here_on way.Start new (seen.Words c) y d t at did saw h = absurd t
-  here_on way.Start new (seen.Took n) y d t at did saw h = absurd t
-  here_on way.Start new (seen.Owner retired started own) y d t at did saw h = absurd t
-  here_on way.Start new (seen.Blocks it) y d t at did saw h = absurd t
-  here_on way.Start new seen.Missed y d t at did saw h = absurd t
-  here_on way.Start new seen.Refused y d t at did saw h = absurd t
-  here_on (way.At x) new seen.Done y d t at did saw h = absurd t
-  here_on (way.At x) new (seen.Words c) y d t at did saw h = absurd t
-  here_on (way.At x) new (seen.Took n) y d t at did saw h = absurd t
-  here_on (way.At x) new (seen.Owner retired started own) y d t at did saw h = absurd t
-  here_on (way.At x) new (seen.Blocks it) y d t at did saw h = absurd t
-  here_on (way.At x) new seen.Missed y d t at did saw h = absurd t
-  here_on (way.At x) new seen.Refused y d t at did saw h = absurd t
-  here_on (way.Latching x) new seen.Done y d t at did saw h = absurd t
-  here_on (way.Latching x) new (seen.Words c) y d t at did saw h = absurd t
-  here_on (way.Latching x) new (seen.Took n) y d t at did saw h = absurd t
-  here_on (way.Latching x) new (seen.Owner retired started own) y d t at did saw h = absurd t
-  here_on (way.Latching x) new (seen.Blocks it) y d t at did saw h = absurd t
-  here_on (way.Latching x) new seen.Missed y d t at did saw h = absurd t
-  here_on (way.Latching x) new seen.Refused y d t at did saw h = absurd t
-  here_on (way.Latched x) new seen.Done y d t at did saw h = absurd t
   here_on (way.Latched x) new (seen.Words c) y d t at did saw h =
       arrive_on y d new (subst (λ z. Leads z key level Here) (sym t.1) t.2) at (did ∙ ap Get (sym t.0)) (saw x c did refl ∙ ap Some (sym t.1)) (subst (λ z. Holding level marks z []) (sym t.0) h)
-  here_on (way.Latched x) new (seen.Took n) y d t at did saw h = absurd t
-  here_on (way.Latched x) new (seen.Owner retired started own) y d t at did saw h = absurd t
-  here_on (way.Latched x) new (seen.Blocks it) y d t at did saw h = absurd t
-  here_on (way.Latched x) new seen.Missed y d t at did saw h = absurd t
-  here_on (way.Latched x) new seen.Refused y d t at did saw h = absurd t
-  here_on (way.Leaving x None) new seen.Done y d t at did saw h = absurd t
-  here_on (way.Leaving x None) new (seen.Words c) y d t at did saw h = absurd t
-  here_on (way.Leaving x None) new (seen.Took n) y d t at did saw h = absurd t
-  here_on (way.Leaving x None) new (seen.Owner retired started own) y d t at did saw h = absurd t
-  here_on (way.Leaving x None) new (seen.Blocks it) y d t at did saw h = absurd t
-  here_on (way.Leaving x None) new seen.Missed y d t at did saw h = absurd t
-  here_on (way.Leaving x None) new seen.Refused y d t at did saw h = absurd t
-  here_on (way.Leaving x (Some z)) new seen.Done y d t at did saw h = absurd t
-  here_on (way.Leaving x (Some z)) new (seen.Words c) y d t at did saw h = absurd t
-  here_on (way.Leaving x (Some z)) new (seen.Took n) y d t at did saw h = absurd t
-  here_on (way.Leaving x (Some z)) new (seen.Owner retired started own) y d t at did saw h = absurd t
-  here_on (way.Leaving x (Some z)) new (seen.Blocks it) y d t at did saw h = absurd t
-  here_on (way.Leaving x (Some z)) new seen.Missed y d t at did saw h = absurd t
-  here_on (way.Leaving x (Some z)) new seen.Refused y d t at did saw h = absurd t
+  here_on old new what y d t at did saw h = absurd t
 
   near_on : (a : Approach) (new : PostStage) (what : Seen) → PostNears level key a what new → m.event.act ≡ event_of None (approach_next a) what → ((x : ℕ) (c : Page) → m.event.act ≡ Get x → what ≡ seen.Words c → m.saw ≡ Some c) → approach_log level a marks → post_log level key new more
   near_on a (post.Coming b) what t did saw h = approach_on a b what t did h
@@ -262,34 +188,15 @@ module _ (marks : Trail) (m : Mark) (level key : ℕ) (least : 0 < level) where
   start_on c (post.Ending reply.TooTall) t did saw h = record { last = t.1; first = raised_on (ap writes_in did) h; anchor = c; got = got_last marks m did saw; full = t.0 ∙ t.1 }
   start_on c (post.Growing growth.Latching) t did saw h = raised_on (ap writes_in did) h
   start_on c (post.Coming a) t did saw h = approach_on way.Start a (seen.Words c) t.1 did h
-  start_on c post.New t did saw h = absurd t
-  start_on c (post.Walking v) t did saw h = absurd t
-  start_on c (post.Changing d) t did saw h = absurd t
-  start_on c (post.Staying z r) t did saw h = absurd t
-  start_on c (post.Over r) t did saw h = absurd t
-  start_on c (post.Ending (reply.Done s)) t did saw h = absurd t
-  start_on c (post.Ending reply.Already) t did saw h = absurd t
-  start_on c (post.Ending reply.NoRoom) t did saw h = absurd t
-  start_on c (post.Growing growth.Latched) t did saw h = absurd t
-  start_on c (post.Growing (growth.Taking r)) t did saw h = absurd t
-  start_on c (post.Growing (growth.PuttingTop r)) t did saw h = absurd t
-  start_on c (post.Growing (growth.PuttingAnchor r)) t did saw h = absurd t
-  start_on c (post.Growing (growth.OpeningTop x)) t did saw h = absurd t
-  start_on c (post.Growing growth.OpeningGrown) t did saw h = absurd t
-  start_on c (post.Growing growth.OpeningRefused) t did saw h = absurd t
+  start_on c old t did saw h = absurd t
 
   come_on : (a : Approach) (new : PostStage) (what : Seen) → PostComes level key a what new → m.event.act ≡ event_of None (approach_next a) what → ((x : ℕ) (c : Page) → m.event.act ≡ Get x → what ≡ seen.Words c → m.saw ≡ Some c) → approach_log level a marks → post_log level key new more
-  come_on way.Start new seen.Done t did saw h = absurd t
   come_on way.Start new (seen.Words c) t did saw h = start_on c new t did (saw 0 c did refl) h
-  come_on way.Start new (seen.Took n) t did saw h = absurd t
-  come_on way.Start new (seen.Owner retired started own) t did saw h = absurd t
-  come_on way.Start new (seen.Blocks it) t did saw h = absurd t
-  come_on way.Start new seen.Missed t did saw h = absurd t
-  come_on way.Start new seen.Refused t did saw h = absurd t
   come_on (way.At x) new what t did saw h = near_on (way.At x) new what t did saw h
   come_on (way.Latching x) new what t did saw h = near_on (way.Latching x) new what t did saw h
   come_on (way.Latched x) new what t did saw h = near_on (way.Latched x) new what t did saw h
   come_on (way.Leaving x to) new what t did saw h = near_on (way.Leaving x to) new what t did saw h
+  come_on old new what t did saw h = absurd t
 
   -- the anchor was put, and with it a new top level
   raised_more : (x : ℕ) (top anchor : Page) (acts : List (Act Page Reply)) → ((before : List (Act Page Reply)) × RaisesOnly level before × (acts ≡ before ++ Put x top ∷ [])) → (node_of top).shape.level ≡ level → m.event.act ≡ Put 0 anchor → RaisesOnly level (acts ++ writes_in m.event.act)
@@ -298,197 +205,30 @@ module _ (marks : Trail) (m : Mark) (level key : ℕ) (least : 0 < level) where
 
   top_level : (above below : ℕ) (c : Page) → IsTop above below c → (node_of c).shape.level ≡ above
   top_level above below (Inner i) t = t.0
-  top_level above below (Anchor a) t = absurd t
-  top_level above below (Leaf l) t = absurd t
-  top_level above below (Dead d) t = absurd t
+  top_level above below old t = absurd t
 
   grow_on : (g h : Growth) (what : Seen) → Grows level g what (grew.On h) → m.event.act ≡ event_of None (growth_next g) what → growth_log level g marks → growth_log level h more
   grow_on growth.Latching h seen.Done t did log = subst (λ z. growth_log level z more) (sym t) (held_now marks m 0 did log)
-  grow_on growth.Latching h (seen.Words c) t did log = absurd t
-  grow_on growth.Latching h (seen.Took n) t did log = absurd t
-  grow_on growth.Latching h (seen.Owner retired started own) t did log = absurd t
-  grow_on growth.Latching h (seen.Blocks it) t did log = absurd t
   grow_on growth.Latching h seen.Missed t did log = subst (λ z. growth_log level z more) (sym t) (raised_on (ap writes_in did) log)
-  grow_on growth.Latching h seen.Refused t did log = absurd t
   grow_on growth.Latched h seen.Done t did log = absurd t
-  grow_on growth.Latched growth.Latching (seen.Words c) t did log = absurd t
-  grow_on growth.Latched growth.Latched (seen.Words c) t did log = absurd t
   grow_on growth.Latched (growth.Taking q) (seen.Words c) t did log = (held_on marks m [] (λ o. (let e = sym did ∙ o in cc)) (subst (λ a. ArePuts (writes_in a) []) (sym did) tt) log, ap (λ z. (roots_of z).levels) (sym t.0) ∙ t.1)
-  grow_on growth.Latched (growth.PuttingTop q) (seen.Words c) t did log = absurd t
-  grow_on growth.Latched (growth.PuttingAnchor q) (seen.Words c) t did log = absurd t
-  grow_on growth.Latched (growth.OpeningTop y) (seen.Words c) t did log = absurd t
   grow_on growth.Latched growth.OpeningGrown (seen.Words c) t did log = raised_on (ap writes_in did) (held_raised log)
-  grow_on growth.Latched growth.OpeningRefused (seen.Words c) t did log = absurd t
-  grow_on growth.Latched h (seen.Took n) t did log = absurd t
-  grow_on growth.Latched h (seen.Owner retired started own) t did log = absurd t
-  grow_on growth.Latched h (seen.Blocks it) t did log = absurd t
-  grow_on growth.Latched h seen.Missed t did log = absurd t
-  grow_on growth.Latched h seen.Refused t did log = absurd t
-  grow_on (growth.Taking rise) h seen.Done t did log = absurd t
-  grow_on (growth.Taking rise) h (seen.Words c) t did log = absurd t
-  grow_on (growth.Taking rise) growth.Latching (seen.Took n) t did log = absurd t
-  grow_on (growth.Taking rise) growth.Latched (seen.Took n) t did log = absurd t
-  grow_on (growth.Taking rise) (growth.Taking q) (seen.Took n) t did log = absurd t
   grow_on (growth.Taking rise) (growth.PuttingTop q) (seen.Took n) t did log = (raised_on (ap writes_in did) (held_raised log.0), top_level _ _ q.top t.1.0 ∙ log.1)
-  grow_on (growth.Taking rise) (growth.PuttingAnchor q) (seen.Took n) t did log = absurd t
-  grow_on (growth.Taking rise) (growth.OpeningTop y) (seen.Took n) t did log = absurd t
-  grow_on (growth.Taking rise) growth.OpeningGrown (seen.Took n) t did log = absurd t
-  grow_on (growth.Taking rise) growth.OpeningRefused (seen.Took n) t did log = absurd t
-  grow_on (growth.Taking rise) h (seen.Owner retired started own) t did log = absurd t
-  grow_on (growth.Taking rise) h (seen.Blocks it) t did log = absurd t
-  grow_on (growth.Taking rise) h seen.Missed t did log = absurd t
   grow_on (growth.Taking rise) h seen.Refused t did log = subst (λ z. growth_log level z more) (sym t) (refused_while marks m did log.0)
   grow_on (growth.PuttingTop r) h seen.Done t did log = subst (λ z. growth_log level z more) (sym t) (wrote_on marks m (λ acts is. (acts, is, ap (λ z. acts ++ writes_in z) did)) log.0, log.1)
-  grow_on (growth.PuttingTop r) h (seen.Words c) t did log = absurd t
-  grow_on (growth.PuttingTop r) h (seen.Took n) t did log = absurd t
-  grow_on (growth.PuttingTop r) h (seen.Owner retired started own) t did log = absurd t
-  grow_on (growth.PuttingTop r) h (seen.Blocks it) t did log = absurd t
-  grow_on (growth.PuttingTop r) h seen.Missed t did log = absurd t
-  grow_on (growth.PuttingTop r) h seen.Refused t did log = absurd t
   grow_on (growth.PuttingAnchor r) h seen.Done t did log = subst (λ z. growth_log level z more) (sym t) (wrote_on marks m (λ acts is. raised_more r.new r.top r.anchor acts is log.1 did) log.0)
-  grow_on (growth.PuttingAnchor r) h (seen.Words c) t did log = absurd t
-  grow_on (growth.PuttingAnchor r) h (seen.Took n) t did log = absurd t
-  grow_on (growth.PuttingAnchor r) h (seen.Owner retired started own) t did log = absurd t
-  grow_on (growth.PuttingAnchor r) h (seen.Blocks it) t did log = absurd t
-  grow_on (growth.PuttingAnchor r) h seen.Missed t did log = absurd t
-  grow_on (growth.PuttingAnchor r) h seen.Refused t did log = absurd t
   grow_on (growth.OpeningTop x) h seen.Done t did log = subst (λ z. growth_log level z more) (sym t) (raised_on (ap writes_in did) log)
-  grow_on (growth.OpeningTop x) h (seen.Words c) t did log = absurd t
-  grow_on (growth.OpeningTop x) h (seen.Took n) t did log = absurd t
-  grow_on (growth.OpeningTop x) h (seen.Owner retired started own) t did log = absurd t
-  grow_on (growth.OpeningTop x) h (seen.Blocks it) t did log = absurd t
-  grow_on (growth.OpeningTop x) h seen.Missed t did log = absurd t
-  grow_on (growth.OpeningTop x) h seen.Refused t did log = absurd t
-  grow_on growth.OpeningGrown h seen.Done t did log = absurd t
-  grow_on growth.OpeningGrown h (seen.Words c) t did log = absurd t
-  grow_on growth.OpeningGrown h (seen.Took n) t did log = absurd t
-  grow_on growth.OpeningGrown h (seen.Owner retired started own) t did log = absurd t
-  grow_on growth.OpeningGrown h (seen.Blocks it) t did log = absurd t
-  grow_on growth.OpeningGrown h seen.Missed t did log = absurd t
-  grow_on growth.OpeningGrown h seen.Refused t did log = absurd t
-  grow_on growth.OpeningRefused h seen.Done t did log = absurd t
-  grow_on growth.OpeningRefused h (seen.Words c) t did log = absurd t
-  grow_on growth.OpeningRefused h (seen.Took n) t did log = absurd t
-  grow_on growth.OpeningRefused h (seen.Owner retired started own) t did log = absurd t
-  grow_on growth.OpeningRefused h (seen.Blocks it) t did log = absurd t
-  grow_on growth.OpeningRefused h seen.Missed t did log = absurd t
-  grow_on growth.OpeningRefused h seen.Refused t did log = absurd t
+  grow_on old h what t did log = absurd t
 
   grow_end : (g : Growth) (what : Seen) → Grows level g what grew.Refused → m.event.act ≡ event_of None (growth_next g) what → growth_log level g marks → reply_log level key reply.NoRoom more
   grow_end growth.Latching seen.Done t did h = absurd t
-  grow_end growth.Latching (seen.Words c) t did h = absurd t
-  grow_end growth.Latching (seen.Took n) t did h = absurd t
-  grow_end growth.Latching (seen.Owner retired started own) t did h = absurd t
-  grow_end growth.Latching (seen.Blocks it) t did h = absurd t
-  grow_end growth.Latching seen.Missed t did h = absurd t
-  grow_end growth.Latching seen.Refused t did h = absurd t
-  grow_end growth.Latched seen.Done t did h = absurd t
-  grow_end growth.Latched (seen.Words c) t did h = absurd t
-  grow_end growth.Latched (seen.Took n) t did h = absurd t
-  grow_end growth.Latched (seen.Owner retired started own) t did h = absurd t
-  grow_end growth.Latched (seen.Blocks it) t did h = absurd t
-  grow_end growth.Latched seen.Missed t did h = absurd t
-  grow_end growth.Latched seen.Refused t did h = absurd t
-  grow_end (growth.Taking rise) seen.Done t did h = absurd t
-  grow_end (growth.Taking rise) (seen.Words c) t did h = absurd t
-  grow_end (growth.Taking rise) (seen.Took n) t did h = absurd t
-  grow_end (growth.Taking rise) (seen.Owner retired started own) t did h = absurd t
-  grow_end (growth.Taking rise) (seen.Blocks it) t did h = absurd t
-  grow_end (growth.Taking rise) seen.Missed t did h = absurd t
-  grow_end (growth.Taking rise) seen.Refused t did h = absurd t
-  grow_end (growth.PuttingTop r) seen.Done t did h = absurd t
-  grow_end (growth.PuttingTop r) (seen.Words c) t did h = absurd t
-  grow_end (growth.PuttingTop r) (seen.Took n) t did h = absurd t
-  grow_end (growth.PuttingTop r) (seen.Owner retired started own) t did h = absurd t
-  grow_end (growth.PuttingTop r) (seen.Blocks it) t did h = absurd t
-  grow_end (growth.PuttingTop r) seen.Missed t did h = absurd t
-  grow_end (growth.PuttingTop r) seen.Refused t did h = absurd t
-  grow_end (growth.PuttingAnchor r) seen.Done t did h = absurd t
-  grow_end (growth.PuttingAnchor r) (seen.Words c) t did h = absurd t
-  grow_end (growth.PuttingAnchor r) (seen.Took n) t did h = absurd t
-  grow_end (growth.PuttingAnchor r) (seen.Owner retired started own) t did h = absurd t
-  grow_end (growth.PuttingAnchor r) (seen.Blocks it) t did h = absurd t
-  grow_end (growth.PuttingAnchor r) seen.Missed t did h = absurd t
-  grow_end (growth.PuttingAnchor r) seen.Refused t did h = absurd t
-  grow_end (growth.OpeningTop x) seen.Done t did h = absurd t
-  grow_end (growth.OpeningTop x) (seen.Words c) t did h = absurd t
-  grow_end (growth.OpeningTop x) (seen.Took n) t did h = absurd t
-  grow_end (growth.OpeningTop x) (seen.Owner retired started own) t did h = absurd t
-  grow_end (growth.OpeningTop x) (seen.Blocks it) t did h = absurd t
-  grow_end (growth.OpeningTop x) seen.Missed t did h = absurd t
-  grow_end (growth.OpeningTop x) seen.Refused t did h = absurd t
-  grow_end growth.OpeningGrown seen.Done t did h = absurd t
-  grow_end growth.OpeningGrown (seen.Words c) t did h = absurd t
-  grow_end growth.OpeningGrown (seen.Took n) t did h = absurd t
-  grow_end growth.OpeningGrown (seen.Owner retired started own) t did h = absurd t
-  grow_end growth.OpeningGrown (seen.Blocks it) t did h = absurd t
-  grow_end growth.OpeningGrown seen.Missed t did h = absurd t
-  grow_end growth.OpeningGrown seen.Refused t did h = absurd t
   grow_end growth.OpeningRefused seen.Done t did h = no_room_on marks m (ap writes_in did) h
-  grow_end growth.OpeningRefused (seen.Words c) t did h = absurd t
-  grow_end growth.OpeningRefused (seen.Took n) t did h = absurd t
-  grow_end growth.OpeningRefused (seen.Owner retired started own) t did h = absurd t
-  grow_end growth.OpeningRefused (seen.Blocks it) t did h = absurd t
-  grow_end growth.OpeningRefused seen.Missed t did h = absurd t
-  grow_end growth.OpeningRefused seen.Refused t did h = absurd t
+  grow_end old what t did h = absurd t
 
   grown_on : (g : Growth) (what : Seen) → Grows level g what grew.Grown → m.event.act ≡ event_of None (growth_next g) what → growth_log level g marks → HasRaised level more
   grown_on growth.Latching seen.Done t did h = absurd t
-  grown_on growth.Latching (seen.Words c) t did h = absurd t
-  grown_on growth.Latching (seen.Took n) t did h = absurd t
-  grown_on growth.Latching (seen.Owner retired started own) t did h = absurd t
-  grown_on growth.Latching (seen.Blocks it) t did h = absurd t
-  grown_on growth.Latching seen.Missed t did h = absurd t
-  grown_on growth.Latching seen.Refused t did h = absurd t
-  grown_on growth.Latched seen.Done t did h = absurd t
-  grown_on growth.Latched (seen.Words c) t did h = absurd t
-  grown_on growth.Latched (seen.Took n) t did h = absurd t
-  grown_on growth.Latched (seen.Owner retired started own) t did h = absurd t
-  grown_on growth.Latched (seen.Blocks it) t did h = absurd t
-  grown_on growth.Latched seen.Missed t did h = absurd t
-  grown_on growth.Latched seen.Refused t did h = absurd t
-  grown_on (growth.Taking rise) seen.Done t did h = absurd t
-  grown_on (growth.Taking rise) (seen.Words c) t did h = absurd t
-  grown_on (growth.Taking rise) (seen.Took n) t did h = absurd t
-  grown_on (growth.Taking rise) (seen.Owner retired started own) t did h = absurd t
-  grown_on (growth.Taking rise) (seen.Blocks it) t did h = absurd t
-  grown_on (growth.Taking rise) seen.Missed t did h = absurd t
-  grown_on (growth.Taking rise) seen.Refused t did h = absurd t
-  grown_on (growth.PuttingTop r) seen.Done t did h = absurd t
-  grown_on (growth.PuttingTop r) (seen.Words c) t did h = absurd t
-  grown_on (growth.PuttingTop r) (seen.Took n) t did h = absurd t
-  grown_on (growth.PuttingTop r) (seen.Owner retired started own) t did h = absurd t
-  grown_on (growth.PuttingTop r) (seen.Blocks it) t did h = absurd t
-  grown_on (growth.PuttingTop r) seen.Missed t did h = absurd t
-  grown_on (growth.PuttingTop r) seen.Refused t did h = absurd t
-  grown_on (growth.PuttingAnchor r) seen.Done t did h = absurd t
-  grown_on (growth.PuttingAnchor r) (seen.Words c) t did h = absurd t
-  grown_on (growth.PuttingAnchor r) (seen.Took n) t did h = absurd t
-  grown_on (growth.PuttingAnchor r) (seen.Owner retired started own) t did h = absurd t
-  grown_on (growth.PuttingAnchor r) (seen.Blocks it) t did h = absurd t
-  grown_on (growth.PuttingAnchor r) seen.Missed t did h = absurd t
-  grown_on (growth.PuttingAnchor r) seen.Refused t did h = absurd t
-  grown_on (growth.OpeningTop x) seen.Done t did h = absurd t
-  grown_on (growth.OpeningTop x) (seen.Words c) t did h = absurd t
-  grown_on (growth.OpeningTop x) (seen.Took n) t did h = absurd t
-  grown_on (growth.OpeningTop x) (seen.Owner retired started own) t did h = absurd t
-  grown_on (growth.OpeningTop x) (seen.Blocks it) t did h = absurd t
-  grown_on (growth.OpeningTop x) seen.Missed t did h = absurd t
-  grown_on (growth.OpeningTop x) seen.Refused t did h = absurd t
   grown_on growth.OpeningGrown seen.Done t did h = raised_on (ap writes_in did) h
-  grown_on growth.OpeningGrown (seen.Words c) t did h = absurd t
-  grown_on growth.OpeningGrown (seen.Took n) t did h = absurd t
-  grown_on growth.OpeningGrown (seen.Owner retired started own) t did h = absurd t
-  grown_on growth.OpeningGrown (seen.Blocks it) t did h = absurd t
-  grown_on growth.OpeningGrown seen.Missed t did h = absurd t
-  grown_on growth.OpeningGrown seen.Refused t did h = absurd t
-  grown_on growth.OpeningRefused seen.Done t did h = absurd t
-  grown_on growth.OpeningRefused (seen.Words c) t did h = absurd t
-  grown_on growth.OpeningRefused (seen.Took n) t did h = absurd t
-  grown_on growth.OpeningRefused (seen.Owner retired started own) t did h = absurd t
-  grown_on growth.OpeningRefused (seen.Blocks it) t did h = absurd t
-  grown_on growth.OpeningRefused seen.Missed t did h = absurd t
-  grown_on growth.OpeningRefused seen.Refused t did h = absurd t
+  grown_on old what t did h = absurd t
 
   -- a pair is to enter the parent
   enter_on : (x : ℕ) (c : Page) (word : ℕ) (d : Change) → EntersPair x c key word d → HoldsBoth level key more x c word [] → change_log level key d more
@@ -497,10 +237,7 @@ module _ (marks : Trail) (m : Mark) (level key : ℕ) (least : 0 < level) where
       subst (λ z. IsToPut level key more z [] (page ∷ [])) (sym t.0) put
   enter_on x c word (change.Taking full) t h =
       (subst (λ z. HoldsBoth level key more full.at z full.word []) (sym t.3) (subst (λ z. HoldsBoth level key more full.at c z []) (sym t.2) (subst (λ z. HoldsBoth level key more z c word []) (sym t.0) h)), t.1)
-  enter_on x c word (change.PuttingNew p) t h = absurd t
-  enter_on x c word (change.PuttingOld p) t h = absurd t
-  enter_on x c word (change.OpeningNew y new s) t h = absurd t
-  enter_on x c word (change.Opening y o) t h = absurd t
+  enter_on x c word old t h = absurd t
 
   -- on the walk to the child
   walk_on : (v : Walk) (c : Page) (new : PostStage) → PostWalks level v c new → m.event.act ≡ Get v.child → m.saw ≡ Some c → HoldsParent level key marks v.at (Inner v.parent) [] → v.key ≡ key → post_log level key new more
@@ -521,14 +258,7 @@ module _ (marks : Trail) (m : Mark) (level key : ℕ) (least : 0 < level) where
         low = subst (λ z. (node_of c).shape.low ≢ z) same t.2;
       })
   walk_on v c (post.Coming a) t did saw h same = subst (λ z. approach_log level z more) (sym t.0) (raised_on (ap writes_in did) (held_raised h.holding))
-  walk_on v c post.New t did saw h same = absurd t
-  walk_on v c (post.Growing g) t did saw h same = absurd t
-  walk_on v c (post.Ending r) t did saw h same = absurd t
-  walk_on v c (post.Over r) t did saw h same = absurd t
-  walk_on v c (post.Staying y (reply.Done s)) t did saw h same = absurd t
-  walk_on v c (post.Staying y reply.Already) t did saw h same = absurd t
-  walk_on v c (post.Staying y reply.NoRoom) t did saw h same = absurd t
-  walk_on v c (post.Staying y reply.TooTall) t did saw h same = absurd t
+  walk_on v c old t did saw h same = absurd t
 
   -- on with the change of the parent
   change_on : (c d : Change) (what : Seen) → Changes c what (changed.On d) → m.event.act ≡ event_of None (change_next c) what → change_log level key c marks → change_log level key d more
@@ -536,193 +266,48 @@ module _ (marks : Trail) (m : Mark) (level key : ℕ) (least : 0 < level) where
       let both : HoldsBoth level key more x h.parent h.child (page ∷ []) = both_held_on marks m (page ∷ []) (λ o. (let e = sym did ∙ o in cc)) (subst (λ a. ArePuts (writes_in a) (page ∷ [])) (sym did) ((_, refl), tt)) h.both in
       let put : IsToPut level key more x (page ∷ []) (page ∷ []) = record { parent = h.parent; child = h.child; both = both; together = h.together } in
       subst (λ z. change_log level key z more) (sym t) (is_parted None (page ∷ []) put (page, refl))
-  change_on (change.Putting x page) d (seen.Words c) t did h = absurd t
-  change_on (change.Putting x page) d (seen.Took n) t did h = absurd t
-  change_on (change.Putting x page) d (seen.Owner retired started own) t did h = absurd t
-  change_on (change.Putting x page) d (seen.Blocks it) t did h = absurd t
-  change_on (change.Putting x page) d seen.Missed t did h = absurd t
   change_on (change.Putting x page) d seen.Refused t did h =
       subst (λ z. change_log level key z more) (sym t) (refused_while marks m did h.both.above.holding)
-  change_on (change.Taking full) d seen.Done t did h = absurd t
-  change_on (change.Taking full) d (seen.Words c) t did h = absurd t
   change_on (change.Taking full) (change.PuttingNew q) (seen.Took n) t did h =
       let both : HoldsBoth level key more full.at full.page full.word [] = both_held_on marks m [] (λ o. (let e = sym did ∙ o in cc)) (subst (λ a. ArePuts (writes_in a) []) (sym did) tt) h.0 in
       let cut = split_cut full.page q.left q.right key full.word n q.separator (subst (λ z. IsFitted full.page z full.word n (Split q.left q.right q.separator)) h.1 t.2) both.above.covers in
       let put = subst (λ z. IsToPut level key more z [] (q.right ∷ q.left ∷ [])) (sym t.0) (record { parent = full.page; child = full.word; both = both; together = cut_together full.page q.left q.right n key full.word cut both.above.unlisted }) in
       (put, cut_low full.page q.left q.right full.key full.word n q.separator t.2)
-  change_on (change.Taking full) (change.Putting y page) (seen.Took n) t did h = absurd t
-  change_on (change.Taking full) (change.Taking q) (seen.Took n) t did h = absurd t
-  change_on (change.Taking full) (change.PuttingOld q) (seen.Took n) t did h = absurd t
-  change_on (change.Taking full) (change.OpeningNew y z s) (seen.Took n) t did h = absurd t
-  change_on (change.Taking full) (change.Opening y o) (seen.Took n) t did h = absurd t
-  change_on (change.Taking full) d (seen.Owner retired started own) t did h = absurd t
-  change_on (change.Taking full) d (seen.Blocks it) t did h = absurd t
-  change_on (change.Taking full) d seen.Missed t did h = absurd t
   change_on (change.Taking full) d seen.Refused t did h =
       subst (λ z. change_log level key z more) (sym t) (refused_while marks m did h.0.above.holding)
   change_on (change.PuttingNew p) d seen.Done t did h =
       let put = h.0 in
       let both : HoldsBoth level key more p.at put.parent put.child (p.right ∷ []) = both_held_on marks m (p.right ∷ []) (λ o. (let e = sym did ∙ o in cc)) (subst (λ a. ArePuts (writes_in a) (p.right ∷ [])) (sym did) ((_, refl), tt)) put.both in
       subst (λ z. change_log level key z more) (sym t) (record { parent = put.parent; child = put.child; both = both; together = put.together }, h.1)
-  change_on (change.PuttingNew p) d (seen.Words c) t did h = absurd t
-  change_on (change.PuttingNew p) d (seen.Took n) t did h = absurd t
-  change_on (change.PuttingNew p) d (seen.Owner retired started own) t did h = absurd t
-  change_on (change.PuttingNew p) d (seen.Blocks it) t did h = absurd t
-  change_on (change.PuttingNew p) d seen.Missed t did h = absurd t
-  change_on (change.PuttingNew p) d seen.Refused t did h = absurd t
   change_on (change.PuttingOld p) d seen.Done t did h =
       let was = h.0 in
       let both : HoldsBoth level key more p.at was.parent was.child (p.right ∷ p.left ∷ []) = both_held_on marks m (p.left ∷ []) (λ o. (let e = sym did ∙ o in cc)) (subst (λ a. ArePuts (writes_in a) (p.left ∷ [])) (sym did) ((_, refl), tt)) was.both in
       let put : IsToPut level key more p.at (p.right ∷ p.left ∷ []) (p.right ∷ p.left ∷ []) = record { parent = was.parent; child = was.child; both = both; together = was.together } in
       subst (λ z. change_log level key z more) (sym t) (is_parted (Some p.separator) (p.right ∷ p.left ∷ []) put (p.right, p.left, refl, h.1))
-  change_on (change.PuttingOld p) d (seen.Words c) t did h = absurd t
-  change_on (change.PuttingOld p) d (seen.Took n) t did h = absurd t
-  change_on (change.PuttingOld p) d (seen.Owner retired started own) t did h = absurd t
-  change_on (change.PuttingOld p) d (seen.Blocks it) t did h = absurd t
-  change_on (change.PuttingOld p) d seen.Missed t did h = absurd t
-  change_on (change.PuttingOld p) d seen.Refused t did h = absurd t
   change_on (change.OpeningNew x new separator) d seen.Done t did h =
       subst (λ z. change_log level key z more) (sym t) (parted_on marks m (ap writes_in did) h)
-  change_on (change.OpeningNew x new separator) d (seen.Words c) t did h = absurd t
-  change_on (change.OpeningNew x new separator) d (seen.Took n) t did h = absurd t
-  change_on (change.OpeningNew x new separator) d (seen.Owner retired started own) t did h = absurd t
-  change_on (change.OpeningNew x new separator) d (seen.Blocks it) t did h = absurd t
-  change_on (change.OpeningNew x new separator) d seen.Missed t did h = absurd t
-  change_on (change.OpeningNew x new separator) d seen.Refused t did h = absurd t
   change_on (change.Opening x o) d seen.Done t did h = absurd t
-  change_on (change.Opening x o) d (seen.Words c) t did h = absurd t
-  change_on (change.Opening x o) d (seen.Took n) t did h = absurd t
-  change_on (change.Opening x o) d (seen.Owner retired started own) t did h = absurd t
-  change_on (change.Opening x o) d (seen.Blocks it) t did h = absurd t
-  change_on (change.Opening x o) d seen.Missed t did h = absurd t
-  change_on (change.Opening x o) d seen.Refused t did h = absurd t
+  change_on old d what t did h = absurd t
 
   change_end : (c : Change) (what : Seen) (o : Outcome) → Changes c what (changed.Over o) → m.event.act ≡ event_of None (change_next c) what → change_log level key c marks → reply_log level key (post_reply o) more
   change_end (change.Putting x page) seen.Done last t did h = absurd t
-  change_end (change.Putting x page) (seen.Words c) last t did h = absurd t
-  change_end (change.Putting x page) (seen.Took n) last t did h = absurd t
-  change_end (change.Putting x page) (seen.Owner retired started own) last t did h = absurd t
-  change_end (change.Putting x page) (seen.Blocks it) last t did h = absurd t
-  change_end (change.Putting x page) seen.Missed last t did h = absurd t
-  change_end (change.Putting x page) seen.Refused last t did h = absurd t
-  change_end (change.Taking full) seen.Done last t did h = absurd t
-  change_end (change.Taking full) (seen.Words c) last t did h = absurd t
-  change_end (change.Taking full) (seen.Took n) last t did h = absurd t
-  change_end (change.Taking full) (seen.Owner retired started own) last t did h = absurd t
-  change_end (change.Taking full) (seen.Blocks it) last t did h = absurd t
-  change_end (change.Taking full) seen.Missed last t did h = absurd t
-  change_end (change.Taking full) seen.Refused last t did h = absurd t
-  change_end (change.PuttingNew p) seen.Done last t did h = absurd t
-  change_end (change.PuttingNew p) (seen.Words c) last t did h = absurd t
-  change_end (change.PuttingNew p) (seen.Took n) last t did h = absurd t
-  change_end (change.PuttingNew p) (seen.Owner retired started own) last t did h = absurd t
-  change_end (change.PuttingNew p) (seen.Blocks it) last t did h = absurd t
-  change_end (change.PuttingNew p) seen.Missed last t did h = absurd t
-  change_end (change.PuttingNew p) seen.Refused last t did h = absurd t
-  change_end (change.PuttingOld p) seen.Done last t did h = absurd t
-  change_end (change.PuttingOld p) (seen.Words c) last t did h = absurd t
-  change_end (change.PuttingOld p) (seen.Took n) last t did h = absurd t
-  change_end (change.PuttingOld p) (seen.Owner retired started own) last t did h = absurd t
-  change_end (change.PuttingOld p) (seen.Blocks it) last t did h = absurd t
-  change_end (change.PuttingOld p) seen.Missed last t did h = absurd t
-  change_end (change.PuttingOld p) seen.Refused last t did h = absurd t
-  change_end (change.OpeningNew x new separator) seen.Done last t did h = absurd t
-  change_end (change.OpeningNew x new separator) (seen.Words c) last t did h = absurd t
-  change_end (change.OpeningNew x new separator) (seen.Took n) last t did h = absurd t
-  change_end (change.OpeningNew x new separator) (seen.Owner retired started own) last t did h = absurd t
-  change_end (change.OpeningNew x new separator) (seen.Blocks it) last t did h = absurd t
-  change_end (change.OpeningNew x new separator) seen.Missed last t did h = absurd t
-  change_end (change.OpeningNew x new separator) seen.Refused last t did h = absurd t
   change_end (change.Opening x o) seen.Done last t did h = outcome_reply last (outcome_on last (ap writes_in did) (subst (λ z. outcome_log level key z marks) (sym t) h))
-  change_end (change.Opening x o) (seen.Words c) last t did h = absurd t
-  change_end (change.Opening x o) (seen.Took n) last t did h = absurd t
-  change_end (change.Opening x o) (seen.Owner retired started own) last t did h = absurd t
-  change_end (change.Opening x o) (seen.Blocks it) last t did h = absurd t
-  change_end (change.Opening x o) seen.Missed last t did h = absurd t
-  change_end (change.Opening x o) seen.Refused last t did h = absurd t
+  change_end old what last t did h = absurd t
 
   -- any step of a post
   pub post_on : (old new : PostStage) (what : Seen) → PostGoes level key old what new → m.event.act ≡ event_of None (post_next_in old) what → ((x : ℕ) (c : Page) → m.event.act ≡ Get x → what ≡ seen.Words c → m.saw ≡ Some c) → post_log level key old marks → post_log level key new more
   post_on (post.Coming a) new what t did saw h = come_on a new what t did saw h
   post_on post.New post.New seen.Done t did saw h = absurd t
   post_on post.New (post.Coming b) seen.Done t did saw h = subst (λ z. approach_log level z more) (sym t) (begun_now marks m (RaisesOnly level) did RaisesOnly.Never)
-  post_on post.New (post.Growing k) seen.Done t did saw h = absurd t
-  post_on post.New (post.Walking u) seen.Done t did saw h = absurd t
-  post_on post.New (post.Changing d) seen.Done t did saw h = absurd t
-  post_on post.New (post.Staying y last) seen.Done t did saw h = absurd t
-  post_on post.New (post.Ending last) seen.Done t did saw h = absurd t
-  post_on post.New (post.Over last) seen.Done t did saw h = absurd t
-  post_on post.New new (seen.Words page) t did saw h = absurd t
-  post_on post.New new (seen.Took n) t did saw h = absurd t
-  post_on post.New new (seen.Owner retired started own) t did saw h = absurd t
-  post_on post.New new (seen.Blocks it) t did saw h = absurd t
-  post_on post.New new seen.Missed t did saw h = absurd t
-  post_on post.New new seen.Refused t did saw h = absurd t
   post_on (post.Growing g) (post.Growing k) what t did saw h = grow_on g k what t did h
   post_on (post.Growing g) (post.Coming b) what t did saw h = subst (λ z. approach_log level z more) (sym t.1) (grown_on g what t.0 did h)
   post_on (post.Growing g) (post.Ending last) what t did saw h = subst (λ z. reply_log level key z more) (sym t.1) (grow_end g what t.0 did h)
-  post_on (post.Growing g) post.New what t did saw h = absurd t
-  post_on (post.Growing g) (post.Walking u) what t did saw h = absurd t
-  post_on (post.Growing g) (post.Changing d) what t did saw h = absurd t
-  post_on (post.Growing g) (post.Staying y last) what t did saw h = absurd t
-  post_on (post.Growing g) (post.Over last) what t did saw h = absurd t
-  post_on (post.Walking v) new seen.Done t did saw h = absurd t
   post_on (post.Walking v) new (seen.Words page) t did saw h = walk_on v page new t did (saw v.child page did refl) h.0 h.1
-  post_on (post.Walking v) new (seen.Took n) t did saw h = absurd t
-  post_on (post.Walking v) new (seen.Owner retired started own) t did saw h = absurd t
-  post_on (post.Walking v) new (seen.Blocks it) t did saw h = absurd t
-  post_on (post.Walking v) new seen.Missed t did saw h = absurd t
-  post_on (post.Walking v) new seen.Refused t did saw h = absurd t
   post_on (post.Changing c) (post.Changing d) what t did saw h = change_on c d what t did h
   post_on (post.Changing c) (post.Ending last) what t did saw h = subst (λ z. reply_log level key z more) (sym t.2) (change_end c what t.0 t.1 did h)
-  post_on (post.Changing c) post.New what t did saw h = absurd t
-  post_on (post.Changing c) (post.Coming b) what t did saw h = absurd t
-  post_on (post.Changing c) (post.Growing k) what t did saw h = absurd t
-  post_on (post.Changing c) (post.Walking u) what t did saw h = absurd t
-  post_on (post.Changing c) (post.Staying y last) what t did saw h = absurd t
-  post_on (post.Changing c) (post.Over last) what t did saw h = absurd t
-  post_on (post.Staying x r) post.New seen.Done t did saw h = absurd t
-  post_on (post.Staying x r) (post.Coming b) seen.Done t did saw h = absurd t
-  post_on (post.Staying x r) (post.Growing k) seen.Done t did saw h = absurd t
-  post_on (post.Staying x r) (post.Walking u) seen.Done t did saw h = absurd t
-  post_on (post.Staying x r) (post.Changing d) seen.Done t did saw h = absurd t
-  post_on (post.Staying x r) (post.Staying y last) seen.Done t did saw h = absurd t
   post_on (post.Staying x r) (post.Ending last) seen.Done t did saw h = subst (λ z. reply_log level key z more) (sym t) (reply_on r (ap writes_in did) h)
-  post_on (post.Staying x r) (post.Over last) seen.Done t did saw h = absurd t
-  post_on (post.Staying x r) new (seen.Words page) t did saw h = absurd t
-  post_on (post.Staying x r) new (seen.Took n) t did saw h = absurd t
-  post_on (post.Staying x r) new (seen.Owner retired started own) t did saw h = absurd t
-  post_on (post.Staying x r) new (seen.Blocks it) t did saw h = absurd t
-  post_on (post.Staying x r) new seen.Missed t did saw h = absurd t
-  post_on (post.Staying x r) new seen.Refused t did saw h = absurd t
-  post_on (post.Ending r) post.New seen.Done t did saw h = absurd t
-  post_on (post.Ending r) (post.Coming b) seen.Done t did saw h = absurd t
-  post_on (post.Ending r) (post.Growing k) seen.Done t did saw h = absurd t
-  post_on (post.Ending r) (post.Walking u) seen.Done t did saw h = absurd t
-  post_on (post.Ending r) (post.Changing d) seen.Done t did saw h = absurd t
-  post_on (post.Ending r) (post.Staying y last) seen.Done t did saw h = absurd t
-  post_on (post.Ending r) (post.Ending last) seen.Done t did saw h = absurd t
   post_on (post.Ending r) (post.Over last) seen.Done t did saw h = subst (λ z. reply_log level key z more) (sym t) (reply_on r (ap writes_in did) h)
-  post_on (post.Ending r) new (seen.Words page) t did saw h = absurd t
-  post_on (post.Ending r) new (seen.Took n) t did saw h = absurd t
-  post_on (post.Ending r) new (seen.Owner retired started own) t did saw h = absurd t
-  post_on (post.Ending r) new (seen.Blocks it) t did saw h = absurd t
-  post_on (post.Ending r) new seen.Missed t did saw h = absurd t
-  post_on (post.Ending r) new seen.Refused t did saw h = absurd t
-  post_on (post.Over r) post.New seen.Done t did saw h = absurd t
-  post_on (post.Over r) (post.Coming b) seen.Done t did saw h = absurd t
-  post_on (post.Over r) (post.Growing k) seen.Done t did saw h = absurd t
-  post_on (post.Over r) (post.Walking u) seen.Done t did saw h = absurd t
-  post_on (post.Over r) (post.Changing d) seen.Done t did saw h = absurd t
-  post_on (post.Over r) (post.Staying y last) seen.Done t did saw h = absurd t
-  post_on (post.Over r) (post.Ending last) seen.Done t did saw h = absurd t
-  post_on (post.Over r) (post.Over last) seen.Done t did saw h = absurd t
-  post_on (post.Over r) new (seen.Words page) t did saw h = absurd t
-  post_on (post.Over r) new (seen.Took n) t did saw h = absurd t
-  post_on (post.Over r) new (seen.Owner retired started own) t did saw h = absurd t
-  post_on (post.Over r) new (seen.Blocks it) t did saw h = absurd t
-  post_on (post.Over r) new seen.Missed t did saw h = absurd t
-  post_on (post.Over r) new seen.Refused t did saw h = absurd t
+  post_on old new what t did saw h = absurd t
 
   -- a mark that neither writes nor opens a page
   module _ (quiet : writes_in m.event.act ≡ []) (shut : (x : ℕ) → m.event.act ≢ Act.Open x) where

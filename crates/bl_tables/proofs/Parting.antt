@@ -31,10 +31,8 @@ pub record BuriedSays (x : ℕ) (old new : Page) : Type 0 where
   pub leads : (node_of new).shape.right ≡ x
 
 pub buried_says : (x : ℕ) (old new : Page) → IsBuried x old new → BuriedSays x old new
-buried_says x old (Anchor a) h = absurd h
-buried_says x old (Leaf l) h = absurd h
-buried_says x old (Inner i) h = absurd h
 buried_says x old (Dead d) h = record { level = h.0; end = refl; leads = h.2 }
+buried_says x old what h = absurd h
 
 module _ {P : Type 0} (know : P → Know) (w : World P) (g : IsGood know w) (p : Name) (b : P) (level key : ℕ) (got : ℕ → Page) (at new : ℕ) (u : Puts) (before : know (w.proc p) ≡ know_compression level key got at new (PuttingLast u)) (s : State Page) where
   sure : IsSure w p (know_compression level key got at new (PuttingLast u))

@@ -69,21 +69,7 @@ module _ {P : Type 0} (know : P → Know) (w : World P) (g : IsGood know w) (p :
       let is : IsSure w p (know_approach level key way.Start) = rw before at (g.sure p) in
       got_goes know w g p b level key _ 0 s [] before refl refl then is.stage is.said (anchor_not_released know w g) does is.sound tt
   anchor_turn c (post.Coming a) got child s before then t told does = start_turn know w g p b level key a c s before then told t.1 does
-  anchor_turn c post.New got child s before then t told does = absurd t
-  anchor_turn c (post.Walking x) got child s before then t told does = absurd t
-  anchor_turn c (post.Changing d) got child s before then t told does = absurd t
-  anchor_turn c (post.Staying x r) got child s before then t told does = absurd t
-  anchor_turn c (post.Over r) got child s before then t told does = absurd t
-  anchor_turn c (post.Ending (reply.Done r)) got child s before then t told does = absurd t
-  anchor_turn c (post.Ending reply.Already) got child s before then t told does = absurd t
-  anchor_turn c (post.Ending reply.NoRoom) got child s before then t told does = absurd t
-  anchor_turn c (post.Growing growth.Latched) got child s before then t told does = absurd t
-  anchor_turn c (post.Growing (growth.Taking o)) got child s before then t told does = absurd t
-  anchor_turn c (post.Growing (growth.PuttingTop o)) got child s before then t told does = absurd t
-  anchor_turn c (post.Growing (growth.PuttingAnchor o)) got child s before then t told does = absurd t
-  anchor_turn c (post.Growing (growth.OpeningTop o)) got child s before then t told does = absurd t
-  anchor_turn c (post.Growing growth.OpeningGrown) got child s before then t told does = absurd t
-  anchor_turn c (post.Growing growth.OpeningRefused) got child s before then t told does = absurd t
+  anchor_turn c old got child s before then t told does = absurd t
 
   -- at the parent
   listed_turn : (x : ℕ) (s : State Page) → know (w.proc p) ≡ know_approach level key (way.Latched x) → know b ≡ record (idle Stage.Busy) { holds = holds_live x ∷ [] } → Does w.now p (Get x) s → Turned know w p (Get x) s b
@@ -117,16 +103,7 @@ module _ {P : Type 0} (know : P → Know) (w : World P) (g : IsGood know w) (p :
   arrive_turn : (x : ℕ) (new : PostStage) (got : ℕ → Page) (child : ℕ) (s : State Page) → know (w.proc p) ≡ know_approach level key (way.Latched x) → know b ≡ know_post level key got child new → Leads (w.now.contents x) key level Here → PostArrives key x (w.now.contents x) new → Does w.now p (Get x) s → Turned know w p (Get x) s b
   arrive_turn x (post.Walking v) got child s before then l t does = walk_turn x v got child s before then l t does
   arrive_turn x (post.Staying y reply.Already) got child s before then l t does = listed_turn x s before (rw t.0 at then) does
-  arrive_turn x post.New got child s before then l t does = absurd t
-  arrive_turn x (post.Coming a) got child s before then l t does = absurd t
-  arrive_turn x (post.Growing d) got child s before then l t does = absurd t
-  arrive_turn x (post.Changing d) got child s before then l t does = absurd t
-  arrive_turn x (post.Ending u) got child s before then l t does = absurd t
-  arrive_turn x (post.Over u) got child s before then l t does = absurd t
-  arrive_turn x (post.Staying y (reply.Done u)) got child s before then l t does = absurd t
-  arrive_turn x (post.Staying y reply.Stale) got child s before then l t does = absurd t
-  arrive_turn x (post.Staying y reply.NoRoom) got child s before then l t does = absurd t
-  arrive_turn x (post.Staying y reply.TooTall) got child s before then l t does = absurd t
+  arrive_turn x old got child s before then l t does = absurd t
 
   -- on the way, past the anchor
   near_turn : (a : Approach) (new : PostStage) (got : ℕ → Page) (child : ℕ) (what : Seen) (s : State Page) → know (w.proc p) ≡ know_approach level key a → know b ≡ know_post level key got child new → ((x : ℕ) × (c : Page) × Approaches level key a what (came.Here x c) × PostArrives key x c new) → IsTold w.now w.size (approach_next a) what → Does w.now p (event_of None (approach_next a) what) s → Turned know w p (event_of None (approach_next a) what) s b
@@ -158,16 +135,11 @@ module _ {P : Type 0} (know : P → Know) (w : World P) (g : IsGood know w) (p :
 
   comes_turn : (a : Approach) (new : PostStage) (got : ℕ → Page) (child : ℕ) (what : Seen) (s : State Page) → know (w.proc p) ≡ know_approach level key a → know b ≡ know_post level key got child new → PostComes level key a what new → IsTold w.now w.size (approach_next a) what → Does w.now p (event_of None (approach_next a) what) s → Turned know w p (event_of None (approach_next a) what) s b
   comes_turn way.Start new got child (seen.Words c) s before then t told does = anchor_turn c new got child s before then t told does
-  comes_turn way.Start new got child seen.Done s before then t told does = absurd t
-  comes_turn way.Start new got child (seen.Took n) s before then t told does = absurd t
-  comes_turn way.Start new got child (seen.Owner retired started own) s before then t told does = absurd t
-  comes_turn way.Start new got child (seen.Blocks it) s before then t told does = absurd t
-  comes_turn way.Start new got child seen.Missed s before then t told does = absurd t
-  comes_turn way.Start new got child seen.Refused s before then t told does = absurd t
   comes_turn (way.At x) new got child what s before then t told does = nears_turn (way.At x) new got child what s before then t told does
   comes_turn (way.Latching x) new got child what s before then t told does = nears_turn (way.Latching x) new got child what s before then t told does
   comes_turn (way.Latched x) new got child what s before then t told does = nears_turn (way.Latched x) new got child what s before then t told does
   comes_turn (way.Leaving x to) new got child what s before then t told does = nears_turn (way.Leaving x to) new got child what s before then t told does
+  comes_turn old new got child what s before then t told does = absurd t
 
   -- on the walk to the child
   module _ (v : Walk) (got : ℕ → Page) (child : ℕ) (s : State Page) (before : know (w.proc p) ≡ know_post level key got child (post.Walking v)) (does : Does w.now p (Get v.child) s) where
@@ -240,14 +212,7 @@ module _ {P : Type 0} (know : P → Know) (w : World P) (g : IsGood know w) (p :
     walks_turn (post.Changing c) got' child' same own then t = list_turn c (subst (λ f. know b ≡ know_change (post_aim level key v.child) f c) same (subst (λ n. know b ≡ know_change (post_aim level key n) got' c) own then)) t
     walks_turn (post.Staying x reply.Stale) got' child' same own then t = lost_turn (rw t.0 at then)
     walks_turn (post.Coming a) got' child' same own then t = again_turn (rw t.0 at then)
-    walks_turn post.New got' child' same own then t = absurd t
-    walks_turn (post.Growing d) got' child' same own then t = absurd t
-    walks_turn (post.Ending u) got' child' same own then t = absurd t
-    walks_turn (post.Over u) got' child' same own then t = absurd t
-    walks_turn (post.Staying y (reply.Done u)) got' child' same own then t = absurd t
-    walks_turn (post.Staying y reply.Already) got' child' same own then t = absurd t
-    walks_turn (post.Staying y reply.NoRoom) got' child' same own then t = absurd t
-    walks_turn (post.Staying y reply.TooTall) got' child' same own then t = absurd t
+    walks_turn old got' child' same own then t = absurd t
 
   -- the parent stays as it is, and is opened
   stay_turn : (x : ℕ) (s : State Page) → know (w.proc p) ≡ record (idle Stage.Busy) { holds = holds_live x ∷ [] } → know b ≡ ending None → Does w.now p (Act.Open x) s → Turned know w p (Act.Open x) s b
@@ -261,21 +226,12 @@ module _ {P : Type 0} (know : P → Know) (w : World P) (g : IsGood know w) (p :
   grow_turn h (post.Growing d) got child what s before then t told does = growing.growth_turn know w g p b level key h d got what s before then t told does
   grow_turn h (post.Coming a) got child what s before then t told does = growing.over_turn know w g p b level key h got what s before (rw t.1 at then) t.0 does
   grow_turn h (post.Ending r) got child what s before then t told does = growing.no_room_turn know w g p b level key h got what s before then t.0 does
-  grow_turn h post.New got child what s before then t told does = absurd t
-  grow_turn h (post.Walking u) got child what s before then t told does = absurd t
-  grow_turn h (post.Changing d) got child what s before then t told does = absurd t
-  grow_turn h (post.Staying y last) got child what s before then t told does = absurd t
-  grow_turn h (post.Over last) got child what s before then t told does = absurd t
+  grow_turn h old got child what s before then t told does = absurd t
 
   change_ends : (c : Change) (a' : PostStage) (got : ℕ → Page) (child : ℕ) (what : Seen) (s : State Page) → know (w.proc p) ≡ know_change (post_aim level key child) got c → know b ≡ know_post level key got child a' → PostGoes level key (post.Changing c) what a' → IsTold w.now w.size (change_next c) what → Does w.now p (event_of None (change_next c) what) s → Turned know w p (event_of None (change_next c) what) s b
   change_ends c (post.Changing d) got child what s before then t told does = change_turn know w g p b (post_aim level key child) (post_fine level key child least) got c d what s before then t told does
   change_ends c (post.Ending r) got child what s before then (o, t, same) told does = finish_turn know w g p b (post_aim level key child) (post_fine level key child least) got c o what _ s before then tt t does
-  change_ends c post.New got child what s before then t told does = absurd t
-  change_ends c (post.Coming a) got child what s before then t told does = absurd t
-  change_ends c (post.Growing d) got child what s before then t told does = absurd t
-  change_ends c (post.Walking u) got child what s before then t told does = absurd t
-  change_ends c (post.Staying y last) got child what s before then t told does = absurd t
-  change_ends c (post.Over last) got child what s before then t told does = absurd t
+  change_ends c old got child what s before then t told does = absurd t
 
   -- every turn of a post
   pub post_turn : (a a' : PostStage) (got : ℕ → Page) (child : ℕ) (what : Seen) (s : State Page) → know (w.proc p) ≡ know_post level key got child a → know b ≡ know_post level key (post_got got a what) (post_child child a) a' → PostGoes level key a what a' → IsTold w.now w.size (post_next_in a) what → Does w.now p (event_of None (post_next_in a) what) s → Turned know w p (event_of None (post_next_in a) what) s b
@@ -284,65 +240,8 @@ module _ {P : Type 0} (know : P → Know) (w : World P) (g : IsGood know w) (p :
   post_turn (post.Walking v) a' got child (seen.Words c) s before then t told does =
       walks_turn v got child s before does a' (λ z. Inner v.parent) v.child refl refl then (subst (λ z. PostWalks level v z a') told t)
   post_turn (post.Changing c) a' got child what s before then t told does = change_ends c a' got child what s before then t told does
-  post_turn (post.Walking v) a' got child seen.Done s before then t told does = absurd t
-  post_turn (post.Walking v) a' got child (seen.Took n) s before then t told does = absurd t
-  post_turn (post.Walking v) a' got child (seen.Owner retired started own) s before then t told does = absurd t
-  post_turn (post.Walking v) a' got child (seen.Blocks it) s before then t told does = absurd t
-  post_turn (post.Walking v) a' got child seen.Missed s before then t told does = absurd t
-  post_turn (post.Walking v) a' got child seen.Refused s before then t told does = absurd t
   post_turn post.New post.New got child seen.Done s before then t told does = absurd t
   post_turn post.New (post.Coming a') got child seen.Done s before then t told does = begin_turn know w g p b key s before (rw t at then) does
-  post_turn post.New (post.Growing d) got child seen.Done s before then t told does = absurd t
-  post_turn post.New (post.Walking u) got child seen.Done s before then t told does = absurd t
-  post_turn post.New (post.Changing d) got child seen.Done s before then t told does = absurd t
-  post_turn post.New (post.Staying y last) got child seen.Done s before then t told does = absurd t
-  post_turn post.New (post.Ending last) got child seen.Done s before then t told does = absurd t
-  post_turn post.New (post.Over last) got child seen.Done s before then t told does = absurd t
-  post_turn post.New a' got child (seen.Words page) s before then t told does = absurd t
-  post_turn post.New a' got child (seen.Took n) s before then t told does = absurd t
-  post_turn post.New a' got child (seen.Owner retired started own) s before then t told does = absurd t
-  post_turn post.New a' got child (seen.Blocks it) s before then t told does = absurd t
-  post_turn post.New a' got child seen.Missed s before then t told does = absurd t
-  post_turn post.New a' got child seen.Refused s before then t told does = absurd t
-  post_turn (post.Staying x r) post.New got child seen.Done s before then t told does = absurd t
-  post_turn (post.Staying x r) (post.Coming a') got child seen.Done s before then t told does = absurd t
-  post_turn (post.Staying x r) (post.Growing d) got child seen.Done s before then t told does = absurd t
-  post_turn (post.Staying x r) (post.Walking u) got child seen.Done s before then t told does = absurd t
-  post_turn (post.Staying x r) (post.Changing d) got child seen.Done s before then t told does = absurd t
-  post_turn (post.Staying x r) (post.Staying y last) got child seen.Done s before then t told does = absurd t
   post_turn (post.Staying x r) (post.Ending last) got child seen.Done s before then t told does = stay_turn x s before then does
-  post_turn (post.Staying x r) (post.Over last) got child seen.Done s before then t told does = absurd t
-  post_turn (post.Staying x r) a' got child (seen.Words page) s before then t told does = absurd t
-  post_turn (post.Staying x r) a' got child (seen.Took n) s before then t told does = absurd t
-  post_turn (post.Staying x r) a' got child (seen.Owner retired started own) s before then t told does = absurd t
-  post_turn (post.Staying x r) a' got child (seen.Blocks it) s before then t told does = absurd t
-  post_turn (post.Staying x r) a' got child seen.Missed s before then t told does = absurd t
-  post_turn (post.Staying x r) a' got child seen.Refused s before then t told does = absurd t
-  post_turn (post.Ending r) post.New got child seen.Done s before then t told does = absurd t
-  post_turn (post.Ending r) (post.Coming a') got child seen.Done s before then t told does = absurd t
-  post_turn (post.Ending r) (post.Growing d) got child seen.Done s before then t told does = absurd t
-  post_turn (post.Ending r) (post.Walking u) got child seen.Done s before then t told does = absurd t
-  post_turn (post.Ending r) (post.Changing d) got child seen.Done s before then t told does = absurd t
-  post_turn (post.Ending r) (post.Staying y last) got child seen.Done s before then t told does = absurd t
-  post_turn (post.Ending r) (post.Ending last) got child seen.Done s before then t told does = absurd t
   post_turn (post.Ending r) (post.Over last) got child seen.Done s before then t told does = end_turn know w g p b None s before then does
-  post_turn (post.Ending r) a' got child (seen.Words page) s before then t told does = absurd t
-  post_turn (post.Ending r) a' got child (seen.Took n) s before then t told does = absurd t
-  post_turn (post.Ending r) a' got child (seen.Owner retired started own) s before then t told does = absurd t
-  post_turn (post.Ending r) a' got child (seen.Blocks it) s before then t told does = absurd t
-  post_turn (post.Ending r) a' got child seen.Missed s before then t told does = absurd t
-  post_turn (post.Ending r) a' got child seen.Refused s before then t told does = absurd t
-  post_turn (post.Over r) post.New got child seen.Done s before then t told does = absurd t
-  post_turn (post.Over r) (post.Coming a') got child seen.Done s before then t told does = absurd t
-  post_turn (post.Over r) (post.Growing d) got child seen.Done s before then t told does = absurd t
-  post_turn (post.Over r) (post.Walking u) got child seen.Done s before then t told does = absurd t
-  post_turn (post.Over r) (post.Changing d) got child seen.Done s before then t told does = absurd t
-  post_turn (post.Over r) (post.Staying y last) got child seen.Done s before then t told does = absurd t
-  post_turn (post.Over r) (post.Ending last) got child seen.Done s before then t told does = absurd t
-  post_turn (post.Over r) (post.Over last) got child seen.Done s before then t told does = absurd t
-  post_turn (post.Over r) a' got child (seen.Words page) s before then t told does = absurd t
-  post_turn (post.Over r) a' got child (seen.Took n) s before then t told does = absurd t
-  post_turn (post.Over r) a' got child (seen.Owner retired started own) s before then t told does = absurd t
-  post_turn (post.Over r) a' got child (seen.Blocks it) s before then t told does = absurd t
-  post_turn (post.Over r) a' got child seen.Missed s before then t told does = absurd t
-  post_turn (post.Over r) a' got child seen.Refused s before then t told does = absurd t
+  post_turn old a' got child what s before then t told does = absurd t

@@ -35,52 +35,11 @@ state_turn w p got child time (Post a) (Post c) b what s g before then t told sh
     post_turn bare w g p b a.level a.key a.least a.most a.stage c.stage got child what s before (subst (λ l. bare b ≡ know_post l a.key (post_got got a.stage what) (post_child child a.stage) c.stage) t.0 (subst (λ k. bare b ≡ know_post c.level k (post_got got a.stage what) (post_child child a.stage) c.stage) t.1 then)) t.2 told does
 state_turn w p got child time (Part a) (Part c) b what s g before then t told shown does =
     part_turn bare w g p b a.from a.stage c.stage what s before (subst (λ k. bare b ≡ know_part k c.stage) t.0 then) t.1 told does
-state_turn w p got child time (Find a) (Insert c) b what s g before then t told shown does = absurd t
-state_turn w p got child time (Find a) (Delete c) b what s g before then t told shown does = absurd t
-state_turn w p got child time (Find a) (Post c) b what s g before then t told shown does = absurd t
-state_turn w p got child time (Insert a) (Find c) b what s g before then t told shown does = absurd t
-state_turn w p got child time (Insert a) (Delete c) b what s g before then t told shown does = absurd t
-state_turn w p got child time (Insert a) (Post c) b what s g before then t told shown does = absurd t
-state_turn w p got child time (Delete a) (Find c) b what s g before then t told shown does = absurd t
-state_turn w p got child time (Delete a) (Insert c) b what s g before then t told shown does = absurd t
-state_turn w p got child time (Delete a) (Post c) b what s g before then t told shown does = absurd t
-state_turn w p got child time (Post a) (Find c) b what s g before then t told shown does = absurd t
-state_turn w p got child time (Post a) (Insert c) b what s g before then t told shown does = absurd t
-state_turn w p got child time (Post a) (Delete c) b what s g before then t told shown does = absurd t
-state_turn w p got child time (Find a) (Part c) b what s g before then t told shown does = absurd t
-state_turn w p got child time (Insert a) (Part c) b what s g before then t told shown does = absurd t
-state_turn w p got child time (Delete a) (Part c) b what s g before then t told shown does = absurd t
-state_turn w p got child time (Post a) (Part c) b what s g before then t told shown does = absurd t
-state_turn w p got child time (Part a) (Find c) b what s g before then t told shown does = absurd t
-state_turn w p got child time (Part a) (Insert c) b what s g before then t told shown does = absurd t
-state_turn w p got child time (Part a) (Delete c) b what s g before then t told shown does = absurd t
-state_turn w p got child time (Part a) (Post c) b what s g before then t told shown does = absurd t
 state_turn w p got child time (Reclaim a) (Reclaim c) b what s g before then t told shown does =
     reclaim_turn bare w g p b a.page time a.stage c.stage what s before then t.1 shown does
-state_turn w p got child time (Find a) (Reclaim c) b what s g before then t told shown does = absurd t
-state_turn w p got child time (Reclaim a) (Find c) b what s g before then t told shown does = absurd t
-state_turn w p got child time (Insert a) (Reclaim c) b what s g before then t told shown does = absurd t
-state_turn w p got child time (Reclaim a) (Insert c) b what s g before then t told shown does = absurd t
-state_turn w p got child time (Delete a) (Reclaim c) b what s g before then t told shown does = absurd t
-state_turn w p got child time (Reclaim a) (Delete c) b what s g before then t told shown does = absurd t
-state_turn w p got child time (Post a) (Reclaim c) b what s g before then t told shown does = absurd t
-state_turn w p got child time (Reclaim a) (Post c) b what s g before then t told shown does = absurd t
-state_turn w p got child time (Part a) (Reclaim c) b what s g before then t told shown does = absurd t
-state_turn w p got child time (Reclaim a) (Part c) b what s g before then t told shown does = absurd t
 state_turn w p got child time (Compress a) (Compress c) b what s g before then t told shown does =
     compress_turn bare w g p b a.level a.key a.least a.most a.stage c.stage got what s before (subst (λ l. bare b ≡ know_compress l a.key (compress_got got a.stage what) c.stage) t.0 (subst (λ k. bare b ≡ know_compress c.level k (compress_got got a.stage what) c.stage) t.1 then)) t.2 told does
-state_turn w p got child time (Find a) (Compress c) b what s g before then t told shown does = absurd t
-state_turn w p got child time (Compress a) (Find c) b what s g before then t told shown does = absurd t
-state_turn w p got child time (Insert a) (Compress c) b what s g before then t told shown does = absurd t
-state_turn w p got child time (Compress a) (Insert c) b what s g before then t told shown does = absurd t
-state_turn w p got child time (Delete a) (Compress c) b what s g before then t told shown does = absurd t
-state_turn w p got child time (Compress a) (Delete c) b what s g before then t told shown does = absurd t
-state_turn w p got child time (Post a) (Compress c) b what s g before then t told shown does = absurd t
-state_turn w p got child time (Compress a) (Post c) b what s g before then t told shown does = absurd t
-state_turn w p got child time (Part a) (Compress c) b what s g before then t told shown does = absurd t
-state_turn w p got child time (Compress a) (Part c) b what s g before then t told shown does = absurd t
-state_turn w p got child time (Reclaim a) (Compress c) b what s g before then t told shown does = absurd t
-state_turn w p got child time (Compress a) (Reclaim c) b what s g before then t told shown does = absurd t
+state_turn w p got child time old new b what s g before then t told shown does = absurd t
 
 -- Process p, which is a, was told this of its next action, truly, and goes to that state: from a good world this leads to a
 -- good world, in which p is in that state, and whose trail has one mark more. First by the states of processes alone.
