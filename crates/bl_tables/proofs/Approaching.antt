@@ -42,6 +42,10 @@ IsArrival (Latched x) what = ⊥
 pub arrival : (level key : ℕ) (a : Approach) (what : Seen) (y : ℕ) (d : Page) → Approaches level key a what (came.Here y d) → IsArrival a what
 arrival level key (Latched x) (seen.Words c) y d h = tt
 arrival level key Start (seen.Words c) y d h = absurd h
+arrival level key (At x) (seen.Words c) y d h = absurd h
+arrival level key (Latching x) (seen.Words c) y d h = absurd h
+arrival level key (Leaving x None) (seen.Words c) y d h = absurd h
+arrival level key (Leaving x (Some z)) (seen.Words c) y d h = absurd h
 arrival level key old what y d h = absurd h
 
 -- A process that holds no page, or one, and may go to some.

@@ -134,6 +134,10 @@ IsLast (Opening x o) what = ⊥
 pub last : (c : Change) (what : Seen) (o : Outcome) → Changes c what (Over o) → IsLast c what
 last (Opening x o) seen.Done r h = tt
 last (Putting x page) (seen.Words q) r h = absurd h
+last (Taking full) (seen.Words q) r h = absurd h
+last (PuttingNew u) (seen.Words q) r h = absurd h
+last (PuttingOld u) (seen.Words q) r h = absurd h
+last (OpeningNew x z separator) (seen.Words q) r h = absurd h
 last old what r h = absurd h
 
 module _ {P : Type 0} (know : P → Know) (w : World P) (g : IsGood know w) (p : Name) (b : P) (aim : Aim) (fine : IsAim aim) (got : ℕ → Page) where

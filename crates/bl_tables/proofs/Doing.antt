@@ -241,6 +241,15 @@ module _ (ms : Trail) (m : Mark) where
     over_on : (c : Compression) (what : Seen) (ended : Fate) → Compresses c what (step.Over ended) → m.event.act ≡ event_of None (compression_next c) what → squeeze_log level key c ms → fate_log level key ended more
     over_on (OpeningParent x ended) seen.Done same t did h = subst (λ z. fate_log level key z more) (sym t) (fate_on ended (ap writes_in did) h)
     over_on (LatchingLeft h) seen.Done same t did log = absurd t
+    over_on (LatchedLeft h) seen.Done same t did log = absurd t
+    over_on (LatchingRight h page) seen.Done same t did log = absurd t
+    over_on (LatchedRight h page) seen.Done same t did log = absurd t
+    over_on (PuttingFirst z) seen.Done same t did log = absurd t
+    over_on (PuttingParent z) seen.Done same t did log = absurd t
+    over_on (PuttingLast z) seen.Done same t did log = absurd t
+    over_on (Retiring at fa) seen.Done same t did log = absurd t
+    over_on (OpeningRight at fa) seen.Done same t did log = absurd t
+    over_on (OpeningLeft at fa) seen.Done same t did log = absurd t
     over_on old what same t did h = absurd t
 
     -- at the parent
@@ -347,6 +356,20 @@ module _ (ms : Trail) (m : Mark) where
       compress_on (compress.Staying x) (compress.Ending r) seen.Done t did saw h = subst (λ z. pressed_log level key z more) (sym t) (once_on (ap writes_in did) h)
       compress_on (compress.Ending r) (compress.Over r') seen.Done t did saw h = subst (λ z. pressed_log level key z more) (sym t) (pressed_on r (ap writes_in did) h)
       compress_on compress.New compress.New seen.Done t did saw h = absurd t
+      compress_on compress.New (compress.Compressing v) seen.Done t did saw h = absurd t
+      compress_on compress.New (compress.Staying v) seen.Done t did saw h = absurd t
+      compress_on compress.New (compress.Ending v) seen.Done t did saw h = absurd t
+      compress_on compress.New (compress.Over v) seen.Done t did saw h = absurd t
+      compress_on (compress.Staying o) compress.New seen.Done t did saw h = absurd t
+      compress_on (compress.Staying o) (compress.Coming v) seen.Done t did saw h = absurd t
+      compress_on (compress.Staying o) (compress.Compressing v) seen.Done t did saw h = absurd t
+      compress_on (compress.Staying o) (compress.Staying v) seen.Done t did saw h = absurd t
+      compress_on (compress.Staying o) (compress.Over v) seen.Done t did saw h = absurd t
+      compress_on (compress.Ending o) compress.New seen.Done t did saw h = absurd t
+      compress_on (compress.Ending o) (compress.Coming v) seen.Done t did saw h = absurd t
+      compress_on (compress.Ending o) (compress.Compressing v) seen.Done t did saw h = absurd t
+      compress_on (compress.Ending o) (compress.Staying v) seen.Done t did saw h = absurd t
+      compress_on (compress.Ending o) (compress.Ending v) seen.Done t did saw h = absurd t
       compress_on old a' what t did saw h = absurd t
 
   -- a miss that is of no turn of its own changes nothing

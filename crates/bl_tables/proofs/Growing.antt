@@ -315,15 +315,34 @@ module _ {P : Type 0} (know : P → Know) (w : World P) (g : IsGood know w) (p :
   growth_turn (growth.PuttingAnchor r) a' got seen.Done s before then t told does = anchor_turn got r s before (subst (λ z. know b ≡ know_growth level key got z) t then) does
   growth_turn (growth.OpeningTop x) a' got seen.Done s before then t told does = open_top_turn got x s before (subst (λ z. know b ≡ know_growth level key got z) t then) does
   growth_turn growth.Latched growth.Latching got (seen.Words page) s before then t told does = absurd t
+  growth_turn growth.Latched growth.Latched got (seen.Words page) s before then t told does = absurd t
+  growth_turn growth.Latched (growth.PuttingTop o) got (seen.Words page) s before then t told does = absurd t
+  growth_turn growth.Latched (growth.PuttingAnchor o) got (seen.Words page) s before then t told does = absurd t
+  growth_turn growth.Latched (growth.OpeningTop o) got (seen.Words page) s before then t told does = absurd t
+  growth_turn growth.Latched growth.OpeningRefused got (seen.Words page) s before then t told does = absurd t
+  growth_turn growth.OpeningGrown a' got (seen.Words page) s before then t told does = absurd t
+  growth_turn growth.OpeningRefused a' got (seen.Words page) s before then t told does = absurd t
   growth_turn old a' got what s before then t told does = absurd t
 
   -- a growth is over when the anchor is open
   pub over_turn : (a : Growth) (got : ℕ → Page) (what : Seen) (s : State Page) → know (w.proc p) ≡ know_growth level key got a → know b ≡ know_approach level key Start → Grows level a what Grown → Does w.now p (event_of None (growth_next a) what) s → Turned know w p (event_of None (growth_next a) what) s b
   over_turn growth.OpeningGrown got seen.Done s before then t does = anchor_open_turn _ _ s before then (λ h. h) does
   over_turn growth.Latching got (seen.Words page) s before then t does = absurd t
+  over_turn growth.Latched got (seen.Words page) s before then t does = absurd t
+  over_turn (growth.Taking o) got (seen.Words page) s before then t does = absurd t
+  over_turn (growth.PuttingTop o) got (seen.Words page) s before then t does = absurd t
+  over_turn (growth.PuttingAnchor o) got (seen.Words page) s before then t does = absurd t
+  over_turn (growth.OpeningTop o) got (seen.Words page) s before then t does = absurd t
+  over_turn growth.OpeningRefused got (seen.Words page) s before then t does = absurd t
   over_turn old got what s before then t does = absurd t
 
   pub no_room_turn : (a : Growth) (got : ℕ → Page) (what : Seen) (s : State Page) → know (w.proc p) ≡ know_growth level key got a → know b ≡ ending None → Grows level a what Refused → Does w.now p (event_of None (growth_next a) what) s → Turned know w p (event_of None (growth_next a) what) s b
   no_room_turn growth.OpeningRefused got seen.Done s before then t does = anchor_open_turn _ _ s before then (λ h. tt) does
   no_room_turn growth.Latching got (seen.Words page) s before then t does = absurd t
+  no_room_turn growth.Latched got (seen.Words page) s before then t does = absurd t
+  no_room_turn (growth.Taking o) got (seen.Words page) s before then t does = absurd t
+  no_room_turn (growth.PuttingTop o) got (seen.Words page) s before then t does = absurd t
+  no_room_turn (growth.PuttingAnchor o) got (seen.Words page) s before then t does = absurd t
+  no_room_turn (growth.OpeningTop o) got (seen.Words page) s before then t does = absurd t
+  no_room_turn growth.OpeningGrown got (seen.Words page) s before then t does = absurd t
   no_room_turn old got what s before then t does = absurd t

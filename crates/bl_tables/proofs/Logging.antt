@@ -87,6 +87,7 @@ module _ (m : Mark) (level key : ℕ) where
   latched_on (way.At x) y (seen.Words c) (o, l, u) did = absurd (no_latched level x c o y u)
   latched_on (way.Latching x) y seen.Done t did = did ∙ ap Latch (same_latched x y t)
   latched_on (way.Latching x) y seen.Missed t did = absurd (let e = t in cc)
+  latched_on (way.Latched x) y seen.Done t did = absurd t
   latched_on (way.Leaving x None) y seen.Done t did = absurd (let e = t in cc)
   latched_on (way.Leaving x (Some z)) y seen.Done t did = absurd (let e = t in cc)
   latched_on old y what t did = absurd t
@@ -168,8 +169,12 @@ module _ (marks : Trail) (m : Mark) (level key : ℕ) (least : 0 < level) where
 
   here_on : (a : Approach) (new : PostStage) (what : Seen) (y : ℕ) (d : Page) → Approaches level key a what (came.Here y d) → PostArrives key y d new → m.event.act ≡ event_of None (approach_next a) what → ((x : ℕ) (c : Page) → m.event.act ≡ Get x → what ≡ seen.Words c → m.saw ≡ Some c) → approach_log level a marks → post_log level key new more
   here_on way.Start new seen.Done y d t at did saw h = absurd t
+  here_on (way.At x) new seen.Done y d t at did saw h = absurd t
+  here_on (way.Latching x) new seen.Done y d t at did saw h = absurd t
   here_on (way.Latched x) new (seen.Words c) y d t at did saw h =
       arrive_on y d new (subst (λ z. Leads z key level Here) (sym t.1) t.2) at (did ∙ ap Get (sym t.0)) (saw x c did refl ∙ ap Some (sym t.1)) (subst (λ z. Holding level marks z []) (sym t.0) h)
+  here_on (way.Leaving x None) new seen.Done y d t at did saw h = absurd t
+  here_on (way.Leaving x (Some z)) new seen.Done y d t at did saw h = absurd t
   here_on old new what y d t at did saw h = absurd t
 
   near_on : (a : Approach) (new : PostStage) (what : Seen) → PostNears level key a what new → m.event.act ≡ event_of None (approach_next a) what → ((x : ℕ) (c : Page) → m.event.act ≡ Get x → what ≡ seen.Words c → m.saw ≡ Some c) → approach_log level a marks → post_log level key new more
@@ -218,16 +223,30 @@ module _ (marks : Trail) (m : Mark) (level key : ℕ) (least : 0 < level) where
   grow_on (growth.PuttingTop r) h seen.Done t did log = subst (λ z. growth_log level z more) (sym t) (wrote_on marks m (λ acts is. (acts, is, ap (λ z. acts ++ writes_in z) did)) log.0, log.1)
   grow_on (growth.PuttingAnchor r) h seen.Done t did log = subst (λ z. growth_log level z more) (sym t) (wrote_on marks m (λ acts is. raised_more r.new r.top r.anchor acts is log.1 did) log.0)
   grow_on (growth.OpeningTop x) h seen.Done t did log = subst (λ z. growth_log level z more) (sym t) (raised_on (ap writes_in did) log)
+  grow_on growth.OpeningGrown h seen.Done t did log = absurd t
+  grow_on growth.OpeningRefused h seen.Done t did log = absurd t
   grow_on old h what t did log = absurd t
 
   grow_end : (g : Growth) (what : Seen) → Grows level g what grew.Refused → m.event.act ≡ event_of None (growth_next g) what → growth_log level g marks → reply_log level key reply.NoRoom more
   grow_end growth.Latching seen.Done t did h = absurd t
+  grow_end growth.Latched seen.Done t did h = absurd t
+  grow_end (growth.Taking rise) seen.Done t did h = absurd t
+  grow_end (growth.PuttingTop r) seen.Done t did h = absurd t
+  grow_end (growth.PuttingAnchor r) seen.Done t did h = absurd t
+  grow_end (growth.OpeningTop x) seen.Done t did h = absurd t
+  grow_end growth.OpeningGrown seen.Done t did h = absurd t
   grow_end growth.OpeningRefused seen.Done t did h = no_room_on marks m (ap writes_in did) h
   grow_end old what t did h = absurd t
 
   grown_on : (g : Growth) (what : Seen) → Grows level g what grew.Grown → m.event.act ≡ event_of None (growth_next g) what → growth_log level g marks → HasRaised level more
   grown_on growth.Latching seen.Done t did h = absurd t
+  grown_on growth.Latched seen.Done t did h = absurd t
+  grown_on (growth.Taking rise) seen.Done t did h = absurd t
+  grown_on (growth.PuttingTop r) seen.Done t did h = absurd t
+  grown_on (growth.PuttingAnchor r) seen.Done t did h = absurd t
+  grown_on (growth.OpeningTop x) seen.Done t did h = absurd t
   grown_on growth.OpeningGrown seen.Done t did h = raised_on (ap writes_in did) h
+  grown_on growth.OpeningRefused seen.Done t did h = absurd t
   grown_on old what t did h = absurd t
 
   -- a pair is to enter the parent
@@ -291,6 +310,10 @@ module _ (marks : Trail) (m : Mark) (level key : ℕ) (least : 0 < level) where
 
   change_end : (c : Change) (what : Seen) (o : Outcome) → Changes c what (changed.Over o) → m.event.act ≡ event_of None (change_next c) what → change_log level key c marks → reply_log level key (post_reply o) more
   change_end (change.Putting x page) seen.Done last t did h = absurd t
+  change_end (change.Taking full) seen.Done last t did h = absurd t
+  change_end (change.PuttingNew p) seen.Done last t did h = absurd t
+  change_end (change.PuttingOld p) seen.Done last t did h = absurd t
+  change_end (change.OpeningNew x new separator) seen.Done last t did h = absurd t
   change_end (change.Opening x o) seen.Done last t did h = outcome_reply last (outcome_on last (ap writes_in did) (subst (λ z. outcome_log level key z marks) (sym t) h))
   change_end old what last t did h = absurd t
 
@@ -299,13 +322,33 @@ module _ (marks : Trail) (m : Mark) (level key : ℕ) (least : 0 < level) where
   post_on (post.Coming a) new what t did saw h = come_on a new what t did saw h
   post_on post.New post.New seen.Done t did saw h = absurd t
   post_on post.New (post.Coming b) seen.Done t did saw h = subst (λ z. approach_log level z more) (sym t) (begun_now marks m (RaisesOnly level) did RaisesOnly.Never)
+  post_on post.New (post.Growing k) seen.Done t did saw h = absurd t
+  post_on post.New (post.Walking u) seen.Done t did saw h = absurd t
+  post_on post.New (post.Changing d) seen.Done t did saw h = absurd t
+  post_on post.New (post.Staying y last) seen.Done t did saw h = absurd t
+  post_on post.New (post.Ending last) seen.Done t did saw h = absurd t
+  post_on post.New (post.Over last) seen.Done t did saw h = absurd t
   post_on (post.Growing g) (post.Growing k) what t did saw h = grow_on g k what t did h
   post_on (post.Growing g) (post.Coming b) what t did saw h = subst (λ z. approach_log level z more) (sym t.1) (grown_on g what t.0 did h)
   post_on (post.Growing g) (post.Ending last) what t did saw h = subst (λ z. reply_log level key z more) (sym t.1) (grow_end g what t.0 did h)
   post_on (post.Walking v) new (seen.Words page) t did saw h = walk_on v page new t did (saw v.child page did refl) h.0 h.1
   post_on (post.Changing c) (post.Changing d) what t did saw h = change_on c d what t did h
   post_on (post.Changing c) (post.Ending last) what t did saw h = subst (λ z. reply_log level key z more) (sym t.2) (change_end c what t.0 t.1 did h)
+  post_on (post.Staying x r) post.New seen.Done t did saw h = absurd t
+  post_on (post.Staying x r) (post.Coming b) seen.Done t did saw h = absurd t
+  post_on (post.Staying x r) (post.Growing k) seen.Done t did saw h = absurd t
+  post_on (post.Staying x r) (post.Walking u) seen.Done t did saw h = absurd t
+  post_on (post.Staying x r) (post.Changing d) seen.Done t did saw h = absurd t
+  post_on (post.Staying x r) (post.Staying y last) seen.Done t did saw h = absurd t
   post_on (post.Staying x r) (post.Ending last) seen.Done t did saw h = subst (λ z. reply_log level key z more) (sym t) (reply_on r (ap writes_in did) h)
+  post_on (post.Staying x r) (post.Over last) seen.Done t did saw h = absurd t
+  post_on (post.Ending r) post.New seen.Done t did saw h = absurd t
+  post_on (post.Ending r) (post.Coming b) seen.Done t did saw h = absurd t
+  post_on (post.Ending r) (post.Growing k) seen.Done t did saw h = absurd t
+  post_on (post.Ending r) (post.Walking u) seen.Done t did saw h = absurd t
+  post_on (post.Ending r) (post.Changing d) seen.Done t did saw h = absurd t
+  post_on (post.Ending r) (post.Staying y last) seen.Done t did saw h = absurd t
+  post_on (post.Ending r) (post.Ending last) seen.Done t did saw h = absurd t
   post_on (post.Ending r) (post.Over last) seen.Done t did saw h = subst (λ z. reply_log level key z more) (sym t) (reply_on r (ap writes_in did) h)
   post_on old new what t did saw h = absurd t
 

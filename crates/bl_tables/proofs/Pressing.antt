@@ -152,6 +152,15 @@ module _ {P : Type 0} (know : P → Know) (w : World P) (g : IsGood know w) (p :
   over_turn : (c : Compression) (what : Seen) (fate : Fate) (S : Type 0) (got : ℕ → Page) (s : State Page) → know (w.proc p) ≡ know_squeeze level key got c → know b ≡ record (idle Stage.Busy) { sound = S } → (key < unbounded → S) → Compresses c what (step.Over fate) → Does w.now p (event_of None (compression_next c) what) s → Turned know w p (event_of None (compression_next c) what) s b
   over_turn (OpeningParent x f) seen.Done fate S got s before then on t does = open_parent_turn know w g p b level key got 0 0 x f S s before then on does
   over_turn (LatchingLeft f) seen.Done fate S got s before then on h does = absurd h
+  over_turn (LatchedLeft f) seen.Done fate S got s before then on h does = absurd h
+  over_turn (LatchingRight f d) seen.Done fate S got s before then on h does = absurd h
+  over_turn (LatchedRight f d) seen.Done fate S got s before then on h does = absurd h
+  over_turn (PuttingFirst u) seen.Done fate S got s before then on h does = absurd h
+  over_turn (PuttingParent u) seen.Done fate S got s before then on h does = absurd h
+  over_turn (PuttingLast u) seen.Done fate S got s before then on h does = absurd h
+  over_turn (Retiring at f) seen.Done fate S got s before then on h does = absurd h
+  over_turn (OpeningRight at f) seen.Done fate S got s before then on h does = absurd h
+  over_turn (OpeningLeft at f) seen.Done fate S got s before then on h does = absurd h
   over_turn old what fate new got s before then on h does = absurd h
 
   pub compress_turn : (a a' : CompressStage) (got : ℕ → Page) (what : Seen) (s : State Page) → know (w.proc p) ≡ know_compress level key got a → know b ≡ know_compress level key (compress_got got a what) a' → CompressGoes level key a what a' → IsTold w.now w.size (compress_next_in a) what → Does w.now p (event_of None (compress_next_in a) what) s → Turned know w p (event_of None (compress_next_in a) what) s b
@@ -163,4 +172,18 @@ module _ {P : Type 0} (know : P → Know) (w : World P) (g : IsGood know w) (p :
   compress_turn (compress.Staying x) (compress.Ending r) got seen.Done s before then t told does = open_turn x s before then does
   compress_turn (compress.Ending r) (compress.Over last) got seen.Done s before then t told does = end_turn know w g p b None s before then does
   compress_turn compress.New compress.New got seen.Done s before then t told does = absurd t
+  compress_turn compress.New (compress.Compressing v) got seen.Done s before then t told does = absurd t
+  compress_turn compress.New (compress.Staying v) got seen.Done s before then t told does = absurd t
+  compress_turn compress.New (compress.Ending v) got seen.Done s before then t told does = absurd t
+  compress_turn compress.New (compress.Over v) got seen.Done s before then t told does = absurd t
+  compress_turn (compress.Staying o) compress.New got seen.Done s before then t told does = absurd t
+  compress_turn (compress.Staying o) (compress.Coming v) got seen.Done s before then t told does = absurd t
+  compress_turn (compress.Staying o) (compress.Compressing v) got seen.Done s before then t told does = absurd t
+  compress_turn (compress.Staying o) (compress.Staying v) got seen.Done s before then t told does = absurd t
+  compress_turn (compress.Staying o) (compress.Over v) got seen.Done s before then t told does = absurd t
+  compress_turn (compress.Ending o) compress.New got seen.Done s before then t told does = absurd t
+  compress_turn (compress.Ending o) (compress.Coming v) got seen.Done s before then t told does = absurd t
+  compress_turn (compress.Ending o) (compress.Compressing v) got seen.Done s before then t told does = absurd t
+  compress_turn (compress.Ending o) (compress.Staying v) got seen.Done s before then t told does = absurd t
+  compress_turn (compress.Ending o) (compress.Ending v) got seen.Done s before then t told does = absurd t
   compress_turn old a' got what s before then t told does = absurd t

@@ -128,7 +128,11 @@ module _ (marks : Trail) (m : Mark) where
 
   got_on : (key : ℕ) (a : Approach) (y : ℕ) (d : Page) (what : Seen) → Approaches 0 key a what (came.Here y d) → m.event.act ≡ event_of None (approach_next a) what → coming_log a marks → PutSince more []
   got_on key way.Start y d seen.Done t did h = absurd t
+  got_on key (way.At x) y d seen.Done t did h = absurd t
+  got_on key (way.Latching x) y d seen.Done t did h = absurd t
   got_on key (way.Latched x) y d (seen.Words c) t did h = put_stays (λ z l. (let e = sym did ∙ l in cc)) (ap put_in did) h
+  got_on key (way.Leaving x None) y d seen.Done t did h = absurd t
+  got_on key (way.Leaving x (Some z)) y d seen.Done t did h = absurd t
   got_on key old y d what t did h = absurd t
 
   -- a change
@@ -149,6 +153,10 @@ module _ (marks : Trail) (m : Mark) where
 
     entry_end : (c : Change) (o : Outcome) (what : Seen) → Changes c what (changed.Over o) → m.event.act ≡ event_of None (change_next c) what → entry_log Whole Parts c marks → put_log Whole Parts o more
     entry_end (change.Putting x page) o seen.Done t did h = absurd t
+    entry_end (change.Taking full) o seen.Done t did h = absurd t
+    entry_end (change.PuttingNew p) o seen.Done t did h = absurd t
+    entry_end (change.PuttingOld p) o seen.Done t did h = absurd t
+    entry_end (change.OpeningNew x new separator) o seen.Done t did h = absurd t
     entry_end (change.Opening x q) o seen.Done t did h = subst (λ z. put_log Whole Parts z more) (sym t) (opened x q did h)
     entry_end old o what t did h = absurd t
 
@@ -175,13 +183,22 @@ module _ (marks : Trail) (m : Mark) where
   insert_on key value old (insert.Coming (way.Leaving x to)) what t did h = tt
   insert_on key value (insert.Coming a) (insert.Coming (way.Latched x)) what t did h = coming_on key a (way.Latched x) what t did
   insert_on key value insert.New (insert.Coming (way.Latched x)) seen.Done t did h = absurd (let e = t in cc)
+  insert_on key value (insert.Present y v) (insert.Coming (way.Latched x)) seen.Done t did h = absurd t
+  insert_on key value (insert.Ending r) (insert.Coming (way.Latched x)) seen.Done t did h = absurd t
   insert_on key value (insert.Coming a) (insert.Changing d) what (x, c, way_is, at) did h = arrived_insert key value x c d at (got_on key a x c what way_is did h)
   insert_on key value (insert.Changing c) (insert.Changing d) what t did h = entry_on AnyPage (Unit {0}) c d what t did h
+  insert_on key value insert.New (insert.Changing d) seen.Done t did h = absurd t
+  insert_on key value (insert.Present y v) (insert.Changing d) seen.Done t did h = absurd t
+  insert_on key value (insert.Ending r) (insert.Changing d) seen.Done t did h = absurd t
   insert_on key value (insert.Coming a) (insert.Ending last) what t did h = absurd t.3
   insert_on key value (insert.Changing c) (insert.Ending last) what t did h = subst (λ z. inserted_log z more) (sym t.2) (outcome_inserted t.0 (entry_end AnyPage (Unit {0}) c t.0 what t.1 did h))
   insert_on key value (insert.Present y v) (insert.Ending last) seen.Done t did h = subst (λ z. inserted_log z more) (sym t) tt
+  insert_on key value insert.New (insert.Ending last) seen.Done t did h = absurd t
+  insert_on key value (insert.Ending r) (insert.Ending last) seen.Done t did h = absurd t
   insert_on key value (insert.Coming a) (insert.Over last) what t did h = absurd t.3
   insert_on key value (insert.Ending r) (insert.Over last) seen.Done t did h = subst (λ z. inserted_log z more) (sym t) (inserted_stays (λ z l. (let e = sym did ∙ l in cc)) (ap put_in did) r h)
+  insert_on key value insert.New (insert.Over last) seen.Done t did h = absurd t
+  insert_on key value (insert.Present y v) (insert.Over last) seen.Done t did h = absurd t
   insert_on key value old new what t did h = absurd t
 
   -- a deletion
@@ -207,11 +224,20 @@ module _ (marks : Trail) (m : Mark) where
   delete_on key old (delete.Coming (way.Leaving x to)) what t did h = tt
   delete_on key (delete.Coming a) (delete.Coming (way.Latched x)) what t did h = coming_on key a (way.Latched x) what t did
   delete_on key delete.New (delete.Coming (way.Latched x)) seen.Done t did h = absurd (let e = t in cc)
+  delete_on key (delete.Absent y) (delete.Coming (way.Latched x)) seen.Done t did h = absurd t
+  delete_on key (delete.Ending r) (delete.Coming (way.Latched x)) seen.Done t did h = absurd t
   delete_on key (delete.Coming a) (delete.Changing same d) what (x, c, way_is, at) did h = arrived_delete key x c same d at (got_on key a x c what way_is did h)
   delete_on key (delete.Changing removed c) (delete.Changing same d) what t did h = subst (λ z. entry_log (IsThinAs z) ⊥ d more) (sym t.0) (entry_on (IsThinAs removed) ⊥ c d what t.1 did h)
+  delete_on key delete.New (delete.Changing same d) seen.Done t did h = absurd t
+  delete_on key (delete.Absent y) (delete.Changing same d) seen.Done t did h = absurd t
+  delete_on key (delete.Ending r) (delete.Changing same d) seen.Done t did h = absurd t
   delete_on key (delete.Coming a) (delete.Ending last) what t did h = absurd t.3
   delete_on key (delete.Changing removed c) (delete.Ending last) what t did h = subst (λ z. deleted_log z more) (sym t.2) (outcome_deleted removed t.0 (entry_end (IsThinAs removed) ⊥ c t.0 what t.1 did h))
   delete_on key (delete.Absent y) (delete.Ending last) seen.Done t did h = subst (λ z. deleted_log z more) (sym t) tt
+  delete_on key delete.New (delete.Ending last) seen.Done t did h = absurd t
+  delete_on key (delete.Ending r) (delete.Ending last) seen.Done t did h = absurd t
   delete_on key (delete.Coming a) (delete.Over last) what t did h = absurd t.3
   delete_on key (delete.Ending r) (delete.Over last) seen.Done t did h = subst (λ z. deleted_log z more) (sym t) (deleted_stays (λ z l. (let e = sym did ∙ l in cc)) (ap put_in did) r h)
+  delete_on key delete.New (delete.Over last) seen.Done t did h = absurd t
+  delete_on key (delete.Absent y) (delete.Over last) seen.Done t did h = absurd t
   delete_on key old new what t did h = absurd t
