@@ -1,13 +1,16 @@
 //! The program `blink`: what its command line asks for, over the files of the system and its standard streams.
 //!
 //! Promised to whoever runs it: `serve` writes what is served for what it reads, over a new index and by as many workers and
-//! compressors as are wanted; and what `bl_commands` promises of `check` and `replay`.
+//! compressors as are wanted; `dump` does so too, and its image has the rows that were served; and what `bl_commands` promises
+//! of `check` and `replay`.
 #![tactic(auto)]
 
-use bl_commands::{CommandFault, check_file, replay_file};
+ghost use Rattle.bl_options.specs.Limits.{AreWithin};
+
+use bl_commands::{CommandFault, check_file, replace_file, replay_file};
 use bl_model::Watched;
 use bl_options::{Invocation, ServeOptions, read_words};
-use bl_serve::serve_index;
+use bl_serve::{dump_index, serve_index};
 use clap::Error;
 use clap::error::ErrorKind;
 use std::io;
@@ -34,25 +37,8 @@ fn carry_out<T: Threads + Wait + Sync>(
     let alloc = rt.alloc();
     let words: Vec<String> = std::env::args(rt)?.collect(alloc)?;
     match read_words(alloc, words.as_slice()) {
-        Ok(Invocation::Serve(options)) => {
-            let ServeOptions {
-                pages,
-                workers,
-                compressors,
-            } = options;
-            let mut reader = Watched::new(rt.stdin());
-            let mut writer = Watched::new(io::writer(rt));
-            serve_index(
-                threads,
-                alloc,
-                pages,
-                workers,
-                compressors,
-                &mut reader,
-                &mut writer,
-            )?;
-            Ok(ExitCode::SUCCESS)
-        }
+        Ok(Invocation::Serve(options)) => serve(rt, threads, options),
+        Ok(Invocation::Dump(options, file)) => dump(rt, threads, options, file.as_str()),
         Ok(Invocation::Check(file)) => {
             let mut writer = Watched::new(io::writer(rt));
             let sound = check_file(rt, file.as_str(), &mut writer)?;
@@ -65,6 +51,69 @@ fn carry_out<T: Threads + Wait + Sync>(
         }
         Ok(Invocation::Nothing) => Ok(ExitCode::from(2)),
         Err(error) => refuse(rt, error),
+    }
+}
+
+/// Serves standard input.
+fn serve<T: Threads + Wait + Sync>(
+    rt: &HostRuntime,
+    threads: &T,
+    options: ServeOptions,
+) -> Result<ExitCode, CommandFault>
+    requires { AreWithin options }
+{
+    let ServeOptions {
+        pages,
+        workers,
+        compressors,
+    } = options;
+    let mut reader = Watched::new(rt.stdin());
+    let mut writer = Watched::new(io::writer(rt));
+    serve_index(
+        threads,
+        rt.alloc(),
+        pages,
+        workers,
+        compressors,
+        &mut reader,
+        &mut writer,
+    )?;
+    Ok(ExitCode::SUCCESS)
+}
+
+/// Serves standard input, and then writes the image of the index to the file.
+fn dump<T: Threads + Wait + Sync>(
+    rt: &HostRuntime,
+    threads: &T,
+    options: ServeOptions,
+    file: &str,
+) -> Result<ExitCode, CommandFault>
+    requires { AreWithin options }
+{
+    let ServeOptions {
+        pages,
+        workers,
+        compressors,
+    } = options;
+    let mut reader = Watched::new(rt.stdin());
+    let mut writer = Watched::new(io::writer(rt));
+    let (_totals, closed) = dump_index(
+        threads,
+        rt.alloc(),
+        pages,
+        workers,
+        compressors,
+        &mut reader,
+        &mut writer,
+    )?;
+    let quiet = closed?;
+    match replace_file(rt, file, quiet.image()) {
+        Ok(()) => Ok(ExitCode::SUCCESS),
+        Err(fault) => {
+            // Where standard error fails too, the status still tells the fault.
+            let _ = eprintln!(rt; "{fault}");
+            Ok(ExitCode::from(fault.status()))
+        }
     }
 }
 

@@ -1,13 +1,15 @@
-//! The commands `check` and `replay` of `blink` over readers and writers, and why a command ends early.
+//! The commands `check` and `replay` of `blink` over readers and writers, the file of a dump, and why a command ends early.
 //!
 //! Promised to `bl_cli`: a check tells whether the bytes that it read are a sound image, and a replay prints one run of the
 //! script that it read; each fault has its exit status and its words.
 #![tactic(auto)]
 
 mod check;
+mod dump;
 mod fault;
 mod replay;
 
 pub use check::{check_file, check_image};
+pub use dump::{DumpFault, replace_file};
 pub use fault::CommandFault;
 pub use replay::{replay_file, replay_script};

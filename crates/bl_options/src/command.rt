@@ -1,13 +1,13 @@
 //! The command line.
 
 ghost use Rattle.std.specs.Prelude.{◌≡◌, ◌≤◌, ℕ, Some, None, IfOk};
-ghost use Rattle.bl_options.specs.Limits.{IsWithinLimits};
+ghost use Rattle.bl_options.specs.Limits.{AreWithin, IsWithinLimits};
 
-use crate::texts::{ABOUT_ALL, ABOUT_CHECK, ABOUT_REPLAY, ABOUT_SERVE, VERSION};
-use clap::{Arg, ArgAction, Command, Error, value_parser};
+use crate::texts::{ABOUT_ALL, ABOUT_CHECK, ABOUT_DUMP, ABOUT_REPLAY, ABOUT_SERVE, VERSION};
+use clap::{Arg, ArgAction, ArgMatches, Command, Error, value_parser};
 use std::alloc::Global;
 
-/// The options of `serve`.
+/// The options of `serve` and of `dump`.
 #[derive(Clone, Copy, Debug, PartialEq, Eq)]
 pub struct ServeOptions {
     /// Pages of the index, 4 to 65,536.
@@ -23,6 +23,8 @@ pub struct ServeOptions {
 pub enum Invocation {
     /// `blink serve`.
     Serve(ServeOptions),
+    /// `blink dump` to this file.
+    Dump(ServeOptions, String),
     /// `blink check` of this file.
     Check(String),
     /// `blink replay` of this file.
@@ -40,6 +42,61 @@ fn held(value: Option<u32>, default: u32, least: u32, most: u32) -> u32
     ensures absent { value ≡ None → least ≤ default → default ≤ most → result ≡ default }
 {
     value.unwrap_or(default).clamp(least, most)
+}
+
+/// The command with the options of a server.
+fn with_options<'a>(alloc: Global, command: Command<'a>) -> Result<Command<'a>, Error> {
+    let pages = Arg::new(alloc, "pages")
+        .long("pages")
+        .value_name("N")
+        .help("Pages of the index, 4 to 65536")
+        .value_parser(value_parser!(u32).range(4..=65536))
+        .default_value("1024");
+    let workers = Arg::new(alloc, "workers")
+        .long("workers")
+        .value_name("N")
+        .help("Threads that answer requests, 1 to 32")
+        .value_parser(value_parser!(u32).range(1..=32))
+        .default_value("4");
+    let compressors = Arg::new(alloc, "compressors")
+        .long("compressors")
+        .value_name("N")
+        .help("Threads that merge thin pages, 0 to 16")
+        .value_parser(value_parser!(u32).range(0..=16))
+        .default_value("1");
+    Ok(command.arg(pages)?.arg(workers)?.arg(compressors)?)
+}
+
+/// The command line of `serve`.
+fn serve_command<'a>(alloc: Global) -> Result<Command<'a>, Error> {
+    let command = Command::new(alloc, "serve")
+        .about("Answers request lines from standard input")
+        .after_help(ABOUT_SERVE);
+    with_options(alloc, command)
+}
+
+/// The command line of `dump`.
+fn dump_command<'a>(alloc: Global) -> Result<Command<'a>, Error> {
+    let file = Arg::new(alloc, "FILE")
+        .required(true)
+        .action(ArgAction::Set)
+        .help("Where the image is to stand; what stands there is replaced");
+    let command = Command::new(alloc, "dump")
+        .about("Answers as serve does, and then writes the image of the index to a file")
+        .after_help(ABOUT_DUMP)
+        .arg(file)?;
+    with_options(alloc, command)
+}
+
+/// The options that clap has found, within their limits.
+fn options_of(found: &ArgMatches) -> ServeOptions
+    ensures { AreWithin result }
+{
+    ServeOptions {
+        pages: held(found.get_one::<u32>("pages"), 1024, 4, 65536),
+        workers: held(found.get_one::<u32>("workers"), 4, 1, 32),
+        compressors: held(found.get_one::<u32>("compressors"), 1, 0, 16),
+    }
 }
 
 /// The command line of `check`.
@@ -75,45 +132,22 @@ fn replay_command<'a>(alloc: Global) -> Result<Command<'a>, Error> {
 pub fn read_words(alloc: Global, words: &[String]) -> Result<Invocation, Error>
     ensures { IfOk result IsWithinLimits }
 {
-    let pages = Arg::new(alloc, "pages")
-        .long("pages")
-        .value_name("N")
-        .help("Pages of the index, 4 to 65536")
-        .value_parser(value_parser!(u32).range(4..=65536))
-        .default_value("1024");
-    let workers = Arg::new(alloc, "workers")
-        .long("workers")
-        .value_name("N")
-        .help("Threads that answer requests, 1 to 32")
-        .value_parser(value_parser!(u32).range(1..=32))
-        .default_value("4");
-    let compressors = Arg::new(alloc, "compressors")
-        .long("compressors")
-        .value_name("N")
-        .help("Threads that merge thin pages, 0 to 16")
-        .value_parser(value_parser!(u32).range(0..=16))
-        .default_value("1");
-    let serve = Command::new(alloc, "serve")
-        .about("Answers request lines from standard input")
-        .after_help(ABOUT_SERVE)
-        .arg(pages)?
-        .arg(workers)?
-        .arg(compressors)?;
     let blink = Command::new(alloc, "blink")
         .about("A concurrent ordered index from u64 keys to u64 values, proved")
         .version(VERSION)
         .after_help(ABOUT_ALL)
         .subcommand_required(true)
-        .subcommand(serve)?
+        .subcommand(serve_command(alloc)?)?
+        .subcommand(dump_command(alloc)?)?
         .subcommand(check_command(alloc)?)?
         .subcommand(replay_command(alloc)?)?;
     let matches = blink.try_get_matches_from(words)?;
     match matches.subcommand() {
-        Some(("serve", found)) => Ok(Invocation::Serve(ServeOptions {
-            pages: held(found.get_one::<u32>("pages"), 1024, 4, 65536),
-            workers: held(found.get_one::<u32>("workers"), 4, 1, 32),
-            compressors: held(found.get_one::<u32>("compressors"), 1, 0, 16),
-        })),
+        Some(("serve", found)) => Ok(Invocation::Serve(options_of(found))),
+        Some(("dump", found)) => match found.get_str("FILE") {
+            Some(file) => Ok(Invocation::Dump(options_of(found), String::from_str(alloc, file)?)),
+            None => Ok(Invocation::Nothing),
+        },
         Some(("check", found)) => match found.get_str("FILE") {
             Some(file) => Ok(Invocation::Check(String::from_str(alloc, file)?)),
             None => Ok(Invocation::Nothing),

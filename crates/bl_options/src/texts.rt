@@ -28,6 +28,19 @@ Examples:
 
 Exit status: 0 all is well; 3 reading or writing failed; 4 out of memory; 5 the answer of a request was lost.";
 
+/// Of `dump`.
+pub(crate) const ABOUT_DUMP: &str = "\
+Reads request lines and writes replies as `blink serve` does (`blink help serve` has the lines). Where that ends without a \
+fault, the image of the index is written to FILE.new, which must not be there, and FILE.new is then renamed to FILE: FILE has \
+the whole image, or what it had. `blink check FILE` says what is in it.
+
+Examples:
+  printf 'insert 5 50\\n' | blink dump index.image
+  blink dump index.image --pages 65536 <requests >replies
+
+Exit status: 0 all is well; 3 reading or writing failed; 4 out of memory; 5 the answer of a request was lost. Where it is not 0, \
+FILE is as it was.";
+
 /// Of `check`.
 pub(crate) const ABOUT_CHECK: &str = "\
 Prints `ok rows A leaves B inners C levels D unposted E thin F`, or `fault Cn page X`: the least rule that is broken, and the \

@@ -1,12 +1,15 @@
 -- The passes of a new index are together.
-use Rattle.std.proofs.Common.{◌≡◌, ℕ, zero, suc, ◌+◌, List, [], ◌∷◌, refl, sym, ◌∙◌, subst, arith}
+use Rattle.std.proofs.Common.{◌≡◌, ℕ, zero, suc, ◌+◌, List, [], ◌∷◌, refl, sym, ap, ◌∙◌, subst, arith}
 use mathlib.Core.Option.{some}
 use lib.ListN.{get_elem?}
+use Rattle.bl_model.specs.Map.{Map, empty}
+use Rattle.bl_lines.specs.declared.serving.ServeFault.{ServeFault}
+use Rattle.bl_lines.specs.Served.{Stops}
 use Rattle.bl_trails.specs.Trails.{Trail}
 use Rattle.bl_index.specs.declared.config.Config.{Config}
 use Rattle.bl_index.specs.declared.index.Index.{Index}
 use Rattle.bl_index.specs.declared.index.Pass.{Pass}
-use Rattle.bl_index.specs.Calls.{IsPassOf, number_of, trail}
+use Rattle.bl_index.specs.Calls.{IsPassOf, number_of, trail, map_of}
 use Rattle.bl_index.specs.Opened.{IsOpened}
 use Rattle.bl_serve.specs.Serving.{AreFrom, AreTogether, seen_by}
 
@@ -32,3 +35,7 @@ opened_together config index passes o = subst (λ (z : Trail). AreTogether index
   each = opened_from index 0 passes (λ n pass at. let r = o.each n pass at in (r.0, (let e = r.1 in omega arith), r.2));
   may_be = o.seen;
 })
+
+-- a server over them stops as one from the empty map
+pub stops_empty : (olds : List Pass) (input output : List ℕ) (fault : ServeFault) (reader_failed writer_failed : Type 0) → seen_by olds ≡ [] → Stops (map_of (seen_by olds)) input output fault reader_failed writer_failed → Stops empty input output fault reader_failed writer_failed
+stops_empty olds input output fault reader_failed writer_failed unseen s = subst (λ (m : Map). Stops m input output fault reader_failed writer_failed) (ap map_of unseen) s

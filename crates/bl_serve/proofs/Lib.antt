@@ -12,3 +12,4 @@ pub mod Cutting
 pub mod Faults
 pub mod Beginning
 pub mod Scanning
+pub mod Leaving

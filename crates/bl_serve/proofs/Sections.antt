@@ -22,18 +22,18 @@ history_append [] ys = refl
 history_append (m ∷ ms) ys = ap (λ (z : List Entry). entries_at m.event.process m.said ++ z) (history_append ms ys) ∙ sym (append_assoc (entries_at m.event.process m.said) (history_of ms) (history_of ys))
 
 module _ (passes : ℕ) where
-  abbrev IsBelow : Entry → Type 0
+  abbrev pub IsBelow : Entry → Type 0
   IsBelow e = e.pass < passes
 
   entries_below : (p : Name) (said : Option Said) (es : List Entry) → p.pass < passes → All IsBelow es → All IsBelow (entries_at p said ++ es)
   entries_below p None es low all = all
   entries_below p (Some s) es low all = All-cons IsBelow (record { pass = p.pass; op = s.op; reply = s.reply }) es low all
 
-  all_below : (marks : Trail) → AreWithin passes marks → All IsBelow (history_of marks)
+  pub all_below : (marks : Trail) → AreWithin passes marks → All IsBelow (history_of marks)
   all_below [] w = All-nil IsBelow
   all_below (m ∷ ms) w = entries_below m.event.process m.said (history_of ms) (w m (0, omega arith, refl)) (all_below ms (λ n c. w n (suc c.0, (let l = c.1 in omega arith), c.2)))
 
-  within_rest : (old more : Trail) → AreWithin passes (old ++ more) → AreWithin passes more
+  pub within_rest : (old more : Trail) → AreWithin passes (old ++ more) → AreWithin passes more
   within_rest [] more w = w
   within_rest (m ∷ ms) more w = within_rest ms more (λ n c. w n (suc c.0, (let l = c.1 in omega arith), c.2))
 
@@ -44,7 +44,7 @@ FitsFrom old new from [] = Unit {0}
 FitsFrom old new from (t ∷ ts) = (number_of t.old ≡ from) × (trail t.old ≡ old) × (own from new ≡ own from (trail t.new)) × FitsFrom old new (suc from) ts
 
 module _ (old new more : Trail) (on : new ≡ old ++ more) where
-  own_more : (pass : ℕ) → own pass new ≡ own pass old ++ entries_of_pass pass (history_of more)
+  pub own_more : (pass : ℕ) → own pass new ≡ own pass old ++ entries_of_pass pass (history_of more)
   own_more pass = ap (own pass) on ∙ (ap (entries_of_pass pass) (history_append old more) ∙ entries_of_pass-append pass (history_of old) (history_of more))
 
   share_is : (from : ℕ) (t : Taken) → IsTaken t → number_of t.old ≡ from → trail t.old ≡ old → own from new ≡ own from (trail t.new) → entries_of_pass from (history_of more) ≡ joined t.share

@@ -7,3 +7,4 @@ pub mod Meetings
 pub mod Reading
 pub mod Sections
 pub mod Serving
+pub mod Dumps

@@ -8,6 +8,7 @@
 
 mod answering;
 mod compressing;
+mod dumping;
 mod gate;
 mod joining;
 mod meeting;
@@ -19,6 +20,7 @@ mod working;
 
 pub use bl_lines::{ServeFault, Totals};
 pub use compressing::follow_hint;
+pub use dumping::dump_index;
 pub use gate::{Gate, OpenGate};
 pub use serving::serve;
 pub use starting::serve_index;

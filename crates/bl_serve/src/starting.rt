@@ -5,6 +5,7 @@ ghost use Rattle.std.specs.Io.KnownBytes.{Appends, Consumes, IsAtEnd};
 ghost use Rattle.bl_model.specs.Map.{empty};
 ghost use Rattle.bl_lines.specs.Served.{Served, Stops};
 ghost use Rattle.bl_lines.specs.Streams.{EndsRead};
+ghost use Rattle.bl_index.specs.Calls.{pages_of};
 ghost use Rattle.bl_serve.specs.Serving.{AreTogether, seen_by};
 
 use crate::gate::OpenGate;
@@ -17,10 +18,11 @@ use std::io::{Read, Write};
 use std::sync::Wait;
 use std::thread::Threads;
 
-/// A new index, with so many passes. They have seen nothing yet.
-fn open_index(alloc: Global, pages: u32, passes: u32) -> Result<(Index, Vec<Pass>), AllocError>
+/// A new index of so many pages, with so many passes. They have seen nothing yet.
+pub fn open_index(alloc: Global, pages: u32, passes: u32) -> Result<(Index, Vec<Pass>), AllocError>
     requires pages { (4 ≤ pages) × (pages ≤ 65536) }
     requires passes { (1 ≤ passes) × (passes ≤ 64) }
+    ensures pages { IfOk result (λ t. pages_of t.0 ≡ pages) }
     ensures many { IfOk result (λ t. vec_len t.1 ≡ passes) }
     ensures unseen { IfOk result (λ t. seen_by t.1.items ≡ []) }
     ensures together { IfOk result (λ t. AreTogether t.0 (seen_by t.1.items) t.1.items) }

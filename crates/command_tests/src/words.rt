@@ -1,6 +1,6 @@
 //! The words of the command line, and the words on standard error.
 
-use bl_commands::CommandFault;
+use bl_commands::{CommandFault, DumpFault};
 use bl_lines::ServeFault;
 use bl_options::{Invocation, ServeOptions, read_words};
 use std::alloc::Global;
@@ -55,8 +55,18 @@ fn words_of_the_command_line(rt: HostRuntime) -> Result<(), Fail> {
         )?,
         Some(Invocation::Serve(most))
     );
+    assert_eq!(rt;
+        invoked(
+            rt.alloc(),
+            "blink dump --pages 4 index.image --workers 1 --compressors 0"
+        )?,
+        Some(Invocation::Dump(least, String::from_str(rt.alloc(), "index.image")?))
+    );
     for refused in [
         "blink",
+        "blink dump",
+        "blink dump a b",
+        "blink dump index.image --pages 3",
         "blink serve --pages 3",
         "blink serve --pages 65537",
         "blink serve --workers 0",
@@ -66,6 +76,33 @@ fn words_of_the_command_line(rt: HostRuntime) -> Result<(), Fail> {
         "blink server",
     ] {
         assert_eq!(rt; invoked(rt.alloc(), refused)?, None, "{refused}");
+    }
+    Ok(())
+}
+
+#[test]
+fn words_of_a_dump_that_fails(rt: HostRuntime) -> Result<(), Fail> {
+    let path = || String::from_str(rt.alloc(), "i.new");
+    for (fault, text, status) in [
+        (DumpFault::Memory, "blink: out of memory", 4),
+        (
+            DumpFault::Make(path()?),
+            "blink: write failed: cannot make i.new",
+            3,
+        ),
+        (
+            DumpFault::Fill(path()?),
+            "blink: write failed: cannot write i.new",
+            3,
+        ),
+        (
+            DumpFault::Rename(path()?),
+            "blink: write failed: cannot rename i.new",
+            3,
+        ),
+    ] {
+        assert_eq!(rt; format!(in rt.alloc(); "{fault}")?.as_str(), text);
+        assert_eq!(rt; fault.status(), status);
     }
     Ok(())
 }

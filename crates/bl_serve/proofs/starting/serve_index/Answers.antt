@@ -2,22 +2,19 @@ use Rattle.std.proofs.Common.{◌≡◌, List, [], ℕ, ◌++◌, ap, subst, tru
 use Rattle.std.proofs.lemmas.Result.{err_from_is_err_and}
 use Rattle.bl_model.specs.Map.{Map, empty}
 use Rattle.bl_lines.specs.declared.serving.Totals.{Totals}
-use Rattle.bl_lines.specs.declared.serving.ServeFault.{ServeFault}
-use Rattle.bl_lines.specs.Served.{Served, Stops}
+use Rattle.bl_lines.specs.Served.{Served}
 use Rattle.bl_lines.proofs.Known.{consumes_start, appends_start}
 use Rattle.bl_lines.proofs.Sections.{stops_at_once}
 use Rattle.bl_index.specs.declared.index.Index.{Index}
 use Rattle.bl_index.specs.declared.index.Pass.{Pass}
 use Rattle.bl_index.specs.Calls.{map_of}
 use Rattle.bl_serve.specs.Serving.{Serves, seen_by}
+use Rattle.bl_serve.proofs.Beginning.{stops_empty}
 use Rattle.bl_serve.proofs.starting.serve_index.Goals as goal
 
 -- new passes have seen nothing, so that what they have served is served from the empty map
 from_empty : (index : Index) (olds news : List Pass) (input output : List ℕ) (totals : Totals) → seen_by olds ≡ [] → Serves index olds news input output totals → Served empty input output totals
 from_empty index olds news input output totals unseen s = subst (λ (m : Map). Served m input output totals) (ap map_of unseen) s.served.served
-
-stops_empty : (olds : List Pass) (input output : List ℕ) (fault : ServeFault) (reader_failed writer_failed : Type 0) → seen_by olds ≡ [] → Stops (map_of (seen_by olds)) input output fault reader_failed writer_failed → Stops empty input output fault reader_failed writer_failed
-stops_empty olds input output fault reader_failed writer_failed unseen s = subst (λ (m : Map). Stops m input output fault reader_failed writer_failed) (ap map_of unseen) s
 
 -- no memory for the index
 pub returns-in_err-index : goal.returns-in_err-index
