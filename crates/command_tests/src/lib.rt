@@ -1,5 +1,5 @@
-//! Tests of the commands `check` and `replay`: images and damages, worked scripts with all that they print, bad scripts, and
-//! streams that fail.
+//! Tests of the commands `check` and `replay`: images and damages, streams that fail, memory that is refused, paths that are no file,
+//! and words. Scripts with all that they print are data of `worked_scripts`.
 //!
 //! They stand apart from `bl_commands` and `bl_replay`, and nothing else uses them: the program need not wait until these tests are proved.
 #![tactic(auto)]
@@ -7,12 +7,8 @@
 #[cfg(test)]
 mod checking;
 #[cfg(test)]
-mod compressions;
-#[cfg(test)]
 mod plays;
 #[cfg(test)]
 mod replaying;
-#[cfg(test)]
-mod scripts;
 #[cfg(test)]
 mod words;

@@ -1,0 +1,118 @@
+//! Replays each script `NAME.script` of the folder that it is run in, and compares all that `blink replay` prints for it with
+//! the file `NAME.out`, byte by byte: what goes to standard output, and then the line on standard error where there is one.
+//! It also tries each line of a file `NAME.lines` behind the lines of `NAME.head`, where that line must be refused.
+//!
+//! It prints a line for each file, by its name: `ok`, or the first line that is wrong, which is counted from 1. Its status is
+//! 1 where one is wrong or a file is missing.
+#![tactic(auto)]
+
+ghost use Rattle.std.specs.Prelude.{◌≡◌, ◌↔◌, IsNone};
+
+use bl_commands::{CommandFault, replay_file, replay_script};
+use bl_model::Watched;
+use std::alloc::Global;
+use std::fs;
+use std::process::ExitCode;
+
+fn main(rt: HostRuntime) -> anyhow::Result<ExitCode> {
+    let mut all_right = true;
+    for name in names_with(&rt, ".script")?.iter() {
+        all_right &= tell(&rt, name.as_str(), wrong_line(&rt, name.as_str())?)?;
+    }
+    for name in names_with(&rt, ".lines")?.iter() {
+        all_right &= tell(&rt, name.as_str(), line_that_is_taken(&rt, name.as_str())?)?;
+    }
+    Ok(ExitCode::from(if all_right { 0 } else { 1 }))
+}
+
+/// The names of the files with this ending, without it, in order.
+fn names_with(rt: &HostRuntime, ending: &str) -> anyhow::Result<Vec<String>> {
+    let alloc = rt.alloc();
+    let mut names = Vec::new(alloc);
+    for entry in fs::read_dir(rt, ".")? {
+        let entry = entry?;
+        if let Some(name) = entry.file_name().strip_suffix(ending) {
+            names.push(String::from_str(alloc, name)?)?;
+        }
+    }
+    names.sort_unstable();
+    Ok(names)
+}
+
+/// The contents of the file with this name and ending.
+fn contents(rt: &HostRuntime, name: &str, ending: &str) -> anyhow::Result<Vec<u8>> {
+    let path = format!(in rt.alloc(); "{name}{ending}")?;
+    Ok(fs::read(rt, path.as_str())?)
+}
+
+/// Prints what was found of a file, and gives whether it was right.
+fn tell(rt: &HostRuntime, name: &str, wrong: Option<usize>) -> anyhow::Result<bool> {
+    match wrong {
+        Some(line) => println!(rt; "{name} is wrong at line {line}")?,
+        None => println!(rt; "{name} ok")?,
+    }
+    Ok(wrong.is_none())
+}
+
+/// The first line of what a script prints that is not as wanted.
+fn wrong_line(rt: &HostRuntime, name: &str) -> anyhow::Result<Option<usize>> {
+    let wanted = contents(rt, name, ".out")?;
+    let path = format!(in rt.alloc(); "{name}.script")?;
+    let mut writer = Watched::new(Vec::new(rt.alloc()));
+    let result = replay_file(rt, path.as_str(), &mut writer);
+    let mut found = writer.into_inner();
+    if let Err(fault) = result {
+        let line = format!(in rt.alloc(); "{fault}\n")?;
+        found.extend_from_slice(line.as_bytes())?;
+    }
+    Ok(first_difference(found.as_slice(), wanted.as_slice()))
+}
+
+/// The first line in which two texts differ, None where they are the same.
+fn first_difference(found: &[u8], wanted: &[u8]) -> Option<usize>
+    ensures { IsNone result ↔ (found.now ≡ wanted.now) }
+{
+    if found == wanted {
+        return None;
+    }
+    let mut line = 1usize;
+    for (found, wanted) in found.iter().zip(wanted.iter()) {
+        if found != wanted {
+            break;
+        }
+        if *found == b'\n' {
+            line = line.saturating_add(1);
+        }
+    }
+    Some(line)
+}
+
+/// The first line of a file of lines that is not refused behind those of its head.
+fn line_that_is_taken(rt: &HostRuntime, name: &str) -> anyhow::Result<Option<usize>> {
+    let head = contents(rt, name, ".head")?;
+    let lines = contents(rt, name, ".lines")?;
+    let mut number = 0usize;
+    for line in lines.as_slice().split_inclusive(|byte| *byte == b'\n') {
+        number = number.saturating_add(1);
+        if !is_refused(rt.alloc(), head.as_slice(), line)? {
+            return Ok(Some(number));
+        }
+    }
+    Ok(None)
+}
+
+/// The script of the head and this line is bad at the line, and nothing is written.
+fn is_refused(alloc: Global, head: &[u8], line: &[u8]) -> anyhow::Result<bool> {
+    let mut place = 1u64;
+    for byte in head.iter() {
+        if *byte == b'\n' {
+            place = place.saturating_add(1);
+        }
+    }
+    let mut script = Vec::from_slice(alloc, head)?;
+    script.extend_from_slice(line)?;
+    let mut writer = Watched::new(Vec::new(alloc));
+    let mut reader = Watched::new(script.as_slice());
+    let result = replay_script(alloc, &mut reader, &mut writer);
+    Ok(result == Err(CommandFault::Script(place)) && writer.into_inner().is_empty())
+}
