@@ -19,7 +19,7 @@ use Rattle.bl_passes.specs.Noting.{trail_of}
 use Rattle.bl_index.specs.declared.config.Config.{Config}
 use Rattle.bl_index.specs.declared.index.Index.{Index}
 use Rattle.bl_index.specs.declared.index.Pass.{Pass}
-use Rattle.bl_index.specs.Opened.{IsFirstAnchor, IsFirstLeaf, AreFirst, AreNew, ArePasses, IsOpened}
+use Rattle.bl_index.specs.Opened.{IsFirstAnchor, IsFirstLeaf, AreFirst, IsNewHand, AreNew, ArePasses, IsOpened}
 
 there : {A : Type 0} (l : List A) (i : ℕ) → i < length l → (a : A) × (get_elem? l i ≡ some a)
 there [] i h = absurd (omega arith)
@@ -63,6 +63,9 @@ dealt_new index passes hands dealt j hand at = (let is = dealt.each j hand at in
 -- hands that know what a pass knows at first
 pub dealt : (table : TableId) (l : Layout) (known : Mine) (passes : ℕ) (hands : List (Hand Mine)) → known ≡ newcomer → IsDealt table l known passes hands → IsDealt table l newcomer passes hands
 dealt table l known passes hands is h = subst (λ (z : Mine). IsDealt table l z passes hands) is h
+
+pub new_hands : (table : TableId) (l : Layout) (passes : ℕ) (hands : List (Hand Mine)) → IsDealt table l newcomer passes hands → AreNew table l 0 hands
+new_hands table l passes hands h j hand at = let same : j ≡ 0 + j = omega arith in subst (λ (z : ℕ). IsNewHand table l z hand) same (h.each j hand at)
 
 pub is_opened : (config : Config) (index : Index) (hands : List (Hand Mine)) (passes : List Pass) → index.store.layout.pages ≡ config.pages → index.store.layout.passes ≡ config.passes → IsDealt index.store.table.shared.table_id index.store.layout newcomer config.passes hands → ArePasses index.store.table.shared.table_id index.store.layout (length hands) passes → IsOpened config index passes
 is_opened config index hands passes pages among dealt are = record {

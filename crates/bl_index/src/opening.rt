@@ -58,7 +58,7 @@ fn first_pages(alloc: Global, pages: u32) -> Result<Vec<[u64; 32]>, AllocError>
 }
 
 /// What each pass knows at first: it has begun no process, and has seen nothing.
-fn newcomer() -> Mine
+fn newcomer(alloc: Global) -> Mine
     ensures { result ≡ unborn_pass }
 {
     Mine {
@@ -71,8 +71,8 @@ fn newcomer() -> Mine
             key: 0,
             stage: FindStage::New,
         }),
-        past: LinkedList::new(),
-        trail: LinkedList::new(),
+        past: LinkedList::new(alloc),
+        trail: LinkedList::new(alloc),
     }
 }
 
@@ -120,7 +120,8 @@ impl Index {
         ensures { IfOk result (λ t. IsOpened config t.0 t.1.items) }
     {
         let first = first_pages(alloc, config.pages)?;
-        let (store, hands) = Store::new(alloc, first.as_slice(), config.passes, &newcomer())?;
+        let known = newcomer(alloc);
+        let (store, hands) = Store::new(alloc, first.as_slice(), config.passes, &known)?;
         let passes = passes_of(alloc, &store, hands)?;
         let index = Index {
             store,

@@ -22,6 +22,7 @@ use std::alloc::{AllocError, Global};
 mod tests;
 
 /// What a hand knows: the page that it holds.
+#[derive(Drop)]
 pub struct Mine {
     pub held: Option<u32>,
 }
@@ -96,7 +97,8 @@ pub fn hands(alloc: Global, pages: u32, passes: u32) -> Result<(Held, Vec<Hand<M
     for page in 0..pages {
         first.push(if page < 2 { [1u64; 32] } else { [0u64; 32] })?;
     }
-    let (store, hands) = Store::new(alloc, first.as_slice(), passes, &Mine { held: None })?;
+    let known = Mine { held: None };
+    let (store, hands) = Store::new(alloc, first.as_slice(), passes, &known)?;
     Ok((store, hands))
 }
 
