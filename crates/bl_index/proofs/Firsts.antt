@@ -2,6 +2,8 @@
 use Rattle.std.proofs.Common.{ℕ, zero, suc, ◌≡◌, ◌+◌, ◌<◌, ◌≤◌, List, [], ◌∷◌, length, replicate, refl, ap, ◌∙◌, subst, arith}
 use mathlib.Core.Option.{some}
 use lib.ListN.{get_elem?}
+use Rattle.atomic_table.specs.Seated.{TableId}
+use Rattle.bl_layout.specs.declared.layout.Layout.{Layout}
 use Rattle.bl_page.specs.declared.page.Page.{Page}
 use Rattle.bl_page.specs.declared.page.Page.TheVariants.{Anchor, Leaf, Inner, Dead}
 use Rattle.bl_page.specs.Words.{words_of}
@@ -17,7 +19,7 @@ use Rattle.bl_passes.specs.Noting.{trail_of}
 use Rattle.bl_index.specs.declared.config.Config.{Config}
 use Rattle.bl_index.specs.declared.index.Index.{Index}
 use Rattle.bl_index.specs.declared.index.Pass.{Pass}
-use Rattle.bl_index.specs.Opened.{IsFirstAnchor, IsFirstLeaf, AreFirst, AreNew, ArePasses, IsOpened}
+use Rattle.bl_index.specs.Opened.{IsFirstAnchor, IsFirstLeaf, AreFirst, IsNewHand, AreNew, ArePasses, IsOpened}
 
 there : {A : Type 0} (l : List A) (i : ℕ) → i < length l → (a : A) × (get_elem? l i ≡ some a)
 there [] i h = absurd (omega arith)
@@ -57,6 +59,13 @@ opens many contents four f passes =
 
 pub dealt_new : (index : Index) (passes : ℕ) (hands : List (Hand Mine)) → IsDealt index.store.table.shared.table_id index.store.layout newcomer passes hands → AreNew index.store.table.shared.table_id index.store.layout 0 hands
 dealt_new index passes hands dealt j hand at = (let is = dealt.each j hand at in let same : j ≡ 0 + j = omega arith in subst (λ (z : ℕ). (hand.number ≡ z) × (hand.seat.table_id ≡ index.store.table.shared.table_id) × (hand.seat.me.0 ≡ share index.store.layout newcomer z (z + 1))) same is)
+
+-- hands that know what a pass knows at first
+pub dealt : (table : TableId) (l : Layout) (known : Mine) (passes : ℕ) (hands : List (Hand Mine)) → known ≡ newcomer → IsDealt table l known passes hands → IsDealt table l newcomer passes hands
+dealt table l known passes hands is h = subst (λ (z : Mine). IsDealt table l z passes hands) is h
+
+pub new_hands : (table : TableId) (l : Layout) (passes : ℕ) (hands : List (Hand Mine)) → IsDealt table l newcomer passes hands → AreNew table l 0 hands
+new_hands table l passes hands h j hand at = let same : j ≡ 0 + j = omega arith in subst (λ (z : ℕ). IsNewHand table l z hand) same (h.each j hand at)
 
 pub is_opened : (config : Config) (index : Index) (hands : List (Hand Mine)) (passes : List Pass) → index.store.layout.pages ≡ config.pages → index.store.layout.passes ≡ config.passes → IsDealt index.store.table.shared.table_id index.store.layout newcomer config.passes hands → ArePasses index.store.table.shared.table_id index.store.layout (length hands) passes → IsOpened config index passes
 is_opened config index hands passes pages among dealt are = record {

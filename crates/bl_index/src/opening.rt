@@ -1,6 +1,7 @@
 //! An index is made.
 
-ghost use Rattle.std.specs.Prelude.{◌≤◌, length, IfOk, IfErr};
+ghost use Rattle.std.specs.Prelude.{◌≡◌, ◌≤◌, length, IfOk, IfErr};
+ghost use Rattle.bl_passes.specs.Fitting.{newcomer as unborn_pass};
 ghost use Rattle.bl_index.specs.Opened.{IsRefusal, IsFirstAnchor, IsFirstLeaf, IsFirst, AreFirst, AreNew, ArePasses, IsOpened};
 
 use crate::config::{Config, OpenFault};
@@ -8,8 +9,10 @@ use crate::index::{Index, Pass};
 use arrayvec::ArrayVec;
 use bl_page::{Anchor, Leaf, Page};
 use bl_passes::{Mine, Passes};
+use bl_proc::{Find, FindStage, Proc};
 use bl_store::{Hand, Store};
 use std::alloc::{AllocError, Global};
+use std::collections::LinkedList;
 
 /// The anchor of a tree whose only page is page 1.
 fn first_anchor() -> Page
@@ -52,6 +55,25 @@ fn first_pages(alloc: Global, pages: u32) -> Result<Vec<[u64; 32]>, AllocError>
         first.push(first_words(page))?;
     }
     Ok(first)
+}
+
+/// What each pass knows at first: it has begun no process, and has seen nothing.
+fn newcomer(alloc: Global) -> Mine
+    ensures { result ≡ unborn_pass }
+{
+    Mine {
+        pass: 0,
+        pages: 0,
+        passes: 0,
+        number: 0,
+        runs: false,
+        state: Proc::Find(Find {
+            key: 0,
+            stage: FindStage::New,
+        }),
+        past: LinkedList::new(alloc),
+        trail: LinkedList::new(alloc),
+    }
 }
 
 /// A pass of each hand.
@@ -98,7 +120,8 @@ impl Index {
         ensures { IfOk result (λ t. IsOpened config t.0 t.1.items) }
     {
         let first = first_pages(alloc, config.pages)?;
-        let (store, hands) = Store::new(alloc, first.as_slice(), config.passes)?;
+        let known = newcomer(alloc);
+        let (store, hands) = Store::new(alloc, first.as_slice(), config.passes, &known)?;
         let passes = passes_of(alloc, &store, hands)?;
         let index = Index {
             store,

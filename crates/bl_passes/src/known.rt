@@ -6,12 +6,14 @@ use bl_proc::Proc;
 use std::collections::LinkedList;
 
 /// A process: the pass that runs it, and its number among that pass's processes, from 1.
+#[derive(Drop)]
 pub struct Who {
     pub pass: u32,
     pub number: u64,
 }
 
 /// What one event did.
+#[derive(Drop)]
 pub enum Deed {
     Begin,
     /// An end, and what was answered, if anything.
@@ -31,12 +33,14 @@ pub enum Deed {
 }
 
 /// An answered operation.
+#[derive(Drop)]
 pub struct Spoken {
     pub op: Op,
     pub reply: Reply,
 }
 
 /// One event, the page that it saw, if it is a get, and the operation that has its point there, if one has.
+#[derive(Drop)]
 pub struct Noted {
     pub who: Who,
     pub deed: Deed,
@@ -45,6 +49,7 @@ pub struct Noted {
 }
 
 /// What a pass knows.
+#[derive(Drop)]
 pub struct Mine {
     /// The number of the pass, once it has begun a process.
     pub pass: u32,

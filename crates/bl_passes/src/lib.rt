@@ -3,7 +3,8 @@
 //!
 //! Promised to `bl_index`: each event of a store is a turn of the process that the hand's pass has, whatever its kind, so
 //! the rule holds after it, and the pass knows all that has happened up to its own event. Each release of a sweep is one too,
-//! of a process of its own that does not begin. No value of the types here is made while a program runs.
+//! of a process of its own that does not begin. No value of the types here is made while a program runs, but for one of
+//! [`Mine`] as an index is made.
 #![tactic(auto)]
 
 mod events;

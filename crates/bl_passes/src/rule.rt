@@ -14,5 +14,5 @@ impl PageRule<Mine> for Passes {
 
     ghost ticks = { λ s f. record { world = f.world; good = f.good; kept = f.kept; opening = f.opening; first = f.first; moments = f.moments; size = f.size; clock = le_trans f.clock (le-add_right s.clock 1); pages = f.pages; owners = f.owners; hands = f.hands; within = f.within; busy = f.busy; counts = f.counts } };
 
-    ghost first = { newcomer };
+    ghost gone = { newcomer };
 }

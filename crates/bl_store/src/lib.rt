@@ -32,4 +32,4 @@ pub use put::Spread;
 pub use rule::{MeetPlay, PagePlay, PageRule, SweepPlay, TimePlay};
 pub use stock::{NoRoom, Stock};
 pub use store::{Glance, Hand, Store};
-pub use view::{Draft, Dropping, Framed, Reading, Sealing, Stamp, Sweep, View, Wanted};
+pub use view::{Draft, Dropping, Framed, Ground, Reading, Sealing, Stamp, Sweep, View, Wanted};

@@ -33,7 +33,7 @@ impl<D, R: PageRule<D>> Join<View<D>> for TakeIn<R> {
 
     ghost both = { taking_in };
 
-    ghost spent = { spent_view R.first };
+    ghost spent = { spent_view R.gone };
 }
 
 // The hand that was taken in last has a seat of its own again.

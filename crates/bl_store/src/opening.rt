@@ -7,11 +7,12 @@ ghost use Rattle.bl_store.specs.declared.view.Sealing.TheVariants.{Unsealed};
 
 use crate::rule::PageRule;
 use crate::store::{Hand, RING, Store};
-use crate::view::View;
+use crate::view::{Ground, View};
 use atomic_table::{Seat, Split, Table};
 use bl_layout::Layout;
 use std::alloc::{AllocError, Global};
 use std::mem;
+use std::snapshot::Snapshot;
 use std::sync::atomic::AtomicU64;
 
 // The numbers that a hand has to deal out, but its own, go to the next hand.
@@ -26,42 +27,48 @@ impl<D> Split<View<D>> for Deal {
 }
 
 impl<D, R: PageRule<D>> Store<D, R, Global> {
-    /// A store whose pages have these words, and a hand for each pass. A page with only zeros is released, every other
-    /// is open.
+    /// A store whose pages have these words, and a hand for each pass, which knows at first what is lent here. A page with
+    /// only zeros is released, every other is open.
     pub fn new(
         alloc: Global,
         first: &[[u64; 32]],
         passes: u32,
+        known: &D,
     ) -> Result<(Store<D, R, Global>, Vec<Hand<D>>), AllocError>
         requires pages { (4 ≤ length first.now) × (length first.now ≤ 65536) }
         requires passes { (1 ≤ passes) × (passes ≤ 64) }
-        requires rule { R.holds (first_pages first.now passes R.first) }
+        requires rule { R.holds (first_pages first.now passes known.now) }
         ensures layout { IfOk result (λ t. (t.0.layout.pages ≡ length first.now) × (t.0.layout.passes ≡ passes)) }
-        ensures hands { IfOk result (λ t. IsDealt t.0.table.shared.table_id t.0.layout R.first passes t.1.items) }
+        ensures hands { IfOk result (λ t. IsDealt t.0.table.shared.table_id t.0.layout known.now passes t.1.items) }
     {
         let layout = Layout {
             pages: first.len() as u32,
             passes,
         };
-        Self::of_layout(alloc, layout, first)
+        Self::of_layout(alloc, layout, first, known)
     }
 
     fn of_layout(
         alloc: Global,
         layout: Layout,
         first: &[[u64; 32]],
+        known: &D,
     ) -> Result<(Store<D, R, Global>, Vec<Hand<D>>), AllocError>
         requires pages { length first.now ≡ layout.pages }
-        requires rule { R.holds (first_pages first.now layout.passes R.first) }
+        requires rule { R.holds (first_pages first.now layout.passes known.now) }
         ensures layout { IfOk result (λ t. t.0.layout ≡ layout) }
-        ensures hands { IfOk result (λ t. IsDealt t.0.table.shared.table_id layout R.first layout.passes t.1.items) }
+        ensures hands { IfOk result (λ t. IsDealt t.0.table.shared.table_id layout known.now layout.passes t.1.items) }
     {
         let mut words = Vec::with_capacity(alloc, layout.words())?;
         for _ in 0..layout.words() {
             words.push(0u64)?;
         }
         lay(layout, first, words.as_mut_slice());
-        let (table, seat) = Table::of_words(alloc, words.as_slice(), &layout)?;
+        let ground = Ground {
+            layout,
+            known: Snapshot::of(known),
+        };
+        let (table, seat) = Table::of_words(alloc, words.as_slice(), &ground)?;
         let store = Store {
             table,
             layout,
@@ -76,8 +83,8 @@ impl<D, R: PageRule<D>> Store<D, R, Global> {
     // A hand for each number, from the seat that has them all.
     fn deal(&self, alloc: Global, mut seat: Seat<(), View<D>>) -> Result<Vec<Hand<D>>, AllocError>
         requires table { seat.table_id ≡ self.now.table.shared.table_id }
-        requires all { seat.me ≡ (share self.now.layout R.first 0 self.now.layout.passes, []) }
-        ensures { IfOk result (λ v. IsDealt self.now.table.shared.table_id self.now.layout R.first self.now.layout.passes v.items) }
+        requires all { seat.me ≡ (share self.now.layout self.now.table.shared.key.known.value 0 self.now.layout.passes, []) }
+        ensures { IfOk result (λ v. IsDealt self.now.table.shared.table_id self.now.layout self.now.table.shared.key.known.value self.now.layout.passes v.items) }
     {
         let passes = self.layout.passes;
         let mut hands = Vec::with_capacity(alloc, passes as usize)?;

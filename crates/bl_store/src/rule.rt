@@ -10,8 +10,8 @@ pub trait PageRule<D> {
     // Time may pass.
     ghost ticks: { (s : Pages D) → holds s → holds (later s) };
 
-    // What each hand knows at first.
-    ghost first: { D };
+    // What stands for the knowledge of a seat that has no hand.
+    ghost gone: { D };
 }
 
 /// What an event that is at no page tells its hand, and a retirement.

@@ -9,7 +9,7 @@ ghost use Rattle.bl_store.specs.declared.view.Sealing.TheVariants.{Unsealed};
 
 use crate::plays::{Clock, Copy, Enter, Leave, Look};
 use crate::rule::{PagePlay, PageRule, TimePlay};
-use crate::view::{Framed, View};
+use crate::view::{Framed, Ground, View};
 use atomic_table::{Seat, Table};
 use bl_layout::Layout;
 use std::alloc::{Allocator, Global};
@@ -51,14 +51,14 @@ pub struct Glance {
 /// Pages that threads share. D is what a hand knows, and R the user's rule.
 #[derive(Drop)]
 pub struct Store<D, R: PageRule<D>, A: Allocator = Global> {
-    pub(crate) table: Table<(), View<D>, Layout, Framed<R>, A>,
+    pub(crate) table: Table<(), View<D>, Ground<D>, Framed<R>, A>,
     pub(crate) layout: Layout,
     // The numbers of the word of page 0, and of the first word of frame 0.
     pub(crate) heads: usize,
     pub(crate) firsts: usize,
     // The least page that may be released, as one thread alone sees it. No proof rests on it.
     pub(crate) least_free: AtomicU64,
-    pub ghost key: { table.shared.key ≡ layout },
+    pub ghost key: { table.shared.key.layout ≡ layout },
     pub ghost heads_at: { heads ≡ page_at layout 0 },
     pub ghost firsts_at: { firsts ≡ place_at layout 0 0 },
     pub ghost wide: { table.shared.table_id.words ≡ word_count layout },

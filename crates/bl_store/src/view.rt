@@ -4,6 +4,7 @@ use atomic_table::TableRule;
 use bl_layout::Layout;
 use std::collections::LinkedList;
 use std::marker::PhantomData;
+use std::snapshot::Snapshot;
 
 /// Whether a hand is in a process, by its process word.
 pub enum Stamp {
@@ -87,15 +88,22 @@ pub struct View<D> {
     pub joined: LinkedList<Joined<D>>,
 }
 
+/// What a store is made for: its layout, and what each of its hands knows at first.
+#[derive(Drop)]
+pub struct Ground<D> {
+    pub(crate) layout: Layout,
+    pub(crate) known: Snapshot<D>,
+}
+
 /// The store's rule of the table, over the user's rule of the pages.
 pub struct Framed<R> {
     rule: PhantomData<R>,
 }
 
-impl<D, R: PageRule<D>> TableRule<(), View<D>, Layout> for Framed<R> {
+impl<D, R: PageRule<D>> TableRule<(), View<D>, Ground<D>> for Framed<R> {
     ghost use Rattle.bl_store.specs.Frames.{Kept, starting};
 
-    ghost holds = { λ layout. Kept layout R.first R.holds };
+    ghost holds = { λ ground. Kept ground.layout ground.known.value R.holds };
 
-    ghost first = { λ layout. starting layout R.first };
+    ghost first = { λ ground. starting ground.layout ground.known.value };
 }

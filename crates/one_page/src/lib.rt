@@ -21,7 +21,8 @@ use std::alloc::{AllocError, Global};
 #[cfg(test)]
 mod tests;
 
-/// What a hand knows: the page that it holds. No value of it is made.
+/// What a hand knows: the page that it holds.
+#[derive(Drop)]
 pub struct Mine {
     pub held: Option<u32>,
 }
@@ -34,7 +35,7 @@ impl PageRule<Mine> for OnePage {
 
     ghost ticks = { λ s r. record { whole = r.whole; fixed = r.fixed; held = r.held; known = r.known } };
 
-    ghost first = { holding None };
+    ghost gone = { holding None };
 }
 
 /// A store under the rule.
@@ -96,7 +97,8 @@ pub fn hands(alloc: Global, pages: u32, passes: u32) -> Result<(Held, Vec<Hand<M
     for page in 0..pages {
         first.push(if page < 2 { [1u64; 32] } else { [0u64; 32] })?;
     }
-    let (store, hands) = Store::new(alloc, first.as_slice(), passes)?;
+    let known = Mine { held: None };
+    let (store, hands) = Store::new(alloc, first.as_slice(), passes, &known)?;
     Ok((store, hands))
 }
 

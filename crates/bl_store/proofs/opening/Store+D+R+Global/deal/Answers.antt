@@ -11,12 +11,12 @@ pub split_seat-rest-requires : goal.split_seat-rest-requires
 split_seat-rest-requires g c = let st = c.args.self.now in let wide = st.wide in let inv = c.loop-number.invariant in let low = c.loop-number.auto in let view = ap (λ (m : Me (Unit {0}) (View g.row.D.Denot)). m.0) inv.view in let passes = ap (λ (z : Layout). z.passes) st.key in (
   search rules,
   omega arith,
-  subst (λ (z : Layout × View g.row.D.Denot). Splits (Kept {S = Unit {0}} z.0 g.R.PageRule.first g.R.PageRule.holds) c.loop-number.seat.id z.1 (own_share z.1) (next_share z.1)) (λ i. (sym st.key i, sym view i))
-      (deals st.layout g.R.PageRule.first g.R.PageRule.holds c.loop-number.seat.id (c.loop-number.number - 1) st.layout.passes (omega arith) (omega arith)),
+  subst (λ (z : Layout × View g.row.D.Denot). Splits (Kept {S = Unit {0}} z.0 c.args.self.now.table.shared.key.known.value g.R.PageRule.holds) c.loop-number.seat.id z.1 (own_share z.1) (next_share z.1)) (λ i. (sym st.key i, sym view i))
+      (deals st.layout c.args.self.now.table.shared.key.known.value g.R.PageRule.holds c.loop-number.seat.id (c.loop-number.number - 1) st.layout.passes (omega arith) (omega arith)),
 )
 
 pub loop-number-preserved : goal.loop-number-preserved
-loop-number-preserved g c = let inv = c.loop-number.invariant in let low = c.loop-number.auto.number in let l : Layout = c.args.self.now.layout in let first : g.row.D.Denot = g.R.PageRule.first in let n : ℕ = c.loop-number.number - 1 in
+loop-number-preserved g c = let inv = c.loop-number.invariant in let low = c.loop-number.auto.number in let l : Layout = c.args.self.now.layout in let first : g.row.D.Denot = c.args.self.now.table.shared.key.known.value in let n : ℕ = c.loop-number.number - 1 in
     let view = ap (λ (m : Me (Unit {0}) (View g.row.D.Denot)). m.0) inv.view in let cut = c.split_seat-rest.ensures in let seat : c.of.result.seat ≡ c.split_seat-rest.new.seat = c.of.ensures.1 ∙ c.replace-mine.ensures.value in let rest = c.replace-mine.ensures.after in
     let up : c.loop-number.number + 1 - 1 ≡ n + 1 = omega arith in record {
       dealt = dealt_on c.args.self.now.table.shared.table_id l first n (c.loop-number.number + 1 - 1) c.loop-number.hands.items c.push.new.self.items c.of.result c.in_ok-push.ensures.items up c.of.ensures.0
@@ -27,7 +27,7 @@ loop-number-preserved g c = let inv = c.loop-number.invariant in let low = c.loo
     }
 
 pub returns : goal.returns
-returns g c = let inv = c.loop-number.invariant in let low = c.loop-number.auto.number in let st = c.args.self.now in let l : Layout = st.layout in let first : g.row.D.Denot = g.R.PageRule.first in let some_pass = l.passes_within.0 in let high = c.loop-number.auto.number-end in
+returns g c = let inv = c.loop-number.invariant in let low = c.loop-number.auto.number in let st = c.args.self.now in let l : Layout = st.layout in let first : g.row.D.Denot = c.args.self.now.table.shared.key.known.value in let some_pass = l.passes_within.0 in let high = c.loop-number.auto.number-end in
     let over = c.loop-number-test.false in let n : ℕ = c.loop-number.number - 1 in let all : c.loop-number.number ≡ l.passes = omega arith in let up : l.passes ≡ n + 1 = omega arith in let view = ap (λ (m : Me (Unit {0}) (View g.row.D.Denot)). m.0) inv.view in
     let seat = c.of-2.ensures.1 in
     dealt_on st.table.shared.table_id l first n l.passes c.loop-number.hands.items c.push-2.new.self.items c.of-2.result c.in_ok-push-2.ensures.items up (c.of-2.ensures.0 ∙ ap (λ (z : ℕ). z - 1) (sym all))

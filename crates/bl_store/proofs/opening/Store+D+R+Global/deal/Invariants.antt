@@ -5,7 +5,7 @@ use Rattle.bl_store.proofs.opening.Store+D+R+Global.deal.Given as goal
 
 abbrev pub invariant-loop-number : goal.invariant-loop-number
 invariant-loop-number g l = record {
-  dealt : IsDealt l.fn.self.table.shared.table_id l.fn.self.layout g.R.PageRule.first (l.number - 1) l.hands.items;
+  dealt : IsDealt l.fn.self.table.shared.table_id l.fn.self.layout l.fn.self.table.shared.key.known.value (l.number - 1) l.hands.items;
   table : l.seat.table_id ≡ l.fn.self.table.shared.table_id;
-  view : l.seat.me ≡ (share l.fn.self.layout g.R.PageRule.first (l.number - 1) l.fn.self.layout.passes, []);
+  view : l.seat.me ≡ (share l.fn.self.layout l.fn.self.table.shared.key.known.value (l.number - 1) l.fn.self.layout.passes, []);
 }

@@ -31,7 +31,7 @@ loop-other-init g c = let all : List (Hand g.row.D.Denot) = c.args.hands.items i
 pub join_seat-requires : goal.join_seat-requires
 join_seat-requires g c = let wide = c.args.self.wide in let inv = c.loop-other.invariant in let hands : List (Hand g.row.D.Denot) = c.loop-other.hands.items in let rest : List (Hand g.row.D.Denot) = c.pop-in-loop-other.new.self.items in let last : Hand g.row.D.Denot = c.in-Some-pop.other in
     let is : hands ≡ rest ++ last ∷ [] = c.in-Some-pop.ensures.items in let at : get_elem? hands (length rest) ≡ some last = ap (λ (z : List (Hand g.row.D.Denot)). get_elem? z (length rest)) is ∙ at_last rest last (length rest) refl in
-    let own = c.requires.own (length rest) last (inv.there (length rest) last at) in (inv.table, own.0.0, last.own.3, omega arith, takes_in _ _ _ g.R.PageRule.first _ _ c.loop-other.seat.me.0 last.seat.me.0 inv.live (live_hand last) own.1 last.own.2)
+    let own = c.requires.own (length rest) last (inv.there (length rest) last at) in (inv.table, own.0.0, last.own.3, omega arith, takes_in _ _ _ g.R.PageRule.gone _ _ c.loop-other.seat.me.0 last.seat.me.0 inv.live (live_hand last) own.1 last.own.2)
 
 pub loop-other-preserved : goal.loop-other-preserved
 loop-other-preserved g c = let inv = c.loop-other.invariant in let all : List (Hand g.row.D.Denot) = c.args.hands.items in let hands : List (Hand g.row.D.Denot) = c.loop-other.hands.items in let rest : List (Hand g.row.D.Denot) = c.pop-in-loop-other.new.self.items in let last : Hand g.row.D.Denot = c.in-Some-pop.other in
@@ -53,7 +53,7 @@ loop-page-init g c = let st = c.args.self in let e = c.close_with-closed.ensures
   layout = refl;
   full = (e.values.0, e.counts.0 ∙ st.wide);
   bare = e.counts.1 ∙ st.bare;
-  frames = subst (λ (z : Layout). (x : ℕ) → x < z.pages → get_or (slots_items c.close_with-closed.result.words) (page_at z x) 0 ≤ frame_count z) st.key (framed _ g.R.PageRule.first g.R.PageRule.holds _ _ _ _ e.values.2);
+  frames = subst (λ (z : Layout). (x : ℕ) → x < z.pages → get_or (slots_items c.close_with-closed.result.words) (page_at z x) 0 ≤ frame_count z) st.key (framed _ c.args.self.table.shared.key.known.value g.R.PageRule.holds _ _ _ _ e.values.2);
   size = ap length c.requires.room.0;
   roomy = c.requires.room.1;
   left = λ x words at. absurd (some-ne-none words (sym at ∙ ap (λ (z : List (List ℕ)). get_elem? z x) c.requires.room.0));
@@ -72,6 +72,6 @@ loop-page-preserved g c = let inv = c.loop-page.invariant in let e = c.push_rese
 
 pub returns : goal.returns
 returns g c = let st = c.args.self in let inv = c.loop-other.invariant in let page = c.loop-page.invariant in let e = c.close_with-closed.ensures in let none : length c.loop-other.hands.items ≡ 0 = search rules in let auto = c.loop-page.auto in let over = c.loop-page-test.false in
-    let final : Final (Seen (Kept {S = Unit {0}} st.layout g.R.PageRule.first g.R.PageRule.holds) c.loop-other.seat.id c.loop-other.seat.me.0) (slots_items c.close_with-closed.result.words) (slots_items c.close_with-closed.result.slots)
-    = subst (λ (z : Layout). Final (Seen (Kept {S = Unit {0}} z g.R.PageRule.first g.R.PageRule.holds) c.loop-other.seat.id c.loop-other.seat.me.0) (slots_items c.close_with-closed.result.words) (slots_items c.close_with-closed.result.slots)) st.key e.values.2 in
-    closes st.layout g.R.PageRule.first g.R.PageRule.holds c.loop-other.seat.id c.loop-other.seat.me.0 _ _ c.args.hands.items c.loop-page.room.items inv.live inv.idle inv.unsealed final c.requires.all (λ k h at. inv.taken k h (omega arith) at) (page.size ∙ omega arith) page.left
+    let final : Final (Seen (Kept {S = Unit {0}} st.layout st.table.shared.key.known.value g.R.PageRule.holds) c.loop-other.seat.id c.loop-other.seat.me.0) (slots_items c.close_with-closed.result.words) (slots_items c.close_with-closed.result.slots)
+    = subst (λ (z : Layout). Final (Seen (Kept {S = Unit {0}} z st.table.shared.key.known.value g.R.PageRule.holds) c.loop-other.seat.id c.loop-other.seat.me.0) (slots_items c.close_with-closed.result.words) (slots_items c.close_with-closed.result.slots)) st.key e.values.2 in
+    closes st.layout st.table.shared.key.known.value g.R.PageRule.holds c.loop-other.seat.id c.loop-other.seat.me.0 _ _ c.args.hands.items c.loop-page.room.items inv.live inv.idle inv.unsealed final c.requires.all (λ k h at. inv.taken k h (omega arith) at) (page.size ∙ omega arith) page.left

@@ -19,7 +19,7 @@ join_seat-requires g c = let wide = c.args.self.now.wide in let cut = c.split_se
   ap (λ (z : Seat (Unit {0}) (View g.row.D.Denot)). z.table_id) theirs ∙ c.requires.own.1.0,
   ap (λ (z : Seat (Unit {0}) (View g.row.D.Denot)). z.me.1) theirs ∙ c.args.other.now.own.3,
   omega arith,
-  takes_in _ _ _ g.R.PageRule.first _ _ c.split_seat-blank.new.seat.me.0 c.replace-theirs.result.me.0
+  takes_in _ _ _ g.R.PageRule.gone _ _ c.split_seat-blank.new.seat.me.0 c.replace-theirs.result.me.0
       (live_on c.args.hand.now c.split_seat-blank.new.seat.me (ap (λ (m : Me (Unit {0}) (View g.row.D.Denot)). m.0.layout) me) (ap (λ (m : Me (Unit {0}) (View g.row.D.Denot)). m.0.number) me))
       (live_on c.args.other.now c.replace-theirs.result.me (ap (λ (z : Seat (Unit {0}) (View g.row.D.Denot)). z.me.0.layout) theirs) (ap (λ (z : Seat (Unit {0}) (View g.row.D.Denot)). z.me.0.number) theirs))
       (ap (λ (z : Seat (Unit {0}) (View g.row.D.Denot)). z.me.0.stamp) theirs ∙ c.requires.other.0) (ap (λ (z : Seat (Unit {0}) (View g.row.D.Denot)). z.me.0.sealing) theirs ∙ c.args.other.now.own.2),
