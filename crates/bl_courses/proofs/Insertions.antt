@@ -53,12 +53,8 @@ module _ (key value : ℕ) (x : ℕ) (c : Page) where
 
 module _ (key value : ℕ) (a : Approach) (what : Seen) where
   on_only : (b : Approach) → ((o : Approached) → Approaches 0 key a what o → o ≡ came.On b) → (other : InsertStage) → InsertGoes key value (Coming a) what other → other ≡ Coming b
-  on_only b is New t = absurd (not_both b t.0 t.1 (sym (is (came.Here t.0 t.1) t.2)))
   on_only b is (Coming c) t = ap Coming (came_on c b (is (came.On c) t))
-  on_only b is (Present m n) t = absurd (not_both b t.0 t.1 (sym (is (came.Here t.0 t.1) t.2)))
-  on_only b is (Changing d) t = absurd (not_both b t.0 t.1 (sym (is (came.Here t.0 t.1) t.2)))
-  on_only b is (Ending r) t = absurd (not_both b t.0 t.1 (sym (is (came.Here t.0 t.1) t.2)))
-  on_only b is (Over r) t = absurd (not_both b t.0 t.1 (sym (is (came.Here t.0 t.1) t.2)))
+  on_only b is old t = absurd (not_both b t.0 t.1 (sym (is (came.Here t.0 t.1) t.2)))
 
   here_only : (x : ℕ) (c : Page) → ((o : Approached) → Approaches 0 key a what o → o ≡ came.Here x c) → (one : One (InsertArrives key value x c)) → (other : InsertStage) → InsertGoes key value (Coming a) what other → other ≡ one.new
   here_only x c is one New t = (let e = is (came.Here t.0 t.1) t.2 in one.only New (subst (λ (z : ℕ × Page). InsertArrives key value z.0 z.1 New) (λ i. (came_at t.0 x t.1 c e i, came_as t.0 x t.1 c e i)) t.3))

@@ -139,14 +139,8 @@ arrive_one level key x (page.Dead d) least h = absurd h.0
 -- On the way to the parent.
 module _ (level key : ℕ) (a : Approach) (what : Seen) where
   on_only : (b : Approach) → ((o : Approached) → Approaches level key a what o → o ≡ came.On b) → (other : PostStage) → PostNears level key a what other → other ≡ Coming b
-  on_only b is New t = absurd (not_both b t.0 t.1 (sym (is (came.Here t.0 t.1) t.2)))
   on_only b is (Coming n) t = ap Coming (came_on n b (is (came.On n) t))
-  on_only b is (Growing g) t = absurd (not_both b t.0 t.1 (sym (is (came.Here t.0 t.1) t.2)))
-  on_only b is (Walking v) t = absurd (not_both b t.0 t.1 (sym (is (came.Here t.0 t.1) t.2)))
-  on_only b is (Changing d) t = absurd (not_both b t.0 t.1 (sym (is (came.Here t.0 t.1) t.2)))
-  on_only b is (Staying m r) t = absurd (not_both b t.0 t.1 (sym (is (came.Here t.0 t.1) t.2)))
-  on_only b is (Ending r) t = absurd (not_both b t.0 t.1 (sym (is (came.Here t.0 t.1) t.2)))
-  on_only b is (Over r) t = absurd (not_both b t.0 t.1 (sym (is (came.Here t.0 t.1) t.2)))
+  on_only b is old t = absurd (not_both b t.0 t.1 (sym (is (came.Here t.0 t.1) t.2)))
 
   here_only : (x : ℕ) (c : Page) → ((o : Approached) → Approaches level key a what o → o ≡ came.Here x c) → (one : One (PostArrives key x c)) → (other : PostStage) → PostNears level key a what other → other ≡ one.new
   here_only x c is one New t = (let e = is (came.Here t.0 t.1) t.2 in one.only New (subst (λ (z : ℕ × Page). PostArrives key z.0 z.1 New) (λ i. (came_at t.0 x t.1 c e i, came_as t.0 x t.1 c e i)) t.3))

@@ -33,13 +33,7 @@ some_answer a b e = cc
 
 pub stage_means : (level key : ℕ) (stage : PostStage) (p : Posted) (h : Option Hint) (marks : Trail) → post_answer_in level stage ≡ Some (answer.Post p h) → post_log level key stage marks → MeansPosted level key p marks
 stage_means level key (post.Over r) p h marks e log = reply_means level key r p h marks (some_answer _ _ e) log
-stage_means level key post.New p h marks e log = absurd (let f = e in cc)
-stage_means level key (post.Coming a) p h marks e log = absurd (let f = e in cc)
-stage_means level key (post.Growing g) p h marks e log = absurd (let f = e in cc)
-stage_means level key (post.Walking w) p h marks e log = absurd (let f = e in cc)
-stage_means level key (post.Changing c) p h marks e log = absurd (let f = e in cc)
-stage_means level key (post.Staying x r) p h marks e log = absurd (let f = e in cc)
-stage_means level key (post.Ending r) p h marks e log = absurd (let f = e in cc)
+stage_means level key old p h marks e log = absurd (let f = e in cc)
 
 same_hint : (p q : Posted) (h i : Option Hint) → answer.Post p h ≡ answer.Post q i → h ≡ i
 same_hint p q h i e = cc
@@ -53,13 +47,7 @@ reply_hints level key reply.TooTall p h marks e log = subst (λ z. MeansHint lev
 
 pub stage_hints : (level key : ℕ) (stage : PostStage) (p : Posted) (h : Option Hint) (marks : Trail) → post_answer_in level stage ≡ Some (answer.Post p h) → post_log level key stage marks → MeansHint level key p h marks
 stage_hints level key (post.Over r) p h marks e log = reply_hints level key r p h marks (some_answer _ _ e) log
-stage_hints level key post.New p h marks e log = absurd (let f = e in cc)
-stage_hints level key (post.Coming a) p h marks e log = absurd (let f = e in cc)
-stage_hints level key (post.Growing g) p h marks e log = absurd (let f = e in cc)
-stage_hints level key (post.Walking w) p h marks e log = absurd (let f = e in cc)
-stage_hints level key (post.Changing c) p h marks e log = absurd (let f = e in cc)
-stage_hints level key (post.Staying x r) p h marks e log = absurd (let f = e in cc)
-stage_hints level key (post.Ending r) p h marks e log = absurd (let f = e in cc)
+stage_hints level key old p h marks e log = absurd (let f = e in cc)
 
 -- In every good world, what a post has answered means what it says.
 pub post_means : (w : World Run) (n : Name) (a : Post) (p : Posted) (h : Option Hint) → IsGood know w → (w.proc n).state ≡ proc.Post a → post_answer_in a.level a.stage ≡ Some (answer.Post p h) → MeansPosted a.level a.key p (marks_of n w.trail)

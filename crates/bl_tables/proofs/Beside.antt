@@ -48,35 +48,21 @@ delete_beside deleted.Absent reply h marks e log = subst (λ z. MeansDeleted z h
 delete_beside deleted.NoRoom reply h marks e log = subst (λ z. MeansDeleted z h marks) (same_reply _ _ _ _ e) (sym (same_hint _ _ _ _ e))
 
 find_beside : (stage : FindStage) (reply : Reply) (h : Option Hint) → find_answer_in stage ≡ Some (answer.Op reply h) → h ≡ None
-find_beside find.New reply h e = absurd (let f = e in cc)
-find_beside find.AtAnchor reply h e = absurd (let f = e in cc)
-find_beside (find.At x) reply h e = absurd (let f = e in cc)
-find_beside (find.Ending value) reply h e = absurd (let f = e in cc)
 find_beside (find.Over (Some value)) reply h e = sym (same_hint _ _ _ _ (some_answer _ _ e))
 find_beside (find.Over None) reply h e = sym (same_hint _ _ _ _ (some_answer _ _ e))
+find_beside old reply h e = absurd (let f = e in cc)
 
 part_beside : (stage : PartStage) (reply : Reply) (h : Option Hint) → part_answer_in stage ≡ Some (answer.Op reply h) → h ≡ None
-part_beside part.New reply h e = absurd (let f = e in cc)
-part_beside part.AtAnchor reply h e = absurd (let f = e in cc)
-part_beside (part.At x) reply h e = absurd (let f = e in cc)
-part_beside (part.Ending r) reply h e = absurd (let f = e in cc)
 part_beside (part.Over r) reply h e = sym (same_hint _ _ _ _ (some_answer _ _ e))
+part_beside old reply h e = absurd (let f = e in cc)
 
 insert_stage : (stage : InsertStage) (reply : Reply) (h : Option Hint) (marks : Trail) → insert_answer_in stage ≡ Some (answer.Op reply h) → insert_log stage marks → MeansInserted reply h marks
-insert_stage insert.New reply h marks e log = absurd (let f = e in cc)
-insert_stage (insert.Coming a) reply h marks e log = absurd (let f = e in cc)
-insert_stage (insert.Present x there) reply h marks e log = absurd (let f = e in cc)
-insert_stage (insert.Changing c) reply h marks e log = absurd (let f = e in cc)
-insert_stage (insert.Ending r) reply h marks e log = absurd (let f = e in cc)
 insert_stage (insert.Over r) reply h marks e log = insert_beside r reply h marks (some_answer _ _ e) log
+insert_stage old reply h marks e log = absurd (let f = e in cc)
 
 delete_stage : (stage : DeleteStage) (reply : Reply) (h : Option Hint) (marks : Trail) → delete_answer_in stage ≡ Some (answer.Op reply h) → delete_log stage marks → MeansDeleted reply h marks
-delete_stage delete.New reply h marks e log = absurd (let f = e in cc)
-delete_stage (delete.Coming a) reply h marks e log = absurd (let f = e in cc)
-delete_stage (delete.Absent x) reply h marks e log = absurd (let f = e in cc)
-delete_stage (delete.Changing removed c) reply h marks e log = absurd (let f = e in cc)
-delete_stage (delete.Ending r) reply h marks e log = absurd (let f = e in cc)
 delete_stage (delete.Over r) reply h marks e log = delete_beside r reply h marks (some_answer _ _ e) log
+delete_stage old reply h marks e log = absurd (let f = e in cc)
 
 pub beside_means : (p : Proc) (reply : Reply) (h : Option Hint) (marks : Trail) → answer_of p ≡ Some (answer.Op reply h) → proc_log p marks → MeansBeside p reply h marks
 beside_means (proc.Find p) reply h marks e log = find_beside p.stage reply h e

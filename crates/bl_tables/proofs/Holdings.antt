@@ -144,14 +144,7 @@ is_parted parted puts p is = record { done = is_done puts p; puts = is }
 pub cut_low : (c left right : Page) (key word new separator : ℕ) → IsFitted c key word new (Split left right separator) → (node_of right).shape.low ≡ separator
 cut_low (Leaf c) left (Leaf p) key word new separator f = f.4.0
 cut_low (Inner c) left (Inner p) key word new separator f = f.4.1
-cut_low (Leaf c) left (Anchor p) key word new separator f = absurd f.4
-cut_low (Leaf c) left (Inner p) key word new separator f = absurd f.4
-cut_low (Leaf c) left (Dead p) key word new separator f = absurd f.4
-cut_low (Inner c) left (Anchor p) key word new separator f = absurd f.4
-cut_low (Inner c) left (Leaf p) key word new separator f = absurd f.4
-cut_low (Inner c) left (Dead p) key word new separator f = absurd f.4
-cut_low (Anchor c) left right key word new separator f = absurd f.4
-cut_low (Dead c) left right key word new separator f = absurd f.4
+cut_low old left right key word new separator f = absurd f.4
 
 -- what a page lists it covers
 pub covered_in : (c : Page) (j v : ℕ) → (node_of c).look j ≡ Some v → Covers (node_of c).shape j

@@ -231,25 +231,9 @@ module _ (w : World Run) (g : IsGood bare w) (logs : KeepsLogs w) (x y : ℕ) (a
     where
       one_of : (a b : Act Page Reply) → Contains (a ∷ []) b → b ≡ a
       one_of a b c = elim (cons_cases a [] b c) [ inl e ↦ sym e | inr n ↦ absurd (omega (arith, n.1)) ]
-  by_stage level key got (compress.Compressing (PuttingFirst u)) e log sure = absurd (let f = e in cc)
-  by_stage level key got compress.New e log sure = absurd (let f = e in cc)
-  by_stage level key got (compress.Staying z) e log sure = absurd (let f = e in cc)
-  by_stage level key got (compress.Ending r) e log sure = absurd (let f = e in cc)
-  by_stage level key got (compress.Over r) e log sure = absurd (let f = e in cc)
   by_stage level key got (compress.Coming way.Start) e log sure = absurd (let f = e in cc)
-  by_stage level key got (compress.Coming (way.At z)) e log sure = absurd (let f = e in cc)
-  by_stage level key got (compress.Coming (way.Latching z)) e log sure = absurd (let f = e in cc)
-  by_stage level key got (compress.Coming (way.Latched z)) e log sure = absurd (let f = e in cc)
   by_stage level key got (compress.Coming (way.Leaving z None)) e log sure = absurd (let f = e in cc)
-  by_stage level key got (compress.Coming (way.Leaving z (Some v))) e log sure = absurd (let f = e in cc)
-  by_stage level key got (compress.Compressing (LatchingLeft f)) e log sure = absurd (let f = e in cc)
-  by_stage level key got (compress.Compressing (LatchedLeft f)) e log sure = absurd (let f = e in cc)
-  by_stage level key got (compress.Compressing (LatchingRight f c)) e log sure = absurd (let f = e in cc)
-  by_stage level key got (compress.Compressing (LatchedRight f c)) e log sure = absurd (let f = e in cc)
-  by_stage level key got (compress.Compressing (Retiring t f)) e log sure = absurd (let f = e in cc)
-  by_stage level key got (compress.Compressing (OpeningRight t f)) e log sure = absurd (let f = e in cc)
-  by_stage level key got (compress.Compressing (OpeningLeft t f)) e log sure = absurd (let f = e in cc)
-  by_stage level key got (compress.Compressing (OpeningParent z f)) e log sure = absurd (let f = e in cc)
+  by_stage level key got old e log sure = absurd (let f = e in cc)
 
   tells : InMiddle w.now w.trail x y × (((nodes w.now y).shape.low ≡ w.sep y) ⊎ InEvening w.now w.trail y)
   tells =

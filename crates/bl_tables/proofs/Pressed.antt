@@ -41,11 +41,7 @@ some_answer a b e = cc
 
 pub stage_means : (level key : ℕ) (stage : CompressStage) (q : Squeezed) (h : Option Hint) (marks : Trail) → compress_answer_in stage ≡ Some (answer.Compress q h) → compress_log level key stage marks → MeansSqueezed level key q h marks
 stage_means level key (compress.Over r) q h marks e log = reply_means level key r q h marks (some_answer _ _ e) log
-stage_means level key compress.New q h marks e log = absurd (let f = e in cc)
-stage_means level key (compress.Coming a) q h marks e log = absurd (let f = e in cc)
-stage_means level key (compress.Compressing c) q h marks e log = absurd (let f = e in cc)
-stage_means level key (compress.Staying x) q h marks e log = absurd (let f = e in cc)
-stage_means level key (compress.Ending r) q h marks e log = absurd (let f = e in cc)
+stage_means level key old q h marks e log = absurd (let f = e in cc)
 
 -- In every good world, what a compression has answered means what it says, with the hint beside it.
 pub compress_means : (w : World Run) (n : Name) (a : Compress) (q : Squeezed) (h : Option Hint) → IsGood know w → (w.proc n).state ≡ proc.Compress a → compress_answer_in a.stage ≡ Some (answer.Compress q h) → MeansSqueezed a.level a.key q h (marks_of n w.trail)

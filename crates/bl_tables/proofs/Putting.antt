@@ -169,10 +169,7 @@ module _ (marks : Trail) (m : Mark) where
   arrived_insert : (key value x : ℕ) (c : Page) (d : Change) → InsertArrives key value x c (insert.Changing d) → PutSince more [] → entry_log AnyPage (Unit {0}) d more
   arrived_insert key value x c (change.Putting y page) t h = (h, tt)
   arrived_insert key value x c (change.Taking full) t h = (h, tt)
-  arrived_insert key value x c (change.PuttingNew p) t h = absurd t.1
-  arrived_insert key value x c (change.PuttingOld p) t h = absurd t.1
-  arrived_insert key value x c (change.OpeningNew y new separator) t h = absurd t.1
-  arrived_insert key value x c (change.Opening y o) t h = absurd t.1
+  arrived_insert key value x c old t h = absurd t.1
 
   pub insert_on : (key value : ℕ) (old new : InsertStage) (what : Seen) → InsertGoes key value old what new → m.event.act ≡ event_of (insert_end old) (insert_next_in old) what → insert_log old marks → insert_log new more
   insert_on key value old insert.New what t did h = tt
@@ -209,11 +206,7 @@ module _ (marks : Trail) (m : Mark) where
 
   arrived_delete : (key x : ℕ) (c : Page) (removed : Removed) (d : Change) → DeleteArrives key x c (delete.Changing removed d) → PutSince more [] → entry_log (IsThinAs removed) ⊥ d more
   arrived_delete key x c removed (change.Putting y page) t h = (h, t.2)
-  arrived_delete key x c removed (change.Taking full) t h = absurd t.1
-  arrived_delete key x c removed (change.PuttingNew p) t h = absurd t.1
-  arrived_delete key x c removed (change.PuttingOld p) t h = absurd t.1
-  arrived_delete key x c removed (change.OpeningNew y new separator) t h = absurd t.1
-  arrived_delete key x c removed (change.Opening y o) t h = absurd t.1
+  arrived_delete key x c removed old t h = absurd t.1
 
   pub delete_on : (key : ℕ) (old new : DeleteStage) (what : Seen) → DeleteGoes key old what new → m.event.act ≡ event_of (delete_end old) (delete_next_in old) what → delete_log old marks → delete_log new more
   delete_on key old delete.New what t did h = tt
