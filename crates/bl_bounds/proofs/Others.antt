@@ -4,7 +4,7 @@ use Rattle.bl_page.specs.Machine.{Name}
 use Rattle.bl_page.specs.Machine.Act.{Begin}
 use Rattle.bl_trails.specs.Trails.{Mark, Trail, DoesAt}
 use Rattle.bl_trails.proofs.Pushes.{DoesAt-push}
-use Rattle.bl_steps.specs.Worlds.{Each}
+use Rattle.bl_laws.specs.Walks.{Each}
 use Rattle.bl_steps.proofs.Frames.{Each-map}
 use Rattle.bl_bounds.specs.Bounds.{gets_of, puts_near, IsWithinBound, IsBelowBound}
 use Rattle.bl_bounds.proofs.Counts.{own_gets, own_gets_other, gets_on, puts_on, within_on, within_now}

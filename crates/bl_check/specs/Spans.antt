@@ -24,15 +24,15 @@ abbrev pub StandsAt : List (Option Page) → ℕ → ℕ → ℕ → Type 0
 StandsAt pages x level low = IsSomeAnd (span_at pages x) (λ s. (s.level ≡ level) × (s.low ≡ low))
 
 -- the leftmost page of each level, as page 0 lists them if it is an anchor
-abbrev pub roots_of : Option Page → List ℕ
-roots_of None = []
-roots_of (Some (Anchor a)) = a.leftmost.items
-roots_of (Some (Leaf l)) = []
-roots_of (Some (Inner i)) = []
-roots_of (Some (Dead d)) = []
+abbrev pub leftmost_of : Option Page → List ℕ
+leftmost_of None = []
+leftmost_of (Some (Anchor a)) = a.leftmost.items
+leftmost_of (Some (Leaf l)) = []
+leftmost_of (Some (Inner i)) = []
+leftmost_of (Some (Dead d)) = []
 
 abbrev pub roots : List (Option Page) → List ℕ
-roots pages = roots_of (page_at pages 0)
+roots pages = leftmost_of (page_at pages 0)
 
 abbrev pub levels : List (Option Page) → ℕ
 levels pages = length (roots pages)

@@ -16,7 +16,8 @@ use Rattle.bl_trails.specs.Trails.{Trail, history_of, entries_at}
 use Rattle.bl_passes.specs.Seeing.{own}
 use Rattle.bl_index.specs.declared.scanning.ScanFault.{ScanFault}
 use Rattle.bl_index.specs.Calls.{Finds}
-use Rattle.bl_index.specs.Scans.{IsBelow, is_below, rows_of, end_of, ended_at, rows_below, AreParts, AreCalls, Scans, IsOver, EndsScan, MayScan, AppendsPart, key_of}
+use Rattle.bl_index.specs.Scans.{IsBelow, is_below, rows_below, AreParts, AreCalls, Scans, IsOver, EndsScan, MayScan, AppendsPart, left_from}
+use Rattle.bl_model.specs.Parts.{rows_of, next_key, ended_at}
 use Rattle.bl_index.proofs.Scanned.{IsFrom, IsBehind, Answered, answered, part_is, only_rows, parts_push, right_more, from_more, rising_more}
 
 history_append : (xs ys : Trail) → history_of (xs ++ ys) ≡ history_of xs ++ history_of ys
@@ -103,16 +104,16 @@ nothing_done pages pass turns from to room (Ok done) before after old new m is =
     subst (λ (z : List Entry). AreCalls pages pass z old new) (no_parts pass to from s.parts m.ended.upto s.are_parts is) s.calls
 nothing_done pages pass turns from to room (Err fault) before after old new m is =
     let s = m.stopped.scans in
-    let none : s.parts ≡ [] = no_parts pass to from s.parts (Some (key_of fault)) s.are_parts is in
-    let same : Some (key_of fault) ≡ Some from = subst (λ (z : List Entry). AreParts pass to (Some from) z (Some (key_of fault))) none s.are_parts in
-    let key : key_of fault ≡ from = cc in
+    let none : s.parts ≡ [] = no_parts pass to from s.parts (Some (left_from fault)) s.are_parts is in
+    let same : Some (left_from fault) ≡ Some from = subst (λ (z : List Entry). AreParts pass to (Some from) z (Some (left_from fault))) none s.are_parts in
+    let key : left_from fault ≡ from = cc in
     absurd (not_both to from is (subst (IsBelow to) key m.stopped.left))
 
 module _ (pages pass it from at : ℕ) (to : Option ℕ) (next : Next) (listed before after : List (ℕ × ℕ)) (old mid new : Trail) (same : it ≡ pass) (s : Scans pages pass from to (Some at) listed old mid) (low : from ≤ at) (below : IsBelow to at) where
   abbrev Onward : Option ℕ → Type 0
   Onward upto = (rows : List (ℕ × ℕ)) × (after ≡ before ++ rows) × Scans pages pass from to upto (listed ++ rows) old new
 
-  by_part : AppendsPart pages it at to next before after mid new → Onward (end_of next)
+  by_part : AppendsPart pages it at to next before after mid new → Onward (next_key next)
   by_part a = let finds : Finds pages pass (Part at) a.reply mid new = subst (λ (z : ℕ). Finds pages z (Part at) a.reply mid new) same a.finds in (
     rows_below to a.reply,
     a.appended,
@@ -122,10 +123,10 @@ module _ (pages pass it from at : ℕ) (to : Option ℕ) (next : Next) (listed b
   -- a scan that goes on behind a part
   pub goes_on : (n : ℕ) → next ≡ More n → AppendsPart pages it at to next before after mid new → (at < n) × Onward (Some n)
   goes_on n is a = (
-    subst (IsBehind at) (a.ends ∙ ap end_of is) (ends_behind pages it at a.reply mid new a.finds),
-    subst (λ (z : Next). Onward (end_of z)) is (by_part a),
+    subst (IsBehind at) (a.ends ∙ ap next_key is) (ends_behind pages it at a.reply mid new a.finds),
+    subst (λ (z : Next). Onward (next_key z)) is (by_part a),
   )
 
   -- a scan that ends with the map
   pub ends_there : next ≡ End → AppendsPart pages it at to next before after mid new → (rows : List (ℕ × ℕ)) × (after ≡ before ++ rows) × EndsScan pages pass from to (listed ++ rows) old new
-  ends_there is a = let on : Onward None = subst (λ (z : Next). Onward (end_of z)) is (by_part a) in (on.0, on.1, record { upto = None; over = tt; scans = on.2 })
+  ends_there is a = let on : Onward None = subst (λ (z : Next). Onward (next_key z)) is (by_part a) in (on.0, on.1, record { upto = None; over = tt; scans = on.2 })

@@ -7,7 +7,7 @@ use Rattle.bl_page.specs.Machine.{Name, Act}
 use Rattle.bl_page.specs.Machine.Act.{Begin, End, Get}
 use Rattle.bl_trails.specs.Trails.{Mark, Trail, DoesAt}
 use Rattle.bl_trails.proofs.Pushes.{DoesAt-last}
-use Rattle.bl_steps.specs.Worlds.{Each}
+use Rattle.bl_laws.specs.Walks.{Each}
 use Rattle.bl_steps.proofs.Frames.{Each-map}
 use Rattle.bl_proc.specs.declared.kinds.Proc.{Proc}
 use Rattle.bl_bounds.specs.Bounds.{gets_in, gets_by, gets_of, IsWithinBound, IsBelowBound}

@@ -2,7 +2,7 @@
 use Rattle.std.proofs.Common.{ℕ, ◌≡◌, ◌≢◌, ◌+◌, ◌≤◌, [], ◌∷◌, inl, inr, sym, ap, ◌∙◌, subst, arith, append-nil, le_refl}
 use Rattle.bl_page.specs.Machine.{Name}
 use Rattle.bl_trails.specs.Trails.{Mark, Trail}
-use Rattle.bl_steps.specs.Worlds.{Each}
+use Rattle.bl_laws.specs.Walks.{Each}
 use Rattle.bl_passes.specs.declared.known.Mine.{Mine}
 use Rattle.bl_passes.specs.Noting.{trail_of}
 use Rattle.bl_passes.specs.Seeing.{IsSeen, own}

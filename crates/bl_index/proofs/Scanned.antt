@@ -13,7 +13,8 @@ use Rattle.bl_model.specs.declared.operation.Next.TheVariants.{More, End}
 use Rattle.bl_model.specs.declared.operation.Op.TheVariants.{Part}
 use Rattle.bl_model.specs.declared.operation.Reply.{Reply}
 use Rattle.bl_model.specs.declared.operation.Reply.TheVariants.{Found, Absent, Inserted, Present, Deleted, Rows, NoRoom}
-use Rattle.bl_index.specs.Scans.{IsBelow, is_below, rows_of, ended_at, rows_below, AreParts, IsRight}
+use Rattle.bl_index.specs.Scans.{IsBelow, is_below, rows_below, AreParts, IsRight}
+use Rattle.bl_model.specs.Parts.{rows_of, ended_at}
 use Rattle.bl_index.proofs.Ranges.{below_true, filter_keeps, filter_has, rising_filter, rising_behind}
 
 -- an end behind a key

@@ -6,7 +6,7 @@ use Rattle.bl_model.specs.declared.operation.Op.{Op}
 use Rattle.bl_model.specs.declared.operation.Op.TheVariants as op
 use Rattle.bl_model.specs.declared.operation.Reply.{Reply}
 use Rattle.bl_trails.specs.Trails.{Mark, Trail, history_of, marks_of}
-use Rattle.bl_steps.specs.Worlds.{Each}
+use Rattle.bl_laws.specs.Walks.{Each}
 use Rattle.bl_bounds.specs.Bounds.{gets_of, IsWithinBound, IsBelowBound}
 use Rattle.bl_bounds.specs.Latches.{LatchesAlone, LatchesBeside, OnlyLooks}
 use Rattle.bl_ways.specs.declared.answers.Hint.{Hint}

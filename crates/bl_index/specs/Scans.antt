@@ -3,12 +3,11 @@ use Rattle.std.specs.Prelude.{◌≡◌, ℕ, ◌<◌, ◌≤◌, ◌++◌, ◌�
 use Rattle.bl_model.specs.Map.{empty}
 use Rattle.bl_model.specs.History.{final_map}
 use Rattle.bl_model.specs.Rows.{HasRisingKeys}
+use Rattle.bl_model.specs.Parts.{rows_of, ended_at}
 use Rattle.bl_model.specs.declared.operation.Entry.{Entry}
 use Rattle.bl_model.specs.declared.operation.Next.{Next}
-use Rattle.bl_model.specs.declared.operation.Next.TheVariants.{More, End}
 use Rattle.bl_model.specs.declared.operation.Op.TheVariants.{Part}
 use Rattle.bl_model.specs.declared.operation.Reply.{Reply}
-use Rattle.bl_model.specs.declared.operation.Reply.TheVariants.{Rows}
 use Rattle.bl_trails.specs.Trails.{Trail, history_of}
 use Rattle.bl_passes.specs.Seeing.{IsSeen, own, GoesOnFrom}
 use Rattle.bl_index.specs.Calls.{Finds, RunsOut}
@@ -24,20 +23,6 @@ IsBelow (Some end) key = key < end
 abbrev pub is_below : Option ℕ → ℕ → Bool
 is_below None key = true
 is_below (Some end) key = nat_lt key end
-
--- the rows of a part
-abbrev pub rows_of : Reply → List (ℕ × ℕ)
-rows_of (Rows rows next) = rows.items
-rows_of reply = []
-
--- the key that a part ended before; none, where it went to the end of the map
-abbrev pub end_of : Next → Option ℕ
-end_of (More key) = Some key
-end_of End = None
-
-abbrev pub ended_at : Reply → Option ℕ
-ended_at (Rows rows next) = end_of next
-ended_at reply = None
 
 -- the rows of a part that lie below the end of a scan
 abbrev pub rows_below : Option ℕ → Reply → List (ℕ × ℕ)
@@ -92,9 +77,9 @@ pub record EndsScan (pages pass from : ℕ) (to : Option ℕ) (rows : List (ℕ 
   pub scans : Scans pages pass from to upto rows old new
 
 -- the key from which a scan that stopped goes on
-abbrev pub key_of : ScanFault → ℕ
-key_of (Memory from) = from
-key_of (OutOfTurns from) = from
+abbrev pub left_from : ScanFault → ℕ
+left_from (Memory from) = from
+left_from (OutOfTurns from) = from
 
 -- A part was answered, and of its rows more lie below the scan's end than there is room for.
 pub record FindsNoRoom (pages pass from : ℕ) (to : Option ℕ) (room : ℕ) (old new : Trail) : Type 0 where
@@ -110,8 +95,8 @@ StopsAt pages pass turns to room (OutOfTurns from) old new = RunsOut pages pass 
 -- A scan has stopped at a part below its end. Up to there it has scanned, and nothing of that part is among its rows.
 pub record StopsScan (pages pass turns from : ℕ) (to : Option ℕ) (room : ℕ) (fault : ScanFault) (rows : List (ℕ × ℕ)) (old new : Trail) : Type 0 where
   pub mid : Trail
-  pub scans : Scans pages pass from to (Some (key_of fault)) rows old mid
-  pub left : IsBelow to (key_of fault)
+  pub scans : Scans pages pass from to (Some (left_from fault)) rows old mid
+  pub left : IsBelow to (left_from fault)
   pub stops : StopsAt pages pass turns to room fault mid new
 
 -- A scan has ended or stopped, and its rows stand behind those of before. There is room for so many more.
@@ -130,7 +115,7 @@ pub record AppendsPart (pages pass from : ℕ) (to : Option ℕ) (next : Next) (
 
 -- The scan stops at that part, and the rows are those of before.
 pub record LeavesPart (pages pass turns from : ℕ) (to : Option ℕ) (room : ℕ) (fault : ScanFault) (before after : List (ℕ × ℕ)) (old new : Trail) : Type 0 where
-  pub key : key_of fault ≡ from
+  pub key : left_from fault ≡ from
   pub kept : after ≡ before
   pub stops : StopsAt pages pass turns to room fault old new
 

@@ -16,8 +16,8 @@ pub data IsWalk (node : ℕ → Node) (k : ℕ) : ℕ → List ℕ → ℕ → T
   Right : {x leaf : ℕ} {pages : List ℕ} → (node x).shape.end ≤ k → IsWalk node k (node x).shape.right pages leaf → IsWalk node k x (x ∷ pages) leaf
   Down : {x c leaf : ℕ} {pages : List ℕ} → 0 < (node x).shape.level → Covers (node x).shape k → IsChildOf (node x).look k c → IsWalk node k c pages leaf → IsWalk node k x (x ∷ pages) leaf
 
--- it holds of each of these pages
-abbrev pub Each : (ℕ → Type 0) → List ℕ → Type 0
+-- it holds of each of these
+abbrev pub Each : {A : Type 0} → (A → Type 0) → List A → Type 0
 Each P [] = Unit {0}
 Each P (x ∷ xs) = P x × Each P xs
 

@@ -1,10 +1,7 @@
 -- Lines of the input, their answers, and the lines of the output.
 use Rattle.std.specs.Prelude.{◌≡◌, ◌≢◌, ℕ, suc, ◌<◌, ◌≤◌, Option, Some, None, List, [], ◌∷◌, ◌++◌, All, flat_map, filter, nat_lt, codes}
-use Rattle.bl_model.specs.declared.operation.Next.{Next}
-use Rattle.bl_model.specs.declared.operation.Next.TheVariants.{More, End}
 use Rattle.bl_model.specs.declared.operation.Op.TheVariants.{Part}
-use Rattle.bl_model.specs.declared.operation.Reply.{Reply}
-use Rattle.bl_model.specs.declared.operation.Reply.TheVariants.{Rows}
+use Rattle.bl_model.specs.Parts.{rows_of, ended_at}
 use Rattle.bl_model.specs.declared.operation.Entry.{Entry}
 use Rattle.bl_lines.specs.declared.request.Request.TheVariants.{Ask, Scan, Sync}
 use Rattle.bl_lines.specs.Text.{Spells, IsMalformed, reply_text, row_text, numbered}
@@ -24,20 +21,6 @@ pub record Line : Type 0 where
 -- no LF is among the bytes
 abbrev pub HasNoLf : List ℕ → Type 0
 HasNoLf bytes = All (λ b. b ≢ 10) bytes
-
--- the rows of a part
-abbrev pub rows_of : Reply → List (ℕ × ℕ)
-rows_of (Rows rows next) = rows.items
-rows_of reply = []
-
--- the key that a part ended before; none, where it went to the end of the map
-abbrev pub end_of : Next → Option ℕ
-end_of (More key) = Some key
-end_of End = None
-
-abbrev pub ended_at : Reply → Option ℕ
-ended_at (Rows rows next) = end_of next
-ended_at reply = None
 
 -- The parts of a scan up to its end: the first from that key on, each further one from where the last one ended, and each from below
 -- the scan's end. Behind the last one nothing is left: it went to the end of the map, or not less far than the scan.

@@ -3,3 +3,4 @@ pub mod History
 pub mod Rows
 pub mod Plain
 pub mod Stream
+pub mod Parts

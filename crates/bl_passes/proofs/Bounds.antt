@@ -11,7 +11,8 @@ use Rattle.bl_page.specs.Machine.{Name, State, Act}
 use Rattle.bl_page.specs.Machine as machine
 use Rattle.bl_trails.specs.Trails.{Said, Mark, Trail, entries_at, marks_of, IsMarked}
 use Rattle.bl_trails.proofs.Pushes.{name_cases, not_same, marks_of-own, SaysAt-last, DoesAt-last}
-use Rattle.bl_steps.specs.Worlds.{World, Each}
+use Rattle.bl_steps.specs.Worlds.{World}
+use Rattle.bl_laws.specs.Walks.{Each}
 use Rattle.bl_steps.proofs.Frames.{Each-map}
 use Rattle.bl_steps.proofs.After.{put_name, is_put_name}
 use Rattle.bl_starts.specs.Blank.{IsBlank}

@@ -3,7 +3,7 @@ use Rattle.std.proofs.Common.{ℕ, ◌≡◌, ◌≢◌, ◌+◌, ◌≤◌, ◌
 use Rattle.bl_page.specs.Machine.{Name}
 use Rattle.bl_trails.specs.Trails.{Mark, Trail, same_name, marks_of}
 use Rattle.bl_trails.proofs.Pushes.{not_same}
-use Rattle.bl_steps.specs.Worlds.{Each}
+use Rattle.bl_laws.specs.Walks.{Each}
 use Rattle.bl_steps.proofs.Frames.{Each-map}
 use Rattle.bl_passes.specs.Seeing.{AreElse}
 use Rattle.bl_passes.specs.Fitting.{AreUpTo}

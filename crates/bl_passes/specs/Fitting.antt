@@ -10,7 +10,8 @@ use Rattle.bl_page.specs.Machine.{Name}
 use Rattle.bl_page.specs.Machine as machine
 use Rattle.bl_trails.specs.Trails.{Mark, Trail, entries_at, marks_of}
 use Rattle.bl_trails.specs.States.{HasMoments}
-use Rattle.bl_steps.specs.Worlds.{World, Each, IsGood}
+use Rattle.bl_steps.specs.Worlds.{World, IsGood}
+use Rattle.bl_laws.specs.Walks.{Each}
 use Rattle.bl_starts.specs.Blank.{IsBlank}
 use Rattle.bl_starts.specs.Opening.{Opening}
 use Rattle.bl_proc.specs.declared.kinds.Proc.{Proc}

@@ -10,7 +10,7 @@ use Rattle.bl_page.specs.Machine.Act.{Begin, End}
 use Rattle.bl_trails.specs.Trails.{Mark, Trail, history_of, IsMarked, LeadsOn}
 use Rattle.bl_trails.specs.Moments.{HasLaws}
 use Rattle.bl_trails.specs.States.{HasMoments}
-use Rattle.bl_steps.specs.Worlds.{Each}
+use Rattle.bl_laws.specs.Walks.{Each}
 use Rattle.bl_starts.specs.Opening.{Opening}
 
 -- The trail is linearizable: its events are legal and lead from the opening index to some state, and its history is one of

@@ -17,7 +17,8 @@ use Rattle.bl_tables.specs.Knowing.{Run, bare as know, end_of_proc}
 use Rattle.bl_bounds.specs.Bounds.{IsWithinBound, IsBelowBound}
 use Rattle.bl_bounds.specs.Searches.{IsSearch, IsUnderWay}
 use Rattle.bl_bounds.specs.Latches.{OnlyLooks, IsTidy}
-use Rattle.bl_steps.specs.Worlds.{Stage, Each}
+use Rattle.bl_steps.specs.Worlds.{Stage}
+use Rattle.bl_laws.specs.Walks.{Each}
 use Rattle.bl_starts.specs.Blank.{IsBlank}
 use Rattle.bl_courses.specs.Courses.{GoesOn}
 use Rattle.bl_store.specs.Pages.{Owner, Open}

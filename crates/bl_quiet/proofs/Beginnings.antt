@@ -12,7 +12,7 @@ use Rattle.bl_image.proofs.Chunks.{fits_at}
 use Rattle.bl_tree.specs.Nodes.{Node, unbounded}
 use Rattle.bl_laws.specs.Starts.{IsReached}
 use Rattle.bl_check.specs.declared.span.Span.{Span}
-use Rattle.bl_check.specs.Spans.{page_at, span_of, span_at, StandsAt, leftmost, roots_of}
+use Rattle.bl_check.specs.Spans.{page_at, span_of, span_at, StandsAt, leftmost, leftmost_of}
 use Rattle.bl_check.specs.Rules.{is_anchor, LinkFits, Reaches, OnChain, ChildrenFit, Rule, AreSound}
 use Rattle.bl_check.specs.Rules.Reaches.{Here, Next}
 use Rattle.bl_check.proofs.Reaching.{live_below}
@@ -80,8 +80,8 @@ no_node (Some (Dead d)) is = absurd cc
 pub record Anchored (page : Option Page) : Type 0 where
   pub some : 0 < (roots_in page).levels
   pub few : (roots_in page).levels ≤ 12
-  pub count : length (roots_of page) ≡ (roots_in page).levels
-  pub leftmost_is : (l : ℕ) → get_or (roots_of page) l 0 ≡ (roots_in page).leftmost l
+  pub count : length (leftmost_of page) ≡ (roots_in page).levels
+  pub leftmost_is : (l : ℕ) → get_or (leftmost_of page) l 0 ≡ (roots_in page).leftmost l
 
 pub anchored : (page : Option Page) → is_anchor page ≡ true → Anchored page
 anchored None is = absurd cc

@@ -10,7 +10,8 @@ use Rattle.bl_model.specs.declared.operation.Op.{Op}
 use Rattle.bl_model.specs.declared.operation.Reply.{Reply}
 use Rattle.bl_lines.specs.declared.request.Request.{Request}
 use Rattle.bl_lines.specs.declared.request.Request.TheVariants.{Ask, Scan, Sync}
-use Rattle.bl_lines.specs.Lines.{Answer, Replied, Scanned, Synced, Malformed, rows_of, rows_below, entries, answer_text}
+use Rattle.bl_lines.specs.Lines.{Answer, Replied, Scanned, Synced, Malformed, rows_below, entries, answer_text}
+use Rattle.bl_model.specs.Parts.{rows_of}
 use Rattle.bl_lines.specs.Text.{numbered, reply_text, row_text}
 use Rattle.bl_trails.specs.Trails.{Trail}
 use Rattle.bl_passes.specs.Seeing.{own, GoesOnFrom}

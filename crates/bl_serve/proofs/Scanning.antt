@@ -9,7 +9,8 @@ use Rattle.bl_model.specs.declared.operation.Next.TheVariants.{More, End}
 use Rattle.bl_model.specs.declared.operation.Op.TheVariants.{Part}
 use Rattle.bl_model.specs.declared.operation.Reply.{Reply}
 use Rattle.bl_model.specs.declared.operation.Reply.TheVariants.{Found, Absent, Inserted, Present, Deleted, Rows, NoRoom}
-use Rattle.bl_lines.specs.Lines.{AreParts, ended_at, rows_of, rows_below}
+use Rattle.bl_lines.specs.Lines.{AreParts, rows_below}
+use Rattle.bl_model.specs.Parts.{rows_of, ended_at}
 use Rattle.bl_lines.specs.Text.{row_text}
 use Rattle.bl_trails.specs.Trails.{Trail, history_of}
 use Rattle.bl_passes.specs.Seeing.{IsSeen, own, GoesOnFrom}

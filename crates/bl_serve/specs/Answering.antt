@@ -7,7 +7,8 @@ use Rattle.bl_model.specs.declared.operation.Op.TheVariants.{Part}
 use Rattle.bl_model.specs.declared.operation.Reply.{Reply}
 use Rattle.bl_lines.specs.declared.request.Request.{Request}
 use Rattle.bl_lines.specs.declared.request.Request.TheVariants.{Ask, Scan, Sync}
-use Rattle.bl_lines.specs.Lines.{Answer, Replied, Scanned, Synced, Malformed, AreParts, ended_at, end_of, rows_of, rows_below, entries, answer_text}
+use Rattle.bl_lines.specs.Lines.{Answer, Replied, Scanned, Synced, Malformed, AreParts, rows_below, entries, answer_text}
+use Rattle.bl_model.specs.Parts.{rows_of, next_key, ended_at}
 use Rattle.bl_lines.specs.Text.{numbered, row_text}
 use Rattle.bl_trails.specs.Trails.{Trail}
 use Rattle.bl_passes.specs.Seeing.{IsSeen, own, GoesOnFrom}
@@ -30,7 +31,7 @@ answers_text n (answer ∷ answers) = numbered n (answer_text answer) ++ answers
 pub record WritesPart (pass from high : ℕ) (next : Next) (before after : List ℕ) (old new : Trail) : Type 0 where
   pub reply : Reply
   pub works : Works pass (Part from) reply old new
-  pub ends : ended_at reply ≡ end_of next
+  pub ends : ended_at reply ≡ next_key next
   pub prints : after ≡ before ++ flat_map row_text (rows_below high (rows_of reply))
 
 -- A scan was answered by its parts, which are the new entries of the pass, and their rows that lie below its end were written.

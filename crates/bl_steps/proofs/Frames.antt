@@ -4,7 +4,8 @@ use Rattle.bl_page.specs.Machine.{Name}
 use Rattle.bl_page.specs.Machine.Owner.{Held}
 use Rattle.bl_tree.specs.Trees.{IsLive}
 use Rattle.bl_trails.specs.Trails.{Mark}
-use Rattle.bl_steps.specs.Worlds.{Hold, Goes, Child, Passed, Know, World, nodes, Each, was_in, MayGet, IsHeld, IsGoes, IsRelied, IsPassed, IsSure, Extends}
+use Rattle.bl_steps.specs.Worlds.{Hold, Goes, Child, Passed, Know, World, nodes, was_in, MayGet, IsHeld, IsGoes, IsRelied, IsPassed, IsSure, Extends}
+use Rattle.bl_laws.specs.Walks.{Each}
 use Rattle.bl_trails.proofs.Pushes.{name_cases, HasSaid-other, marks_of-other}
 
 pub Each-map : {A : Type 0} (P Q : A → Type 0) (xs : List A) → ((x : A) → P x → Q x) → Each P xs → Each Q xs

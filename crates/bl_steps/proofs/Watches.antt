@@ -7,7 +7,8 @@ use Rattle.bl_page.specs.Machine.Owner.{Held}
 use Rattle.bl_page.specs.Machine.Phase.{Running}
 use Rattle.bl_page.specs.Machine.Act.{Begin, End, Get, Put, Take, Latch, Retire, Look, Release, Miss}
 use Rattle.bl_trails.specs.Trails.{Said, Mark, marks_of, HasSaid, IsPhase}
-use Rattle.bl_steps.specs.Worlds.{Know, World, MapsTo, Each, IsStage, IfKnown, IsHeld, IsGoes, IsRelied, IsPassed, IsSure, HoldsPage, IsGood, Extends}
+use Rattle.bl_steps.specs.Worlds.{Know, World, MapsTo, IsStage, IfKnown, IsHeld, IsGoes, IsRelied, IsPassed, IsSure, HoldsPage, IsGood, Extends}
+use Rattle.bl_laws.specs.Walks.{Each}
 use Rattle.bl_trails.proofs.Pushes.{MaySay, marks_of-own}
 use Rattle.bl_steps.proofs.Frames.{Each-map}
 use Rattle.bl_steps.proofs.Steady.{may_still, passed_still}

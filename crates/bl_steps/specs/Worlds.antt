@@ -10,6 +10,7 @@ use Rattle.bl_page.specs.Machine.{Name, Owner, Phase, State, Act, IsAt, Steps}
 use Rattle.bl_page.specs.Machine.Owner.{Released, Held, Retired}
 use Rattle.bl_page.specs.Machine.Phase.{Waiting, Running, Ended}
 use Rattle.bl_tree.specs.Nodes.{Node, Look, Covers, unbounded}
+use Rattle.bl_laws.specs.Walks.{Each}
 use Rattle.bl_tree.specs.Trees.{Status, IsLive, Tree, IsTree}
 use Rattle.bl_tree.specs.Trees.Status.{Free, Fresh, Live, Left, Right, Gone, Anchored}
 use Rattle.bl_laws.specs.Pages.{node_of, roots_of}
@@ -88,10 +89,6 @@ nodes s x = node_of (s.contents x)
 
 abbrev pub tree_of : {P : Type 0} → World P → Tree
 tree_of w = record { node = nodes w.now; roots = roots_of (w.now.contents 0); status = w.status; sep = w.sep; map = w.map }
-
-abbrev pub Each : {A : Type 0} → (A → Type 0) → List A → Type 0
-Each P [] = Unit {0}
-Each P (x ∷ xs) = P x × Each P xs
 
 abbrev pub IsStage : Stage → Phase → Type 0
 IsStage Early phase = phase ≡ Waiting

@@ -9,7 +9,8 @@ use Rattle.bl_tree.specs.Trees.{Status}
 use Rattle.bl_page.specs.Machine.Owner.{Released, Held}
 use Rattle.bl_tree.specs.Trees.Status.{Fresh, Live, Gone, Anchored}
 use Rattle.bl_trails.specs.Trails.{Said, Mark, Saw, Answered, HasSaid}
-use Rattle.bl_steps.specs.Worlds.{Hold, Know, World, MapsTo, Each, HoldsPage, IsHeld, IsSure, IsGood, silent}
+use Rattle.bl_steps.specs.Worlds.{Hold, Know, World, MapsTo, HoldsPage, IsHeld, IsSure, IsGood, silent}
+use Rattle.bl_laws.specs.Walks.{Each}
 use Rattle.bl_steps.proofs.Watches.{Learns, IsWatch, Watches-keeps}
 use Rattle.bl_steps.proofs.Latches.{Latches-keeps, Opens-keeps}
 use Rattle.bl_steps.proofs.Ends.{Begins-keeps, Finishes-keeps}

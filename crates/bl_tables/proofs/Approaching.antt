@@ -10,7 +10,8 @@ use Rattle.bl_tree.specs.Trees.Status.{Live}
 use Rattle.bl_laws.specs.Pages.{node_of, roots_of, IsTreePage}
 use Rattle.bl_trails.specs.Trails.{HasSaid}
 use Rattle.bl_trails.proofs.Pushes.{HasSaid-silent}
-use Rattle.bl_steps.specs.Worlds.{Goes, Stage, Know, World, nodes, Each, IsStage, MayGet, IsGoes, IsSure, IsGood}
+use Rattle.bl_steps.specs.Worlds.{Goes, Stage, Know, World, nodes, IsStage, MayGet, IsGoes, IsSure, IsGood}
+use Rattle.bl_laws.specs.Walks.{Each}
 use Rattle.bl_steps.proofs.Watches.{Learns}
 use Rattle.bl_descents.proofs.Descents.{goes_leftmost, goes_on, goes_right, goes_down, not_released, anchor_not_released, open_live}
 use Rattle.bl_ways.specs.declared.acts.Seen.{Seen}

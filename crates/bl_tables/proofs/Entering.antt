@@ -6,7 +6,8 @@ use Rattle.bl_page.specs.Machine.Owner.{Held}
 use Rattle.bl_tree.specs.Trees.Status.{Live}
 use Rattle.bl_trails.specs.Trails.{HasSaid}
 use Rattle.bl_trails.proofs.Pushes.{HasSaid-silent}
-use Rattle.bl_steps.specs.Worlds.{Stage, World, Each, IsStage, IsRelied, HoldsPage}
+use Rattle.bl_steps.specs.Worlds.{Stage, World, IsStage, IsRelied, HoldsPage}
+use Rattle.bl_laws.specs.Walks.{Each}
 use Rattle.bl_steps.proofs.Watches.{Learns}
 use Rattle.bl_puts.proofs.Fitted.{fits_row, without_row}
 use Rattle.bl_ways.specs.declared.changing.Change.{Change}

@@ -9,7 +9,8 @@ use Rattle.bl_trails.specs.Trails.{Said}
 use Rattle.bl_model.specs.Map.{Map}
 use Rattle.bl_page.specs.Machine.{Name}
 use Rattle.bl_tree.specs.Moves.{MayList}
-use Rattle.bl_steps.specs.Worlds.{Hold, Goes, Child, Stage, Know, World, Each, IsRelied, MapsTo, nodes, tree_of}
+use Rattle.bl_steps.specs.Worlds.{Hold, Goes, Child, Stage, Know, World, IsRelied, MapsTo, nodes, tree_of}
+use Rattle.bl_laws.specs.Walks.{Each}
 use Rattle.bl_ways.specs.declared.approaching.Approach.{Approach}
 use Rattle.bl_ways.specs.declared.approaching.Approach.TheVariants.{Start, At, Latching, Latched, Leaving}
 use Rattle.bl_ways.specs.declared.changing.Outcome.{Outcome}

@@ -1,7 +1,7 @@
 use Rattle.std.proofs.Common.{subst}
 use Rattle.bl_model.specs.Rows.{HasRisingKeys}
 use Rattle.bl_model.specs.declared.operation.Reply.{Reply}
-use Rattle.bl_index.specs.Scans.{rows_of}
+use Rattle.bl_model.specs.Parts.{rows_of}
 use Rattle.bl_index.proofs.Onward.{part_rises, rows_alone}
 use Rattle.bl_index.proofs.index.Index.append_part.Goals as goal
 
