@@ -24,7 +24,7 @@ use Rattle.bl_check.specs.declared.span.Span.{Span}
 use Rattle.bl_check.specs.Rows.{AreRowsOf}
 use Rattle.bl_check.specs.Rules.{is_anchor, is_dead, HasNext, LinkFits, Reaches, OnChain, ChildrenFit, Rule, Keeps, AllKeep, AreSound}
 use Rattle.bl_check.specs.Rules.Reaches.{Here, Next}
-use Rattle.bl_check.specs.Spans.{page_at, span_of, span_at, StandsAt, levels, leftmost, roots_of as listed_roots}
+use Rattle.bl_check.specs.Spans.{page_at, span_of, span_at, StandsAt, levels, leftmost, leftmost_of as listed_roots}
 use Rattle.bl_quiet.specs.Begins.{node_in, roots_in, IsStored, IsOpened, IsLeft, AreLeft}
 use Rattle.bl_quiet.proofs.Beginnings.{AllFit, says, some_bound, bound_is, fits_span, anchored}
 use Rattle.bl_quiet.proofs.Opened.{opened_begins, keys_fit}
