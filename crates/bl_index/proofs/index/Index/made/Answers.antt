@@ -1,6 +1,6 @@
 use Rattle.std.proofs.Common.{ℕ, ◌∙◌, sym, ap, subst, List, length, arith}
 use Rattle.bl_store.specs.Opening.{first_pages}
-use Rattle.bl_passes.specs.Fitting.{newcomer, Fits}
+use Rattle.bl_passes.specs.Fitting.{Fits}
 use Rattle.bl_index.proofs.Firsts.{opens, dealt, new_hands, is_opened}
 use Rattle.bl_passes.specs.declared.known.Mine.{Mine}
 use Rattle.bl_index.proofs.index.Index.made.Goals as goal
