@@ -23,6 +23,3 @@ pub use fault::Fault;
 pub use laws::chains_end;
 pub use quiet::Quiet;
 pub use report::Report;
-
-#[cfg(test)]
-mod tests;

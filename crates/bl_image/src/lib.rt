@@ -14,6 +14,3 @@ mod writing;
 pub use fault::{ImageFault, WriteFault};
 pub use image::Image;
 pub use reading::read;
-
-#[cfg(test)]
-mod tests;

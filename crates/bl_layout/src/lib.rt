@@ -9,8 +9,6 @@
 #![tactic(auto)]
 
 mod layout;
-#[cfg(test)]
-mod tests;
 mod word;
 
 pub use layout::Layout;

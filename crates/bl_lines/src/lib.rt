@@ -10,7 +10,5 @@ pub mod print;
 pub mod request;
 pub mod serving;
 pub mod source;
-#[cfg(test)]
-mod tests;
 
 pub use serving::{ServeFault, Totals};

@@ -9,8 +9,6 @@
 pub mod operation;
 pub mod plain;
 pub mod stream;
-#[cfg(test)]
-mod tests;
 pub mod writing;
 
 pub use operation::{Entry, Next, Op, Reply};

@@ -17,6 +17,3 @@ pub use reading::from_words;
 pub use seeking::{child_in, listed_in, place_in};
 pub use source::{WordSource, words_from};
 pub use words::{KIND_UNIT, LEVEL_UNIT};
-
-#[cfg(test)]
-mod tests;

@@ -15,6 +15,3 @@ mod sides;
 pub use fitted::{Fitted, with_pair, without};
 pub use neighbours::{evened, merged};
 pub use sides::{Evened, Side};
-
-#[cfg(test)]
-mod tests;

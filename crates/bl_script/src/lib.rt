@@ -10,8 +10,6 @@ mod laws;
 mod lines;
 mod parse;
 mod reading;
-#[cfg(test)]
-mod tests;
 
 pub use command::{Command, Kinds, Script, Start};
 pub use laws::has_one_reading;

@@ -1,5 +1,7 @@
-use crate::{Entry, Next, Op, PlainMap, Reply, Watched};
+//! The plain map, and streams that keep a failure.
+
 use arrayvec::ArrayVec;
+use bl_model::{Entry, Next, Op, PlainMap, Reply, Watched};
 use std::io;
 use std::io::{ErrorKind, Read, Write};
 use std::test::Fail;

@@ -1,6 +1,6 @@
 //! Words of small pages, and words that are none.
 
-use super::*;
+use bl_page::{Page, WordFault, from_words, is_within, listed_with, place_of, words_from};
 use std::test::Fail;
 
 const LEAF: u64 = 2 << 32;

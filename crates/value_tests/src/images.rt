@@ -4,7 +4,7 @@ ghost use Rattle.std.specs.Prelude.{◌≡◌, ◌≤◌, IfOk, OnOk, MatchResul
 ghost use Rattle.std.specs.Io.KnownBytes.{Appends};
 ghost use Rattle.bl_image.specs.declared.fault.ImageFault.TheVariants.{Memory};
 
-use super::*;
+use bl_image::{Image, ImageFault, read};
 use bl_model::Watched;
 use std::alloc::Global;
 use std::io;

@@ -1,5 +1,6 @@
-use crate::layout::Layout;
-use crate::word::Word;
+//! Numbers of the words of a store.
+
+use bl_layout::{Layout, Word};
 
 #[test]
 fn small_store(rt: HostRuntime) {

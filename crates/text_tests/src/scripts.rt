@@ -1,7 +1,7 @@
 //! Scripts that are read, and scripts with a bad line.
 
-use super::*;
 use bl_model::{Op, Watched};
+use bl_script::{Command, Kinds, Script, ScriptFault, Start, has_one_reading, read_script};
 use std::alloc::Global;
 use std::io;
 use std::io::{ErrorKind, Read};

@@ -2,7 +2,7 @@
 
 ghost use Rattle.std.specs.Prelude.{◌<◌, ◌≤◌, length};
 
-use super::*;
+use bl_check::{Fault, Report, chains_end, check, sound};
 use bl_image::{Image, ImageFault, read};
 use byteorder::{ByteOrder, LittleEndian};
 use std::alloc::Global;

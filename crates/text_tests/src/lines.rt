@@ -1,9 +1,11 @@
-use crate::number::{number, two_numbers};
-use crate::print::{Response, push_line, push_rows_below};
-use crate::request::{Request, parse};
-use crate::serving::ServeFault;
-use crate::source::{Cut, KEPT, Source};
+//! Request lines, printed answers, and how a reader is cut into its lines.
+
 use arrayvec::ArrayVec;
+use bl_lines::ServeFault;
+use bl_lines::number::{number, two_numbers};
+use bl_lines::print::{Response, push_line, push_rows_below};
+use bl_lines::request::{Request, parse};
+use bl_lines::source::{Cut, KEPT, Source};
 use bl_model::{Next, Op, Reply, Watched};
 use std::io;
 use std::io::{ErrorKind, Read};

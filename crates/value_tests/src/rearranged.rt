@@ -1,7 +1,7 @@
 //! Pages of 14 and of 15 pairs.
 
-use super::*;
 use bl_page::{Page, from_words, listed_with};
+use bl_rearrange::{Evened, Fitted, Side, evened, merged, with_pair, without};
 use std::test::Fail;
 
 /// Words that begin so, and zeros.
