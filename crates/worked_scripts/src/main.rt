@@ -8,7 +8,7 @@
 
 ghost use Rattle.std.specs.Prelude.{◌≡◌, ◌↔◌, IsNone};
 
-use bl_commands::{CommandFault, replay_file, replay_script};
+use bl_commands::{CommandFault, replay_script};
 use bl_model::Watched;
 use std::alloc::Global;
 use std::fs;
@@ -54,17 +54,23 @@ fn tell(rt: &HostRuntime, name: &str, wrong: Option<usize>) -> anyhow::Result<bo
     Ok(wrong.is_none())
 }
 
+/// All that `blink replay` prints for a script.
+fn printed(alloc: Global, script: &[u8]) -> anyhow::Result<Vec<u8>> {
+    let mut writer = Watched::new(Vec::new(alloc));
+    let result = replay_script(alloc, &mut Watched::new(script), &mut writer);
+    let mut text = writer.into_inner();
+    if let Err(fault) = result {
+        let line = format!(in alloc; "{fault}\n")?;
+        text.extend_from_slice(line.as_bytes())?;
+    }
+    Ok(text)
+}
+
 /// The first line of what a script prints that is not as wanted.
 fn wrong_line(rt: &HostRuntime, name: &str) -> anyhow::Result<Option<usize>> {
     let wanted = contents(rt, name, ".out")?;
-    let path = format!(in rt.alloc(); "{name}.script")?;
-    let mut writer = Watched::new(Vec::new(rt.alloc()));
-    let result = replay_file(rt, path.as_str(), &mut writer);
-    let mut found = writer.into_inner();
-    if let Err(fault) = result {
-        let line = format!(in rt.alloc(); "{fault}\n")?;
-        found.extend_from_slice(line.as_bytes())?;
-    }
+    let script = contents(rt, name, ".script")?;
+    let found = printed(rt.alloc(), script.as_slice())?;
     Ok(first_difference(found.as_slice(), wanted.as_slice()))
 }
 
@@ -101,18 +107,12 @@ fn line_that_is_taken(rt: &HostRuntime, name: &str) -> anyhow::Result<Option<usi
     Ok(None)
 }
 
-/// The script of the head and this line is bad at the line, and nothing is written.
+/// The script of the head and this line is bad at the line, and prints nothing more.
 fn is_refused(alloc: Global, head: &[u8], line: &[u8]) -> anyhow::Result<bool> {
-    let mut place = 1u64;
-    for byte in head.iter() {
-        if *byte == b'\n' {
-            place = place.saturating_add(1);
-        }
-    }
+    let ends = head.iter().filter(|byte| **byte == b'\n').count() as u64;
+    let wanted = format!(in alloc; "{}\n", CommandFault::Script(ends.saturating_add(1)))?;
     let mut script = Vec::from_slice(alloc, head)?;
     script.extend_from_slice(line)?;
-    let mut writer = Watched::new(Vec::new(alloc));
-    let mut reader = Watched::new(script.as_slice());
-    let result = replay_script(alloc, &mut reader, &mut writer);
-    Ok(result == Err(CommandFault::Script(place)) && writer.into_inner().is_empty())
+    let found = printed(alloc, script.as_slice())?;
+    Ok(found.as_slice() == wanted.as_bytes())
 }
