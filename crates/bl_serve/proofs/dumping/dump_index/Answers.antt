@@ -39,7 +39,7 @@ returns-in-Ok g c =
     let a = c.in_ok-index.passes.ok in omega (arith, now, before, many, least, a)) in
     let seen = first_seen c.in_ok-index.index s.0.now c.in-Ok.passes.items any s.0.together in
     let left : Leaves (history_of s.0.now) c.args.pages c.shut.result = subst (λ (z : ℕ). Leaves (history_of s.0.now) z c.shut.result) c.in_ok-index.ensures.pages
-        (subst (λ (z : Trail). Leaves (history_of z) (pages_of c.in_ok-index.index) c.shut.result) seen c.shut.ensures) in
+    (subst (λ (z : Trail). Leaves (history_of z) (pages_of c.in_ok-index.index) c.shut.result) seen c.shut.ensures) in
     let r = served_image (seen_by c.in_ok-index.passes.items) s.0.now h.0 h.2 c.in-Ok.totals c.args.pages c.shut.result c.in_ok-index.ensures.unseen s.0.served left in
     (h.0, h.1, h.2, h.3, h.4, (r.0, r.1, s.1))
 
