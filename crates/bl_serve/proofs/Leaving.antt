@@ -4,7 +4,7 @@ use Rattle.std.specs.Prelude.{All, Option, Result, IfOk}
 use Rattle.std.proofs.lemmas.List.{append_cancel_left}
 use Rattle.std.proofs.lemmas.List.Elements.{All-nil, All-cons, All-head}
 use Rattle.std.specs.declared.alloc.AllocError.{AllocError}
-use mathlib.Core.Option.{some}
+use mathlib.Core.Option.{some, some-ne-none}
 use lib.ListN.{get_elem?}
 use Rattle.bl_model.specs.declared.operation.Entry.{Entry}
 use Rattle.bl_model.specs.Map.{SameMap, empty}
@@ -27,18 +27,21 @@ use Rattle.bl_serve.proofs.Sections.{IsBelow, all_below, within_rest, own_more, 
 
 -- ---- all passes are there
 
+same_item : {A : Type 0} (x y : A) → some x ≡ some y → x ≡ y
+same_item x y e = cc
+
 seen_at : (index : Index) (seen : Trail) (from : ℕ) (passes : List Pass) → AreFrom index seen from passes → (k : ℕ) (pass : Pass) → get_elem? passes k ≡ some pass → trail pass ≡ seen
-seen_at index seen from [] h k pass at = absurd at
-seen_at index seen from (p ∷ ps) h zero pass at = (let same : p ≡ pass = cc in subst (λ (z : Pass). trail z ≡ seen) same h.2)
+seen_at index seen from [] h k pass at = absurd (some-ne-none pass (sym at))
+seen_at index seen from (p ∷ ps) h zero pass at = subst (λ (z : Pass). trail z ≡ seen) (same_item p pass at) h.2
 seen_at index seen from (p ∷ ps) h (suc k) pass at = seen_at index seen (suc from) ps h.3 k pass at
 
-pass_at : (index : Index) (seen : Trail) (from : ℕ) (passes : List Pass) → AreFrom index seen from passes → (k : ℕ) → k < length passes → HasPass passes (from + k)
-pass_at index seen from [] h k low = absurd (omega arith)
-pass_at index seen from (p ∷ ps) h zero low = record { place = 0; pass = p; at = refl; numbered = (let e = h.1 in omega arith) }
-pass_at index seen from (p ∷ ps) h (suc k) low = let r = pass_at index seen (suc from) ps h.3 k (omega arith) in record { place = suc r.place; pass = r.pass; at = r.at; numbered = (let e = r.numbered in omega arith) }
+pass_at : (index : Index) (seen : Trail) (from : ℕ) (passes : List Pass) → AreFrom index seen from passes → (k n : ℕ) → k < length passes → n ≡ from + k → HasPass passes n
+pass_at index seen from [] h k n low is = absurd (omega arith)
+pass_at index seen from (p ∷ ps) h zero n low is = record { place = 0; pass = p; at = refl; numbered = (let e = h.1 in omega arith) }
+pass_at index seen from (p ∷ ps) h (suc k) n low is = let r = pass_at index seen (suc from) ps h.3 k n (omega arith) (omega arith) in record { place = suc r.place; pass = r.pass; at = r.at; numbered = r.numbered }
 
 pub all_there : (index : Index) (seen : Trail) (passes : List Pass) → AreTogether index seen passes → AreAll index passes
-all_there index seen passes t n low = pass_at index seen 0 passes t.each n (let c = t.count in omega arith)
+all_there index seen passes t n low = pass_at index seen 0 passes t.each n n (let c = t.count in omega arith) (omega arith)
 
 -- ---- nothing happened to the map behind what they had seen
 
@@ -51,8 +54,8 @@ no_entries passes (e ∷ es) below none =
 
 -- the passes' entries are in what they had seen, and there are no others
 pub history_kept : (index : Index) (seen : Trail) (passes : List Pass) (pages : List (Option Page)) → 0 < length passes → AreTogether index seen passes → (c : Closes index passes pages) → history_of c.whole ≡ history_of seen
-history_kept index seen passes pages some t c =
-    let first = pass_at index seen 0 passes t.each 0 some in
+history_kept index seen passes pages any t c =
+    let first = pass_at index seen 0 passes t.each 0 0 any (omega arith) in
     let on : GoesOnFrom seen c.whole = subst (λ (z : Trail). GoesOnFrom z c.whole) (seen_at index seen 0 passes t.each first.place first.pass first.at) (c.begins first.place first.pass first.at) in
     let more : Trail = on.0 in
     let below = all_below (passes_of index) more (within_rest (passes_of index) seen more (subst (AreWithin (passes_of index)) on.1 c.within)) in
@@ -63,11 +66,11 @@ history_kept index seen passes pages some t c =
     ap history_of on.1 ∙ (history_append seen more ∙ (ap (λ (z : List Entry). history_of seen ++ z) none ∙ append-nil (history_of seen)))
 
 pub hold_map : (index : Index) (seen : Trail) (passes : List Pass) (pages : List (Option Page)) → 0 < length passes → AreTogether index seen passes → Closes index passes pages → HoldMapAfter (history_of seen) (pages_of index) pages
-hold_map index seen passes pages some t c = record {
+hold_map index seen passes pages any t c = record {
   count = c.count;
   rows = c.rows;
   are_rows = c.are_rows;
-  map = subst (λ (z : List Entry). SameMap (final_map empty z) (map_of_rows c.rows)) (history_kept index seen passes pages some t c) c.map;
+  map = subst (λ (z : List Entry). SameMap (final_map empty z) (map_of_rows c.rows)) (history_kept index seen passes pages any t c) c.map;
 }
 
 -- ---- the image is that of what was served

@@ -39,15 +39,7 @@ fn dumped<R: Threads + Wait + Sync>(
 {
     let mut reader = Watched::new(input);
     let mut writer = Watched::new(Vec::new(alloc));
-    let served = dump_index(
-        rt,
-        alloc,
-        8,
-        workers,
-        compressors,
-        &mut reader,
-        &mut writer,
-    );
+    let served = dump_index(rt, alloc, 8, workers, compressors, &mut reader, &mut writer);
     let (_totals, closed) = served.ok()?;
     let quiet = closed.ok()?;
     let mut image = Watched::new(Vec::new(alloc));
@@ -73,13 +65,49 @@ fn split_image(alloc: Global) -> Result<Vec<u8>, Fail> {
     push_page(
         &mut bytes,
         &[
-            8_589_934_600, 0, 9, 2, 1, 10, 2, 20, 3, 30, 4, 40, 5, 50, 6, 60, 7, 70, 8, 80,
+            8_589_934_600,
+            0,
+            9,
+            2,
+            1,
+            10,
+            2,
+            20,
+            3,
+            30,
+            4,
+            40,
+            5,
+            50,
+            6,
+            60,
+            7,
+            70,
+            8,
+            80,
         ],
     )?;
     push_page(
         &mut bytes,
         &[
-            8_589_934_599, 9, 0, 0, 9, 90, 10, 100, 11, 110, 12, 120, 13, 130, 14, 140, 15, 150,
+            8_589_934_599,
+            9,
+            0,
+            0,
+            9,
+            90,
+            10,
+            100,
+            11,
+            110,
+            12,
+            120,
+            13,
+            130,
+            14,
+            140,
+            15,
+            150,
         ],
     )?;
     push_page(&mut bytes, &[12_884_967_426, 0, 0, 0, 0, 1, 9, 2])?;
@@ -107,7 +135,9 @@ fn a_dump_is_sound(rt: HostRuntime) -> Result<(), Fail> {
     let (text, image) = dumped(&rt, rt.alloc(), input.as_slice(), 2, 1).ok_or("no dump")?;
     let wanted = b"16 synced\n17 deleted 30\n18 synced\n19 absent\n20 malformed\n".as_slice();
     assert!(rt; text.as_slice().ends_with(wanted));
-    let Report { rows, unposted, .. } = check(rt.alloc(), image.as_slice()).ok().ok_or("not sound")?;
+    let Report { rows, unposted, .. } = check(rt.alloc(), image.as_slice())
+        .ok()
+        .ok_or("not sound")?;
     assert_eq!(rt; rows, 14);
     assert_eq!(rt; unposted, 0);
     Ok(())
