@@ -26,6 +26,11 @@ impl Index {
         self.release::<Brand>(&mut pass.hand)
     }
 
+    /// Whether a change may find too few frames now, while some wait to be released. It is a hint of which nothing is promised.
+    pub fn lacks_frames(&self, pass: &Pass) -> bool {
+        self.store.lacks_frames(&pass.hand)
+    }
+
     // The releases of a sweep, by the process that the bound names beside its pass.
     fn release<J: Sweeper>(&self, hand: &mut Hand<Mine>) -> u32
         requires own { IsOf self.now.store.table.shared.table_id self.now.store.layout hand.old.seat }

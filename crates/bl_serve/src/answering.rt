@@ -15,6 +15,10 @@ use bl_lines::request::Request;
 use bl_model::{Next, Op, Reply};
 use std::alloc::{AllocError, Global};
 use std::sync::Wait;
+use std::thread;
+
+/// How often a worker looks for room before a change at most.
+const ROUNDS: u32 = 64;
 
 /// The value of a key, or that the key is absent.
 fn find<R: Wait>(rt: &R, index: &Index, pass: &mut Pass, key: u64) -> Reply
@@ -46,6 +50,22 @@ fn part<R: Wait>(rt: &R, index: &Index, pass: &mut Pass, from: u64) -> Reply
     unreachable!()
 }
 
+/// Makes room for a change, where it may find too few frames while some wait to be released: others may hold back what is
+/// retired, for as long as they run a process. It sweeps and lets others run, so many times at most.
+fn make_room(index: &Index, pass: &mut Pass)
+    requires { IsPassOf index.now pass.old }
+    ensures same { IsSamePass pass.old pass.new }
+    ensures adds { Adds (number_of pass.old) (trail pass.old) (trail pass.new) }
+{
+    for _ in 0..ROUNDS {
+        if !index.lacks_frames(pass) {
+            return;
+        }
+        index.sweep(pass);
+        thread::yield_now();
+    }
+}
+
 /// Puts the value at the key, where the key has none, and posts what was parted.
 fn insert<R: Wait>(
     rt: &R,
@@ -59,6 +79,7 @@ fn insert<R: Wait>(
     ensures same { IsSamePass pass.old pass.new }
     ensures works { Works (number_of pass.old) (op.Insert key value) result (trail pass.old) (trail pass.new) }
 {
+    make_room(index, pass);
     let (reply, hint) = index.insert(rt, pass, key, value);
     post(rt, index, hints, pass, hint);
     reply
@@ -70,6 +91,7 @@ fn delete<R: Wait>(rt: &R, index: &Index, hints: &Hints, pass: &mut Pass, key: u
     ensures same { IsSamePass pass.old pass.new }
     ensures works { Works (number_of pass.old) (op.Delete key) result (trail pass.old) (trail pass.new) }
 {
+    make_room(index, pass);
     let (reply, hint) = index.delete(rt, pass, key);
     leave(rt, hints, hint);
     reply

@@ -23,6 +23,7 @@ mod plays;
 mod put;
 mod reserve;
 mod rule;
+mod scarce;
 mod stock;
 mod store;
 mod sweep;

@@ -1,0 +1,51 @@
+//! Whether frames are scarce.
+
+ghost use Rattle.std.specs.Prelude.{◌≤◌};
+ghost use Rattle.bl_layout.specs.Words.{frame_count};
+
+use crate::rule::PageRule;
+use crate::store::{Hand, Store};
+use std::alloc::Allocator;
+
+/// How many frames a reservation asks for at most.
+const MOST: u32 = 3;
+
+impl<D, R: PageRule<D>, A: Allocator> Store<D, R, A> {
+    /// Whether a reservation may find too few frames now while some wait to be released: fewer are free than all hands together
+    /// may ask for at once, and some are retired. It looks from the frame that the hand would try first, and no further than it
+    /// has to. It is a hint of which nothing is promised: others reserve and release meanwhile.
+    pub fn lacks_frames(&self, hand: &Hand<D>) -> bool {
+        if hand.ready >= MOST {
+            return false;
+        }
+        let total = self.layout.frames();
+        let wanted = MOST * self.layout.passes;
+        let first = hand.frame.min(total);
+        let (free, retired) = self.look_over(first, total, wanted);
+        if free >= wanted {
+            return false;
+        }
+        let (more, others) = self.look_over(0, first, wanted - free);
+        more < wanted - free && (retired || others)
+    }
+
+    // How many of the frames of a range are free, so many at most, and whether one that it looked at is retired.
+    fn look_over(&self, from: u32, to: u32, wanted: u32) -> (u32, bool)
+        requires range { (from ≤ to) × (to ≤ frame_count self.now.layout) }
+        ensures few { result.0 ≤ wanted }
+    {
+        let mut free = 0;
+        let mut retired = false;
+        for frame in from..to {
+            if free == wanted {
+                return (free, retired);
+            }
+            let state = self.table.shared.peek(self.layout.frame_owner(frame));
+            if state == 0 {
+                free += 1;
+            }
+            retired = retired || state % 4 == 3;
+        }
+        (free, retired)
+    }
+}
