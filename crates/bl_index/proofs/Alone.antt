@@ -15,7 +15,7 @@ use Rattle.bl_passes.specs.Seeing.{IsSeen, own, AreWithin}
 use Rattle.bl_index.specs.declared.index.Index.{Index}
 use Rattle.bl_index.specs.declared.index.Pass.{Pass}
 use Rattle.bl_index.specs.declared.config.OutOfTurns.{OutOfTurns}
-use Rattle.bl_index.specs.Calls.{map_of, passes_of, number_of, trail, IsPassOf, Answers, AnswersOrRunsOut, StepsAlone}
+use Rattle.bl_index.specs.Calls.{passes_of, number_of, trail, IsPassOf, Answers, AnswersOrRunsOut, StepsAlone, map_after}
 use Rattle.bl_index.specs.Runs.{IsWithin}
 use Rattle.atomic_table.specs.declared.shared.Seat.{Seat}
 use Rattle.bl_store.specs.declared.view.View.{View}
@@ -38,11 +38,11 @@ whole_own : (trail : Trail) → AreWithin 1 trail → own 0 trail ≡ history_of
 whole_own trail w = entries_of_pass-own 0 (history_of trail) (all_first trail w)
 
 -- a call that adds no entry leaves the map
-pub alone_keeps : (old new : Trail) → AreWithin 1 old → AreWithin 1 new → own 0 new ≡ own 0 old → map_of new ≡ map_of old
+pub alone_keeps : (old new : Trail) → AreWithin 1 old → AreWithin 1 new → own 0 new ≡ own 0 old → map_after new ≡ map_after old
 alone_keeps old new w v same = ap (final_map empty) (sym (whole_own new v) ∙ (same ∙ whole_own old w))
 
 -- and one that adds an entry is a step of it
-pub alone_answers : (op : Op) (reply : Reply) (old new : Trail) → AreWithin 1 old → AreWithin 1 new → IsSeen new → own 0 new ≡ own 0 old ++ record { pass = 0; op = op; reply = reply } ∷ [] → IsMapStep (map_of old) op reply (map_of new)
+pub alone_answers : (op : Op) (reply : Reply) (old new : Trail) → AreWithin 1 old → AreWithin 1 new → IsSeen new → own 0 new ≡ own 0 old ++ record { pass = 0; op = op; reply = reply } ∷ [] → IsMapStep (map_after old) op reply (map_after new)
 alone_answers op reply old new w v seen once =
     let e : Entry = record { pass = 0; op = op; reply = reply } in
     let grown : history_of new ≡ history_of old ++ e ∷ [] = sym (whole_own new v) ∙ (once ∙ ap (λ (z : List Entry). z ++ e ∷ []) (whole_own old w)) in

@@ -42,8 +42,8 @@ abbrev pub trail : Pass → Trail
 trail pass = trail_of (known pass.hand.seat).trail
 
 -- the map after all that a trail tells
-abbrev pub map_of : Trail → Map
-map_of trail = final_map empty (history_of trail)
+abbrev pub map_after : Trail → Map
+map_after trail = final_map empty (history_of trail)
 
 -- how many pages and frames the pass has released
 abbrev pub released_by : Pass → ℕ
@@ -69,7 +69,7 @@ pub record Answers (pass : ℕ) (op : Op) (reply : Reply) (old new : Trail) : Ty
 
 -- In an index of one pass each call is a step of one map.
 abbrev pub StepsAlone : Index → Op → Reply → Trail → Trail → Type 0
-StepsAlone index op reply old new = passes_of index ≡ 1 → IsMapStep (map_of old) op reply (map_of new)
+StepsAlone index op reply old new = passes_of index ≡ 1 → IsMapStep (map_after old) op reply (map_after new)
 
 -- The same of a call that says nothing of the map.
 pub record Adds (pass : ℕ) (old new : Trail) : Type 0 where

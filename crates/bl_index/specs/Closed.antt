@@ -3,7 +3,7 @@ use Rattle.std.specs.Prelude.{◌≡◌, ℕ, ◌<◌, ◌≤◌, List, [], Opti
 use mathlib.Core.Option.{some}
 use lib.ListN.{get_elem?}
 use Rattle.bl_model.specs.Map.{SameMap}
-use Rattle.bl_model.specs.Rows.{map_of as map_of_rows}
+use Rattle.bl_model.specs.Rows.{map_of}
 use Rattle.bl_page.specs.declared.page.Page.{Page}
 use Rattle.bl_check.specs.Rows.{AreRowsOf}
 use Rattle.bl_trails.specs.Trails.{Trail}
@@ -16,7 +16,7 @@ use Rattle.bl_index.specs.declared.config.CloseFault.{CloseFault}
 use Rattle.bl_index.specs.declared.config.CloseFault.TheVariants as fault
 use Rattle.bl_index.specs.declared.index.Index.{Index}
 use Rattle.bl_index.specs.declared.index.Pass.{Pass}
-use Rattle.bl_index.specs.Calls.{pages_of, passes_of, IsPassOf, number_of, trail, map_of}
+use Rattle.bl_index.specs.Calls.{pages_of, passes_of, IsPassOf, number_of, trail, map_after}
 
 -- one of the passes has that number
 pub record HasPass (passes : List Pass) (n : ℕ) : Type 0 where
@@ -46,7 +46,7 @@ pub record Closes (index : Index) (passes : List Pass) (pages : List (Option Pag
   pub left : AreLeft pages seen.linear.now
   pub rows : List (ℕ × ℕ)
   pub are_rows : AreRowsOf pages rows
-  pub map : SameMap (map_of whole) (map_of_rows rows)
+  pub map : SameMap (map_after whole) (map_of rows)
 
 -- Why an index was not closed: one of its passes is missing; or all are there, and there was no memory.
 abbrev pub IsCloseFault : Index → List Pass → CloseFault → Type 0

@@ -26,7 +26,7 @@ use Rattle.bl_serve.specs.Sections.{rests, syncs, end_text, CountsSection, Held}
 use Rattle.bl_serve.specs.Serving.{ServedBy}
 use Rattle.bl_trails.specs.Trails.{Trail, history_of}
 use Rattle.bl_passes.specs.Seeing.{IsSeen}
-use Rattle.bl_index.specs.Calls.{map_of}
+use Rattle.bl_index.specs.Calls.{map_after}
 use Rattle.bl_serve.proofs.Sections.{history_append}
 use Rattle.bl_lines.proofs.Sections.{output_append, no_sync_inside, no_sync_any}
 use Rattle.bl_serve.proofs.Spelled.{lines_with, AreLines, are_lines, no_sync_lines, EndInSync, sync_lines, Lawful, lawful}
@@ -61,14 +61,14 @@ pub no_progress : (old : Trail) → Progress old old (record { requests = 0; mal
 no_progress old = record { sections = []; more = []; begins = sym (append-nil old); each = All-nil IsFinished; history = refl; read = refl; written = refl; requests = refl; malformed = refl; finished = refl }
 
 -- a history goes on lawfully behind the one that was seen
-legal_on : (old now more : Trail) (h : List Entry) → IsSeen (now ++ more) → (begun : Trail) → now ≡ old ++ begun → history_of begun ≡ h → IsLegalFrom (map_of old) (h ++ history_of more)
+legal_on : (old now more : Trail) (h : List Entry) → IsSeen (now ++ more) → (begun : Trail) → now ≡ old ++ begun → history_of begun ≡ h → IsLegalFrom (map_after old) (h ++ history_of more)
 legal_on old now more h seen begun is same =
-    subst (λ (z : List Entry). IsLegalFrom (map_of old) (z ++ history_of more)) same
+    subst (λ (z : List Entry). IsLegalFrom (map_after old) (z ++ history_of more)) same
     (legal_rest empty (history_of old) (history_of begun ++ history_of more)
     (subst (IsLegalFrom empty) (history_append now more ∙ (ap (λ (z : Trail). history_of z ++ history_of more) is ∙ (ap (λ (z : List Entry). z ++ history_of more) (history_append old begun) ∙ append_assoc (history_of old) (history_of begun) (history_of more)))) seen.linear.legal))
 
-legal_so_far : (old now : Trail) (h : List Entry) → IsSeen now → (begun : Trail) → now ≡ old ++ begun → history_of begun ≡ h → IsLegalFrom (map_of old) h
-legal_so_far old now h seen begun is same = subst (IsLegalFrom (map_of old)) same
+legal_so_far : (old now : Trail) (h : List Entry) → IsSeen now → (begun : Trail) → now ≡ old ++ begun → history_of begun ≡ h → IsLegalFrom (map_after old) h
+legal_so_far old now h seen begun is same = subst (IsLegalFrom (map_after old)) same
     (legal_rest empty (history_of old) (history_of begun) (subst (IsLegalFrom empty) (ap history_of is ∙ history_append old begun) seen.linear.legal))
 
 -- ---- a section
@@ -154,7 +154,7 @@ serves_end old now before totals input output unread left text rest asked more e
     let are = the_are unread left asked rest r before.requests text more h in
     let s = p.sections in let n : ℕ = before.requests + length asked + 1 in
     let at : n ≡ length (lines_of s ++ lines) + 1 = numbers_more s lines before.requests (length asked) p.requests are.long in
-    let serves : Served (map_of old) (input ++ (input_of lines ++ rest)) (output ++ (text ++ end_text end n)) totals = record {
+    let serves : Served (map_after old) (input ++ (input_of lines ++ rest)) (output ++ (text ++ end_text end n)) totals = record {
       sections = s;
       last = section_of lines more;
       rest = rest;
@@ -191,7 +191,7 @@ serves_end old now before totals input output unread left text rest asked more e
 
 -- in the open section: nothing of it is written
 pub stops_inside : (old now : Trail) (before : Totals) (input output ahead : List ℕ) (fault : ServeFault) (ReaderFailed WriterFailed : Type 0) → Progress old now before input output → IsSeen now
-    → Leaves fault [] ahead [] → ComesFrom fault ReaderFailed WriterFailed → Stops (map_of old) (input ++ ahead) output fault ReaderFailed WriterFailed
+    → Leaves fault [] ahead [] → ComesFrom fault ReaderFailed WriterFailed → Stops (map_after old) (input ++ ahead) output fault ReaderFailed WriterFailed
 stops_inside old now before input output ahead fault ReaderFailed WriterFailed p seen leaves comes = (
   record {
     sections = p.sections;
@@ -204,7 +204,7 @@ stops_inside old now before input output ahead fault ReaderFailed WriterFailed p
     whole = record { lines = All-nil IsLine; history = All-nil (λ (list : List Entry). list ≡ []) };
     open_lines = no_sync_any [] (All-nil (λ line. line.answer ≢ Synced));
     cut = All-nil (λ b. b ≢ 10);
-    legal = subst (IsLegalFrom (map_of old)) (sym (append-nil (served.history_of p.sections))) (legal_so_far old now (served.history_of p.sections) seen p.more p.begins p.history);
+    legal = subst (IsLegalFrom (map_after old)) (sym (append-nil (served.history_of p.sections))) (legal_so_far old now (served.history_of p.sections) seen p.more p.begins p.history);
     read = ap (λ t. t ++ ahead) (p.read ∙ (ap input_of (sym (append-nil (lines_of p.sections))) ∙ sym (append-nil (input_of (lines_of p.sections ++ [])))));
     open_output = refl;
     written = p.written ∙ sym (append-nil (output_of 1 (lines_of p.sections)));
@@ -229,9 +229,9 @@ interleaves_all (answer ∷ answers) = interleaves_front (entries answer) (map e
 
 -- the lines behind the finished sections were read, and a beginning of what would be their output is out
 stopped : (old now : Trail) (before : Totals) (input output unread left rest begun unwritten : List ℕ) (fault : ServeFault) (p : Progress old now before input output) (last : Section) → IsSection last → HasNoSyncInside last.lines → HasNoLf rest
-    → IsLegalFrom (map_of old) (served.history_of p.sections ++ last.history) → unread ≡ input_of last.lines ++ rest ++ left
+    → IsLegalFrom (map_after old) (served.history_of p.sections ++ last.history) → unread ≡ input_of last.lines ++ rest ++ left
     → output_of (suc (length (lines_of p.sections))) last.lines ++ rest_text (length (lines_of p.sections ++ last.lines) + 1) rest ≡ begun ++ unwritten → Leaves fault begun left last.lines
-    → Stopped (map_of old) (input ++ unread) (output ++ begun) fault
+    → Stopped (map_after old) (input ++ unread) (output ++ begun) fault
 stopped old now before input output unread left rest begun unwritten fault p last whole inside cut legal read is leaves = let s = p.sections in let lines : List Line = last.lines in record {
   sections = s;
   last = last;
@@ -253,19 +253,19 @@ stopped old now before input output unread left rest begun unwritten fault p las
 
 -- a read failed. The lines of the open section were not answered; they could have been so.
 pub stops_reading : (old now : Trail) (before : Totals) (input output unread left rest : List ℕ) (asked : List (Option Request)) (ReaderFailed WriterFailed : Type 0) → Progress old now before input output → IsSeen now
-    → ReadsLines unread left asked rest → AsksNoSync asked → left ≡ [] → ReaderFailed → Stops (map_of old) (input ++ unread) output Read ReaderFailed WriterFailed
+    → ReadsLines unread left asked rest → AsksNoSync asked → left ≡ [] → ReaderFailed → Stops (map_after old) (input ++ unread) output Read ReaderFailed WriterFailed
 stops_reading old now before input output unread left rest asked ReaderFailed WriterFailed p seen r no_sync none failed =
     let s = p.sections in
     let so_far = legal_so_far old now (served.history_of s) seen p.more p.begins p.history in
-    let l = lawful (final_map (map_of old) (served.history_of s)) asked r.texts r.each in
+    let l = lawful (final_map (map_after old) (served.history_of s)) asked r.texts r.each in
     let are = are_lines asked r.texts l.answers r.each l.each in
     let lines : List Line = lines_with r.texts l.answers in
     let last : Section = record { lines = lines; history = flat_map entries l.answers } in
     let quiet = no_sync_lines asked r.texts l.answers r.each l.each no_sync in (
-      subst (λ o. Stopped (map_of old) (input ++ unread) o Read) (append-nil output)
+      subst (λ o. Stopped (map_after old) (input ++ unread) o Read) (append-nil output)
           (stopped old now before input output unread left rest [] _ Read p last
           (record { lines = are.good; history = subst (λ (z : List (List Entry)). Interleaves z (flat_map entries l.answers)) (sym are.entries_are) (interleaves_all l.answers) })
-          (no_sync_any lines quiet) r.cut (legal_append (map_of old) (served.history_of s) (flat_map entries l.answers) so_far l.legal)
+          (no_sync_any lines quiet) r.cut (legal_append (map_after old) (served.history_of s) (flat_map entries l.answers) so_far l.legal)
           (r.read ∙ ap (λ (z : List ℕ). z ++ rest ++ left) (sym are.input)) refl (refl, none, quiet)),
       failed,
     )
@@ -273,7 +273,7 @@ stops_reading old now before input output unread left rest asked ReaderFailed Wr
 -- a write of the section's output failed
 pub stops_writing : (old now : Trail) (before : Totals) (input output unread left text rest out unwritten : List ℕ) (asked : List (Option Request)) (more : Trail) (end : SectionEnd) (ReaderFailed WriterFailed : Type 0)
     → Progress old now before input output → (r : ReadsLines unread left asked rest) → (h : Held before.requests asked text more) → HasNoSyncInside (lines_with r.texts h.answers) → ((n : ℕ) → end_text end n ≡ rest_text n rest) → IsSeen (now ++ more)
-    → text ++ end_text end (before.requests + length asked + 1) ≡ out ++ unwritten → WriterFailed → Stops (map_of old) (input ++ unread) (output ++ out) Write ReaderFailed WriterFailed
+    → text ++ end_text end (before.requests + length asked + 1) ≡ out ++ unwritten → WriterFailed → Stops (map_after old) (input ++ unread) (output ++ out) Write ReaderFailed WriterFailed
 stops_writing old now before input output unread left text rest out unwritten asked more end ReaderFailed WriterFailed p r h inside prints seen split failed =
     let s = p.sections in let lines : List Line = the_lines unread left asked rest r before.requests text more h in
     let are = the_are unread left asked rest r before.requests text more h in (

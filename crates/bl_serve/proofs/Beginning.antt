@@ -9,7 +9,7 @@ use Rattle.bl_trails.specs.Trails.{Trail}
 use Rattle.bl_index.specs.declared.config.Config.{Config}
 use Rattle.bl_index.specs.declared.index.Index.{Index}
 use Rattle.bl_index.specs.declared.index.Pass.{Pass}
-use Rattle.bl_index.specs.Calls.{IsPassOf, number_of, trail, map_of}
+use Rattle.bl_index.specs.Calls.{IsPassOf, number_of, trail, map_after}
 use Rattle.bl_index.specs.Opened.{IsOpened}
 use Rattle.bl_serve.specs.Serving.{AreFrom, AreTogether, seen_by}
 
@@ -37,5 +37,5 @@ opened_together config index passes o = subst (λ (z : Trail). AreTogether index
 })
 
 -- a server over them stops as one from the empty map
-pub stops_empty : (olds : List Pass) (input output : List ℕ) (fault : ServeFault) (reader_failed writer_failed : Type 0) → seen_by olds ≡ [] → Stops (map_of (seen_by olds)) input output fault reader_failed writer_failed → Stops empty input output fault reader_failed writer_failed
-stops_empty olds input output fault reader_failed writer_failed unseen s = subst (λ (m : Map). Stops m input output fault reader_failed writer_failed) (ap map_of unseen) s
+pub stops_empty : (olds : List Pass) (input output : List ℕ) (fault : ServeFault) (reader_failed writer_failed : Type 0) → seen_by olds ≡ [] → Stops (map_after (seen_by olds)) input output fault reader_failed writer_failed → Stops empty input output fault reader_failed writer_failed
+stops_empty olds input output fault reader_failed writer_failed unseen s = subst (λ (m : Map). Stops m input output fault reader_failed writer_failed) (ap map_after unseen) s

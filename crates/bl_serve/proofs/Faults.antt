@@ -16,7 +16,7 @@ use Rattle.bl_trails.specs.Trails.{Trail}
 use Rattle.bl_passes.specs.Seeing.{IsSeen}
 use Rattle.bl_index.specs.declared.index.Index.{Index}
 use Rattle.bl_index.specs.declared.index.Pass.{Pass}
-use Rattle.bl_index.specs.Calls.{map_of}
+use Rattle.bl_index.specs.Calls.{map_after}
 use Rattle.bl_serve.specs.declared.reading.SectionEnd.{SectionEnd}
 use Rattle.bl_serve.specs.declared.reading.SectionEnd.TheVariants as section_end
 use Rattle.bl_serve.specs.Reading.{ReadsLines, AsksNoSync, AsksSyncLast, EndsReading}
@@ -44,14 +44,14 @@ few_syncs section_end.Finished n low = omega arith
 
 -- the section could not be read whole
 pub stops_at_read : (fault : ServeFault) (old now : Trail) (before : Totals) (input output unread left rest : List ℕ) (asked : List (Option Request)) (most : ℕ) (AtEnd ReaderFailed WriterFailed : Type 0) → Progress old now before input output → IsSeen now
-    → EndsReading (Err fault) most asked rest unread left AtEnd ReaderFailed → Stops (map_of old) (input ++ unread) output fault ReaderFailed WriterFailed
+    → EndsReading (Err fault) most asked rest unread left AtEnd ReaderFailed → Stops (map_after old) (input ++ unread) output fault ReaderFailed WriterFailed
 stops_at_read Read old now before input output unread left rest asked most AtEnd ReaderFailed WriterFailed p seen e = stops_reading old now before input output unread left rest asked ReaderFailed WriterFailed p seen e.0 e.1 e.2 e.3
 stops_at_read Write old now before input output unread left rest asked most AtEnd ReaderFailed WriterFailed p seen e = absurd e
 stops_at_read Memory old now before input output unread left rest asked most AtEnd ReaderFailed WriterFailed p seen e = stops_inside old now before input output unread Memory ReaderFailed WriterFailed p seen refl tt
 stops_at_read (Lost number) old now before input output unread left rest asked most AtEnd ReaderFailed WriterFailed p seen e = absurd e
 
 -- it could not be answered
-pub stops_at_answers : (fault : ServeFault) (old now : Trail) (before : Totals) (input output ahead : List ℕ) (ReaderFailed WriterFailed : Type 0) → Progress old now before input output → IsSeen now → IsInside fault → Stops (map_of old) (input ++ ahead) output fault ReaderFailed WriterFailed
+pub stops_at_answers : (fault : ServeFault) (old now : Trail) (before : Totals) (input output ahead : List ℕ) (ReaderFailed WriterFailed : Type 0) → Progress old now before input output → IsSeen now → IsInside fault → Stops (map_after old) (input ++ ahead) output fault ReaderFailed WriterFailed
 stops_at_answers Read old now before input output ahead ReaderFailed WriterFailed p seen inside = absurd inside
 stops_at_answers Write old now before input output ahead ReaderFailed WriterFailed p seen inside = absurd inside
 stops_at_answers Memory old now before input output ahead ReaderFailed WriterFailed p seen inside = stops_inside old now before input output ahead Memory ReaderFailed WriterFailed p seen refl tt
@@ -101,7 +101,7 @@ module _ (index : Index) (seen : Trail) (before : Totals) (asked : List (Option 
 
   -- its output was not written whole
   pub stops_at_write : (old : Trail) (input output unread left rest out unwritten : List ℕ) (most : ℕ) (AtEnd ReaderFailed WriterFailed : Type 0) → Progress old seen before input output → EndsReading (Ok end) most asked rest unread left AtEnd ReaderFailed
-      → text ≡ out ++ unwritten → WriterFailed → Stops (map_of old) (input ++ unread) (output ++ out) Write ReaderFailed WriterFailed
+      → text ≡ out ++ unwritten → WriterFailed → Stops (map_after old) (input ++ unread) (output ++ out) Write ReaderFailed WriterFailed
   stops_at_write old input output unread left rest out unwritten most AtEnd ReaderFailed WriterFailed p e split failed =
       let w = ended unread left asked rest before.requests s.answers s.holds.more s.holds.held end most AtEnd ReaderFailed e in
       stops_writing old seen before input output unread left s.answers rest out unwritten asked s.holds.more end ReaderFailed WriterFailed p w.reads s.holds.held w.inside w.prints together_now.may_be (sym s.ends ∙ split) failed

@@ -8,7 +8,7 @@ use mathlib.Core.Option.{some, some-ne-none}
 use lib.ListN.{get_elem?}
 use Rattle.bl_model.specs.declared.operation.Entry.{Entry}
 use Rattle.bl_model.specs.Map.{SameMap, empty}
-use Rattle.bl_model.specs.Rows.{map_of as map_of_rows}
+use Rattle.bl_model.specs.Rows.{map_of}
 use Rattle.bl_model.specs.History.{final_map, entries_of_pass}
 use Rattle.bl_model.proofs.Histories.{entries_of_pass-append, entries_of_pass-own}
 use Rattle.bl_page.specs.declared.page.Page.{Page}
@@ -70,7 +70,7 @@ hold_map index seen passes pages any t c = record {
   count = c.count;
   rows = c.rows;
   are_rows = c.are_rows;
-  map = subst (λ (z : List Entry). SameMap (final_map empty z) (map_of_rows c.rows)) (history_kept index seen passes pages any t c) c.map;
+  map = subst (λ (z : List Entry). SameMap (final_map empty z) (map_of c.rows)) (history_kept index seen passes pages any t c) c.map;
 }
 
 -- ---- the image is that of what was served

@@ -9,7 +9,7 @@ use Rattle.bl_trails.specs.Trails.{Trail, history_of}
 use Rattle.bl_passes.specs.Seeing.{IsSeen}
 use Rattle.bl_index.specs.declared.index.Index.{Index}
 use Rattle.bl_index.specs.declared.index.Pass.{Pass}
-use Rattle.bl_index.specs.Calls.{IsPassOf, number_of, trail, passes_of, map_of}
+use Rattle.bl_index.specs.Calls.{IsPassOf, number_of, trail, passes_of, map_after}
 use Rattle.bl_serve.specs.declared.reading.SectionEnd.{SectionEnd}
 use Rattle.bl_serve.specs.Sections.{Held, end_text}
 
@@ -51,7 +51,7 @@ IsInside (Lost number) = Unit {0}
 -- The input is served from the map after old on, and the trail now is old with the entries of what was served, in the order of
 -- its history, and with no others.
 pub record ServedBy (old now : Trail) (input output : List ℕ) (totals : Totals) : Type 0 where
-  pub served : Served (map_of old) input output totals
+  pub served : Served (map_after old) input output totals
   pub more : Trail
   pub begins : now ≡ old ++ more
   pub history : history_of more ≡ whole_history served

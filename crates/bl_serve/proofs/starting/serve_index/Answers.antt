@@ -7,14 +7,14 @@ use Rattle.bl_lines.proofs.Known.{consumes_start, appends_start}
 use Rattle.bl_lines.proofs.Sections.{stops_at_once}
 use Rattle.bl_index.specs.declared.index.Index.{Index}
 use Rattle.bl_index.specs.declared.index.Pass.{Pass}
-use Rattle.bl_index.specs.Calls.{map_of}
+use Rattle.bl_index.specs.Calls.{map_after}
 use Rattle.bl_serve.specs.Serving.{Serves, seen_by}
 use Rattle.bl_serve.proofs.Beginning.{stops_empty}
 use Rattle.bl_serve.proofs.starting.serve_index.Goals as goal
 
 -- new passes have seen nothing, so that what they have served is served from the empty map
 from_empty : (index : Index) (olds news : List Pass) (input output : List ℕ) (totals : Totals) → seen_by olds ≡ [] → Serves index olds news input output totals → Served empty input output totals
-from_empty index olds news input output totals unseen s = subst (λ (m : Map). Served m input output totals) (ap map_of unseen) s.served.served
+from_empty index olds news input output totals unseen s = subst (λ (m : Map). Served m input output totals) (ap map_after unseen) s.served.served
 
 -- no memory for the index
 pub returns-in_err-index : goal.returns-in_err-index
