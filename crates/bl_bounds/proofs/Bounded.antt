@@ -41,17 +41,11 @@ left_paced w w' m b e g g' none all = then_paced w w' m b e g g' (λ p i. subst 
 
 find_early : (size : ℕ) (contents : ℕ → Page) (trail : Trail) (p : Name) (k : ℕ) (a : FindStage) → (know_find k a).stage ≡ Stage.Early → IsKept size contents trail p k (find_place a)
 find_early size contents trail p k find.New e = tt
-find_early size contents trail p k find.AtAnchor e = absurd (cc e)
-find_early size contents trail p k (find.At x) e = absurd (cc e)
-find_early size contents trail p k (find.Ending v) e = absurd (cc e)
-find_early size contents trail p k (find.Over v) e = absurd (cc e)
+find_early size contents trail p k old e = absurd (cc e)
 
 part_early : (size : ℕ) (contents : ℕ → Page) (trail : Trail) (p : Name) (k : ℕ) (a : PartStage) → (know_part k a).stage ≡ Stage.Early → IsKept size contents trail p k (part_place a)
 part_early size contents trail p k part.New e = tt
-part_early size contents trail p k part.AtAnchor e = absurd (cc e)
-part_early size contents trail p k (part.At x) e = absurd (cc e)
-part_early size contents trail p k (part.Ending r) e = absurd (cc e)
-part_early size contents trail p k (part.Over r) e = absurd (cc e)
+part_early size contents trail p k old e = absurd (cc e)
 
 early_of : (size : ℕ) (contents : ℕ → Page) (trail : Trail) (p : Name) (got : ℕ → Page) (child time : ℕ) (a : Proc) → (know_of got child time a).stage ≡ Stage.Early → IsKept size contents trail p (sought a) (place_of a)
 early_of size contents trail p got child time (proc.Find a) e = find_early size contents trail p a.key a.stage e
@@ -98,38 +92,26 @@ part_within w p k (part.Over r) g is h = h.within
 within_of : (w : World Run) (p : Name) (a : Proc) → IsGood bare w → Knows w p (sought a) (place_of a) → IsKept w.size w.now.contents w.trail p (sought a) (place_of a) → IsSearch a → IsWithinBound w.size p w.trail
 within_of w p (proc.Find a) g is h s = find_within w p a.key a.stage g is h
 within_of w p (proc.Part a) g is h s = part_within w p a.from a.stage g is h
-within_of w p (proc.Insert a) g is h s = absurd s
-within_of w p (proc.Delete a) g is h s = absurd s
-within_of w p (proc.Post a) g is h s = absurd s
-within_of w p (proc.Compress a) g is h s = absurd s
-within_of w p (proc.Reclaim a) g is h s = absurd s
+within_of w p old g is h s = absurd s
 
 -- each search has been within its bound at every moment so far
 pub search_within : (w : World Run) (p : Name) → IsGood bare w → AllPaced w → IsSearch (w.proc p).state → IsWithinBound w.size p w.trail
 search_within w p g all s = within_of w p (w.proc p).state g (knows w p g) (all p) s
 
 find_below : (w : World Run) (p : Name) (k : ℕ) (a : FindStage) → IsKept w.size w.now.contents w.trail p k (find_place a) → IsUnderWay (proc.Find (record { key = k; stage = a })) → IsBelowBound w.size p w.trail
-find_below w p k find.New h s = absurd s
 find_below w p k find.AtAnchor h s = (let enough = h.enough in let some = h.ahead.2 in omega arith)
 find_below w p k (find.At x) h s = (let enough = h.enough in let some = ahead_some w.now.contents k x h.left h.ahead in omega arith)
-find_below w p k (find.Ending v) h s = absurd s
-find_below w p k (find.Over v) h s = absurd s
+find_below w p k old h s = absurd s
 
 part_below : (w : World Run) (p : Name) (k : ℕ) (a : PartStage) → IsKept w.size w.now.contents w.trail p k (part_place a) → IsUnderWay (proc.Part (record { from = k; stage = a })) → IsBelowBound w.size p w.trail
-part_below w p k part.New h s = absurd s
 part_below w p k part.AtAnchor h s = (let enough = h.enough in let some = h.ahead.2 in omega arith)
 part_below w p k (part.At x) h s = (let enough = h.enough in let some = ahead_some w.now.contents k x h.left h.ahead in omega arith)
-part_below w p k (part.Ending r) h s = absurd s
-part_below w p k (part.Over r) h s = absurd s
+part_below w p k old h s = absurd s
 
 below_of : (w : World Run) (p : Name) (a : Proc) → IsKept w.size w.now.contents w.trail p (sought a) (place_of a) → IsUnderWay a → IsBelowBound w.size p w.trail
 below_of w p (proc.Find a) h s = find_below w p a.key a.stage h s
 below_of w p (proc.Part a) h s = part_below w p a.from a.stage h s
-below_of w p (proc.Insert a) h s = absurd s
-below_of w p (proc.Delete a) h s = absurd s
-below_of w p (proc.Post a) h s = absurd s
-below_of w p (proc.Compress a) h s = absurd s
-below_of w p (proc.Reclaim a) h s = absurd s
+below_of w p old h s = absurd s
 
 -- and below it, while it is to get another page
 pub search_below : (w : World Run) (p : Name) → AllPaced w → IsUnderWay (w.proc p).state → IsBelowBound w.size p w.trail

@@ -163,13 +163,7 @@ change_never (change.Opening y what) x e = cc
 
 growth_alone : (level key : ℕ) (got : ℕ → Page) (g : Growth) (x : ℕ) → growth_next g ≡ act.Latch x → (know_growth level key got g).holds ≡ []
 growth_alone level key got growth.Latching x e = refl
-growth_alone level key got growth.Latched x e = absurd (cc e)
-growth_alone level key got (growth.Taking rise) x e = absurd (cc e)
-growth_alone level key got (growth.PuttingTop r) x e = absurd (cc e)
-growth_alone level key got (growth.PuttingAnchor r) x e = absurd (cc e)
-growth_alone level key got (growth.OpeningTop y) x e = absurd (cc e)
-growth_alone level key got growth.OpeningGrown x e = absurd (cc e)
-growth_alone level key got growth.OpeningRefused x e = absurd (cc e)
+growth_alone level key got old x e = absurd (cc e)
 
 insert_alone : (key value : ℕ) (got : ℕ → Page) (a : InsertStage) (x : ℕ) → insert_next_in a ≡ act.Latch x → (know_insert key value got a).holds ≡ []
 insert_alone key value got insert.New x e = refl
@@ -203,24 +197,15 @@ put_never side.Right p x e = cc
 
 squeeze_few : (level key : ℕ) (got : ℕ → Page) (c : Compression) (x : ℕ) (marks : Trail) → compression_next c ≡ act.Latch x → squeeze_log level key c marks → ((y : ℕ) → Keeps marks y → HoldsPage (know_squeeze level key got c).holds y) → HoldsFew level key marks
 squeeze_few level key got (LatchingLeft f) x marks e log h = inr (record { family = f; acts = _; at = log; no_more = λ y keeps. elim (h y keeps) [ inl i ↦ inl (sym i) | inr n ↦ absurd n ] })
-squeeze_few level key got (LatchedLeft f) x marks e log h = absurd (cc e)
 squeeze_few level key got (LatchingRight f c) x marks e log h = inr (record { family = f; acts = _; at = log.family; no_more = λ y keeps. elim (h y keeps) [ inl i ↦ inl (sym i) | inr n ↦ elim n [ inl j ↦ inr (sym j) | inr o ↦ absurd o ] ] })
-squeeze_few level key got (LatchedRight f c) x marks e log h = absurd (cc e)
 squeeze_few level key got (PuttingFirst p) x marks e log h = absurd (put_never p.gains p x e)
-squeeze_few level key got (PuttingParent p) x marks e log h = absurd (cc e)
 squeeze_few level key got (PuttingLast p) x marks e log h = absurd (put_never (other p.gains) p x e)
-squeeze_few level key got (Retiring t f) x marks e log h = absurd (cc e)
-squeeze_few level key got (OpeningRight t f) x marks e log h = absurd (cc e)
-squeeze_few level key got (OpeningLeft t f) x marks e log h = absurd (cc e)
-squeeze_few level key got (OpeningParent y f) x marks e log h = absurd (cc e)
+squeeze_few level key got old x marks e log h = absurd (cc e)
 
 compress_few : (level key : ℕ) (got : ℕ → Page) (a : CompressStage) (x : ℕ) (marks : Trail) → compress_next_in a ≡ act.Latch x → compress_log level key a marks → ((y : ℕ) → Keeps marks y → HoldsPage (know_compress level key got a).holds y) → HoldsFew level key marks
-compress_few level key got compress.New x marks e log h = absurd (cc e)
 compress_few level key got (compress.Coming a) x marks e log h = inl (λ y keeps. subst (λ hs. HoldsPage hs y) (approach_alone level key a x e) (h y keeps))
 compress_few level key got (compress.Compressing c) x marks e log h = squeeze_few level key got c x marks e log h
-compress_few level key got (compress.Staying y) x marks e log h = absurd (cc e)
-compress_few level key got (compress.Ending r) x marks e log h = absurd (cc e)
-compress_few level key got (compress.Over r) x marks e log h = absurd (cc e)
+compress_few level key got old x marks e log h = absurd (cc e)
 
 find_looks : (a : FindStage) → ((x : ℕ) → find_next_in a ≢ act.Latch x) × (find_next_in a ≢ act.Take) × ((x : ℕ) (c : Page) → find_next_in a ≢ act.Put x c)
 find_looks find.New = (λ x e. cc, λ e. cc, λ x c e. cc)
@@ -302,11 +287,7 @@ looks_alone marks h i m x y is does keeps = (h i m is x).0 does
 only_looks : (a : Proc) (marks : Trail) → IsSearch a → IsTidy a marks → OnlyLooks marks
 only_looks (proc.Find a) marks s h = h
 only_looks (proc.Part a) marks s h = h
-only_looks (proc.Insert a) marks s h = absurd s
-only_looks (proc.Delete a) marks s h = absurd s
-only_looks (proc.Post a) marks s h = absurd s
-only_looks (proc.Compress a) marks s h = absurd s
-only_looks (proc.Reclaim a) marks s h = absurd s
+only_looks old marks s h = absurd s
 
 -- A search that gives up has only looked, and is then a post that is over.
 pub looks_up : (w : World Run) (p : Name) (state : Proc) (m : Mark) → AllTidy w → (w.proc p).state ≡ state → IsSearch state → IsLook m.event.act → OnlyLooks (marks_of p w.trail ++ m ∷ [])

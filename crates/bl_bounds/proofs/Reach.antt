@@ -54,9 +54,7 @@ none_each P x (y ∷ ys) f h = (f y h.0, none_each P x ys f h.1)
 -- page 0 names levels
 names_levels : (c : Page) (k : ℕ) → 0 < (roots_of c).levels → Leads c k 0 onward.Again
 names_levels (Anchor a) k h = (λ d. d, λ t. absurd t)
-names_levels (Leaf l) k h = absurd (omega arith)
-names_levels (Inner i) k h = absurd (omega arith)
-names_levels (Dead d) k h = absurd (omega arith)
+names_levels old k h = absurd (omega arith)
 
 -- what covers no key leads to its right, or to the anchor
 gone_leads : (c : Page) (k : ℕ) → (node_of c).shape.end ≡ 0 → Leads c k 0 (onward.Right (node_of c).shape.right) ⊎ Leads c k 0 onward.Again

@@ -28,13 +28,11 @@ pub record Says (page : Option Page) (s : Span) : Type 0 where
   pub fits : Fits64 (page_words page) → s.high < 2 ^ 64
 
 pub says : (page : Option Page) (s : Span) → span_of page ≡ Some s → Says page s
-says None s is = absurd cc
-says (Some (Anchor a)) s is = absurd cc
 says (Some (Leaf l)) s is = let same : (record { level = 0; low = l.low; high = l.high; right = l.right }) ≡ s = cc in
     subst (Says (Some (Leaf l))) same (record { level = refl; low = refl; end = refl; right = refl; fits = λ h. h.1.1.0 })
 says (Some (Inner i)) s is = let same : (record { level = i.level; low = i.low; high = i.high; right = i.right }) ≡ s = cc in
     subst (Says (Some (Inner i))) same (record { level = refl; low = refl; end = refl; right = refl; fits = λ h. h.1.1.0 })
-says (Some (Dead d)) s is = absurd cc
+says old s is = absurd cc
 
 -- the span of a live page
 pub live_span : (o : Option Span) → IsTrue (is_some o) → (s : Span) × (o ≡ Some s)
@@ -71,11 +69,8 @@ end_within high lt = grind arith
 -- the anchor
 
 no_node : (page : Option Page) → is_anchor page ≡ true → is_some (span_of page) ≡ false
-no_node None is = absurd cc
 no_node (Some (Anchor a)) is = refl
-no_node (Some (Leaf l)) is = absurd cc
-no_node (Some (Inner i)) is = absurd cc
-no_node (Some (Dead d)) is = absurd cc
+no_node old is = absurd cc
 
 pub record Anchored (page : Option Page) : Type 0 where
   pub some : 0 < (roots_in page).levels
@@ -84,11 +79,8 @@ pub record Anchored (page : Option Page) : Type 0 where
   pub leftmost_is : (l : ℕ) → get_or (leftmost_of page) l 0 ≡ (roots_in page).leftmost l
 
 pub anchored : (page : Option Page) → is_anchor page ≡ true → Anchored page
-anchored None is = absurd cc
 anchored (Some (Anchor a)) is = record { some = a.some; few = a.few; count = refl; leftmost_is = λ l. refl }
-anchored (Some (Leaf l)) is = absurd cc
-anchored (Some (Inner i)) is = absurd cc
-anchored (Some (Dead d)) is = absurd cc
+anchored old is = absurd cc
 
 -- chains
 
@@ -122,11 +114,9 @@ record IsParent (pages : List (Option Page)) (page : Option Page) (k c : ℕ) : 
   pub stands_at : StandsAt pages c ((node_in page).shape.level - 1) k
 
 parent : (pages : List (Option Page)) (page : Option Page) (k c : ℕ) → ChildrenFit pages page → 0 < (node_in page).shape.level → IsTrue (is_some (span_of page)) → (node_in page).look k ≡ Some c → IsParent pages page k c
-parent pages None k c fit above alive is = absurd cc
-parent pages (Some (Anchor a)) k c fit above alive is = absurd cc
 parent pages (Some (Leaf l)) k c fit above alive is = absurd (omega arith)
 parent pages (Some (Inner i)) k c fit above alive is = record { stands_at = listed_pair (λ pair. StandsAt pages pair.1 (i.level - 1) pair.0) i.children.items k c fit is }
-parent pages (Some (Dead d)) k c fit above alive is = absurd cc
+parent pages old k c fit above alive is = absurd cc
 
 pub begins : (pages : List (Option Page)) (bytes : List ℕ) → IsImage pages bytes → AreSound pages → MayBegin pages
 begins pages bytes image sound =

@@ -51,9 +51,7 @@ no_roots (Dead d) h tree = tree
 
 with_levels : (c : Page) → 0 < (roots_of c).levels → is_anchor (Some c) ≡ true
 with_levels (Anchor a) h = refl
-with_levels (Leaf l) h = absurd (omega arith)
-with_levels (Inner i) h = absurd (omega arith)
-with_levels (Dead d) h = absurd (omega arith)
+with_levels old h = absurd (omega arith)
 
 if_some : (o : Option Span) (Q : Span → Type 0) → ((s : Span) → o ≡ Some s → Q s) → IfSome o Q
 if_some None Q h = tt

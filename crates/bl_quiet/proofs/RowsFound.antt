@@ -35,11 +35,9 @@ rows_same pages x a b (Next {rest = rest} l at some r) (Next {rest = rest'} m at
 
 -- a live page of level 0 is a leaf
 leaf_there : (page : Option Page) → is_some (span_of page) ≡ true → (node_in page).shape.level ≡ 0 → (leaf : LeafPage) × (page ≡ Some (Leaf leaf))
-leaf_there None alive level = absurd (false≢true alive)
-leaf_there (Some (Anchor a)) alive level = absurd (false≢true alive)
 leaf_there (Some (Leaf l)) alive level = (l, refl)
 leaf_there (Some (Inner i)) alive level = absurd (omega (arith, i.above_leaves))
-leaf_there (Some (Dead d)) alive level = absurd (false≢true alive)
+leaf_there old alive level = absurd (false≢true alive)
 
 first_alive : (is_live : ℕ → Type 0) (node : ℕ → Node) (Middle : ℕ → ℕ → Type 0) (level x : ℕ) (rest : List ℕ) → IsChain is_live node Middle level x rest → is_live x
 first_alive is_live node Middle level x [] c = c.0

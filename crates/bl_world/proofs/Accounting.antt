@@ -58,10 +58,8 @@ one_more n = omega arith
 
 -- what a process means that has released a page, or kept it
 over_means : (es : List Event) (n x k : ℕ) (stage : ReclaimStage) (a : Reclaimed) → reclaim_answer_in stage ≡ Some (answer.Reclaim a) → IsReclaiming es n x k stage → MeansReclaimed es n x a
-over_means es n x k reclaim.Seeing a e is = absurd cc
-over_means es n x k (reclaim.Looking r) a e is = absurd cc
-over_means es n x k reclaim.Releasing a e is = absurd cc
 over_means es n x k (reclaim.Over what) a e is = (let f : Some (answer.Reclaim what) ≡ Some (answer.Reclaim a) = e in let g : what ≡ a = cc in subst (MeansReclaimed es n x) g is)
+over_means es n x k old a e is = absurd cc
 
 -- two operations of one process are one
 same_said : (w : ModelWorld Run) (q : Name) (said : Option Said) (i : ℕ) (s : Said) → IsGood know w → HasSaid w.trail q said → SaysAt w.trail i q s → said ≡ Some s

@@ -47,14 +47,6 @@ put_begins side.Left u e = absurd cc
 put_begins side.Right u e = absurd cc
 
 pub squeeze_begins : {X : Type 0} (c : Compression) → compression_next c ≡ act.Begin → X
-squeeze_begins (LatchingLeft f) e = absurd cc
-squeeze_begins (LatchedLeft f) e = absurd cc
-squeeze_begins (LatchingRight f page) e = absurd cc
-squeeze_begins (LatchedRight f page) e = absurd cc
 squeeze_begins (PuttingFirst u) e = put_begins u.gains u e
-squeeze_begins (PuttingParent u) e = absurd cc
 squeeze_begins (PuttingLast u) e = put_begins (other u.gains) u e
-squeeze_begins (Retiring at end) e = absurd cc
-squeeze_begins (OpeningRight at end) e = absurd cc
-squeeze_begins (OpeningLeft at end) e = absurd cc
-squeeze_begins (OpeningParent x end) e = absurd cc
+squeeze_begins old e = absurd cc

@@ -47,51 +47,36 @@ use Rattle.bl_world.proofs.Places.{push_cases, push_length}
 
 find_blank : (k : ℕ) (a : FindStage) → k < 2 ^ 64 → find_next_in a ≡ act.Begin → IsBlank (know_find k a)
 find_blank k find.New small e = record { stage = refl; said = refl; holds = refl; goes = refl; children = refl; passed = refl; sound = small; log = tt }
-find_blank k find.AtAnchor small e = absurd cc
-find_blank k (find.At x) small e = absurd cc
-find_blank k (find.Ending v) small e = absurd cc
-find_blank k (find.Over v) small e = absurd cc
+find_blank k old small e = absurd cc
 
 part_blank : (k : ℕ) (a : PartStage) → k < 2 ^ 64 → part_next_in a ≡ act.Begin → IsBlank (know_part k a)
 part_blank k part.New small e = find_blank k find.New small e
-part_blank k part.AtAnchor small e = absurd cc
-part_blank k (part.At x) small e = absurd cc
-part_blank k (part.Ending r) small e = absurd cc
-part_blank k (part.Over r) small e = absurd cc
+part_blank k old small e = absurd cc
 
 insert_blank : (k v : ℕ) (got : ℕ → Page) (a : InsertStage) → k < 2 ^ 64 → insert_next_in a ≡ act.Begin → IsBlank (know_insert k v got a)
 insert_blank k v got insert.New small e = record { stage = refl; said = refl; holds = refl; goes = refl; children = refl; passed = refl; sound = small; log = tt }
 insert_blank k v got (insert.Coming a) small e = approach_begins a e
-insert_blank k v got (insert.Present x there) small e = absurd cc
 insert_blank k v got (insert.Changing c) small e = change_begins c e
-insert_blank k v got (insert.Ending r) small e = absurd cc
-insert_blank k v got (insert.Over r) small e = absurd cc
+insert_blank k v got old small e = absurd cc
 
 delete_blank : (k : ℕ) (got : ℕ → Page) (a : DeleteStage) → k < 2 ^ 64 → delete_next_in a ≡ act.Begin → IsBlank (know_delete k got a)
 delete_blank k got delete.New small e = record { stage = refl; said = refl; holds = refl; goes = refl; children = refl; passed = refl; sound = small; log = tt }
 delete_blank k got (delete.Coming a) small e = approach_begins a e
-delete_blank k got (delete.Absent x) small e = absurd cc
 delete_blank k got (delete.Changing v c) small e = change_begins c e
-delete_blank k got (delete.Ending r) small e = absurd cc
-delete_blank k got (delete.Over r) small e = absurd cc
+delete_blank k got old small e = absurd cc
 
 post_blank : (l k : ℕ) (got : ℕ → Page) (child : ℕ) (a : PostStage) → k < 2 ^ 64 → post_next_in a ≡ act.Begin → IsBlank (know_post l k got child a)
 post_blank l k got child post.New small e = record { stage = refl; said = refl; holds = refl; goes = refl; children = refl; passed = refl; sound = small; log = tt }
 post_blank l k got child (post.Coming a) small e = approach_begins a e
 post_blank l k got child (post.Growing g) small e = growth_begins g e
-post_blank l k got child (post.Walking w) small e = absurd cc
 post_blank l k got child (post.Changing c) small e = change_begins c e
-post_blank l k got child (post.Staying x r) small e = absurd cc
-post_blank l k got child (post.Ending r) small e = absurd cc
-post_blank l k got child (post.Over r) small e = absurd cc
+post_blank l k got child old small e = absurd cc
 
 compress_blank : (l k : ℕ) (got : ℕ → Page) (a : CompressStage) → k < 2 ^ 64 → compress_next_in a ≡ act.Begin → IsBlank (know_compress l k got a)
 compress_blank l k got compress.New small e = record { stage = refl; said = refl; holds = refl; goes = refl; children = refl; passed = refl; sound = small; log = tt }
 compress_blank l k got (compress.Coming a) small e = approach_begins a e
 compress_blank l k got (compress.Compressing c) small e = squeeze_begins c e
-compress_blank l k got (compress.Staying x) small e = absurd cc
-compress_blank l k got (compress.Ending r) small e = absurd cc
-compress_blank l k got (compress.Over r) small e = absurd cc
+compress_blank l k got old small e = absurd cc
 
 reclaim_begins : {X : Type 0} (page : ℕ) (a : ReclaimStage) → reclaim_next_in page a ≡ act.Begin → X
 reclaim_begins page reclaim.Seeing e = absurd cc

@@ -42,11 +42,9 @@ opening = record {
 }
   where
     others : (x : _) → 1 < x → x < 4 → slice_get (own.Open ∷ own.Open ∷ own.Released ∷ own.Released ∷ []) x ≡ Some own.Released
-    others zero far near = absurd (omega arith)
-    others (suc zero) far near = absurd (omega arith)
     others (suc (suc zero)) far near = refl
     others (suc (suc (suc zero))) far near = refl
-    others (suc (suc (suc (suc x)))) far near = absurd (omega arith)
+    others old far near = absurd (omega arith)
 
 abbrev did : Act → Event
 did what = record { process = 1; act = what }

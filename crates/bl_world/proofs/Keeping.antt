@@ -74,15 +74,7 @@ module _ (v v' : View) (n : ℕ) (p : Proc) (stood : slice_get v.processes n ≡
   refuses_to : (action : Action) → next_of p ≡ action → Reserves action → Stays v v' → Tells v n p shown.Miss seen.Refused v' → GrowsTo h v'
   refuses_to act.Take next r s t = stays_to _ _ s t (refuses_take v.pages v.owners v.processes v.events n p t.new stood next t.takes h)
   refuses_to (act.Put x c) next r s t = stays_to _ _ s t (refuses_put v.pages v.owners v.processes v.events n p t.new stood x c next t.takes h)
-  refuses_to act.Begin next r s t = absurd r
-  refuses_to act.End next r s t = absurd r
-  refuses_to (act.Get x) next r s t = absurd r
-  refuses_to (act.Latch x) next r s t = absurd r
-  refuses_to (act.Open x) next r s t = absurd r
-  refuses_to (act.Retire x) next r s t = absurd r
-  refuses_to (act.Look q) next r s t = absurd r
-  refuses_to (act.See x) next r s t = absurd r
-  refuses_to (act.Release x) next r s t = absurd r
+  refuses_to old next r s t = absurd r
 
   at_to : (t : Turn) → TurnsAt v n p t v' → GrowsTo h v'
   at_to (turn.Step number) does = elim does [ inl d ↦ carries_to (next_of p) refl d.1 | inr d ↦ idles_to d.1 ]

@@ -175,9 +175,7 @@ takes_tree (proc.Reclaim p) what q h t = reclaim_tree p.page p.stage h
 
 pub see_page : (page x : ℕ) (a : ReclaimStage) → reclaim_next_in page a ≡ act.See x → page ≡ x
 see_page page x reclaim.Seeing e = (let f : act.See page ≡ act.See x = e in cc)
-see_page page x (reclaim.Looking r) e = absurd cc
-see_page page x reclaim.Releasing e = absurd cc
-see_page page x (reclaim.Over what) e = absurd cc
+see_page page x old e = absurd cc
 
 pub release_page : (page x : ℕ) (a : ReclaimStage) → reclaim_next_in page a ≡ act.Release x → page ≡ x
 release_page page x reclaim.Seeing e = absurd cc

@@ -24,19 +24,12 @@ use Rattle.bl_world.proofs.Looks.{IsOfTree, reclaims, see_page, release_page}
 
 -- what a process knows that is to look at another
 looks_seen : (es : List Event) (n x k q : ℕ) (stage : ReclaimStage) → reclaim_next_in x stage ≡ act.Look q → IsReclaiming es n x k stage → HasSeen es n x k (length es)
-looks_seen es n x k q reclaim.Seeing e is = absurd cc
 looks_seen es n x k q (reclaim.Looking r) e is = is
-looks_seen es n x k q reclaim.Releasing e is = absurd cc
-looks_seen es n x k q (reclaim.Over what) e is = absurd cc
+looks_seen es n x k q old e is = absurd cc
 
 pub release_only : (p : Proc) (x : ℕ) → IsToRelease p x → (q : Reclaim) × (p ≡ proc.Reclaim q)
 release_only (proc.Reclaim q) x e = (q, refl)
-release_only (proc.Find q) x e = absurd e
-release_only (proc.Insert q) x e = absurd e
-release_only (proc.Delete q) x e = absurd e
-release_only (proc.Post q) x e = absurd e
-release_only (proc.Part q) x e = absurd e
-release_only (proc.Compress q) x e = absurd e
+release_only old x e = absurd e
 
 one_more : (n : ℕ) → n + 1 ≡ suc n
 one_more n = omega arith

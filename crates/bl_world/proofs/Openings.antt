@@ -30,9 +30,7 @@ use Rattle.bl_world.proofs.Moments.{world_moment}
 -- what a page 0 that names page 1 says of the levels
 names_one : (c : Page) → IsAnchor (1 ∷ []) c → ((roots_of c).levels ≡ 1) × ((roots_of c).leftmost 0 ≡ 1)
 names_one (Anchor a) e = (ap length e, ap (λ z. get_or z 0 0) e)
-names_one (Leaf l) e = absurd e
-names_one (Inner i) e = absurd e
-names_one (Dead d) e = absurd e
+names_one old e = absurd e
 
 -- what a list holds at a place, if it is that long
 at : {A : Type 0} (xs : List A) (d : A) (x : ℕ) (a : A) → slice_get xs x ≡ Some a → get_or xs x d ≡ a

@@ -49,10 +49,8 @@ named count q = elim (cases_eq q.number 0) [
 -- what an owner tells
 
 retired_time : (o : Owner) (m : MachineOwner) → m ≡ owner_of o → is_retired o ≡ true → (time : ℕ) × (m ≡ Retired time)
-retired_time own.Released m is e = absurd (false≢true e)
-retired_time own.Open m is e = absurd (false≢true e)
-retired_time (own.Held q) m is e = absurd (false≢true e)
 retired_time (own.Retired k) m is e = (k, is)
+retired_time old m is e = absurd (false≢true e)
 
 not_retired : (o : Owner) (k : ℕ) → is_retired o ≡ false → owner_of o ≡ Retired k → ⊥
 not_retired own.Released k e is = cc
@@ -69,12 +67,7 @@ retired_owner (own.Retired j) k is = ap own.Retired (let e : Retired j ≡ Retir
 -- such a process goes on as one
 takes_reclaim : (old : Reclaim) (what : Seen) (p : Proc) → Takes (proc.Reclaim old) what p → (new : Reclaim) × (p ≡ proc.Reclaim new) × ReclaimTakes old what new
 takes_reclaim old what (proc.Reclaim new) t = (new, refl, t)
-takes_reclaim old what (proc.Find p) t = absurd t
-takes_reclaim old what (proc.Insert p) t = absurd t
-takes_reclaim old what (proc.Delete p) t = absurd t
-takes_reclaim old what (proc.Post p) t = absurd t
-takes_reclaim old what (proc.Part p) t = absurd t
-takes_reclaim old what (proc.Compress p) t = absurd t
+takes_reclaim old what new t = absurd t
 
 -- what is known of such a process that goes on, before and after
 record Goes (pages : List Page) (owners : List Owner) (processes : List Proc) (events : List Event) (n : ℕ) (p0 p1 : Proc) (action : Action) (what : Seen) (h : HasWorld pages owners processes events) : Type 0 where

@@ -106,24 +106,12 @@ after_look page q blocks (Over what) new next t = absurd cc
 
 pub after_release : (page x : ℕ) (stage new : ReclaimStage) → reclaim_next_in page stage ≡ act.Release x → ReclaimGoes stage seen.Done new → (page ≡ x) × ((now : State Page) (time : ℕ) → reclaim_time now time page stage ≡ time) × ((es : List Event) (n y k : ℕ) → IsReclaiming es n y k stage → HasSeen es n y k (length es)) × ((es : List Event) (n y k : ℕ) → (i : ℕ) × Stands es i n (shown.Release y) → IsReclaiming es n y k new)
 after_release page x Releasing (Over what) next t = ((let f : act.Release page ≡ act.Release x = next in cc), λ now time. refl, λ es n y k s. s, λ es n y k s. subst (MeansReclaimed es n y) (sym t) s)
-after_release page x Releasing Seeing next t = absurd t
-after_release page x Releasing (Looking r) next t = absurd t
-after_release page x Releasing Releasing next t = absurd t
 after_release page x Seeing new next t = absurd cc
 after_release page x (Looking r) new next t = absurd cc
-after_release page x (Over what) Seeing next t = absurd t
-after_release page x (Over what) (Looking r) next t = absurd t
-after_release page x (Over what) Releasing next t = absurd t
-after_release page x (Over what) (Over other) next t = absurd t
+after_release page x old new next t = absurd t
 
 pub after_miss : (page x : ℕ) (stage new : ReclaimStage) → reclaim_next_in page stage ≡ act.Release x → ReclaimGoes stage seen.Missed new → (page ≡ x) × ((now : State Page) (time : ℕ) → reclaim_time now time page stage ≡ time) × ((es : List Event) (n y k : ℕ) → IsReclaiming es n y k stage → HasSeen es n y k (length es)) × ((es : List Event) (n y k : ℕ) → MissedRelease es n y → IsReclaiming es n y k new)
 after_miss page x Releasing (Over what) next t = ((let f : act.Release page ≡ act.Release x = next in cc), λ now time. refl, λ es n y k s. s, λ es n y k s. subst (MeansReclaimed es n y) (sym t) (inr (inr s)))
-after_miss page x Releasing Seeing next t = absurd t
-after_miss page x Releasing (Looking r) next t = absurd t
-after_miss page x Releasing Releasing next t = absurd t
 after_miss page x Seeing new next t = absurd cc
 after_miss page x (Looking r) new next t = absurd cc
-after_miss page x (Over what) Seeing next t = absurd t
-after_miss page x (Over what) (Looking r) next t = absurd t
-after_miss page x (Over what) Releasing next t = absurd t
-after_miss page x (Over what) (Over other) next t = absurd t
+after_miss page x old new next t = absurd t

@@ -53,71 +53,39 @@ change_reserves (change.OpeningNew x new s) h = absurd (false≢true h)
 change_reserves (change.Opening x what) h = absurd (false≢true h)
 
 growth_reserves : (g : Growth) → IsSome (growth_needs g) → Reserves (growth_next g)
-growth_reserves growth.Latching h = absurd (false≢true h)
-growth_reserves growth.Latched h = absurd (false≢true h)
 growth_reserves (growth.Taking rise) h = tt
 growth_reserves (growth.PuttingTop r) h = tt
 growth_reserves (growth.PuttingAnchor r) h = tt
-growth_reserves (growth.OpeningTop x) h = absurd (false≢true h)
-growth_reserves growth.OpeningGrown h = absurd (false≢true h)
-growth_reserves growth.OpeningRefused h = absurd (false≢true h)
+growth_reserves old h = absurd (false≢true h)
 
 put_reserves : (sd : Side) (u : Puts) → Reserves (put_of sd u)
 put_reserves side.Left u = tt
 put_reserves side.Right u = tt
 
 squeeze_reserves : (c : Compression) → IsSome (compression_needs c) → Reserves (compression_next c)
-squeeze_reserves (LatchingLeft f) h = absurd (false≢true h)
-squeeze_reserves (LatchedLeft f) h = absurd (false≢true h)
-squeeze_reserves (LatchingRight f page) h = absurd (false≢true h)
-squeeze_reserves (LatchedRight f page) h = absurd (false≢true h)
 squeeze_reserves (PuttingFirst u) h = put_reserves u.gains u
-squeeze_reserves (PuttingParent u) h = absurd (false≢true h)
-squeeze_reserves (PuttingLast u) h = absurd (false≢true h)
-squeeze_reserves (Retiring at end) h = absurd (false≢true h)
-squeeze_reserves (OpeningRight at end) h = absurd (false≢true h)
-squeeze_reserves (OpeningLeft at end) h = absurd (false≢true h)
-squeeze_reserves (OpeningParent x end) h = absurd (false≢true h)
+squeeze_reserves old h = absurd (false≢true h)
 
 insert_reserves : (a : InsertStage) → IsSome (insert_needs_in a) → Reserves (insert_next_in a)
-insert_reserves insert.New h = absurd (false≢true h)
-insert_reserves (insert.Coming a) h = absurd (false≢true h)
-insert_reserves (insert.Present x v) h = absurd (false≢true h)
 insert_reserves (insert.Changing c) h = change_reserves c h
-insert_reserves (insert.Ending r) h = absurd (false≢true h)
-insert_reserves (insert.Over r) h = absurd (false≢true h)
+insert_reserves old h = absurd (false≢true h)
 
 delete_reserves : (a : DeleteStage) → IsSome (delete_needs_in a) → Reserves (delete_next_in a)
-delete_reserves delete.New h = absurd (false≢true h)
-delete_reserves (delete.Coming a) h = absurd (false≢true h)
-delete_reserves (delete.Absent x) h = absurd (false≢true h)
 delete_reserves (delete.Changing v c) h = change_reserves c h
-delete_reserves (delete.Ending r) h = absurd (false≢true h)
-delete_reserves (delete.Over r) h = absurd (false≢true h)
+delete_reserves old h = absurd (false≢true h)
 
 post_reserves : (a : PostStage) → IsSome (post_needs_in a) → Reserves (post_next_in a)
-post_reserves post.New h = absurd (false≢true h)
-post_reserves (post.Coming a) h = absurd (false≢true h)
 post_reserves (post.Growing g) h = growth_reserves g h
-post_reserves (post.Walking w) h = absurd (false≢true h)
 post_reserves (post.Changing c) h = change_reserves c h
-post_reserves (post.Staying x r) h = absurd (false≢true h)
-post_reserves (post.Ending r) h = absurd (false≢true h)
-post_reserves (post.Over r) h = absurd (false≢true h)
+post_reserves old h = absurd (false≢true h)
 
 compress_reserves : (a : CompressStage) → IsSome (compress_needs_in a) → Reserves (compress_next_in a)
-compress_reserves compress.New h = absurd (false≢true h)
-compress_reserves (compress.Coming a) h = absurd (false≢true h)
 compress_reserves (compress.Compressing c) h = squeeze_reserves c h
-compress_reserves (compress.Staying x) h = absurd (false≢true h)
-compress_reserves (compress.Ending r) h = absurd (false≢true h)
-compress_reserves (compress.Over r) h = absurd (false≢true h)
+compress_reserves old h = absurd (false≢true h)
 
 pub reserves : (p : Proc) → IsSome (needs_of p) → Reserves (next_of p)
-reserves (proc.Find p) h = absurd (false≢true h)
 reserves (proc.Insert p) h = insert_reserves p.stage h
 reserves (proc.Delete p) h = delete_reserves p.stage h
 reserves (proc.Post p) h = post_reserves p.stage h
-reserves (proc.Part p) h = absurd (false≢true h)
 reserves (proc.Compress p) h = compress_reserves p.stage h
-reserves (proc.Reclaim p) h = absurd (false≢true h)
+reserves old h = absurd (false≢true h)

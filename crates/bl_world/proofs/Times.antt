@@ -75,17 +75,8 @@ was_retired s s' p Miss x k c r = inl (sym (c.1 x) ∙ r, λ f. cc)
 -- an event that retires a page does so at its time
 pub retires_now : (s s' : State Page) (p : Name) (a : MachineAct Page Reply) (x : ℕ) → Changes s p a s' → act_shown a ≡ shown.Retire x → (k : ℕ) × (s.clock ≤ k) × (k < s'.clock) × (s'.owner x ≡ Retired k)
 retires_now s s' p (Retire y) x c e = (let f : y ≡ x = cc in (c.0, c.1, c.2, ap s'.owner (sym f) ∙ c.3.1.at))
-retires_now s s' p Begin x c e = absurd cc
-retires_now s s' p (End answer) x c e = absurd cc
-retires_now s s' p (Get y) x c e = absurd cc
-retires_now s s' p (Put y d) x c e = absurd cc
-retires_now s s' p (Take y) x c e = absurd cc
-retires_now s s' p (Latch y) x c e = absurd cc
-retires_now s s' p (MachineAct.Open y) x c e = absurd cc
 retires_now s s' p (Look (Process q)) x c e = absurd cc
-retires_now s s' p (Look (OfPage y)) x c e = absurd cc
-retires_now s s' p (Release y) x c e = absurd cc
-retires_now s s' p Miss x c e = absurd cc
+retires_now s s' p old x c e = absurd cc
 
 -- a process that runs did so before, or this event is its begin
 pub was_running : (s s' : State Page) (p q : Name) (a : MachineAct Page Reply) (since : ℕ) → Changes s p a s' → s'.phase q ≡ Running since → (s.phase q ≡ Running since) ⊎ ((q ≡ p) × (act_shown a ≡ shown.Begin) × (s.clock ≤ since))
