@@ -3,7 +3,7 @@ use Rattle.std.specs.Prelude.{◌≡◌, ℕ, ◌<◌, ◌≤◌, ◌++◌, ◌�
 use Rattle.bl_model.specs.Map.{empty}
 use Rattle.bl_model.specs.History.{final_map}
 use Rattle.bl_model.specs.Rows.{HasRisingKeys}
-use Rattle.bl_model.specs.Parts.{rows_of, ended_at}
+use Rattle.bl_model.specs.Parts.{rows_of, next_key, ended_at}
 use Rattle.bl_model.specs.declared.operation.Entry.{Entry}
 use Rattle.bl_model.specs.declared.operation.Next.{Next}
 use Rattle.bl_model.specs.declared.operation.Op.TheVariants.{Part}
@@ -110,7 +110,7 @@ pub record MayScan (pages pass turns from : ℕ) (to : Option ℕ) (room : ℕ) 
 pub record AppendsPart (pages pass from : ℕ) (to : Option ℕ) (next : Next) (before after : List (ℕ × ℕ)) (old new : Trail) : Type 0 where
   pub reply : Reply
   pub finds : Finds pages pass (Part from) reply old new
-  pub ends : ended_at reply ≡ end_of next
+  pub ends : ended_at reply ≡ next_key next
   pub appended : after ≡ before ++ rows_below to reply
 
 -- The scan stops at that part, and the rows are those of before.
