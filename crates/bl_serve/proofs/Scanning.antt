@@ -14,7 +14,6 @@ use Rattle.bl_model.specs.Parts.{rows_of, ended_at}
 use Rattle.bl_lines.specs.Text.{row_text}
 use Rattle.bl_trails.specs.Trails.{Trail, history_of}
 use Rattle.bl_passes.specs.Seeing.{IsSeen, own, GoesOnFrom}
-use Rattle.bl_index.specs.Scans as index
 use Rattle.bl_index.proofs.Scanned.{Answered, IsBehind, answered, part_is, only_rows}
 use Rattle.bl_serve.specs.Works.{Works}
 use Rattle.bl_serve.specs.Answering.{WritesPart, WritesRows}
@@ -33,7 +32,7 @@ answered_part pass from reply old new w = answered pass (part_entry pass from re
 pub rows_alone : (pass from : ℕ) (reply : Reply) (old new : Trail) → Works pass (Part from) reply old new → ((rows : _) (next : _) → reply ≢ Rows rows next) → ⊥
 rows_alone pass from reply old new w none = only_rows _ from reply (answered_part pass from reply old new w).may none
 
-behind : (from next : ℕ) (reply : Reply) → IsBehind from (index.ended_at reply) → ended_at reply ≡ Some next → from < next
+behind : (from next : ℕ) (reply : Reply) → IsBehind from (ended_at reply) → ended_at reply ≡ Some next → from < next
 behind from next (Rows rows (More key)) further is = let e : key ≡ next = cc in omega (arith, further, e)
 behind from next (Rows rows End) further is = let no : ⊥ = cc in absurd no
 behind from next (Found v) further is = let no : ⊥ = cc in absurd no
