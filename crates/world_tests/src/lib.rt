@@ -1,4 +1,5 @@
-//! Tests of worlds, turn by turn, with all events of each process and its answer.
+//! Tests of calls of a world that no script makes: lone walks, chosen turns, faults, and a tree of four levels. Runs with all
+//! events of each process and its answer are scripts of `worked_scripts`.
 //!
 //! They stand apart from `bl_world`, and nothing else uses them: whatever is built on worlds need not wait until these tests
 //! are proved.
@@ -10,8 +11,6 @@ mod calls;
 mod quiet;
 #[cfg(test)]
 mod reached;
-#[cfg(test)]
-mod retired;
 #[cfg(test)]
 mod turns;
 #[cfg(test)]

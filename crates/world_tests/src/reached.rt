@@ -1,9 +1,7 @@
 //! How keys are reached through work that is half done.
 
-use crate::worlds::{
-    acts_of, compress, delete, filled, find, insert, posted, run, split, step, thinned,
-};
-use bl_world::{Act, Turn};
+use crate::worlds::{compress, delete, filled, insert, posted, run, split, step, thinned};
+use bl_world::Turn;
 use std::alloc::Global;
 use std::test::Fail;
 use world_walks::SizedWorld;
@@ -67,31 +65,5 @@ fn walks_beside_an_evening_to_the_left(rt: HostRuntime) -> Result<(), Fail> {
     assert!(rt; world.lone_walk(9) == (1, 3));
     step(&mut world, number, 1)?;
     assert!(rt; world.lone_walk(9) == (1, 3));
-    Ok(())
-}
-
-// In eight pages and beside three puts a search gets 8 * (2 * 3 + 1) pages at most. This one starts again once.
-#[test]
-fn a_search_beside_an_evening_is_within_its_bound(rt: HostRuntime) -> Result<(), Fail> {
-    let mut world = uneven(rt.alloc())?;
-    let search = find(&mut world, 9)?;
-    step(&mut world, search, 3)?;
-    let number = compress(&mut world, 1, 0)?;
-    step(&mut world, number, 15)?;
-    step(&mut world, search, 5)?;
-    let mut gets = 0u32;
-    for act in acts_of(rt.alloc(), &world, search)? {
-        if matches!(act, Act::Get(_)) && gets < 100 {
-            gets += 1;
-        }
-    }
-    let mut puts = 0u32;
-    for act in acts_of(rt.alloc(), &world, number)? {
-        if matches!(act, Act::Put(_)) && puts < 100 {
-            puts += 1;
-        }
-    }
-    assert!(rt; gets == 6 && puts == 3);
-    assert!(rt; gets <= 56);
     Ok(())
 }

@@ -1,8 +1,7 @@
 //! Worlds of a few processes, and what these have done.
 
-use bl_model::Reply;
-use bl_proc::{Answer, Hint, Level, Posted, Proc, Squeezed};
-use bl_world::{Act, Turn};
+use bl_proc::Proc;
+use bl_world::Turn;
 use std::alloc::Global;
 use std::test::Fail;
 use world_walks::SizedWorld;
@@ -62,49 +61,6 @@ pub(crate) fn step(world: &mut SizedWorld, number: usize, count: usize) -> Resul
         run(world, &[Turn::Step(number)])?;
     }
     Ok(())
-}
-
-/// The events of one process.
-pub(crate) fn acts_of(alloc: Global, world: &SizedWorld, number: usize) -> Result<Vec<Act>, Fail> {
-    let mut acts = Vec::new(alloc);
-    for event in world.steps() {
-        if event.process == number {
-            acts.push(event.act)?;
-        }
-    }
-    Ok(acts)
-}
-
-/// These are the events of the process.
-pub(crate) fn did(
-    alloc: Global,
-    world: &SizedWorld,
-    number: usize,
-    wanted: &[Act],
-) -> Result<bool, Fail> {
-    let acts = acts_of(alloc, world, number)?;
-    Ok(acts.as_slice() == wanted)
-}
-
-/// What an operation answers without a hint.
-pub(crate) fn plain(reply: Reply) -> Option<Answer> {
-    Some(Answer::Op(reply, None))
-}
-
-/// What an insertion answers that has parted its leaf at that key.
-pub(crate) fn inserted_to_post(key: u64) -> Option<Answer> {
-    let level = Level::new(1);
-    Some(Answer::Op(Reply::Inserted, Some(Hint::Post { level, key })))
-}
-
-/// What a post answers without a hint.
-pub(crate) fn listed(posted: Posted) -> Option<Answer> {
-    Some(Answer::Post(posted, None))
-}
-
-/// What a compression answers without a hint.
-pub(crate) fn pressed(squeezed: Squeezed) -> Option<Answer> {
-    Some(Answer::Compress(squeezed, None))
 }
 
 /// Eight pages with the keys 1 to 14 in page 1, inserted by the processes 1 to 14, each of them alone; and the insertion of
