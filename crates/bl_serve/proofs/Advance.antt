@@ -1,7 +1,6 @@
 -- How far the server has come: finished sections, and what all passes have seen.
-use Rattle.std.proofs.Common.{◌≡◌, ◌≢◌, ℕ, suc, ◌+◌, ◌<◌, ◌≤◌, ◌^◌, ◌⊎◌, List, [], ◌∷◌, ◌++◌, length, map, refl, sym, ap, ◌∙◌, subst, append_assoc, append-nil, arith, length-append, inl, inr}
-use Rattle.std.specs.Prelude.{All, Option, Some, None, Ok, Err, Result, flat_map, sum_by, count_by, is_none, codes}
-use Rattle.std.specs.List.{AllZip}
+use Rattle.std.proofs.Common.{◌≡◌, ◌≢◌, ℕ, suc, ◌+◌, ◌<◌, ◌≤◌, List, [], ◌∷◌, ◌++◌, length, map, refl, sym, ap, ◌∙◌, subst, append_assoc, append-nil, arith, length-append}
+use Rattle.std.specs.Prelude.{All, Option, flat_map, sum_by}
 use Rattle.std.proofs.lemmas.List.{flat_map_more}
 use Rattle.std.proofs.lemmas.List.Sums.{sum_by-append}
 use Rattle.std.proofs.lemmas.List.Concat.{flat_map-cons, flat_map-append}
@@ -9,19 +8,17 @@ use Rattle.std.proofs.lemmas.List.Elements.{All-nil, All-cons, All-append}
 use Rattle.bl_model.specs.declared.operation.Entry.{Entry}
 use Rattle.bl_lines.specs.declared.request.Request.{Request}
 use Rattle.bl_lines.specs.declared.serving.ServeFault.{ServeFault}
-use Rattle.bl_lines.specs.declared.serving.ServeFault.TheVariants.{Read, Write, Memory, Lost}
+use Rattle.bl_lines.specs.declared.serving.ServeFault.TheVariants.{Read, Write}
 use Rattle.bl_lines.specs.declared.serving.Totals.{Totals}
 use Rattle.bl_serve.specs.declared.reading.SectionEnd.{SectionEnd}
 use Rattle.bl_serve.specs.declared.reading.SectionEnd.TheVariants as section_end
-use Rattle.bl_model.specs.Map.{Map, empty}
+use Rattle.bl_model.specs.Map.{empty}
 use Rattle.bl_model.specs.History.{IsLegalFrom, final_map}
-use Rattle.bl_model.proofs.Histories.{legal_append, legal_rest, final_map-append}
-use Rattle.bl_lines.specs.Lines.{Line, IsLine, Answer, Replied, Scanned, Synced, Malformed, entries, input_of, output_of, rest_text, HasNoLf}
+use Rattle.bl_model.proofs.Histories.{legal_append, legal_rest}
+use Rattle.bl_lines.specs.Lines.{Line, IsLine, Answer, Synced, entries, input_of, output_of, rest_text, HasNoLf}
 use Rattle.bl_lines.specs.Served.{Section, IsSection, IsFinished, HasNoSync, HasNoSyncInside, Interleaves, lines_of, malformed_of, one_if_any, whole_history, Served, Stopped, Stops, Leaves, ComesFrom}
 use Rattle.bl_lines.specs.Served as served
-use Rattle.bl_lines.specs.Streams.{EndsRead}
-use Rattle.bl_serve.specs.Answering.{IsFor, answers_text}
-use Rattle.bl_serve.specs.Reading.{IsReadAs, bytes_of, AsksNoSync, AsksSyncLast, ReadsLines, EndsReading}
+use Rattle.bl_serve.specs.Reading.{AsksNoSync, AsksSyncLast, ReadsLines}
 use Rattle.bl_serve.specs.Sections.{rests, syncs, end_text, CountsSection, Held}
 use Rattle.bl_serve.specs.Serving.{ServedBy}
 use Rattle.bl_trails.specs.Trails.{Trail, history_of}
@@ -29,7 +26,7 @@ use Rattle.bl_passes.specs.Seeing.{IsSeen}
 use Rattle.bl_index.specs.Calls.{map_after}
 use Rattle.bl_serve.proofs.Sections.{history_append}
 use Rattle.bl_lines.proofs.Sections.{output_append, no_sync_inside, no_sync_any}
-use Rattle.bl_serve.proofs.Spelled.{lines_with, AreLines, are_lines, no_sync_lines, EndInSync, sync_lines, Lawful, lawful}
+use Rattle.bl_serve.proofs.Spelled.{lines_with, AreLines, are_lines, no_sync_lines, sync_lines, lawful}
 
 -- a section that was answered: its lines and its part of the history
 abbrev pub section_of : List Line → Trail → Section

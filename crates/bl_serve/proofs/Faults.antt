@@ -1,6 +1,6 @@
 -- What is known of a section that was read, at its end, and where it stopped.
-use Rattle.std.proofs.Common.{◌≡◌, ◌≢◌, ℕ, suc, ◌+◌, ◌-◌, ◌<◌, ◌≤◌, ◌^◌, ◌⊎◌, List, [], ◌∷◌, ◌++◌, length, refl, sym, ap, ◌∙◌, subst, append-nil, arith, length-append, inl, inr}
-use Rattle.std.specs.Prelude.{Option, Some, Result, Ok, Err, is_none}
+use Rattle.std.proofs.Common.{◌≡◌, ◌≢◌, ℕ, ◌+◌, ◌-◌, ◌<◌, ◌≤◌, ◌^◌, ◌⊎◌, List, [], ◌∷◌, ◌++◌, length, refl, sym, ap, ◌∙◌, subst, append-nil, arith, length-append, inl, inr}
+use Rattle.std.specs.Prelude.{Option, Some, Ok, Err, is_none}
 use Rattle.std.proofs.lemmas.List.Sums.{count_by-le-length}
 use Rattle.std.proofs.lemmas.List.Elements.{All-nil}
 use Rattle.bl_model.specs.declared.operation.Entry.{Entry}
@@ -9,7 +9,7 @@ use Rattle.bl_lines.specs.declared.request.Request.{Request}
 use Rattle.bl_lines.specs.declared.serving.ServeFault.{ServeFault}
 use Rattle.bl_lines.specs.declared.serving.ServeFault.TheVariants.{Read, Write, Memory, Lost}
 use Rattle.bl_lines.specs.declared.serving.Totals.{Totals}
-use Rattle.bl_lines.specs.Lines.{Line, rest_text}
+use Rattle.bl_lines.specs.Lines.{rest_text}
 use Rattle.bl_lines.specs.Served.{Stops, HasNoSyncInside}
 use Rattle.bl_lines.specs.Streams.{EndsRead}
 use Rattle.bl_trails.specs.Trails.{Trail}
@@ -19,9 +19,9 @@ use Rattle.bl_index.specs.declared.index.Pass.{Pass}
 use Rattle.bl_index.specs.Calls.{map_after}
 use Rattle.bl_serve.specs.declared.reading.SectionEnd.{SectionEnd}
 use Rattle.bl_serve.specs.declared.reading.SectionEnd.TheVariants as section_end
-use Rattle.bl_serve.specs.Reading.{ReadsLines, AsksNoSync, AsksSyncLast, EndsReading}
+use Rattle.bl_serve.specs.Reading.{ReadsLines, AsksSyncLast, EndsReading}
 use Rattle.bl_serve.specs.Sections.{Held, CountsSection, end_text, rests, syncs}
-use Rattle.bl_serve.specs.Serving.{AreTogether, HoldsSection, ServesSection, ServedBy, Serves, IsInside, seen_by}
+use Rattle.bl_serve.specs.Serving.{AreTogether, ServesSection, ServedBy, IsInside}
 use Rattle.bl_serve.proofs.Spelled.{lines_with}
 use Rattle.bl_serve.proofs.Advance.{Progress, add_section, serves_end, stops_inside, stops_reading, stops_writing, ends_rest, ends_finished, inside_no_sync, inside_sync_last, input_long}
 use Rattle.bl_serve.proofs.Holding.{first_seen}

@@ -1,5 +1,5 @@
 -- A section that was answered, after which all passes have met.
-use Rattle.std.proofs.Common.{◌≡◌, ℕ, zero, suc, ◌+◌, ◌<◌, ◌≤◌, List, [], ◌∷◌, ◌++◌, length, take, drop, map, refl, sym, ap, ◌∙◌, subst, append_assoc, append-nil, arith}
+use Rattle.std.proofs.Common.{◌≡◌, ℕ, suc, ◌<◌, List, [], ◌∷◌, ◌++◌, length, take, drop, map, refl, sym, ap, ◌∙◌, subst, arith}
 use Rattle.std.specs.Prelude.{All, Option}
 use Rattle.std.specs.List.{AllZip}
 use Rattle.std.proofs.Math.Seq.{take-append_seam}
@@ -11,14 +11,13 @@ use Rattle.bl_trails.specs.Trails.{Trail}
 use Rattle.bl_passes.specs.Seeing.{IsSeen, AreWithin, own, GoesOnFrom}
 use Rattle.bl_index.specs.declared.index.Index.{Index}
 use Rattle.bl_index.specs.declared.index.Pass.{Pass}
-use Rattle.bl_index.specs.Calls.{IsPassOf, IsSamePass, number_of, trail, passes_of}
+use Rattle.bl_index.specs.Calls.{IsPassOf, number_of, trail, passes_of}
 use Rattle.bl_index.proofs.Taken.{same_of}
 use Rattle.bl_serve.specs.Rounds.{Taken, IsTaken, IsRound}
 use Rattle.bl_serve.specs.Meetings.{Comes, AllMeet}
-use Rattle.bl_serve.specs.Sections.{Held}
 use Rattle.bl_serve.specs.Serving.{AreFrom, AreTogether, HoldsSection, seen_by}
 use Rattle.bl_serve.proofs.Lines.{goes_on}
-use Rattle.bl_serve.proofs.Sections.{FitsFrom, GoesOnBy, section}
+use Rattle.bl_serve.proofs.Sections.{FitsFrom, section}
 
 abbrev olds_of : List Taken → List Pass
 olds_of taken = map (λ t. t.old) taken

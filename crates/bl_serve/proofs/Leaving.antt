@@ -21,7 +21,7 @@ use Rattle.bl_index.specs.declared.index.Index.{Index}
 use Rattle.bl_index.specs.declared.index.Pass.{Pass}
 use Rattle.bl_index.specs.Calls.{number_of, trail, pages_of, passes_of}
 use Rattle.bl_index.specs.Closed.{HasPass, AreAll, Closes}
-use Rattle.bl_serve.specs.Serving.{AreFrom, AreTogether, ServedBy, seen_by}
+use Rattle.bl_serve.specs.Serving.{AreFrom, AreTogether, ServedBy}
 use Rattle.bl_serve.specs.Dumps.{HoldMapAfter}
 use Rattle.bl_serve.proofs.Sections.{IsBelow, all_below, within_rest, own_more, history_append}
 

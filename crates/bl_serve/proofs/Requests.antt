@@ -4,8 +4,7 @@ use Rattle.bl_model.specs.declared.operation.Op.{Op}
 use Rattle.bl_model.specs.declared.operation.Reply.{Reply}
 use Rattle.bl_model.specs.declared.operation.Entry.{Entry}
 use Rattle.bl_trails.specs.Trails.{Trail}
-use Rattle.bl_passes.specs.Seeing.{own}
-use Rattle.bl_index.specs.Calls.{Answers, Sweeps, Posts, Adds as AddsIn}
+use Rattle.bl_index.specs.Calls.{Answers, Sweeps, Adds as AddsIn}
 use Rattle.bl_serve.specs.Works.{Works, Adds}
 
 pub nothing : (pass : ℕ) (old : Trail) → Adds pass old old

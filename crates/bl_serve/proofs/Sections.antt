@@ -1,6 +1,6 @@
 -- After a section all passes meet: the history has gone on by the entries of the section's lines, and by no others.
-use Rattle.std.proofs.Common.{◌≡◌, ℕ, zero, suc, ◌+◌, ◌<◌, ◌++◌, List, [], ◌∷◌, length, map, Option, Some, None, refl, sym, ap, ◌∙◌, subst, append_assoc, arith}
-use Rattle.std.specs.Prelude.{All, Contains, flat_map}
+use Rattle.std.proofs.Common.{◌≡◌, ℕ, suc, ◌<◌, ◌++◌, List, [], ◌∷◌, length, map, Option, Some, None, refl, sym, ap, ◌∙◌, subst, append_assoc, arith}
+use Rattle.std.specs.Prelude.{All, flat_map}
 use Rattle.std.proofs.lemmas.List.{append_cancel_left}
 use Rattle.std.proofs.lemmas.List.Elements.{All-nil, All-cons, All-head, All-tail}
 use Rattle.bl_model.specs.declared.operation.Entry.{Entry}
@@ -11,7 +11,7 @@ use Rattle.bl_lines.specs.declared.request.Request.{Request}
 use Rattle.bl_lines.specs.Lines.{Answer, entries}
 use Rattle.bl_lines.specs.Served.{Interleaves}
 use Rattle.bl_page.specs.Machine.{Name}
-use Rattle.bl_trails.specs.Trails.{Said, Mark, Trail, entries_at, history_of}
+use Rattle.bl_trails.specs.Trails.{Said, Trail, entries_at, history_of}
 use Rattle.bl_passes.specs.Seeing.{IsSeen, own, AreWithin, GoesOnFrom}
 use Rattle.bl_index.specs.Calls.{number_of, trail}
 use Rattle.bl_serve.specs.Rounds.{Taken, IsTaken, IsRound}

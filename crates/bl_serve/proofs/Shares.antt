@@ -1,6 +1,6 @@
 -- What the threads of a section gave back, put together.
 use Rattle.std.proofs.Common.{◌≡◌, ℕ, zero, suc, ◌+◌, ◌-◌, ◌<◌, ◌≤◌, List, [], ◌∷◌, ◌++◌, length, take, drop, map, get_or, refl, sym, ap, ◌∙◌, subst, append_assoc, append-nil, arith, length-append}
-use Rattle.std.specs.Prelude.{All, Option, Result, Ok, Err, IfOk, flat_map, remove, IsPermutation}
+use Rattle.std.specs.Prelude.{All, Option, Result, Ok, IfOk, flat_map, remove, IsPermutation}
 use Rattle.std.specs.List.{AllZip}
 use Rattle.std.specs.declared.alloc.AllocError.{AllocError}
 use Rattle.std.proofs.lemmas.List.{map-append, take_all, nil_from_length, take-append-drop}
@@ -27,7 +27,7 @@ use Rattle.bl_serve.specs.Turns.{Piece, IsPiece, IsTurn, Logs, lines_in}
 use Rattle.bl_serve.specs.Joining.{Chains, IsWithin, text_of}
 use Rattle.bl_serve.specs.Rounds.{Taken, IsTaken, Weaves, IsRound, Gathers}
 use Rattle.bl_serve.proofs.Lines.{zip_append, zip_length, text_append}
-use Rattle.bl_serve.proofs.Pieces.{lifted, cut, cut_length, flat_id, map_flat, map_map}
+use Rattle.bl_serve.proofs.Pieces.{lifted, cut, cut_length, flat_id, map_flat}
 use Rattle.bl_serve.proofs.Weaving.{joined, all_of, in_any_order, one_by_one}
 
 -- ---- turns are made

@@ -1,9 +1,9 @@
 -- Histories interleave lists: by place, in any order of the lists, of joined lists, and by pass.
-use Rattle.std.proofs.Common.{◌≡◌, ◌≢◌, ◌⊎◌, ℕ, zero, suc, ◌+◌, ◌<◌, ◌≤◌, List, [], ◌∷◌, ◌++◌, length, get_or, set, take, drop, map, refl, sym, ap, ◌∙◌, subst, append_assoc, arith, inl, inr, ⊎_elim, length-append}
-use Rattle.std.specs.Prelude.{All, ◌==◌, filter, flat_map, swap, IsPermutation}
+use Rattle.std.proofs.Common.{◌≡◌, ◌≢◌, ℕ, zero, suc, ◌+◌, ◌<◌, List, [], ◌∷◌, ◌++◌, length, get_or, set, take, drop, map, refl, sym, ap, ◌∙◌, subst, append_assoc, arith, ⊎_elim, length-append}
+use Rattle.std.specs.Prelude.{All, flat_map, swap, IsPermutation}
 use Rattle.std.proofs.lemmas.Bool.{cases_eq}
 use Rattle.std.proofs.lemmas.Bool.Decides.{nat_tests}
-use Rattle.std.proofs.lemmas.List.{set_at, set_split, set-get_or, set-set, set_comm, get_or-set_same, get_or-set_other, length-set, append-nil}
+use Rattle.std.proofs.lemmas.List.{set_at, set_split, set-get_or, set-set, set_comm, get_or-set_same, get_or-set_other, length-set}
 use Rattle.std.proofs.lemmas.List.Edits.{swap_is, length-swap}
 use Rattle.std.proofs.lemmas.List.Elements.{All-nil, All-cons, All-head, All-tail, All-append}
 use Rattle.std.proofs.lemmas.List.Sorted.{All-permutation, IsPermutation-refl, IsPermutation-trans, IsPermutation-swap, IsPermutation-keeps}

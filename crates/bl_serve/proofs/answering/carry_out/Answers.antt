@@ -1,4 +1,3 @@
-use Rattle.std.proofs.Common.{refl}
 use Rattle.bl_serve.proofs.Requests.{sweep_adds, works_on}
 use Rattle.bl_serve.proofs.answering.carry_out.Goals as goal
 

@@ -1,4 +1,4 @@
-use Rattle.std.proofs.Common.{rules, refl, ◌∙◌}
+use Rattle.std.proofs.Common.{rules}
 use Rattle.bl_serve.proofs.Requests.{nothing, then_adds, call_adds, call_works, adds_works}
 use Rattle.bl_serve.proofs.answering.part.Goals as goal
 

@@ -1,5 +1,4 @@
-use Rattle.std.proofs.Common.{rules, refl, ◌∙◌}
-use Rattle.bl_serve.proofs.Requests.{nothing, then_adds, adds_as, sweep_adds}
+use Rattle.bl_serve.proofs.Requests.{then_adds, sweep_adds}
 use Rattle.bl_serve.proofs.compressing.follow_hint.Goals as goal
 
 pub returns-clause-adds : goal.returns-clause-adds

@@ -1,4 +1,4 @@
-use Rattle.std.proofs.Common.{rules, refl, ◌∙◌}
+use Rattle.std.proofs.Common.{rules}
 use Rattle.bl_serve.proofs.Requests.{then_adds, adds_as}
 use Rattle.bl_serve.proofs.compressing.follow_hints.Goals as goal
 

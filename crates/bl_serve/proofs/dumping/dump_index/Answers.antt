@@ -1,4 +1,4 @@
-use Rattle.std.proofs.Common.{◌≡◌, ◌<◌, ◌≤◌, [], ℕ, ◌++◌, ap, sym, ◌∙◌, subst, true, arith, length}
+use Rattle.std.proofs.Common.{◌≡◌, ◌<◌, [], ℕ, ◌++◌, subst, true, arith, length}
 use Rattle.std.proofs.lemmas.Result.{err_from_is_err_and}
 use Rattle.bl_model.specs.Map.{empty}
 use Rattle.bl_lines.proofs.Known.{consumes_start, appends_start}

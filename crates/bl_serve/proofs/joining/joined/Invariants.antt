@@ -1,4 +1,4 @@
-use Rattle.std.proofs.Common.{◌≡◌, ◌≤◌, take, ℕ}
+use Rattle.std.proofs.Common.{◌≡◌, ◌≤◌, take}
 use Rattle.bl_serve.specs.Joining.{Chains, text_of}
 use Rattle.bl_serve.proofs.joining.joined.Given as goal
 

@@ -1,8 +1,5 @@
-use Rattle.std.proofs.Common.{sym, subst, arith, List, ◌∷◌}
-use Rattle.std.specs.Prelude.{All}
-use Rattle.std.proofs.lemmas.List.Elements.{All-head, All-tail}
+use Rattle.std.proofs.Common.{sym, subst, List, ◌∷◌}
 use Rattle.bl_index.specs.declared.index.Pass.{Pass}
-use Rattle.bl_index.specs.Calls.{IsPassOf}
 use Rattle.bl_serve.specs.Meetings.{AllMeet}
 use Rattle.bl_index.proofs.Taken.{same_of}
 use Rattle.bl_serve.proofs.Together.{all_meet, own_all, own_parts}

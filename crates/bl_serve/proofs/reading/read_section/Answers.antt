@@ -1,5 +1,5 @@
-use Rattle.std.proofs.Common.{◌≡◌, ◌≢◌, ◌+◌, ◌++◌, ◌∷◌, [], refl, ap, ◌∙◌, sym, subst, length, arith, append-nil, rules, inl, inr, length-append}
-use Rattle.std.specs.Prelude.{Some, Ok, Err}
+use Rattle.std.proofs.Common.{◌≡◌, ◌≢◌, ◌++◌, ◌∷◌, [], refl, ap, sym, subst, length, arith, inl, inr, length-append}
+use Rattle.std.specs.Prelude.{Some}
 use Rattle.std.proofs.lemmas.Result.{err_from_is_err_and}
 use Rattle.bl_lines.specs.declared.request.Request.TheVariants.{Sync}
 use Rattle.bl_lines.proofs.Known.{consumes_more, consumes_start}

@@ -1,6 +1,6 @@
 use Rattle.std.proofs.Common.{sym, subst, arith}
 use Rattle.std.specs.Prelude.{All}
-use Rattle.std.proofs.lemmas.List.Elements.{All-take, All-drop}
+use Rattle.std.proofs.lemmas.List.Elements.{All-take}
 use Rattle.bl_index.specs.Calls.{IsPassOf}
 use Rattle.bl_serve.specs.declared.working.Turn.{Turn}
 use Rattle.bl_serve.proofs.Shares.{each_part}

@@ -1,4 +1,4 @@
-use Rattle.std.proofs.Common.{◌≡◌, sym, subst, arith}
+use Rattle.std.proofs.Common.{sym, subst, arith}
 use Rattle.bl_index.specs.Calls.{IsPassOf}
 use Rattle.bl_serve.specs.declared.working.Turn.{Turn}
 use Rattle.bl_serve.proofs.Shares.{own_rest, works_none, works_more, works_all}

@@ -1,4 +1,4 @@
-use Rattle.std.proofs.Common.{rules, refl, ◌∙◌, arith}
+use Rattle.std.proofs.Common.{arith}
 use Rattle.bl_serve.proofs.Lines.{no_logs, one_log}
 use Rattle.bl_serve.proofs.working.serve_batch.Goals as goal
 

@@ -1,4 +1,4 @@
-use Rattle.std.proofs.Common.{rules, refl, ◌∙◌, arith}
+use Rattle.std.proofs.Common.{rules}
 use Rattle.bl_serve.proofs.Lines.{no_logs_in, then_logs}
 use Rattle.bl_serve.proofs.working.serve_batches.Goals as goal
 
