@@ -4,6 +4,7 @@ use mathlib.Core.Option.{some}
 use lib.ListN.{get_elem?}
 use Rattle.std.proofs.Math.ListN.{length-set}
 use Rattle.atomic_table.proofs.Lists.{at_set}
+use Rattle.bl_model.specs.Map.{empty}
 use Rattle.bl_model.specs.declared.operation.Entry.{Entry}
 use Rattle.bl_model.specs.declared.operation.Reply.{Reply}
 use Rattle.bl_page.specs.declared.page.Page.{Page}
@@ -49,8 +50,8 @@ module _ (s : Pages Mine) (f : Fits s) (n m : ℕ) (st : Stage) (d : Mine) (at :
   hands_same s' st' hands = ap length hands ∙ length-set s.hands n (st', next_known)
 
   -- one state more has the laws of the tree
-  next_moments : KeepsLogs t.next → HasMoments t.next.start t.next.trail
-  next_moments logs = moments_on f.world.start t.next.start f.world.trail t.next.trail (turn_mark f.world f.good n m a s1 b t) t.extends.start t.extends.trail f.moments (world_moment t.next t.good logs (t.extends.first ∙ f.first))
+  next_moments : KeepsLogs t.next → HasMoments empty t.next.start t.next.trail
+  next_moments logs = moments_on empty f.world.start t.next.start f.world.trail t.next.trail (turn_mark f.world f.good n m a s1 b t) t.extends.start t.extends.trail f.moments (world_moment t.next t.good logs (t.extends.first ∙ f.first))
 
   pub advance : KeepsLogs t.next → AllKept t.next → (s' : Pages Mine) (st' : Stage) → s'.hands ≡ set s.hands n (st', next_known) → length s'.contents ≡ length s.contents → d.number ≤ m → s1.clock ≤ s'.clock
       → ((q : Name) → q ≢ name n m → s1.phase q ≡ f.world.now.phase q)

@@ -25,11 +25,11 @@ laws_now w good logs first =
     let map : w.map 0 ≡ final_map empty (history_of w.trail) = λ i k. (good.recorded.map k ∙ ap (λ (z : Map). final_map z (history_of w.trail) k) first) i in
     subst (λ (z : Look). HasLaws w.now w.trail z) map (bare_laws w good logs)
 
-pub world_moment : (w : World Run) → IsGood know w → KeepsLogs w → w.first ≡ empty → Moment w.start w.trail
+pub world_moment : (w : World Run) → IsGood know w → KeepsLogs w → w.first ≡ empty → Moment empty w.start w.trail
 world_moment w good logs first = record { now = w.now; leads = good.recorded.leads; laws = laws_now w good logs first }
 
 -- the trail of a good world that began with the opening index
-pub world_seen : (w : World Run) → IsGood know w → Opening w.start → w.first ≡ empty → HasMoments w.start w.trail → IsSeen w.trail
+pub world_seen : (w : World Run) → IsGood know w → Opening w.start → w.first ≡ empty → HasMoments empty w.start w.trail → IsSeen w.trail
 world_seen w good opening first moments = record {
   linear = record {
     start = w.start;

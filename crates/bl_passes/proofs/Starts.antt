@@ -2,6 +2,7 @@
 use Rattle.std.proofs.Common.{ℕ, zero, suc, ◌≡◌, ◌≢◌, ◌<◌, ◌≤◌, List, [], ◌∷◌, length, map, replicate, refl, sym, ap, ◌∙◌, subst, inl, inr, arith}
 use mathlib.Core.Option.{some, some-injective, some-ne-none}
 use lib.ListN.{get_elem?}
+use Rattle.bl_model.specs.Map.{empty}
 use Rattle.bl_page.specs.declared.page.Page.{Page}
 use Rattle.bl_page.specs.declared.page.Page.TheVariants.{Leaf}
 use Rattle.bl_page.specs.Words.{words_of}
@@ -76,8 +77,8 @@ first_good size wide = opening_good know opening_state size (λ p. fresh_run unb
 first_logs : (size : ℕ) → KeepsLogs (first_world size)
 first_logs size p since runs = absurd (let both : machine.Waiting ≡ machine.Running since = runs in cc)
 
-first_moments : (size : ℕ) → 1 < size → HasMoments opening_state []
-first_moments size wide = moments_first opening_state (world_moment (first_world size) (first_good size wide) (first_logs size) refl)
+first_moments : (size : ℕ) → 1 < size → HasMoments empty opening_state []
+first_moments size wide = moments_first empty opening_state (world_moment (first_world size) (first_good size wide) (first_logs size) refl)
 
 -- a pass that has done nothing has seen the opening index
 pub newcomer_seen : IsSeen []

@@ -92,7 +92,7 @@ pub record Fits (s : Pages Mine) : Type 0 where
   pub kept : AllKept world
   pub opening : Opening world.start
   pub first : world.first ≡ empty
-  pub moments : HasMoments world.start world.trail
+  pub moments : HasMoments empty world.start world.trail
   pub size : world.size ≡ length s.contents
   pub clock : world.now.clock ≤ s.clock
   pub pages : (x : ℕ) (words : List ℕ) → get_elem? s.contents x ≡ some words → Shows x words (world.now.contents x)

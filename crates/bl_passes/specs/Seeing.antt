@@ -27,7 +27,7 @@ pub record IsLinearizable (trail : Trail) : Type 0 where
 -- on its way and in its last one, with the map after the history so far.
 pub record IsSeen (trail : Trail) : Type 0 where
   pub linear : IsLinearizable trail
-  pub moments : HasMoments linear.start trail
+  pub moments : HasMoments empty linear.start trail
 
 -- the entries of one pass
 abbrev pub own : ℕ → Trail → List Entry

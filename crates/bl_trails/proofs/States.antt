@@ -1,6 +1,7 @@
 -- One event more is one moment more.
 use Rattle.std.proofs.Common.{ℕ, ◌≡◌, ◌≤◌, ◌++◌, zero, suc, List, [], ◌∷◌, length, take, arith, ap, ◌∙◌, refl, inl, inr}
 use Rattle.std.proofs.lemmas.Bool.{cases_lt}
+use Rattle.bl_model.specs.Map.{Map}
 use Rattle.bl_page.specs.declared.page.Page.{Page}
 use Rattle.bl_page.specs.Machine.{State}
 use Rattle.bl_trails.specs.Trails.{Mark, Trail}
@@ -21,8 +22,8 @@ take_all [] (suc i) le = refl
 take_all (x ∷ xs) zero le = absurd (omega arith)
 take_all (x ∷ xs) (suc i) le = ap (λ z. x ∷ z) (take_all xs i (omega arith))
 
-pub moments_on : (start start' : State Page) (trail trail' : Trail) (m : Mark) → start' ≡ start → trail' ≡ trail ++ m ∷ [] → HasMoments start trail → Moment start' trail' → HasMoments start' trail'
-moments_on start start' trail trail' m es et all last i le = elim (cases_lt (length trail) i) [
+pub moments_on : (first : Map) (start start' : State Page) (trail trail' : Trail) (m : Mark) → start' ≡ start → trail' ≡ trail ++ m ∷ [] → HasMoments first start trail → Moment first start' trail' → HasMoments first start' trail'
+moments_on first start start' trail trail' m es et all last i le = elim (cases_lt (length trail) i) [
   | inl l ↦
       let longer : length trail' ≡ suc (length trail) = ap length et ∙ push_length trail m in
       rw (take_all trail' i (omega (arith, longer))) last
@@ -30,5 +31,5 @@ moments_on start start' trail trail' m es et all last i le = elim (cases_lt (len
 ]
 
 -- nothing has happened yet
-pub moments_first : (start : State Page) → Moment start [] → HasMoments start []
-moments_first start m i le = rw (take_all {A = Mark} [] i (omega arith)) m
+pub moments_first : (first : Map) (start : State Page) → Moment first start [] → HasMoments first start []
+moments_first first start m i le = rw (take_all {A = Mark} [] i (omega arith)) m

@@ -13,7 +13,7 @@ use Rattle.bl_tables.proofs.Starting.{run_laws}
 pub world_map : (w : ModelWorld Run) → IsGood know w → w.first ≡ empty → w.map 0 ≡ final_map empty (history_of w.trail)
 world_map w g first = λ i k. (g.recorded.map k ∙ ap (λ f. final_map f (history_of w.trail) k) first) i
 
-pub world_moment : (w : ModelWorld Run) → IsGood know w → w.first ≡ empty → Moment w.start w.trail
+pub world_moment : (w : ModelWorld Run) → IsGood know w → w.first ≡ empty → Moment empty w.start w.trail
 world_moment w g first = record {
   now = w.now;
   leads = g.recorded.leads;

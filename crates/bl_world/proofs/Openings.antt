@@ -2,6 +2,7 @@
 use Rattle.std.proofs.Common.{ℕ, ◌≡◌, ◌<◌, ◌≤◌, zero, suc, Some, None, List, [], ◌∷◌, length, get_or, slice_get, arith, ap, sym, ◌∙◌, refl, inl, inr}
 use Rattle.std.proofs.lemmas.Bool.{cases_eq, cases_lt}
 use Rattle.std.proofs.lemmas.Option.{get_or_from_slice_get}
+use Rattle.bl_model.specs.Map.{empty}
 use Rattle.bl_page.specs.declared.page.Page.{Page}
 use Rattle.bl_page.specs.declared.page.Page.TheVariants.{Anchor, Leaf, Inner, Dead}
 use Rattle.bl_page.specs.Machine.{State}
@@ -102,5 +103,5 @@ opens size v wide o =
       inside = λ n p is. absurd (let e : slice_get {X = Proc} [] n ≡ Some (proc.Reclaim p) = rw o.processes at is in cc);
       reclaiming = λ n p is. absurd (let e : slice_get {X = Proc} [] n ≡ Some (proc.Reclaim p) = rw o.processes at is in cc);
       releases = λ i number x s. absurd (no_event v.events i number _ o.events s);
-      moments = moments_first now (world_moment (opening_world now size (λ p. nobody leaf)) good refl);
+      moments = moments_first empty now (world_moment (opening_world now size (λ p. nobody leaf)) good refl);
     }

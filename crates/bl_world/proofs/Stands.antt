@@ -1,6 +1,7 @@
 -- One turn on the lists of a world.
 use Rattle.std.proofs.Common.{ℕ, ◌≡◌, ◌≢◌, ◌<◌, ◌++◌, suc, Some, List, [], ◌∷◌, length, slice_get, arith, ap, sym, ◌∙◌, refl, inl, inr}
 use Rattle.std.proofs.lemmas.Bool.{cases_eq}
+use Rattle.bl_model.specs.Map.{empty}
 use Rattle.bl_model.specs.declared.operation.Reply.{Reply}
 use Rattle.bl_page.specs.declared.page.Page.{Page}
 use Rattle.bl_page.specs.Machine.{Name, State, Act as MachineAct, Changes}
@@ -91,7 +92,7 @@ turned_lists pages pages' owners owners' processes processes' events n a s b h h
           | inl is_old ↦ h.numbered i k is_old
           | inr is_new ↦ ap (λ z. z.event.process.number) is_new.1
         ];
-        moments = moments_on old.start next.start old.trail next.trail _ e.start e.trail h.moments (world_moment next t.turned.good (e.first ∙ h.first));
+        moments = moments_on empty old.start next.start old.trail next.trail _ e.start e.trail h.moments (world_moment next t.turned.good (e.first ∙ h.first));
         times = times_on old next events n a e.steps.enabled e.steps.changes (ap (λ z. z.clock) t.turned.now ∙ on) h.times;
         inside = λ i q is. elim (cases_eq i n) [
           | inl eq ↦ rw count (mine q (sym (ap (slice_get processes') eq) ∙ is)).0

@@ -99,7 +99,7 @@ pub record Account (v : View) : Type 0 where
   pub owner : (x : ℕ) (o : Owner) → slice_get v.owners x ≡ Some o → now.owner x ≡ owner_of o
   -- the laws of the tree hold with the map after the history, now and at every moment so far
   pub laws : HasLaws now trail (final_map empty (history_of trail))
-  pub moments : HasMoments start trail
+  pub moments : HasMoments empty start trail
   -- the history is one of the step list: each entry stands once, at its point between begin and end; it is legal from the
   -- empty map; and an operation that ended before another began stands before it
   pub marked : IsMarked trail

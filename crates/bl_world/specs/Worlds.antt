@@ -70,7 +70,7 @@ pub record HasWorld (pages : List Page) (owners : List Owner) (processes : List 
   pub others : (q : Name) → IsUnknown (length processes) q → (world.now.phase q ≡ Waiting) × IsBlank (know (world.proc q)) × (marks_of q world.trail ≡ [])
   pub shown : events ≡ events_shown (events_of world.trail)
   pub numbered : AllNumbered world.trail
-  pub moments : HasMoments world.start world.trail
+  pub moments : HasMoments empty world.start world.trail
   pub times : HasTimes world events
   pub inside : (n : ℕ) (p : Reclaim) → slice_get processes n ≡ Some (proc.Reclaim p) → p.page < length pages
   pub reclaiming : (n : ℕ) (p : Reclaim) → slice_get processes n ≡ Some (proc.Reclaim p) → IsReclaiming events (suc n) p.page (world.proc (name_of (suc n))).time p.stage
