@@ -2,6 +2,7 @@ pub mod Requests
 pub mod Weaving
 pub mod Pieces
 pub mod Lines
+pub mod Losing
 pub mod Shares
 pub mod Sections
 pub mod Together

@@ -1,7 +1,8 @@
 //! The output of a section is put together from what its workers wrote.
 
 ghost use Rattle.std.specs.Prelude.{◌≡◌, ◌≤◌, ◌<◌, ◌+◌, ◌^◌, ℕ, List, All, map, flat_map, IfOk, IfErr, IsPermutation};
-ghost use Rattle.bl_serve.specs.Joining.{Chains, IsWithin, text_of};
+ghost use Rattle.std.specs.List.Sorted.{IsNonDecreasingBy};
+ghost use Rattle.bl_serve.specs.Joining.{Chains, IsWithin, NamesLost, text_of};
 ghost use Rattle.bl_serve.specs.Serving.{IsInside};
 
 use crate::working::Written;
@@ -17,9 +18,11 @@ fn joined(
     count: usize,
 ) -> Result<Vec<u8>, ServeFault>
     requires within { All (IsWithin count) written.now }
+    requires sorted { IsNonDecreasingBy (λ w. w.from) written.now }
     requires room { done + count < 2 ^ 64 }
     ensures text { IfOk result (λ text. Chains 0 count written.now × (text.items ≡ text_of written.now)) }
     ensures fault { IfErr result IsInside }
+    ensures lost { IfErr result (NamesLost written.now done count) }
 {
     let mut text = Vec::new(alloc);
     let mut next = 0;
@@ -47,6 +50,7 @@ pub fn collect(
     requires room { done + count < 2 ^ 64 }
     ensures text { IfOk result (λ text. (sorted : List _) × IsPermutation written.items sorted × Chains 0 count sorted × (text.items ≡ text_of sorted)) }
     ensures fault { IfErr result IsInside }
+    ensures lost { IfErr result (NamesLost written.items done count) }
 {
     let mut written = written;
     written.sort_by_key(|piece| piece.from)?;
