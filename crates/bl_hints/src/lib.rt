@@ -11,6 +11,3 @@ mod hints;
 mod kinds;
 
 pub use hints::Hints;
-
-#[cfg(test)]
-mod tests;

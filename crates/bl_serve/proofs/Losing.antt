@@ -49,8 +49,8 @@ before place from upto (w ∷ ws) c h = omega (arith, sum_by-cons (λ (x : Writt
 inside : (place from upto : ℕ) (ws : List Written) → Chains from upto ws → from ≤ place → place < upto → times place ws ≡ 1
 inside place from upto [] c low high = absurd (omega (arith, c, low, high))
 inside place from upto (w ∷ ws) c low high = let split = sum_by-cons (λ (x : Written). bit (has place x)) w ws in elim (cases_lt place w.upto) [
-    inl here ↦ omega (arith, split, hit place w (omega (arith, c.0, low)) here, before place w.upto upto ws c.2 here)
-    | inr there ↦ omega (arith, split, late place w there, inside place w.upto upto ws c.2 there high)
+  | inl here ↦ omega (arith, split, hit place w (omega (arith, c.0, low)) here, before place w.upto upto ws c.2 here)
+  | inr there ↦ omega (arith, split, late place w there, inside place w.upto upto ws c.2 there high)
 ]
 
 -- ---- the least place
@@ -58,9 +58,9 @@ inside place from upto (w ∷ ws) c low high = let split = sum_by-cons (λ (x : 
 module _ (i next : ℕ) (ws : List Written) (w : Written) (low : i < length ws) (at : w ≡ get_or ws i w) (chain : Chains 0 next (take i ws)) (sorted : IsNonDecreasingBy (λ w. w.from) ws) where
   rest : (place : ℕ) → place < w.from → times place (drop i ws) ≡ 0
   rest place h = later place (drop i ws) (All-from_get_or (λ (x : Written). place < x.from) (drop i ws) w (λ j inside_it.
-        let there : get_or (drop i ws) j w ≡ get_or ws (i + j) w = get_or-drop i ws j w in
-        let up = sorted i (i + j) w (omega arith) (omega (arith, inside_it, length-drop i ws)) in
-        omega (arith, h, ap (λ (x : Written). x.from) at, ap (λ (x : Written). x.from) there, up)))
+      let there : get_or (drop i ws) j w ≡ get_or ws (i + j) w = get_or-drop i ws j w in
+      let up = sorted i (i + j) w (omega arith) (omega (arith, inside_it, length-drop i ws)) in
+      omega (arith, h, ap (λ (x : Written). x.from) at, ap (λ (x : Written). x.from) there, up)))
 
   parts : (place : ℕ) → times place (take i ws) + times place (drop i ws) ≡ times place ws
   parts place = sum_by-take-drop (λ (x : Written). bit (has place x)) ws i
@@ -85,9 +85,9 @@ module _ (i next : ℕ) (ws : List Written) (w : Written) (low : i < length ws) 
 
   pub lost_between : (done count number : ℕ) → w.from < w.upto → w.upto ≤ count → w.from ≢ next → number ≡ done + 1 + min w.from next → IsLeastLost ws done count number
   lost_between done count number order within differ is = elim (cases_lt next w.from) [
-      inl far ↦ gap done count number order within far is
-      | inr near ↦ elim (cases_lt w.from next) [ inl over ↦ twice done count number order within over is | inr same ↦ absurd (differ (omega (arith, near, same))) ]
-    ]
+    | inl far ↦ gap done count number order within far is
+    | inr near ↦ elim (cases_lt w.from next) [ inl over ↦ twice done count number order within over is | inr same ↦ absurd (differ (omega (arith, near, same))) ]
+  ]
 
 -- the batches end before the last line
 pub lost_behind : (next : ℕ) (ws : List Written) → Chains 0 next ws → (done count number : ℕ) → next < count → number ≡ done + 1 + next → IsLeastLost ws done count number

@@ -1,6 +1,6 @@
 ghost use Rattle.std.specs.Prelude.{◌<◌, ◌≤◌};
 
-use crate::Hints;
+use bl_hints::Hints;
 use bl_ways::{Hint, Level};
 use std::test::Fail;
 use std::thread::join;
