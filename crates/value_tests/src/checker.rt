@@ -144,33 +144,26 @@ fn an_opening_index_is_sound(rt: HostRuntime) {
 }
 
 #[test]
-fn a_split_index_is_sound(rt: HostRuntime) {
-    let report = Report {
-        rows: 15,
-        leaves: 2,
-        inners: 1,
-        levels: 2,
-        unposted: 0,
-        thin: 0,
-    };
-    assert_eq!(rt; checked(rt.alloc(), &[]), Ok(report));
-}
-
-#[test]
-fn a_page_that_is_not_posted(rt: HostRuntime) {
-    let report = Report {
-        rows: 15,
-        leaves: 2,
-        inners: 1,
-        levels: 2,
-        unposted: 1,
-        thin: 0,
-    };
-    // page 3's count made 1, and its second pair taken away
-    assert_eq!(rt;
-        checked(rt.alloc(), &[(3, 0, 12884967425), (3, 6, 0), (3, 7, 0)]),
-        Ok(report)
-    );
+fn sound_images_have_their_numbers(rt: HostRuntime) {
+    // changes of the split index; rows, pages that are not posted, thin pages
+    let images: [(&[Change], u32, u32, u32); 3] = [
+        (&[], 15, 0, 0),
+        // page 3's count made 1, and its second pair taken away
+        (&[(3, 0, 12884967425), (3, 6, 0), (3, 7, 0)], 15, 1, 0),
+        // page 2 loses its last row; page 3 has two pairs but is alone on its level
+        (&[(2, 0, 8589934598), (2, 16, 0), (2, 17, 0)], 14, 0, 1),
+    ];
+    for (changes, rows, unposted, thin) in images {
+        let report = Report {
+            rows,
+            leaves: 2,
+            inners: 1,
+            levels: 2,
+            unposted,
+            thin,
+        };
+        assert_eq!(rt; checked(rt.alloc(), changes), Ok(report));
+    }
 }
 
 #[test]
@@ -191,23 +184,6 @@ fn a_merged_index_is_sound_without_its_dead_page(rt: HostRuntime) {
         thin: 0,
     };
     assert_eq!(rt; check(rt.alloc(), &bytes), Ok(report));
-}
-
-#[test]
-fn thin_pages_are_counted(rt: HostRuntime) {
-    let report = Report {
-        rows: 14,
-        leaves: 2,
-        inners: 1,
-        levels: 2,
-        unposted: 0,
-        thin: 1,
-    };
-    // page 2 loses its last row; page 3 has two pairs but is alone on its level
-    assert_eq!(rt;
-        checked(rt.alloc(), &[(2, 0, 8589934598), (2, 16, 0), (2, 17, 0)]),
-        Ok(report)
-    );
 }
 
 #[test]

@@ -133,29 +133,63 @@ fn evened_of(left: &[u64], right: &[u64]) -> Option<Evened> {
     }
 }
 
-#[test]
-fn a_thin_leaf_goes_into_its_left_neighbour(rt: HostRuntime) -> Result<(), Fail> {
-    let left = [
-        8589934600, 0, 9, 2, 1, 10, 2, 20, 3, 30, 4, 40, 5, 50, 6, 60, 7, 70, 8, 80,
-    ];
-    let right = [
-        8589934598, 9, 0, 0, 10, 100, 11, 110, 12, 120, 13, 130, 14, 140, 15, 150,
-    ];
-    let Some(Some(page)) = merged_of(&left, &right) else {
-        return Err("not merged".into());
-    };
-    assert!(rt;
-        page.to_words()
-            == words(&[
-                8589934606, 0, 0, 0, 1, 10, 2, 20, 3, 30, 4, 40, 5, 50, 6, 60, 7, 70, 8, 80, 10,
-                100, 11, 110, 12, 120, 13, 130, 14, 140, 15, 150
-            ])
-    );
-    Ok(())
+/// The pages of these words, as neighbours, go into the page of those.
+fn is_merged(left: &[u64], right: &[u64], wanted: &[u64]) -> bool {
+    match merged_of(left, right) {
+        Some(Some(page)) => page.to_words() == words(wanted),
+        _ => false,
+    }
+}
+
+/// Both pages are these, with that separator, and that side has gained.
+fn is_evened(
+    now: Option<Evened>,
+    separator: u64,
+    gains: Side,
+    left: &[u64],
+    right: &[u64],
+) -> bool {
+    match now {
+        Some(now) => {
+            now.separator == separator
+                && now.gains == gains
+                && now.left.to_words() == words(left)
+                && now.right.to_words() == words(right)
+        }
+        None => false,
+    }
 }
 
 #[test]
-fn fifteen_rows_are_not_merged(rt: HostRuntime) -> Result<(), Fail> {
+fn neighbours_are_merged(rt: HostRuntime) {
+    let merges: [(&[u64], &[u64], &[u64]); 2] = [
+        // a thin leaf goes into its left neighbour
+        (
+            &[
+                8589934600, 0, 9, 2, 1, 10, 2, 20, 3, 30, 4, 40, 5, 50, 6, 60, 7, 70, 8, 80,
+            ],
+            &[
+                8589934598, 9, 0, 0, 10, 100, 11, 110, 12, 120, 13, 130, 14, 140, 15, 150,
+            ],
+            &[
+                8589934606, 0, 0, 0, 1, 10, 2, 20, 3, 30, 4, 40, 5, 50, 6, 60, 7, 70, 8, 80, 10,
+                100, 11, 110, 12, 120, 13, 130, 14, 140, 15, 150,
+            ],
+        ),
+        // children of two pages are listed in one
+        (
+            &[12884967426, 0, 30, 5, 0, 1, 9, 2],
+            &[12884967426, 30, 60, 7, 30, 4, 50, 6],
+            &[12884967428, 0, 60, 7, 0, 1, 9, 2, 30, 4, 50, 6],
+        ),
+    ];
+    for (left, right, wanted) in merges {
+        assert!(rt; is_merged(left, right, wanted), "from {left:?}");
+    }
+}
+
+#[test]
+fn fifteen_rows_are_not_merged(rt: HostRuntime) {
     let left = [
         8589934600, 0, 9, 2, 1, 10, 2, 20, 3, 30, 4, 40, 5, 50, 6, 60, 7, 70, 8, 80,
     ];
@@ -163,123 +197,87 @@ fn fifteen_rows_are_not_merged(rt: HostRuntime) -> Result<(), Fail> {
         8589934599, 9, 0, 0, 9, 90, 10, 100, 11, 110, 12, 120, 13, 130, 14, 140, 15, 150,
     ];
     assert!(rt; matches!(merged_of(&left, &right), Some(None)));
-    Ok(())
 }
 
 #[test]
-fn children_of_two_pages_are_listed_in_one(rt: HostRuntime) -> Result<(), Fail> {
-    let left = [12884967426, 0, 30, 5, 0, 1, 9, 2];
-    let right = [12884967426, 30, 60, 7, 30, 4, 50, 6];
-    let Some(Some(page)) = merged_of(&left, &right) else {
-        return Err("not merged".into());
-    };
-    assert!(rt; page.to_words() == words(&[12884967428, 0, 60, 7, 0, 1, 9, 2, 30, 4, 50, 6]));
-    Ok(())
-}
-
-#[test]
-fn rows_move_right(rt: HostRuntime) -> Result<(), Fail> {
-    let left = [
-        8589934606, 0, 90, 2, 10, 100, 11, 110, 12, 120, 13, 130, 14, 140, 15, 150, 16, 160, 20,
-        200, 30, 300, 40, 400, 50, 500, 60, 600, 70, 700, 80, 800,
-    ];
-    let right = [8589934594, 90, 0, 0, 90, 900, 100, 1000];
-    let Some(now) = evened_of(&left, &right) else {
-        return Err("not evened".into());
-    };
-    assert_eq!(rt; now.separator, 30);
-    assert_eq!(rt; now.gains, Side::Right);
-    assert!(rt;
-        now.left.to_words()
-            == words(&[
+fn neighbours_are_evened_out(rt: HostRuntime) {
+    let evenings: [(&[u64], &[u64], u64, Side, &[u64], &[u64]); 3] = [
+        // rows move right
+        (
+            &[
+                8589934606, 0, 90, 2, 10, 100, 11, 110, 12, 120, 13, 130, 14, 140, 15, 150, 16,
+                160, 20, 200, 30, 300, 40, 400, 50, 500, 60, 600, 70, 700, 80, 800,
+            ],
+            &[8589934594, 90, 0, 0, 90, 900, 100, 1000],
+            30,
+            Side::Right,
+            &[
                 8589934600, 0, 30, 2, 10, 100, 11, 110, 12, 120, 13, 130, 14, 140, 15, 150, 16,
-                160, 20, 200
-            ])
-    );
-    assert!(rt;
-        now.right.to_words()
-            == words(&[
+                160, 20, 200,
+            ],
+            &[
                 8589934600, 30, 0, 0, 30, 300, 40, 400, 50, 500, 60, 600, 70, 700, 80, 800, 90,
-                900, 100, 1000
-            ])
-    );
-    Ok(())
-}
-
-#[test]
-fn rows_move_left(rt: HostRuntime) -> Result<(), Fail> {
-    let left = [8589934594, 0, 9, 2, 7, 70, 8, 80];
-    let right = [
-        8589934606, 9, 0, 0, 9, 90, 10, 100, 11, 110, 12, 120, 13, 130, 14, 140, 15, 150, 16, 160,
-        17, 170, 18, 180, 19, 190, 20, 200, 21, 210, 22, 220,
-    ];
-    let Some(now) = evened_of(&left, &right) else {
-        return Err("not evened".into());
-    };
-    assert_eq!(rt; now.separator, 15);
-    assert_eq!(rt; now.gains, Side::Left);
-    assert!(rt;
-        now.left.to_words()
-            == words(&[
+                900, 100, 1000,
+            ],
+        ),
+        // rows move left
+        (
+            &[8589934594, 0, 9, 2, 7, 70, 8, 80],
+            &[
+                8589934606, 9, 0, 0, 9, 90, 10, 100, 11, 110, 12, 120, 13, 130, 14, 140, 15, 150,
+                16, 160, 17, 170, 18, 180, 19, 190, 20, 200, 21, 210, 22, 220,
+            ],
+            15,
+            Side::Left,
+            &[
                 8589934600, 0, 15, 2, 7, 70, 8, 80, 9, 90, 10, 100, 11, 110, 12, 120, 13, 130, 14,
-                140
-            ])
-    );
-    assert!(rt;
-        now.right.to_words()
-            == words(&[
+                140,
+            ],
+            &[
                 8589934600, 15, 0, 0, 15, 150, 16, 160, 17, 170, 18, 180, 19, 190, 20, 200, 21,
-                210, 22, 220
-            ])
-    );
-    Ok(())
-}
-
-#[test]
-fn of_17_children_the_left_page_gets_9(rt: HostRuntime) -> Result<(), Fail> {
-    let left = [
-        12885032974,
-        0,
-        140,
-        20,
-        0,
-        1,
-        10,
-        2,
-        20,
-        3,
-        30,
-        4,
-        40,
-        5,
-        50,
-        6,
-        60,
-        7,
-        70,
-        8,
-        80,
-        9,
-        90,
-        10,
-        100,
-        11,
-        110,
-        12,
-        120,
-        13,
-        130,
-        14,
-    ];
-    let right = [12885032963, 140, 200, 21, 140, 15, 150, 16, 160, 17];
-    let Some(now) = evened_of(&left, &right) else {
-        return Err("not evened".into());
-    };
-    assert_eq!(rt; now.separator, 90);
-    assert_eq!(rt; now.gains, Side::Right);
-    assert!(rt;
-        now.left.to_words()
-            == words(&[
+                210, 22, 220,
+            ],
+        ),
+        // of 17 children the left page gets 9
+        (
+            &[
+                12885032974,
+                0,
+                140,
+                20,
+                0,
+                1,
+                10,
+                2,
+                20,
+                3,
+                30,
+                4,
+                40,
+                5,
+                50,
+                6,
+                60,
+                7,
+                70,
+                8,
+                80,
+                9,
+                90,
+                10,
+                100,
+                11,
+                110,
+                12,
+                120,
+                13,
+                130,
+                14,
+            ],
+            &[12885032963, 140, 200, 21, 140, 15, 150, 16, 160, 17],
+            90,
+            Side::Right,
+            &[
                 12885032969,
                 0,
                 90,
@@ -301,12 +299,9 @@ fn of_17_children_the_left_page_gets_9(rt: HostRuntime) -> Result<(), Fail> {
                 70,
                 8,
                 80,
-                9
-            ])
-    );
-    assert!(rt;
-        now.right.to_words()
-            == words(&[
+                9,
+            ],
+            &[
                 12885032968,
                 90,
                 200,
@@ -326,8 +321,15 @@ fn of_17_children_the_left_page_gets_9(rt: HostRuntime) -> Result<(), Fail> {
                 150,
                 16,
                 160,
-                17
-            ])
-    );
-    Ok(())
+                17,
+            ],
+        ),
+    ];
+    for (left, right, separator, gains, to_left, to_right) in evenings {
+        let now = evened_of(left, right);
+        assert!(rt;
+            is_evened(now, separator, gains, to_left, to_right),
+            "to {separator}"
+        );
+    }
 }
