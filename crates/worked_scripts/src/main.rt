@@ -25,7 +25,11 @@ fn main(rt: HostRuntime) -> anyhow::Result<ExitCode> {
         all_right &= tell(&rt, name.as_str(), line_that_is_taken(&rt, name.as_str())?)?;
     }
     for name in names_with(&rt, ".requests")?.iter() {
-        all_right &= tell(&rt, name.as_str(), request_read_wrongly(&rt, name.as_str())?)?;
+        all_right &= tell(
+            &rt,
+            name.as_str(),
+            request_read_wrongly(&rt, name.as_str())?,
+        )?;
     }
     Ok(ExitCode::from(if all_right { 0 } else { 1 }))
 }
