@@ -1,5 +1,5 @@
-/* Refuses the allocation with the number that REFUSE gives, counted from 1, and no other. Where it has refused one it
- * makes the file that REFUSED names. Loaded before a program by LD_PRELOAD. */
+/* Refuses the allocation with the number that REFUSE gives, counted from 1 over all threads, and no other. Where it has
+ * refused one it makes the file that REFUSED names. Loaded before a program by LD_PRELOAD. */
 #include <errno.h>
 #include <fcntl.h>
 #include <stdlib.h>
@@ -18,7 +18,7 @@ static int is_refused(void) {
         const char *text = getenv("REFUSE");
         wanted = text ? atol(text) : 0;
     }
-    if (++seen != wanted) {
+    if (__atomic_add_fetch(&seen, 1, __ATOMIC_SEQ_CST) != wanted) {
         return 0;
     }
     const char *mark = getenv("REFUSED");

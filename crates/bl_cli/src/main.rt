@@ -5,7 +5,7 @@
 //! of `check` and `replay`.
 #![tactic(auto)]
 
-ghost use Rattle.bl_options.specs.Limits.{AreWithin};
+ghost use Rattle.bl_lines.specs.Options.{AreWithin};
 
 use bl_commands::{CommandFault, check_file, replace_file, replay_file};
 use bl_model::Watched;

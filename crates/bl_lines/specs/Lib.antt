@@ -2,3 +2,4 @@ pub mod Text
 pub mod Lines
 pub mod Served
 pub mod Streams
+pub mod Options

@@ -1,4 +1,5 @@
-//! Requests in lines, and their replies: cutting of lines in constant memory, the grammar, the printer, and what a server counts.
+//! Requests in lines, and their replies: cutting of lines in constant memory, the grammar, the printer, what a server is told
+//! and what it counts.
 //!
 //! The definitions of what is written for what is read stand in `specs/Served.antt`, for one worker and for many: a
 //! history that is legal from the map at the start, in which the entries of a section's lines stand in any order, with
@@ -6,9 +7,11 @@
 #![tactic(auto)]
 
 pub mod number;
+mod options;
 pub mod print;
 pub mod request;
 pub mod serving;
 pub mod source;
 
+pub use options::ServeOptions;
 pub use serving::{ServeFault, Totals};

@@ -1,22 +1,13 @@
 //! The command line.
 
-ghost use Rattle.std.specs.Prelude.{◌≡◌, ◌≤◌, ℕ, Some, None, IfOk};
-ghost use Rattle.bl_options.specs.Limits.{AreWithin, IsWithinLimits};
+ghost use Rattle.std.specs.Prelude.{IfOk};
+ghost use Rattle.bl_lines.specs.Options.{AreWithin};
+ghost use Rattle.bl_options.specs.Limits.{IsWithinLimits};
 
 use crate::texts::{ABOUT_ALL, ABOUT_CHECK, ABOUT_DUMP, ABOUT_REPLAY, ABOUT_SERVE, VERSION};
+use bl_lines::ServeOptions;
 use clap::{Arg, ArgAction, ArgMatches, Command, Error, value_parser};
 use std::alloc::Global;
-
-/// The options of `serve` and of `dump`.
-#[derive(Clone, Copy, Debug, PartialEq, Eq)]
-pub struct ServeOptions {
-    /// Pages of the index, 4 to 65,536.
-    pub pages: u32,
-    /// Threads that answer requests, 1 to 32.
-    pub workers: u32,
-    /// Threads that merge and even out pages, 0 to 16.
-    pub compressors: u32,
-}
 
 /// What the command line asks for.
 #[derive(Debug, PartialEq, Eq, Drop)]
@@ -31,17 +22,6 @@ pub enum Invocation {
     Replay(String),
     /// No command.
     Nothing,
-}
-
-/// The value of an option, within its limits. clap has refused a value outside them; this keeps the limits also where its
-/// answer is not known to the proof.
-fn held(value: Option<u32>, default: u32, least: u32, most: u32) -> u32
-    requires { least ≤ most }
-    ensures within { (least ≤ result) × (result ≤ most) }
-    ensures kept { (v : ℕ) → value ≡ Some v → least ≤ v → v ≤ most → result ≡ v }
-    ensures absent { value ≡ None → least ≤ default → default ≤ most → result ≡ default }
-{
-    value.unwrap_or(default).clamp(least, most)
 }
 
 /// The command with the options of a server.
@@ -88,15 +68,16 @@ fn dump_command<'a>(alloc: Global) -> Result<Command<'a>, Error> {
     with_options(alloc, command)
 }
 
-/// The options that clap has found, within their limits.
+/// The options that clap has found. It has refused a value outside the limits; they are kept here too, since its answer is
+/// not known to the proof.
 fn options_of(found: &ArgMatches) -> ServeOptions
     ensures { AreWithin result }
 {
-    ServeOptions {
-        pages: held(found.get_one::<u32>("pages"), 1024, 4, 65536),
-        workers: held(found.get_one::<u32>("workers"), 4, 1, 32),
-        compressors: held(found.get_one::<u32>("compressors"), 1, 0, 16),
-    }
+    ServeOptions::of(
+        found.get_one::<u32>("pages"),
+        found.get_one::<u32>("workers"),
+        found.get_one::<u32>("compressors"),
+    )
 }
 
 /// The command line of `check`.

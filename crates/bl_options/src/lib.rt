@@ -7,4 +7,5 @@
 mod command;
 mod texts;
 
-pub use command::{Invocation, ServeOptions, read_words};
+pub use bl_lines::ServeOptions;
+pub use command::{Invocation, read_words};

@@ -153,6 +153,7 @@ fn frames_run_out(rt: HostRuntime) -> Result<(), Fail> {
         assert!(rt; false);
         return Ok(());
     };
+    assert!(rt; !index.lacks_frames(&pass));
     for _round in 0..11 {
         let inserted = index.insert(&rt, &mut pass, 1, 10);
         assert!(rt; matches!(inserted, (Reply::Inserted, None)));
@@ -163,6 +164,11 @@ fn frames_run_out(rt: HostRuntime) -> Result<(), Fail> {
     assert!(rt; matches!(refused, (Reply::NoRoom, None)));
     let absent = index.find(&mut pass, 1, 2);
     assert!(rt; matches!(absent, Ok(Reply::Absent)));
+    // frames are scarce until those of the 22 changes come back
+    assert!(rt; index.lacks_frames(&pass));
+    let released = index.sweep(&mut pass);
+    assert!(rt; released == 22);
+    assert!(rt; !index.lacks_frames(&pass));
     Ok(())
 }
 

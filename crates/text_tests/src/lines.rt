@@ -4,67 +4,11 @@ use arrayvec::ArrayVec;
 use bl_lines::ServeFault;
 use bl_lines::number::{number, two_numbers};
 use bl_lines::print::{Response, push_line, push_rows_below};
-use bl_lines::request::{Request, parse};
 use bl_lines::source::{Cut, KEPT, Source};
-use bl_model::{Next, Op, Reply, Watched};
+use bl_model::{Next, Reply, Watched};
 use std::io;
 use std::io::{ErrorKind, Read};
 use std::test::Fail;
-
-#[test]
-fn lines_spell_requests(rt: HostRuntime) {
-    let cases: [(&[u8], Request); 7] = [
-        (b"find 5", Request::Ask(Op::Find(5))),
-        (
-            b"find 18446744073709551615",
-            Request::Ask(Op::Find(u64::MAX)),
-        ),
-        (b"insert 1 10", Request::Ask(Op::Insert(1, 10))),
-        (b"delete 0", Request::Ask(Op::Delete(0))),
-        (b"scan 5 5", Request::Scan(5, 5)),
-        (b"scan 0 18446744073709551615", Request::Scan(0, u64::MAX)),
-        (b"sync", Request::Sync),
-    ];
-    for (line, request) in cases {
-        assert_eq!(rt; parse(line), Some(request), "{line:?}");
-    }
-}
-
-#[test]
-fn bad_lines_are_malformed(rt: HostRuntime) {
-    let cases: [&[u8]; 27] = [
-        b"",
-        b"\r",
-        b"find 1\r",
-        b"find  1",
-        b" find 1",
-        b"find 1 ",
-        b"find",
-        b"find ",
-        b"find 01",
-        b"find 00",
-        b"FIND 1",
-        b"find +1",
-        b"find -1",
-        b"find 1a",
-        b"find 18446744073709551616",
-        b"insert 1",
-        b"insert 1 2 3",
-        b"sync ",
-        b"scan",
-        b"scan 1",
-        b"scan 1 2 3",
-        b"scan 01 2",
-        b"scan 1 18446744073709551616",
-        b"change 1 2",
-        b"part 1",
-        b"\xff\xfe",
-        b"find \xc3\x28",
-    ];
-    for line in cases {
-        assert_eq!(rt; parse(line), None, "{line:?}");
-    }
-}
 
 #[test]
 fn numbers_have_one_spelling(rt: HostRuntime) {

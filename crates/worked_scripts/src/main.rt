@@ -1,6 +1,7 @@
 //! Replays each script `NAME.script` of the folder that it is run in, and compares all that `blink replay` prints for it with
 //! the file `NAME.out`, byte by byte: what goes to standard output, and then the line on standard error where there is one.
-//! It also tries each line of a file `NAME.lines` behind the lines of `NAME.head`, where that line must be refused.
+//! It also tries each line of a file `NAME.lines` behind the lines of `NAME.head`, where that line must be refused; and it
+//! reads each line of a file `NAME.requests` as a request, which must be that of the same line of `NAME.parsed`.
 //!
 //! It prints a line for each file, by its name: `ok`, or the first line that is wrong, which is counted from 1. Its status is
 //! 1 where one is wrong or a file is missing.
@@ -9,6 +10,7 @@
 ghost use Rattle.std.specs.Prelude.{◌≡◌, ◌↔◌, IsNone};
 
 use bl_commands::{CommandFault, replay_script};
+use bl_lines::request::parse;
 use bl_model::Watched;
 use std::alloc::Global;
 use std::fs;
@@ -21,6 +23,13 @@ fn main(rt: HostRuntime) -> anyhow::Result<ExitCode> {
     }
     for name in names_with(&rt, ".lines")?.iter() {
         all_right &= tell(&rt, name.as_str(), line_that_is_taken(&rt, name.as_str())?)?;
+    }
+    for name in names_with(&rt, ".requests")?.iter() {
+        all_right &= tell(
+            &rt,
+            name.as_str(),
+            request_read_wrongly(&rt, name.as_str())?,
+        )?;
     }
     Ok(ExitCode::from(if all_right { 0 } else { 1 }))
 }
@@ -115,4 +124,16 @@ fn is_refused(alloc: Global, head: &[u8], line: &[u8]) -> anyhow::Result<bool> {
     script.extend_from_slice(line)?;
     let found = printed(alloc, script.as_slice())?;
     Ok(found.as_slice() == wanted.as_bytes())
+}
+
+/// The first line of a file of requests that is not read as wanted.
+fn request_read_wrongly(rt: &HostRuntime, name: &str) -> anyhow::Result<Option<usize>> {
+    let wanted = contents(rt, name, ".parsed")?;
+    let lines = contents(rt, name, ".requests")?;
+    let mut found = Vec::new(rt.alloc());
+    for line in lines.as_slice().split_inclusive(|byte| *byte == b'\n') {
+        let request = parse(line.strip_suffix(b"\n").unwrap_or(line));
+        found.extend_from_slice(format!(in rt.alloc(); "{request:?}\n")?.as_bytes())?;
+    }
+    Ok(first_difference(found.as_slice(), wanted.as_slice()))
 }
