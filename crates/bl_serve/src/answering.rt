@@ -111,14 +111,25 @@ fn operate<R: Wait>(rt: &R, index: &Index, hints: &Hints, pass: &mut Pass, op: O
     }
 }
 
-/// Carries an operation out, and sweeps.
+/// Gives back what the pass has retired, where that is due. A search retires nothing.
+fn give_back(index: &Index, pass: &mut Pass)
+    requires { IsPassOf index.now pass.old }
+    ensures same { IsSamePass pass.old pass.new }
+    ensures adds { Adds (number_of pass.old) (trail pass.old) (trail pass.new) }
+{
+    if pass.is_due() {
+        index.sweep(pass);
+    }
+}
+
+/// Carries an operation out, and sweeps where that is due.
 fn carry_out<R: Wait>(rt: &R, index: &Index, hints: &Hints, pass: &mut Pass, op: Op) -> Reply
     requires { IsPassOf index.now pass.old }
     ensures same { IsSamePass pass.old pass.new }
     ensures works { Works (number_of pass.old) op result (trail pass.old) (trail pass.new) }
 {
     let reply = operate(rt, index, hints, pass, op);
-    index.sweep(pass);
+    give_back(index, pass);
     reply
 }
 
@@ -165,7 +176,7 @@ fn write_rows<R: Wait>(
     Ok(())
 }
 
-/// Answers a scan, and sweeps.
+/// Answers a scan, and sweeps where that is due.
 fn scan<R: Wait>(
     rt: &R,
     index: &Index,
@@ -183,7 +194,7 @@ fn scan<R: Wait>(
     text.extend_from_slice(b" rows")?;
     write_rows(rt, index, pass, low, high, text)?;
     text.push(b'\n')?;
-    index.sweep(pass);
+    give_back(index, pass);
     Ok(())
 }
 
