@@ -1,10 +1,9 @@
 -- The one lemma of all events: a turn of a process of a hand, where the pages go on as the store's do.
-use Rattle.std.proofs.Common.{ℕ, Bool, true, ◌≡◌, ◌≢◌, ◌≤◌, ◌++◌, List, [], ◌∷◌, length, set, refl, sym, ap, ◌∙◌, subst, ⊎_elim, append_assoc}
+use Rattle.std.proofs.Common.{ℕ, Bool, true, ◌≡◌, ◌≢◌, ◌≤◌, ◌++◌, Option, List, [], ◌∷◌, length, set, refl, sym, ap, ◌∙◌, subst, ⊎_elim, append_assoc}
 use mathlib.Core.Option.{some}
 use lib.ListN.{get_elem?}
 use Rattle.std.proofs.Math.ListN.{length-set}
 use Rattle.atomic_table.proofs.Lists.{at_set}
-use Rattle.bl_model.specs.Map.{empty}
 use Rattle.bl_model.specs.declared.operation.Entry.{Entry}
 use Rattle.bl_model.specs.declared.operation.Reply.{Reply}
 use Rattle.bl_page.specs.declared.page.Page.{Page}
@@ -13,7 +12,6 @@ use Rattle.bl_page.specs.Machine as machine
 use Rattle.bl_trails.specs.Trails.{Trail, entries_at, marks_of}
 use Rattle.bl_trails.specs.States.{HasMoments}
 use Rattle.bl_trails.proofs.States.{moments_on}
-use Rattle.bl_starts.specs.Opening.{Opening}
 use Rattle.bl_proc.specs.Processes.{next_of}
 use Rattle.bl_tables.specs.Logs.{proc_log}
 use Rattle.bl_tables.specs.Turns.{Turned}
@@ -28,7 +26,7 @@ use Rattle.bl_bounds.proofs.Bounded.{search_within, search_below}
 use Rattle.bl_store.specs.Pages.{Owner, Stage, Running, Pages, Stands}
 use Rattle.bl_passes.specs.declared.known.Mine.{Mine}
 use Rattle.bl_passes.specs.Noting.{trail_of}
-use Rattle.bl_passes.specs.Seeing.{IsSeen, AreWithin, own}
+use Rattle.bl_passes.specs.Seeing.{first_map, BeginsFrom, IsSeen, AreWithin, own}
 use Rattle.bl_passes.specs.Fitting.{name, Shows, owner_in, IsAtStage, IsHand, IsRun, Fits}
 use Rattle.bl_passes.specs.Told.{IsNear, HasOwn, Notes}
 use Rattle.bl_passes.proofs.Notings.{trail_back}
@@ -40,7 +38,7 @@ use Rattle.bl_passes.proofs.Runners.{runs_after}
 
 module _ (s : Pages Mine) (f : Fits s) (n m : ℕ) (st : Stage) (d : Mine) (at : Stands s n st d) (a : Act Page Reply) (s1 : State Page) (b : Run) (t : Turned know f.world (name n m) a s1 b) (runs : Bool) (past : List Entry) where
   abbrev pub next_known : Mine
-  next_known = after f.world f.good n m a s1 b t (length s.hands) runs past
+  next_known = after f.world f.good n m a s1 b t (length s.hands) d.first runs past
 
   -- the new event is of a pass that there is
   next_within : AreWithin (length s.hands) t.next.trail
@@ -50,8 +48,8 @@ module _ (s : Pages Mine) (f : Fits s) (n m : ℕ) (st : Stage) (d : Mine) (at :
   hands_same s' st' hands = ap length hands ∙ length-set s.hands n (st', next_known)
 
   -- one state more has the laws of the tree
-  next_moments : KeepsLogs t.next → HasMoments empty t.next.start t.next.trail
-  next_moments logs = moments_on empty f.world.start t.next.start f.world.trail t.next.trail (turn_mark f.world f.good n m a s1 b t) t.extends.start t.extends.trail f.moments (world_moment t.next t.good logs (t.extends.first ∙ f.first))
+  next_moments : KeepsLogs t.next → HasMoments (first_map f.image) t.next.start t.next.trail
+  next_moments logs = moments_on (first_map f.image) f.world.start t.next.start f.world.trail t.next.trail (turn_mark f.world f.good n m a s1 b t) t.extends.start t.extends.trail f.moments (world_moment t.next f.image t.good logs (t.extends.first ∙ f.first))
 
   pub advance : KeepsLogs t.next → AllKept t.next → (s' : Pages Mine) (st' : Stage) → s'.hands ≡ set s.hands n (st', next_known) → length s'.contents ≡ length s.contents → d.number ≤ m → s1.clock ≤ s'.clock
       → ((q : Name) → q ≢ name n m → s1.phase q ≡ f.world.now.phase q)
@@ -66,7 +64,8 @@ module _ (s : Pages Mine) (f : Fits s) (n m : ℕ) (st : Stage) (d : Mine) (at :
     world = t.next;
     good = t.good;
     kept = all_kept;
-    opening = subst Opening (sym t.extends.start) f.opening;
+    image = f.image;
+    opening = subst (BeginsFrom f.image) (sym t.extends.start) f.opening;
     first = t.extends.first ∙ f.first;
     moments = next_moments logs;
     size = t.extends.size ∙ (f.size ∙ sym size);
@@ -74,7 +73,7 @@ module _ (s : Pages Mine) (f : Fits s) (n m : ℕ) (st : Stage) (d : Mine) (at :
     pages = λ x words e. subst (λ (z : State Page). Shows x words (z.contents x)) (sym t.now) (pages x words e);
     owners = λ x o e. ap (λ (z : State Page). z.owner x) t.now ∙ owners x o e;
     hands = λ k sg g at_k. ⊎_elim
-        (λ (z : (k ≡ n) × ((st', next_known) ≡ (sg, g))). subst (λ (u : ℕ × (Stage × Mine)). IsHand t.next u.0 u.1.0 u.1.1) (λ i. (sym z.0 i, z.1 i)) (hand_self f.world f.good n m a s1 b t others kept st st' d (length s.hands) runs past (f.hands n st d at) le stage))
+        (λ (z : (k ≡ n) × ((st', next_known) ≡ (sg, g))). subst (λ (u : ℕ × (Stage × Mine)). IsHand t.next u.0 u.1.0 u.1.1) (λ i. (sym z.0 i, z.1 i)) (hand_self f.world f.good n m a s1 b t others kept st st' d (length s.hands) d.first runs past (f.hands n st d at) le stage))
         (λ (z : (k ≢ n) × (get_elem? s.hands k ≡ some (sg, g))). hand_else f.world f.good n m a s1 b t others kept k sg g z.0 (f.hands k sg g z.1))
         (at_set s.hands n k (st', next_known) (sg, g) (ap (λ (z : List (Stage × Mine)). get_elem? z k) (sym hands) ∙ at_k));
     within = subst (λ (z : ℕ). AreWithin z t.next.trail) (sym (hands_same s' st' hands)) next_within;
@@ -82,11 +81,17 @@ module _ (s : Pages Mine) (f : Fits s) (n m : ℕ) (st : Stage) (d : Mine) (at :
         (λ (z : (k ≡ n) × ((st', next_known) ≡ (sg, g))). ap (λ (u : Stage × Mine). u.1.passes) (sym z.1) ∙ sym (hands_same s' st' hands))
         (λ (z : (k ≢ n) × (get_elem? s.hands k ≡ some (sg, g))). f.counts k sg g z.1 begun ∙ sym (hands_same s' st' hands))
         (at_set s.hands n k (st', next_known) (sg, g) (ap (λ (z : List (Stage × Mine)). get_elem? z k) (sym hands) ∙ at_k));
+    firsts = λ k sg g at_k. ⊎_elim
+        (λ (z : (k ≡ n) × ((st', next_known) ≡ (sg, g))). ap (λ (u : Stage × Mine). u.1.first) (sym z.1) ∙ f.firsts n st d at)
+        (λ (z : (k ≢ n) × (get_elem? s.hands k ≡ some (sg, g))). f.firsts k sg g z.1)
+        (at_set s.hands n k (st', next_known) (sg, g) (ap (λ (z : List (Stage × Mine)). get_elem? z k) (sym hands) ∙ at_k));
     busy = λ p since runs. subst (λ (z : List (Stage × Mine)). IsRun z p since) (sym hands) (runs_after s.hands n m st st' d next_known at refl f.world.now.phase s1.phase others f.busy current on p since (ap (λ (z : State Page). z.phase p) (sym t.now) ∙ runs));
   }
 
-  pub next_seen : KeepsLogs t.next → IsSeen (trail_of next_known.trail)
-  next_seen logs = subst IsSeen (sym (trail_back t.next.trail)) (world_seen t.next t.good (subst Opening (sym t.extends.start) f.opening) (t.extends.first ∙ f.first) (next_moments logs))
+  pub next_seen : KeepsLogs t.next → IsSeen d.first (trail_of next_known.trail)
+  next_seen logs =
+      let seen : IsSeen f.image t.next.trail = world_seen t.next f.image t.good (subst (BeginsFrom f.image) (sym t.extends.start) f.opening) (t.extends.first ∙ f.first) (next_moments logs) in
+      subst (λ (z : List (Option Page)). IsSeen z (trail_of next_known.trail)) (sym (f.firsts n st d at)) (subst (IsSeen f.image) (sym (trail_back t.next.trail)) seen)
 
   pub next_notes : KeepsLogs t.next → AllKept t.next → Notes n m a d next_known
   next_notes logs all_kept =
@@ -97,6 +102,7 @@ module _ (s : Pages Mine) (f : Fits s) (n m : ℕ) (st : Stage) (d : Mine) (at :
         last = mk;
         trail = trail_back t.next.trail ∙ (t.extends.trail ∙ (ap (λ (l : Trail). l ++ mk ∷ []) h.begins.1 ∙ append_assoc (trail_of d.trail) h.begins.0 (mk ∷ [])));
         event = refl;
+        first = refl;
         seen = next_seen logs;
         within = subst (AreWithin (length s.hands)) (sym (trail_back t.next.trail)) next_within;
         pass = refl;

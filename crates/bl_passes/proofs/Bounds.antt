@@ -101,6 +101,7 @@ module _ (s : Pages Mine) (f : Fits s) (n : ℕ) (d : Mine) (at : Stands s n Idl
     world = entered_world;
     good = (let h = (f.hands n Idle d at).later (d.number + 1) (omega arith) in enters_good f.world next_name b f.good h.0 h.1 blank);
     kept = enter_kept f.world next_name b none_yet blank.stage f.kept;
+    image = f.image;
     opening = f.opening;
     first = f.first;
     moments = f.moments;
@@ -118,6 +119,7 @@ module _ (s : Pages Mine) (f : Fits s) (n : ℕ) (d : Mine) (at : Stands s n Idl
     };
     within = f.within;
     counts = f.counts;
+    firsts = f.firsts;
     busy = f.busy;
   }
 

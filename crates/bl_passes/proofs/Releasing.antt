@@ -116,6 +116,7 @@ module _ (s : Pages Mine) (f : Fits s) (n m : ℕ) (d : Mine) (at : Stands s n I
           many = ap (λ (l : Trail). length l) (marks_of-own p h.begins.0 mk refl) ∙ ap (λ (l : Trail). length (l ++ mk ∷ [])) (no_marks p h.begins.0 (Each-map _ _ h.begins.0 (λ (k : Mark) (ne : k.event.process.pass ≢ n) (e : k.event.process ≡ p). ne (pass_of _ _ e)) h.begins.2));
           mine = each_append _ h.begins.0 (mk ∷ []) (Each-map _ _ h.begins.0 (λ (k : Mark) (ne : k.event.process.pass ≢ n) (e : k.event.process.pass ≡ n). absurd (ne e)) h.begins.2) ((λ e. (x, refl, silent)), tt);
           fresh = λ low. Each-map _ _ (trail_of d.trail) (λ (k : Mark) (up : k.event.process.pass ≡ n → k.event.process.number ≤ d.number) (e : k.event.process ≡ p). (let few = up (pass_of _ _ e) in let is : k.event.process.number ≡ m = number_of _ _ e in omega arith)) h.counted;
+          first = refl;
           seen = next_seen s f n m Idle d at (Act.Release x) freed (f.world.proc p) turned false d.past then_logs;
           within = (next_notes s f n m Idle d at (Act.Release x) freed (f.world.proc p) turned false d.past then_logs then_kept).within;
           own = ap (own n) trail ∙ (own-mine n f.world.trail mk refl ∙ (ap (λ (z : Option Said). own n f.world.trail ++ entries_at p z) silent ∙ (append-nil (own n f.world.trail) ∙ h.mine)));
@@ -138,6 +139,7 @@ sweeps_more n m k i j d e g a b = record {
   many = many-append (name n m) a.more b.more ∙ ap (λ (z : ℕ × ℕ). z.0 + z.1) (λ t. (a.many t, b.many t));
   mine = each_append _ a.more b.more a.mine b.mine;
   fresh = a.fresh;
+  first = b.first ∙ a.first;
   seen = b.seen;
   within = b.within;
   own = b.own ∙ a.own;

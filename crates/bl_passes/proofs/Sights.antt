@@ -1,7 +1,8 @@
 -- What a pass sees at its own event.
-use Rattle.std.proofs.Common.{ℕ, ◌≡◌, ◌≢◌, ◌<◌, sym, ap, ◌∙◌, subst}
-use Rattle.bl_model.specs.Map.{Map, empty}
+use Rattle.std.proofs.Common.{ℕ, ◌≡◌, ◌≢◌, ◌<◌, Option, List, sym, ap, ◌∙◌, subst}
+use Rattle.bl_model.specs.Map.{Map}
 use Rattle.bl_model.specs.History.{IsLegalFrom, final_map}
+use Rattle.bl_page.specs.declared.page.Page.{Page}
 use Rattle.bl_page.specs.Machine.{Name}
 use Rattle.bl_page.specs.Machine.Owner.{Released, Held}
 use Rattle.bl_tree.specs.Nodes.{Look}
@@ -9,28 +10,27 @@ use Rattle.bl_trails.specs.Trails.{history_of}
 use Rattle.bl_trails.specs.Moments.{HasLaws}
 use Rattle.bl_trails.specs.States.{Moment, HasMoments}
 use Rattle.bl_steps.specs.Worlds.{World, IsGood}
-use Rattle.bl_starts.specs.Opening.{Opening}
 use Rattle.bl_ways.specs.declared.acts.Action.{Action}
 use Rattle.bl_ways.specs.declared.acts.Action.TheVariants as action
 use Rattle.bl_tables.specs.Knowing.{Run, bare as know}
 use Rattle.bl_tables.proofs.Middles.{KeepsLogs}
 use Rattle.bl_tables.proofs.Starting.{bare_laws}
 use Rattle.bl_tables.proofs.Near.{IsNear as IsNearIn}
-use Rattle.bl_passes.specs.Seeing.{IsSeen}
+use Rattle.bl_passes.specs.Seeing.{first_map, BeginsFrom, IsSeen}
 use Rattle.bl_passes.specs.Told.{IsNear}
 
 -- the laws of the tree in a good world, with the map after its history
-laws_now : (w : World Run) → IsGood know w → KeepsLogs w → w.first ≡ empty → HasLaws w.now w.trail (final_map empty (history_of w.trail))
-laws_now w good logs first =
-    let map : w.map 0 ≡ final_map empty (history_of w.trail) = λ i k. (good.recorded.map k ∙ ap (λ (z : Map). final_map z (history_of w.trail) k) first) i in
+laws_now : (w : World Run) (image : List (Option Page)) → IsGood know w → KeepsLogs w → w.first ≡ first_map image → HasLaws w.now w.trail (final_map (first_map image) (history_of w.trail))
+laws_now w image good logs first =
+    let map : w.map 0 ≡ final_map (first_map image) (history_of w.trail) = λ i k. (good.recorded.map k ∙ ap (λ (z : Map). final_map z (history_of w.trail) k) first) i in
     subst (λ (z : Look). HasLaws w.now w.trail z) map (bare_laws w good logs)
 
-pub world_moment : (w : World Run) → IsGood know w → KeepsLogs w → w.first ≡ empty → Moment empty w.start w.trail
-world_moment w good logs first = record { now = w.now; leads = good.recorded.leads; laws = laws_now w good logs first }
+pub world_moment : (w : World Run) (image : List (Option Page)) → IsGood know w → KeepsLogs w → w.first ≡ first_map image → Moment (first_map image) w.start w.trail
+world_moment w image good logs first = record { now = w.now; leads = good.recorded.leads; laws = laws_now w image good logs first }
 
--- the trail of a good world that began with the opening index
-pub world_seen : (w : World Run) → IsGood know w → Opening w.start → w.first ≡ empty → HasMoments empty w.start w.trail → IsSeen w.trail
-world_seen w good opening first moments = record {
+-- the trail of a good world that began so
+pub world_seen : (w : World Run) (image : List (Option Page)) → IsGood know w → BeginsFrom image w.start → w.first ≡ first_map image → HasMoments (first_map image) w.start w.trail → IsSeen image w.trail
+world_seen w image good opening first moments = record {
   linear = record {
     start = w.start;
     now = w.now;

@@ -1,5 +1,5 @@
 -- Each hand after a turn of one of them.
-use Rattle.std.proofs.Common.{ℕ, Bool, ◌≡◌, ◌≢◌, ◌≤◌, ◌++◌, List, [], ◌∷◌, refl, sym, ap, ◌∙◌, subst, arith, append-nil, append_assoc, le_refl}
+use Rattle.std.proofs.Common.{ℕ, Bool, ◌≡◌, ◌≢◌, ◌≤◌, ◌++◌, Option, List, [], ◌∷◌, refl, sym, ap, ◌∙◌, subst, arith, append-nil, append_assoc, le_refl}
 use Rattle.bl_model.specs.declared.operation.Entry.{Entry}
 use Rattle.bl_model.specs.declared.operation.Reply.{Reply}
 use Rattle.bl_page.specs.declared.page.Page.{Page}
@@ -32,8 +32,8 @@ module _ (w : World Run) (good : IsGood know w) (n m : ℕ) (a : Act Page Reply)
   turn_mark = record { event = record { process = name n m; act = a }; saw = t.saw; said = t.said }
 
   -- what the acting hand knows then
-  abbrev pub after : ℕ → Bool → List Entry → Mine
-  after passes runs past = record { pass = n; pages = w.size; passes = passes; number = m; runs = runs; state = b.state; past = past; trail = all_noted t.next.trail }
+  abbrev pub after : ℕ → List (Option Page) → Bool → List Entry → Mine
+  after passes first runs past = record { pass = n; pages = w.size; passes = passes; number = m; runs = runs; state = b.state; first = first; past = past; trail = all_noted t.next.trail }
 
   -- what it has said by then
   pub own_after : (past : List Entry) → own n w.trail ≡ past ++ entries_at (name n m) (know (w.proc (name n m))).said → own n t.next.trail ≡ past ++ entries_at (name n m) (know (t.next.proc (name n m))).said
@@ -52,8 +52,8 @@ module _ (w : World Run) (good : IsGood know w) (n m : ℕ) (a : Act Page Reply)
     later_on : (k j : ℕ) → name k j ≢ name n m → (w.now.phase (name k j) ≡ machine.Waiting) × IsBlank (know (w.proc (name k j))) → (t.next.now.phase (name k j) ≡ machine.Waiting) × IsBlank (know (t.next.proc (name k j)))
     later_on k j ne h = (phase_else (name k j) ne ∙ h.0, subst (λ (r : Run). IsBlank (know r)) (sym (t.extends.proc.others (name k j) ne)) h.1)
 
-    pub hand_self : (st st' : Stage) (d : Mine) (passes : ℕ) (runs : Bool) (past : List Entry) → IsHand w n st d → d.number ≤ m → IsAtStage t.next n st' (after passes runs past) → IsHand t.next n st' (after passes runs past)
-    hand_self st st' d passes runs past h le stage = record {
+    pub hand_self : (st st' : Stage) (d : Mine) (passes : ℕ) (first : List (Option Page)) (runs : Bool) (past : List Entry) → IsHand w n st d → d.number ≤ m → IsAtStage t.next n st' (after passes first runs past) → IsHand t.next n st' (after passes first runs past)
+    hand_self st st' d passes first runs past h le stage = record {
       named = λ begun. (refl, sym t.extends.size);
       stage = stage;
       later = λ j l. later_on n j (λ e. let f = number_of _ _ e in absurd (omega arith)) (h.later j (omega arith));

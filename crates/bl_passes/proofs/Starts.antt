@@ -78,11 +78,11 @@ first_logs : (size : ℕ) → KeepsLogs (first_world size)
 first_logs size p since runs = absurd (let both : machine.Waiting ≡ machine.Running since = runs in cc)
 
 first_moments : (size : ℕ) → 1 < size → HasMoments empty opening_state []
-first_moments size wide = moments_first empty opening_state (world_moment (first_world size) (first_good size wide) (first_logs size) refl)
+first_moments size wide = moments_first empty opening_state (world_moment (first_world size) [] (first_good size wide) (first_logs size) refl)
 
 -- a pass that has done nothing has seen the opening index
-pub newcomer_seen : IsSeen []
-newcomer_seen = world_seen (first_world 4) (first_good 4 (omega arith)) opening_is refl (first_moments 4 (omega arith))
+pub newcomer_seen : IsSeen [] []
+newcomer_seen = world_seen (first_world 4) [] (first_good 4 (omega arith)) opening_is refl (first_moments 4 (omega arith))
 
 of_all : {A : Type 0} (n : ℕ) (a : A) (i : ℕ) (b : A) → get_elem? (replicate n a) i ≡ some b → a ≡ b
 of_all zero a i b e = absurd (some-ne-none b (sym e))
@@ -127,6 +127,7 @@ module _ (contents : List (List ℕ)) (o : AreOpening contents) where
     world = first_world (length contents);
     good = let many = o.many in first_good (length contents) (omega arith);
     kept = first_kept (first_world (length contents)) refl (λ p. blank_is.stage);
+    image = [];
     opening = opening_is;
     first = refl;
     moments = let many = o.many in first_moments (length contents) (omega arith);
@@ -137,5 +138,6 @@ module _ (contents : List (List ℕ)) (o : AreOpening contents) where
     hands = λ n st d e. subst (λ (z : Stage × Mine). IsHand (first_world (length contents)) n z.0 z.1) (of_all passes (Idle, newcomer) n (st, d) e) (hand_at n);
     within = none_within (length (replicate passes (Idle, newcomer)));
     counts = λ n st d e begun. absurd (begun (ap (λ (z : Stage × Mine). z.1.number) (sym (of_all passes (Idle, newcomer) n (st, d) e))));
+    firsts = λ n st d e. ap (λ (z : Stage × Mine). z.1.first) (sym (of_all passes (Idle, newcomer) n (st, d) e));
     busy = λ p since e. absurd (let both : machine.Waiting ≡ machine.Running since = e in cc);
   }

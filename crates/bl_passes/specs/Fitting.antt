@@ -1,8 +1,7 @@
 -- The rule of threads.
-use Rattle.std.specs.Prelude.{◌≡◌, ◌≢◌, ◌⊎◌, ℕ, zero, suc, ◌<◌, ◌≤◌, ◌++◌, true, false, List, [], length, replicate}
+use Rattle.std.specs.Prelude.{◌≡◌, ◌≢◌, ◌⊎◌, ℕ, zero, suc, ◌<◌, ◌≤◌, ◌++◌, true, false, Option as Optional, List, [], length, replicate}
 use mathlib.Core.Option.{Option, none, some}
 use lib.ListN.{get_elem?}
-use Rattle.bl_model.specs.Map.{empty}
 use Rattle.bl_page.specs.declared.page.Page.{Page}
 use Rattle.bl_page.specs.declared.page.Page.TheVariants.{Anchor, Leaf, Inner, Dead}
 use Rattle.bl_page.specs.Words.{words_of}
@@ -13,7 +12,6 @@ use Rattle.bl_trails.specs.States.{HasMoments}
 use Rattle.bl_steps.specs.Worlds.{World, IsGood}
 use Rattle.bl_laws.specs.Walks.{Each}
 use Rattle.bl_starts.specs.Blank.{IsBlank}
-use Rattle.bl_starts.specs.Opening.{Opening}
 use Rattle.bl_proc.specs.declared.kinds.Proc.{Proc}
 use Rattle.bl_proc.specs.declared.kinds.Proc.TheVariants.{Find}
 use Rattle.bl_proc.specs.declared.searching.FindStage.TheVariants as find
@@ -23,7 +21,7 @@ use Rattle.bl_bounds.specs.Paces.{AllKept}
 use Rattle.bl_store.specs.Pages.{Owner, Released, Open, Held, Retired, Stage, Idle, Running, Pages, Stands}
 use Rattle.bl_passes.specs.declared.known.Mine.{Mine}
 use Rattle.bl_passes.specs.Noting.{trail_of}
-use Rattle.bl_passes.specs.Seeing.{own, AreWithin, AreElse}
+use Rattle.bl_passes.specs.Seeing.{first_map, BeginsFrom, own, AreWithin, AreElse}
 
 abbrev pub name : ℕ → ℕ → Name
 name pass number = record { pass = pass; number = number }
@@ -34,7 +32,7 @@ unborn = Find (record { key = 0; stage = find.New })
 
 -- what a pass knows that has begun no process
 abbrev pub newcomer : Mine
-newcomer = record { pass = 0; pages = 0; passes = 0; number = 0; runs = false; state = unborn; past = []; trail = [] }
+newcomer = record { pass = 0; pages = 0; passes = 0; number = 0; runs = false; state = unborn; first = []; past = []; trail = [] }
 
 abbrev pub IsAnchor : Page → Type 0
 IsAnchor (Anchor a) = Unit {0}
@@ -83,16 +81,17 @@ pub record IsHand (w : World Run) (n : ℕ) (st : Stage) (d : Mine) : Type 0 whe
 abbrev pub IsRun : List (Stage × Mine) → Name → ℕ → Type 0
 IsRun hands p since = (d : Mine) × (get_elem? hands p.pass ≡ some (Running since, d)) × (p.number ≡ d.number)
 
--- One good world that began with the opening index, and had the laws of the tree in every state since, has the pages and owners
--- of the store, and knows each hand. Each search keeps its bound there, and each process holds what it may as it latches. No
--- process runs there but those that hands run.
+-- One good world that began with an image or empty, and had the laws of the tree in every state since, has the pages and owners
+-- of the store, and knows each hand, which knows what it began with. Each search keeps its bound there, and each process holds
+-- what it may as it latches. No process runs there but those that hands run.
 pub record Fits (s : Pages Mine) : Type 0 where
   pub world : World Run
   pub good : IsGood know world
   pub kept : AllKept world
-  pub opening : Opening world.start
-  pub first : world.first ≡ empty
-  pub moments : HasMoments empty world.start world.trail
+  pub image : List (Optional Page)
+  pub opening : BeginsFrom image world.start
+  pub first : world.first ≡ first_map image
+  pub moments : HasMoments (first_map image) world.start world.trail
   pub size : world.size ≡ length s.contents
   pub clock : world.now.clock ≤ s.clock
   pub pages : (x : ℕ) (words : List ℕ) → get_elem? s.contents x ≡ some words → Shows x words (world.now.contents x)
@@ -100,4 +99,5 @@ pub record Fits (s : Pages Mine) : Type 0 where
   pub hands : (n : ℕ) (st : Stage) (d : Mine) → Stands s n st d → IsHand world n st d
   pub within : AreWithin (length s.hands) world.trail
   pub counts : (n : ℕ) (st : Stage) (d : Mine) → Stands s n st d → d.number ≢ 0 → d.passes ≡ length s.hands
+  pub firsts : (n : ℕ) (st : Stage) (d : Mine) → Stands s n st d → d.first ≡ image
   pub busy : (p : Name) (since : ℕ) → world.now.phase p ≡ machine.Running since → IsRun s.hands p since

@@ -1,6 +1,6 @@
 -- What a pass has seen: all events up to its own last one, as a trail.
 use Rattle.std.specs.Prelude.{◌≡◌, ◌≢◌, ℕ, ◌<◌, ◌++◌, Option, List, [], ◌∷◌, Contains}
-use Rattle.bl_model.specs.Map.{empty}
+use Rattle.bl_model.specs.Map.{Map, empty}
 use Rattle.bl_model.specs.History.{IsLegalFrom, final_map, entries_of_pass}
 use Rattle.bl_model.specs.declared.operation.Entry.{Entry}
 use Rattle.bl_model.specs.declared.operation.Reply.{Reply}
@@ -11,23 +11,36 @@ use Rattle.bl_trails.specs.Trails.{Mark, Trail, history_of, IsMarked, LeadsOn}
 use Rattle.bl_trails.specs.Moments.{HasLaws}
 use Rattle.bl_trails.specs.States.{HasMoments}
 use Rattle.bl_laws.specs.Walks.{Each}
+use Rattle.bl_laws.specs.Starts.{start_map}
+use Rattle.bl_check.specs.Spans.{page_at}
 use Rattle.bl_starts.specs.Opening.{Opening}
+use Rattle.bl_quiet.specs.Begins.{node_in, roots_in, IsOpened}
 
--- The trail is linearizable: its events are legal and lead from the opening index to some state, and its history is one of
--- them, legal from the empty map.
-pub record IsLinearizable (trail : Trail) : Type 0 where
+-- the map that an index begins with: of an image what its leaves say, else the empty map
+abbrev pub first_map : List (Option Page) → Map
+first_map [] = empty
+first_map (page ∷ pages) = start_map (λ x. node_in (page_at (page ∷ pages) x)) (roots_in (page_at (page ∷ pages) 0)) 0
+
+-- the state that it begins with: it holds the pages of the image, or is the opening index
+abbrev pub BeginsFrom : List (Option Page) → State Page → Type 0
+BeginsFrom [] start = Opening start
+BeginsFrom (page ∷ pages) start = IsOpened (page ∷ pages) start
+
+-- The trail is linearizable: its events are legal and lead from the state that the index began with to some state, and its
+-- history is one of them, legal from the map that it began with.
+pub record IsLinearizable (first : List (Option Page)) (trail : Trail) : Type 0 where
   pub start : State Page
   pub now : State Page
-  pub opening : Opening start
+  pub opening : BeginsFrom first start
   pub leads : LeadsOn start trail now
   pub marked : IsMarked trail
-  pub legal : IsLegalFrom empty (history_of trail)
+  pub legal : IsLegalFrom (first_map first) (history_of trail)
 
 -- The trail is one that an index may have: it is linearizable; and, apart from that, the laws of the tree hold in each state
 -- on its way and in its last one, with the map after the history so far.
-pub record IsSeen (trail : Trail) : Type 0 where
-  pub linear : IsLinearizable trail
-  pub moments : HasMoments empty linear.start trail
+pub record IsSeen (first : List (Option Page)) (trail : Trail) : Type 0 where
+  pub linear : IsLinearizable first trail
+  pub moments : HasMoments (first_map first) linear.start trail
 
 -- the entries of one pass
 abbrev pub own : ℕ → Trail → List Entry

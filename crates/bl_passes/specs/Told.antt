@@ -55,7 +55,8 @@ pub record Notes (by count : ℕ) (act : Act Page Reply) (d e : Mine) : Type 0 w
   pub last : Mark
   pub trail : trail_of e.trail ≡ trail_of d.trail ++ (between ++ last ∷ [])
   pub event : last.event ≡ record { process = name by count; act = act }
-  pub seen : IsSeen (trail_of e.trail)
+  pub first : e.first ≡ d.first
+  pub seen : IsSeen e.first (trail_of e.trail)
   pub within : AreWithin e.passes (trail_of e.trail)
   pub pass : e.pass ≡ by
   pub number : e.number ≡ count
@@ -149,7 +150,8 @@ pub record ReleasesPages (by count among released : ℕ) (d e : Mine) : Type 0 w
   pub many : length (marks_of (name by count) more) ≡ released
   pub mine : Each (λ (m : Mark). m.event.process.pass ≡ by → IsRelease (name by count) m) more
   pub fresh : d.number < count → Each (λ (m : Mark). m.event.process ≢ name by count) (trail_of d.trail)
-  pub seen : IsSeen (trail_of e.trail)
+  pub first : e.first ≡ d.first
+  pub seen : IsSeen e.first (trail_of e.trail)
   pub within : AreWithin among (trail_of e.trail)
   pub own : own by (trail_of e.trail) ≡ own by (trail_of d.trail)
   pub number : e.number ≡ count

@@ -1,9 +1,13 @@
 //! What a pass knows, as plain data.
 
+ghost use Rattle.std.specs.Prelude.{◌≡◌};
+
 use bl_model::{Entry, Op, Reply};
 use bl_page::Page;
 use bl_proc::Proc;
 use std::collections::LinkedList;
+use std::marker::Model;
+use std::snapshot::Snapshot;
 
 /// A process: the pass that runs it, and its number among that pass's processes, from 1.
 #[derive(Drop)]
@@ -48,6 +52,36 @@ pub struct Noted {
     pub spoken: Option<Spoken>,
 }
 
+/// What an index began with: the pages of an image, or no pages where it was opened empty. It takes no room.
+#[derive(Drop)]
+pub struct Beginning<P> {
+    pages: Snapshot<Vec<Option<P>>>,
+}
+
+// A clause sees the pages.
+impl<P> Model for Beginning<P> {
+    ghost use Rattle.std.specs.Prelude.{List, Option as Optional};
+    ghost use Rattle.std.specs.Coded.{coded_option};
+    ghost use base.Stored.{coded_list};
+
+    ghost Value = { List (Optional P) };
+
+    ghost coded = { coded_list (coded_option P.code) };
+
+    ghost view = { λ beginning. beginning.pages.value.items };
+}
+
+impl<P> Beginning<P> {
+    /// The beginning with these pages.
+    pub fn of(pages: &Vec<Option<P>>) -> Beginning<P>
+        ensures { result ≡ pages.now.items }
+    {
+        Beginning {
+            pages: Snapshot::of(pages),
+        }
+    }
+}
+
 /// What a pass knows.
 #[derive(Drop)]
 pub struct Mine {
@@ -63,6 +97,8 @@ pub struct Mine {
     pub runs: bool,
     /// Where the last of them stands.
     pub state: Proc,
+    /// What the index began with.
+    pub first: Beginning<Page>,
     /// The entries of the pass before that process.
     pub past: LinkedList<Entry>,
     /// All that had happened up to its own last event.

@@ -14,5 +14,5 @@ mod rule;
 pub use events::{
     Began, Ended, GaveUp, Got, Launch, Opened, Put, Refused, Retired, Sweeper, Swept, Took, Tried,
 };
-pub use known::{Deed, Mine, Noted, Spoken, Who};
+pub use known::{Beginning, Deed, Mine, Noted, Spoken, Who};
 pub use rule::Passes;

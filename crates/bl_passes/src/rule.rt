@@ -12,7 +12,7 @@ impl PageRule<Mine> for Passes {
 
     ghost holds = { Fits };
 
-    ghost ticks = { λ s f. record { world = f.world; good = f.good; kept = f.kept; opening = f.opening; first = f.first; moments = f.moments; size = f.size; clock = le_trans f.clock (le-add_right s.clock 1); pages = f.pages; owners = f.owners; hands = f.hands; within = f.within; busy = f.busy; counts = f.counts } };
+    ghost ticks = { λ s f. record { world = f.world; good = f.good; kept = f.kept; image = f.image; opening = f.opening; first = f.first; moments = f.moments; size = f.size; clock = le_trans f.clock (le-add_right s.clock 1); pages = f.pages; owners = f.owners; hands = f.hands; within = f.within; busy = f.busy; counts = f.counts; firsts = f.firsts } };
 
     ghost gone = { newcomer };
 }
