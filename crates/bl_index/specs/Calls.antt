@@ -64,7 +64,7 @@ IsSamePass old new = (new.hand.seat.table_id ≡ old.hand.seat.table_id) × (new
 pub record Answers (pass : ℕ) (op : Op) (reply : Reply) (old new : Trail) : Type 0 where
   pub number : ℕ
   pub holds : Holds (name pass number) (Some reply) old new
-  pub seen : IsSeen new
+  pub seen : IsSeen [] new
   pub once : own pass new ≡ own pass old ++ record { pass = pass; op = op; reply = reply } ∷ []
 
 -- In an index of one pass each call is a step of one map.
@@ -75,7 +75,7 @@ StepsAlone index op reply old new = passes_of index ≡ 1 → IsMapStep (map_aft
 pub record Adds (pass : ℕ) (old new : Trail) : Type 0 where
   pub number : ℕ
   pub holds : Holds (name pass number) None old new
-  pub seen : IsSeen new
+  pub seen : IsSeen [] new
   pub none : own pass new ≡ own pass old
 
 -- A sweep of the pass that answered a number. Its events are releases of pages, no more than that number, all of them by one
@@ -88,7 +88,7 @@ pub record Sweeps (pass answer : ℕ) (old new : Trail) : Type 0 where
   pub begins : new ≡ old ++ more
   pub mine : Each (λ (m : Mark). m.event.process.pass ≡ pass → IsRelease (name pass number) m) more
   pub few : length (marks_of (name pass number) more) ≤ answer
-  pub seen : IsSeen old → IsSeen new
+  pub seen : IsSeen [] old → IsSeen [] new
   pub none : own pass new ≡ own pass old
 
 -- A search of an index of so many pages is answered. At every moment it had got no more pages than its bound, and it has latched,

@@ -37,7 +37,7 @@ AreAll index passes = (n : ℕ) → n < passes_of index → HasPass passes n
 -- of that pass, and none of anybody else. The pages of the image are those that it leaves open, and their rows are the map after it.
 pub record Closes (index : Index) (passes : List Pass) (pages : List (Option Page)) : Type 0 where
   pub whole : Trail
-  pub seen : IsSeen whole
+  pub seen : IsSeen [] whole
   pub all : AreAll index passes
   pub begins : (k : ℕ) (pass : Pass) → get_elem? passes k ≡ some pass → GoesOnFrom (trail pass) whole
   pub none : (k : ℕ) (pass : Pass) → get_elem? passes k ≡ some pass → own (number_of pass) whole ≡ own (number_of pass) (trail pass)

@@ -42,8 +42,6 @@ use Rattle.bl_proc.specs.declared.kinds.Proc.TheVariants as proc
 use Rattle.bl_proc.specs.Processes.{next_of, answer_of, Takes}
 use Rattle.bl_courses.specs.Courses.{GoesOn}
 use Rattle.bl_passes.specs.declared.known.Mine.{Mine}
-use Rattle.bl_passes.specs.Noting.{trail_of}
-use Rattle.bl_passes.specs.Seeing.{IsSeen}
 use Rattle.bl_index.specs.declared.coming.Arrived.{Arrived}
 use Rattle.bl_index.specs.declared.coming.Arrived.TheVariants.{There, Away}
 use Rattle.bl_index.specs.declared.errands.Posting.{Posting}
@@ -149,5 +147,5 @@ HasWalked l j x words y d Lost = IsOn l d (posting j (post.Coming (Leaving x Non
 
 -- It has ended, and has answered that; or its way begins again.
 abbrev pub IsPostOver : Layout → Posting → Mine → Seat (Unit {0}) (View Mine) → Option (Posted × Option Hint) → Type 0
-IsPostOver l j d h (Some t) = (IsIdle h × HasNoStock h) × IsWithin h × ((known h).runs ≡ false) × IsSeen (trail_of (known h).trail) × (t.0 ≡ posted.NoRoom → LacksRoom h) × ((pass : ℕ) (old : Mine) → IsSince pass old d → HasPosted pass old (known h) (posting j post.New tt) t.0 t.1)
+IsPostOver l j d h (Some t) = (IsIdle h × HasNoStock h) × IsWithin h × ((known h).runs ≡ false) × (t.0 ≡ posted.NoRoom → LacksRoom h) × ((pass : ℕ) (old : Mine) → IsSince pass old d → HasPosted pass old (known h) (posting j post.New tt) t.0 t.1)
 IsPostOver l j d h None = (IsRunning h × HasNoStock h) × IsOn l (known h) (posting j (post.Coming Start) tt) × IsSameProcess d (known h)

@@ -1,5 +1,5 @@
 -- What passes learn of each other. It is no event.
-use Rattle.std.specs.Prelude.{◌≡◌, ℕ}
+use Rattle.std.specs.Prelude.{◌≡◌, ℕ, []}
 use Rattle.bl_trails.specs.Trails.{Trail}
 use Rattle.bl_passes.specs.declared.known.Mine.{Mine}
 use Rattle.bl_passes.specs.Noting.{trail_of}
@@ -22,7 +22,7 @@ pub record Hears (pass : ℕ) (old theirs new : Trail) : Type 0 where
 -- further entry of either.
 pub record Meet (one two : ℕ) (old_one old_two new_one new_two : Trail) : Type 0 where
   pub same : new_two ≡ new_one
-  pub seen : IsSeen new_one
+  pub seen : IsSeen [] new_one
   pub begins_one : GoesOnFrom old_one new_one
   pub begins_two : GoesOnFrom old_two new_one
   pub none_one : own one new_one ≡ own one old_one
@@ -31,7 +31,8 @@ pub record Meet (one two : ℕ) (old_one old_two new_one new_two : Trail) : Type
 -- of what the pass knew, what the other knows, and what the pass knows then
 pub record Learned (pass other among : ℕ) (d e f : Mine) : Type 0 where
   pub learns : Learns pass other (trail_of d.trail) (trail_of e.trail) (trail_of f.trail)
-  pub seen : IsSeen (trail_of f.trail)
+  pub first : f.first ≡ d.first
+  pub seen : IsSeen f.first (trail_of f.trail)
   pub within : AreWithin among (trail_of f.trail)
   pub runs : f.runs ≡ d.runs
 
@@ -40,6 +41,7 @@ learned pass other among d e f = Learned pass other among d e f
 
 pub record Heard (pass : ℕ) (d e f : Mine) : Type 0 where
   pub hears : Hears pass (trail_of d.trail) (trail_of e.trail) (trail_of f.trail)
+  pub first : f.first ≡ d.first
   pub runs : f.runs ≡ d.runs
 
 abbrev pub heard : ℕ → Mine → Mine → Mine → Type 0

@@ -37,7 +37,7 @@ pub record IsOpened (config : Config) (index : Index) (passes : List Pass) : Typ
   pub passes_are : passes_of index ≡ config.passes
   pub count : length passes ≡ config.passes
   pub each : (n : ℕ) (pass : Pass) → get_elem? passes n ≡ some pass → IsPassOf index pass × (number_of pass ≡ n) × (trail pass ≡ [])
-  pub seen : IsSeen []
+  pub seen : IsSeen [] []
 
 -- the anchor of one level, whose page is page 1
 abbrev pub IsFirstAnchor : Page → Type 0

@@ -40,6 +40,7 @@ pub record IsOn (l : Layout) (d : Mine) (process : Proc) : Type 0 where
 pub record IsSince (pass : ℕ) (old d : Mine) : Type 0 where
   pub named : d.pass ≡ pass
   pub number : d.number ≡ old.number + 1
+  pub beginning : d.first ≡ old.first
   pub past : d.past ≡ own pass (trail_of old.trail)
   pub own : HasOwn d
   pub before : Trail

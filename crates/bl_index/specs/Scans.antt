@@ -57,7 +57,7 @@ pub record Scans (pages pass from : ℕ) (to upto : Option ℕ) (rows : List (�
   pub are_parts : AreParts pass to (Some from) parts upto
   pub calls : AreCalls pages pass parts old new
   pub begins : GoesOnFrom old new
-  pub seen : IsSeen old → IsSeen new
+  pub seen : IsSeen [] old → IsSeen [] new
   pub mine : own pass new ≡ own pass old ++ parts
   pub listed : rows ≡ flat_map (λ part. rows_below to part.reply) parts
   pub rising : HasRisingKeys rows

@@ -10,7 +10,6 @@ ghost use Rattle.bl_courses.specs.Refusals.{IsNoRoom, IsRefused, PutsRefused};
 ghost use Rattle.bl_index.specs.Searching.{IsOpAnswer};
 ghost use Rattle.bl_store.specs.Hands.{known, IsOf, IsIdle, IsRunning, IsSameHand, HasNoStock};
 ghost use Rattle.bl_passes.specs.Noting.{trail_of};
-ghost use Rattle.bl_passes.specs.Seeing.{IsSeen};
 ghost use Rattle.bl_passes.specs.Told.{IsUnborn};
 ghost use Rattle.bl_passes.specs.declared.known.Mine.{Mine as Knows};
 ghost use Rattle.bl_index.specs.Runs.{IsOn, IsSince, IsDone, IsWithin, HasReserved};
@@ -78,7 +77,6 @@ impl Index {
         ensures idle { IsIdle hand.new.seat × HasNoStock hand.new.seat }
         ensures within { IsWithin hand.new.seat }
         ensures rests { (known hand.new.seat).runs ≡ false }
-        ensures seen { IsSeen (trail_of (known hand.new.seat).trail) }
         ensures done { IsDone hand.old.number (known hand.old.seat) (known hand.new.seat) (P.proc_of process) (P.proc_of result) }
         ensures no_room { (a : AnswerIs) → P.answer_of result ≡ Some a → IsNoRoom a → LacksAsked hand.new.seat (P.proc_of result) }
     {
@@ -99,7 +97,6 @@ impl Index {
         ensures idle { IsIdle hand.new.seat × HasNoStock hand.new.seat }
         ensures within { IsWithin hand.new.seat }
         ensures rests { (known hand.new.seat).runs ≡ false }
-        ensures seen { IsSeen (trail_of (known hand.new.seat).trail) }
         ensures done { (pass : ℕ) (old : Knows) → IsSince pass old (known hand.old.seat) → IsDone pass old (known hand.new.seat) (P.proc_of process) (P.proc_of result) }
         ensures no_room { (a : AnswerIs) → P.answer_of result ≡ Some a → IsNoRoom a → LacksAsked hand.new.seat (P.proc_of result) }
     {

@@ -20,7 +20,6 @@ ghost use Rattle.bl_proc.specs.declared.kinds.Proc.TheVariants as proc;
 ghost use Rattle.bl_store.specs.Hands.{known, read_words, IsOf, IsIdle, IsRunning, IsSameHand, HasNoStock, ReadsFrom, WasRefused};
 ghost use Rattle.bl_passes.specs.declared.known.Mine.{Mine as Knows};
 ghost use Rattle.bl_passes.specs.Noting.{trail_of};
-ghost use Rattle.bl_passes.specs.Seeing.{IsSeen};
 ghost use Rattle.bl_index.specs.Runs.{IsOn, IsSince, IsWithin};
 ghost use Rattle.bl_index.specs.Events.{IsThere, HasDeleted, HasDeletedBy};
 
@@ -67,7 +66,6 @@ impl Index {
         ensures idle { IsIdle hand.new.seat × HasNoStock hand.new.seat }
         ensures within { IsWithin hand.new.seat }
         ensures rests { (known hand.new.seat).runs ≡ false }
-        ensures seen { IsSeen (trail_of (known hand.new.seat).trail) }
         ensures deleted { (pass : ℕ) (old : Knows) → IsSince pass old (known hand.old.seat) → HasDeletedBy pass old (known hand.new.seat) (proc.Delete (record { key = errand.key; stage = delete.New })) result }
         ensures reply { result ≡ removal.Absent }
     {
@@ -94,7 +92,6 @@ impl Index {
         ensures idle { IsIdle hand.new.seat × HasNoStock hand.new.seat }
         ensures within { IsWithin hand.new.seat }
         ensures rests { (known hand.new.seat).runs ≡ false }
-        ensures seen { IsSeen (trail_of (known hand.new.seat).trail) }
         ensures deleted { (pass : ℕ) (old : Knows) → IsSince pass old (known hand.old.seat) → HasDeletedBy pass old (known hand.new.seat) (proc.Delete (record { key = errand.key; stage = delete.New })) result }
         ensures no_room { result ≡ removal.NoRoom → WasRefused hand.new.seat 0 1 }
     {
@@ -132,7 +129,6 @@ impl Index {
         ensures idle { IsIdle hand.new.seat × HasNoStock hand.new.seat }
         ensures within { IsWithin hand.new.seat }
         ensures rests { (known hand.new.seat).runs ≡ false }
-        ensures seen { IsSeen (trail_of (known hand.new.seat).trail) }
         ensures deleted { (pass : ℕ) (old : Knows) → IsSince pass old (known hand.old.seat) → HasDeletedBy pass old (known hand.new.seat) (proc.Delete (record { key = errand.key; stage = delete.New })) result }
         ensures no_room { result ≡ removal.NoRoom → WasRefused hand.new.seat 0 1 }
     {
@@ -159,7 +155,6 @@ impl Index {
         ensures idle { IsIdle hand.new.seat × HasNoStock hand.new.seat }
         ensures within { IsWithin hand.new.seat }
         ensures rests { (known hand.new.seat).runs ≡ false }
-        ensures seen { IsSeen (trail_of (known hand.new.seat).trail) }
         ensures deleted { HasDeleted hand.old.number (known hand.old.seat) (known hand.new.seat) (proc.Delete (record { key = key; stage = delete.New })) result.0 result.1 }
         ensures no_room { result.0 ≡ replies.NoRoom → WasRefused hand.new.seat 0 1 }
     {

@@ -14,7 +14,6 @@ ghost use Rattle.bl_store.specs.Drafts.{IsSpread};
 ghost use Rattle.bl_store.specs.Hands.{known, read_words, IsOf, IsIdle, IsRunning, IsSameHand, IsSameStage, IsSameStock, HasNoStock, IsStockOf, ReadsFrom, WasRefused, IsSameRefusal};
 ghost use Rattle.bl_passes.specs.declared.known.Mine.{Mine as Knows};
 ghost use Rattle.bl_passes.specs.Noting.{trail_of};
-ghost use Rattle.bl_passes.specs.Seeing.{IsSeen};
 ghost use Rattle.bl_passes.specs.Told.{Goes};
 ghost use Rattle.bl_index.specs.Runs.{IsOn, IsSince, IsWithin, IsDone};
 ghost use Rattle.bl_index.specs.Events.{OpensLast};
@@ -184,7 +183,6 @@ impl Index {
         ensures idle { IsIdle hand.new.seat }
         ensures within { IsWithin hand.new.seat }
         ensures rests { (known hand.new.seat).runs ≡ false }
-        ensures seen { IsSeen (trail_of (known hand.new.seat).trail) }
         ensures done { (pass : ℕ) (old : Knows) (first ending last : Proc) → IsSince pass old (known hand.old.seat) → OpensLast (known hand.old.seat).state page ending last → op_of ending ≡ op_of first → work_of ending ≡ work_of first → IsDone pass old (known hand.new.seat) first last }
         ensures refusal { IsSameRefusal hand.old.seat hand.new.seat }
     {

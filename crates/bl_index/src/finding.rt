@@ -60,11 +60,13 @@ impl Index {
     fn find_by(&self, hand: &mut Hand<Mine>, key: u64, turns: u32) -> Result<Reply, OutOfTurns>
         requires own { IsOf self.now.store.table.shared.table_id self.now.store.layout hand.old.seat }
         requires idle { IsIdle hand.old.seat }
+        requires first { (known hand.old.seat).first ≡ [] }
         ensures same { IsSameHand hand.old.seat hand.new.seat × IsSameStock hand.old.seat hand.new.seat }
         ensures idle { IsIdle hand.new.seat }
         ensures within { IsWithin hand.new.seat }
         ensures rests { (known hand.new.seat).runs ≡ false }
-        ensures seen { IsSeen (trail_of (known hand.new.seat).trail) }
+        ensures first { (known hand.new.seat).first ≡ [] }
+        ensures seen { IsSeen [] (trail_of (known hand.new.seat).trail) }
         ensures answers { AnswersOrRunsOut self.now.store.layout.pages hand.old.number turns (op.Find key) result (trail_of (known hand.old.seat).trail) (trail_of (known hand.new.seat).trail) }
     {
         let mut process = Find::new(key);

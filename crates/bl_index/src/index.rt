@@ -28,7 +28,8 @@ pub struct Pass {
     pub ghost empty: { HasNoStock hand.seat },
     pub ghost within: { IsWithin hand.seat },
     pub ghost rests: { (known hand.seat).runs ≡ false },
-    pub ghost seen: { ∥ IsSeen (trail_of (known hand.seat).trail) ∥₁ },
+    pub ghost first: { (known hand.seat).first ≡ [] },
+    pub ghost seen: { ∥ IsSeen [] (trail_of (known hand.seat).trail) ∥₁ },
 }
 
 impl Pass {

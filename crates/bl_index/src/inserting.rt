@@ -17,7 +17,6 @@ ghost use Rattle.bl_store.specs.Drafts.{IsSpread};
 ghost use Rattle.bl_store.specs.Hands.{known, read_words, IsOf, IsIdle, IsRunning, IsSameHand, HasNoStock, ReadsFrom};
 ghost use Rattle.bl_passes.specs.declared.known.Mine.{Mine as Knows};
 ghost use Rattle.bl_passes.specs.Noting.{trail_of};
-ghost use Rattle.bl_passes.specs.Seeing.{IsSeen};
 ghost use Rattle.bl_index.specs.Runs.{IsOn, IsSince, IsWithin};
 ghost use Rattle.bl_index.specs.Events.{IsThere, HasInserted, HasInsertedBy};
 ghost use Rattle.bl_index.specs.Rooms.{LacksRoom};
@@ -81,7 +80,6 @@ impl Index {
         ensures idle { IsIdle hand.new.seat × HasNoStock hand.new.seat }
         ensures within { IsWithin hand.new.seat }
         ensures rests { (known hand.new.seat).runs ≡ false }
-        ensures seen { IsSeen (trail_of (known hand.new.seat).trail) }
         ensures inserted { (pass : ℕ) (old : Knows) → IsSince pass old (known hand.old.seat) → HasInsertedBy pass old (known hand.new.seat) (proc.Insert (record { key = errand.key; value = errand.value; stage = insert.New })) result }
         ensures reply { result ≡ inserted.Present there }
     {
@@ -109,7 +107,6 @@ impl Index {
         ensures idle { IsIdle hand.new.seat × HasNoStock hand.new.seat }
         ensures within { IsWithin hand.new.seat }
         ensures rests { (known hand.new.seat).runs ≡ false }
-        ensures seen { IsSeen (trail_of (known hand.new.seat).trail) }
         ensures inserted { (pass : ℕ) (old : Knows) → IsSince pass old (known hand.old.seat) → HasInsertedBy pass old (known hand.new.seat) (proc.Insert (record { key = errand.key; value = errand.value; stage = insert.New })) result }
         ensures no_room { result ≡ inserted.NoRoom → LacksRoom hand.new.seat }
     {
@@ -140,7 +137,6 @@ impl Index {
         ensures idle { IsIdle hand.new.seat × HasNoStock hand.new.seat }
         ensures within { IsWithin hand.new.seat }
         ensures rests { (known hand.new.seat).runs ≡ false }
-        ensures seen { IsSeen (trail_of (known hand.new.seat).trail) }
         ensures inserted { (pass : ℕ) (old : Knows) → IsSince pass old (known hand.old.seat) → HasInsertedBy pass old (known hand.new.seat) (proc.Insert (record { key = errand.key; value = errand.value; stage = insert.New })) result }
         ensures no_room { result ≡ inserted.NoRoom → LacksRoom hand.new.seat }
     {
@@ -172,7 +168,6 @@ impl Index {
         ensures idle { IsIdle hand.new.seat × HasNoStock hand.new.seat }
         ensures within { IsWithin hand.new.seat }
         ensures rests { (known hand.new.seat).runs ≡ false }
-        ensures seen { IsSeen (trail_of (known hand.new.seat).trail) }
         ensures inserted { (pass : ℕ) (old : Knows) → IsSince pass old (known hand.old.seat) → HasInsertedBy pass old (known hand.new.seat) (proc.Insert (record { key = errand.key; value = errand.value; stage = insert.New })) result }
         ensures no_room { result ≡ inserted.NoRoom → LacksRoom hand.new.seat }
     {
@@ -213,7 +208,6 @@ impl Index {
         ensures idle { IsIdle hand.new.seat × HasNoStock hand.new.seat }
         ensures within { IsWithin hand.new.seat }
         ensures rests { (known hand.new.seat).runs ≡ false }
-        ensures seen { IsSeen (trail_of (known hand.new.seat).trail) }
         ensures inserted { HasInserted hand.old.number (known hand.old.seat) (known hand.new.seat) (proc.Insert (record { key = key; value = value; stage = insert.New })) result.0 result.1 }
         ensures no_room { result.0 ≡ replies.NoRoom → LacksRoom hand.new.seat }
     {

@@ -68,7 +68,7 @@ impl Index {
         ensures same { IsSamePass pass.old pass.new }
         ensures other { IsSamePass other.old other.new × (trail other.new ≡ trail other.old) }
         ensures learns { Learns (number_of pass.old) (number_of other.old) (trail pass.old) (trail other.old) (trail pass.new) }
-        ensures seen { IsSeen (trail pass.new) }
+        ensures seen { IsSeen [] (trail pass.new) }
     {
         self.learn_by::<Brand>(&mut pass.hand, &mut other.hand);
     }

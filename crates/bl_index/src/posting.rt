@@ -20,7 +20,6 @@ ghost use Rattle.bl_courses.specs.Frames.{work_of};
 ghost use Rattle.bl_store.specs.Hands.{known, read_words, IsOf, IsIdle, IsRunning, IsSameHand, IsSameStage, IsSameStock, HasNoStock, ReadsFrom};
 ghost use Rattle.bl_passes.specs.declared.known.Mine.{Mine as Knows};
 ghost use Rattle.bl_passes.specs.Noting.{trail_of};
-ghost use Rattle.bl_passes.specs.Seeing.{IsSeen};
 ghost use Rattle.bl_index.specs.Runs.{IsOn, IsSince, IsWithin};
 ghost use Rattle.bl_index.specs.Events.{posting, IsThere, IsToEnter, IsWalking, HasWalked, HasPosted, IsPostOver, IsSameProcess};
 ghost use Rattle.bl_index.specs.Searching.{IsPostAnswer};
@@ -378,7 +377,6 @@ impl Index {
         ensures idle { IsIdle hand.new.seat × HasNoStock hand.new.seat }
         ensures within { IsWithin hand.new.seat }
         ensures rests { (known hand.new.seat).runs ≡ false }
-        ensures seen { IsSeen (trail_of (known hand.new.seat).trail) }
         ensures posted { (first : Proc) × (work_of first ≡ Some (level, key)) × HasPosted hand.old.number (known hand.old.seat) (known hand.new.seat) first result.0 result.1 }
         ensures no_room { result.0 ≡ postings.NoRoom → LacksRoom hand.new.seat }
     {

@@ -20,7 +20,7 @@ impl Index {
         requires { IsPassOf self.now pass.old }
         ensures same { IsSamePass pass.old pass.new }
         ensures sweeps { Sweeps (number_of pass.old) result (trail pass.old) (trail pass.new) }
-        ensures seen { ∥ IsSeen (trail pass.new) ∥₁ }
+        ensures seen { ∥ IsSeen [] (trail pass.new) ∥₁ }
         ensures count { released_by pass.new ≡ released_by pass.old + result }
     {
         self.release::<Brand>(&mut pass.hand)
