@@ -42,7 +42,7 @@ pub alone_keeps : (old new : Trail) → AreWithin 1 old → AreWithin 1 new → 
 alone_keeps old new w v same = ap (final_map empty) (sym (whole_own new v) ∙ (same ∙ whole_own old w))
 
 -- and one that adds an entry is a step of it
-pub alone_answers : (op : Op) (reply : Reply) (old new : Trail) → AreWithin 1 old → AreWithin 1 new → IsSeen new → own 0 new ≡ own 0 old ++ record { pass = 0; op = op; reply = reply } ∷ [] → IsMapStep (map_after old) op reply (map_after new)
+pub alone_answers : (op : Op) (reply : Reply) (old new : Trail) → AreWithin 1 old → AreWithin 1 new → IsSeen [] new → own 0 new ≡ own 0 old ++ record { pass = 0; op = op; reply = reply } ∷ [] → IsMapStep (map_after old) op reply (map_after new)
 alone_answers op reply old new w v seen once =
     let e : Entry = record { pass = 0; op = op; reply = reply } in
     let grown : history_of new ≡ history_of old ++ e ∷ [] = sym (whole_own new v) ∙ (once ∙ ap (λ (z : List Entry). z ++ e ∷ []) (whole_own old w)) in

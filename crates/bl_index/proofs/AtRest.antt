@@ -22,6 +22,7 @@ use Rattle.bl_tree.specs.Trees.Status.{Free, Live, Anchored}
 use Rattle.bl_tree.proofs.Statuses.{live_live}
 use Rattle.bl_laws.specs.Pages.{IsTreePage}
 use Rattle.bl_trails.specs.Trails.{history_of}
+use Rattle.bl_trails.specs.States.{HasMoments}
 use Rattle.bl_steps.specs.Worlds.{Stage, Know, World, HoldsPage, IsStage}
 use Rattle.bl_starts.proofs.WorldLaws.{tree_page}
 use Rattle.bl_quiet.specs.Begins.{IsLeft, AreLeft}
@@ -37,12 +38,13 @@ use Rattle.bl_store.specs.declared.store.Hand.{Hand}
 use Rattle.bl_passes.proofs.Shown.{at_below}
 use Rattle.bl_index.proofs.Gathered.{there, one_there, all_there}
 use Rattle.bl_passes.specs.declared.known.Mine.{Mine}
-use Rattle.bl_passes.specs.Seeing.{AreWithin}
+use Rattle.bl_passes.specs.Seeing.{first_map, BeginsFrom, AreWithin}
 use Rattle.bl_passes.specs.Fitting.{Shows, IsAnchor, owner_in, IsHand, Fits}
 use Rattle.bl_index.specs.declared.index.Index.{Index}
 use Rattle.bl_index.specs.declared.index.Pass.{Pass}
 use Rattle.bl_index.specs.Calls.{pages_of, IsPassOf, number_of}
 use Rattle.bl_index.specs.Closed.{AreOf, AreAll, AreHandsOf, Closes}
+use Rattle.bl_index.proofs.Calls.{no_pages}
 use Rattle.bl_index.proofs.Holders.{held_busy}
 
 no_anchor : (c : Page) → IsAnchor c → IsTreePage c → ⊥
@@ -171,6 +173,13 @@ module _ (index : Index) (passes : List Pass) (hands : List (Hand Mine)) (of : A
     sound : AreSound pages
     sound = closed_sound index.store.layout hands result c (each_hand all) pages spells fit
 
+    -- the index was opened empty, since its passes know so
+    empty : c.kept.image ≡ []
+    empty =
+        let within = index.store.layout.passes_within in
+        let has = all 0 (omega (arith, within.0)) in let a = of.all has.place has.pass has.at in
+        sym (c.kept.firsts (number_of has.pass) Idle (known has.pass.hand.seat) (c.stand a.0 has.pass.hand a.1)) ∙ no_pages (known has.pass.hand.seat).first has.pass.first
+
     pub closes : Closes index passes pages
     closes =
         let f = c.kept in let w = f.world in
@@ -182,12 +191,12 @@ module _ (index : Index) (passes : List Pass) (hands : List (Hand Mine)) (of : A
             linear = record {
               start = w.start;
               now = w.now;
-              opening = f.opening;
+              opening = subst (λ (z : List (Option Page)). BeginsFrom z w.start) empty f.opening;
               leads = f.good.recorded.leads;
               marked = f.good.recorded.marked;
-              legal = subst (λ (z : Map). IsLegalFrom z (history_of w.trail)) f.first f.good.recorded.legal;
+              legal = subst (λ (z : Map). IsLegalFrom z (history_of w.trail)) (f.first ∙ ap first_map empty) f.good.recorded.legal;
             };
-            moments = f.moments;
+            moments = subst (λ (z : List (Option Page)). HasMoments (first_map z) w.start w.trail) empty f.moments;
           };
           all = all;
           begins = λ k pass at. let h = knows k pass at in (h.begins.0, h.begins.1);
@@ -197,5 +206,5 @@ module _ (index : Index) (passes : List Pass) (hands : List (Hand Mine)) (of : A
           left = left;
           rows = list.rows;
           are_rows = list.are_rows;
-          map = λ key. sym (rests_map _ w f.good pages fit left counted list.rows list.are_rows key) ∙ (f.good.recorded.map key ∙ ap (λ (z : Map). final_map z (history_of w.trail) key) f.first);
+          map = λ key. sym (rests_map _ w f.good pages fit left counted list.rows list.are_rows key) ∙ (f.good.recorded.map key ∙ ap (λ (z : Map). final_map z (history_of w.trail) key) (f.first ∙ ap first_map empty));
         }

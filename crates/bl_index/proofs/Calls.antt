@@ -1,5 +1,5 @@
 -- What a pass knows of its call, event by event.
-use Rattle.std.proofs.Common.{ℕ, ◌≡◌, ◌≢◌, ◌+◌, ◌++◌, Option, [], ◌∷◌, refl, sym, ap, ◌∙◌, subst, append_assoc}
+use Rattle.std.proofs.Common.{ℕ, ◌≡◌, ◌≢◌, ◌+◌, ◌++◌, Option, List, [], ◌∷◌, length, refl, sym, ap, ◌∙◌, subst, append_assoc, arith}
 use Rattle.std.specs.Prelude.{slice_get}
 use Rattle.bl_model.specs.declared.operation.Reply.{Reply}
 use Rattle.bl_page.specs.declared.page.Page.{Page}
@@ -13,7 +13,7 @@ use Rattle.bl_tables.specs.Knowing.{Run, bare as know}
 use Rattle.bl_bounds.specs.Latches.{OnlyLooks}
 use Rattle.bl_passes.specs.declared.known.Mine.{Mine}
 use Rattle.bl_passes.specs.Noting.{trail_of}
-use Rattle.bl_passes.specs.Seeing.{AreElse, AreOnlyOf, own, Holds}
+use Rattle.bl_passes.specs.Seeing.{IsSeen, AreElse, AreOnlyOf, own, Holds}
 use Rattle.bl_passes.specs.Fitting.{name}
 use Rattle.bl_passes.specs.Told.{Steps, Begins, Finishes}
 use Rattle.bl_passes.proofs.Marks.{each_append}
@@ -44,6 +44,7 @@ since_begin pass pages passes process old d b =
     record {
       named = b.notes.pass;
       number = b.notes.number;
+      beginning = b.notes.first;
       past = b.past;
       own = b.own;
       before = b.notes.between;
@@ -63,6 +64,7 @@ since_step pass act old d e s t =
     record {
       named = t.notes.pass ∙ s.named;
       number = t.notes.number ∙ s.number;
+      beginning = t.notes.first ∙ s.beginning;
       past = t.past ∙ s.past;
       own = t.own;
       before = s.before;
@@ -90,6 +92,14 @@ since_end pass answer old d e s t =
       none = s.none;
       only = each_append _ s.since t.notes.between s.only (others_only p t.notes.between (subst (λ (z : ℕ). AreElse z t.notes.between) s.named t.notes.others));
     }
+
+pub no_pages : (pages : List (Option Page)) → length pages ≡ 0 → pages ≡ []
+no_pages [] e = refl
+no_pages (page ∷ pages) e = absurd (omega arith)
+
+-- what the index began with, and what the pass has seen by then
+pub end_seen : (pass : ℕ) (answer : Option Reply) (old d e : Mine) (first : List (Option Page)) → IsSince pass old d → Finishes answer d e → old.first ≡ first → (e.first ≡ first) × IsSeen first (trail_of e.trail)
+end_seen pass answer old d e first s t is = let same : e.first ≡ first = t.notes.first ∙ (s.beginning ∙ is) in (same, subst (λ (z : List (Option Page)). IsSeen z (trail_of e.trail)) same t.notes.seen)
 
 -- what the pass has said by then
 pub since_said : (pass : ℕ) (answer : Option Reply) (old d e : Mine) (said : Option Said) → IsSince pass old d → Finishes answer d e → ((r : Run) → r.state ≡ d.state → (know r).said ≡ said) → own pass (trail_of e.trail) ≡ own pass (trail_of old.trail) ++ entries_at (name pass (old.number + 1)) said

@@ -1,11 +1,12 @@
 -- A pass that knows more of what has happened: this keeps the rule.
-use Rattle.std.proofs.Common.{ℕ, ◌≡◌, ◌≢◌, ◌++◌, List, [], ◌∷◌, length, set, refl, sym, ap, ◌∙◌, subst, ⊎_elim, inl, inr, append-nil, append_assoc}
+use Rattle.std.proofs.Common.{ℕ, ◌≡◌, ◌≢◌, ◌++◌, Option, List, [], ◌∷◌, length, set, refl, sym, ap, ◌∙◌, subst, ⊎_elim, inl, inr, append-nil, append_assoc}
 use Rattle.std.proofs.lemmas.Bool.{cases_eq}
 use Rattle.std.proofs.lemmas.List.{append_cancel_left}
 use mathlib.Core.Option.{some}
 use lib.ListN.{get_elem?}
 use Rattle.std.proofs.Math.ListN.{length-set}
 use Rattle.atomic_table.proofs.Lists.{at_set, set_else}
+use Rattle.bl_page.specs.declared.page.Page.{Page}
 use Rattle.bl_page.specs.Machine.{Name}
 use Rattle.bl_trails.specs.Trails.{Mark, Trail, marks_of}
 use Rattle.bl_steps.specs.Worlds.{World}
@@ -53,7 +54,7 @@ fits_logs s f p since runs =
 
 -- ---- one hand knows more
 
-module _ (s : Pages Mine) (f : Fits s) (n : ℕ) (st : Stage) (d : Mine) (at : Stands s n st d) (d' : Mine) (number : d'.number ≡ d.number) (passes : d'.passes ≡ d.passes) (hand : IsHand f.world n st d') where
+module _ (s : Pages Mine) (f : Fits s) (n : ℕ) (st : Stage) (d : Mine) (at : Stands s n st d) (d' : Mine) (number : d'.number ≡ d.number) (passes : d'.passes ≡ d.passes) (first : d'.first ≡ d.first) (hand : IsHand f.world n st d') where
   abbrev after : List (Stage × Mine)
   after = set s.hands n (st, d')
 
@@ -74,6 +75,7 @@ module _ (s : Pages Mine) (f : Fits s) (n : ℕ) (st : Stage) (d : Mine) (at : S
     world = f.world;
     good = f.good;
     kept = f.kept;
+    image = f.image;
     opening = f.opening;
     first = f.first;
     moments = f.moments;
@@ -90,6 +92,10 @@ module _ (s : Pages Mine) (f : Fits s) (n : ℕ) (st : Stage) (d : Mine) (at : S
         (λ (z : (k ≡ n) × ((st, d') ≡ (sg, g))). let same : d' ≡ g = ap (λ (u : Stage × Mine). u.1) z.1 in
         ap (λ (u : Mine). u.passes) (sym same) ∙ (passes ∙ (f.counts n st d at (λ none. begun (ap (λ (u : Mine). u.number) (sym same) ∙ (number ∙ none))) ∙ sym (length-set s.hands n (st, d')))))
         (λ (z : (k ≢ n) × (get_elem? s.hands k ≡ some (sg, g))). f.counts k sg g z.1 begun ∙ sym (length-set s.hands n (st, d')))
+        (at_set s.hands n k (st, d') (sg, g) at_k);
+    firsts = λ k sg g at_k. ⊎_elim
+        (λ (z : (k ≡ n) × ((st, d') ≡ (sg, g))). ap (λ (u : Stage × Mine). u.1.first) (sym z.1) ∙ (first ∙ f.firsts n st d at))
+        (λ (z : (k ≢ n) × (get_elem? s.hands k ≡ some (sg, g))). f.firsts k sg g z.1)
         (at_set s.hands n k (st, d') (sg, g) at_k);
     busy = λ p since runs. runs_in p since (f.busy p since runs);
   }
@@ -119,7 +125,7 @@ learns_all l n m d e s st f o at at_m ne =
     let theirs : trail_of (all_noted w.trail) ≡ trail_of e.trail ++ k.begins.0 = whole ∙ k.begins.1 in
     let d' : Mine = record d { trail = all_noted w.trail } in (
       d',
-      knows_more s f n st d at d' refl refl (hand_more w n d (all_noted w.trail) h.begins.0 mine [] (sym (append-nil (trail_of (all_noted w.trail)) ∙ whole)) h.begins.2 tt st h),
+      knows_more s f n st d at d' refl refl refl (hand_more w n d (all_noted w.trail) h.begins.0 mine [] (sym (append-nil (trail_of (all_noted w.trail)) ∙ whole)) h.begins.2 tt st h),
       record {
         learns = record {
           begins = (h.begins.0, mine);
@@ -127,7 +133,8 @@ learns_all l n m d e s st f o at at_m ne =
           none = ap (own n) whole ∙ h.mine;
           none_theirs = ap (own m) whole ∙ k.mine;
         };
-        seen = subst IsSeen (sym whole) (world_seen w f.good f.opening f.first f.moments);
+        first = refl;
+        seen = subst (λ (z : List (Option Page)). IsSeen z (trail_of (all_noted w.trail))) (sym (f.firsts n st d at)) (subst (IsSeen f.image) (sym whole) (world_seen w f.image f.good f.opening f.first f.moments));
         within = subst (λ (z : ℕ). AreWithin z (trail_of (all_noted w.trail))) o.hands (subst (AreWithin (length s.hands)) (sym whole) f.within);
         runs = refl;
       },
@@ -143,9 +150,10 @@ hears_all l n m d e on s st f o at at_m ne =
     let parts = each_parts _ more k.begins.0 (subst (AreElse n) rest h.begins.2) in
     let d' : Mine = record d { trail = e.trail } in (
       d',
-      knows_more s f n st d at d' refl refl (hand_more w n d e.trail more on.1 k.begins.0 k.begins.1 parts.0 parts.1 st h),
+      knows_more s f n st d at d' refl refl refl (hand_more w n d e.trail more on.1 k.begins.0 k.begins.1 parts.0 parts.1 st h),
       record {
         hears = record { is = refl; none = ap (own n) on.1 ∙ own_else n (trail_of d.trail) more parts.0 };
+        first = refl;
         runs = refl;
       },
     )

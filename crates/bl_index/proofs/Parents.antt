@@ -171,7 +171,7 @@ module _ (j : Posting) where
 
 -- what became of a post, from an earlier state of its pass on
 pub over_since : (l : Layout) (j : Posting) (d e : Mine) (h : Seat (Unit {0}) (View Mine)) (t : Option (Posted × Option Hint)) → IsSameProcess d e → IsPostOver l j e h t → IsPostOver l j d h t
-over_since l j d e h (Some t) same over = (over.0, over.1, over.2, over.3, over.4, λ pass old since. over.5 pass old (same pass old since))
+over_since l j d e h (Some t) same over = (over.0, over.1, over.2, over.3, λ pass old since. over.4 pass old (same pass old since))
 over_since l j d e h None same over = (over.0, over.1, same_all d e (known h) same over.2)
 
 pub posted_first : (j : Posting) (pass : ℕ) (old e : Mine) (what : Posted) (hint : Option Hint) → HasPosted pass old e (posting j post.New tt) what hint → (first : Proc) × (work_of first ≡ Some (j.level, j.key)) × HasPosted pass old e first what hint

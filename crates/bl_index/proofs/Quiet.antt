@@ -1,5 +1,5 @@
 -- A process that has ended, and has said nothing of the map.
-use Rattle.std.proofs.Common.{ℕ, ◌≡◌, ◌+◌, Option, Some, None, ap, ◌∙◌, subst, append-nil}
+use Rattle.std.proofs.Common.{ℕ, ◌≡◌, ◌+◌, Option, Some, None, [], ap, ◌∙◌, subst, append-nil}
 use Rattle.bl_model.specs.declared.operation.Reply.{Reply}
 use Rattle.bl_proc.specs.declared.kinds.Proc.{Proc}
 use Rattle.bl_tables.specs.Knowing.{Run, bare as know, end_of_proc}
@@ -9,7 +9,7 @@ use Rattle.bl_passes.specs.Seeing.{own}
 use Rattle.bl_passes.specs.Told.{Finishes}
 use Rattle.bl_index.specs.Calls.{Adds}
 use Rattle.bl_index.specs.Runs.{IsDone}
-use Rattle.bl_index.proofs.Calls.{since_end, since_said}
+use Rattle.bl_index.proofs.Calls.{since_end, since_said, end_seen}
 
 -- the level and the key of a process
 pub first_of : {a b c d : ℕ} → ◌≡◌ {A = Option (ℕ × ℕ)} (Some (a, b)) (Some (c, d)) → a ≡ c
@@ -18,12 +18,12 @@ first_of {a} {b} {c} {d} e = (let both : ◌≡◌ {A = ℕ × ℕ} (a, b) (c, d
 pub second_of : {a b c d : ℕ} → ◌≡◌ {A = Option (ℕ × ℕ)} (Some (a, b)) (Some (c, d)) → b ≡ d
 second_of {a} {b} {c} {d} e = (let both : ◌≡◌ {A = ℕ × ℕ} (a, b) (c, d) = cc in ap (λ (z : ℕ × ℕ). z.1) both)
 
-abbrev pub quiet_adds : (pass : ℕ) (old e : Mine) (first last before : Proc) (d : IsDone pass old e first last) → d.before ≡ before → end_of_proc before ≡ None → ((r : Run) → r.state ≡ before → (know r).said ≡ None) → Adds pass (trail_of old.trail) (trail_of e.trail)
-quiet_adds pass old e first last before d is end silent =
+abbrev pub quiet_adds : (pass : ℕ) (old e : Mine) (first last before : Proc) (d : IsDone pass old e first last) → old.first ≡ [] → d.before ≡ before → end_of_proc before ≡ None → ((r : Run) → r.state ≡ before → (know r).said ≡ None) → Adds pass (trail_of old.trail) (trail_of e.trail)
+quiet_adds pass old e first last before d empty is end silent =
     let told : Finishes None d.d e = subst (λ (z : Option Reply). Finishes z d.d e) (ap end_of_proc is ∙ end) d.told in
     record {
       number = old.number + 1;
       holds = since_end pass None old d.d e d.since told;
-      seen = d.told.notes.seen;
+      seen = (end_seen pass None old d.d e [] d.since told empty).1;
       none = since_said pass None old d.d e None d.since told (λ r h. silent r (h ∙ (d.state ∙ is))) ∙ append-nil (own pass (trail_of old.trail));
     }

@@ -11,7 +11,7 @@ use Rattle.bl_passes.specs.Seeing.{own}
 use Rattle.bl_passes.specs.Told.{Finishes, MayGiveUp}
 use Rattle.bl_index.specs.Calls.{Adds}
 use Rattle.bl_index.specs.Runs.{IsSince}
-use Rattle.bl_index.proofs.Calls.{since_end, since_said}
+use Rattle.bl_index.proofs.Calls.{since_end, since_said, end_seen}
 
 -- it runs, has said nothing, and holds nothing
 pub record IsSilent (k : Know) : Type 0 where
@@ -32,10 +32,10 @@ may_give_up state process is search silent = record {
     here : (r : Run) → r.state ≡ state → IsSilent (know_of r.got r.child r.time r.state)
     here r e = subst (λ (z : Proc). IsSilent (know_of r.got r.child r.time z)) (sym (e ∙ is)) (silent r.got r.child r.time)
 
-abbrev pub gives_up : (pass : ℕ) (old d e : Mine) → IsSince pass old d → MayGiveUp d.state → Finishes None d e → Adds pass (trail_of old.trail) (trail_of e.trail)
-gives_up pass old d e s may t = record {
+abbrev pub gives_up : (pass : ℕ) (old d e : Mine) → old.first ≡ [] → IsSince pass old d → MayGiveUp d.state → Finishes None d e → Adds pass (trail_of old.trail) (trail_of e.trail)
+gives_up pass old d e empty s may t = record {
   number = old.number + 1;
   holds = since_end pass None old d e s t;
-  seen = t.notes.seen;
+  seen = (end_seen pass None old d e [] s t empty).1;
   none = since_said pass None old d e None s t may.silent ∙ append-nil (own pass (trail_of old.trail));
 }

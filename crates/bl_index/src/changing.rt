@@ -9,7 +9,6 @@ ghost use Rattle.bl_ways.specs.declared.answers.Answer.TheVariants as answers;
 ghost use Rattle.bl_courses.specs.Refusals.{IsNoRoom, IsRefused, PutsRefused};
 ghost use Rattle.bl_index.specs.Searching.{IsOpAnswer};
 ghost use Rattle.bl_store.specs.Hands.{known, IsOf, IsIdle, IsRunning, IsSameHand, HasNoStock};
-ghost use Rattle.bl_passes.specs.Noting.{trail_of};
 ghost use Rattle.bl_passes.specs.Told.{IsUnborn};
 ghost use Rattle.bl_passes.specs.declared.known.Mine.{Mine as Knows};
 ghost use Rattle.bl_index.specs.Runs.{IsOn, IsSince, IsDone, IsWithin, HasReserved};

@@ -19,7 +19,6 @@ ghost use Rattle.bl_proc.specs.declared.deleting.DeleteStage.TheVariants as dele
 ghost use Rattle.bl_proc.specs.declared.kinds.Proc.TheVariants as proc;
 ghost use Rattle.bl_store.specs.Hands.{known, read_words, IsOf, IsIdle, IsRunning, IsSameHand, HasNoStock, ReadsFrom, WasRefused};
 ghost use Rattle.bl_passes.specs.declared.known.Mine.{Mine as Knows};
-ghost use Rattle.bl_passes.specs.Noting.{trail_of};
 ghost use Rattle.bl_index.specs.Runs.{IsOn, IsSince, IsWithin};
 ghost use Rattle.bl_index.specs.Events.{IsThere, HasDeleted, HasDeletedBy};
 

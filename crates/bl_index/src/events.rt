@@ -13,7 +13,6 @@ ghost use Rattle.bl_courses.specs.Frames.{op_of, work_of};
 ghost use Rattle.bl_store.specs.Drafts.{IsSpread};
 ghost use Rattle.bl_store.specs.Hands.{known, read_words, IsOf, IsIdle, IsRunning, IsSameHand, IsSameStage, IsSameStock, HasNoStock, IsStockOf, ReadsFrom, WasRefused, IsSameRefusal};
 ghost use Rattle.bl_passes.specs.declared.known.Mine.{Mine as Knows};
-ghost use Rattle.bl_passes.specs.Noting.{trail_of};
 ghost use Rattle.bl_passes.specs.Told.{Goes};
 ghost use Rattle.bl_index.specs.Runs.{IsOn, IsSince, IsWithin, IsDone};
 ghost use Rattle.bl_index.specs.Events.{OpensLast};

@@ -1,6 +1,6 @@
 //! Searches.
 
-ghost use Rattle.std.specs.Prelude.{◌≡◌, None, false, IfOk};
+ghost use Rattle.std.specs.Prelude.{◌≡◌, None, [], false, IfOk, length};
 ghost use Rattle.bl_model.specs.declared.operation.Op.TheVariants as op;
 ghost use Rattle.bl_tables.specs.Knowing.{found_reply};
 ghost use Rattle.bl_store.specs.Hands.{known, IsOf, IsIdle, IsSameHand, IsSameStock};
@@ -60,12 +60,12 @@ impl Index {
     fn find_by(&self, hand: &mut Hand<Mine>, key: u64, turns: u32) -> Result<Reply, OutOfTurns>
         requires own { IsOf self.now.store.table.shared.table_id self.now.store.layout hand.old.seat }
         requires idle { IsIdle hand.old.seat }
-        requires first { (known hand.old.seat).first ≡ [] }
+        requires first { length (known hand.old.seat).first ≡ 0 }
         ensures same { IsSameHand hand.old.seat hand.new.seat × IsSameStock hand.old.seat hand.new.seat }
         ensures idle { IsIdle hand.new.seat }
         ensures within { IsWithin hand.new.seat }
         ensures rests { (known hand.new.seat).runs ≡ false }
-        ensures first { (known hand.new.seat).first ≡ [] }
+        ensures first { length (known hand.new.seat).first ≡ 0 }
         ensures seen { IsSeen [] (trail_of (known hand.new.seat).trail) }
         ensures answers { AnswersOrRunsOut self.now.store.layout.pages hand.old.number turns (op.Find key) result (trail_of (known hand.old.seat).trail) (trail_of (known hand.new.seat).trail) }
     {

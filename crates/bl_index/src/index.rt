@@ -1,6 +1,6 @@
 //! The index, and who works with it.
 
-ghost use Rattle.std.specs.Prelude.{◌≡◌, false};
+ghost use Rattle.std.specs.Prelude.{◌≡◌, [], false, length};
 ghost use Rattle.bl_store.specs.Hands.{known, IsIdle, HasNoStock};
 ghost use Rattle.bl_passes.specs.Noting.{trail_of};
 ghost use Rattle.bl_passes.specs.Seeing.{IsSeen};
@@ -28,7 +28,7 @@ pub struct Pass {
     pub ghost empty: { HasNoStock hand.seat },
     pub ghost within: { IsWithin hand.seat },
     pub ghost rests: { (known hand.seat).runs ≡ false },
-    pub ghost first: { (known hand.seat).first ≡ [] },
+    pub ghost first: { length (known hand.seat).first ≡ 0 },
     pub ghost seen: { ∥ IsSeen [] (trail_of (known hand.seat).trail) ∥₁ },
 }
 

@@ -1,6 +1,6 @@
 //! Parts of the map.
 
-ghost use Rattle.std.specs.Prelude.{◌≡◌, false, IfOk};
+ghost use Rattle.std.specs.Prelude.{◌≡◌, [], false, IfOk, length};
 ghost use Rattle.bl_model.specs.declared.operation.Op.TheVariants as op;
 ghost use Rattle.bl_store.specs.Hands.{known, IsOf, IsIdle, IsSameHand, IsSameStock};
 ghost use Rattle.bl_passes.specs.Noting.{trail_of};
@@ -47,12 +47,12 @@ impl Index {
     fn part_by(&self, hand: &mut Hand<Mine>, from: u64, turns: u32) -> Result<Reply, OutOfTurns>
         requires own { IsOf self.now.store.table.shared.table_id self.now.store.layout hand.old.seat }
         requires idle { IsIdle hand.old.seat }
-        requires first { (known hand.old.seat).first ≡ [] }
+        requires first { length (known hand.old.seat).first ≡ 0 }
         ensures same { IsSameHand hand.old.seat hand.new.seat × IsSameStock hand.old.seat hand.new.seat }
         ensures idle { IsIdle hand.new.seat }
         ensures within { IsWithin hand.new.seat }
         ensures rests { (known hand.new.seat).runs ≡ false }
-        ensures first { (known hand.new.seat).first ≡ [] }
+        ensures first { length (known hand.new.seat).first ≡ 0 }
         ensures seen { IsSeen [] (trail_of (known hand.new.seat).trail) }
         ensures answers { AnswersOrRunsOut self.now.store.layout.pages hand.old.number turns (op.Part from) result (trail_of (known hand.old.seat).trail) (trail_of (known hand.new.seat).trail) }
     {

@@ -1,6 +1,6 @@
 //! A pass learns of another, or is told what another knows.
 
-ghost use Rattle.std.specs.Prelude.{◌≡◌, ℕ, false};
+ghost use Rattle.std.specs.Prelude.{◌≡◌, ℕ, [], false};
 ghost use Rattle.bl_store.specs.Hands.{known, IsOf, IsIdle, HasNoStock, IsSameHand, IsSameStage, IsSameStock};
 ghost use Rattle.bl_passes.specs.Noting.{trail_of};
 ghost use Rattle.bl_passes.specs.Seeing.{GoesOnFrom};

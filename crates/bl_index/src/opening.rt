@@ -8,7 +8,7 @@ use crate::config::{Config, OpenFault};
 use crate::index::{Index, Pass};
 use arrayvec::ArrayVec;
 use bl_page::{Anchor, Leaf, Page};
-use bl_passes::{Mine, Passes};
+use bl_passes::{Beginning, Mine, Passes};
 use bl_proc::{Find, FindStage, Proc};
 use bl_store::{Hand, Store};
 use std::alloc::{AllocError, Global};
@@ -71,6 +71,7 @@ fn newcomer(alloc: Global) -> Mine
             key: 0,
             stage: FindStage::New,
         }),
+        first: Beginning::of(&Vec::new(alloc)),
         past: LinkedList::new(alloc),
         trail: LinkedList::new(alloc),
     }

@@ -19,7 +19,6 @@ ghost use Rattle.bl_proc.specs.Processes.{Takes};
 ghost use Rattle.bl_courses.specs.Frames.{work_of};
 ghost use Rattle.bl_store.specs.Hands.{known, read_words, IsOf, IsIdle, IsRunning, IsSameHand, IsSameStage, IsSameStock, HasNoStock, ReadsFrom};
 ghost use Rattle.bl_passes.specs.declared.known.Mine.{Mine as Knows};
-ghost use Rattle.bl_passes.specs.Noting.{trail_of};
 ghost use Rattle.bl_index.specs.Runs.{IsOn, IsSince, IsWithin};
 ghost use Rattle.bl_index.specs.Events.{posting, IsThere, IsToEnter, IsWalking, HasWalked, HasPosted, IsPostOver, IsSameProcess};
 ghost use Rattle.bl_index.specs.Searching.{IsPostAnswer};

@@ -1,6 +1,6 @@
 //! Sweeps.
 
-ghost use Rattle.std.specs.Prelude.{◌≡◌, ℕ, ◌+◌, ◌≤◌, false};
+ghost use Rattle.std.specs.Prelude.{◌≡◌, ℕ, [], ◌+◌, ◌≤◌, false};
 ghost use Rattle.bl_store.specs.Hands.{known, IsOf, IsSameHand, IsSameStage, IsSameStock};
 ghost use Rattle.bl_passes.specs.Told.{sweeps};
 ghost use Rattle.bl_index.specs.Runs.{IsWithin};

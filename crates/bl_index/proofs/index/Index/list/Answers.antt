@@ -27,7 +27,6 @@ returns-clause-over c =
       (c.conclude.ensures.idle, c.conclude.ensures.same.1.0 ∙ c.enter_page-outcome.ensures.empty),
       c.conclude.ensures.within,
       c.conclude.ensures.rests,
-      c.conclude.ensures.seen,
       (λ none. lacks_on c.enter_page-outcome.new.hand.seat c.conclude.new.hand.seat c.conclude.ensures.refusal (c.enter_page-outcome.ensures.asked (reply_refused o (sym c.reply_by.ensures ∙ c.posted_by.ensures.no_room none)))),
       λ pass old since. record {
         last = record { level = j.level; key = j.key; stage = post.Over (post_reply o); least = j.least; most = j.most; below = may_reply j o below };

@@ -40,7 +40,6 @@ returns-clause-over g c =
       c.carry_on-process.ensures.idle,
       c.carry_on-process.ensures.within,
       c.carry_on-process.ensures.rests,
-      c.carry_on-process.ensures.seen,
       (λ none. lacks_asked c.carry_on-process.new.hand.seat c.carry_on-process.result (c.carry_on-process.ensures.no_room _ (sym c.answer.ensures ∙ c.posted.ensures) (subst (λ (z : Posted). IsNoRoom (answer.Post z c.posted.result.1)) (sym none) tt))),
       λ pass old begun.
           let since = subst (λ (h : Hand Mine). IsSince pass old (known h.seat)) (sym c.took_words.ensures.same) begun in

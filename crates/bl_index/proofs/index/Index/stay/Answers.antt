@@ -20,7 +20,6 @@ returns-clause-over c =
       (c.conclude.ensures.idle, c.conclude.ensures.same.1.0 ∙ c.requires.running.1),
       c.conclude.ensures.within,
       c.conclude.ensures.rests,
-      c.conclude.ensures.seen,
       (λ none. absurd (c.requires.reply (c.posted_by.ensures.no_room none))),
       λ pass old since. record {
         last = record { level = j.level; key = j.key; stage = post.Over r; least = j.least; most = j.most; below = below };

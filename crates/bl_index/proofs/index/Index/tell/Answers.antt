@@ -1,4 +1,4 @@
-use Rattle.std.proofs.Common.{sym, ap, subst, ◌∙◌}
+use Rattle.std.proofs.Common.{[], length, sym, ap, subst, ◌∙◌}
 use Rattle.bl_layout.specs.declared.layout.Layout.{Layout}
 use Rattle.bl_trails.specs.Trails.{Trail}
 use Rattle.bl_passes.specs.declared.known.Mine.{Mine}
@@ -12,7 +12,8 @@ invariant_of-pass c = let e = c.tell_by.ensures in record {
   empty = e.same.2.0 ∙ c.args.pass.now.empty;
   within = subst (λ (z : Layout × Trail). AreWithin z.0.passes z.1) (λ i. ((c.requires.own.1.1 ∙ sym (e.same.0.1 ∙ c.requires.own.0.1)) i, sym e.told.hears.is i)) c.args.other.now.within;
   rests = e.told.runs ∙ c.args.pass.now.rests;
-  seen = subst (λ (z : Trail). ∥ IsSeen z ∥₁) (sym e.told.hears.is) c.args.other.now.seen;
+  first = ap length e.told.first ∙ c.args.pass.now.first;
+  seen = subst (λ (z : Trail). ∥ IsSeen [] z ∥₁) (sym e.told.hears.is) c.args.other.now.seen;
 }
 
 pub invariant_of-other : goal.invariant_of-other
@@ -21,7 +22,8 @@ invariant_of-other c = let e = c.tell_by.ensures in record {
   empty = e.other.2;
   within = subst (λ (z : Layout × Mine). AreWithin z.0.passes (trail_of z.1.trail)) (λ i. (sym e.other.0.1 i, sym e.other.3 i)) c.args.other.now.within;
   rests = ap (λ (z : Mine). z.runs) e.other.3 ∙ c.args.other.now.rests;
-  seen = subst (λ (z : Mine). ∥ IsSeen (trail_of z.trail) ∥₁) (sym e.other.3) c.args.other.now.seen;
+  first = ap (λ (z : Mine). length z.first) e.other.3 ∙ c.args.other.now.first;
+  seen = subst (λ (z : Mine). ∥ IsSeen [] (trail_of z.trail) ∥₁) (sym e.other.3) c.args.other.now.seen;
 }
 
 pub returns-clause-hears : goal.returns-clause-hears
