@@ -58,13 +58,13 @@ pub no_progress : (old : Trail) → Progress old old (record { requests = 0; mal
 no_progress old = record { sections = []; more = []; begins = sym (append-nil old); each = All-nil IsFinished; history = refl; read = refl; written = refl; requests = refl; malformed = refl; finished = refl }
 
 -- a history goes on lawfully behind the one that was seen
-legal_on : (old now more : Trail) (h : List Entry) → IsSeen (now ++ more) → (begun : Trail) → now ≡ old ++ begun → history_of begun ≡ h → IsLegalFrom (map_after old) (h ++ history_of more)
+legal_on : (old now more : Trail) (h : List Entry) → IsSeen [] (now ++ more) → (begun : Trail) → now ≡ old ++ begun → history_of begun ≡ h → IsLegalFrom (map_after old) (h ++ history_of more)
 legal_on old now more h seen begun is same =
     subst (λ (z : List Entry). IsLegalFrom (map_after old) (z ++ history_of more)) same
     (legal_rest empty (history_of old) (history_of begun ++ history_of more)
     (subst (IsLegalFrom empty) (history_append now more ∙ (ap (λ (z : Trail). history_of z ++ history_of more) is ∙ (ap (λ (z : List Entry). z ++ history_of more) (history_append old begun) ∙ append_assoc (history_of old) (history_of begun) (history_of more)))) seen.linear.legal))
 
-legal_so_far : (old now : Trail) (h : List Entry) → IsSeen now → (begun : Trail) → now ≡ old ++ begun → history_of begun ≡ h → IsLegalFrom (map_after old) h
+legal_so_far : (old now : Trail) (h : List Entry) → IsSeen [] now → (begun : Trail) → now ≡ old ++ begun → history_of begun ≡ h → IsLegalFrom (map_after old) h
 legal_so_far old now h seen begun is same = subst (IsLegalFrom (map_after old)) same
     (legal_rest empty (history_of old) (history_of begun) (subst (IsLegalFrom empty) (ap history_of is ∙ history_append old begun) seen.linear.legal))
 
@@ -144,7 +144,7 @@ open_text s lines rest text tail n k e long is ends = ap (λ (z : List ℕ). z +
     ∙ (ap (λ (z : ℕ). output_of (suc z) lines ++ rest_text (n + k + 1) rest) e ∙ ap (λ (z : ℕ). output_of (suc (length (lines_of s))) lines ++ rest_text z rest) (numbers_more s lines n k e long)))
 
 pub serves_end : (old now : Trail) (before totals : Totals) (input output unread left text rest : List ℕ) (asked : List (Option Request)) (more : Trail) (end : SectionEnd)
-    → Progress old now before input output → ReadsLines unread left asked rest → AsksNoSync asked → Held before.requests asked text more → CountsSection before totals asked end → Ends end rest → IsSeen (now ++ more)
+    → Progress old now before input output → ReadsLines unread left asked rest → AsksNoSync asked → Held before.requests asked text more → CountsSection before totals asked end → Ends end rest → IsSeen [] (now ++ more)
     → (consumed : List ℕ) × (unread ≡ consumed ++ left) × (length asked + length rest ≤ length consumed) × ServedBy old (now ++ more) (input ++ consumed) (output ++ (text ++ end_text end (before.requests + length asked + 1))) totals
 serves_end old now before totals input output unread left text rest asked more end p r no_sync h counts ends seen =
     let lines : List Line = the_lines unread left asked rest r before.requests text more h in
@@ -187,7 +187,7 @@ serves_end old now before totals input output unread left text rest asked more e
 -- ---- faults
 
 -- in the open section: nothing of it is written
-pub stops_inside : (old now : Trail) (before : Totals) (input output ahead : List ℕ) (fault : ServeFault) (ReaderFailed WriterFailed : Type 0) → Progress old now before input output → IsSeen now
+pub stops_inside : (old now : Trail) (before : Totals) (input output ahead : List ℕ) (fault : ServeFault) (ReaderFailed WriterFailed : Type 0) → Progress old now before input output → IsSeen [] now
     → Leaves fault [] ahead [] → ComesFrom fault ReaderFailed WriterFailed → Stops (map_after old) (input ++ ahead) output fault ReaderFailed WriterFailed
 stops_inside old now before input output ahead fault ReaderFailed WriterFailed p seen leaves comes = (
   record {
@@ -249,7 +249,7 @@ stopped old now before input output unread left rest begun unwritten fault p las
 }
 
 -- a read failed. The lines of the open section were not answered; they could have been so.
-pub stops_reading : (old now : Trail) (before : Totals) (input output unread left rest : List ℕ) (asked : List (Option Request)) (ReaderFailed WriterFailed : Type 0) → Progress old now before input output → IsSeen now
+pub stops_reading : (old now : Trail) (before : Totals) (input output unread left rest : List ℕ) (asked : List (Option Request)) (ReaderFailed WriterFailed : Type 0) → Progress old now before input output → IsSeen [] now
     → ReadsLines unread left asked rest → AsksNoSync asked → left ≡ [] → ReaderFailed → Stops (map_after old) (input ++ unread) output Read ReaderFailed WriterFailed
 stops_reading old now before input output unread left rest asked ReaderFailed WriterFailed p seen r no_sync none failed =
     let s = p.sections in
@@ -269,7 +269,7 @@ stops_reading old now before input output unread left rest asked ReaderFailed Wr
 
 -- a write of the section's output failed
 pub stops_writing : (old now : Trail) (before : Totals) (input output unread left text rest out unwritten : List ℕ) (asked : List (Option Request)) (more : Trail) (end : SectionEnd) (ReaderFailed WriterFailed : Type 0)
-    → Progress old now before input output → (r : ReadsLines unread left asked rest) → (h : Held before.requests asked text more) → HasNoSyncInside (lines_with r.texts h.answers) → ((n : ℕ) → end_text end n ≡ rest_text n rest) → IsSeen (now ++ more)
+    → Progress old now before input output → (r : ReadsLines unread left asked rest) → (h : Held before.requests asked text more) → HasNoSyncInside (lines_with r.texts h.answers) → ((n : ℕ) → end_text end n ≡ rest_text n rest) → IsSeen [] (now ++ more)
     → text ++ end_text end (before.requests + length asked + 1) ≡ out ++ unwritten → WriterFailed → Stops (map_after old) (input ++ unread) (output ++ out) Write ReaderFailed WriterFailed
 stops_writing old now before input output unread left text rest out unwritten asked more end ReaderFailed WriterFailed p r h inside prints seen split failed =
     let s = p.sections in let lines : List Line = the_lines unread left asked rest r before.requests text more h in

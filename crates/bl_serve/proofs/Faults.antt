@@ -43,7 +43,7 @@ few_syncs section_end.Finished n low = omega arith
 -- ---- faults
 
 -- the section could not be read whole
-pub stops_at_read : (fault : ServeFault) (old now : Trail) (before : Totals) (input output unread left rest : List ℕ) (asked : List (Option Request)) (most : ℕ) (AtEnd ReaderFailed WriterFailed : Type 0) → Progress old now before input output → IsSeen now
+pub stops_at_read : (fault : ServeFault) (old now : Trail) (before : Totals) (input output unread left rest : List ℕ) (asked : List (Option Request)) (most : ℕ) (AtEnd ReaderFailed WriterFailed : Type 0) → Progress old now before input output → IsSeen [] now
     → EndsReading (Err fault) most asked rest unread left AtEnd ReaderFailed → Stops (map_after old) (input ++ unread) output fault ReaderFailed WriterFailed
 stops_at_read Read old now before input output unread left rest asked most AtEnd ReaderFailed WriterFailed p seen e = stops_reading old now before input output unread left rest asked ReaderFailed WriterFailed p seen e.0 e.1 e.2 e.3
 stops_at_read Write old now before input output unread left rest asked most AtEnd ReaderFailed WriterFailed p seen e = absurd e
@@ -51,7 +51,7 @@ stops_at_read Memory old now before input output unread left rest asked most AtE
 stops_at_read (Lost number) old now before input output unread left rest asked most AtEnd ReaderFailed WriterFailed p seen e = absurd e
 
 -- it could not be answered
-pub stops_at_answers : (fault : ServeFault) (old now : Trail) (before : Totals) (input output ahead : List ℕ) (ReaderFailed WriterFailed : Type 0) → Progress old now before input output → IsSeen now → IsInside fault → Stops (map_after old) (input ++ ahead) output fault ReaderFailed WriterFailed
+pub stops_at_answers : (fault : ServeFault) (old now : Trail) (before : Totals) (input output ahead : List ℕ) (ReaderFailed WriterFailed : Type 0) → Progress old now before input output → IsSeen [] now → IsInside fault → Stops (map_after old) (input ++ ahead) output fault ReaderFailed WriterFailed
 stops_at_answers Read old now before input output ahead ReaderFailed WriterFailed p seen inside = absurd inside
 stops_at_answers Write old now before input output ahead ReaderFailed WriterFailed p seen inside = absurd inside
 stops_at_answers Memory old now before input output ahead ReaderFailed WriterFailed p seen inside = stops_inside old now before input output ahead Memory ReaderFailed WriterFailed p seen refl tt
@@ -154,12 +154,12 @@ module _ (index : Index) (seen : Trail) (before : Totals) (asked : List (Option 
 
 -- ---- as many sections as there are numbers
 
-pub serves_no_more : (old now : Trail) (totals : Totals) (input output left : List ℕ) (AtEnd : Type 0) → Progress old now totals input output → IsSeen now → 2 ^ 64 - 1 ≤ totals.requests → AtLast old now input output left left [] totals AtEnd
+pub serves_no_more : (old now : Trail) (totals : Totals) (input output left : List ℕ) (AtEnd : Type 0) → Progress old now totals input output → IsSeen [] now → 2 ^ 64 - 1 ≤ totals.requests → AtLast old now input output left left [] totals AtEnd
 serves_no_more old now totals input output left AtEnd p seen many =
     let none : Held totals.requests [] [] [] = record { answers = []; each = tt; prints = refl; interleaves = All-nil (λ (list : List Entry). list ≡ []) } in
     let r : ReadsLines left left [] [] = record { texts = []; each = tt; cut = All-nil (λ b. b ≢ 10); read = refl } in
     let counts : CountsSection totals totals [] section_end.Finished = record { requests = omega arith; malformed = omega arith; sections = omega arith } in
-    let v = serves_end old now totals totals input output left left [] [] [] [] section_end.Finished p r asks_none none counts (ends_finished [] refl) (subst IsSeen (sym (append-nil now)) seen) in record {
+    let v = serves_end old now totals totals input output left left [] [] [] [] section_end.Finished p r asks_none none counts (ends_finished [] refl) (subst IsSeen [] (sym (append-nil now)) seen) in record {
       consumed = v.0;
       read = v.1;
       served = subst (λ (z : Trail). ServedBy old z (input ++ v.0) (output ++ []) totals) (append-nil now) v.3;

@@ -42,9 +42,9 @@ together_by_first index seen passes some t = subst (λ (z : Trail). AreTogether 
 
 -- ---- the passes meet
 
-all_seen : (index : Index) (old : Trail) (from : ℕ) (taken : List Taken) → IsSeen old → AreFrom index old from (olds_of taken) → All IsTaken taken → All (λ p. IsSeen (trail p)) (news_of taken)
-all_seen index old from [] seen h each = All-nil (λ (p : Pass). IsSeen (trail p))
-all_seen index old from (t ∷ ts) seen h each = All-cons (λ (p : Pass). IsSeen (trail p)) t.new (news_of ts) ((All-head IsTaken t ts each).seen (subst IsSeen (sym h.2) seen)) (all_seen index old (suc from) ts seen h.3 (All-tail IsTaken t ts each))
+all_seen : (index : Index) (old : Trail) (from : ℕ) (taken : List Taken) → IsSeen [] old → AreFrom index old from (olds_of taken) → All IsTaken taken → All (λ p. IsSeen [] (trail p)) (news_of taken)
+all_seen index old from [] seen h each = All-nil (λ (p : Pass). IsSeen [] (trail p))
+all_seen index old from (t ∷ ts) seen h each = All-cons (λ (p : Pass). IsSeen [] (trail p)) t.new (news_of ts) ((All-head IsTaken t ts each).seen (subst IsSeen [] (sym h.2) seen)) (all_seen index old (suc from) ts seen h.3 (All-tail IsTaken t ts each))
 
 come_from : (index : Index) (old now : Trail) (from : ℕ) (taken : List Taken) (met : List Pass) → AreFrom index old from (olds_of taken) → All IsTaken taken → AllZip (Comes now) (news_of taken) met → AreFrom index now from met × FitsFrom old now from taken
 come_from index old now from [] [] h each come = (tt, tt)
@@ -81,7 +81,7 @@ holds index done lines text olds news met some t r m =
     let count : length r.taken ≡ length olds = sym (length-map r.taken (λ (x : Taken). x.old)) ∙ ap length r.old_are in
     let long : length met ≡ length olds = zip_long (Comes m.seen) (news_of r.taken) met come ∙ (length-map r.taken (λ (x : Taken). x.new) ∙ count) in
     let parts = come_from index old m.seen 0 r.taken met each r.each_taken come in
-    let seen : IsSeen m.seen = m.may_be (subst (All (λ (p : Pass). IsSeen (trail p))) r.new_are (all_seen index old 0 r.taken t.may_be each r.each_taken)) in
+    let seen : IsSeen [] m.seen = m.may_be (subst (All (λ (p : Pass). IsSeen [] (trail p))) r.new_are (all_seen index old 0 r.taken t.may_be each r.each_taken)) in
     let on : GoesOnFrom old m.seen = goes_to index old m.seen 0 r.taken met (omega (arith, count)) each r.each_taken come in
     let within : AreWithin (length r.taken) m.seen = subst (λ (z : ℕ). AreWithin z m.seen) (sym (count ∙ t.count)) (all_within index m.seen 0 met (omega (arith, long)) parts.0) in
     let s = section (suc done) lines text olds news old m.seen r on seen within parts.1 in record {

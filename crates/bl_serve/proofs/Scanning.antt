@@ -53,7 +53,7 @@ pub record Goes (pass low at high : ℕ) (before after : List ℕ) (old new : Tr
   pub on : (more : List Entry) → AreParts (Some at) high more → AreParts (Some low) high (parts ++ more)
   pub prints : after ≡ before ++ flat_map row_text (rows_below high (flat_map (λ entry. rows_of entry.reply) parts))
   pub begins : GoesOnFrom old new
-  pub seen : IsSeen old → IsSeen new
+  pub seen : IsSeen [] old → IsSeen [] new
   pub mine : own pass new ≡ own pass old ++ parts
 
 pub goes_none : (pass low high : ℕ) (text : List ℕ) (old : Trail) → Goes pass low low high text text old old

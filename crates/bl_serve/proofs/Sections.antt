@@ -70,7 +70,7 @@ pub record GoesOnBy (old new : Trail) (answers : List Answer) : Type 0 where
   pub interleaves : Interleaves (map entries answers) (history_of more)
   pub legal : IsLegalFrom empty (history_of new)
 
-pub section : (first : ℕ) (lines : List (Option Request)) (text : List ℕ) (olds news : List _) (old new : Trail) (r : IsRound first lines text olds news) → GoesOnFrom old new → IsSeen new → AreWithin (length r.taken) new → FitsFrom old new 0 r.taken → GoesOnBy old new r.answers
+pub section : (first : ℕ) (lines : List (Option Request)) (text : List ℕ) (olds news : List _) (old new : Trail) (r : IsRound first lines text olds news) → GoesOnFrom old new → IsSeen [] new → AreWithin (length r.taken) new → FitsFrom old new 0 r.taken → GoesOnBy old new r.answers
 section first lines text olds news old new r on seen within fits =
     let more : Trail = on.0 in
     let below = all_below (length r.taken) more (within_rest (length r.taken) old more (subst (AreWithin (length r.taken)) on.1 within)) in

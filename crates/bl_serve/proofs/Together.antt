@@ -61,7 +61,7 @@ pub record LearnsUpTo (first first' : Pass) (others others' : List Pass) (i : �
   pub same : IsSamePass first first'
   pub begins : GoesOnFrom (trail first) (trail first')
   pub none : own (number_of first) (trail first') ≡ own (number_of first) (trail first)
-  pub may_be : IsSeen (trail first) → IsSeen (trail first')
+  pub may_be : IsSeen [] (trail first) → IsSeen [] (trail first')
   pub kept : AllZip Keeps others others'
   pub known : All (Knows first') (take i others')
 
@@ -69,7 +69,7 @@ pub learns_none : (first : Pass) (others : List Pass) → LearnsUpTo first first
 learns_none first others = record { same = (refl, refl, refl); begins = stays (trail first); none = refl; may_be = λ h. h; kept = keeps_all others; known = All-nil (Knows first) }
 
 pub learns_one : (first mid new d other other' : Pass) (others now : List Pass) (i : ℕ) → LearnsUpTo first mid others now i → i < length now → other ≡ get_or now i d
-    → IsSamePass mid new → IsSamePass other other' × (trail other' ≡ trail other) → Learns (number_of mid) (number_of other) (trail mid) (trail other) (trail new) → IsSeen (trail new)
+    → IsSamePass mid new → IsSamePass other other' × (trail other' ≡ trail other) → Learns (number_of mid) (number_of other) (trail mid) (trail other) (trail new) → IsSeen [] (trail new)
     → LearnsUpTo first new others (set now i other') (i + 1)
 learns_one first mid new d other other' others now i l low at same keeps learns seen = record {
   same = same_again first mid new l.same same;

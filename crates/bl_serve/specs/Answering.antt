@@ -40,7 +40,7 @@ pub record WritesRows (pass low high : ℕ) (before after : List ℕ) (old new :
   pub are_parts : AreParts (Some low) high parts
   pub prints : after ≡ before ++ flat_map row_text (rows_below high (flat_map (λ entry. rows_of entry.reply) parts))
   pub begins : GoesOnFrom old new
-  pub seen : IsSeen old → IsSeen new
+  pub seen : IsSeen [] old → IsSeen [] new
   pub mine : own pass new ≡ own pass old ++ parts
 
 -- The line of that number was answered, and its answer was written: the new entries of the pass are those of the answer.
@@ -49,7 +49,7 @@ pub record AnswersLine (pass number : ℕ) (asked : Option Request) (before afte
   pub is_for : IsFor asked answer
   pub prints : after ≡ before ++ numbered number (answer_text answer)
   pub begins : GoesOnFrom old new
-  pub seen : IsSeen old → IsSeen new
+  pub seen : IsSeen [] old → IsSeen [] new
   pub mine : own pass new ≡ own pass old ++ entries answer
 
 -- The lines were answered one after another, and the text prints the answers, numbered from the first one on.
@@ -58,5 +58,5 @@ pub record AnswersLines (pass first : ℕ) (lines : List (Option Request)) (text
   pub each : AllZip IsFor lines answers
   pub prints : text ≡ answers_text first answers
   pub begins : GoesOnFrom old new
-  pub seen : IsSeen old → IsSeen new
+  pub seen : IsSeen [] old → IsSeen [] new
   pub mine : own pass new ≡ own pass old ++ flat_map entries answers

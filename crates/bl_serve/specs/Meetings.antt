@@ -1,5 +1,5 @@
 -- All passes meet.
-use Rattle.std.specs.Prelude.{◌≡◌, List, All}
+use Rattle.std.specs.Prelude.{[], ◌≡◌, List, All}
 use Rattle.std.specs.List.{AllZip}
 use Rattle.bl_index.specs.declared.index.Pass.{Pass}
 use Rattle.bl_trails.specs.Trails.{Trail}
@@ -22,7 +22,7 @@ pub record LearnsAll (first first' : Pass) (others others' : List Pass) : Type 0
   pub same : IsSamePass first first'
   pub begins : GoesOnFrom (trail first) (trail first')
   pub none : own (number_of first) (trail first') ≡ own (number_of first) (trail first)
-  pub may_be : IsSeen (trail first) → IsSeen (trail first')
+  pub may_be : IsSeen [] (trail first) → IsSeen [] (trail first')
   pub kept : AllZip Keeps others others'
   pub known : All (λ p. GoesOnFrom (trail p) (trail first')) others'
 
@@ -30,4 +30,4 @@ pub record LearnsAll (first first' : Pass) (others others' : List Pass) : Type 0
 pub record AllMeet (old new : List Pass) : Type 0 where
   pub seen : Trail
   pub each : AllZip (Comes seen) old new
-  pub may_be : All (λ p. IsSeen (trail p)) old → IsSeen seen
+  pub may_be : All (λ p. IsSeen [] (trail p)) old → IsSeen [] seen

@@ -1,5 +1,5 @@
 -- A section that was answered.
-use Rattle.std.specs.Prelude.{◌≡◌, ℕ, ◌++◌, List, All, Option, flat_map, map, Result, Ok}
+use Rattle.std.specs.Prelude.{[], ◌≡◌, ℕ, ◌++◌, List, All, Option, flat_map, map, Result, Ok}
 use Rattle.std.specs.List.{AllZip}
 use Rattle.std.specs.declared.alloc.AllocError.{AllocError}
 use Rattle.bl_model.specs.declared.operation.Entry.{Entry}
@@ -23,7 +23,7 @@ pub record Taken : Type 0 where
 pub record IsTaken (t : Taken) : Type 0 where
   pub same : IsSamePass t.old t.new
   pub begins : GoesOnFrom (trail t.old) (trail t.new)
-  pub seen : IsSeen (trail t.old) → IsSeen (trail t.new)
+  pub seen : IsSeen [] (trail t.old) → IsSeen [] (trail t.new)
   pub mine : own (number_of t.old) (trail t.new) ≡ own (number_of t.old) (trail t.old) ++ flat_map (λ list. list) t.share
 
 -- A history that interleaves the entries of all batches interleaves those of the answers.

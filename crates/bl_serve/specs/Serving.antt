@@ -22,7 +22,7 @@ AreFrom index seen from (pass ∷ passes) = IsPassOf index pass × (number_of pa
 pub record AreTogether (index : Index) (seen : Trail) (passes : List Pass) : Type 0 where
   pub count : length passes ≡ passes_of index
   pub each : AreFrom index seen 0 passes
-  pub may_be : IsSeen seen
+  pub may_be : IsSeen [] seen
 
 -- what the first pass has seen
 abbrev pub seen_by : List Pass → Trail

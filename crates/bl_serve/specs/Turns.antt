@@ -33,7 +33,7 @@ pub record Logs (first : ℕ) (lines : List (Option Request)) (pass : ℕ) (old 
   pub log : log_new ≡ log_old ++ map (λ p. p.written) pieces
   pub each : All (IsPiece first lines) pieces
   pub begins : GoesOnFrom old new
-  pub seen : IsSeen old → IsSeen new
+  pub seen : IsSeen [] old → IsSeen [] new
   pub mine : own pass new ≡ own pass old ++ flat_map (λ p. flat_map entries p.answers) pieces
 
 -- The pass comes back with the log of what its thread wrote.

@@ -9,11 +9,11 @@ use Rattle.bl_passes.specs.Seeing.{IsSeen, own, GoesOnFrom}
 -- pass is this operation with this reply.
 pub record Works (pass : ℕ) (op : Op) (reply : Reply) (old new : Trail) : Type 0 where
   pub begins : GoesOnFrom old new
-  pub seen : IsSeen new
+  pub seen : IsSeen [] new
   pub once : own pass new ≡ own pass old ++ record { pass = pass; op = op; reply = reply } ∷ []
 
 -- The same of what adds no entry.
 pub record Adds (pass : ℕ) (old new : Trail) : Type 0 where
   pub begins : GoesOnFrom old new
-  pub seen : IsSeen old → IsSeen new
+  pub seen : IsSeen [] old → IsSeen [] new
   pub none : own pass new ≡ own pass old
