@@ -4,6 +4,7 @@ use Rattle.std.proofs.lemmas.List.{length-append}
 use mathlib.Core.Option.{some}
 use lib.ListN.{get_elem?}
 use Rattle.atomic_table.proofs.Lists.{at_last, at_longer}
+use Rattle.bl_store.specs.Hands.{known, IsSameHand}
 use Rattle.bl_index.specs.declared.config.Config.{Config}
 use Rattle.bl_index.specs.declared.index.Index.{Index}
 use Rattle.bl_index.specs.declared.index.Pass.{Pass}
@@ -25,7 +26,11 @@ only_pass config index passes rest pass o one e =
     (is.0, is.1 ∙ none, is.2)
 
 pub same_of : (index : Index) (old new : Pass) → IsSamePass old new → IsPassOf index old → IsPassOf index new
-same_of index old new same of = (same.0 ∙ of.0, same.1 ∙ of.1)
+same_of index old new same of = (same.0 ∙ of.0, same.1 ∙ of.1, same.3 ∙ of.2)
+
+-- the pass has gone on with the same hand, and knows the same beginning
+pub same_pass : (old new : Pass) → IsSameHand old.hand.seat new.hand.seat → (known new.hand.seat).first ≡ (known old.hand.seat).first → IsSamePass old new
+same_pass old new same first = (same.0, same.1, new.hand.own.0 ∙ (same.2 ∙ sym old.hand.own.0), first)
 
 there : (l : List Pass) (i : ℕ) (d : Pass) → i < length l → get_elem? l i ≡ some (get_or l i d)
 there [] i d h = absurd (omega arith)
