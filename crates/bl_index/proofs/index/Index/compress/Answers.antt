@@ -21,7 +21,7 @@ pub returns-clause-no_room : goal.returns-clause-no_room
 returns-clause-no_room g c = λ none. lacks_three c.carry_out-process.new.hand.seat c.carry_out-process.result (c.carry_out-process.ensures.no_room _ (sym c.answer.ensures ∙ c.squeezed.ensures) (subst (λ (z : Squeezed). IsNoRoom (answer.Compress z c.squeezed.result.1)) (sym none) tt))
 
 pub returns-clause-same : goal.returns-clause-same
-returns-clause-same g c = let e = c.carry_out-process.ensures in same_pass _ _ e.same (done_first _ _ _ _ _ e.done)
+returns-clause-same g c = let e = c.carry_out-process.ensures in same_pass c.args.pass.now.hand c.carry_out-process.new.hand e.same (done_first _ _ _ _ _ e.done)
 
 pub invariant_of-pass : goal.invariant_of-pass
 invariant_of-pass g c = let e = c.carry_out-process.ensures in record { idle = e.idle.0; empty = e.idle.1; within = e.within; rests = e.rests; seen = ∣ e.done.told.notes.seen ∣₁ }

@@ -33,7 +33,7 @@ pub returns-clause-seen : goal.returns-clause-seen
 returns-clause-seen c = let e = c.learn_by.ensures in subst (λ (z : List (Option Page)). IsSeen z (trail_of (known c.learn_by.new.hand.seat).trail)) (e.told.first ∙ c.requires.own.0.2) e.told.seen
 
 pub returns-clause-same : goal.returns-clause-same
-returns-clause-same c = same_pass _ _ c.learn_by.ensures.same.0 c.learn_by.ensures.told.first
+returns-clause-same c = same_pass c.args.pass.now.hand c.learn_by.new.hand c.learn_by.ensures.same.0 c.learn_by.ensures.told.first
 
 pub returns-clause-other : goal.returns-clause-other
-returns-clause-other c = let e = c.learn_by.ensures in (same_pass _ _ e.other.0 (ap (λ (z : Mine). z.first) e.other.3), ap (λ (z : Mine). trail_of z.trail) e.other.3)
+returns-clause-other c = let e = c.learn_by.ensures in (same_pass c.args.other.now.hand c.learn_by.new.other e.other.0 (ap (λ (z : Mine). z.first) e.other.3), ap (λ (z : Mine). trail_of z.trail) e.other.3)

@@ -11,7 +11,7 @@ pub returns-clause-sweeps : goal.returns-clause-sweeps
 returns-clause-sweeps c = sweep_tells _ _ _ _ _ _ _ _ c.requires.2 refl c.release.ensures.told.1 c.release.ensures.told.2
 
 pub returns-clause-same : goal.returns-clause-same
-returns-clause-same c = let p = c.args.pass.now in same_pass _ _ c.release.ensures.same.0 (swept_seen _ _ _ _ _ _ p.seen p.rests c.release.ensures.told.2).0
+returns-clause-same c = let p = c.args.pass.now in same_pass c.args.pass.now.hand c.release.new.hand c.release.ensures.same.0 (swept_seen _ _ _ _ _ _ p.seen p.rests c.release.ensures.told.2).0
 
 pub returns-clause-seen : goal.returns-clause-seen
 returns-clause-seen c =

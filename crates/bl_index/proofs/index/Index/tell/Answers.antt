@@ -30,7 +30,7 @@ pub returns-clause-hears : goal.returns-clause-hears
 returns-clause-hears c = c.tell_by.ensures.told.hears
 
 pub returns-clause-same : goal.returns-clause-same
-returns-clause-same c = same_pass _ _ c.tell_by.ensures.same.0 c.tell_by.ensures.told.first
+returns-clause-same c = same_pass c.args.pass.now.hand c.tell_by.new.hand c.tell_by.ensures.same.0 c.tell_by.ensures.told.first
 
 pub returns-clause-other : goal.returns-clause-other
-returns-clause-other c = let e = c.tell_by.ensures in (same_pass _ _ e.other.0 (ap (λ (z : Mine). z.first) e.other.3), ap (λ (z : Mine). trail_of z.trail) e.other.3)
+returns-clause-other c = let e = c.tell_by.ensures in (same_pass c.args.other.now.hand c.tell_by.new.other e.other.0 (ap (λ (z : Mine). z.first) e.other.3), ap (λ (z : Mine). trail_of z.trail) e.other.3)
