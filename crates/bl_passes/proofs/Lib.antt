@@ -14,3 +14,4 @@ pub mod Pages
 pub mod Bounds
 pub mod Releasing
 pub mod Starts
+pub mod Reopened

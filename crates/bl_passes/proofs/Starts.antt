@@ -65,7 +65,7 @@ opening_is = record {
   waiting = λ p. refl;
 }
 
-blank_is : IsBlank (know (fresh_run unborn))
+pub blank_is : IsBlank (know (fresh_run unborn))
 blank_is = record { stage = refl; said = refl; holds = refl; goes = refl; children = refl; passed = refl; sound = omega arith; log = tt }
 
 abbrev first_world : ℕ → World Run
@@ -84,12 +84,12 @@ first_moments size wide = moments_first empty opening_state (world_moment (first
 pub newcomer_seen : IsSeen [] []
 newcomer_seen = world_seen (first_world 4) [] (first_good 4 (omega arith)) opening_is refl (first_moments 4 (omega arith))
 
-of_all : {A : Type 0} (n : ℕ) (a : A) (i : ℕ) (b : A) → get_elem? (replicate n a) i ≡ some b → a ≡ b
+pub of_all : {A : Type 0} (n : ℕ) (a : A) (i : ℕ) (b : A) → get_elem? (replicate n a) i ≡ some b → a ≡ b
 of_all zero a i b e = absurd (some-ne-none b (sym e))
 of_all (suc n) a zero b e = some-injective a b e
 of_all (suc n) a (suc i) b e = of_all n a i b e
 
-of_map : {A B : Type 0} (f : A → B) (l : List A) (i : ℕ) (b : B) → get_elem? (map f l) i ≡ some b → (a : A) × (get_elem? l i ≡ some a) × (f a ≡ b)
+pub of_map : {A B : Type 0} (f : A → B) (l : List A) (i : ℕ) (b : B) → get_elem? (map f l) i ≡ some b → (a : A) × (get_elem? l i ≡ some a) × (f a ≡ b)
 of_map f [] i b e = absurd (some-ne-none b (sym e))
 of_map f (x ∷ xs) zero b e = (x, refl, some-injective (f x) b e)
 of_map f (x ∷ xs) (suc i) b e = of_map f xs i b e

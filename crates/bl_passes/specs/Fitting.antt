@@ -30,9 +30,12 @@ name pass number = record { pass = pass; number = number }
 abbrev pub unborn : Proc
 unborn = Find (record { key = 0; stage = find.New })
 
--- what a pass knows that has begun no process
+-- what a pass knows that has begun no process, of an index that began so
+abbrev pub beginner : List (Optional Page) → Mine
+beginner first = record { pass = 0; pages = 0; passes = 0; number = 0; runs = false; state = unborn; first = first; past = []; trail = [] }
+
 abbrev pub newcomer : Mine
-newcomer = record { pass = 0; pages = 0; passes = 0; number = 0; runs = false; state = unborn; first = []; past = []; trail = [] }
+newcomer = beginner []
 
 abbrev pub IsAnchor : Page → Type 0
 IsAnchor (Anchor a) = Unit {0}

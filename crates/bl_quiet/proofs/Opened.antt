@@ -30,7 +30,7 @@ use Rattle.bl_quiet.proofs.SameNodes.{same_sound}
 leftmost_is : (pages : List (Option Page)) → is_anchor (page_at pages 0) ≡ true → leftmost pages 0 ≡ (roots_in (page_at pages 0)).leftmost 0
 leftmost_is pages anchor = (anchored (page_at pages 0) anchor).leftmost_is 0
 
-anchor_at : (pages : List (Option Page)) (bytes : List ℕ) → IsImage pages bytes → AreSoundPages pages → is_anchor (page_at pages 0) ≡ true
+pub anchor_at : (pages : List (Option Page)) (bytes : List ℕ) → IsImage pages bytes → AreSoundPages pages → is_anchor (page_at pages 0) ≡ true
 anchor_at pages bytes image sound = (sound Rule.OneAnchor 0 (omega (arith, image.count.0))).1 refl
 
 -- the rows of a sound image
