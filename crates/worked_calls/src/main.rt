@@ -38,6 +38,7 @@ use lines::written_out;
 use playing::first_wrong;
 use std::fs;
 use std::process::ExitCode;
+use std::sync::Wait;
 
 /// How the name of a file of calls ends.
 const ENDING: &str = ".calls";
@@ -45,7 +46,7 @@ const ENDING: &str = ".calls";
 fn main(rt: HostRuntime) -> anyhow::Result<ExitCode> {
     let mut all_right = true;
     for name in names(&rt)?.iter() {
-        all_right &= is_right(&rt, name.as_str())?;
+        all_right &= is_right(&rt, &rt, name.as_str())?;
     }
     Ok(ExitCode::from(if all_right { 0 } else { 1 }))
 }
@@ -64,13 +65,13 @@ fn names(rt: &HostRuntime) -> anyhow::Result<Vec<String>> {
     Ok(names)
 }
 
-/// Plays a file, prints what was found, and gives whether it was right.
-fn is_right(rt: &HostRuntime, name: &str) -> anyhow::Result<bool> {
+/// Plays a file, prints what was found, and gives whether it was right. The calls wait by the second handle.
+fn is_right<R: Wait>(rt: &HostRuntime, waits: &R, name: &str) -> anyhow::Result<bool> {
     let alloc = rt.alloc();
     let path = format!(in alloc; "{name}{ENDING}")?;
     let text = fs::read_to_string(rt, path.as_str())?;
     let lines = written_out(alloc, text.as_str())?;
-    match first_wrong(rt, alloc, lines.as_slice())? {
+    match first_wrong(waits, alloc, lines.as_slice())? {
         Some(wrong) => {
             println!(rt; "{name} is wrong at line {}: {}", wrong.number, wrong.text)?;
             Ok(false)

@@ -106,6 +106,33 @@ fn open(alloc: Global, stage: &mut Option<Stage>, config: Config) -> Answer {
     }
 }
 
+/// The calls behind this are of the pass with that number.
+fn choose(stage: &mut Option<Stage>, number: usize) -> Answer {
+    match stage {
+        Some(stage) => {
+            stage.chosen = number;
+            Answer::Done
+        }
+        None => Answer::Missing,
+    }
+}
+
+/// What a call gets, if there is an index.
+fn call<R: Wait>(rt: &R, stage: &mut Option<Stage>, call: Call) -> Answer {
+    match stage {
+        Some(stage) => stage.answer(rt, call),
+        None => Answer::Missing,
+    }
+}
+
+/// What scans have listed of the index that there is.
+fn listed(stage: &Option<Stage>) -> &[(u64, u64)] {
+    match stage {
+        Some(stage) => stage.rows.as_slice(),
+        None => &[],
+    }
+}
+
 /// What a line gets, as text.
 fn play<R: Wait>(
     rt: &R,
@@ -115,21 +142,13 @@ fn play<R: Wait>(
 ) -> Result<Vec<u8>, AllocError> {
     let words: Vec<&str> = line.split(' ').collect(alloc)?;
     let mut text = Vec::new(alloc);
-    let answer = match (step_of(words.as_slice()), stage) {
-        (None, _) => Answer::Malformed,
-        (Some(Step::Open(config)), stage) => open(alloc, stage, config),
-        (Some(_), None) => Answer::Missing,
-        (Some(Step::Choose(number)), Some(stage)) => {
-            stage.chosen = number;
-            Answer::Done
-        }
-        (Some(Step::Rows), Some(stage)) => {
-            push_rows(&mut text, stage.rows.as_slice())?;
-            return Ok(text);
-        }
-        (Some(Step::Call(call)), Some(stage)) => stage.answer(rt, call),
-    };
-    push_answer(&mut text, &answer)?;
+    match step_of(words.as_slice()) {
+        Some(Step::Open(config)) => push_answer(&mut text, &open(alloc, stage, config))?,
+        Some(Step::Choose(number)) => push_answer(&mut text, &choose(stage, number))?,
+        Some(Step::Call(asked)) => push_answer(&mut text, &call(rt, stage, asked))?,
+        Some(Step::Rows) => push_rows(&mut text, listed(stage))?,
+        None => push_answer(&mut text, &Answer::Malformed)?,
+    }
     Ok(text)
 }
 
