@@ -49,11 +49,7 @@ fn map_call(words: &[&str]) -> Option<Call> {
         ["delete", key] => Some(Call::Delete(key.parse().ok()?)),
         ["find", key, turns] => Some(Call::Find(key.parse().ok()?, turns.parse().ok()?)),
         ["part", from, turns] => Some(Call::Part(from.parse().ok()?, turns.parse().ok()?)),
-        ["scan", from, turns] => Some(Call::Scan(
-            from.parse().ok()?,
-            None,
-            turns.parse().ok()?,
-        )),
+        ["scan", from, turns] => Some(Call::Scan(from.parse().ok()?, None, turns.parse().ok()?)),
         ["scan_below", from, end, turns] => Some(Call::Scan(
             from.parse().ok()?,
             Some(end.parse().ok()?),

@@ -160,7 +160,10 @@ pub fn first_wrong<R: Wait>(
 ) -> anyhow::Result<Option<Wrong>> {
     let mut stage = None;
     for line in lines {
-        let (call, wanted) = line.text.split_once(" -> ").unwrap_or((line.text.as_str(), ""));
+        let (call, wanted) = line
+            .text
+            .split_once(" -> ")
+            .unwrap_or((line.text.as_str(), ""));
         let found = play(rt, alloc, &mut stage, call)?;
         if found.as_slice() != wanted.as_bytes() {
             let found = str::from_utf8(found.as_slice())?;
