@@ -5,7 +5,7 @@ use bl_lines::print::{push_number, push_reply};
 use std::alloc::AllocError;
 
 /// What a line got.
-#[derive(Debug, PartialEq, Eq, Drop)]
+#[derive(Drop)]
 pub enum Answer {
     /// It is done.
     Done,

@@ -3,7 +3,7 @@
 use bl_index::{Config, Hint, Level};
 
 /// What a line asks for.
-#[derive(Clone, Copy, Debug, PartialEq, Eq)]
+#[derive(Clone, Copy)]
 pub enum Step {
     Open(Config),
     /// The calls behind it are of the pass with that number.
@@ -14,7 +14,7 @@ pub enum Step {
 }
 
 /// A call of the chosen pass, or of the index.
-#[derive(Clone, Copy, Debug, PartialEq, Eq)]
+#[derive(Clone, Copy)]
 pub enum Call {
     Insert(u64, u64),
     Delete(u64),

@@ -3,7 +3,7 @@
 use std::alloc::Global;
 
 /// A line that is to be played.
-#[derive(Debug, Drop)]
+#[derive(Drop)]
 pub struct Line {
     /// Its number in the file, from 1. The lines of all rounds of a block have the numbers of the first round.
     pub number: usize,

@@ -12,7 +12,7 @@ use std::str;
 use std::sync::Wait;
 
 /// A line that did not get its answer.
-#[derive(Debug, Drop)]
+#[derive(Drop)]
 pub struct Wrong {
     /// Its number in the file, from 1.
     pub number: usize,
