@@ -1,5 +1,6 @@
 -- An index as it is made.
 use Rattle.std.proofs.Common.{ℕ, zero, suc, ◌≡◌, ◌+◌, ◌<◌, ◌≤◌, Option, List, [], ◌∷◌, length, replicate, refl, sym, ap, ◌∙◌, subst, arith}
+use Rattle.std.specs.Prelude.{Result, Ok, Err, IfOk}
 use mathlib.Core.Option.{some}
 use lib.ListN.{get_elem?}
 use Rattle.atomic_table.specs.Seated.{TableId}
@@ -10,18 +11,17 @@ use Rattle.bl_page.specs.Words.{words_of}
 use Rattle.bl_store.specs.Opening.{first_pages, IsDealt}
 use Rattle.bl_store.specs.declared.view.View.{View}
 use Rattle.bl_store.specs.Frames.{share}
-use Rattle.bl_passes.specs.Fitting.{newcomer, Fits}
+use Rattle.bl_passes.specs.Fitting.{beginner, newcomer, Fits}
 use Rattle.bl_passes.proofs.Bounds.{first_anchor}
-use Rattle.bl_passes.proofs.Starts.{first_leaf, starts, newcomer_seen}
+use Rattle.bl_passes.proofs.Starts.{first_leaf, starts}
 use Rattle.bl_store.specs.declared.store.Hand.{Hand}
 use Rattle.bl_passes.specs.declared.known.Mine.{Mine}
 use Rattle.bl_passes.specs.Noting.{trail_of}
 use Rattle.bl_passes.specs.Seeing.{IsSeen}
-use Rattle.bl_index.specs.declared.config.Config.{Config}
 use Rattle.bl_index.specs.declared.index.Index.{Index}
 use Rattle.bl_index.specs.declared.index.Pass.{Pass}
 use Rattle.bl_index.specs.Calls.{first_of}
-use Rattle.bl_index.specs.Opened.{IsFirstAnchor, IsFirstLeaf, AreFirst, IsNewHand, AreNew, ArePasses, IsOpened}
+use Rattle.bl_index.specs.Opened.{IsFirstAnchor, IsFirstLeaf, AreFirst, IsNewHand, AreNew, ArePasses, IsBegun}
 
 there : {A : Type 0} (l : List A) (i : ℕ) → i < length l → (a : A) × (get_elem? l i ≡ some a)
 there [] i h = absurd (omega arith)
@@ -59,22 +59,25 @@ opens many contents four f passes =
     rest (suc zero) two at = absurd (omega arith)
     rest (suc (suc x)) two at = at.1 ∙ ap some (f.each (suc (suc x)) at.0 at.1)
 
-pub dealt_new : (index : Index) (passes : ℕ) (hands : List (Hand Mine)) → IsDealt index.store.table.shared.table_id index.store.layout newcomer passes hands → AreNew index.store.table.shared.table_id index.store.layout 0 hands
-dealt_new index passes hands dealt j hand at = (let is = dealt.each j hand at in let same : j ≡ 0 + j = omega arith in subst (λ (z : ℕ). (hand.number ≡ z) × (hand.seat.table_id ≡ index.store.table.shared.table_id) × (hand.seat.me.0 ≡ share index.store.layout newcomer z (z + 1))) same is)
+-- the hands that are dealt know what a pass knows at first
+pub new_hands : (table : TableId) (l : Layout) (first : List (Option Page)) (known : Mine) (passes : ℕ) (hands : List (Hand Mine)) → known ≡ beginner first → IsDealt table l known passes hands → AreNew table l first 0 hands
+new_hands table l first known passes hands is h j hand at = let same : j ≡ 0 + j = omega arith in subst (λ (z : ℕ). IsNewHand table l first z hand) same (subst (λ (z : Mine). (hand.number ≡ j) × (hand.seat.table_id ≡ table) × (hand.seat.me.0 ≡ share l z j (j + 1))) is (h.each j hand at))
 
--- hands that know what a pass knows at first
-pub dealt : (table : TableId) (l : Layout) (known : Mine) (passes : ℕ) (hands : List (Hand Mine)) → known ≡ newcomer → IsDealt table l known passes hands → IsDealt table l newcomer passes hands
-dealt table l known passes hands is h = subst (λ (z : Mine). IsDealt table l z passes hands) is h
-
-pub new_hands : (table : TableId) (l : Layout) (passes : ℕ) (hands : List (Hand Mine)) → IsDealt table l newcomer passes hands → AreNew table l 0 hands
-new_hands table l passes hands h j hand at = let same : j ≡ 0 + j = omega arith in subst (λ (z : ℕ). IsNewHand table l z hand) same (h.each j hand at)
-
-pub is_opened : (config : Config) (index : Index) (hands : List (Hand Mine)) (passes : List Pass) → index.store.layout.pages ≡ config.pages → index.store.layout.passes ≡ config.passes → IsDealt index.store.table.shared.table_id index.store.layout newcomer config.passes hands → ArePasses index.store.table.shared.table_id index.store.layout (length hands) passes → first_of index ≡ [] → IsOpened config index passes
-is_opened config index hands passes pages among dealt are empty = record {
-  pages = pages;
-  passes_are = among;
-  count = are.count ∙ dealt.count;
-  each = λ n pass at. (let is = are.each n pass at in ((is.1, ap (λ (v : View Mine). v.layout) is.2, ap (λ (v : View Mine). v.known.first) is.2 ∙ sym empty), is.0, ap (λ (v : View Mine). trail_of v.known.trail) is.2));
-  first = empty;
-  seen = subst (λ (z : List (Option Page)). IsSeen z []) (sym empty) newcomer_seen;
+pub is_begun : (first image : List (Option Page)) (pages among : ℕ) (index : Index) (hands : List (Hand Mine)) (passes : List Pass) → index.store.layout.pages ≡ pages → index.store.layout.passes ≡ among → length hands ≡ among → ArePasses index.store.table.shared.table_id index.store.layout first (length hands) passes → first_of index ≡ first → first ≡ image → IsSeen image [] → IsBegun image pages among index passes
+is_begun first image pages among index hands passes pages_are passes_are many are begins same seen = record {
+  pages = pages_are;
+  passes_are = passes_are;
+  count = are.count ∙ many;
+  each = λ n pass at. (let is = are.each n pass at in ((is.1, ap (λ (v : View Mine). v.layout) is.2, ap (λ (v : View Mine). v.known.first) is.2 ∙ sym begins), is.0, ap (λ (v : View Mine). trail_of v.known.trail) is.2));
+  first = begins ∙ same;
+  seen = subst (λ (z : List (Option Page)). IsSeen z []) (sym (begins ∙ same)) seen;
 }
+
+-- what holds of a result where it is one
+pub if_ok : {A E : Type 0} (P Q : A → Type 0) (r : Result A E) → ((a : A) → P a → Q a) → IfOk r P → IfOk r Q
+if_ok P Q (Ok a) f h = f a h
+if_ok P Q (Err e) f h = tt
+
+-- the same by other names of what it began with and of how many pages it has
+pub begun_as : (image other : List (Option Page)) (size many among : ℕ) (index : Index) (passes : List Pass) → image ≡ other → size ≡ many → IsBegun image size among index passes → IsBegun other many among index passes
+begun_as image other size many among index passes same count begun = subst (λ (z : List (Option Page) × ℕ). IsBegun z.0 z.1 among index passes) (λ i. (same i, count i)) begun

@@ -1,11 +1,13 @@
 -- Pages and hands of a new index, one after another.
-use Rattle.std.proofs.Common.{ℕ, zero, suc, ◌≡◌, ◌⊎◌, ◌+◌, ◌<◌, ◌++◌, List, [], ◌∷◌, length, refl, sym, ap, ◌∙◌, subst, inl, inr, ⊎_elim, arith}
+use Rattle.std.proofs.Common.{ℕ, zero, suc, ◌≡◌, ◌⊎◌, ◌+◌, ◌<◌, ◌++◌, Option, List, [], ◌∷◌, length, refl, sym, ap, ◌∙◌, subst, inl, inr, ⊎_elim, arith, map, take}
 use Rattle.std.specs.Prelude.{slice_index_or, remove}
 use Rattle.std.proofs.lemmas.List.{length-append}
 use mathlib.Core.Option.{some, some-injective, some-ne-none}
 use lib.ListN.{get_elem?}
 use Rattle.atomic_table.specs.Seated.{TableId}
 use Rattle.bl_layout.specs.declared.layout.Layout.{Layout}
+use Rattle.bl_page.specs.declared.page.Page.{Page}
+use Rattle.bl_image.specs.Images.{page_words}
 use Rattle.bl_store.specs.declared.store.Hand.{Hand}
 use Rattle.bl_passes.specs.declared.known.Mine.{Mine}
 use Rattle.bl_index.specs.declared.index.Pass.{Pass}
@@ -26,20 +28,28 @@ firsts_push many contents new words f is e = record {
       (at_push contents words ws x (ap (λ (z : List (List ℕ)). get_elem? z x) (sym e) ∙ at));
 }
 
-module _ (table : TableId) (layout : Layout) where
-  pub rest_new : (least : ℕ) (hands : List (Hand Mine)) → AreNew table layout least hands → AreNew table layout (least + 1) (remove hands 0)
+module _ (table : TableId) (layout : Layout) (first : List (Option Page)) where
+  pub rest_new : (least : ℕ) (hands : List (Hand Mine)) → AreNew table layout first least hands → AreNew table layout first (least + 1) (remove hands 0)
   rest_new least [] new j hand at = absurd (some-ne-none hand (sym at))
-  rest_new least (h ∷ hands) new j hand at = (let is = new (suc j) hand at in let same : least + suc j ≡ least + 1 + j = omega arith in subst (λ (z : ℕ). IsNewHand table layout z hand) same is)
+  rest_new least (h ∷ hands) new j hand at = (let is = new (suc j) hand at in let same : least + suc j ≡ least + 1 + j = omega arith in subst (λ (z : ℕ). IsNewHand table layout first z hand) same is)
 
-  pub first_new : (least : ℕ) (hands : List (Hand Mine)) (hand : Hand Mine) → 0 < length hands → AreNew table layout least hands → hand ≡ slice_index_or hands 0 hand → IsNewHand table layout least hand
+  pub first_new : (least : ℕ) (hands : List (Hand Mine)) (hand : Hand Mine) → 0 < length hands → AreNew table layout first least hands → hand ≡ slice_index_or hands 0 hand → IsNewHand table layout first least hand
   first_new least [] hand many new e = absurd (omega arith)
-  first_new least (h ∷ hands) hand many new e = (let is = new 0 h refl in let same : least + 0 ≡ least = omega arith in subst (λ (z : ℕ × Hand Mine). IsNewHand table layout z.0 z.1) (λ i. (same i, sym e i)) is)
+  first_new least (h ∷ hands) hand many new e = (let is = new 0 h refl in let same : least + 0 ≡ least = omega arith in subst (λ (z : ℕ × Hand Mine). IsNewHand table layout first z.0 z.1) (λ i. (same i, sym e i)) is)
 
-  pub passes_push : (many : ℕ) (passes new : List Pass) (pass : Pass) → ArePasses table layout many passes → IsNewHand table layout many pass.hand → new ≡ passes ++ pass ∷ [] → ArePasses table layout (many + 1) new
+  pub passes_push : (many : ℕ) (passes new : List Pass) (pass : Pass) → ArePasses table layout first many passes → IsNewHand table layout first many pass.hand → new ≡ passes ++ pass ∷ [] → ArePasses table layout first (many + 1) new
   passes_push many passes new pass f is e = record {
     count = ap length e ∙ (length-append passes (pass ∷ []) ∙ ap (λ (k : ℕ). k + 1) f.count);
     each = λ n p at. ⊎_elim
         (λ (t : get_elem? passes n ≡ some p). f.each n p t)
-        (λ (t : (n ≡ length passes) × (pass ≡ p)). subst (λ (z : ℕ × Pass). IsNewHand table layout z.0 z.1.hand) (λ i. ((sym f.count ∙ sym t.0) i, t.1 i)) is)
+        (λ (t : (n ≡ length passes) × (pass ≡ p)). subst (λ (z : ℕ × Pass). IsNewHand table layout first z.0 z.1.hand) (λ i. ((sym f.count ∙ sym t.0) i, t.1 i)) is)
         (at_push passes pass p n (ap (λ (z : List Pass). get_elem? z n) (sym e) ∙ at));
   }
+
+-- the words of the pages of an image, one after another
+map_push : (pages : List (Option Page)) (page : Option Page) → map page_words (pages ++ page ∷ []) ≡ map page_words pages ++ page_words page ∷ []
+map_push [] page = refl
+map_push (first ∷ pages) page = ap (λ (z : List (List ℕ)). page_words first ∷ z) (map_push pages page)
+
+pub words_push : (words new : List (List ℕ)) (w : List ℕ) (pages : List (Option Page)) (page : Option Page) (i : ℕ) → take (i + 1) pages ≡ take i pages ++ page ∷ [] → new ≡ words ++ w ∷ [] → w ≡ page_words page → words ≡ map page_words (take i pages) → new ≡ map page_words (take (i + 1) pages)
+words_push words new w pages page i more pushed is so_far = pushed ∙ ((λ k. so_far k ++ is k ∷ []) ∙ (sym (map_push (take i pages) page) ∙ ap (map page_words) (sym more)))

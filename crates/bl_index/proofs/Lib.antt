@@ -27,3 +27,4 @@ pub mod Rooms
 pub mod Holders
 pub mod Gathered
 pub mod AtRest
+pub mod Reopening

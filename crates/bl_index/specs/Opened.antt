@@ -1,17 +1,20 @@
 -- An index that was just made.
-use Rattle.std.specs.Prelude.{◌≡◌, ◌⊎◌, ℕ, zero, suc, ◌+◌, ◌<◌, ◌≤◌, List, [], ◌∷◌, length, replicate}
+use Rattle.std.specs.Prelude.{◌≡◌, ◌⊎◌, ℕ, zero, suc, ◌+◌, ◌<◌, ◌≤◌, Option, List, [], ◌∷◌, length, replicate}
 use mathlib.Core.Option.{some}
 use lib.ListN.{get_elem?}
 use Rattle.atomic_table.specs.Seated.{TableId}
 use Rattle.bl_layout.specs.declared.layout.Layout.{Layout}
+use Rattle.bl_model.specs.Map.{SameMap}
+use Rattle.bl_model.specs.Rows.{map_of}
 use Rattle.bl_page.specs.declared.page.Page.{Page}
 use Rattle.bl_page.specs.declared.page.Page.TheVariants.{Anchor, Leaf, Inner, Dead}
 use Rattle.bl_page.specs.Words.{words_of}
 use Rattle.bl_store.specs.Frames.{share}
 use Rattle.bl_store.specs.declared.store.Hand.{Hand}
 use Rattle.bl_passes.specs.declared.known.Mine.{Mine}
-use Rattle.bl_passes.specs.Seeing.{IsSeen}
-use Rattle.bl_passes.specs.Fitting.{newcomer}
+use Rattle.bl_check.specs.Rows.{AreRowsOf}
+use Rattle.bl_passes.specs.Seeing.{first_map, IsSeen}
+use Rattle.bl_passes.specs.Fitting.{beginner}
 use Rattle.bl_index.specs.declared.config.Config.{Config}
 use Rattle.bl_index.specs.declared.config.OpenFault.{OpenFault}
 use Rattle.bl_index.specs.declared.config.OpenFault.TheVariants.{Pages, Passes, Memory}
@@ -30,15 +33,32 @@ IsRefusal config Pages = (config.pages < 4) ⊎ (65536 < config.pages)
 IsRefusal config Passes = HasPages config × ((config.passes < 1) ⊎ (64 < config.passes))
 IsRefusal config Memory = HasPages config × ((1 ≤ config.passes) × (config.passes ≤ 64))
 
--- The index has so many pages. There is a pass of it for each number, in their order. None has seen anything, so that it
--- stands at the opening index.
-pub record IsOpened (config : Config) (index : Index) (passes : List Pass) : Type 0 where
-  pub pages : pages_of index ≡ config.pages
-  pub passes_are : passes_of index ≡ config.passes
-  pub count : length passes ≡ config.passes
+-- The index has so many pages, and began so. There is a pass of it for each number, in their order. None has seen anything, so
+-- that it stands at what the index began with.
+pub record IsBegun (image : List (Option Page)) (size among : ℕ) (index : Index) (passes : List Pass) : Type 0 where
+  pub pages : pages_of index ≡ size
+  pub passes_are : passes_of index ≡ among
+  pub count : length passes ≡ among
   pub each : (n : ℕ) (pass : Pass) → get_elem? passes n ≡ some pass → IsPassOf index pass × (number_of pass ≡ n) × (trail pass ≡ [])
-  pub first : first_of index ≡ []
+  pub first : first_of index ≡ image
   pub seen : IsSeen (first_of index) []
+
+-- The same of an index that is opened empty.
+abbrev pub IsOpened : Config → Index → List Pass → Type 0
+IsOpened config index passes = IsBegun [] config.pages config.passes index passes
+
+-- The same of an index that is opened from an image: it begins with the image's pages, and with the map of the image's rows.
+pub record IsReopened (image : List (Option Page)) (among : ℕ) (index : Index) (passes : List Pass) : Type 0 where
+  pub begun : IsBegun image (length image) among index passes
+  pub rows : List (ℕ × ℕ)
+  pub are_rows : AreRowsOf image rows
+  pub map : SameMap (first_map image) (map_of rows)
+
+-- Why an index was not opened from an image: the passes are not within their limits; or they are, and there was no memory.
+abbrev pub IsImageRefusal : ℕ → OpenFault → Type 0
+IsImageRefusal passes Pages = ⊥
+IsImageRefusal passes Passes = (passes < 1) ⊎ (64 < passes)
+IsImageRefusal passes Memory = (1 ≤ passes) × (passes ≤ 64)
 
 -- the anchor of one level, whose page is page 1
 abbrev pub IsFirstAnchor : Page → Type 0
@@ -60,13 +80,13 @@ IsFirst zero words = (c : Page) × IsFirstAnchor c × (words ≡ words_of c)
 IsFirst (suc zero) words = (c : Page) × IsFirstLeaf c × (words ≡ words_of c)
 IsFirst (suc (suc x)) words = words ≡ replicate 32 0
 
--- a hand of that number that has done nothing
-abbrev pub IsNewHand : TableId → Layout → ℕ → Hand Mine → Type 0
-IsNewHand table layout n hand = (hand.number ≡ n) × (hand.seat.table_id ≡ table) × (hand.seat.me.0 ≡ share layout newcomer n (n + 1))
+-- a hand of that number that has done nothing, of an index that began so
+abbrev pub IsNewHand : TableId → Layout → List (Option Page) → ℕ → Hand Mine → Type 0
+IsNewHand table layout first n hand = (hand.number ≡ n) × (hand.seat.table_id ≡ table) × (hand.seat.me.0 ≡ share layout (beginner first) n (n + 1))
 
 -- these hands have done nothing, and are numbered from that number on
-abbrev pub AreNew : TableId → Layout → ℕ → List (Hand Mine) → Type 0
-AreNew table layout least hands = (j : ℕ) (hand : Hand Mine) → get_elem? hands j ≡ some hand → IsNewHand table layout (least + j) hand
+abbrev pub AreNew : TableId → Layout → List (Option Page) → ℕ → List (Hand Mine) → Type 0
+AreNew table layout first least hands = (j : ℕ) (hand : Hand Mine) → get_elem? hands j ≡ some hand → IsNewHand table layout first (least + j) hand
 
 -- the words of the pages of an opening index of so many pages
 pub record AreFirst (many : ℕ) (contents : List (List ℕ)) : Type 0 where
@@ -74,6 +94,6 @@ pub record AreFirst (many : ℕ) (contents : List (List ℕ)) : Type 0 where
   pub each : (x : ℕ) (words : List ℕ) → get_elem? contents x ≡ some words → IsFirst x words
 
 -- so many passes whose hands have done nothing, in the order of their numbers
-pub record ArePasses (table : TableId) (layout : Layout) (many : ℕ) (passes : List Pass) : Type 0 where
+pub record ArePasses (table : TableId) (layout : Layout) (first : List (Option Page)) (many : ℕ) (passes : List Pass) : Type 0 where
   pub count : length passes ≡ many
-  pub each : (n : ℕ) (pass : Pass) → get_elem? passes n ≡ some pass → IsNewHand table layout n pass.hand
+  pub each : (n : ℕ) (pass : Pass) → get_elem? passes n ≡ some pass → IsNewHand table layout first n pass.hand

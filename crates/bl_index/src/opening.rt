@@ -1,12 +1,17 @@
 //! An index is made.
 
-ghost use Rattle.std.specs.Prelude.{◌≡◌, ◌≤◌, [], length, IfOk, IfErr};
-ghost use Rattle.bl_passes.specs.Fitting.{newcomer as unborn_pass};
-ghost use Rattle.bl_index.specs.Opened.{IsRefusal, IsFirstAnchor, IsFirstLeaf, IsFirst, AreFirst, AreNew, ArePasses, IsOpened};
+ghost use Rattle.std.specs.Prelude.{◌≡◌, ◌≤◌, true, [], length, map, IfOk, OnOk, IfErr};
+ghost use Rattle.std.specs.List.{AllByRecursion};
+ghost use Rattle.bl_image.specs.Images.{Fits64, page_words};
+ghost use Rattle.bl_store.specs.Opening.{first_pages as store_pages};
+ghost use Rattle.bl_passes.specs.Seeing.{IsSeen};
+ghost use Rattle.bl_passes.specs.Fitting.{beginner as unborn_pass, Fits};
+ghost use Rattle.bl_index.specs.Opened.{IsRefusal, IsFirstAnchor, IsFirstLeaf, IsFirst, AreFirst, AreNew, ArePasses, IsBegun, IsOpened, IsReopened, IsImageRefusal};
 
 use crate::config::{Config, OpenFault};
 use crate::index::{Index, Pass};
 use arrayvec::ArrayVec;
+use bl_check::Quiet;
 use bl_page::{Anchor, Leaf, Page};
 use bl_passes::{Beginning, Mine, Passes};
 use bl_proc::{Find, FindStage, Proc};
@@ -58,15 +63,15 @@ fn first_pages(alloc: Global, pages: u32) -> Result<Vec<[u64; 32]>, AllocError>
 }
 
 /// What an index begins with that is opened empty.
-fn no_pages(alloc: Global) -> Beginning<Page>
-    ensures { result ≡ [] }
+fn no_pages(alloc: Global) -> Vec<Option<Page>>
+    ensures { result.items ≡ [] }
 {
-    Beginning::of(&Vec::new(alloc))
+    Vec::new(alloc)
 }
 
 /// What each pass knows at first: it has begun no process, and has seen nothing.
-fn newcomer(alloc: Global) -> Mine
-    ensures { result ≡ unborn_pass }
+fn beginner(alloc: Global, first: Beginning<Page>) -> Mine
+    ensures { result ≡ unborn_pass first }
 {
     Mine {
         pass: 0,
@@ -78,20 +83,55 @@ fn newcomer(alloc: Global) -> Mine
             key: 0,
             stage: FindStage::New,
         }),
-        first: no_pages(alloc),
+        first,
         past: LinkedList::new(alloc),
         trail: LinkedList::new(alloc),
     }
+}
+
+/// Whether the words are of 64 bits, which those of an image have to be. All are.
+fn are_of_64_bits(words: &[u64; 32]) -> bool
+    ensures same { result ≡ true }
+    ensures fits { Fits64 words.now }
+{
+    words.iter().all(|word| *word <= u64::MAX)
+}
+
+/// The words of a page of an image, zeros where it is not in use.
+fn words_of(page: &Option<Page>) -> [u64; 32]
+    ensures words { result ≡ page_words page.now }
+    ensures fits { Fits64 result }
+{
+    let words = match page {
+        Some(page) => page.to_words(),
+        None => [0; 32],
+    };
+    are_of_64_bits(&words);
+    words
+}
+
+/// The words of all its pages.
+fn words_in(alloc: Global, pages: &[Option<Page>]) -> Result<Vec<[u64; 32]>, AllocError>
+    ensures words { IfOk result (λ v. v.items ≡ map page_words pages.now) }
+    ensures fits { OnOk result (AllByRecursion (λ page. Fits64 (page_words page)) pages.now) }
+{
+    let mut words = Vec::with_capacity(alloc, pages.len())?;
+    for page in pages {
+        words.push(words_of(page))?;
+    }
+    Ok(words)
 }
 
 /// A pass of each hand.
 fn passes_of(
     alloc: Global,
     store: &Store<Mine, Passes>,
+    first: &Beginning<Page>,
     hands: Vec<Hand<Mine>>,
 ) -> Result<Vec<Pass>, AllocError>
-    requires { AreNew store.now.table.shared.table_id store.now.layout 0 hands.items }
-    ensures { IfOk result (λ v. ArePasses store.now.table.shared.table_id store.now.layout (length hands.items) v.items) }
+    requires hands { AreNew store.now.table.shared.table_id store.now.layout first.now 0 hands.items }
+    requires seen { IsSeen first.now [] }
+    ensures { IfOk result (λ v. ArePasses store.now.table.shared.table_id store.now.layout first.now (length hands.items) v.items) }
 {
     let mut hands = hands;
     let count = hands.len();
@@ -127,16 +167,67 @@ impl Index {
         requires passes { (1 ≤ config.passes) × (config.passes ≤ 64) }
         ensures { IfOk result (λ t. IsOpened config t.0 t.1.items) }
     {
-        let first = first_pages(alloc, config.pages)?;
-        let known = newcomer(alloc);
-        let (store, hands) = Store::new(alloc, first.as_slice(), config.passes, &known)?;
-        let passes = passes_of(alloc, &store, hands)?;
+        let words = first_pages(alloc, config.pages)?;
+        let image = no_pages(alloc);
+        Self::begun(alloc, words.as_slice(), config.passes, &image)
+    }
+
+    /// An index whose pages have these words, which are those of the image, or of the opening index where there is no image.
+    fn begun(
+        alloc: Global,
+        words: &[[u64; 32]],
+        passes: u32,
+        image: &Vec<Option<Page>>,
+    ) -> Result<(Index, Vec<Pass>), AllocError>
+        requires pages { (4 ≤ length words.now) × (length words.now ≤ 65536) }
+        requires passes { (1 ≤ passes) × (passes ≤ 64) }
+        requires rule { Fits (store_pages words.now passes (unborn_pass image.now.items)) }
+        requires seen { IsSeen image.now.items [] }
+        ensures { IfOk result (λ t. IsBegun image.now.items (length words.now) passes t.0 t.1.items) }
+    {
+        let first = Beginning::of(image);
+        let told = Beginning::of(image);
+        let known = beginner(alloc, told);
+        let (store, hands) = Store::new(alloc, words, passes, &known)?;
+        let made = passes_of(alloc, &store, &first, hands)?;
         let index = Index {
             store,
-            pages: config.pages,
-            passes: config.passes,
-            first: no_pages(alloc),
+            pages: words.len() as u32,
+            passes,
+            first,
         };
-        Ok((index, passes))
+        Ok((index, made))
+    }
+
+    /// An index that begins with the pages of a sound image, each at its number, and so with the map of the image's rows; and
+    /// its passes, in the order of their numbers. Where it is not opened, the image comes back as it was.
+    pub fn open_image(
+        alloc: Global,
+        quiet: Quiet,
+        passes: u32,
+    ) -> Result<(Index, Vec<Pass>), (Quiet, OpenFault)>
+        ensures ok { IfOk result (λ t. IsReopened quiet.image.pages.items passes t.0 t.1.items) }
+        ensures fault { IfErr result (λ t. (t.0 ≡ quiet) × IsImageRefusal passes t.1) }
+    {
+        if passes < 1 || passes > 64 {
+            return Err((quiet, OpenFault::Passes));
+        }
+        match Self::made_from(alloc, &quiet, passes) {
+            Ok(made) => Ok(made),
+            Err(_) => Err((quiet, OpenFault::Memory)),
+        }
+    }
+
+    fn made_from(
+        alloc: Global,
+        quiet: &Quiet,
+        passes: u32,
+    ) -> Result<(Index, Vec<Pass>), AllocError>
+        requires passes { (1 ≤ passes) × (passes ≤ 64) }
+        ensures { IfOk result (λ t. IsReopened quiet.now.image.pages.items passes t.0 t.1.items) }
+    {
+        let image = quiet.image();
+        let words = words_in(alloc, image.pages.as_slice())?;
+        Self::begun(alloc, words.as_slice(), passes, &image.pages)
     }
 }

@@ -3,7 +3,6 @@ use Rattle.bl_store.specs.declared.view.View.{View}
 use Rattle.bl_passes.specs.declared.known.Mine.{Mine}
 use Rattle.bl_passes.specs.Noting.{trail_of}
 use Rattle.bl_passes.specs.Seeing.{IsSeen, AreWithin}
-use Rattle.bl_passes.proofs.Starts.{newcomer_seen}
 use Rattle.bl_index.specs.Opened.{AreNew}
 use Rattle.bl_index.proofs.Hands.{rest_new, first_new, passes_push}
 use Rattle.bl_passes.proofs.Within.{none_within}
@@ -15,13 +14,13 @@ remove-requires c = (let left = c.loop-number.invariant.left in omega arith)
 pub invariant_of-push : goal.invariant_of-push
 invariant_of-push c = (
     let left = c.loop-number.invariant.left in
-    let is = first_new c.args.store.now.table.shared.table_id c.args.store.now.layout c.loop-number._number c.loop-number.hands.items c.remove.result (omega arith) c.loop-number.invariant.hands c.remove.ensures.value in
+    let is = first_new c.args.store.now.table.shared.table_id c.args.store.now.layout c.args.first.now c.loop-number._number c.loop-number.hands.items c.remove.result (omega arith) c.loop-number.invariant.hands c.remove.ensures.value in
     record {
       idle = ap (λ (v : View _). v.stamp) is.2;
       empty = ap (λ (v : View _). v.stock) is.2;
       rests = ap (λ (v : View Mine). v.known.runs) is.2;
       within = subst (λ (v : View Mine). AreWithin v.layout.passes (trail_of v.known.trail)) (sym is.2) (none_within _);
-      seen = subst (λ (v : View Mine). ∥ IsSeen v.known.first (trail_of v.known.trail) ∥₁) (sym is.2) ∣ newcomer_seen ∣₁;
+      seen = subst (λ (v : View Mine). ∥ IsSeen v.known.first (trail_of v.known.trail) ∥₁) (sym is.2) ∣ c.requires.seen ∣₁;
     })
 
 pub loop-number-preserved : goal.loop-number-preserved
@@ -29,9 +28,9 @@ loop-number-preserved c = (
     let left = c.loop-number.invariant.left in
     let table = c.args.store.now.table.shared.table_id in
     let layout = c.args.store.now.layout in
-    let is = first_new table layout c.loop-number._number c.loop-number.hands.items c.remove.result (omega arith) c.loop-number.invariant.hands c.remove.ensures.value in
+    let is = first_new table layout c.args.first.now c.loop-number._number c.loop-number.hands.items c.remove.result (omega arith) c.loop-number.invariant.hands c.remove.ensures.value in
     record {
       left = (let len = c.remove.ensures.len in omega arith);
-      hands = subst (AreNew table layout (c.loop-number._number + 1)) (sym c.remove.ensures.items) (rest_new table layout c.loop-number._number c.loop-number.hands.items c.loop-number.invariant.hands);
-      passes = passes_push table layout c.loop-number._number c.loop-number.passes.items _ _ c.loop-number.invariant.passes is c.in_ok-push.ensures.items;
+      hands = subst (AreNew table layout c.args.first.now (c.loop-number._number + 1)) (sym c.remove.ensures.items) (rest_new table layout c.args.first.now c.loop-number._number c.loop-number.hands.items c.loop-number.invariant.hands);
+      passes = passes_push table layout c.args.first.now c.loop-number._number c.loop-number.passes.items _ _ c.loop-number.invariant.passes is c.in_ok-push.ensures.items;
     })

@@ -1,18 +1,20 @@
-use Rattle.std.proofs.Common.{ℕ, ◌∙◌, sym, ap, subst, List, length, arith}
+use Rattle.std.proofs.Common.{ℕ, ◌∙◌, sym, ap, subst, List, Option, [], length, arith}
+use Rattle.bl_page.specs.declared.page.Page.{Page}
 use Rattle.bl_store.specs.Opening.{first_pages}
-use Rattle.bl_passes.specs.Fitting.{Fits}
-use Rattle.bl_index.proofs.Firsts.{opens, dealt, new_hands, is_opened}
-use Rattle.bl_passes.specs.declared.known.Mine.{Mine}
+use Rattle.bl_passes.specs.Seeing.{IsSeen}
+use Rattle.bl_passes.specs.Fitting.{beginner, Fits}
+use Rattle.bl_passes.proofs.Starts.{newcomer_seen}
+use Rattle.bl_index.proofs.Firsts.{opens, if_ok, begun_as}
 use Rattle.bl_index.proofs.index.Index.made.Goals as goal
 
-pub new-requires-clause-pages : goal.new-requires-clause-pages
-new-requires-clause-pages c = (let value = c.as_slice.ensures.len in let count = c.in_ok-first.ensures.count in let few = c.requires.pages in (omega arith, omega arith))
+pub begun-requires-clause-pages : goal.begun-requires-clause-pages
+begun-requires-clause-pages c = (let value = c.as_slice.ensures.len in let count = c.in_ok-words.ensures.count in let few = c.requires.pages in (omega arith, omega arith))
 
-pub new-requires-clause-rule : goal.new-requires-clause-rule
-new-requires-clause-rule c = subst (λ (z : List (List ℕ) × Mine). Fits (first_pages z.0 c.args.config.passes z.1)) (λ i. (sym c.as_slice.ensures.value i, sym c.newcomer-known.ensures i)) (opens c.args.config.pages c.in_ok-first.first.items c.requires.pages.0 c.in_ok-first.ensures c.args.config.passes)
+pub begun-requires-clause-rule : goal.begun-requires-clause-rule
+begun-requires-clause-rule c = subst (λ (z : List (List ℕ) × List (Option Page)). Fits (first_pages z.0 c.args.config.passes (beginner z.1))) (λ i. (sym c.as_slice.ensures.value i, sym c.no_pages-image.ensures i)) (opens c.args.config.pages c.in_ok-words.words.items c.requires.pages.0 c.in_ok-words.ensures c.args.config.passes)
 
-pub passes_of-requires : goal.passes_of-requires
-passes_of-requires c = new_hands _ _ _ _ (dealt _ _ _ _ _ c.newcomer-known.ensures c.in_ok-store.ensures.hands)
+pub begun-requires-clause-seen : goal.begun-requires-clause-seen
+begun-requires-clause-seen c = subst (λ (z : List (Option Page)). IsSeen z []) (sym c.no_pages-image.ensures) newcomer_seen
 
 pub returns : goal.returns
-returns c = is_opened c.args.config _ _ _ (c.in_ok-store.ensures.layout.0 ∙ (ap length c.as_slice.ensures.value ∙ c.in_ok-first.ensures.count)) c.in_ok-store.ensures.layout.1 (dealt _ _ _ _ _ c.newcomer-known.ensures c.in_ok-store.ensures.hands) c.in_ok-passes.ensures c.no_pages.ensures
+returns c = if_ok _ _ c.begun.result (λ t begun. begun_as _ _ _ _ _ t.0 t.1.items c.no_pages-image.ensures (ap length c.as_slice.ensures.value ∙ c.in_ok-words.ensures.count) begun) c.begun.ensures

@@ -1,0 +1,26 @@
+-- An index that is opened from a sound image.
+use Rattle.std.proofs.Common.{◌≡◌, ◌≤◌, ℕ, List, Option, length, map, refl, ap, ◌∙◌, subst}
+use Rattle.bl_page.specs.declared.page.Page.{Page}
+use Rattle.bl_image.specs.Images.{IsImage, page_words, image_bytes}
+use Rattle.bl_image.specs.declared.image.Image.{Image}
+use Rattle.bl_check.specs.Rules.{AreSound}
+use Rattle.bl_quiet.proofs.Beginnings.{AllFit}
+use Rattle.bl_quiet.proofs.Opened.{one_list}
+use Rattle.bl_passes.proofs.Reopened.{rows_map}
+use Rattle.bl_index.specs.declared.index.Index.{Index}
+use Rattle.bl_index.specs.declared.index.Pass.{Pass}
+use Rattle.bl_index.specs.Opened.{IsBegun, IsReopened}
+
+pub is_image : (image : Image) → AllFit image.pages.items → IsImage image.pages.items (image_bytes image.pages.items)
+is_image image fits = record { count = (image.some, image.limit); words = fits; bytes_are = refl }
+
+pub is_reopened : (image : Image) (size among : ℕ) (index : Index) (passes : List Pass) → AllFit image.pages.items → AreSound image.pages.items → size ≡ length image.pages.items → IsBegun image.pages.items size among index passes → IsReopened image.pages.items among index passes
+is_reopened image size among index passes fits sound count begun =
+    let pages = image.pages.items in
+    let list = one_list pages (image_bytes pages) (is_image image fits) sound in
+    record {
+      begun = subst (λ (z : ℕ). IsBegun pages z among index passes) count begun;
+      rows = list.rows;
+      are_rows = list.are_rows;
+      map = rows_map pages (image_bytes pages) (is_image image fits) sound list.rows list.are_rows;
+    }
