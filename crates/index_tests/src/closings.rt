@@ -14,7 +14,7 @@ use std::sync::atomic::{AtomicU64, Ordering};
 use std::test::Fail;
 
 /// A new index with two passes, the last of which stands beside the other.
-fn opened(alloc: Global, pages: u32) -> Option<(Index, Vec<Pass>, Pass)>
+pub(crate) fn opened(alloc: Global, pages: u32) -> Option<(Index, Vec<Pass>, Pass)>
     ensures { IfSome result (λ t. All (IsPassOf t.0) t.1.items × IsPassOf t.0 t.2) }
 {
     match Index::open(alloc, Config { pages, passes: 2 }) {
@@ -27,7 +27,7 @@ fn opened(alloc: Global, pages: u32) -> Option<(Index, Vec<Pass>, Pass)>
 }
 
 /// Inserts keys 1 to 15 with ten times themselves, and lists the leaf that is parted.
-fn insert_fifteen<R: Wait>(rt: &R, index: &Index, pass: &mut Pass)
+pub(crate) fn insert_fifteen<R: Wait>(rt: &R, index: &Index, pass: &mut Pass)
     requires { IsPassOf index.now pass.old }
     ensures { IsPassOf index.now pass.new }
 {
@@ -38,7 +38,7 @@ fn insert_fifteen<R: Wait>(rt: &R, index: &Index, pass: &mut Pass)
 }
 
 /// The bytes of the image that the closed index leaves.
-fn image_of(alloc: Global, index: Index, passes: Vec<Pass>, last: Pass) -> Option<Vec<u8>>
+pub(crate) fn image_of(alloc: Global, index: Index, passes: Vec<Pass>, last: Pass) -> Option<Vec<u8>>
     requires { All (IsPassOf index) passes.items × IsPassOf index last }
 {
     let mut passes = passes;
@@ -50,7 +50,7 @@ fn image_of(alloc: Global, index: Index, passes: Vec<Pass>, last: Pass) -> Optio
 }
 
 /// Whether the page's words begin with these, and the others are zeros.
-fn has_words(bytes: &[u8], page: usize, words: &[u64]) -> bool
+pub(crate) fn has_words(bytes: &[u8], page: usize, words: &[u64]) -> bool
     requires { page ≤ 65536 }
 {
     for place in 0..32usize {
@@ -64,7 +64,7 @@ fn has_words(bytes: &[u8], page: usize, words: &[u64]) -> bool
 }
 
 /// The first words of the lower leaf of keys 1 to 15.
-fn lower() -> [u64; 20] {
+pub(crate) fn lower() -> [u64; 20] {
     [
         8_589_934_600,
         0,
@@ -113,7 +113,7 @@ fn upper() -> [u64; 18] {
     ]
 }
 
-fn report(rows: u32, leaves: u32, inners: u32, levels: u32) -> Report {
+pub(crate) fn report(rows: u32, leaves: u32, inners: u32, levels: u32) -> Report {
     Report {
         rows,
         leaves,

@@ -1,4 +1,5 @@
-//! Tests of the calls of an index by several threads, of scans to which memory is refused, of passes that meet and of closes.
+//! Tests of the calls of an index by several threads, of scans to which memory is refused, of passes that meet, of closes, and of images that are
+//! opened.
 //! Calls of one thread with all their answers are data of `worked_calls`.
 //!
 //! They stand apart from `bl_index`, and nothing else uses them: whatever is built on the index need not wait until these tests
@@ -11,5 +12,7 @@ mod calls;
 mod closings;
 #[cfg(test)]
 mod meetings;
+#[cfg(test)]
+mod reopenings;
 #[cfg(test)]
 mod scans;
