@@ -33,7 +33,7 @@ passes_of index = index.store.layout.passes
 
 -- what the index began with: the pages of an image, or no pages where it was opened empty
 abbrev pub first_of : Index → List (Option Page)
-first_of index = index.first
+first_of index = index.first.value.items
 
 -- the pass is of this index, and knows what it began with
 abbrev pub IsPassOf : Index → Pass → Type 0

@@ -7,8 +7,9 @@ ghost use Rattle.bl_passes.specs.Seeing.{IsSeen};
 ghost use Rattle.bl_index.specs.Runs.{IsWithin};
 
 use bl_page::Page;
-use bl_passes::{Beginning, Mine, Passes};
+use bl_passes::{Mine, Passes};
 use bl_store::{Hand, Store};
+use std::snapshot::Snapshot;
 
 /// Pages of a tree that threads share.
 #[derive(Drop)]
@@ -16,7 +17,8 @@ pub struct Index {
     pub(crate) store: Store<Mine, Passes>,
     pub(crate) pages: u32,
     pub(crate) passes: u32,
-    pub(crate) first: Beginning<Page>,
+    // What it began with: the pages of an image, or none where it was opened empty.
+    pub(crate) first: Snapshot<Vec<Option<Page>>>,
     pub ghost sized: { pages ≡ store.layout.pages },
     pub ghost shared: { passes ≡ store.layout.passes },
 }

@@ -18,6 +18,7 @@ use bl_proc::{Find, FindStage, Proc};
 use bl_store::{Hand, Store};
 use std::alloc::{AllocError, Global};
 use std::collections::LinkedList;
+use std::snapshot::Snapshot;
 
 /// The anchor of a tree whose only page is page 1.
 fn first_anchor() -> Page
@@ -194,7 +195,7 @@ impl Index {
             store,
             pages: words.len() as u32,
             passes,
-            first,
+            first: Snapshot::of(image),
         };
         Ok((index, made))
     }
