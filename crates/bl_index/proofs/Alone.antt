@@ -6,16 +6,17 @@ use Rattle.bl_layout.specs.declared.layout.Layout.{Layout}
 use Rattle.bl_model.specs.declared.operation.Op.{Op}
 use Rattle.bl_model.specs.declared.operation.Reply.{Reply}
 use Rattle.bl_model.specs.declared.operation.Entry.{Entry}
-use Rattle.bl_model.specs.Map.{Map, empty, IsMapStep}
+use Rattle.bl_model.specs.Map.{Map, IsMapStep}
 use Rattle.bl_model.specs.History.{IsLegalFrom, final_map}
 use Rattle.bl_model.proofs.Histories.{final_map-push, legal_rest, entries_of_pass-own}
+use Rattle.bl_page.specs.declared.page.Page.{Page}
 use Rattle.bl_page.specs.Machine.{Name}
 use Rattle.bl_trails.specs.Trails.{Said, Trail, entries_at, history_of}
-use Rattle.bl_passes.specs.Seeing.{IsSeen, own, AreWithin}
+use Rattle.bl_passes.specs.Seeing.{first_map, IsSeen, own, AreWithin}
 use Rattle.bl_index.specs.declared.index.Index.{Index}
 use Rattle.bl_index.specs.declared.index.Pass.{Pass}
 use Rattle.bl_index.specs.declared.config.OutOfTurns.{OutOfTurns}
-use Rattle.bl_index.specs.Calls.{passes_of, number_of, trail, IsPassOf, Answers, AnswersOrRunsOut, StepsAlone, map_after}
+use Rattle.bl_index.specs.Calls.{passes_of, first_of, number_of, trail, IsPassOf, Answers, AnswersOrRunsOut, StepsAlone, map_after}
 use Rattle.bl_index.specs.Runs.{IsWithin}
 use Rattle.atomic_table.specs.declared.shared.Seat.{Seat}
 use Rattle.bl_store.specs.declared.view.View.{View}
@@ -37,20 +38,16 @@ all_first (m ∷ ms) w = first_entries m.event.process m.said (history_of ms) (w
 whole_own : (trail : Trail) → AreWithin 1 trail → own 0 trail ≡ history_of trail
 whole_own trail w = entries_of_pass-own 0 (history_of trail) (all_first trail w)
 
--- a call that adds no entry leaves the map
-pub alone_keeps : (old new : Trail) → AreWithin 1 old → AreWithin 1 new → own 0 new ≡ own 0 old → map_after new ≡ map_after old
-alone_keeps old new w v same = ap (final_map empty) (sym (whole_own new v) ∙ (same ∙ whole_own old w))
-
--- and one that adds an entry is a step of it
-pub alone_answers : (op : Op) (reply : Reply) (old new : Trail) → AreWithin 1 old → AreWithin 1 new → IsSeen [] new → own 0 new ≡ own 0 old ++ record { pass = 0; op = op; reply = reply } ∷ [] → IsMapStep (map_after old) op reply (map_after new)
-alone_answers op reply old new w v seen once =
+-- a call that adds an entry is a step of the map
+pub alone_answers : (from : List (Option Page)) (op : Op) (reply : Reply) (old new : Trail) → AreWithin 1 old → AreWithin 1 new → IsSeen from new → own 0 new ≡ own 0 old ++ record { pass = 0; op = op; reply = reply } ∷ [] → IsMapStep (map_after from old) op reply (map_after from new)
+alone_answers from op reply old new w v seen once =
     let e : Entry = record { pass = 0; op = op; reply = reply } in
     let grown : history_of new ≡ history_of old ++ e ∷ [] = sym (whole_own new v) ∙ (once ∙ ap (λ (z : List Entry). z ++ e ∷ []) (whole_own old w)) in
-    let legal : IsLegalFrom empty (history_of old ++ e ∷ []) = subst (IsLegalFrom empty) grown seen.linear.legal in
-    let last = legal_rest empty (history_of old) (e ∷ []) legal in
+    let legal : IsLegalFrom (first_map from) (history_of old ++ e ∷ []) = subst (IsLegalFrom (first_map from)) grown seen.linear.legal in
+    let last = legal_rest (first_map from) (history_of old) (e ∷ []) legal in
     record {
       answer = last.0;
-      after = λ key. ap (λ (m : Map). m key) (ap (final_map empty) grown ∙ final_map-push empty (history_of old) e);
+      after = λ key. ap (λ (m : Map). m key) (ap (final_map (first_map from)) grown ∙ final_map-push (first_map from) (history_of old) e);
     }
 
 -- what a pass has seen was done by the passes of its index
@@ -62,19 +59,19 @@ module _ (index : Index) (old : Pass) (h : Seat (Unit {0}) (View Mine)) (op : Op
   abbrev new : Trail
   new = trail_of (known h).trail
 
-  pub steps_alone : (reply : Reply) → Answers (number_of old) op reply (trail old) new → StepsAlone index op reply (trail old) new
+  pub steps_alone : (reply : Reply) → Answers (first_of index) (number_of old) op reply (trail old) new → StepsAlone (first_of index) index op reply (trail old) new
   steps_alone reply answers one =
       let l : Layout = old.hand.seat.me.0.layout in
       let passes : l.passes ≡ 1 = ap (λ (z : Layout). z.passes) of.1 ∙ one in
       let mine = old.hand.own in
       let first : number_of old ≡ 0 = omega (arith, mine.0, mine.1, passes) in
       let all : h.me.0.layout.passes ≡ 1 = ap (λ (z : Layout). z.passes) same.1 ∙ passes in
-      alone_answers op reply (trail old) new
+      alone_answers (first_of index) op reply (trail old) new
       (subst (λ (z : ℕ). AreWithin z (trail old)) one (pass_within index old of))
       (subst (λ (z : ℕ). AreWithin z new) all within)
       answers.seen
       (subst (λ (n : ℕ). own n new ≡ own n (trail old) ++ record { pass = n; op = op; reply = reply } ∷ []) first answers.once)
 
-  pub finds_alone : (pages turns : ℕ) (result : Result Reply OutOfTurns) → AnswersOrRunsOut pages (number_of old) turns op result (trail old) new → IfOk result (λ reply. StepsAlone index op reply (trail old) new)
+  pub finds_alone : (pages turns : ℕ) (result : Result Reply OutOfTurns) → AnswersOrRunsOut (first_of index) pages (number_of old) turns op result (trail old) new → IfOk result (λ reply. StepsAlone (first_of index) index op reply (trail old) new)
   finds_alone pages turns (Ok reply) answered = steps_alone reply answered.answered.answers
   finds_alone pages turns (Err fault) answered = tt

@@ -42,9 +42,8 @@ use Rattle.bl_passes.specs.Seeing.{first_map, BeginsFrom, AreWithin}
 use Rattle.bl_passes.specs.Fitting.{Shows, IsAnchor, owner_in, IsHand, Fits}
 use Rattle.bl_index.specs.declared.index.Index.{Index}
 use Rattle.bl_index.specs.declared.index.Pass.{Pass}
-use Rattle.bl_index.specs.Calls.{pages_of, IsPassOf, number_of}
+use Rattle.bl_index.specs.Calls.{pages_of, first_of, IsPassOf, number_of}
 use Rattle.bl_index.specs.Closed.{AreOf, AreAll, AreHandsOf, Closes}
-use Rattle.bl_index.proofs.Calls.{no_pages}
 use Rattle.bl_index.proofs.Holders.{held_busy}
 
 no_anchor : (c : Page) → IsAnchor c → IsTreePage c → ⊥
@@ -158,9 +157,11 @@ module _ (index : Index) (passes : List Pass) (hands : List (Hand Mine)) (of : A
   each_hand all n lt = let has = all n lt in let a = of.all has.place has.pass has.at in (a.0, has.pass.hand, a.1, has.numbered)
 
   pub hand_own : AreOf index passes → (k : ℕ) (hand : Hand Mine) → get_elem? hands k ≡ some hand → IsOf index.store.table.shared.table_id index.store.layout hand.seat × IsIdle hand.seat
-  hand_own own k hand at = let h = of.only k hand at in subst (λ (z : Hand Mine). IsOf index.store.table.shared.table_id index.store.layout z.seat × IsIdle z.seat) h.is (all_there (IsPassOf index) passes h.place h.pass own h.at, h.pass.idle)
+  hand_own own k hand at =
+      let h = of.only k hand at in let is = all_there (IsPassOf index) passes h.place h.pass own h.at in
+      subst (λ (z : Hand Mine). IsOf index.store.table.shared.table_id index.store.layout z.seat × IsIdle z.seat) h.is ((is.0, is.1), h.pass.idle)
 
-  module _ (result : List (List ℕ)) (c : IsClosed Fits index.store.layout hands result) (all : AreAll index passes) (pages : List (Option Page)) (spells : map page_words pages ≡ result) (fit : AllFit pages) where
+  module _ (result : List (List ℕ)) (c : IsClosed Fits index.store.layout hands result) (own : AreOf index passes) (all : AreAll index passes) (pages : List (Option Page)) (spells : map page_words pages ≡ result) (fit : AllFit pages) where
     knows : (k : ℕ) (pass : Pass) → get_elem? passes k ≡ some pass → IsHand c.kept.world (number_of pass) Idle (known pass.hand.seat)
     knows k pass at = let a = of.all k pass at in c.kept.hands (number_of pass) Idle (known pass.hand.seat) (c.stand a.0 pass.hand a.1)
 
@@ -173,12 +174,12 @@ module _ (index : Index) (passes : List Pass) (hands : List (Hand Mine)) (of : A
     sound : AreSound pages
     sound = closed_sound index.store.layout hands result c (each_hand all) pages spells fit
 
-    -- the index was opened empty, since its passes know so
-    empty : c.kept.image ≡ []
-    empty =
+    -- the world began with what the index did, since its passes know so
+    begins_so : c.kept.image ≡ first_of index
+    begins_so =
         let within = index.store.layout.passes_within in
         let has = all 0 (omega (arith, within.0)) in let a = of.all has.place has.pass has.at in
-        sym (c.kept.firsts (number_of has.pass) Idle (known has.pass.hand.seat) (c.stand a.0 has.pass.hand a.1)) ∙ no_pages (known has.pass.hand.seat).first has.pass.first
+        sym (c.kept.firsts (number_of has.pass) Idle (known has.pass.hand.seat) (c.stand a.0 has.pass.hand a.1)) ∙ (all_there (IsPassOf index) passes has.place has.pass own has.at).2
 
     pub closes : Closes index passes pages
     closes =
@@ -191,12 +192,12 @@ module _ (index : Index) (passes : List Pass) (hands : List (Hand Mine)) (of : A
             linear = record {
               start = w.start;
               now = w.now;
-              opening = subst (λ (z : List (Option Page)). BeginsFrom z w.start) empty f.opening;
+              opening = subst (λ (z : List (Option Page)). BeginsFrom z w.start) begins_so f.opening;
               leads = f.good.recorded.leads;
               marked = f.good.recorded.marked;
-              legal = subst (λ (z : Map). IsLegalFrom z (history_of w.trail)) (f.first ∙ ap first_map empty) f.good.recorded.legal;
+              legal = subst (λ (z : Map). IsLegalFrom z (history_of w.trail)) (f.first ∙ ap first_map begins_so) f.good.recorded.legal;
             };
-            moments = subst (λ (z : List (Option Page)). HasMoments (first_map z) w.start w.trail) empty f.moments;
+            moments = subst (λ (z : List (Option Page)). HasMoments (first_map z) w.start w.trail) begins_so f.moments;
           };
           all = all;
           begins = λ k pass at. let h = knows k pass at in (h.begins.0, h.begins.1);
@@ -206,5 +207,5 @@ module _ (index : Index) (passes : List Pass) (hands : List (Hand Mine)) (of : A
           left = left;
           rows = list.rows;
           are_rows = list.are_rows;
-          map = λ key. sym (rests_map _ w f.good pages fit left counted list.rows list.are_rows key) ∙ (f.good.recorded.map key ∙ ap (λ (z : Map). final_map z (history_of w.trail) key) (f.first ∙ ap first_map empty));
+          map = λ key. sym (rests_map _ w f.good pages fit left counted list.rows list.are_rows key) ∙ (f.good.recorded.map key ∙ ap (λ (z : Map). final_map z (history_of w.trail) key) (f.first ∙ ap first_map begins_so));
         }

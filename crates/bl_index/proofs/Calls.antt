@@ -1,5 +1,5 @@
 -- What a pass knows of its call, event by event.
-use Rattle.std.proofs.Common.{ℕ, ◌≡◌, ◌≢◌, ◌+◌, ◌++◌, Option, List, [], ◌∷◌, length, refl, sym, ap, ◌∙◌, subst, append_assoc, arith}
+use Rattle.std.proofs.Common.{ℕ, ◌≡◌, ◌≢◌, ◌+◌, ◌++◌, Option, List, [], ◌∷◌, refl, sym, ap, ◌∙◌, subst, append_assoc}
 use Rattle.std.specs.Prelude.{slice_get}
 use Rattle.bl_model.specs.declared.operation.Reply.{Reply}
 use Rattle.bl_page.specs.declared.page.Page.{Page}
@@ -92,10 +92,6 @@ since_end pass answer old d e s t =
       none = s.none;
       only = each_append _ s.since t.notes.between s.only (others_only p t.notes.between (subst (λ (z : ℕ). AreElse z t.notes.between) s.named t.notes.others));
     }
-
-pub no_pages : (pages : List (Option Page)) → length pages ≡ 0 → pages ≡ []
-no_pages [] e = refl
-no_pages (page ∷ pages) e = absurd (omega arith)
 
 -- what the index began with, and what the pass has seen by then
 pub end_seen : (pass : ℕ) (answer : Option Reply) (old d e : Mine) (first : List (Option Page)) → IsSince pass old d → Finishes answer d e → old.first ≡ first → (e.first ≡ first) × IsSeen first (trail_of e.trail)

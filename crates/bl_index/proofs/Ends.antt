@@ -1,5 +1,5 @@
 -- What is said at the end of an operation.
-use Rattle.std.proofs.Common.{ℕ, ◌≡◌, ◌≢◌, ◌+◌, Option, Some, None, [], sym, ap, ◌∙◌, subst}
+use Rattle.std.proofs.Common.{ℕ, ◌≡◌, ◌≢◌, ◌+◌, Option, Some, None, List, sym, ap, ◌∙◌, subst}
 use Rattle.bl_model.specs.declared.operation.Op.{Op as Operation}
 use Rattle.bl_model.specs.declared.operation.Op.TheVariants as op
 use Rattle.bl_model.specs.declared.operation.Reply.{Reply}
@@ -43,7 +43,7 @@ use Rattle.bl_tables.specs.Knowing.{Run, bare as know, know_of, inserted_reply, 
 use Rattle.bl_courses.specs.Frames.{op_of}
 use Rattle.bl_passes.specs.declared.known.Mine.{Mine}
 use Rattle.bl_passes.specs.Noting.{trail_of}
-use Rattle.bl_passes.specs.Seeing.{IsSeen, Holds}
+use Rattle.bl_passes.specs.Seeing.{Holds}
 use Rattle.bl_passes.specs.Fitting.{name}
 use Rattle.bl_index.specs.Calls.{Answers}
 use Rattle.bl_index.specs.Runs.{IsDone}
@@ -207,21 +207,21 @@ end_says (proc.Compress p) last o reply hint i e t h = cc
 end_says (proc.Part p) (proc.Part q) o reply hint i e t h = (let s = part_ends p.from p.stage q.stage reply hint e t.1 h in says_of (proc.Part p) o (op.Part p.from) reply s.0 (λ got child time. s.1) i)
 end_says (proc.Post p) (proc.Post q) o reply hint i e t h = cc
 
--- what the pass has seen when a process has ended
-pub done_seen : (pass : ℕ) (old e : Mine) (first last : Proc) → IsDone pass old e first last → old.first ≡ [] → (e.first ≡ []) × IsSeen [] (trail_of e.trail)
-done_seen pass old e first last d empty = end_seen pass (end_of_proc d.before) old d.d e [] d.since d.told empty
+-- what the index began with, as the pass knows when a process has ended
+pub done_first : (pass : ℕ) (old e : Mine) (first last : Proc) → IsDone pass old e first last → e.first ≡ old.first
+done_first pass old e first last d = d.told.notes.first ∙ d.since.beginning
 
 -- the hint beside its reply means what it has put
 pub op_beside : (pass : ℕ) (old e : Mine) (first last : Proc) (reply : Reply) (hint : Option Hint) → IsDone pass old e first last → answer_of last ≡ Some (Op reply hint) → MeansBeside last reply hint (marks_of (name pass (old.number + 1)) (trail_of e.trail))
 op_beside pass old e first last reply hint d answer = beside_means last reply hint (marks_of (name pass (old.number + 1)) (trail_of e.trail)) answer d.log
 
-abbrev pub op_answered : (pass : ℕ) (old e : Mine) (first last : Proc) (o : Operation) (reply : Reply) (hint : Option Hint) → IsDone pass old e first last → old.first ≡ [] → op_of first ≡ Some o → answer_of last ≡ Some (Op reply hint) → Answers pass o reply (trail_of old.trail) (trail_of e.trail)
-op_answered pass old e first last o reply hint d empty is answer =
+abbrev pub op_answered : (from : List (Option Page)) (pass : ℕ) (old e : Mine) (first last : Proc) (o : Operation) (reply : Reply) (hint : Option Hint) → IsDone pass old e first last → old.first ≡ from → op_of first ≡ Some o → answer_of last ≡ Some (Op reply hint) → Answers from pass o reply (trail_of old.trail) (trail_of e.trail)
+op_answered from pass old e first last o reply hint d begins is answer =
     let s = end_says d.before last o reply hint (d.op ∙ is) d.at_end d.takes answer in
     record {
       number = old.number + 1;
       holds = subst (λ (z : Option Reply). Holds (name pass (old.number + 1)) z (trail_of old.trail) (trail_of e.trail)) s.end (since_end pass (end_of_proc d.before) old d.d e d.since d.told);
-      seen = (end_seen pass (end_of_proc d.before) old d.d e [] d.since d.told empty).1;
+      seen = (end_seen pass (end_of_proc d.before) old d.d e from d.since d.told begins).1;
       once = since_said pass (end_of_proc d.before) old d.d e (Some (record { op = o; reply = reply })) d.since d.told (λ r h. s.said r (h ∙ d.state));
     }
 

@@ -1,5 +1,5 @@
 -- An index as it is made.
-use Rattle.std.proofs.Common.{ℕ, zero, suc, ◌≡◌, ◌+◌, ◌<◌, ◌≤◌, List, [], ◌∷◌, length, replicate, refl, ap, ◌∙◌, subst, arith}
+use Rattle.std.proofs.Common.{ℕ, zero, suc, ◌≡◌, ◌+◌, ◌<◌, ◌≤◌, Option, List, [], ◌∷◌, length, replicate, refl, sym, ap, ◌∙◌, subst, arith}
 use mathlib.Core.Option.{some}
 use lib.ListN.{get_elem?}
 use Rattle.atomic_table.specs.Seated.{TableId}
@@ -16,9 +16,11 @@ use Rattle.bl_passes.proofs.Starts.{first_leaf, starts, newcomer_seen}
 use Rattle.bl_store.specs.declared.store.Hand.{Hand}
 use Rattle.bl_passes.specs.declared.known.Mine.{Mine}
 use Rattle.bl_passes.specs.Noting.{trail_of}
+use Rattle.bl_passes.specs.Seeing.{IsSeen}
 use Rattle.bl_index.specs.declared.config.Config.{Config}
 use Rattle.bl_index.specs.declared.index.Index.{Index}
 use Rattle.bl_index.specs.declared.index.Pass.{Pass}
+use Rattle.bl_index.specs.Calls.{first_of}
 use Rattle.bl_index.specs.Opened.{IsFirstAnchor, IsFirstLeaf, AreFirst, IsNewHand, AreNew, ArePasses, IsOpened}
 
 there : {A : Type 0} (l : List A) (i : ℕ) → i < length l → (a : A) × (get_elem? l i ≡ some a)
@@ -67,11 +69,12 @@ dealt table l known passes hands is h = subst (λ (z : Mine). IsDealt table l z 
 pub new_hands : (table : TableId) (l : Layout) (passes : ℕ) (hands : List (Hand Mine)) → IsDealt table l newcomer passes hands → AreNew table l 0 hands
 new_hands table l passes hands h j hand at = let same : j ≡ 0 + j = omega arith in subst (λ (z : ℕ). IsNewHand table l z hand) same (h.each j hand at)
 
-pub is_opened : (config : Config) (index : Index) (hands : List (Hand Mine)) (passes : List Pass) → index.store.layout.pages ≡ config.pages → index.store.layout.passes ≡ config.passes → IsDealt index.store.table.shared.table_id index.store.layout newcomer config.passes hands → ArePasses index.store.table.shared.table_id index.store.layout (length hands) passes → IsOpened config index passes
-is_opened config index hands passes pages among dealt are = record {
+pub is_opened : (config : Config) (index : Index) (hands : List (Hand Mine)) (passes : List Pass) → index.store.layout.pages ≡ config.pages → index.store.layout.passes ≡ config.passes → IsDealt index.store.table.shared.table_id index.store.layout newcomer config.passes hands → ArePasses index.store.table.shared.table_id index.store.layout (length hands) passes → first_of index ≡ [] → IsOpened config index passes
+is_opened config index hands passes pages among dealt are empty = record {
   pages = pages;
   passes_are = among;
   count = are.count ∙ dealt.count;
-  each = λ n pass at. (let is = are.each n pass at in ((is.1, ap (λ (v : View Mine). v.layout) is.2), is.0, ap (λ (v : View Mine). trail_of v.known.trail) is.2));
-  seen = newcomer_seen;
+  each = λ n pass at. (let is = are.each n pass at in ((is.1, ap (λ (v : View Mine). v.layout) is.2, ap (λ (v : View Mine). v.known.first) is.2 ∙ sym empty), is.0, ap (λ (v : View Mine). trail_of v.known.trail) is.2));
+  first = empty;
+  seen = subst (λ (z : List (Option Page)). IsSeen z []) (sym empty) newcomer_seen;
 }

@@ -13,7 +13,8 @@ use Rattle.bl_model.specs.declared.operation.Reply.TheVariants.{Rows}
 use Rattle.bl_model.specs.Map.{Map, MayAnswer}
 use Rattle.bl_model.specs.Rows.{HasRisingKeys}
 use Rattle.bl_trails.specs.Trails.{Trail, history_of, entries_at}
-use Rattle.bl_passes.specs.Seeing.{own}
+use Rattle.bl_page.specs.declared.page.Page.{Page}
+use Rattle.bl_passes.specs.Seeing.{first_map, own}
 use Rattle.bl_index.specs.declared.scanning.ScanFault.{ScanFault}
 use Rattle.bl_index.specs.Calls.{Finds}
 use Rattle.bl_index.specs.Scans.{IsBelow, is_below, rows_below, AreParts, AreCalls, Scans, IsOver, EndsScan, MayScan, AppendsPart, left_from}
@@ -24,13 +25,13 @@ history_append : (xs ys : Trail) → history_of (xs ++ ys) ≡ history_of xs ++ 
 history_append [] ys = refl
 history_append (m ∷ ms) ys = ap (λ (z : List Entry). entries_at m.event.process m.said ++ z) (history_append ms ys) ∙ sym (append_assoc (entries_at m.event.process m.said) (history_of ms) (history_of ys))
 
-calls_push : (pages pass : ℕ) (es : List Entry) (e : Entry) (old mid new : Trail) → AreCalls pages pass es old mid → Finds pages pass e.op e.reply mid new → AreCalls pages pass (es ++ e ∷ []) old new
-calls_push pages pass [] e old mid new calls finds = (new, subst (λ (z : Trail). Finds pages pass e.op e.reply z new) calls finds, refl)
-calls_push pages pass (x ∷ xs) e old mid new calls finds = (calls.0, calls.1, calls_push pages pass xs e calls.0 mid new calls.2 finds)
+calls_push : (first : List (Option Page)) (pages pass : ℕ) (es : List Entry) (e : Entry) (old mid new : Trail) → AreCalls first pages pass es old mid → Finds first pages pass e.op e.reply mid new → AreCalls first pages pass (es ++ e ∷ []) old new
+calls_push first pages pass [] e old mid new calls finds = (new, subst (λ (z : Trail). Finds first pages pass e.op e.reply z new) calls finds, refl)
+calls_push first pages pass (x ∷ xs) e old mid new calls finds = (calls.0, calls.1, calls_push first pages pass xs e calls.0 mid new calls.2 finds)
 
 -- a scan that is about to begin
-pub scans_none : (pages pass from : ℕ) (to : Option ℕ) (old : Trail) → Scans pages pass from to (Some from) [] old old
-scans_none pages pass from to old = record {
+pub scans_none : (first : List (Option Page)) (pages pass from : ℕ) (to : Option ℕ) (old : Trail) → Scans first pages pass from to (Some from) [] old old
+scans_none first pages pass from to old = record {
   parts = [];
   are_parts = refl;
   calls = refl;
@@ -43,15 +44,15 @@ scans_none pages pass from to old = record {
   right = λ key low high below. absurd (omega arith);
 }
 
-module _ (pages pass at : ℕ) (reply : Reply) (mid new : Trail) (finds : Finds pages pass (Part at) reply mid new) where
+module _ (first : List (Option Page)) (pages pass at : ℕ) (reply : Reply) (mid new : Trail) (finds : Finds first pages pass (Part at) reply mid new) where
   abbrev entry : Entry
   entry = record { pass = pass; op = Part at; reply = reply }
 
   abbrev more : Trail
   more = finds.answers.holds.before ++ finds.answers.holds.first ∷ (finds.answers.holds.between ++ finds.answers.holds.last ∷ [])
 
-  stands_there : Answered entry (history_of mid) (history_of new)
-  stands_there = answered pass entry (history_of mid) (history_of more) (history_of new) (ap history_of finds.answers.holds.begins ∙ history_append mid more) finds.answers.seen.linear.legal finds.answers.once
+  stands_there : Answered (first_map first) entry (history_of mid) (history_of new)
+  stands_there = answered (first_map first) pass entry (history_of mid) (history_of more) (history_of new) (ap history_of finds.answers.holds.begins ∙ history_append mid more) finds.answers.seen.linear.legal finds.answers.once
 
   -- the rows of a part have rising keys
   pub part_rises : HasRisingKeys (rows_of reply)
@@ -66,21 +67,21 @@ module _ (pages pass at : ℕ) (reply : Reply) (mid new : Trail) (finds : Finds 
   ends_behind = (part_is _ at reply stands_there.may).further
 
   -- the scan has gone on by the part
-  pub scans_more : (from : ℕ) (to : Option ℕ) (listed : List (ℕ × ℕ)) (old : Trail) → Scans pages pass from to (Some at) listed old mid → from ≤ at → IsBelow to at → Scans pages pass from to (ended_at reply) (listed ++ rows_below to reply) old new
+  pub scans_more : (from : ℕ) (to : Option ℕ) (listed : List (ℕ × ℕ)) (old : Trail) → Scans first pages pass from to (Some at) listed old mid → from ≤ at → IsBelow to at → Scans first pages pass from to (ended_at reply) (listed ++ rows_below to reply) old new
   scans_more from to listed old s low below =
       let is_part : (m : Map) → MayAnswer m (Part at) reply → _ = λ m may. part_is m at reply may in
       let on : history_of mid ≡ history_of old ++ history_of s.begins.0 = ap history_of s.begins.1 ∙ history_append old s.begins.0 in
       record {
         parts = s.parts ++ entry ∷ [];
         are_parts = parts_push pass to (Some from) s.parts at reply s.are_parts below;
-        calls = calls_push pages pass s.parts entry old mid new s.calls finds;
+        calls = calls_push first pages pass s.parts entry old mid new s.calls finds;
         begins = (s.begins.0 ++ more, finds.answers.holds.begins ∙ (ap (λ (z : Trail). z ++ more) s.begins.1 ∙ append_assoc old s.begins.0 more));
         seen = λ _. finds.answers.seen;
         mine = finds.answers.once ∙ (ap (λ (z : List Entry). z ++ entry ∷ []) s.mine ∙ append_assoc (own pass old) s.parts (entry ∷ []));
         listed = ap (λ (z : List (ℕ × ℕ)). z ++ rows_below to reply) s.listed ∙ flat_map_more (λ part. rows_below to part.reply) [] s.parts entry;
-        rising = rising_more pass from at to (history_of old) (history_of s.begins.0) (history_of mid) (history_of new) entry listed is_part on stands_there refl low s.within s.rising;
-        within = from_more pass from at to (history_of old) (history_of s.begins.0) (history_of mid) (history_of new) entry listed is_part on stands_there refl low s.within;
-        right = right_more pass from at to (history_of old) (history_of s.begins.0) (history_of mid) (history_of new) entry listed is_part on stands_there refl low s.within s.right;
+        rising = rising_more first pass from at to (history_of old) (history_of s.begins.0) (history_of mid) (history_of new) entry listed is_part on stands_there refl low s.within s.rising;
+        within = from_more first pass from at to (history_of old) (history_of s.begins.0) (history_of mid) (history_of new) entry listed is_part on stands_there refl low s.within;
+        right = right_more first pass from at to (history_of old) (history_of s.begins.0) (history_of mid) (history_of new) entry listed is_part on stands_there refl low s.within s.right;
       }
 
 -- a key that is not below the scan's end
@@ -97,36 +98,36 @@ no_parts pass to from [] upto are is = refl
 no_parts pass to from (e ∷ es) upto are is = absurd (not_both to from is are.2)
 
 -- where nothing is to be scanned, nothing happens
-pub nothing_done : (pages pass turns from : ℕ) (to : Option ℕ) (room : ℕ) (result : Result (Unit {0}) ScanFault) (before after : List (ℕ × ℕ)) (old new : Trail)
-    → MayScan pages pass turns from to room result before after old new → IsOver to (Some from) → new ≡ old
-nothing_done pages pass turns from to room (Ok done) before after old new m is =
+pub nothing_done : (first : List (Option Page)) (pages pass turns from : ℕ) (to : Option ℕ) (room : ℕ) (result : Result (Unit {0}) ScanFault) (before after : List (ℕ × ℕ)) (old new : Trail)
+    → MayScan first pages pass turns from to room result before after old new → IsOver to (Some from) → new ≡ old
+nothing_done first pages pass turns from to room (Ok done) before after old new m is =
     let s = m.ended.scans in
-    subst (λ (z : List Entry). AreCalls pages pass z old new) (no_parts pass to from s.parts m.ended.upto s.are_parts is) s.calls
-nothing_done pages pass turns from to room (Err fault) before after old new m is =
+    subst (λ (z : List Entry). AreCalls first pages pass z old new) (no_parts pass to from s.parts m.ended.upto s.are_parts is) s.calls
+nothing_done first pages pass turns from to room (Err fault) before after old new m is =
     let s = m.stopped.scans in
     let none : s.parts ≡ [] = no_parts pass to from s.parts (Some (left_from fault)) s.are_parts is in
     let same : Some (left_from fault) ≡ Some from = subst (λ (z : List Entry). AreParts pass to (Some from) z (Some (left_from fault))) none s.are_parts in
     let key : left_from fault ≡ from = cc in
     absurd (not_both to from is (subst (IsBelow to) key m.stopped.left))
 
-module _ (pages pass it from at : ℕ) (to : Option ℕ) (next : Next) (listed before after : List (ℕ × ℕ)) (old mid new : Trail) (same : it ≡ pass) (s : Scans pages pass from to (Some at) listed old mid) (low : from ≤ at) (below : IsBelow to at) where
+module _ (first : List (Option Page)) (pages pass it from at : ℕ) (to : Option ℕ) (next : Next) (listed before after : List (ℕ × ℕ)) (old mid new : Trail) (same : it ≡ pass) (s : Scans first pages pass from to (Some at) listed old mid) (low : from ≤ at) (below : IsBelow to at) where
   abbrev Onward : Option ℕ → Type 0
-  Onward upto = (rows : List (ℕ × ℕ)) × (after ≡ before ++ rows) × Scans pages pass from to upto (listed ++ rows) old new
+  Onward upto = (rows : List (ℕ × ℕ)) × (after ≡ before ++ rows) × Scans first pages pass from to upto (listed ++ rows) old new
 
-  by_part : AppendsPart pages it at to next before after mid new → Onward (next_key next)
-  by_part a = let finds : Finds pages pass (Part at) a.reply mid new = subst (λ (z : ℕ). Finds pages z (Part at) a.reply mid new) same a.finds in (
+  by_part : AppendsPart first pages it at to next before after mid new → Onward (next_key next)
+  by_part a = let finds : Finds first pages pass (Part at) a.reply mid new = subst (λ (z : ℕ). Finds first pages z (Part at) a.reply mid new) same a.finds in (
     rows_below to a.reply,
     a.appended,
-    subst (λ (z : Option ℕ). Scans pages pass from to z (listed ++ rows_below to a.reply) old new) a.ends (scans_more pages pass at a.reply mid new finds from to listed old s low below),
+    subst (λ (z : Option ℕ). Scans first pages pass from to z (listed ++ rows_below to a.reply) old new) a.ends (scans_more first pages pass at a.reply mid new finds from to listed old s low below),
   )
 
   -- a scan that goes on behind a part
-  pub goes_on : (n : ℕ) → next ≡ More n → AppendsPart pages it at to next before after mid new → (at < n) × Onward (Some n)
+  pub goes_on : (n : ℕ) → next ≡ More n → AppendsPart first pages it at to next before after mid new → (at < n) × Onward (Some n)
   goes_on n is a = (
-    subst (IsBehind at) (a.ends ∙ ap next_key is) (ends_behind pages it at a.reply mid new a.finds),
+    subst (IsBehind at) (a.ends ∙ ap next_key is) (ends_behind first pages it at a.reply mid new a.finds),
     subst (λ (z : Next). Onward (next_key z)) is (by_part a),
   )
 
   -- a scan that ends with the map
-  pub ends_there : next ≡ End → AppendsPart pages it at to next before after mid new → (rows : List (ℕ × ℕ)) × (after ≡ before ++ rows) × EndsScan pages pass from to (listed ++ rows) old new
+  pub ends_there : next ≡ End → AppendsPart first pages it at to next before after mid new → (rows : List (ℕ × ℕ)) × (after ≡ before ++ rows) × EndsScan first pages pass from to (listed ++ rows) old new
   ends_there is a = let on : Onward None = subst (λ (z : Next). Onward (next_key z)) is (by_part a) in (on.0, on.1, record { upto = None; over = tt; scans = on.2 })

@@ -1,6 +1,7 @@
 -- A process that has ended, and has said nothing of the map.
-use Rattle.std.proofs.Common.{ℕ, ◌≡◌, ◌+◌, Option, Some, None, [], ap, ◌∙◌, subst, append-nil}
+use Rattle.std.proofs.Common.{ℕ, ◌≡◌, ◌+◌, Option, Some, None, List, ap, ◌∙◌, subst, append-nil}
 use Rattle.bl_model.specs.declared.operation.Reply.{Reply}
+use Rattle.bl_page.specs.declared.page.Page.{Page}
 use Rattle.bl_proc.specs.declared.kinds.Proc.{Proc}
 use Rattle.bl_tables.specs.Knowing.{Run, bare as know, end_of_proc}
 use Rattle.bl_passes.specs.declared.known.Mine.{Mine}
@@ -18,12 +19,12 @@ first_of {a} {b} {c} {d} e = (let both : ◌≡◌ {A = ℕ × ℕ} (a, b) (c, d
 pub second_of : {a b c d : ℕ} → ◌≡◌ {A = Option (ℕ × ℕ)} (Some (a, b)) (Some (c, d)) → b ≡ d
 second_of {a} {b} {c} {d} e = (let both : ◌≡◌ {A = ℕ × ℕ} (a, b) (c, d) = cc in ap (λ (z : ℕ × ℕ). z.1) both)
 
-abbrev pub quiet_adds : (pass : ℕ) (old e : Mine) (first last before : Proc) (d : IsDone pass old e first last) → old.first ≡ [] → d.before ≡ before → end_of_proc before ≡ None → ((r : Run) → r.state ≡ before → (know r).said ≡ None) → Adds pass (trail_of old.trail) (trail_of e.trail)
-quiet_adds pass old e first last before d empty is end silent =
+abbrev pub quiet_adds : (from : List (Option Page)) (pass : ℕ) (old e : Mine) (first last before : Proc) (d : IsDone pass old e first last) → old.first ≡ from → d.before ≡ before → end_of_proc before ≡ None → ((r : Run) → r.state ≡ before → (know r).said ≡ None) → Adds from pass (trail_of old.trail) (trail_of e.trail)
+quiet_adds from pass old e first last before d begins is end silent =
     let told : Finishes None d.d e = subst (λ (z : Option Reply). Finishes z d.d e) (ap end_of_proc is ∙ end) d.told in
     record {
       number = old.number + 1;
       holds = since_end pass None old d.d e d.since told;
-      seen = (end_seen pass None old d.d e [] d.since told empty).1;
+      seen = (end_seen pass None old d.d e from d.since told begins).1;
       none = since_said pass None old d.d e None d.since told (λ r h. silent r (h ∙ (d.state ∙ is))) ∙ append-nil (own pass (trail_of old.trail));
     }

@@ -1,5 +1,5 @@
 -- What a sweep tells its caller.
-use Rattle.std.proofs.Common.{false, ℕ, ◌≡◌, ◌≢◌, ◌+◌, ◌≤◌, Option, List, [], ◌∷◌, inl, inr, sym, ap, ◌∙◌, subst, arith, append-nil, le_refl}
+use Rattle.std.proofs.Common.{false, ℕ, ◌≡◌, ◌≢◌, ◌+◌, ◌≤◌, Option, List, [], ◌∷◌, inl, inr, refl, sym, ap, ◌∙◌, subst, arith, append-nil, le_refl}
 use Rattle.bl_page.specs.declared.page.Page.{Page}
 use Rattle.bl_page.specs.Machine.{Name}
 use Rattle.bl_trails.specs.Trails.{Mark, Trail}
@@ -11,10 +11,10 @@ use Rattle.bl_passes.specs.Fitting.{name}
 use Rattle.bl_passes.specs.Told.{sweeps}
 use Rattle.bl_index.specs.Calls.{Sweeps}
 
--- what the index began with, and what the pass has seen then; it runs no process
-pub swept_seen : (pass count among released : ℕ) (d e : Mine) → d.first ≡ [] → ∥ IsSeen [] (trail_of d.trail) ∥₁ → d.runs ≡ false → sweeps pass count among d released e → (e.first ≡ []) × ∥ IsSeen [] (trail_of e.trail) ∥₁ × (e.runs ≡ false)
-swept_seen pass count among released d e empty seen rests (inl is) = subst (λ (z : Mine). (z.first ≡ []) × ∥ IsSeen [] (trail_of z.trail) ∥₁ × (z.runs ≡ false)) (sym is.0) (empty, seen, rests)
-swept_seen pass count among released d e empty seen rests (inr t) = let same : e.first ≡ [] = t.first ∙ empty in (same, ∣ subst (λ (z : List (Option Page)). IsSeen z (trail_of e.trail)) same t.seen ∣₁, t.runs)
+-- the same of what it began with and of what the pass has seen; it runs no process
+pub swept_seen : (pass count among released : ℕ) (d e : Mine) → ∥ IsSeen d.first (trail_of d.trail) ∥₁ → d.runs ≡ false → sweeps pass count among d released e → (e.first ≡ d.first) × ∥ IsSeen e.first (trail_of e.trail) ∥₁ × (e.runs ≡ false)
+swept_seen pass count among released d e seen rests (inl is) = subst (λ (z : Mine). (z.first ≡ d.first) × ∥ IsSeen z.first (trail_of z.trail) ∥₁ × (z.runs ≡ false)) (sym is.0) (refl, seen, rests)
+swept_seen pass count among released d e seen rests (inr t) = (t.first, ∣ t.seen ∣₁, t.runs)
 
 -- more than the number of each process in a trail
 abbrev above : Trail → ℕ
@@ -29,24 +29,24 @@ fresh_from pass k (m ∷ ms) le =
       fresh_from pass k ms (omega arith),
     )
 
-pub sweep_tells : (pass count among released answer : ℕ) (d e : Mine) → d.first ≡ [] → d.number + 1 ≡ count → released ≤ answer → sweeps pass count among d released e → Sweeps pass answer (trail_of d.trail) (trail_of e.trail)
-sweep_tells pass count among released answer d e empty next few (inl is) = record {
+pub sweep_tells : (from : List (Option Page)) (pass count among released answer : ℕ) (d e : Mine) → d.first ≡ from → d.number + 1 ≡ count → released ≤ answer → sweeps pass count among d released e → Sweeps from pass answer (trail_of d.trail) (trail_of e.trail)
+sweep_tells from pass count among released answer d e begins next few (inl is) = record {
   number = above (trail_of d.trail);
   fresh = fresh_from pass (above (trail_of d.trail)) (trail_of d.trail) (le_refl (above (trail_of d.trail)));
   more = [];
   few = omega arith;
   begins = ap (λ (z : Mine). trail_of z.trail) is.0 ∙ sym (append-nil (trail_of d.trail));
   mine = tt;
-  seen = subst (λ (z : Mine). IsSeen [] (trail_of z.trail)) (sym is.0);
+  seen = subst (λ (z : Mine). IsSeen from (trail_of z.trail)) (sym is.0);
   none = ap (λ (z : Mine). own pass (trail_of z.trail)) is.0;
 }
-sweep_tells pass count among released answer d e empty next few (inr t) = record {
+sweep_tells from pass count among released answer d e begins next few (inr t) = record {
   few = subst (λ (z : ℕ). z ≤ answer) (sym t.many) few;
   number = count;
   fresh = t.fresh (omega arith);
   more = t.more;
   begins = t.trail;
   mine = t.mine;
-  seen = λ old. subst (λ (z : List (Option Page)). IsSeen z (trail_of e.trail)) (t.first ∙ empty) t.seen;
+  seen = λ old. subst (λ (z : List (Option Page)). IsSeen z (trail_of e.trail)) (t.first ∙ begins) t.seen;
   none = t.own;
 }

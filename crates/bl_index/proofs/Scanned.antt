@@ -4,7 +4,7 @@ use Rattle.std.specs.Prelude.{◌↔◌, ◌==◌, All, Contains}
 use Rattle.std.proofs.lemmas.Bool.{cases_lt}
 use Rattle.std.proofs.lemmas.List.{append_cancel_left}
 use Rattle.std.proofs.lemmas.List.Elements.{All-append, All-contains, All-filter, All-weaker, Contains-append_left, Contains-append_right, Contains-append_cases, Contains-get_or}
-use Rattle.bl_model.specs.Map.{Map, empty, MayAnswer}
+use Rattle.bl_model.specs.Map.{Map, MayAnswer}
 use Rattle.bl_model.specs.History.{IsLegalFrom, final_map, entries_of_pass}
 use Rattle.bl_model.proofs.Histories.{legal_rest, entries_of_pass-append}
 use Rattle.bl_model.specs.Rows.{HasRisingKeys}
@@ -13,6 +13,8 @@ use Rattle.bl_model.specs.declared.operation.Next.TheVariants.{More, End}
 use Rattle.bl_model.specs.declared.operation.Op.TheVariants.{Part}
 use Rattle.bl_model.specs.declared.operation.Reply.{Reply}
 use Rattle.bl_model.specs.declared.operation.Reply.TheVariants.{Found, Absent, Inserted, Present, Deleted, Rows, NoRoom}
+use Rattle.bl_page.specs.declared.page.Page.{Page}
+use Rattle.bl_passes.specs.Seeing.{first_map}
 use Rattle.bl_index.specs.Scans.{IsBelow, is_below, rows_below, AreParts, IsRight}
 use Rattle.bl_model.specs.Parts.{rows_of, ended_at}
 use Rattle.bl_index.proofs.Ranges.{below_true, filter_keeps, filter_has, rising_filter, rising_behind}
@@ -82,14 +84,14 @@ parts_push pass to None (e ∷ es) at reply are below = absurd are
 parts_push pass to (Some from) (e ∷ es) at reply are below = (are.0, are.1, are.2, parts_push pass to (ended_at e.reply) es at reply are.3 below)
 
 -- where the entry of a call stands in the history, and that it is answered on the map before it
-pub record Answered (e : Entry) (old new : List Entry) : Type 0 where
+pub record Answered (start : Map) (e : Entry) (old new : List Entry) : Type 0 where
   pub before : List Entry
   pub after : List Entry
   pub stands : new ≡ old ++ (before ++ e ∷ after)
-  pub may : MayAnswer (final_map empty (old ++ before)) e.op e.reply
+  pub may : MayAnswer (final_map start (old ++ before)) e.op e.reply
 
-pub answered : (pass : ℕ) (e : Entry) (old more new : List Entry) → new ≡ old ++ more → IsLegalFrom empty new → entries_of_pass pass new ≡ entries_of_pass pass old ++ e ∷ [] → Answered e old new
-answered pass e old more new on legal once =
+pub answered : (start : Map) (pass : ℕ) (e : Entry) (old more new : List Entry) → new ≡ old ++ more → IsLegalFrom start new → entries_of_pass pass new ≡ entries_of_pass pass old ++ e ∷ [] → Answered start e old new
+answered start pass e old more new on legal once =
     let mine : entries_of_pass pass more ≡ e ∷ [] = append_cancel_left (entries_of_pass pass old) (entries_of_pass pass more) (e ∷ [])
     (sym (ap (entries_of_pass pass) on ∙ entries_of_pass-append pass old more) ∙ once) in
     let there : Stands e more = stands pass e more mine in
@@ -98,7 +100,7 @@ answered pass e old more new on legal once =
       before = there.before;
       after = there.after;
       stands = is;
-      may = (legal_rest empty (old ++ there.before) (e ∷ there.after) (subst (IsLegalFrom empty) (is ∙ sym (append_assoc old there.before (e ∷ there.after))) legal)).0;
+      may = (legal_rest start (old ++ there.before) (e ∷ there.after) (subst (IsLegalFrom start) (is ∙ sym (append_assoc old there.before (e ∷ there.after))) legal)).0;
     }
 
 -- ---- one part more
@@ -111,21 +113,21 @@ below_behind (Some end) at key further lt = omega arith
 abbrev pub IsFrom : ℕ → Option ℕ → ℕ × ℕ → Type 0
 IsFrom from upto row = (from ≤ row.0) × IsBelow upto row.0
 
-module _ (pass from at : ℕ) (to : Option ℕ) (old more mid new : List Entry) (e : Entry) (listed : List (ℕ × ℕ)) where
+module _ (first : List (Option Page)) (pass from at : ℕ) (to : Option ℕ) (old more mid new : List Entry) (e : Entry) (listed : List (ℕ × ℕ)) where
   abbrev fresh : List (ℕ × ℕ)
   fresh = rows_below to e.reply
 
-  module _ (is_part : (m : Map) → MayAnswer m e.op e.reply → IsPartOf m at e.reply) (on : mid ≡ old ++ more) (a : Answered e mid new) (mine : e.pass ≡ pass) (low : from ≤ at) (within : All (IsFrom from (Some at)) listed) where
-    part : IsPartOf (final_map empty (mid ++ a.before)) at e.reply
-    part = is_part (final_map empty (mid ++ a.before)) a.may
+  module _ (is_part : (m : Map) → MayAnswer m e.op e.reply → IsPartOf m at e.reply) (on : mid ≡ old ++ more) (a : Answered (first_map first) e mid new) (mine : e.pass ≡ pass) (low : from ≤ at) (within : All (IsFrom from (Some at)) listed) where
+    part : IsPartOf (final_map (first_map first) (mid ++ a.before)) at e.reply
+    part = is_part (final_map (first_map first) (mid ++ a.before)) a.may
 
-    same_map : (key : ℕ) → final_map empty (mid ++ a.before) key ≡ final_map empty (old ++ (more ++ a.before)) key
-    same_map key = ap (λ (z : List Entry). final_map empty z key) (ap (λ (z : List Entry). z ++ a.before) on ∙ append_assoc old more a.before)
+    same_map : (key : ℕ) → final_map (first_map first) (mid ++ a.before) key ≡ final_map (first_map first) (old ++ (more ++ a.before)) key
+    same_map key = ap (λ (z : List Entry). final_map (first_map first) z key) (ap (λ (z : List Entry). z ++ a.before) on ∙ append_assoc old more a.before)
 
     fresh_is : (key value : ℕ) → Contains fresh (key, value) → Contains (rows_of e.reply) (key, value)
     fresh_is key value c = (filter_has (λ row. is_below to row.0) (rows_of e.reply) (key, value) c).0
 
-    right_still : (key : ℕ) → key < at → IsRight pass old mid listed key → IsRight pass old new (listed ++ fresh) key
+    right_still : (key : ℕ) → key < at → IsRight first pass old mid listed key → IsRight first pass old new (listed ++ fresh) key
     right_still key lt r =
         let tail : List Entry = a.before ++ e ∷ a.after in
         record {
@@ -144,7 +146,7 @@ module _ (pass from at : ℕ) (to : Option ℕ) (old more mid new : List Entry) 
           );
         }
 
-    right_now : (key : ℕ) → at ≤ key → IsBelow (ended_at e.reply) key → IsBelow to key → IsRight pass old new (listed ++ fresh) key
+    right_now : (key : ℕ) → at ≤ key → IsBelow (ended_at e.reply) key → IsBelow to key → IsRight first pass old new (listed ++ fresh) key
     right_now key le below below_to = record {
       before = more ++ a.before;
       part = e;
@@ -162,8 +164,8 @@ module _ (pass from at : ℕ) (to : Option ℕ) (old more mid new : List Entry) 
       );
     }
 
-    pub right_more : ((key : ℕ) → from ≤ key → key < at → IsBelow to key → IsRight pass old mid listed key)
-        → (key : ℕ) → from ≤ key → IsBelow (ended_at e.reply) key → IsBelow to key → IsRight pass old new (listed ++ fresh) key
+    pub right_more : ((key : ℕ) → from ≤ key → key < at → IsBelow to key → IsRight first pass old mid listed key)
+        → (key : ℕ) → from ≤ key → IsBelow (ended_at e.reply) key → IsBelow to key → IsRight first pass old new (listed ++ fresh) key
     right_more right key least below below_to = ⊎_elim
         (λ (lt : key < at). right_still key lt (right key least lt below_to))
         (λ (le : at ≤ key). right_now key le below below_to)

@@ -1,5 +1,5 @@
 -- What a search tells its caller.
-use Rattle.std.proofs.Common.{ℕ, ◌≡◌, ◌≢◌, ◌+◌, ◌++◌, Option, Some, [], ◌∷◌, refl, sym, ap, ◌∙◌, subst}
+use Rattle.std.proofs.Common.{ℕ, ◌≡◌, ◌≢◌, ◌+◌, ◌++◌, Option, Some, List, [], ◌∷◌, refl, sym, ap, ◌∙◌, subst}
 use Rattle.bl_model.specs.declared.operation.Op.TheVariants as op
 use Rattle.bl_model.specs.declared.operation.Reply.{Reply}
 use Rattle.bl_page.specs.declared.page.Page.{Page}
@@ -72,8 +72,8 @@ pub find_is_search : (p : FindState) (state : Proc) → state ≡ Find p → IsS
 find_is_search p state e = subst IsSearch (sym e) tt
 
 -- a search that has found its leaf
-abbrev pub find_answers : (pass : ℕ) (old d e : Mine) (p : FindState) (key : ℕ) (value : Option ℕ) (reply : Reply) → old.first ≡ [] → IsSince pass old d → d.state ≡ Find p → p.key ≡ key → p.stage ≡ Ending value → Finishes (end_of_proc (Find p)) d e → reply ≡ found_reply value → Answers pass (op.Find key) reply (trail_of old.trail) (trail_of e.trail)
-find_answers pass old d e p key value reply empty s state is_key is_stage t is =
+abbrev pub find_answers : (from : List (Option Page)) (pass : ℕ) (old d e : Mine) (p : FindState) (key : ℕ) (value : Option ℕ) (reply : Reply) → old.first ≡ from → IsSince pass old d → d.state ≡ Find p → p.key ≡ key → p.stage ≡ Ending value → Finishes (end_of_proc (Find p)) d e → reply ≡ found_reply value → Answers from pass (op.Find key) reply (trail_of old.trail) (trail_of e.trail)
+find_answers from pass old d e p key value reply begins s state is_key is_stage t is =
     let same : p ≡ record { key = key; stage = Ending value } = λ i. record { key = is_key i; stage = is_stage i } in
     let answer : end_of_proc (Find p) ≡ Some reply = ap (λ (z : FindState). end_of_proc (Find z)) same ∙ ap (λ (z : Reply). Some z) (sym is) in
     let says : (r : Run) → r.state ≡ d.state → (know r).said ≡ found key value = λ r h. ap (λ (k : Know). k.said) (knows p r (h ∙ state)) ∙ ap (λ (z : FindState). (know_find z.key z.stage).said) same in
@@ -81,6 +81,6 @@ find_answers pass old d e p key value reply empty s state is_key is_stage t is =
     record {
       number = old.number + 1;
       holds = subst (λ (z : Option Reply). Holds p' z (trail_of old.trail) (trail_of e.trail)) answer (since_end pass (end_of_proc (Find p)) old d e s t);
-      seen = (end_seen pass (end_of_proc (Find p)) old d e [] s t empty).1;
+      seen = (end_seen pass (end_of_proc (Find p)) old d e from s t begins).1;
       once = since_said pass (end_of_proc (Find p)) old d e (found key value) s t says ∙ (λ i. own pass (trail_of old.trail) ++ record { pass = pass; op = op.Find key; reply = (sym is) i } ∷ []);
     }

@@ -1,5 +1,5 @@
 -- What is known of a process that gives up.
-use Rattle.std.proofs.Common.{ℕ, ◌≡◌, ◌+◌, None, [], sym, ◌∙◌, subst, append-nil}
+use Rattle.std.proofs.Common.{ℕ, ◌≡◌, ◌+◌, Option, None, List, [], sym, ◌∙◌, subst, append-nil}
 use Rattle.bl_page.specs.declared.page.Page.{Page}
 use Rattle.bl_steps.specs.Worlds.{Know, Stage}
 use Rattle.bl_proc.specs.declared.kinds.Proc.{Proc}
@@ -32,10 +32,10 @@ may_give_up state process is search silent = record {
     here : (r : Run) → r.state ≡ state → IsSilent (know_of r.got r.child r.time r.state)
     here r e = subst (λ (z : Proc). IsSilent (know_of r.got r.child r.time z)) (sym (e ∙ is)) (silent r.got r.child r.time)
 
-abbrev pub gives_up : (pass : ℕ) (old d e : Mine) → old.first ≡ [] → IsSince pass old d → MayGiveUp d.state → Finishes None d e → Adds pass (trail_of old.trail) (trail_of e.trail)
-gives_up pass old d e empty s may t = record {
+abbrev pub gives_up : (from : List (Option Page)) (pass : ℕ) (old d e : Mine) → old.first ≡ from → IsSince pass old d → MayGiveUp d.state → Finishes None d e → Adds from pass (trail_of old.trail) (trail_of e.trail)
+gives_up from pass old d e begins s may t = record {
   number = old.number + 1;
   holds = since_end pass None old d e s t;
-  seen = (end_seen pass None old d e [] s t empty).1;
+  seen = (end_seen pass None old d e from s t begins).1;
   none = since_said pass None old d e None s t may.silent ∙ append-nil (own pass (trail_of old.trail));
 }

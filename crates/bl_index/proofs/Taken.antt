@@ -1,13 +1,22 @@
 -- The passes of a new index, taken from the last one on.
-use Rattle.std.proofs.Common.{ℕ, zero, suc, ◌≡◌, ◌+◌, ◌<◌, ◌++◌, List, [], ◌∷◌, All, length, get_or, sym, ap, ◌∙◌, refl, arith}
+use Rattle.std.proofs.Common.{ℕ, zero, suc, ◌≡◌, ◌+◌, ◌<◌, ◌++◌, Option, List, [], ◌∷◌, All, length, get_or, sym, ap, ◌∙◌, subst, refl, arith}
+use Rattle.std.specs.Prelude.{Result}
 use Rattle.std.proofs.lemmas.List.{length-append}
 use mathlib.Core.Option.{some}
 use lib.ListN.{get_elem?}
 use Rattle.atomic_table.proofs.Lists.{at_last, at_longer}
+use Rattle.bl_model.specs.declared.operation.Op.{Op}
+use Rattle.bl_model.specs.declared.operation.Reply.{Reply}
+use Rattle.bl_page.specs.declared.page.Page.{Page}
+use Rattle.bl_trails.specs.Trails.{Trail}
+use Rattle.bl_store.specs.declared.store.Hand.{Hand}
+use Rattle.bl_store.specs.Hands.{known, IsSameHand}
+use Rattle.bl_passes.specs.declared.known.Mine.{Mine}
+use Rattle.bl_index.specs.declared.config.OutOfTurns.{OutOfTurns}
 use Rattle.bl_index.specs.declared.config.Config.{Config}
 use Rattle.bl_index.specs.declared.index.Index.{Index}
 use Rattle.bl_index.specs.declared.index.Pass.{Pass}
-use Rattle.bl_index.specs.Calls.{IsPassOf, IsSamePass, number_of, trail}
+use Rattle.bl_index.specs.Calls.{IsPassOf, IsSamePass, number_of, trail, AnswersOrRunsOut}
 use Rattle.bl_index.specs.Opened.{IsOpened}
 
 pub last_pass : (config : Config) (index : Index) (passes rest : List Pass) (pass : Pass) → IsOpened config index passes → passes ≡ rest ++ pass ∷ [] → IsPassOf index pass
@@ -25,7 +34,16 @@ only_pass config index passes rest pass o one e =
     (is.0, is.1 ∙ none, is.2)
 
 pub same_of : (index : Index) (old new : Pass) → IsSamePass old new → IsPassOf index old → IsPassOf index new
-same_of index old new same of = (same.0 ∙ of.0, same.1 ∙ of.1)
+same_of index old new same of = (same.0 ∙ of.0, same.1 ∙ of.1, same.3 ∙ of.2)
+
+-- the pass has gone on with the same hand, and knows the same beginning
+pub same_pass : (old new : Hand Mine) → IsSameHand old.seat new.seat → (known new.seat).first ≡ (known old.seat).first
+    → (new.seat.table_id ≡ old.seat.table_id) × (new.seat.me.0.layout ≡ old.seat.me.0.layout) × (new.number ≡ old.number) × ((known new.seat).first ≡ (known old.seat).first)
+same_pass old new same first = (same.0, same.1, new.own.0 ∙ (same.2 ∙ sym old.own.0), first)
+
+-- what a search answers is told from what the index began with, where that is the same
+pub told_from : (from first : List (Option Page)) (pages pass turns : ℕ) (op : Op) (result : Result Reply OutOfTurns) (old new : Trail) → from ≡ first → AnswersOrRunsOut from pages pass turns op result old new → AnswersOrRunsOut first pages pass turns op result old new
+told_from from first pages pass turns op result old new same answers = subst (λ (z : List (Option Page)). AnswersOrRunsOut z pages pass turns op result old new) same answers
 
 there : (l : List Pass) (i : ℕ) (d : Pass) → i < length l → get_elem? l i ≡ some (get_or l i d)
 there [] i d h = absurd (omega arith)

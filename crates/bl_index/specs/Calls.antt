@@ -1,10 +1,11 @@
 -- What a call tells the pass that makes it.
-use Rattle.std.specs.Prelude.{◌≡◌, ◌≢◌, ℕ, ◌++◌, Option, Some, None, [], ◌∷◌, length, ◌≤◌, Result, IfOk, IfErr}
-use Rattle.bl_model.specs.Map.{Map, empty, IsMapStep}
+use Rattle.std.specs.Prelude.{◌≡◌, ◌≢◌, ℕ, ◌++◌, Option, Some, None, List, [], ◌∷◌, length, ◌≤◌, Result, IfOk, IfErr}
+use Rattle.bl_model.specs.Map.{Map, IsMapStep}
 use Rattle.bl_model.specs.History.{final_map}
 use Rattle.bl_model.specs.declared.operation.Op.{Op}
 use Rattle.bl_model.specs.declared.operation.Op.TheVariants as op
 use Rattle.bl_model.specs.declared.operation.Reply.{Reply}
+use Rattle.bl_page.specs.declared.page.Page.{Page}
 use Rattle.bl_trails.specs.Trails.{Mark, Trail, history_of, marks_of}
 use Rattle.bl_laws.specs.Walks.{Each}
 use Rattle.bl_bounds.specs.Bounds.{gets_of, IsWithinBound, IsBelowBound}
@@ -15,9 +16,9 @@ use Rattle.bl_ways.specs.declared.answers.Squeezed.{Squeezed}
 use Rattle.bl_tables.specs.Answers.{MeansPosted, MeansHint}
 use Rattle.bl_tables.specs.Hinted.{MeansInserted, MeansDeleted}
 use Rattle.bl_tables.specs.Squeezed.{MeansSqueezed}
-use Rattle.bl_store.specs.Hands.{known, IsOf, WasRefused}
+use Rattle.bl_store.specs.Hands.{known, WasRefused}
 use Rattle.bl_passes.specs.Noting.{trail_of}
-use Rattle.bl_passes.specs.Seeing.{IsSeen, own, Holds}
+use Rattle.bl_passes.specs.Seeing.{first_map, IsSeen, own, Holds}
 use Rattle.bl_passes.specs.Fitting.{name}
 use Rattle.bl_passes.specs.Told.{IsRelease}
 use Rattle.bl_index.specs.declared.config.OutOfTurns.{OutOfTurns}
@@ -30,9 +31,13 @@ pages_of index = index.store.layout.pages
 abbrev pub passes_of : Index → ℕ
 passes_of index = index.store.layout.passes
 
--- the pass is of this index
+-- what the index began with: the pages of an image, or no pages where it was opened empty
+abbrev pub first_of : Index → List (Option Page)
+first_of index = index.first
+
+-- the pass is of this index, and knows what it began with
 abbrev pub IsPassOf : Index → Pass → Type 0
-IsPassOf index pass = IsOf index.store.table.shared.table_id index.store.layout pass.hand.seat
+IsPassOf index pass = (pass.hand.seat.table_id ≡ index.store.table.shared.table_id) × (pass.hand.seat.me.0.layout ≡ index.store.layout) × ((known pass.hand.seat).first ≡ first_of index)
 
 abbrev pub number_of : Pass → ℕ
 number_of pass = pass.hand.number
@@ -41,9 +46,9 @@ number_of pass = pass.hand.number
 abbrev pub trail : Pass → Trail
 trail pass = trail_of (known pass.hand.seat).trail
 
--- the map after all that a trail tells
-abbrev pub map_after : Trail → Map
-map_after trail = final_map empty (history_of trail)
+-- the map after all that a trail tells, of an index that began so
+abbrev pub map_after : List (Option Page) → Trail → Map
+map_after first trail = final_map (first_map first) (history_of trail)
 
 -- how many pages and frames the pass has released
 abbrev pub released_by : Pass → ℕ
@@ -56,86 +61,86 @@ MetNoRoom pass pages frames = WasRefused pass.hand.seat pages frames
 
 -- The same pass of the same index
 abbrev pub IsSamePass : Pass → Pass → Type 0
-IsSamePass old new = (new.hand.seat.table_id ≡ old.hand.seat.table_id) × (new.hand.seat.me.0.layout ≡ old.hand.seat.me.0.layout) × (new.hand.number ≡ old.hand.number)
+IsSamePass old new = (new.hand.seat.table_id ≡ old.hand.seat.table_id) × (new.hand.seat.me.0.layout ≡ old.hand.seat.me.0.layout) × (new.hand.number ≡ old.hand.number) × ((known new.hand.seat).first ≡ (known old.hand.seat).first)
 
 -- A call of the pass is answered: it is one process, begun and ended after all that the pass had seen, and the pass has done
 -- nothing else since. What the pass has seen then is a trail that an index may have, and its only new entry of this pass is
 -- this operation with this reply.
-pub record Answers (pass : ℕ) (op : Op) (reply : Reply) (old new : Trail) : Type 0 where
+pub record Answers (first : List (Option Page)) (pass : ℕ) (op : Op) (reply : Reply) (old new : Trail) : Type 0 where
   pub number : ℕ
   pub holds : Holds (name pass number) (Some reply) old new
-  pub seen : IsSeen [] new
+  pub seen : IsSeen first new
   pub once : own pass new ≡ own pass old ++ record { pass = pass; op = op; reply = reply } ∷ []
 
 -- In an index of one pass each call is a step of one map.
-abbrev pub StepsAlone : Index → Op → Reply → Trail → Trail → Type 0
-StepsAlone index op reply old new = passes_of index ≡ 1 → IsMapStep (map_after old) op reply (map_after new)
+abbrev pub StepsAlone : List (Option Page) → Index → Op → Reply → Trail → Trail → Type 0
+StepsAlone first index op reply old new = passes_of index ≡ 1 → IsMapStep (map_after first old) op reply (map_after first new)
 
 -- The same of a call that says nothing of the map.
-pub record Adds (pass : ℕ) (old new : Trail) : Type 0 where
+pub record Adds (first : List (Option Page)) (pass : ℕ) (old new : Trail) : Type 0 where
   pub number : ℕ
   pub holds : Holds (name pass number) None old new
-  pub seen : IsSeen [] new
+  pub seen : IsSeen first new
   pub none : own pass new ≡ own pass old
 
 -- A sweep of the pass that answered a number. Its events are releases of pages, no more than that number, all of them by one
 -- process of its own, which had done nothing before and does not begin. The entries of the pass are those of before, and if what the pass had seen was a trail that an index
 -- may have, then so is what it has seen now.
-pub record Sweeps (pass answer : ℕ) (old new : Trail) : Type 0 where
+pub record Sweeps (first : List (Option Page)) (pass answer : ℕ) (old new : Trail) : Type 0 where
   pub number : ℕ
   pub fresh : Each (λ (m : Mark). m.event.process ≢ name pass number) old
   pub more : Trail
   pub begins : new ≡ old ++ more
   pub mine : Each (λ (m : Mark). m.event.process.pass ≡ pass → IsRelease (name pass number) m) more
   pub few : length (marks_of (name pass number) more) ≤ answer
-  pub seen : IsSeen [] old → IsSeen [] new
+  pub seen : IsSeen first old → IsSeen first new
   pub none : own pass new ≡ own pass old
 
 -- A search of an index of so many pages is answered. At every moment it had got no more pages than its bound, and it has latched,
 -- taken and put none.
-pub record Finds (pages pass : ℕ) (op : Op) (reply : Reply) (old new : Trail) : Type 0 where
-  pub answers : Answers pass op reply old new
+pub record Finds (first : List (Option Page)) (pages pass : ℕ) (op : Op) (reply : Reply) (old new : Trail) : Type 0 where
+  pub answers : Answers first pass op reply old new
   pub bounded : IsWithinBound pages (name pass answers.number) new
   pub looks : OnlyLooks (marks_of (name pass answers.number) new)
 
 -- It ran out of so many turns and said nothing: it has got so many pages, which are fewer than its bound, and has latched, taken
 -- and put none.
-pub record RunsOut (pages pass turns : ℕ) (old new : Trail) : Type 0 where
-  pub adds : Adds pass old new
+pub record RunsOut (first : List (Option Page)) (pages pass turns : ℕ) (old new : Trail) : Type 0 where
+  pub adds : Adds first pass old new
   pub bounded : IsWithinBound pages (name pass adds.number) new
   pub gets : gets_of (name pass adds.number) new ≡ turns
   pub below : IsBelowBound pages (name pass adds.number) new
   pub looks : OnlyLooks (marks_of (name pass adds.number) new)
 
 -- A search is answered, or runs out of turns.
-pub record AnswersOrRunsOut (pages pass turns : ℕ) (op : Op) (result : Result Reply OutOfTurns) (old new : Trail) : Type 0 where
-  pub answered : IfOk result (λ reply. Finds pages pass op reply old new)
-  pub refused : IfErr result (λ fault. RunsOut pages pass turns old new)
+pub record AnswersOrRunsOut (first : List (Option Page)) (pages pass turns : ℕ) (op : Op) (result : Result Reply OutOfTurns) (old new : Trail) : Type 0 where
+  pub answered : IfOk result (λ reply. Finds first pages pass op reply old new)
+  pub refused : IfErr result (λ fault. RunsOut first pages pass turns old new)
 
 -- An insertion is answered, and the hint beside its reply means what its process has put. It held no page when it latched
 -- one.
-pub record Inserts (pass key value : ℕ) (reply : Reply) (next : Option Hint) (old new : Trail) : Type 0 where
-  pub answers : Answers pass (op.Insert key value) reply old new
+pub record Inserts (first : List (Option Page)) (pass key value : ℕ) (reply : Reply) (next : Option Hint) (old new : Trail) : Type 0 where
+  pub answers : Answers first pass (op.Insert key value) reply old new
   pub hint : MeansInserted reply next (marks_of (name pass answers.number) new)
   pub latches : LatchesAlone (marks_of (name pass answers.number) new)
 
 -- The same of a deletion.
-pub record Deletes (pass key : ℕ) (reply : Reply) (next : Option Hint) (old new : Trail) : Type 0 where
-  pub answers : Answers pass (op.Delete key) reply old new
+pub record Deletes (first : List (Option Page)) (pass key : ℕ) (reply : Reply) (next : Option Hint) (old new : Trail) : Type 0 where
+  pub answers : Answers first pass (op.Delete key) reply old new
   pub hint : MeansDeleted reply next (marks_of (name pass answers.number) new)
   pub latches : LatchesAlone (marks_of (name pass answers.number) new)
 
 -- A post is answered: it says nothing of the map, and what its process has done is what its answer and its hint mean. It held no
 -- page when it latched one.
-pub record Posts (pass level key : ℕ) (answer : Posted) (next : Option Hint) (old new : Trail) : Type 0 where
-  pub adds : Adds pass old new
+pub record Posts (first : List (Option Page)) (pass level key : ℕ) (answer : Posted) (next : Option Hint) (old new : Trail) : Type 0 where
+  pub adds : Adds first pass old new
   pub means : MeansPosted level key answer (marks_of (name pass adds.number) new)
   pub hint : MeansHint level key answer next (marks_of (name pass adds.number) new)
   pub latches : LatchesAlone (marks_of (name pass adds.number) new)
 
 -- A compression is answered: it says nothing of the map, and what its process has done is what its answer means with the hint
 -- beside it. When it latched a page it held the parent and the left child at most.
-pub record Compresses (pass level key : ℕ) (answer : Squeezed) (next : Option Hint) (old new : Trail) : Type 0 where
-  pub adds : Adds pass old new
+pub record Compresses (first : List (Option Page)) (pass level key : ℕ) (answer : Squeezed) (next : Option Hint) (old new : Trail) : Type 0 where
+  pub adds : Adds first pass old new
   pub means : MeansSqueezed level key answer next (marks_of (name pass adds.number) new)
   pub latches : LatchesBeside level key (marks_of (name pass adds.number) new)

@@ -16,7 +16,7 @@ use Rattle.bl_index.specs.declared.config.CloseFault.{CloseFault}
 use Rattle.bl_index.specs.declared.config.CloseFault.TheVariants as fault
 use Rattle.bl_index.specs.declared.index.Index.{Index}
 use Rattle.bl_index.specs.declared.index.Pass.{Pass}
-use Rattle.bl_index.specs.Calls.{pages_of, passes_of, IsPassOf, number_of, trail, map_after}
+use Rattle.bl_index.specs.Calls.{pages_of, passes_of, first_of, IsPassOf, number_of, trail, map_after}
 
 -- one of the passes has that number
 pub record HasPass (passes : List Pass) (n : ℕ) : Type 0 where
@@ -37,7 +37,7 @@ AreAll index passes = (n : ℕ) → n < passes_of index → HasPass passes n
 -- of that pass, and none of anybody else. The pages of the image are those that it leaves open, and their rows are the map after it.
 pub record Closes (index : Index) (passes : List Pass) (pages : List (Option Page)) : Type 0 where
   pub whole : Trail
-  pub seen : IsSeen [] whole
+  pub seen : IsSeen (first_of index) whole
   pub all : AreAll index passes
   pub begins : (k : ℕ) (pass : Pass) → get_elem? passes k ≡ some pass → GoesOnFrom (trail pass) whole
   pub none : (k : ℕ) (pass : Pass) → get_elem? passes k ≡ some pass → own (number_of pass) whole ≡ own (number_of pass) (trail pass)
@@ -46,7 +46,7 @@ pub record Closes (index : Index) (passes : List Pass) (pages : List (Option Pag
   pub left : AreLeft pages seen.linear.now
   pub rows : List (ℕ × ℕ)
   pub are_rows : AreRowsOf pages rows
-  pub map : SameMap (map_after whole) (map_of rows)
+  pub map : SameMap (map_after (first_of index) whole) (map_of rows)
 
 -- Why an index was not closed: one of its passes is missing; or all are there, and there was no memory.
 abbrev pub IsCloseFault : Index → List Pass → CloseFault → Type 0

@@ -1,5 +1,6 @@
 -- What passes learn of each other. It is no event.
-use Rattle.std.specs.Prelude.{◌≡◌, ℕ, []}
+use Rattle.std.specs.Prelude.{◌≡◌, ℕ, List, Option}
+use Rattle.bl_page.specs.declared.page.Page.{Page}
 use Rattle.bl_trails.specs.Trails.{Trail}
 use Rattle.bl_passes.specs.declared.known.Mine.{Mine}
 use Rattle.bl_passes.specs.Noting.{trail_of}
@@ -20,9 +21,9 @@ pub record Hears (pass : ℕ) (old theirs new : Trail) : Type 0 where
 
 -- Two passes have met: both have seen one trail, which an index may have. It begins with what each of them had seen, and has no
 -- further entry of either.
-pub record Meet (one two : ℕ) (old_one old_two new_one new_two : Trail) : Type 0 where
+pub record Meet (first : List (Option Page)) (one two : ℕ) (old_one old_two new_one new_two : Trail) : Type 0 where
   pub same : new_two ≡ new_one
-  pub seen : IsSeen [] new_one
+  pub seen : IsSeen first new_one
   pub begins_one : GoesOnFrom old_one new_one
   pub begins_two : GoesOnFrom old_two new_one
   pub none_one : own one new_one ≡ own one old_one

@@ -17,7 +17,7 @@ use Rattle.bl_index.specs.declared.config.OpenFault.{OpenFault}
 use Rattle.bl_index.specs.declared.config.OpenFault.TheVariants.{Pages, Passes, Memory}
 use Rattle.bl_index.specs.declared.index.Index.{Index}
 use Rattle.bl_index.specs.declared.index.Pass.{Pass}
-use Rattle.bl_index.specs.Calls.{pages_of, passes_of, IsPassOf, number_of, trail}
+use Rattle.bl_index.specs.Calls.{pages_of, passes_of, first_of, IsPassOf, number_of, trail}
 
 -- it has as many pages as an index may have
 abbrev pub HasPages : Config → Type 0
@@ -37,7 +37,8 @@ pub record IsOpened (config : Config) (index : Index) (passes : List Pass) : Typ
   pub passes_are : passes_of index ≡ config.passes
   pub count : length passes ≡ config.passes
   pub each : (n : ℕ) (pass : Pass) → get_elem? passes n ≡ some pass → IsPassOf index pass × (number_of pass ≡ n) × (trail pass ≡ [])
-  pub seen : IsSeen [] []
+  pub first : first_of index ≡ []
+  pub seen : IsSeen (first_of index) []
 
 -- the anchor of one level, whose page is page 1
 abbrev pub IsFirstAnchor : Page → Type 0

@@ -1,6 +1,6 @@
 -- What a scan tells the pass that makes it: parts, each from where the last one ended, and the rows that they list together.
 use Rattle.std.specs.Prelude.{◌≡◌, ℕ, ◌<◌, ◌≤◌, ◌++◌, ◌↔◌, Bool, true, List, [], ◌∷◌, Option, Some, None, Result, All, Contains, filter, flat_map, length, nat_lt, OnOk, IfOk, IfErr}
-use Rattle.bl_model.specs.Map.{empty}
+use Rattle.bl_page.specs.declared.page.Page.{Page}
 use Rattle.bl_model.specs.History.{final_map}
 use Rattle.bl_model.specs.Rows.{HasRisingKeys}
 use Rattle.bl_model.specs.Parts.{rows_of, next_key, ended_at}
@@ -9,7 +9,7 @@ use Rattle.bl_model.specs.declared.operation.Next.{Next}
 use Rattle.bl_model.specs.declared.operation.Op.TheVariants.{Part}
 use Rattle.bl_model.specs.declared.operation.Reply.{Reply}
 use Rattle.bl_trails.specs.Trails.{Trail, history_of}
-use Rattle.bl_passes.specs.Seeing.{IsSeen, own, GoesOnFrom}
+use Rattle.bl_passes.specs.Seeing.{first_map, IsSeen, own, GoesOnFrom}
 use Rattle.bl_index.specs.Calls.{Finds, RunsOut}
 use Rattle.bl_index.specs.declared.scanning.ScanFault.{ScanFault}
 use Rattle.bl_index.specs.declared.scanning.ScanFault.TheVariants.{Memory, OutOfTurns}
@@ -36,33 +36,33 @@ AreParts pass to None (e ∷ es) upto = ⊥
 AreParts pass to (Some from) (e ∷ es) upto = (e.pass ≡ pass) × (e.op ≡ Part from) × IsBelow to from × AreParts pass to (ended_at e.reply) es upto
 
 -- The pass has made calls that were answered so, one after another, and nothing else.
-abbrev pub AreCalls : ℕ → ℕ → List Entry → Trail → Trail → Type 0
-AreCalls pages pass [] old new = new ≡ old
-AreCalls pages pass (e ∷ es) old new = (mid : Trail) × Finds pages pass e.op e.reply old mid × AreCalls pages pass es mid new
+abbrev pub AreCalls : List (Option Page) → ℕ → ℕ → List Entry → Trail → Trail → Type 0
+AreCalls first pages pass [] old new = new ≡ old
+AreCalls first pages pass (e ∷ es) old new = (mid : Trail) × Finds first pages pass e.op e.reply old mid × AreCalls first pages pass es mid new
 
 -- A scan answers a key right: its rows list the key with the value that the map had for it, or do not list it, as the map stood
 -- where one of its parts stands in the history. The history was old before the scan, and is new after it.
-pub record IsRight (pass : ℕ) (old new : List Entry) (rows : List (ℕ × ℕ)) (key : ℕ) : Type 0 where
+pub record IsRight (first : List (Option Page)) (pass : ℕ) (old new : List Entry) (rows : List (ℕ × ℕ)) (key : ℕ) : Type 0 where
   pub before : List Entry
   pub part : Entry
   pub after : List Entry
   pub stands : new ≡ old ++ (before ++ part ∷ after)
   pub mine : part.pass ≡ pass
-  pub right : (value : ℕ) → Contains rows (key, value) ↔ (final_map empty (old ++ before) key ≡ Some value)
+  pub right : (value : ℕ) → Contains rows (key, value) ↔ (final_map (first_map first) (old ++ before) key ≡ Some value)
 
 -- The pass has scanned from a key on up to another, or to the end of the map: its new entries are the parts, and their rows below
 -- the scan's end are these, whose keys rise, and which answer each key on the way right.
-pub record Scans (pages pass from : ℕ) (to upto : Option ℕ) (rows : List (ℕ × ℕ)) (old new : Trail) : Type 0 where
+pub record Scans (first : List (Option Page)) (pages pass from : ℕ) (to upto : Option ℕ) (rows : List (ℕ × ℕ)) (old new : Trail) : Type 0 where
   pub parts : List Entry
   pub are_parts : AreParts pass to (Some from) parts upto
-  pub calls : AreCalls pages pass parts old new
+  pub calls : AreCalls first pages pass parts old new
   pub begins : GoesOnFrom old new
-  pub seen : IsSeen [] old → IsSeen [] new
+  pub seen : IsSeen first old → IsSeen first new
   pub mine : own pass new ≡ own pass old ++ parts
   pub listed : rows ≡ flat_map (λ part. rows_below to part.reply) parts
   pub rising : HasRisingKeys rows
   pub within : All (λ row. (from ≤ row.0) × IsBelow upto row.0) rows
-  pub right : (key : ℕ) → from ≤ key → IsBelow upto key → IsBelow to key → IsRight pass (history_of old) (history_of new) rows key
+  pub right : (key : ℕ) → from ≤ key → IsBelow upto key → IsBelow to key → IsRight first pass (history_of old) (history_of new) rows key
 
 -- nothing of a scan is left from there on
 abbrev pub IsOver : Option ℕ → Option ℕ → Type 0
@@ -71,10 +71,10 @@ IsOver None (Some from) = ⊥
 IsOver (Some end) (Some from) = end ≤ from
 
 -- A scan has ended: it has come to the end of the map, or to its own.
-pub record EndsScan (pages pass from : ℕ) (to : Option ℕ) (rows : List (ℕ × ℕ)) (old new : Trail) : Type 0 where
+pub record EndsScan (first : List (Option Page)) (pages pass from : ℕ) (to : Option ℕ) (rows : List (ℕ × ℕ)) (old new : Trail) : Type 0 where
   pub upto : Option ℕ
   pub over : IsOver to upto
-  pub scans : Scans pages pass from to upto rows old new
+  pub scans : Scans first pages pass from to upto rows old new
 
 -- the key from which a scan that stopped goes on
 abbrev pub left_from : ScanFault → ℕ
@@ -82,44 +82,44 @@ left_from (Memory from) = from
 left_from (OutOfTurns from) = from
 
 -- A part was answered, and of its rows more lie below the scan's end than there is room for.
-pub record FindsNoRoom (pages pass from : ℕ) (to : Option ℕ) (room : ℕ) (old new : Trail) : Type 0 where
+pub record FindsNoRoom (first : List (Option Page)) (pages pass from : ℕ) (to : Option ℕ) (room : ℕ) (old new : Trail) : Type 0 where
   pub reply : Reply
-  pub finds : Finds pages pass (Part from) reply old new
+  pub finds : Finds first pages pass (Part from) reply old new
   pub more : room < length (rows_below to reply)
 
 -- why a scan stopped at a part: its rows had no room, or it ran out of turns
-abbrev pub StopsAt : ℕ → ℕ → ℕ → Option ℕ → ℕ → ScanFault → Trail → Trail → Type 0
-StopsAt pages pass turns to room (Memory from) old new = FindsNoRoom pages pass from to room old new
-StopsAt pages pass turns to room (OutOfTurns from) old new = RunsOut pages pass turns old new
+abbrev pub StopsAt : List (Option Page) → ℕ → ℕ → ℕ → Option ℕ → ℕ → ScanFault → Trail → Trail → Type 0
+StopsAt first pages pass turns to room (Memory from) old new = FindsNoRoom first pages pass from to room old new
+StopsAt first pages pass turns to room (OutOfTurns from) old new = RunsOut first pages pass turns old new
 
 -- A scan has stopped at a part below its end. Up to there it has scanned, and nothing of that part is among its rows.
-pub record StopsScan (pages pass turns from : ℕ) (to : Option ℕ) (room : ℕ) (fault : ScanFault) (rows : List (ℕ × ℕ)) (old new : Trail) : Type 0 where
+pub record StopsScan (first : List (Option Page)) (pages pass turns from : ℕ) (to : Option ℕ) (room : ℕ) (fault : ScanFault) (rows : List (ℕ × ℕ)) (old new : Trail) : Type 0 where
   pub mid : Trail
-  pub scans : Scans pages pass from to (Some (left_from fault)) rows old mid
+  pub scans : Scans first pages pass from to (Some (left_from fault)) rows old mid
   pub left : IsBelow to (left_from fault)
-  pub stops : StopsAt pages pass turns to room fault mid new
+  pub stops : StopsAt first pages pass turns to room fault mid new
 
 -- A scan has ended or stopped, and its rows stand behind those of before. There is room for so many more.
-pub record MayScan (pages pass turns from : ℕ) (to : Option ℕ) (room : ℕ) (result : Result (Unit {0}) ScanFault) (before after : List (ℕ × ℕ)) (old new : Trail) : Type 0 where
+pub record MayScan (first : List (Option Page)) (pages pass turns from : ℕ) (to : Option ℕ) (room : ℕ) (result : Result (Unit {0}) ScanFault) (before after : List (ℕ × ℕ)) (old new : Trail) : Type 0 where
   pub rows : List (ℕ × ℕ)
   pub appended : after ≡ before ++ rows
-  pub ended : OnOk result (EndsScan pages pass from to rows old new)
-  pub stopped : IfErr result (λ fault. StopsScan pages pass turns from to room fault rows old new)
+  pub ended : OnOk result (EndsScan first pages pass from to rows old new)
+  pub stopped : IfErr result (λ fault. StopsScan first pages pass turns from to room fault rows old new)
 
 -- One part of a scan was answered, and its rows below the scan's end stand behind those of before.
-pub record AppendsPart (pages pass from : ℕ) (to : Option ℕ) (next : Next) (before after : List (ℕ × ℕ)) (old new : Trail) : Type 0 where
+pub record AppendsPart (first : List (Option Page)) (pages pass from : ℕ) (to : Option ℕ) (next : Next) (before after : List (ℕ × ℕ)) (old new : Trail) : Type 0 where
   pub reply : Reply
-  pub finds : Finds pages pass (Part from) reply old new
+  pub finds : Finds first pages pass (Part from) reply old new
   pub ends : ended_at reply ≡ next_key next
   pub appended : after ≡ before ++ rows_below to reply
 
 -- The scan stops at that part, and the rows are those of before.
-pub record LeavesPart (pages pass turns from : ℕ) (to : Option ℕ) (room : ℕ) (fault : ScanFault) (before after : List (ℕ × ℕ)) (old new : Trail) : Type 0 where
+pub record LeavesPart (first : List (Option Page)) (pages pass turns from : ℕ) (to : Option ℕ) (room : ℕ) (fault : ScanFault) (before after : List (ℕ × ℕ)) (old new : Trail) : Type 0 where
   pub key : left_from fault ≡ from
   pub kept : after ≡ before
-  pub stops : StopsAt pages pass turns to room fault old new
+  pub stops : StopsAt first pages pass turns to room fault old new
 
 -- One or the other.
-pub record MayAppend (pages pass turns from : ℕ) (to : Option ℕ) (room : ℕ) (result : Result Next ScanFault) (before after : List (ℕ × ℕ)) (old new : Trail) : Type 0 where
-  pub listed : IfOk result (λ next. AppendsPart pages pass from to next before after old new)
-  pub left : IfErr result (λ fault. LeavesPart pages pass turns from to room fault before after old new)
+pub record MayAppend (first : List (Option Page)) (pages pass turns from : ℕ) (to : Option ℕ) (room : ℕ) (result : Result Next ScanFault) (before after : List (ℕ × ℕ)) (old new : Trail) : Type 0 where
+  pub listed : IfOk result (λ next. AppendsPart first pages pass from to next before after old new)
+  pub left : IfErr result (λ fault. LeavesPart first pages pass turns from to room fault before after old new)

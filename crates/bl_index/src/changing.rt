@@ -36,7 +36,7 @@ pub(crate) fn answered(answer: Option<Answer>) -> (Reply, Option<Hint>)
 }
 
 impl Index {
-    ghost use Rattle.bl_index.specs.Calls.{IsPassOf, IsSamePass, number_of, trail, Inserts, Deletes, MetNoRoom, StepsAlone};
+    ghost use Rattle.bl_index.specs.Calls.{first_of, IsPassOf, IsSamePass, number_of, trail, Inserts, Deletes, MetNoRoom, StepsAlone};
 
     /// Puts the value at the key, where the key has none. Where the leaf was parted, there is a hint to post its upper part.
     pub fn insert<R: Wait>(
@@ -48,9 +48,9 @@ impl Index {
     ) -> (Reply, Option<Hint>)
         requires { IsPassOf self.now pass.old }
         ensures same { IsSamePass pass.old pass.new }
-        ensures inserts { Inserts (number_of pass.old) key value result.0 result.1 (trail pass.old) (trail pass.new) }
+        ensures inserts { Inserts (first_of self.now) (number_of pass.old) key value result.0 result.1 (trail pass.old) (trail pass.new) }
         ensures no_room { result.0 ≡ reply.NoRoom → MetNoRoom pass.new 0 1 ⊎ MetNoRoom pass.new 1 2 }
-        ensures alone { StepsAlone self.now (op.Insert key value) result.0 (trail pass.old) (trail pass.new) }
+        ensures alone { StepsAlone (first_of self.now) self.now (op.Insert key value) result.0 (trail pass.old) (trail pass.new) }
     {
         self.insert_by(rt, &mut pass.hand, key, value)
     }
@@ -59,9 +59,9 @@ impl Index {
     pub fn delete<R: Wait>(&self, rt: &R, pass: &mut Pass, key: u64) -> (Reply, Option<Hint>)
         requires { IsPassOf self.now pass.old }
         ensures same { IsSamePass pass.old pass.new }
-        ensures deletes { Deletes (number_of pass.old) key result.0 result.1 (trail pass.old) (trail pass.new) }
+        ensures deletes { Deletes (first_of self.now) (number_of pass.old) key result.0 result.1 (trail pass.old) (trail pass.new) }
         ensures no_room { result.0 ≡ reply.NoRoom → MetNoRoom pass.new 0 1 }
-        ensures alone { StepsAlone self.now (op.Delete key) result.0 (trail pass.old) (trail pass.new) }
+        ensures alone { StepsAlone (first_of self.now) self.now (op.Delete key) result.0 (trail pass.old) (trail pass.new) }
     {
         self.delete_by(rt, &mut pass.hand, key)
     }

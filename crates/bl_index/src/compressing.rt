@@ -22,7 +22,7 @@ fn squeezed(answer: Option<Answer>) -> (Squeezed, Option<Hint>)
 }
 
 impl Index {
-    ghost use Rattle.bl_index.specs.Calls.{IsPassOf, IsSamePass, number_of, trail, Compresses, MetNoRoom};
+    ghost use Rattle.bl_index.specs.Calls.{first_of, IsPassOf, IsSamePass, number_of, trail, Compresses, MetNoRoom};
 
     /// Makes room where deletions left pages with few pairs, while other threads read and write: Sagiv, "Concurrent
     /// operations on B*-trees with overtaking" (JCSS 33, 1986). In the parent of the hint's level it takes the child that
@@ -33,7 +33,7 @@ impl Index {
     pub fn compress<R: Wait>(&self, rt: &R, pass: &mut Pass, hint: Hint) -> (Squeezed, Option<Hint>)
         requires own { IsPassOf self.now pass.old }
         ensures same { IsSamePass pass.old pass.new }
-        ensures compresses { Compresses (number_of pass.old) (level_of hint) (key_of hint) result.0 result.1 (trail pass.old) (trail pass.new) }
+        ensures compresses { Compresses (first_of self.now) (number_of pass.old) (level_of hint) (key_of hint) result.0 result.1 (trail pass.old) (trail pass.new) }
         ensures no_room { result.0 ≡ answer.NoRoom → MetNoRoom pass.new 0 3 }
     {
         let compress = Compress::new(hint.level(), hint.key());

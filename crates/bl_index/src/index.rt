@@ -1,12 +1,13 @@
 //! The index, and who works with it.
 
-ghost use Rattle.std.specs.Prelude.{◌≡◌, [], false, length};
+ghost use Rattle.std.specs.Prelude.{◌≡◌, false};
 ghost use Rattle.bl_store.specs.Hands.{known, IsIdle, HasNoStock};
 ghost use Rattle.bl_passes.specs.Noting.{trail_of};
 ghost use Rattle.bl_passes.specs.Seeing.{IsSeen};
 ghost use Rattle.bl_index.specs.Runs.{IsWithin};
 
-use bl_passes::{Mine, Passes};
+use bl_page::Page;
+use bl_passes::{Beginning, Mine, Passes};
 use bl_store::{Hand, Store};
 
 /// Pages of a tree that threads share.
@@ -15,6 +16,7 @@ pub struct Index {
     pub(crate) store: Store<Mine, Passes>,
     pub(crate) pages: u32,
     pub(crate) passes: u32,
+    pub(crate) first: Beginning<Page>,
     pub ghost sized: { pages ≡ store.layout.pages },
     pub ghost shared: { passes ≡ store.layout.passes },
 }
@@ -28,8 +30,7 @@ pub struct Pass {
     pub ghost empty: { HasNoStock hand.seat },
     pub ghost within: { IsWithin hand.seat },
     pub ghost rests: { (known hand.seat).runs ≡ false },
-    pub ghost first: { length (known hand.seat).first ≡ 0 },
-    pub ghost seen: { ∥ IsSeen [] (trail_of (known hand.seat).trail) ∥₁ },
+    pub ghost seen: { ∥ IsSeen (known hand.seat).first (trail_of (known hand.seat).trail) ∥₁ },
 }
 
 impl Pass {

@@ -1,6 +1,6 @@
 //! Parts of the map.
 
-ghost use Rattle.std.specs.Prelude.{◌≡◌, [], false, IfOk, length};
+ghost use Rattle.std.specs.Prelude.{◌≡◌, false, IfOk};
 ghost use Rattle.bl_model.specs.declared.operation.Op.TheVariants as op;
 ghost use Rattle.bl_store.specs.Hands.{known, IsOf, IsIdle, IsSameHand, IsSameStock};
 ghost use Rattle.bl_passes.specs.Noting.{trail_of};
@@ -31,15 +31,15 @@ fn page_of(stage: &PartStage) -> u32
 }
 
 impl Index {
-    ghost use Rattle.bl_index.specs.Calls.{IsPassOf, IsSamePass, pages_of, number_of, trail, AnswersOrRunsOut, StepsAlone};
+    ghost use Rattle.bl_index.specs.Calls.{first_of, IsPassOf, IsSamePass, pages_of, number_of, trail, AnswersOrRunsOut, StepsAlone};
 
     /// The pairs of one leaf from a key on, in rising order, and the key from which the next part begins, where there is
     /// one. It gets at most so many pages, the anchor included.
     pub fn part(&self, pass: &mut Pass, from: u64, turns: u32) -> Result<Reply, OutOfTurns>
         requires { IsPassOf self.now pass.old }
         ensures same { IsSamePass pass.old pass.new }
-        ensures answers { AnswersOrRunsOut (pages_of self.now) (number_of pass.old) turns (op.Part from) result (trail pass.old) (trail pass.new) }
-        ensures alone { IfOk result (λ reply. StepsAlone self.now (op.Part from) reply (trail pass.old) (trail pass.new)) }
+        ensures answers { AnswersOrRunsOut (first_of self.now) (pages_of self.now) (number_of pass.old) turns (op.Part from) result (trail pass.old) (trail pass.new) }
+        ensures alone { IfOk result (λ reply. StepsAlone (first_of self.now) self.now (op.Part from) reply (trail pass.old) (trail pass.new)) }
     {
         self.part_by(&mut pass.hand, from, turns)
     }
@@ -47,14 +47,13 @@ impl Index {
     fn part_by(&self, hand: &mut Hand<Mine>, from: u64, turns: u32) -> Result<Reply, OutOfTurns>
         requires own { IsOf self.now.store.table.shared.table_id self.now.store.layout hand.old.seat }
         requires idle { IsIdle hand.old.seat }
-        requires first { length (known hand.old.seat).first ≡ 0 }
         ensures same { IsSameHand hand.old.seat hand.new.seat × IsSameStock hand.old.seat hand.new.seat }
         ensures idle { IsIdle hand.new.seat }
         ensures within { IsWithin hand.new.seat }
         ensures rests { (known hand.new.seat).runs ≡ false }
-        ensures first { length (known hand.new.seat).first ≡ 0 }
-        ensures seen { IsSeen [] (trail_of (known hand.new.seat).trail) }
-        ensures answers { AnswersOrRunsOut self.now.store.layout.pages hand.old.number turns (op.Part from) result (trail_of (known hand.old.seat).trail) (trail_of (known hand.new.seat).trail) }
+        ensures first { (known hand.new.seat).first ≡ (known hand.old.seat).first }
+        ensures seen { IsSeen (known hand.new.seat).first (trail_of (known hand.new.seat).trail) }
+        ensures answers { AnswersOrRunsOut (known hand.old.seat).first self.now.store.layout.pages hand.old.number turns (op.Part from) result (trail_of (known hand.old.seat).trail) (trail_of (known hand.new.seat).trail) }
     {
         let mut process = Part::new(from);
         self.begin(hand, &mut process);

@@ -1,6 +1,6 @@
 //! A pass learns of another, or is told what another knows.
 
-ghost use Rattle.std.specs.Prelude.{◌≡◌, ℕ, [], false};
+ghost use Rattle.std.specs.Prelude.{◌≡◌, ℕ, false};
 ghost use Rattle.bl_store.specs.Hands.{known, IsOf, IsIdle, HasNoStock, IsSameHand, IsSameStage, IsSameStock};
 ghost use Rattle.bl_passes.specs.Noting.{trail_of};
 ghost use Rattle.bl_passes.specs.Seeing.{GoesOnFrom};
@@ -48,7 +48,7 @@ impl<J: Meeting> MeetPlay<Mine> for Heard<J> {
 }
 
 impl Index {
-    ghost use Rattle.bl_index.specs.Calls.{IsPassOf, IsSamePass, number_of, trail};
+    ghost use Rattle.bl_index.specs.Calls.{first_of, IsPassOf, IsSamePass, number_of, trail};
     ghost use Rattle.bl_passes.specs.Seeing.{IsSeen};
     ghost use Rattle.bl_index.specs.Meetings.{Learns, Hears, Meet};
 
@@ -56,7 +56,7 @@ impl Index {
     pub fn meet(&self, one: &mut Pass, two: &mut Pass)
         requires own { IsPassOf self.now one.old × IsPassOf self.now two.old }
         ensures same { IsSamePass one.old one.new × IsSamePass two.old two.new }
-        ensures meet { Meet (number_of one.old) (number_of two.old) (trail one.old) (trail two.old) (trail one.new) (trail two.new) }
+        ensures meet { Meet (first_of self.now) (number_of one.old) (number_of two.old) (trail one.old) (trail two.old) (trail one.new) (trail two.new) }
     {
         self.learn(one, two);
         self.tell(two, one);
@@ -68,7 +68,7 @@ impl Index {
         ensures same { IsSamePass pass.old pass.new }
         ensures other { IsSamePass other.old other.new × (trail other.new ≡ trail other.old) }
         ensures learns { Learns (number_of pass.old) (number_of other.old) (trail pass.old) (trail other.old) (trail pass.new) }
-        ensures seen { IsSeen [] (trail pass.new) }
+        ensures seen { IsSeen (first_of self.now) (trail pass.new) }
     {
         self.learn_by::<Brand>(&mut pass.hand, &mut other.hand);
     }

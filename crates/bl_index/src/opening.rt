@@ -1,6 +1,6 @@
 //! An index is made.
 
-ghost use Rattle.std.specs.Prelude.{◌≡◌, ◌≤◌, length, IfOk, IfErr};
+ghost use Rattle.std.specs.Prelude.{◌≡◌, ◌≤◌, [], length, IfOk, IfErr};
 ghost use Rattle.bl_passes.specs.Fitting.{newcomer as unborn_pass};
 ghost use Rattle.bl_index.specs.Opened.{IsRefusal, IsFirstAnchor, IsFirstLeaf, IsFirst, AreFirst, AreNew, ArePasses, IsOpened};
 
@@ -57,6 +57,13 @@ fn first_pages(alloc: Global, pages: u32) -> Result<Vec<[u64; 32]>, AllocError>
     Ok(first)
 }
 
+/// What an index begins with that is opened empty.
+fn no_pages(alloc: Global) -> Beginning<Page>
+    ensures { result ≡ [] }
+{
+    Beginning::of(&Vec::new(alloc))
+}
+
 /// What each pass knows at first: it has begun no process, and has seen nothing.
 fn newcomer(alloc: Global) -> Mine
     ensures { result ≡ unborn_pass }
@@ -71,7 +78,7 @@ fn newcomer(alloc: Global) -> Mine
             key: 0,
             stage: FindStage::New,
         }),
-        first: Beginning::of(&Vec::new(alloc)),
+        first: no_pages(alloc),
         past: LinkedList::new(alloc),
         trail: LinkedList::new(alloc),
     }
@@ -128,6 +135,7 @@ impl Index {
             store,
             pages: config.pages,
             passes: config.passes,
+            first: no_pages(alloc),
         };
         Ok((index, passes))
     }

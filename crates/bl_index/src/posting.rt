@@ -116,7 +116,7 @@ fn low_in<W: WordSource>(source: &W, hand: &mut W::Hand) -> u64
 }
 
 impl Index {
-    ghost use Rattle.bl_index.specs.Calls.{IsPassOf, IsSamePass, number_of, trail, Posts, MetNoRoom};
+    ghost use Rattle.bl_index.specs.Calls.{first_of, IsPassOf, IsSamePass, number_of, trail, Posts, MetNoRoom};
 
     /// Lists the page whose low is the hint's key in its parent, which is of the hint's level. The parent then reaches it
     /// without the link of its left neighbour. A hint of either kind will do, and a late or repeated one does no harm.
@@ -124,7 +124,7 @@ impl Index {
     pub fn post<R: Wait>(&self, rt: &R, pass: &mut Pass, hint: Hint) -> (Posted, Option<Hint>)
         requires own { IsPassOf self.now pass.old }
         ensures same { IsSamePass pass.old pass.new }
-        ensures posts { Posts (number_of pass.old) (level_of hint) (key_of hint) result.0 result.1 (trail pass.old) (trail pass.new) }
+        ensures posts { Posts (first_of self.now) (number_of pass.old) (level_of hint) (key_of hint) result.0 result.1 (trail pass.old) (trail pass.new) }
         ensures no_room { result.0 ≡ postings.NoRoom → MetNoRoom pass.new 0 1 ⊎ MetNoRoom pass.new 1 2 }
     {
         self.post_by(rt, &mut pass.hand, hint.level(), hint.key())

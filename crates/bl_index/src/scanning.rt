@@ -50,7 +50,7 @@ fn append(rows: &mut Vec<(u64, u64)>, more: &[(u64, u64)]) -> Result<(), AllocEr
 }
 
 impl Index {
-    ghost use Rattle.bl_index.specs.Calls.{IsPassOf, IsSamePass, pages_of, number_of, trail};
+    ghost use Rattle.bl_index.specs.Calls.{first_of, IsPassOf, IsSamePass, pages_of, number_of, trail};
 
     /// Appends the rows of all parts from a key on that lie below an end, if there is one: one part after another, each
     /// with so many turns. It stops at the end of the map, or at a part that ends at or behind that end. Where the key is
@@ -68,7 +68,7 @@ impl Index {
     ) -> Result<(), ScanFault>
         requires { IsPassOf self.now pass.old }
         ensures same { IsSamePass pass.old pass.new }
-        ensures scans { MayScan (pages_of self.now) (number_of pass.old) turns from to (vec_capacity rows.new - vec_len rows.new) result rows.old.items rows.new.items (trail pass.old) (trail pass.new) }
+        ensures scans { MayScan (first_of self.now) (pages_of self.now) (number_of pass.old) turns from to (vec_capacity rows.new - vec_len rows.new) result rows.old.items rows.new.items (trail pass.old) (trail pass.new) }
         ensures nothing { IsOver to (Some from) → trail pass.new ≡ trail pass.old }
     {
         let mut at = from;
@@ -92,7 +92,7 @@ impl Index {
     ) -> Result<Next, ScanFault>
         requires { IsPassOf self.now pass.old }
         ensures same { IsSamePass pass.old pass.new }
-        ensures appends { MayAppend (pages_of self.now) (number_of pass.old) turns from to (vec_capacity rows.new - vec_len rows.new) result rows.old.items rows.new.items (trail pass.old) (trail pass.new) }
+        ensures appends { MayAppend (first_of self.now) (pages_of self.now) (number_of pass.old) turns from to (vec_capacity rows.new - vec_len rows.new) result rows.old.items rows.new.items (trail pass.old) (trail pass.new) }
     {
         let Ok(reply) = self.part(pass, from, turns) else {
             return Err(ScanFault::OutOfTurns(from));

@@ -1,6 +1,6 @@
 //! Sweeps.
 
-ghost use Rattle.std.specs.Prelude.{◌≡◌, ℕ, [], ◌+◌, ◌≤◌, false};
+ghost use Rattle.std.specs.Prelude.{◌≡◌, ℕ, ◌+◌, ◌≤◌, false};
 ghost use Rattle.bl_store.specs.Hands.{known, IsOf, IsSameHand, IsSameStage, IsSameStock};
 ghost use Rattle.bl_passes.specs.Told.{sweeps};
 ghost use Rattle.bl_index.specs.Runs.{IsWithin};
@@ -12,15 +12,15 @@ use std::marker::Brand;
 
 impl Index {
     ghost use Rattle.bl_passes.specs.Seeing.{IsSeen};
-    ghost use Rattle.bl_index.specs.Calls.{IsPassOf, IsSamePass, number_of, trail, released_by, Sweeps};
+    ghost use Rattle.bl_index.specs.Calls.{first_of, IsPassOf, IsSamePass, number_of, trail, released_by, Sweeps};
 
     /// Releases pages and frames that no process can read any more: each was retired before every process began that still
     /// runs. Returns how many.
     pub fn sweep(&self, pass: &mut Pass) -> u32
         requires { IsPassOf self.now pass.old }
         ensures same { IsSamePass pass.old pass.new }
-        ensures sweeps { Sweeps (number_of pass.old) result (trail pass.old) (trail pass.new) }
-        ensures seen { ∥ IsSeen [] (trail pass.new) ∥₁ }
+        ensures sweeps { Sweeps (first_of self.now) (number_of pass.old) result (trail pass.old) (trail pass.new) }
+        ensures seen { ∥ IsSeen (first_of self.now) (trail pass.new) ∥₁ }
         ensures count { released_by pass.new ≡ released_by pass.old + result }
     {
         self.release::<Brand>(&mut pass.hand)

@@ -1,4 +1,4 @@
-use Rattle.std.proofs.Common.{◌+◌, length, [], ap, sym, subst, arith}
+use Rattle.std.proofs.Common.{◌+◌, ap, sym, subst, arith}
 use Rattle.bl_store.specs.declared.view.View.{View}
 use Rattle.bl_passes.specs.declared.known.Mine.{Mine}
 use Rattle.bl_passes.specs.Noting.{trail_of}
@@ -21,8 +21,7 @@ invariant_of-push c = (
       empty = ap (λ (v : View _). v.stock) is.2;
       rests = ap (λ (v : View Mine). v.known.runs) is.2;
       within = subst (λ (v : View Mine). AreWithin v.layout.passes (trail_of v.known.trail)) (sym is.2) (none_within _);
-      first = ap (λ (v : View Mine). length v.known.first) is.2;
-      seen = subst (λ (v : View Mine). ∥ IsSeen [] (trail_of v.known.trail) ∥₁) (sym is.2) ∣ newcomer_seen ∣₁;
+      seen = subst (λ (v : View Mine). ∥ IsSeen v.known.first (trail_of v.known.trail) ∥₁) (sym is.2) ∣ newcomer_seen ∣₁;
     })
 
 pub loop-number-preserved : goal.loop-number-preserved

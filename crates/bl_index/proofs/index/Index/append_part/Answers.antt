@@ -6,7 +6,7 @@ use Rattle.bl_index.proofs.Onward.{part_rises, rows_alone}
 use Rattle.bl_index.proofs.index.Index.append_part.Goals as goal
 
 pub rows_below-requires : goal.rows_below-requires
-rows_below-requires c = rw c.as_slice.ensures.value (subst (λ (z : Reply). HasRisingKeys (rows_of z)) c.in-Rows.is (part_rises _ _ _ c.in-Ok.reply _ _ c.in-Ok.ensures.answers.answered))
+rows_below-requires c = rw c.as_slice.ensures.value (subst (λ (z : Reply). HasRisingKeys (rows_of z)) c.in-Rows.is (part_rises _ _ _ _ c.in-Ok.reply _ _ c.in-Ok.ensures.answers.answered))
 
 pub unreachable-requires : goal.unreachable-requires
-unreachable-requires c = rows_alone _ _ _ c.in-Ok.reply _ _ c.in-Ok.ensures.answers.answered (λ rows next. c.in_default-reply.not-Rows rows next)
+unreachable-requires c = rows_alone _ _ _ _ c.in-Ok.reply _ _ c.in-Ok.ensures.answers.answered (λ rows next. c.in_default-reply.not-Rows rows next)

@@ -1,6 +1,6 @@
-use Rattle.std.proofs.Common.{rules, ◌≡◌, ◌∙◌, None, arith}
+use Rattle.std.proofs.Common.{rules, refl, ◌≡◌, ◌∙◌, None, arith}
 use Rattle.bl_index.specs.Searching.{IsSearching}
-use Rattle.bl_index.proofs.Calls.{since_step, own_looks, no_pages}
+use Rattle.bl_index.proofs.Calls.{since_step, own_looks}
 use Rattle.bl_index.proofs.Silent.{gives_up}
 use Rattle.bl_index.proofs.Searches.{searches_on, find_under_way, find_is_search, find_may_give_up, find_answers}
 use Rattle.bl_index.proofs.Paces.{at_begin, at_step, at_found, at_end}
@@ -44,7 +44,7 @@ returns-in-Ending-clause-answers c =
     let since = since_step _ _ _ _ _ inv.since c.read.ensures.moves.1 in
     record {
       answered = record {
-        answers = find_answers _ _ _ _ c.read.new.process c.args.key c.in-Ending.value c.reply_of.result (no_pages _ c.requires.first) since process.state (takes.1.0 ∙ inv.key) c.in-Ending.is c.finish.ensures.told c.reply_of.ensures;
+        answers = find_answers _ _ _ _ _ c.read.new.process c.args.key c.in-Ending.value c.reply_of.result refl since process.state (takes.1.0 ∙ inv.key) c.in-Ending.is c.finish.ensures.told c.reply_of.ensures;
         bounded = at_found _ _ _ _ _ inv.since.named inv.since.number inv.turn _ _ _ _ process.pages since.named since.number c.read.ensures.got (find_is_search _ _ process.state) c.finish.ensures.told;
         looks = own_looks _ _ _ _ since c.finish.ensures.tidy;
       };
@@ -59,7 +59,7 @@ returns-clause-answers c =
     record {
       answered = tt;
       refused = record {
-        adds = gives_up _ _ _ _ (no_pages _ c.requires.first) inv.since (find_may_give_up c.loop-turn.process _ inv.process.state inv.going) c.give_up.ensures.told;
+        adds = gives_up _ _ _ _ _ refl inv.since (find_may_give_up c.loop-turn.process _ inv.process.state inv.going) c.give_up.ensures.told;
         bounded = end.0;
         gets = end.1 ∙ all;
         below = end.2;
@@ -69,9 +69,3 @@ returns-clause-answers c =
 
 pub give_up-requires-clause-may : goal.give_up-requires-clause-may
 give_up-requires-clause-may c = find_may_give_up c.loop-turn.process _ c.loop-turn.invariant.process.state c.loop-turn.invariant.going
-
-pub returns-in-Ending-clause-seen : goal.returns-in-Ending-clause-seen
-returns-in-Ending-clause-seen c = (returns-in-Ending-clause-answers c).answered.answers.seen
-
-pub returns-clause-seen : goal.returns-clause-seen
-returns-clause-seen c = (returns-clause-answers c).refused.adds.seen

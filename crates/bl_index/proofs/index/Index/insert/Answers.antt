@@ -1,6 +1,6 @@
-use Rattle.std.proofs.Common.{refl, ap, length}
-use Rattle.bl_index.proofs.Calls.{no_pages}
-use Rattle.bl_index.proofs.Ends.{op_answered, op_beside, done_seen}
+use Rattle.std.proofs.Common.{refl}
+use Rattle.bl_index.proofs.Taken.{same_pass}
+use Rattle.bl_index.proofs.Ends.{op_answered, op_beside, done_first}
 use Rattle.bl_model.specs.declared.operation.Op.TheVariants as op
 use Rattle.bl_index.proofs.Alone.{steps_alone}
 use Rattle.bl_index.proofs.index.Index.insert.Goals as goal
@@ -9,16 +9,16 @@ pub returns-clause-inserts : goal.returns-clause-inserts
 returns-clause-inserts g c =
     let inserted = c.insert_by.ensures.inserted in
     record {
-      answers = op_answered _ _ _ _ _ _ _ _ inserted.done (no_pages _ c.args.pass.now.first) refl inserted.answer;
+      answers = op_answered _ _ _ _ _ _ _ _ _ inserted.done c.requires.2 refl inserted.answer;
       latches = inserted.done.tidy;
       hint = op_beside _ _ _ _ _ _ _ inserted.done inserted.answer;
     }
 
 pub returns-clause-alone : goal.returns-clause-alone
-returns-clause-alone g c = let e = c.insert_by.ensures in steps_alone c.args.self.now c.args.pass.now c.insert_by.new.hand.seat (op.Insert c.args.key c.args.value) c.requires e.same e.within _ (op_answered _ _ _ _ _ _ _ _ e.inserted.done (no_pages _ c.args.pass.now.first) refl e.inserted.answer)
+returns-clause-alone g c = let e = c.insert_by.ensures in steps_alone c.args.self.now c.args.pass.now c.insert_by.new.hand.seat (op.Insert c.args.key c.args.value) c.requires e.same e.within _ (op_answered _ _ _ _ _ _ _ _ _ e.inserted.done c.requires.2 refl e.inserted.answer)
+
+pub returns-clause-same : goal.returns-clause-same
+returns-clause-same g c = let e = c.insert_by.ensures in same_pass c.args.pass.now.hand c.insert_by.new.hand e.same (done_first _ _ _ _ _ e.inserted.done)
 
 pub invariant_of-pass : goal.invariant_of-pass
-invariant_of-pass g c =
-    let e = c.insert_by.ensures in
-    let seen = done_seen _ _ _ _ _ e.inserted.done (no_pages _ c.args.pass.now.first) in
-    record { idle = e.idle.0; empty = e.idle.1; within = e.within; rests = e.rests; first = ap length seen.0; seen = ∣ seen.1 ∣₁ }
+invariant_of-pass g c = let e = c.insert_by.ensures in record { idle = e.idle.0; empty = e.idle.1; within = e.within; rests = e.rests; seen = ∣ e.inserted.done.told.notes.seen ∣₁ }

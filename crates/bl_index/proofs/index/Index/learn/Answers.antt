@@ -1,11 +1,11 @@
-use Rattle.std.proofs.Common.{Option, List, [], sym, ap, subst, ◌∙◌, length}
+use Rattle.std.proofs.Common.{Option, List, sym, ap, subst, ◌∙◌}
 use Rattle.bl_layout.specs.declared.layout.Layout.{Layout}
 use Rattle.bl_page.specs.declared.page.Page.{Page}
 use Rattle.bl_store.specs.Hands.{known}
 use Rattle.bl_passes.specs.declared.known.Mine.{Mine}
 use Rattle.bl_passes.specs.Noting.{trail_of}
 use Rattle.bl_passes.specs.Seeing.{IsSeen, AreWithin}
-use Rattle.bl_index.proofs.Calls.{no_pages}
+use Rattle.bl_index.proofs.Taken.{same_pass}
 use Rattle.bl_index.proofs.index.Index.learn.Goals as goal
 
 pub invariant_of-pass : goal.invariant_of-pass
@@ -14,8 +14,7 @@ invariant_of-pass c = let e = c.learn_by.ensures in record {
   empty = e.same.2.0 ∙ c.args.pass.now.empty;
   within = subst (λ (z : Layout). AreWithin z.passes (trail_of (known c.learn_by.new.hand.seat).trail)) (sym (e.same.0.1 ∙ c.requires.own.0.1)) e.told.within;
   rests = e.told.runs ∙ c.args.pass.now.rests;
-  first = ap length (e.told.first ∙ no_pages _ c.args.pass.now.first);
-  seen = ∣ subst (λ (z : List (Option Page)). IsSeen z (trail_of (known c.learn_by.new.hand.seat).trail)) (e.told.first ∙ (no_pages _ c.args.pass.now.first)) e.told.seen ∣₁;
+  seen = ∣ e.told.seen ∣₁;
 }
 
 pub invariant_of-other : goal.invariant_of-other
@@ -24,12 +23,17 @@ invariant_of-other c = let e = c.learn_by.ensures in record {
   empty = e.other.2;
   within = subst (λ (z : Layout × Mine). AreWithin z.0.passes (trail_of z.1.trail)) (λ i. (sym e.other.0.1 i, sym e.other.3 i)) c.args.other.now.within;
   rests = ap (λ (z : Mine). z.runs) e.other.3 ∙ c.args.other.now.rests;
-  first = ap (λ (z : Mine). length z.first) e.other.3 ∙ c.args.other.now.first;
-  seen = subst (λ (z : Mine). ∥ IsSeen [] (trail_of z.trail) ∥₁) (sym e.other.3) c.args.other.now.seen;
+  seen = subst (λ (z : Mine). ∥ IsSeen z.first (trail_of z.trail) ∥₁) (sym e.other.3) c.args.other.now.seen;
 }
 
 pub returns-clause-learns : goal.returns-clause-learns
 returns-clause-learns c = c.learn_by.ensures.told.learns
 
 pub returns-clause-seen : goal.returns-clause-seen
-returns-clause-seen c = let e = c.learn_by.ensures in subst (λ (z : List (Option Page)). IsSeen z (trail_of (known c.learn_by.new.hand.seat).trail)) (e.told.first ∙ (no_pages _ c.args.pass.now.first)) e.told.seen
+returns-clause-seen c = let e = c.learn_by.ensures in subst (λ (z : List (Option Page)). IsSeen z (trail_of (known c.learn_by.new.hand.seat).trail)) (e.told.first ∙ c.requires.own.0.2) e.told.seen
+
+pub returns-clause-same : goal.returns-clause-same
+returns-clause-same c = same_pass c.args.pass.now.hand c.learn_by.new.hand c.learn_by.ensures.same.0 c.learn_by.ensures.told.first
+
+pub returns-clause-other : goal.returns-clause-other
+returns-clause-other c = let e = c.learn_by.ensures in (same_pass c.args.other.now.hand c.learn_by.new.other e.other.0 (ap (λ (z : Mine). z.first) e.other.3), ap (λ (z : Mine). trail_of z.trail) e.other.3)

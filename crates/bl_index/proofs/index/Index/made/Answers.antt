@@ -15,4 +15,4 @@ pub passes_of-requires : goal.passes_of-requires
 passes_of-requires c = new_hands _ _ _ _ (dealt _ _ _ _ _ c.newcomer-known.ensures c.in_ok-store.ensures.hands)
 
 pub returns : goal.returns
-returns c = is_opened c.args.config _ _ _ (c.in_ok-store.ensures.layout.0 ∙ (ap length c.as_slice.ensures.value ∙ c.in_ok-first.ensures.count)) c.in_ok-store.ensures.layout.1 (dealt _ _ _ _ _ c.newcomer-known.ensures c.in_ok-store.ensures.hands) c.in_ok-passes.ensures
+returns c = is_opened c.args.config _ _ _ (c.in_ok-store.ensures.layout.0 ∙ (ap length c.as_slice.ensures.value ∙ c.in_ok-first.ensures.count)) c.in_ok-store.ensures.layout.1 (dealt _ _ _ _ _ c.newcomer-known.ensures c.in_ok-store.ensures.hands) c.in_ok-passes.ensures c.no_pages.ensures

@@ -1,7 +1,7 @@
-use Rattle.std.proofs.Common.{rules, ◌≡◌, ◌∙◌, sym, ap, Some, None, ℕ, arith}
+use Rattle.std.proofs.Common.{rules, refl, ◌≡◌, ◌∙◌, sym, ap, Some, None, ℕ, arith}
 use Rattle.bl_model.specs.declared.operation.Op.TheVariants as op
 use Rattle.bl_index.specs.Searching.{IsListing}
-use Rattle.bl_index.proofs.Calls.{since_step, own_looks, no_pages}
+use Rattle.bl_index.proofs.Calls.{since_step, own_looks}
 use Rattle.bl_index.proofs.Ends.{op_answered}
 use Rattle.bl_index.proofs.Silent.{gives_up}
 use Rattle.bl_index.proofs.Listings.{lists_on, part_under_way, part_is_search, part_may_give_up, part_done}
@@ -46,7 +46,7 @@ returns-in-Ending-clause-answers c =
     let done = part_done _ _ _ _ c.read.new.process c.finish.new.process _ since process.state c.in-Ending.is c.finish.ensures.told c.finish.ensures.takes c.finish.ensures.tidy in
     record {
       answered = record {
-        answers = op_answered _ _ _ _ _ _ _ _ done (no_pages _ c.requires.first) (ap (λ (k : ℕ). Some (op.Part k)) (c.read.ensures.takes.1.0 ∙ inv.from)) (sym c.answer.ensures ∙ c.answered-reply.ensures);
+        answers = op_answered _ _ _ _ _ _ _ _ _ done refl (ap (λ (k : ℕ). Some (op.Part k)) (c.read.ensures.takes.1.0 ∙ inv.from)) (sym c.answer.ensures ∙ c.answered-reply.ensures);
         bounded = at_found _ _ _ _ _ inv.since.named inv.since.number inv.turn _ _ _ _ process.pages since.named since.number c.read.ensures.got (part_is_search _ _ process.state) c.finish.ensures.told;
         looks = own_looks _ _ _ _ since c.finish.ensures.tidy;
       };
@@ -61,7 +61,7 @@ returns-clause-answers c =
     record {
       answered = tt;
       refused = record {
-        adds = gives_up _ _ _ _ (no_pages _ c.requires.first) inv.since (part_may_give_up c.loop-turn.process _ inv.process.state inv.going) c.give_up.ensures.told;
+        adds = gives_up _ _ _ _ _ refl inv.since (part_may_give_up c.loop-turn.process _ inv.process.state inv.going) c.give_up.ensures.told;
         bounded = end.0;
         gets = end.1 ∙ all;
         below = end.2;
@@ -71,9 +71,3 @@ returns-clause-answers c =
 
 pub give_up-requires-clause-may : goal.give_up-requires-clause-may
 give_up-requires-clause-may c = part_may_give_up c.loop-turn.process _ c.loop-turn.invariant.process.state c.loop-turn.invariant.going
-
-pub returns-in-Ending-clause-seen : goal.returns-in-Ending-clause-seen
-returns-in-Ending-clause-seen c = (returns-in-Ending-clause-answers c).answered.answers.seen
-
-pub returns-clause-seen : goal.returns-clause-seen
-returns-clause-seen c = (returns-clause-answers c).refused.adds.seen

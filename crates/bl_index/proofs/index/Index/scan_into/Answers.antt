@@ -4,13 +4,13 @@ use Rattle.bl_index.proofs.Onward.{scans_none, goes_on, ends_there, over, nothin
 use Rattle.bl_index.proofs.index.Index.scan_into.Goals as goal
 
 pub loop-to-init : goal.loop-to-init
-loop-to-init c = record { same = search rules; low = omega arith; listed = []; grown = sym (append-nil _); scans = scans_none _ _ _ _ _ }
+loop-to-init c = record { same = search rules; low = omega arith; listed = []; grown = sym (append-nil _); scans = scans_none _ _ _ _ _ _ }
 
 pub loop-to-preserved : goal.loop-to-preserved
 loop-to-preserved c =
     let inv = c.loop-to.invariant in
     let below = below_is c.args.to c.loop-to.at (sym c.is_below.ensures ∙ c.loop-to-test.true) in
-    let on = goes_on _ _ _ _ _ _ _ _ _ _ _ _ _ inv.same.2 inv.scans inv.low below _ c.in-More.is c.in_ok-next.ensures.appends.listed in
+    let on = goes_on _ _ _ _ _ _ _ _ _ _ _ _ _ _ inv.same.2 inv.scans inv.low below _ c.in-More.is c.in_ok-next.ensures.appends.listed in
     record {
       same = search rules;
       low = omega (arith, on.0, inv.low);
@@ -23,7 +23,7 @@ pub loop-to-smaller : goal.loop-to-smaller
 loop-to-smaller c =
     let inv = c.loop-to.invariant in
     let below = below_is c.args.to c.loop-to.at (sym c.is_below.ensures ∙ c.loop-to-test.true) in
-    let on = goes_on _ _ _ _ _ _ _ _ _ _ _ _ _ inv.same.2 inv.scans inv.low below _ c.in-More.is c.in_ok-next.ensures.appends.listed in
+    let on = goes_on _ _ _ _ _ _ _ _ _ _ _ _ _ _ inv.same.2 inv.scans inv.low below _ c.in-More.is c.in_ok-next.ensures.appends.listed in
     let t = rw c.in_ok-next.was at c.append_part.type_inv in
     let u = rw c.in-More.is at t in
     omega (arith, on.0, u)
@@ -32,7 +32,7 @@ pub returns-in-End-clause-scans : goal.returns-in-End-clause-scans
 returns-in-End-clause-scans c =
     let inv = c.loop-to.invariant in
     let below = below_is c.args.to c.loop-to.at (sym c.is_below.ensures ∙ c.loop-to-test.true) in
-    let on = ends_there _ _ _ _ _ _ _ _ _ _ _ _ _ inv.same.2 inv.scans inv.low below c.in-End.is c.in_ok-next.ensures.appends.listed in
+    let on = ends_there _ _ _ _ _ _ _ _ _ _ _ _ _ _ inv.same.2 inv.scans inv.low below c.in-End.is c.in_ok-next.ensures.appends.listed in
     record {
       rows = inv.listed ++ on.0;
       appended = on.1 ∙ (ap (λ (z : List _). z ++ on.0) inv.grown ∙ append_assoc _ inv.listed on.0);
@@ -51,4 +51,4 @@ returns-clause-scans c =
     }
 
 pub returns-clause-nothing : goal.returns-clause-nothing
-returns-clause-nothing c = λ is. nothing_done _ _ c.args.turns c.args.from c.args.to _ _ _ _ _ _ (returns-clause-scans c) is
+returns-clause-nothing c = λ is. nothing_done _ _ _ c.args.turns c.args.from c.args.to _ _ _ _ _ _ (returns-clause-scans c) is

@@ -26,4 +26,4 @@ pub returns : goal.returns
 returns c =
     let spelled = c.from_words-image.ensures in
     subst (λ (z : Image). Closes c.args.self c.args.passes.items z.pages.items) (sym c.new.ensures)
-    (closes c.args.self c.args.passes.items c.hands_of-hands.result.items c.hands_of-hands.ensures c.close-words.result.items c.close-words.ensures c.requires.all c.from_words-image.result.pages.items (spelled.words ∙ c.as_slice.ensures.value) spelled.fits)
+    (closes c.args.self c.args.passes.items c.hands_of-hands.result.items c.hands_of-hands.ensures c.close-words.result.items c.close-words.ensures c.requires.own c.requires.all c.from_words-image.result.pages.items (spelled.words ∙ c.as_slice.ensures.value) spelled.fits)
