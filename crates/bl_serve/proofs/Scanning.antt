@@ -14,7 +14,7 @@ use Rattle.bl_model.specs.Parts.{rows_of, ended_at}
 use Rattle.bl_lines.specs.Text.{row_text}
 use Rattle.bl_page.specs.declared.page.Page.{Page}
 use Rattle.bl_trails.specs.Trails.{Trail, history_of}
-use Rattle.bl_passes.specs.Seeing.{IsSeen, own, GoesOnFrom}
+use Rattle.bl_passes.specs.Seeing.{first_map, IsSeen, own, GoesOnFrom}
 use Rattle.bl_index.proofs.Scanned.{Answered, IsBehind, answered, part_is, only_rows}
 use Rattle.bl_serve.specs.Works.{Works}
 use Rattle.bl_serve.specs.Answering.{WritesPart, WritesRows}
@@ -26,8 +26,8 @@ part_entry pass from reply = record { pass = pass; op = Part from; reply = reply
 
 -- ---- what a part answers
 
-answered_part : (first : List (Option Page)) (pass from : ℕ) (reply : Reply) (old new : Trail) → Works first pass (Part from) reply old new → Answered first (part_entry pass from reply) (history_of old) (history_of new)
-answered_part first pass from reply old new w = answered first pass (part_entry pass from reply) (history_of old) (history_of w.begins.0) (history_of new) (ap history_of w.begins.1 ∙ history_append old w.begins.0) w.seen.linear.legal w.once
+answered_part : (first : List (Option Page)) (pass from : ℕ) (reply : Reply) (old new : Trail) → Works first pass (Part from) reply old new → Answered (first_map first) (part_entry pass from reply) (history_of old) (history_of new)
+answered_part first pass from reply old new w = answered (first_map first) pass (part_entry pass from reply) (history_of old) (history_of w.begins.0) (history_of new) (ap history_of w.begins.1 ∙ history_append old w.begins.0) w.seen.linear.legal w.once
 
 -- nothing but rows answers it
 pub rows_alone : (first : List (Option Page)) (pass from : ℕ) (reply : Reply) (old new : Trail) → Works first pass (Part from) reply old new → ((rows : _) (next : _) → reply ≢ Rows rows next) → ⊥
