@@ -12,7 +12,6 @@ use Rattle.bl_lines.specs.declared.serving.ServeFault.TheVariants.{Read, Write}
 use Rattle.bl_lines.specs.declared.serving.Totals.{Totals}
 use Rattle.bl_serve.specs.declared.reading.SectionEnd.{SectionEnd}
 use Rattle.bl_serve.specs.declared.reading.SectionEnd.TheVariants as section_end
-use Rattle.bl_model.specs.Map.{empty}
 use Rattle.bl_model.specs.History.{IsLegalFrom, final_map}
 use Rattle.bl_model.proofs.Histories.{legal_append, legal_rest}
 use Rattle.bl_lines.specs.Lines.{Line, IsLine, Answer, Synced, entries, input_of, output_of, rest_text, HasNoLf}
@@ -21,8 +20,9 @@ use Rattle.bl_lines.specs.Served as served
 use Rattle.bl_serve.specs.Reading.{AsksNoSync, AsksSyncLast, ReadsLines}
 use Rattle.bl_serve.specs.Sections.{rests, syncs, end_text, CountsSection, Held}
 use Rattle.bl_serve.specs.Serving.{ServedBy}
+use Rattle.bl_page.specs.declared.page.Page.{Page}
 use Rattle.bl_trails.specs.Trails.{Trail, history_of}
-use Rattle.bl_passes.specs.Seeing.{IsSeen}
+use Rattle.bl_passes.specs.Seeing.{first_map, IsSeen}
 use Rattle.bl_index.specs.Calls.{map_after}
 use Rattle.bl_serve.proofs.Sections.{history_append}
 use Rattle.bl_lines.proofs.Sections.{output_append, no_sync_inside, no_sync_any}
@@ -58,15 +58,15 @@ pub no_progress : (old : Trail) → Progress old old (record { requests = 0; mal
 no_progress old = record { sections = []; more = []; begins = sym (append-nil old); each = All-nil IsFinished; history = refl; read = refl; written = refl; requests = refl; malformed = refl; finished = refl }
 
 -- a history goes on lawfully behind the one that was seen
-legal_on : (old now more : Trail) (h : List Entry) → IsSeen [] (now ++ more) → (begun : Trail) → now ≡ old ++ begun → history_of begun ≡ h → IsLegalFrom (map_after old) (h ++ history_of more)
-legal_on old now more h seen begun is same =
-    subst (λ (z : List Entry). IsLegalFrom (map_after old) (z ++ history_of more)) same
-    (legal_rest empty (history_of old) (history_of begun ++ history_of more)
-    (subst (IsLegalFrom empty) (history_append now more ∙ (ap (λ (z : Trail). history_of z ++ history_of more) is ∙ (ap (λ (z : List Entry). z ++ history_of more) (history_append old begun) ∙ append_assoc (history_of old) (history_of begun) (history_of more)))) seen.linear.legal))
+legal_on : (first : List (Option Page)) (old now more : Trail) (h : List Entry) → IsSeen first (now ++ more) → (begun : Trail) → now ≡ old ++ begun → history_of begun ≡ h → IsLegalFrom (map_after first old) (h ++ history_of more)
+legal_on first old now more h seen begun is same =
+    subst (λ (z : List Entry). IsLegalFrom (map_after first old) (z ++ history_of more)) same
+    (legal_rest (first_map first) (history_of old) (history_of begun ++ history_of more)
+    (subst (IsLegalFrom (first_map first)) (history_append now more ∙ (ap (λ (z : Trail). history_of z ++ history_of more) is ∙ (ap (λ (z : List Entry). z ++ history_of more) (history_append old begun) ∙ append_assoc (history_of old) (history_of begun) (history_of more)))) seen.linear.legal))
 
-legal_so_far : (old now : Trail) (h : List Entry) → IsSeen [] now → (begun : Trail) → now ≡ old ++ begun → history_of begun ≡ h → IsLegalFrom (map_after old) h
-legal_so_far old now h seen begun is same = subst (IsLegalFrom (map_after old)) same
-    (legal_rest empty (history_of old) (history_of begun) (subst (IsLegalFrom empty) (ap history_of is ∙ history_append old begun) seen.linear.legal))
+legal_so_far : (first : List (Option Page)) (old now : Trail) (h : List Entry) → IsSeen first now → (begun : Trail) → now ≡ old ++ begun → history_of begun ≡ h → IsLegalFrom (map_after first old) h
+legal_so_far first old now h seen begun is same = subst (IsLegalFrom (map_after first old)) same
+    (legal_rest (first_map first) (history_of old) (history_of begun) (subst (IsLegalFrom (first_map first)) (ap history_of is ∙ history_append old begun) seen.linear.legal))
 
 -- ---- a section
 
@@ -143,15 +143,15 @@ open_text : (s : List Section) (lines : List Line) (rest text tail : List ℕ) (
 open_text s lines rest text tail n k e long is ends = ap (λ (z : List ℕ). z ++ tail) is ∙ (ap (λ (z : List ℕ). output_of (suc n) lines ++ z) ends
     ∙ (ap (λ (z : ℕ). output_of (suc z) lines ++ rest_text (n + k + 1) rest) e ∙ ap (λ (z : ℕ). output_of (suc (length (lines_of s))) lines ++ rest_text z rest) (numbers_more s lines n k e long)))
 
-pub serves_end : (old now : Trail) (before totals : Totals) (input output unread left text rest : List ℕ) (asked : List (Option Request)) (more : Trail) (end : SectionEnd)
-    → Progress old now before input output → ReadsLines unread left asked rest → AsksNoSync asked → Held before.requests asked text more → CountsSection before totals asked end → Ends end rest → IsSeen [] (now ++ more)
-    → (consumed : List ℕ) × (unread ≡ consumed ++ left) × (length asked + length rest ≤ length consumed) × ServedBy old (now ++ more) (input ++ consumed) (output ++ (text ++ end_text end (before.requests + length asked + 1))) totals
-serves_end old now before totals input output unread left text rest asked more end p r no_sync h counts ends seen =
+pub serves_end : (first : List (Option Page)) (old now : Trail) (before totals : Totals) (input output unread left text rest : List ℕ) (asked : List (Option Request)) (more : Trail) (end : SectionEnd)
+    → Progress old now before input output → ReadsLines unread left asked rest → AsksNoSync asked → Held before.requests asked text more → CountsSection before totals asked end → Ends end rest → IsSeen first (now ++ more)
+    → (consumed : List ℕ) × (unread ≡ consumed ++ left) × (length asked + length rest ≤ length consumed) × ServedBy first old (now ++ more) (input ++ consumed) (output ++ (text ++ end_text end (before.requests + length asked + 1))) totals
+serves_end first old now before totals input output unread left text rest asked more end p r no_sync h counts ends seen =
     let lines : List Line = the_lines unread left asked rest r before.requests text more h in
     let are = the_are unread left asked rest r before.requests text more h in
     let s = p.sections in let n : ℕ = before.requests + length asked + 1 in
     let at : n ≡ length (lines_of s ++ lines) + 1 = numbers_more s lines before.requests (length asked) p.requests are.long in
-    let serves : Served (map_after old) (input ++ (input_of lines ++ rest)) (output ++ (text ++ end_text end n)) totals = record {
+    let serves : Served (map_after first old) (input ++ (input_of lines ++ rest)) (output ++ (text ++ end_text end n)) totals = record {
       sections = s;
       last = section_of lines more;
       rest = rest;
@@ -159,7 +159,7 @@ serves_end old now before totals input output unread left text rest asked more e
       whole = whole_section unread left asked rest r before.requests text more h;
       no_sync = no_sync_lines asked r.texts h.answers r.each h.each no_sync;
       cut = r.cut;
-      legal = legal_on old now more (served.history_of s) seen p.more p.begins p.history;
+      legal = legal_on first old now more (served.history_of s) seen p.more p.begins p.history;
       read = ap (λ t. t ++ (input_of lines ++ rest)) p.read ∙ sym (append_assoc (input_of (lines_of s)) (input_of lines) rest) ∙ ap (λ t. t ++ rest) (sym (input_append (lines_of s) lines));
       written = sym (append_assoc output text (end_text end n)) ∙ (ap (λ t. t ++ end_text end n) (written_more s lines before.requests output text p.written p.requests (text_is unread left asked rest r before.requests text more h))
           ∙ (ap (λ t. output_of 1 (lines_of s ++ lines) ++ t) (ends.prints n) ∙ ap (λ (z : ℕ). output_of 1 (lines_of s ++ lines) ++ rest_text z rest) at));
@@ -187,9 +187,9 @@ serves_end old now before totals input output unread left text rest asked more e
 -- ---- faults
 
 -- in the open section: nothing of it is written
-pub stops_inside : (old now : Trail) (before : Totals) (input output ahead : List ℕ) (fault : ServeFault) (ReaderFailed WriterFailed : Type 0) → Progress old now before input output → IsSeen [] now
-    → Leaves fault [] ahead [] → ComesFrom fault ReaderFailed WriterFailed → Stops (map_after old) (input ++ ahead) output fault ReaderFailed WriterFailed
-stops_inside old now before input output ahead fault ReaderFailed WriterFailed p seen leaves comes = (
+pub stops_inside : (first : List (Option Page)) (old now : Trail) (before : Totals) (input output ahead : List ℕ) (fault : ServeFault) (ReaderFailed WriterFailed : Type 0) → Progress old now before input output → IsSeen first now
+    → Leaves fault [] ahead [] → ComesFrom fault ReaderFailed WriterFailed → Stops (map_after first old) (input ++ ahead) output fault ReaderFailed WriterFailed
+stops_inside first old now before input output ahead fault ReaderFailed WriterFailed p seen leaves comes = (
   record {
     sections = p.sections;
     last = record { lines = []; history = [] };
@@ -201,7 +201,7 @@ stops_inside old now before input output ahead fault ReaderFailed WriterFailed p
     whole = record { lines = All-nil IsLine; history = All-nil (λ (list : List Entry). list ≡ []) };
     open_lines = no_sync_any [] (All-nil (λ line. line.answer ≢ Synced));
     cut = All-nil (λ b. b ≢ 10);
-    legal = subst (IsLegalFrom (map_after old)) (sym (append-nil (served.history_of p.sections))) (legal_so_far old now (served.history_of p.sections) seen p.more p.begins p.history);
+    legal = subst (IsLegalFrom (map_after first old)) (sym (append-nil (served.history_of p.sections))) (legal_so_far first old now (served.history_of p.sections) seen p.more p.begins p.history);
     read = ap (λ t. t ++ ahead) (p.read ∙ (ap input_of (sym (append-nil (lines_of p.sections))) ∙ sym (append-nil (input_of (lines_of p.sections ++ [])))));
     open_output = refl;
     written = p.written ∙ sym (append-nil (output_of 1 (lines_of p.sections)));
@@ -225,11 +225,11 @@ interleaves_all [] = All-nil (λ list. list ≡ [])
 interleaves_all (answer ∷ answers) = interleaves_front (entries answer) (map entries answers) (flat_map entries answers) (interleaves_all answers)
 
 -- the lines behind the finished sections were read, and a beginning of what would be their output is out
-stopped : (old now : Trail) (before : Totals) (input output unread left rest begun unwritten : List ℕ) (fault : ServeFault) (p : Progress old now before input output) (last : Section) → IsSection last → HasNoSyncInside last.lines → HasNoLf rest
-    → IsLegalFrom (map_after old) (served.history_of p.sections ++ last.history) → unread ≡ input_of last.lines ++ rest ++ left
+stopped : (first : List (Option Page)) (old now : Trail) (before : Totals) (input output unread left rest begun unwritten : List ℕ) (fault : ServeFault) (p : Progress old now before input output) (last : Section) → IsSection last → HasNoSyncInside last.lines → HasNoLf rest
+    → IsLegalFrom (map_after first old) (served.history_of p.sections ++ last.history) → unread ≡ input_of last.lines ++ rest ++ left
     → output_of (suc (length (lines_of p.sections))) last.lines ++ rest_text (length (lines_of p.sections ++ last.lines) + 1) rest ≡ begun ++ unwritten → Leaves fault begun left last.lines
-    → Stopped (map_after old) (input ++ unread) (output ++ begun) fault
-stopped old now before input output unread left rest begun unwritten fault p last whole inside cut legal read is leaves = let s = p.sections in let lines : List Line = last.lines in record {
+    → Stopped (map_after first old) (input ++ unread) (output ++ begun) fault
+stopped first old now before input output unread left rest begun unwritten fault p last whole inside cut legal read is leaves = let s = p.sections in let lines : List Line = last.lines in record {
   sections = s;
   last = last;
   rest = rest;
@@ -249,33 +249,33 @@ stopped old now before input output unread left rest begun unwritten fault p las
 }
 
 -- a read failed. The lines of the open section were not answered; they could have been so.
-pub stops_reading : (old now : Trail) (before : Totals) (input output unread left rest : List ℕ) (asked : List (Option Request)) (ReaderFailed WriterFailed : Type 0) → Progress old now before input output → IsSeen [] now
-    → ReadsLines unread left asked rest → AsksNoSync asked → left ≡ [] → ReaderFailed → Stops (map_after old) (input ++ unread) output Read ReaderFailed WriterFailed
-stops_reading old now before input output unread left rest asked ReaderFailed WriterFailed p seen r no_sync none failed =
+pub stops_reading : (first : List (Option Page)) (old now : Trail) (before : Totals) (input output unread left rest : List ℕ) (asked : List (Option Request)) (ReaderFailed WriterFailed : Type 0) → Progress old now before input output → IsSeen first now
+    → ReadsLines unread left asked rest → AsksNoSync asked → left ≡ [] → ReaderFailed → Stops (map_after first old) (input ++ unread) output Read ReaderFailed WriterFailed
+stops_reading first old now before input output unread left rest asked ReaderFailed WriterFailed p seen r no_sync none failed =
     let s = p.sections in
-    let so_far = legal_so_far old now (served.history_of s) seen p.more p.begins p.history in
-    let l = lawful (final_map (map_after old) (served.history_of s)) asked r.texts r.each in
+    let so_far = legal_so_far first old now (served.history_of s) seen p.more p.begins p.history in
+    let l = lawful (final_map (map_after first old) (served.history_of s)) asked r.texts r.each in
     let are = are_lines asked r.texts l.answers r.each l.each in
     let lines : List Line = lines_with r.texts l.answers in
     let last : Section = record { lines = lines; history = flat_map entries l.answers } in
     let quiet = no_sync_lines asked r.texts l.answers r.each l.each no_sync in (
-      subst (λ o. Stopped (map_after old) (input ++ unread) o Read) (append-nil output)
-          (stopped old now before input output unread left rest [] _ Read p last
+      subst (λ o. Stopped (map_after first old) (input ++ unread) o Read) (append-nil output)
+          (stopped first old now before input output unread left rest [] _ Read p last
           (record { lines = are.good; history = subst (λ (z : List (List Entry)). Interleaves z (flat_map entries l.answers)) (sym are.entries_are) (interleaves_all l.answers) })
-          (no_sync_any lines quiet) r.cut (legal_append (map_after old) (served.history_of s) (flat_map entries l.answers) so_far l.legal)
+          (no_sync_any lines quiet) r.cut (legal_append (map_after first old) (served.history_of s) (flat_map entries l.answers) so_far l.legal)
           (r.read ∙ ap (λ (z : List ℕ). z ++ rest ++ left) (sym are.input)) refl (refl, none, quiet)),
       failed,
     )
 
 -- a write of the section's output failed
-pub stops_writing : (old now : Trail) (before : Totals) (input output unread left text rest out unwritten : List ℕ) (asked : List (Option Request)) (more : Trail) (end : SectionEnd) (ReaderFailed WriterFailed : Type 0)
-    → Progress old now before input output → (r : ReadsLines unread left asked rest) → (h : Held before.requests asked text more) → HasNoSyncInside (lines_with r.texts h.answers) → ((n : ℕ) → end_text end n ≡ rest_text n rest) → IsSeen [] (now ++ more)
-    → text ++ end_text end (before.requests + length asked + 1) ≡ out ++ unwritten → WriterFailed → Stops (map_after old) (input ++ unread) (output ++ out) Write ReaderFailed WriterFailed
-stops_writing old now before input output unread left text rest out unwritten asked more end ReaderFailed WriterFailed p r h inside prints seen split failed =
+pub stops_writing : (first : List (Option Page)) (old now : Trail) (before : Totals) (input output unread left text rest out unwritten : List ℕ) (asked : List (Option Request)) (more : Trail) (end : SectionEnd) (ReaderFailed WriterFailed : Type 0)
+    → Progress old now before input output → (r : ReadsLines unread left asked rest) → (h : Held before.requests asked text more) → HasNoSyncInside (lines_with r.texts h.answers) → ((n : ℕ) → end_text end n ≡ rest_text n rest) → IsSeen first (now ++ more)
+    → text ++ end_text end (before.requests + length asked + 1) ≡ out ++ unwritten → WriterFailed → Stops (map_after first old) (input ++ unread) (output ++ out) Write ReaderFailed WriterFailed
+stops_writing first old now before input output unread left text rest out unwritten asked more end ReaderFailed WriterFailed p r h inside prints seen split failed =
     let s = p.sections in let lines : List Line = the_lines unread left asked rest r before.requests text more h in
     let are = the_are unread left asked rest r before.requests text more h in (
-      stopped old now before input output unread left rest out unwritten Write p (section_of lines more) (whole_section unread left asked rest r before.requests text more h) inside r.cut
-          (legal_on old now more (served.history_of s) seen p.more p.begins p.history) (read_is unread left asked rest r before.requests text more h)
+      stopped first old now before input output unread left rest out unwritten Write p (section_of lines more) (whole_section unread left asked rest r before.requests text more h) inside r.cut
+          (legal_on first old now more (served.history_of s) seen p.more p.begins p.history) (read_is unread left asked rest r before.requests text more h)
           (sym (open_text s lines rest text (end_text end (before.requests + length asked + 1)) before.requests (length asked) p.requests are.long (text_is unread left asked rest r before.requests text more h) (prints (before.requests + length asked + 1))) ∙ split)
           tt,
       failed,

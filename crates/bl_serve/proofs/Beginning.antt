@@ -1,10 +1,11 @@
 -- The passes of a new index are together.
-use Rattle.std.proofs.Common.{◌≡◌, ℕ, suc, ◌+◌, List, [], ◌∷◌, refl, sym, ap, ◌∙◌, subst, arith}
+use Rattle.std.proofs.Common.{◌≡◌, ℕ, suc, ◌+◌, List, [], ◌∷◌, Option, refl, sym, ap, ◌∙◌, subst, arith}
 use mathlib.Core.Option.{some}
 use lib.ListN.{get_elem?}
 use Rattle.bl_model.specs.Map.{Map, empty}
 use Rattle.bl_lines.specs.declared.serving.ServeFault.{ServeFault}
 use Rattle.bl_lines.specs.Served.{Stops}
+use Rattle.bl_page.specs.declared.page.Page.{Page}
 use Rattle.bl_trails.specs.Trails.{Trail}
 use Rattle.bl_index.specs.declared.config.Config.{Config}
 use Rattle.bl_index.specs.declared.index.Index.{Index}
@@ -36,6 +37,10 @@ opened_together config index passes o = subst (λ (z : Trail). AreTogether index
   may_be = o.seen;
 })
 
+-- the map after what they have seen is the empty map
+pub empty_seen : (first : List (Option Page)) (olds : List Pass) → first ≡ [] → seen_by olds ≡ [] → map_after first (seen_by olds) ≡ empty
+empty_seen first olds new unseen = ap (λ (z : List (Option Page)). map_after z (seen_by olds)) new ∙ ap (map_after []) unseen
+
 -- a server over them stops as one from the empty map
-pub stops_empty : (olds : List Pass) (input output : List ℕ) (fault : ServeFault) (reader_failed writer_failed : Type 0) → seen_by olds ≡ [] → Stops (map_after (seen_by olds)) input output fault reader_failed writer_failed → Stops empty input output fault reader_failed writer_failed
-stops_empty olds input output fault reader_failed writer_failed unseen s = subst (λ (m : Map). Stops m input output fault reader_failed writer_failed) (ap map_after unseen) s
+pub stops_empty : (first : List (Option Page)) (olds : List Pass) (input output : List ℕ) (fault : ServeFault) (reader_failed writer_failed : Type 0) → first ≡ [] → seen_by olds ≡ [] → Stops (map_after first (seen_by olds)) input output fault reader_failed writer_failed → Stops empty input output fault reader_failed writer_failed
+stops_empty first olds input output fault reader_failed writer_failed new unseen s = subst (λ (m : Map). Stops m input output fault reader_failed writer_failed) (empty_seen first olds new unseen) s

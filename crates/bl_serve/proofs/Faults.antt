@@ -12,11 +12,12 @@ use Rattle.bl_lines.specs.declared.serving.Totals.{Totals}
 use Rattle.bl_lines.specs.Lines.{rest_text}
 use Rattle.bl_lines.specs.Served.{Stops, HasNoSyncInside}
 use Rattle.bl_lines.specs.Streams.{EndsRead}
+use Rattle.bl_page.specs.declared.page.Page.{Page}
 use Rattle.bl_trails.specs.Trails.{Trail}
 use Rattle.bl_passes.specs.Seeing.{IsSeen}
 use Rattle.bl_index.specs.declared.index.Index.{Index}
 use Rattle.bl_index.specs.declared.index.Pass.{Pass}
-use Rattle.bl_index.specs.Calls.{map_after}
+use Rattle.bl_index.specs.Calls.{first_of, map_after}
 use Rattle.bl_serve.specs.declared.reading.SectionEnd.{SectionEnd}
 use Rattle.bl_serve.specs.declared.reading.SectionEnd.TheVariants as section_end
 use Rattle.bl_serve.specs.Reading.{ReadsLines, AsksSyncLast, EndsReading}
@@ -43,19 +44,19 @@ few_syncs section_end.Finished n low = omega arith
 -- ---- faults
 
 -- the section could not be read whole
-pub stops_at_read : (fault : ServeFault) (old now : Trail) (before : Totals) (input output unread left rest : List ℕ) (asked : List (Option Request)) (most : ℕ) (AtEnd ReaderFailed WriterFailed : Type 0) → Progress old now before input output → IsSeen [] now
-    → EndsReading (Err fault) most asked rest unread left AtEnd ReaderFailed → Stops (map_after old) (input ++ unread) output fault ReaderFailed WriterFailed
-stops_at_read Read old now before input output unread left rest asked most AtEnd ReaderFailed WriterFailed p seen e = stops_reading old now before input output unread left rest asked ReaderFailed WriterFailed p seen e.0 e.1 e.2 e.3
-stops_at_read Write old now before input output unread left rest asked most AtEnd ReaderFailed WriterFailed p seen e = absurd e
-stops_at_read Memory old now before input output unread left rest asked most AtEnd ReaderFailed WriterFailed p seen e = stops_inside old now before input output unread Memory ReaderFailed WriterFailed p seen refl tt
-stops_at_read (Lost number) old now before input output unread left rest asked most AtEnd ReaderFailed WriterFailed p seen e = absurd e
+pub stops_at_read : (first : List (Option Page)) (fault : ServeFault) (old now : Trail) (before : Totals) (input output unread left rest : List ℕ) (asked : List (Option Request)) (most : ℕ) (AtEnd ReaderFailed WriterFailed : Type 0) → Progress old now before input output → IsSeen first now
+    → EndsReading (Err fault) most asked rest unread left AtEnd ReaderFailed → Stops (map_after first old) (input ++ unread) output fault ReaderFailed WriterFailed
+stops_at_read first Read old now before input output unread left rest asked most AtEnd ReaderFailed WriterFailed p seen e = stops_reading first old now before input output unread left rest asked ReaderFailed WriterFailed p seen e.0 e.1 e.2 e.3
+stops_at_read first Write old now before input output unread left rest asked most AtEnd ReaderFailed WriterFailed p seen e = absurd e
+stops_at_read first Memory old now before input output unread left rest asked most AtEnd ReaderFailed WriterFailed p seen e = stops_inside first old now before input output unread Memory ReaderFailed WriterFailed p seen refl tt
+stops_at_read first (Lost number) old now before input output unread left rest asked most AtEnd ReaderFailed WriterFailed p seen e = absurd e
 
 -- it could not be answered
-pub stops_at_answers : (fault : ServeFault) (old now : Trail) (before : Totals) (input output ahead : List ℕ) (ReaderFailed WriterFailed : Type 0) → Progress old now before input output → IsSeen [] now → IsInside fault → Stops (map_after old) (input ++ ahead) output fault ReaderFailed WriterFailed
-stops_at_answers Read old now before input output ahead ReaderFailed WriterFailed p seen inside = absurd inside
-stops_at_answers Write old now before input output ahead ReaderFailed WriterFailed p seen inside = absurd inside
-stops_at_answers Memory old now before input output ahead ReaderFailed WriterFailed p seen inside = stops_inside old now before input output ahead Memory ReaderFailed WriterFailed p seen refl tt
-stops_at_answers (Lost number) old now before input output ahead ReaderFailed WriterFailed p seen inside = stops_inside old now before input output ahead (Lost number) ReaderFailed WriterFailed p seen refl tt
+pub stops_at_answers : (first : List (Option Page)) (fault : ServeFault) (old now : Trail) (before : Totals) (input output ahead : List ℕ) (ReaderFailed WriterFailed : Type 0) → Progress old now before input output → IsSeen first now → IsInside fault → Stops (map_after first old) (input ++ ahead) output fault ReaderFailed WriterFailed
+stops_at_answers first Read old now before input output ahead ReaderFailed WriterFailed p seen inside = absurd inside
+stops_at_answers first Write old now before input output ahead ReaderFailed WriterFailed p seen inside = absurd inside
+stops_at_answers first Memory old now before input output ahead ReaderFailed WriterFailed p seen inside = stops_inside first old now before input output ahead Memory ReaderFailed WriterFailed p seen refl tt
+stops_at_answers first (Lost number) old now before input output ahead ReaderFailed WriterFailed p seen inside = stops_inside first old now before input output ahead (Lost number) ReaderFailed WriterFailed p seen refl tt
 
 -- ---- a section that was answered
 
@@ -71,10 +72,10 @@ ended unread left asked rest done text more h section_end.Rest most AtEnd Failed
 ended unread left asked rest done text more h section_end.Finished most AtEnd Failed e = record { reads = e.0; inside = inside_no_sync unread left rest asked e.0 done text more h e.3; prints = (ends_finished rest e.2).prints }
 
 -- what was served to the end
-pub record AtLast (old now : Trail) (input output unread left text : List ℕ) (totals : Totals) (AtEnd : Type 0) : Type 0 where
+pub record AtLast (first : List (Option Page)) (old now : Trail) (input output unread left text : List ℕ) (totals : Totals) (AtEnd : Type 0) : Type 0 where
   pub consumed : List ℕ
   pub read : unread ≡ consumed ++ left
-  pub served : ServedBy old now (input ++ consumed) (output ++ text) totals
+  pub served : ServedBy first old now (input ++ consumed) (output ++ text) totals
   pub ends : EndsRead (input ++ consumed) left AtEnd
 
 -- what is known when a sync has ended a section
@@ -101,10 +102,10 @@ module _ (index : Index) (seen : Trail) (before : Totals) (asked : List (Option 
 
   -- its output was not written whole
   pub stops_at_write : (old : Trail) (input output unread left rest out unwritten : List ℕ) (most : ℕ) (AtEnd ReaderFailed WriterFailed : Type 0) → Progress old seen before input output → EndsReading (Ok end) most asked rest unread left AtEnd ReaderFailed
-      → text ≡ out ++ unwritten → WriterFailed → Stops (map_after old) (input ++ unread) (output ++ out) Write ReaderFailed WriterFailed
+      → text ≡ out ++ unwritten → WriterFailed → Stops (map_after (first_of index) old) (input ++ unread) (output ++ out) Write ReaderFailed WriterFailed
   stops_at_write old input output unread left rest out unwritten most AtEnd ReaderFailed WriterFailed p e split failed =
       let w = ended unread left asked rest before.requests s.answers s.holds.more s.holds.held end most AtEnd ReaderFailed e in
-      stops_writing old seen before input output unread left s.answers rest out unwritten asked s.holds.more end ReaderFailed WriterFailed p w.reads s.holds.held w.inside w.prints together_now.may_be (sym s.ends ∙ split) failed
+      stops_writing (first_of index) old seen before input output unread left s.answers rest out unwritten asked s.holds.more end ReaderFailed WriterFailed p w.reads s.holds.held w.inside w.prints together_now.may_be (sym s.ends ∙ split) failed
 
   pub goes_on_at_sync : (old : Trail) (totals : Totals) (input output unread left rest : List ℕ) (most : ℕ) (AtEnd Failed : Type 0) → end ≡ section_end.Synced → Progress old seen before input output → EndsReading (Ok end) most asked rest unread left AtEnd Failed
       → CountsSection before totals asked end → GoesOn old now_seen before totals input output unread left text
@@ -123,17 +124,17 @@ module _ (index : Index) (seen : Trail) (before : Totals) (asked : List (Option 
       }
 
   pub serves_at_end : (old : Trail) (totals : Totals) (input output unread left rest : List ℕ) (AtEnd Failed : Type 0) → end ≢ section_end.Synced → Progress old seen before input output → EndsReading (Ok end) (2 ^ 64 - 1 - before.requests) asked rest unread left AtEnd Failed
-      → before.requests < 2 ^ 64 → CountsSection before totals asked end → AtLast old now_seen input output unread left text totals AtEnd
+      → before.requests < 2 ^ 64 → CountsSection before totals asked end → AtLast (first_of index) old now_seen input output unread left text totals AtEnd
   serves_at_end old totals input output unread left rest AtEnd Failed other p e low counts = go end other e counts s.ends
     where
       go : (end : SectionEnd) → end ≢ section_end.Synced → EndsReading (Ok end) (2 ^ 64 - 1 - before.requests) asked rest unread left AtEnd Failed → CountsSection before totals asked end → text ≡ s.answers ++ end_text end (before.requests + length asked + 1)
-          → AtLast old now_seen input output unread left text totals AtEnd
+          → AtLast (first_of index) old now_seen input output unread left text totals AtEnd
       go section_end.Synced other e counts is = absurd (other refl)
       go section_end.Rest other e counts is =
-          let v = serves_end old seen before totals input output unread left s.answers rest asked s.holds.more section_end.Rest p e.0 e.3 s.holds.held counts (ends_rest rest e.2) together_now.may_be in record {
+          let v = serves_end (first_of index) old seen before totals input output unread left s.answers rest asked s.holds.more section_end.Rest p e.0 e.3 s.holds.held counts (ends_rest rest e.2) together_now.may_be in record {
             consumed = v.0;
             read = v.1;
-            served = subst (λ (z : List ℕ). ServedBy old now_seen (input ++ v.0) (output ++ z) totals) (sym is) v.3;
+            served = subst (λ (z : List ℕ). ServedBy (first_of index) old now_seen (input ++ v.0) (output ++ z) totals) (sym is) v.3;
             ends = reads_to_end v.0 v.2 e.4;
           }
         where
@@ -141,10 +142,10 @@ module _ (index : Index) (seen : Trail) (before : Totals) (asked : List (Option 
           reads_to_end consumed long (inl here) = inl here
           reads_to_end consumed long (inr many) = inr (let a = length-append input consumed in omega (arith, a, long, many))
       go section_end.Finished other e counts is =
-          let v = serves_end old seen before totals input output unread left s.answers rest asked s.holds.more section_end.Finished p e.0 e.3 s.holds.held counts (ends_finished rest e.2) together_now.may_be in record {
+          let v = serves_end (first_of index) old seen before totals input output unread left s.answers rest asked s.holds.more section_end.Finished p e.0 e.3 s.holds.held counts (ends_finished rest e.2) together_now.may_be in record {
             consumed = v.0;
             read = v.1;
-            served = subst (λ (z : List ℕ). ServedBy old now_seen (input ++ v.0) (output ++ z) totals) (sym is) v.3;
+            served = subst (λ (z : List ℕ). ServedBy (first_of index) old now_seen (input ++ v.0) (output ++ z) totals) (sym is) v.3;
             ends = takes_all v.0 v.2 e.4;
           }
         where
@@ -154,14 +155,14 @@ module _ (index : Index) (seen : Trail) (before : Totals) (asked : List (Option 
 
 -- ---- as many sections as there are numbers
 
-pub serves_no_more : (old now : Trail) (totals : Totals) (input output left : List ℕ) (AtEnd : Type 0) → Progress old now totals input output → IsSeen [] now → 2 ^ 64 - 1 ≤ totals.requests → AtLast old now input output left left [] totals AtEnd
-serves_no_more old now totals input output left AtEnd p seen many =
+pub serves_no_more : (first : List (Option Page)) (old now : Trail) (totals : Totals) (input output left : List ℕ) (AtEnd : Type 0) → Progress old now totals input output → IsSeen first now → 2 ^ 64 - 1 ≤ totals.requests → AtLast first old now input output left left [] totals AtEnd
+serves_no_more first old now totals input output left AtEnd p seen many =
     let none : Held totals.requests [] [] [] = record { answers = []; each = tt; prints = refl; interleaves = All-nil (λ (list : List Entry). list ≡ []) } in
     let r : ReadsLines left left [] [] = record { texts = []; each = tt; cut = All-nil (λ b. b ≢ 10); read = refl } in
     let counts : CountsSection totals totals [] section_end.Finished = record { requests = omega arith; malformed = omega arith; sections = omega arith } in
-    let v = serves_end old now totals totals input output left left [] [] [] [] section_end.Finished p r asks_none none counts (ends_finished [] refl) (subst IsSeen [] (sym (append-nil now)) seen) in record {
+    let v = serves_end first old now totals totals input output left left [] [] [] [] section_end.Finished p r asks_none none counts (ends_finished [] refl) (subst (IsSeen first) (sym (append-nil now)) seen) in record {
       consumed = v.0;
       read = v.1;
-      served = subst (λ (z : Trail). ServedBy old z (input ++ v.0) (output ++ []) totals) (append-nil now) v.3;
+      served = subst (λ (z : Trail). ServedBy first old z (input ++ v.0) (output ++ []) totals) (append-nil now) v.3;
       ends = inr (let a = length-append input v.0 in let b = input_long old now totals input output p in omega (arith, a, b, many));
     }

@@ -6,12 +6,13 @@ use Rattle.std.proofs.Math.Seq.{take-append_seam}
 use Rattle.std.proofs.lemmas.List.{length-map}
 use Rattle.std.proofs.lemmas.List.Elements.{All-nil, All-cons, All-head, All-tail}
 use Rattle.bl_lines.specs.declared.request.Request.{Request}
+use Rattle.bl_page.specs.declared.page.Page.{Page}
 use Rattle.bl_layout.specs.declared.layout.Layout.{Layout}
 use Rattle.bl_trails.specs.Trails.{Trail}
 use Rattle.bl_passes.specs.Seeing.{IsSeen, AreWithin, own, GoesOnFrom}
 use Rattle.bl_index.specs.declared.index.Index.{Index}
 use Rattle.bl_index.specs.declared.index.Pass.{Pass}
-use Rattle.bl_index.specs.Calls.{IsPassOf, number_of, trail, passes_of}
+use Rattle.bl_index.specs.Calls.{first_of, IsPassOf, number_of, trail, passes_of}
 use Rattle.bl_index.proofs.Taken.{same_of}
 use Rattle.bl_serve.specs.Rounds.{Taken, IsTaken, IsRound}
 use Rattle.bl_serve.specs.Meetings.{Comes, AllMeet}
@@ -42,16 +43,16 @@ together_by_first index seen passes some t = subst (λ (z : Trail). AreTogether 
 
 -- ---- the passes meet
 
-all_seen : (index : Index) (old : Trail) (from : ℕ) (taken : List Taken) → IsSeen [] old → AreFrom index old from (olds_of taken) → All IsTaken taken → All (λ p. IsSeen [] (trail p)) (news_of taken)
-all_seen index old from [] seen h each = All-nil (λ (p : Pass). IsSeen [] (trail p))
-all_seen index old from (t ∷ ts) seen h each = All-cons (λ (p : Pass). IsSeen [] (trail p)) t.new (news_of ts) ((All-head IsTaken t ts each).seen (subst IsSeen [] (sym h.2) seen)) (all_seen index old (suc from) ts seen h.3 (All-tail IsTaken t ts each))
+all_seen : (first : List (Option Page)) (index : Index) (old : Trail) (from : ℕ) (taken : List Taken) → IsSeen first old → AreFrom index old from (olds_of taken) → All (IsTaken first) taken → All (λ p. IsSeen first (trail p)) (news_of taken)
+all_seen first index old from [] seen h each = All-nil (λ (p : Pass). IsSeen first (trail p))
+all_seen first index old from (t ∷ ts) seen h each = All-cons (λ (p : Pass). IsSeen first (trail p)) t.new (news_of ts) ((All-head (IsTaken first) t ts each).seen (subst (IsSeen first) (sym h.2) seen)) (all_seen first index old (suc from) ts seen h.3 (All-tail (IsTaken first) t ts each))
 
-come_from : (index : Index) (old now : Trail) (from : ℕ) (taken : List Taken) (met : List Pass) → AreFrom index old from (olds_of taken) → All IsTaken taken → AllZip (Comes now) (news_of taken) met → AreFrom index now from met × FitsFrom old now from taken
-come_from index old now from [] [] h each come = (tt, tt)
-come_from index old now from [] (q ∷ qs) h each come = absurd come
-come_from index old now from (t ∷ ts) [] h each come = absurd come
-come_from index old now from (t ∷ ts) (q ∷ qs) h each come =
-    let here = All-head IsTaken t ts each in let r = come_from index old now (suc from) ts qs h.3 (All-tail IsTaken t ts each) come.1 in
+come_from : (first : List (Option Page)) (index : Index) (old now : Trail) (from : ℕ) (taken : List Taken) (met : List Pass) → AreFrom index old from (olds_of taken) → All (IsTaken first) taken → AllZip (Comes now) (news_of taken) met → AreFrom index now from met × FitsFrom old now from taken
+come_from first index old now from [] [] h each come = (tt, tt)
+come_from first index old now from [] (q ∷ qs) h each come = absurd come
+come_from first index old now from (t ∷ ts) [] h each come = absurd come
+come_from first index old now from (t ∷ ts) (q ∷ qs) h each come =
+    let here = All-head (IsTaken first) t ts each in let r = come_from first index old now (suc from) ts qs h.3 (All-tail (IsTaken first) t ts each) come.1 in
     let number : number_of t.new ≡ from = here.same.2 ∙ h.1 in (
       (same_of index t.new q come.0.same (same_of index t.old t.new here.same h.0), come.0.same.2 ∙ number, come.0.is, r.0),
       (h.1, h.2, subst (λ (z : ℕ). own z now ≡ own z (trail t.new)) number come.0.none, r.1),
@@ -62,10 +63,10 @@ pub all_within : (index : Index) (now : Trail) (from : ℕ) (passes : List Pass)
 all_within index now from [] some h = absurd (omega arith)
 all_within index now from (p ∷ ps) some h = subst (AreWithin (passes_of index)) h.2 (subst (λ (z : Layout). AreWithin z.passes (trail p)) h.0.1 p.within)
 
-goes_to : (index : Index) (old now : Trail) (from : ℕ) (taken : List Taken) (met : List Pass) → 0 < length taken → AreFrom index old from (olds_of taken) → All IsTaken taken → AllZip (Comes now) (news_of taken) met → GoesOnFrom old now
-goes_to index old now from [] met some h each come = absurd (omega arith)
-goes_to index old now from (t ∷ ts) [] some h each come = absurd come
-goes_to index old now from (t ∷ ts) (q ∷ qs) some h each come = goes_on old (trail t.new) now (subst (λ (z : Trail). GoesOnFrom z (trail t.new)) h.2 (All-head IsTaken t ts each).begins) come.0.begins
+goes_to : (first : List (Option Page)) (index : Index) (old now : Trail) (from : ℕ) (taken : List Taken) (met : List Pass) → 0 < length taken → AreFrom index old from (olds_of taken) → All (IsTaken first) taken → AllZip (Comes now) (news_of taken) met → GoesOnFrom old now
+goes_to first index old now from [] met some h each come = absurd (omega arith)
+goes_to first index old now from (t ∷ ts) [] some h each come = absurd come
+goes_to first index old now from (t ∷ ts) (q ∷ qs) some h each come = goes_on old (trail t.new) now (subst (λ (z : Trail). GoesOnFrom z (trail t.new)) h.2 (All-head (IsTaken first) t ts each).begins) come.0.begins
 
 zip_long : {A B : Type 0} (R : A → B → Type 0) (xs : List A) (ys : List B) → AllZip R xs ys → length ys ≡ length xs
 zip_long R [] [] h = refl
@@ -73,27 +74,28 @@ zip_long R [] (y ∷ ys) h = absurd h
 zip_long R (x ∷ xs) [] h = absurd h
 zip_long R (x ∷ xs) (y ∷ ys) h = ap suc (zip_long R xs ys h.1)
 
-pub holds : (index : Index) (done : ℕ) (lines : List (Option Request)) (text : List ℕ) (olds news met : List Pass) → 0 < length olds → AreTogether index (seen_by olds) olds → IsRound (suc done) lines text olds news → AllMeet news met → HoldsSection index done lines text olds met
+pub holds : (index : Index) (done : ℕ) (lines : List (Option Request)) (text : List ℕ) (olds news met : List Pass) → 0 < length olds → AreTogether index (seen_by olds) olds → IsRound (first_of index) (suc done) lines text olds news → AllMeet (first_of index) news met → HoldsSection index done lines text olds met
 holds index done lines text olds news met some t r m =
+    let first : List (Option Page) = first_of index in
     let old : Trail = seen_by olds in
     let each : AreFrom index old 0 (olds_of r.taken) = subst (AreFrom index old 0) (sym r.old_are) t.each in
     let come : AllZip (Comes m.seen) (news_of r.taken) met = subst (λ (z : List Pass). AllZip (Comes m.seen) z met) (sym r.new_are) m.each in
     let count : length r.taken ≡ length olds = sym (length-map r.taken (λ (x : Taken). x.old)) ∙ ap length r.old_are in
     let long : length met ≡ length olds = zip_long (Comes m.seen) (news_of r.taken) met come ∙ (length-map r.taken (λ (x : Taken). x.new) ∙ count) in
-    let parts = come_from index old m.seen 0 r.taken met each r.each_taken come in
-    let seen : IsSeen [] m.seen = m.may_be (subst (All (λ (p : Pass). IsSeen [] (trail p))) r.new_are (all_seen index old 0 r.taken t.may_be each r.each_taken)) in
-    let on : GoesOnFrom old m.seen = goes_to index old m.seen 0 r.taken met (omega (arith, count)) each r.each_taken come in
+    let parts = come_from first index old m.seen 0 r.taken met each r.each_taken come in
+    let seen : IsSeen first m.seen = m.may_be (subst (All (λ (p : Pass). IsSeen first (trail p))) r.new_are (all_seen first index old 0 r.taken t.may_be each r.each_taken)) in
+    let on : GoesOnFrom old m.seen = goes_to first index old m.seen 0 r.taken met (omega (arith, count)) each r.each_taken come in
     let within : AreWithin (length r.taken) m.seen = subst (λ (z : ℕ). AreWithin z m.seen) (sym (count ∙ t.count)) (all_within index m.seen 0 met (omega (arith, long)) parts.0) in
-    let s = section (suc done) lines text olds news old m.seen r on seen within parts.1 in record {
+    let s = section first (suc done) lines text olds news old m.seen r on seen within parts.1 in record {
       more = s.more;
       held = record { answers = r.answers; each = r.each; prints = r.prints; interleaves = s.interleaves };
       together = subst (λ (z : Trail). AreTogether index z met) s.on (record { count = long ∙ t.count; each = parts.0; may_be = seen });
     }
 
 -- as many passes come back as were given
-pub same_many : (first : ℕ) (lines : List (Option Request)) (text : List ℕ) (olds news : List Pass) → IsRound first lines text olds news → length news ≡ length olds
-same_many first lines text olds news r = sym (ap length r.new_are) ∙ (length-map r.taken (λ (x : Taken). x.new) ∙ (sym (length-map r.taken (λ (x : Taken). x.old)) ∙ ap length r.old_are))
+pub same_many : (first : List (Option Page)) (number : ℕ) (lines : List (Option Request)) (text : List ℕ) (olds news : List Pass) → IsRound first number lines text olds news → length news ≡ length olds
+same_many first number lines text olds news r = sym (ap length r.new_are) ∙ (length-map r.taken (λ (x : Taken). x.new) ∙ (sym (length-map r.taken (λ (x : Taken). x.old)) ∙ ap length r.old_are))
 
 -- the passes that were lent to the meeting come back
-pub lent_back : (n : ℕ) (news met : List Pass) → n ≡ length news → AllMeet news met → take n (met ++ drop (length met) news) ≡ met
-lent_back n news met many m = ap (λ (k : ℕ). take k (met ++ drop (length met) news)) (let long = zip_long (Comes m.seen) news met m.each in let e : n ≡ length met = omega (arith, many, long) in e) ∙ take-append_seam met (drop (length met) news)
+pub lent_back : (first : List (Option Page)) (n : ℕ) (news met : List Pass) → n ≡ length news → AllMeet first news met → take n (met ++ drop (length met) news) ≡ met
+lent_back first n news met many m = ap (λ (k : ℕ). take k (met ++ drop (length met) news)) (let long = zip_long (Comes m.seen) news met m.each in let e : n ≡ length met = omega (arith, many, long) in e) ∙ take-append_seam met (drop (length met) news)

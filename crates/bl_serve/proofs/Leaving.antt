@@ -16,13 +16,13 @@ use Rattle.bl_check.specs.declared.quiet.Quiet.{Quiet}
 use Rattle.bl_lines.specs.declared.serving.Totals.{Totals}
 use Rattle.bl_lines.specs.Served.{Served, whole_history}
 use Rattle.bl_trails.specs.Trails.{Trail, history_of}
-use Rattle.bl_passes.specs.Seeing.{AreWithin, GoesOnFrom, own}
+use Rattle.bl_passes.specs.Seeing.{first_map, AreWithin, GoesOnFrom, own}
 use Rattle.bl_index.specs.declared.index.Index.{Index}
 use Rattle.bl_index.specs.declared.index.Pass.{Pass}
-use Rattle.bl_index.specs.Calls.{number_of, trail, pages_of, passes_of}
+use Rattle.bl_index.specs.Calls.{first_of, number_of, trail, pages_of, passes_of}
 use Rattle.bl_index.specs.Closed.{HasPass, AreAll, Closes}
 use Rattle.bl_serve.specs.Serving.{AreFrom, AreTogether, ServedBy}
-use Rattle.bl_serve.specs.Dumps.{HoldMapAfter}
+use Rattle.bl_serve.specs.Dumps.{HoldMapFrom}
 use Rattle.bl_serve.proofs.Sections.{IsBelow, all_below, within_rest, own_more, history_append}
 
 -- ---- all passes are there
@@ -65,23 +65,24 @@ history_kept index seen passes pages any t c =
     append_cancel_left (own n seen) (entries_of_pass n (history_of more)) [] (sym (own_more seen c.whole more on.1 n) ∙ (same ∙ sym (append-nil (own n seen))))) in
     ap history_of on.1 ∙ (history_append seen more ∙ (ap (λ (z : List Entry). history_of seen ++ z) none ∙ append-nil (history_of seen)))
 
-pub hold_map : (index : Index) (seen : Trail) (passes : List Pass) (pages : List (Option Page)) → 0 < length passes → AreTogether index seen passes → Closes index passes pages → HoldMapAfter (history_of seen) (pages_of index) pages
+pub hold_map : (index : Index) (seen : Trail) (passes : List Pass) (pages : List (Option Page)) → 0 < length passes → AreTogether index seen passes → Closes index passes pages → HoldMapFrom (first_of index) (history_of seen) (pages_of index) pages
 hold_map index seen passes pages any t c = record {
   count = c.count;
   rows = c.rows;
   are_rows = c.are_rows;
-  map = subst (λ (z : List Entry). SameMap (final_map empty z) (map_of c.rows)) (history_kept index seen passes pages any t c) c.map;
+  map = subst (λ (z : List Entry). SameMap (final_map (first_map (first_of index)) z) (map_of c.rows)) (history_kept index seen passes pages any t c) c.map;
 }
 
 -- ---- the image is that of what was served
 
 -- an image with the map after the history, where there was memory for one
-abbrev pub Leaves : List Entry → ℕ → Result Quiet AllocError → Type 0
-Leaves history many closed = IfOk closed (λ quiet. HoldMapAfter history many quiet.image.pages.items)
+abbrev pub Leaves : List (Option Page) → List Entry → ℕ → Result Quiet AllocError → Type 0
+Leaves first history many closed = IfOk closed (λ quiet. HoldMapFrom first history many quiet.image.pages.items)
 
 -- new passes have served, and then they were closed
-pub served_image : (old now : Trail) (input output : List ℕ) (totals : Totals) (many : ℕ) (closed : Result Quiet AllocError) → old ≡ [] → ServedBy old now input output totals → Leaves (history_of now) many closed
-    → (served : Served empty input output totals) × Leaves (whole_history served) many closed
-served_image old now input output totals many closed unseen s left =
-    let t : ServedBy [] now input output totals = subst (λ (z : Trail). ServedBy z now input output totals) unseen s in
-    (t.served, subst (λ (z : List Entry). Leaves z many closed) (ap history_of t.begins ∙ t.history) left)
+pub served_image : (first : List (Option Page)) (old now : Trail) (input output : List ℕ) (totals : Totals) (many : ℕ) (closed : Result Quiet AllocError) → first ≡ [] → old ≡ [] → ServedBy first old now input output totals → Leaves first (history_of now) many closed
+    → (served : Served empty input output totals) × Leaves [] (whole_history served) many closed
+served_image first old now input output totals many closed new unseen s left =
+    let t : ServedBy [] [] now input output totals = subst (λ (z : Trail). ServedBy [] z now input output totals) unseen (subst (λ (z : List (Option Page)). ServedBy z old now input output totals) new s) in
+    let l : Leaves [] (history_of now) many closed = subst (λ (z : List (Option Page)). Leaves z (history_of now) many closed) new left in
+    (t.served, subst (λ (z : List Entry). Leaves [] z many closed) (ap history_of t.begins ∙ t.history) l)

@@ -13,6 +13,7 @@ use Rattle.bl_lines.specs.declared.request.Request.TheVariants.{Ask, Scan, Sync}
 use Rattle.bl_lines.specs.Lines.{Answer, Replied, Scanned, Synced, Malformed, rows_below, entries, answer_text}
 use Rattle.bl_model.specs.Parts.{rows_of}
 use Rattle.bl_lines.specs.Text.{numbered, reply_text, row_text}
+use Rattle.bl_page.specs.declared.page.Page.{Page}
 use Rattle.bl_trails.specs.Trails.{Trail}
 use Rattle.bl_passes.specs.Seeing.{own, GoesOnFrom}
 use Rattle.bl_serve.specs.Works.{Works, Adds}
@@ -45,19 +46,19 @@ pub stays : (old : Trail) → GoesOnFrom old old
 stays old = ([], sym (append-nil old))
 
 -- nothing is answered yet
-pub no_lines : (pass first : ℕ) (old : Trail) → AnswersLines pass first [] [] old old
-no_lines pass first old = record { answers = []; each = tt; prints = refl; begins = stays old; seen = λ s. s; mine = sym (append-nil (own pass old)) }
+pub no_lines : (first : List (Option Page)) (pass number : ℕ) (old : Trail) → AnswersLines first pass number [] [] old old
+no_lines first pass number old = record { answers = []; each = tt; prints = refl; begins = stays old; seen = λ s. s; mine = sym (append-nil (own pass old)) }
 
-pub one_more : (pass first n : ℕ) (lines : List (Option Request)) (asked : Option Request) (text more : List ℕ) (old mid new : Trail) → n ≡ first + length lines
-    → AnswersLines pass first lines text old mid → AnswersLine pass n asked text more mid new → AnswersLines pass first (lines ++ asked ∷ []) more old new
-one_more pass first n lines asked text more old mid new at a b = let long = zip_length IsFor lines a.answers a.each in
-    let number : n ≡ first + length a.answers = omega arith in record {
+pub one_more : (first : List (Option Page)) (pass number n : ℕ) (lines : List (Option Request)) (asked : Option Request) (text more : List ℕ) (old mid new : Trail) → n ≡ number + length lines
+    → AnswersLines first pass number lines text old mid → AnswersLine first pass n asked text more mid new → AnswersLines first pass number (lines ++ asked ∷ []) more old new
+one_more first pass number n lines asked text more old mid new at a b = let long = zip_length IsFor lines a.answers a.each in
+    let at_number : n ≡ number + length a.answers = omega arith in record {
       answers = a.answers ++ b.answer ∷ [];
       each = zip_append IsFor lines (asked ∷ []) a.answers (b.answer ∷ []) a.each (b.is_for, tt);
       prints = b.prints ∙ (ap (λ (z : List ℕ). z ++ numbered n (answer_text b.answer)) a.prints
-          ∙ (ap (λ (z : ℕ). answers_text first a.answers ++ numbered z (answer_text b.answer)) number
-          ∙ (ap (λ (z : List ℕ). answers_text first a.answers ++ z) (sym (append-nil (numbered (first + length a.answers) (answer_text b.answer))))
-          ∙ sym (text_append first a.answers (b.answer ∷ [])))));
+          ∙ (ap (λ (z : ℕ). answers_text number a.answers ++ numbered z (answer_text b.answer)) at_number
+          ∙ (ap (λ (z : List ℕ). answers_text number a.answers ++ z) (sym (append-nil (numbered (number + length a.answers) (answer_text b.answer))))
+          ∙ sym (text_append number a.answers (b.answer ∷ [])))));
       begins = goes_on old mid new a.begins b.begins;
       seen = λ s. b.seen (a.seen s);
       mine = b.mine ∙ (ap (λ (z : List Entry). z ++ entries b.answer) a.mine ∙ (append_assoc (own pass old) (flat_map entries a.answers) (entries b.answer) ∙ ap (λ (z : List Entry). own pass old ++ z) (flat_map_more entries [] a.answers b.answer)));
@@ -65,16 +66,16 @@ one_more pass first n lines asked text more old mid new at a b = let long = zip_
 
 -- ---- single lines
 
-asked_line : (pass n : ℕ) (op : Op) (reply : Reply) (before after : List ℕ) (old new : Trail) → Works pass op reply old new → after ≡ before ++ numbered n (reply_text reply) → AnswersLine pass n (Some (Ask op)) before after old new
-asked_line pass n op reply before after old new w is = record { answer = Replied (record { pass = pass; op = op; reply = reply }); is_for = refl; prints = is; begins = w.begins; seen = λ s. w.seen; mine = w.once }
+asked_line : (first : List (Option Page)) (pass n : ℕ) (op : Op) (reply : Reply) (before after : List ℕ) (old new : Trail) → Works first pass op reply old new → after ≡ before ++ numbered n (reply_text reply) → AnswersLine first pass n (Some (Ask op)) before after old new
+asked_line first pass n op reply before after old new w is = record { answer = Replied (record { pass = pass; op = op; reply = reply }); is_for = refl; prints = is; begins = w.begins; seen = λ s. w.seen; mine = w.once }
 
-pub asked_as : (pass n : ℕ) (asked : Option Request) (request : Request) (op : Op) (reply : Reply) (before after : List ℕ) (old new : Trail) → asked ≡ Some request → request ≡ Ask op → Works pass op reply old new → after ≡ before ++ numbered n (reply_text reply)
-    → AnswersLine pass n asked before after old new
-asked_as pass n asked request op reply before after old new is ask w written = subst (λ (z : Option Request). AnswersLine pass n z before after old new) (sym (is ∙ ap Some ask)) (asked_line pass n op reply before after old new w written)
+pub asked_as : (first : List (Option Page)) (pass n : ℕ) (asked : Option Request) (request : Request) (op : Op) (reply : Reply) (before after : List ℕ) (old new : Trail) → asked ≡ Some request → request ≡ Ask op → Works first pass op reply old new → after ≡ before ++ numbered n (reply_text reply)
+    → AnswersLine first pass n asked before after old new
+asked_as first pass n asked request op reply before after old new is ask w written = subst (λ (z : Option Request). AnswersLine first pass n z before after old new) (sym (is ∙ ap Some ask)) (asked_line first pass n op reply before after old new w written)
 
-pub scanned_line : (pass n low high : ℕ) (before head rows after : List ℕ) (old mid new : Trail) → head ≡ (before ++ decimal n) ++ codes " rows" → after ≡ rows ++ 10 ∷ [] → WritesRows pass low high head rows old mid → Adds pass mid new
-    → AnswersLine pass n (Some (Scan low high)) before after old new
-scanned_line pass n low high before head rows after old mid new headed is w a =
+pub scanned_line : (first : List (Option Page)) (pass n low high : ℕ) (before head rows after : List ℕ) (old mid new : Trail) → head ≡ (before ++ decimal n) ++ codes " rows" → after ≡ rows ++ 10 ∷ [] → WritesRows first pass low high head rows old mid → Adds first pass mid new
+    → AnswersLine first pass n (Some (Scan low high)) before after old new
+scanned_line first pass n low high before head rows after old mid new headed is w a =
     let listed : List ℕ = flat_map row_text (rows_below high (flat_map (λ entry. rows_of entry.reply) w.parts)) in record {
       answer = Scanned low high w.parts;
       is_for = (refl, refl, w.are_parts);
@@ -88,60 +89,60 @@ scanned_line pass n low high before head rows after old mid new headed is w a =
     line_of xs ys zs = append_assoc ((xs ++ ys) ++ codes " rows") zs (10 ∷ []) ∙ (append_assoc (xs ++ ys) (codes " rows") (zs ++ 10 ∷ []) ∙ (append_assoc xs ys (codes " rows" ++ (zs ++ 10 ∷ []))
         ∙ ap (λ (t : List ℕ). xs ++ t) (sym (append_assoc (ys ++ codes " ") (codes "rows" ++ zs) (10 ∷ []) ∙ append_assoc ys (codes " ") ((codes "rows" ++ zs) ++ 10 ∷ [])))))
 
-pub synced_line : (pass n : ℕ) (before after : List ℕ) (old : Trail) → after ≡ before ++ numbered n (codes "synced") → AnswersLine pass n (Some Sync) before after old old
-synced_line pass n before after old is = record { answer = Synced; is_for = tt; prints = is; begins = stays old; seen = λ s. s; mine = sym (append-nil (own pass old)) }
+pub synced_line : (first : List (Option Page)) (pass n : ℕ) (before after : List ℕ) (old : Trail) → after ≡ before ++ numbered n (codes "synced") → AnswersLine first pass n (Some Sync) before after old old
+synced_line first pass n before after old is = record { answer = Synced; is_for = tt; prints = is; begins = stays old; seen = λ s. s; mine = sym (append-nil (own pass old)) }
 
-pub malformed_line : (pass n : ℕ) (before after : List ℕ) (old : Trail) → after ≡ before ++ numbered n (codes "malformed") → AnswersLine pass n None before after old old
-malformed_line pass n before after old is = record { answer = Malformed; is_for = tt; prints = is; begins = stays old; seen = λ s. s; mine = sym (append-nil (own pass old)) }
+pub malformed_line : (first : List (Option Page)) (pass n : ℕ) (before after : List ℕ) (old : Trail) → after ≡ before ++ numbered n (codes "malformed") → AnswersLine first pass n None before after old old
+malformed_line first pass n before after old is = record { answer = Malformed; is_for = tt; prints = is; begins = stays old; seen = λ s. s; mine = sym (append-nil (own pass old)) }
 
 -- ---- in a loop
 
-pub no_text : (pass first : ℕ) (text : List ℕ) (old : Trail) → text ≡ [] → AnswersLines pass first [] text old old
-no_text pass first text old is = subst (λ (z : List ℕ). AnswersLines pass first [] z old old) (sym is) (no_lines pass first old)
+pub no_text : (first : List (Option Page)) (pass number : ℕ) (text : List ℕ) (old : Trail) → text ≡ [] → AnswersLines first pass number [] text old old
+no_text first pass number text old is = subst (λ (z : List ℕ). AnswersLines first pass number [] z old old) (sym is) (no_lines first pass number old)
 
-pub next_line : (pass it first n i : ℕ) (lines : List (Option Request)) (asked d : Option Request) (text more : List ℕ) (old mid new : Trail) → it ≡ pass → i < length lines → asked ≡ get_or lines i d → n ≡ first + i
-    → AnswersLines pass first (take i lines) text old mid → AnswersLine it n asked text more mid new → AnswersLines pass first (take (i + 1) lines) more old new
-next_line pass it first n i lines asked d text more old mid new same low at number a b =
+pub next_line : (first : List (Option Page)) (pass it number n i : ℕ) (lines : List (Option Request)) (asked d : Option Request) (text more : List ℕ) (old mid new : Trail) → it ≡ pass → i < length lines → asked ≡ get_or lines i d → n ≡ number + i
+    → AnswersLines first pass number (take i lines) text old mid → AnswersLine first it n asked text more mid new → AnswersLines first pass number (take (i + 1) lines) more old new
+next_line first pass it number n i lines asked d text more old mid new same low at at_number a b =
     let grown : take (i + 1) lines ≡ take i lines ++ asked ∷ [] = take_more lines i d low ∙ ap (λ (z : Option Request). take i lines ++ z ∷ []) (sym at) in
     let short : length (take i lines) ≡ i = length-take-le i lines (omega arith) in
-    let b' : AnswersLine pass n asked text more mid new = subst (λ (z : ℕ). AnswersLine z n asked text more mid new) same b in
-    subst (λ (z : List (Option Request)). AnswersLines pass first z more old new) (sym grown)
-    (one_more pass first n (take i lines) asked text more old mid new (omega arith) a b')
+    let b' : AnswersLine first pass n asked text more mid new = subst (λ (z : ℕ). AnswersLine first z n asked text more mid new) same b in
+    subst (λ (z : List (Option Request)). AnswersLines first pass number z more old new) (sym grown)
+    (one_more first pass number n (take i lines) asked text more old mid new (omega arith) a b')
 
-pub all_lines : (pass first i : ℕ) (lines : List (Option Request)) (text : List ℕ) (old new : Trail) → i ≡ length lines → AnswersLines pass first (take i lines) text old new → AnswersLines pass first lines text old new
-all_lines pass first i lines text old new is a = subst (λ (z : List (Option Request)). AnswersLines pass first z text old new) (take_all i lines (omega arith)) a
+pub all_lines : (first : List (Option Page)) (pass number i : ℕ) (lines : List (Option Request)) (text : List ℕ) (old new : Trail) → i ≡ length lines → AnswersLines first pass number (take i lines) text old new → AnswersLines first pass number lines text old new
+all_lines first pass number i lines text old new is a = subst (λ (z : List (Option Request)). AnswersLines first pass number z text old new) (take_all i lines (omega arith)) a
 
 -- ---- batches
 
-pub no_logs : (first : ℕ) (lines : List (Option Request)) (pass : ℕ) (old : Trail) (log : List Written) → Logs first lines pass old old log log
-no_logs first lines pass old log = record { pieces = []; log = sym (append-nil log); each = All-nil (IsPiece first lines); begins = stays old; seen = λ s. s; mine = sym (append-nil (own pass old)) }
+pub no_logs : (first : List (Option Page)) (number : ℕ) (lines : List (Option Request)) (pass : ℕ) (old : Trail) (log : List Written) → Logs first number lines pass old old log log
+no_logs first number lines pass old log = record { pieces = []; log = sym (append-nil log); each = All-nil (IsPiece number lines); begins = stays old; seen = λ s. s; mine = sym (append-nil (own pass old)) }
 
-pub no_logs_in : (first : ℕ) (lines : List (Option Request)) (pass : ℕ) (old : Trail) (log : List Written) → log ≡ [] → Logs first lines pass old old [] log
-no_logs_in first lines pass old log is = subst (λ (z : List Written). Logs first lines pass old old [] z) (sym is) (no_logs first lines pass old [])
+pub no_logs_in : (first : List (Option Page)) (number : ℕ) (lines : List (Option Request)) (pass : ℕ) (old : Trail) (log : List Written) → log ≡ [] → Logs first number lines pass old old [] log
+no_logs_in first number lines pass old log is = subst (λ (z : List Written). Logs first number lines pass old old [] z) (sym is) (no_logs first number lines pass old [])
 
-pub one_log : (first n : ℕ) (lines : List (Option Request)) (pass : ℕ) (old new : Trail) (log log' : List Written) (w : Written) → w.from < w.upto → w.upto ≤ length lines → n ≡ first + w.from
-    → AnswersLines pass n (lines_in lines w.from w.upto) w.text.items old new → log' ≡ log ++ w ∷ [] → Logs first lines pass old new log log'
-one_log first n lines pass old new log log' w order within number a is = let piece : Piece = record { written = w; answers = a.answers } in record {
+pub one_log : (first : List (Option Page)) (number n : ℕ) (lines : List (Option Request)) (pass : ℕ) (old new : Trail) (log log' : List Written) (w : Written) → w.from < w.upto → w.upto ≤ length lines → n ≡ number + w.from
+    → AnswersLines first pass n (lines_in lines w.from w.upto) w.text.items old new → log' ≡ log ++ w ∷ [] → Logs first number lines pass old new log log'
+one_log first number n lines pass old new log log' w order within at_number a is = let piece : Piece = record { written = w; answers = a.answers } in record {
   pieces = piece ∷ [];
   log = is;
-  each = All-cons (IsPiece first lines) piece [] (record { order = order; within = within; each = a.each; prints = a.prints ∙ ap (λ (z : ℕ). answers_text z a.answers) number }) (All-nil (IsPiece first lines));
+  each = All-cons (IsPiece number lines) piece [] (record { order = order; within = within; each = a.each; prints = a.prints ∙ ap (λ (z : ℕ). answers_text z a.answers) at_number }) (All-nil (IsPiece number lines));
   begins = a.begins;
   seen = a.seen;
   mine = a.mine ∙ ap (λ (z : List Entry). own pass old ++ z) (sym (append-nil (flat_map entries a.answers)));
 }
 
-pub then_logs : (first : ℕ) (lines : List (Option Request)) (pass it : ℕ) (old mid new : Trail) (a b c : List Written) → it ≡ pass → Logs first lines pass old mid a b → Logs first lines it mid new b c → Logs first lines pass old new a c
-then_logs first lines pass it old mid new a b c same x y' = let y : Logs first lines pass mid new b c = subst (λ (z : ℕ). Logs first lines z mid new b c) same y' in let f : Piece → List Entry = λ p. flat_map entries p.answers in record {
+pub then_logs : (first : List (Option Page)) (number : ℕ) (lines : List (Option Request)) (pass it : ℕ) (old mid new : Trail) (a b c : List Written) → it ≡ pass → Logs first number lines pass old mid a b → Logs first number lines it mid new b c → Logs first number lines pass old new a c
+then_logs first number lines pass it old mid new a b c same x y' = let y : Logs first number lines pass mid new b c = subst (λ (z : ℕ). Logs first number lines z mid new b c) same y' in let f : Piece → List Entry = λ p. flat_map entries p.answers in record {
   pieces = x.pieces ++ y.pieces;
   log = y.log ∙ (ap (λ (z : List Written). z ++ map (λ p. p.written) y.pieces) x.log ∙ (append_assoc a (map (λ p. p.written) x.pieces) (map (λ p. p.written) y.pieces) ∙ ap (λ (z : List Written). a ++ z) (sym (map-append (λ (p : Piece). p.written) x.pieces y.pieces))));
-  each = All-append (IsPiece first lines) x.pieces y.pieces x.each y.each;
+  each = All-append (IsPiece number lines) x.pieces y.pieces x.each y.each;
   begins = goes_on old mid new x.begins y.begins;
   seen = λ s. y.seen (x.seen s);
   mine = y.mine ∙ (ap (λ (z : List Entry). z ++ flat_map f y.pieces) x.mine ∙ (append_assoc (own pass old) (flat_map f x.pieces) (flat_map f y.pieces) ∙ ap (λ (z : List Entry). own pass old ++ z) (sym (flat_map-append f x.pieces y.pieces))));
 }
 
-pub idle_logs : (first : ℕ) (lines : List (Option Request)) (pass : ℕ) (old new : Trail) (log : List Written) → log ≡ [] → Adds pass old new → Logs first lines pass old new [] log
-idle_logs first lines pass old new log is a = record { pieces = []; log = is; each = All-nil (IsPiece first lines); begins = a.begins; seen = a.seen; mine = a.none ∙ sym (append-nil (own pass old)) }
+pub idle_logs : (first : List (Option Page)) (number : ℕ) (lines : List (Option Request)) (pass : ℕ) (old new : Trail) (log : List Written) → log ≡ [] → Adds first pass old new → Logs first number lines pass old new [] log
+idle_logs first number lines pass old new log is a = record { pieces = []; log = is; each = All-nil (IsPiece number lines); begins = a.begins; seen = a.seen; mine = a.none ∙ sym (append-nil (own pass old)) }
 
 -- ---- batches that follow each other
 

@@ -11,6 +11,7 @@ use Rattle.bl_model.specs.declared.operation.Entry.{Entry}
 use Rattle.bl_lines.specs.declared.request.Request.{Request}
 use Rattle.bl_lines.specs.Lines.{Answer, entries}
 use Rattle.bl_lines.specs.Served.{Interleaves}
+use Rattle.bl_page.specs.declared.page.Page.{Page}
 use Rattle.bl_passes.specs.Seeing.{own}
 use Rattle.bl_index.specs.declared.index.Index.{Index}
 use Rattle.bl_index.specs.declared.index.Pass.{Pass}
@@ -98,9 +99,9 @@ length_oks : (vs : List Worked) → length (oks vs) ≡ length vs
 length_oks [] = refl
 length_oks (v ∷ vs) = ap suc (length_oks vs)
 
-module _ (first : ℕ) (lines : List (Option Request)) where
+module _ (first : List (Option Page)) (number : ℕ) (lines : List (Option Request)) where
   abbrev Each : List Turn → List (Result Worked AllocError) → Type 0
-  Each turns results = (i : ℕ) (t : Turn) (d : Result Worked AllocError) → i < length turns → IfOk (get_or results i d) (IsTurn first lines (get_or turns i t).pass)
+  Each turns results = (i : ℕ) (t : Turn) (d : Result Worked AllocError) → i < length turns → IfOk (get_or results i d) (IsTurn first number lines (get_or turns i t).pass)
 
   -- ---- turns that are carried out one part after another
 
@@ -129,7 +130,7 @@ module _ (first : ℕ) (lines : List (Option Request)) where
   pub works_none : (all : List Turn) (results : List (Result Worked AllocError)) → results ≡ [] → WorksSo all all results
   works_none all results is = record { begun = []; are = refl; count = ap length is; each = λ i t d low. absurd (omega arith) }
 
-  pub works_more : (all left rest : List Turn) (turn : Turn) (results results' : List (Result Worked AllocError)) (r : Result Worked AllocError) → WorksSo all left results → 0 < length left → turn ≡ get_or left 0 turn → rest ≡ remove left 0 → results' ≡ results ++ r ∷ [] → IfOk r (IsTurn first lines turn.pass) → WorksSo all rest results'
+  pub works_more : (all left rest : List Turn) (turn : Turn) (results results' : List (Result Worked AllocError)) (r : Result Worked AllocError) → WorksSo all left results → 0 < length left → turn ≡ get_or left 0 turn → rest ≡ remove left 0 → results' ≡ results ++ r ∷ [] → IfOk r (IsTurn first number lines turn.pass) → WorksSo all rest results'
   works_more all [] rest turn results results' r so low at left more is = absurd (omega arith)
   works_more all (t ∷ ts) rest turn results results' r so low at left more is = record {
     begun = so.begun ++ turn ∷ [];
@@ -148,7 +149,7 @@ module _ (first : ℕ) (lines : List (Option Request)) where
       (so.count ∙ ap length whole, subst (λ (z : List Turn). Each z results) whole so.each)
   works_all all (t ∷ ts) results none so = absurd (omega arith)
 
-  zip_each : (turns : List Turn) (ws : List Worked) → length ws ≡ length turns → Each turns (map (λ w. Ok w) ws) → AllZip (IsTurn first lines) (map (λ t. t.pass) turns) ws
+  zip_each : (turns : List Turn) (ws : List Worked) → length ws ≡ length turns → Each turns (map (λ w. Ok w) ws) → AllZip (IsTurn first number lines) (map (λ t. t.pass) turns) ws
   zip_each [] [] long each = tt
   zip_each [] (w ∷ ws) long each = absurd (omega arith)
   zip_each (t ∷ ts) [] long each = absurd (omega arith)
@@ -162,23 +163,23 @@ module _ (first : ℕ) (lines : List (Option Request)) where
     pieces : List Piece
     old_are : map (λ t. t.old) taken ≡ olds
     new_are : map (λ t. t.new) taken ≡ map (λ w. w.pass) ws
-    each_taken : All IsTaken taken
-    each : All (IsPiece first lines) pieces
+    each_taken : All (IsTaken first) taken
+    each : All (IsPiece number lines) pieces
     written : map (λ p. p.written) pieces ≡ flat_map (λ w. w.log.items) ws
     shares : flat_map (λ t. t.share) taken ≡ map entries_in pieces
 
-  spread : (olds : List Pass) (ws : List Worked) → AllZip (IsTurn first lines) olds ws → Spread olds ws
-  spread [] [] h = record { taken = []; pieces = []; old_are = refl; new_are = refl; each_taken = All-nil IsTaken; each = All-nil (IsPiece first lines); written = refl; shares = refl }
+  spread : (olds : List Pass) (ws : List Worked) → AllZip (IsTurn first number lines) olds ws → Spread olds ws
+  spread [] [] h = record { taken = []; pieces = []; old_are = refl; new_are = refl; each_taken = All-nil (IsTaken first); each = All-nil (IsPiece number lines); written = refl; shares = refl }
   spread [] (w ∷ ws) h = absurd h
   spread (o ∷ olds) [] h = absurd h
-  spread (o ∷ olds) (w ∷ ws) h = let r = spread olds ws h.1 in let same : IsSamePass o w.pass = h.0.0 in let logs : Logs first lines (number_of o) (trail o) (trail w.pass) [] w.log.items = h.0.1 in
+  spread (o ∷ olds) (w ∷ ws) h = let r = spread olds ws h.1 in let same : IsSamePass o w.pass = h.0.0 in let logs : Logs first number lines (number_of o) (trail o) (trail w.pass) [] w.log.items = h.0.1 in
       let one : Taken = record { old = o; new = w.pass; share = map entries_in logs.pieces } in record {
         taken = one ∷ r.taken;
         pieces = logs.pieces ++ r.pieces;
         old_are = ap (λ (z : List Pass). o ∷ z) r.old_are;
         new_are = ap (λ (z : List Pass). w.pass ∷ z) r.new_are;
-        each_taken = All-cons IsTaken one r.taken (record { same = same; begins = logs.begins; seen = logs.seen; mine = logs.mine ∙ ap (λ (z : List Entry). own (number_of o) (trail o) ++ z) (sym (flat_id entries_in logs.pieces)) }) r.each_taken;
-        each = All-append (IsPiece first lines) logs.pieces r.pieces logs.each r.each;
+        each_taken = All-cons (IsTaken first) one r.taken (record { same = same; begins = logs.begins; seen = logs.seen; mine = logs.mine ∙ ap (λ (z : List Entry). own (number_of o) (trail o) ++ z) (sym (flat_id entries_in logs.pieces)) }) r.each_taken;
+        each = All-append (IsPiece number lines) logs.pieces r.pieces logs.each r.each;
         written = map-append (λ (p : Piece). p.written) logs.pieces r.pieces ∙ (ap (λ (z : List Written). z ++ map (λ p. p.written) r.pieces) (sym logs.log) ∙ ap (λ (z : List Written). w.log.items ++ z) r.written);
         shares = ap (λ (z : List (List Entry)). map entries_in logs.pieces ++ z) r.shares ∙ sym (map-append entries_in logs.pieces r.pieces);
       }
@@ -190,7 +191,7 @@ module _ (first : ℕ) (lines : List (Option Request)) where
       let count : length ws ≡ length turns = sym (length_oks ws) ∙ (ap length g.are ∙ long) in
       let s = spread (map (λ t. t.pass) turns) ws (zip_each turns ws count (subst (Each turns) (sym g.are) each)) in
       subst (All (IsWithin (length lines))) (s.written ∙ sym g.written_are) (All-map (IsWithin (length lines)) (λ (p : Piece). p.written) s.pieces
-      (All-weaker (IsPiece first lines) (λ (p : Piece). IsWithin (length lines) p.written) (λ p h. record { order = h.order; within = h.within }) s.pieces s.each))
+      (All-weaker (IsPiece number lines) (λ (p : Piece). IsWithin (length lines) p.written) (λ p h. record { order = h.order; within = h.within }) s.pieces s.each))
 
   -- ---- batches that follow each other
 
@@ -200,20 +201,20 @@ module _ (first : ℕ) (lines : List (Option Request)) where
   record Covers (from upto : ℕ) (pieces : List Piece) : Type 0 where
     order : from ≤ upto
     each : AllZip IsFor (lines_in lines from upto) (answers_in pieces)
-    prints : text_of (map (λ p. p.written) pieces) ≡ answers_text (first + from) (answers_in pieces)
+    prints : text_of (map (λ p. p.written) pieces) ≡ answers_text (number + from) (answers_in pieces)
 
-  chained : (from upto : ℕ) (pieces : List Piece) → All (IsPiece first lines) pieces → Chains from upto (map (λ p. p.written) pieces) → Covers from upto pieces
+  chained : (from upto : ℕ) (pieces : List Piece) → All (IsPiece number lines) pieces → Chains from upto (map (λ p. p.written) pieces) → Covers from upto pieces
   chained from upto [] all c = record { order = omega arith; each = subst (λ (k : ℕ). AllZip IsFor (take k (drop from lines)) []) (let z : 0 ≡ upto - from = omega arith in z) tt; prints = refl }
-  chained from upto (q ∷ qs) all c = let here = All-head (IsPiece first lines) q qs all in let w : Written = q.written in
-      let r = chained w.upto upto qs (All-tail (IsPiece first lines) q qs all) c.2 in let order = r.order in let within = here.within in let lt = here.order in let le : w.from ≤ w.upto = omega arith in
+  chained from upto (q ∷ qs) all c = let here = All-head (IsPiece number lines) q qs all in let w : Written = q.written in
+      let r = chained w.upto upto qs (All-tail (IsPiece number lines) q qs all) c.2 in let order = r.order in let within = here.within in let lt = here.order in let le : w.from ≤ w.upto = omega arith in
       let long = zip_length IsFor (lines_in lines w.from w.upto) q.answers here.each in let short = cut_length lines w.from w.upto le within in
       subst (λ (k : ℕ). Covers k upto (q ∷ qs)) c.0 (record {
         order = omega arith;
         each = subst (λ (z : List (Option Request)). AllZip IsFor z (q.answers ++ answers_in qs)) (sym (cut lines w.from w.upto upto le order)) (zip_append IsFor (lines_in lines w.from w.upto) (lines_in lines w.upto upto) q.answers (answers_in qs) here.each r.each);
         prints = ap (λ (z : List ℕ). z ++ text_of (map (λ p. p.written) qs)) here.prints
-            ∙ (ap (λ (z : List ℕ). answers_text (first + w.from) q.answers ++ z) r.prints
-            ∙ (ap (λ (k : ℕ). answers_text (first + w.from) q.answers ++ answers_text k (answers_in qs)) (let e : first + w.upto ≡ first + w.from + length q.answers = omega arith in e)
-            ∙ sym (text_append (first + w.from) q.answers (answers_in qs))));
+            ∙ (ap (λ (z : List ℕ). answers_text (number + w.from) q.answers ++ z) r.prints
+            ∙ (ap (λ (k : ℕ). answers_text (number + w.from) q.answers ++ answers_text k (answers_in qs)) (let e : number + w.upto ≡ number + w.from + length q.answers = omega arith in e)
+            ∙ sym (text_append (number + w.from) q.answers (answers_in qs))));
       })
 
   -- ---- all together
@@ -231,16 +232,16 @@ module _ (first : ℕ) (lines : List (Option Request)) where
       subst (λ (z : List (List Entry)). Interleaves z history) (flat_id (λ (p : Piece). map entries p.answers) after ∙ sym (map_flat (λ (p : Piece). p.answers) entries after)) c
 
   pub round : (text : List ℕ) (olds news : List Pass) (turns : List Turn) (results : List (Result Worked AllocError)) (written sorted : List Written) → map (λ t. t.pass) turns ≡ olds → length results ≡ length turns → Each turns results → Gathers results news written
-      → IsPermutation written sorted → Chains 0 (length lines) sorted → text ≡ text_of sorted → IsRound first lines text olds news
+      → IsPermutation written sorted → Chains 0 (length lines) sorted → text ≡ text_of sorted → IsRound first number lines text olds news
   round text olds news turns results written sorted turns_are long each g perm chains text_is =
       let ws : List Worked = g.worked in
       let count : length ws ≡ length turns = sym (length_oks ws) ∙ (ap length g.are ∙ long) in
       let s = spread (map (λ t. t.pass) turns) ws (zip_each turns ws count (subst (Each turns) (sym g.are) each)) in
       let l = lifted (λ (p : Piece). p.written) s.pieces sorted (subst (λ (z : List Written). IsPermutation z sorted) (g.written_are ∙ sym s.written) perm) in
-      let covers = chained 0 (length lines) l.0 (All-permutation (IsPiece first lines) s.pieces l.0 l.1 s.each) (subst (Chains 0 (length lines)) (sym l.2) chains) in record {
+      let covers = chained 0 (length lines) l.0 (All-permutation (IsPiece number lines) s.pieces l.0 l.1 s.each) (subst (Chains 0 (length lines)) (sym l.2) chains) in record {
         answers = answers_in l.0;
         each = subst (λ (z : List (Option Request)). AllZip IsFor z (answers_in l.0)) (take_all (length lines - 0) lines (omega arith)) covers.each;
-        prints = text_is ∙ (ap text_of (sym l.2) ∙ (covers.prints ∙ ap (λ (k : ℕ). answers_text k (answers_in l.0)) (let e : first + 0 ≡ first = omega arith in e)));
+        prints = text_is ∙ (ap text_of (sym l.2) ∙ (covers.prints ∙ ap (λ (k : ℕ). answers_text k (answers_in l.0)) (let e : number + 0 ≡ number = omega arith in e)));
         taken = s.taken;
         old_are = s.old_are ∙ turns_are;
         new_are = s.new_are ∙ sym g.passes_are;
@@ -248,12 +249,12 @@ module _ (first : ℕ) (lines : List (Option Request)) where
         weaves = weaving s.taken s.pieces l.0 s.shares l.1;
       }
 
-pub round_own : (index : Index) (first : ℕ) (lines : List (Option Request)) (text : List ℕ) (olds news : List Pass) → All (IsPassOf index) olds → IsRound first lines text olds news → All (IsPassOf index) news
-round_own index first lines text olds news own_all r = subst (All (IsPassOf index)) r.new_are (go r.taken r.each_taken (subst (All (IsPassOf index)) (sym r.old_are) own_all))
+pub round_own : (first : List (Option Page)) (index : Index) (number : ℕ) (lines : List (Option Request)) (text : List ℕ) (olds news : List Pass) → All (IsPassOf index) olds → IsRound first number lines text olds news → All (IsPassOf index) news
+round_own first index number lines text olds news own_all r = subst (All (IsPassOf index)) r.new_are (go r.taken r.each_taken (subst (All (IsPassOf index)) (sym r.old_are) own_all))
   where
-    go : (taken : List Taken) → All IsTaken taken → All (IsPassOf index) (map (λ t. t.old) taken) → All (IsPassOf index) (map (λ t. t.new) taken)
+    go : (taken : List Taken) → All (IsTaken first) taken → All (IsPassOf index) (map (λ t. t.old) taken) → All (IsPassOf index) (map (λ t. t.new) taken)
     go [] each h = All-nil (IsPassOf index)
-    go (t ∷ ts) each h = All-cons (IsPassOf index) t.new (map (λ t. t.new) ts) (same_of index t.old t.new (All-head IsTaken t ts each).same (All-head (IsPassOf index) t.old (map (λ t. t.old) ts) h)) (go ts (All-tail IsTaken t ts each) (All-tail (IsPassOf index) t.old (map (λ t. t.old) ts) h))
+    go (t ∷ ts) each h = All-cons (IsPassOf index) t.new (map (λ t. t.new) ts) (same_of index t.old t.new (All-head (IsTaken first) t ts each).same (All-head (IsPassOf index) t.old (map (λ t. t.old) ts) h)) (go ts (All-tail (IsTaken first) t ts each) (All-tail (IsPassOf index) t.old (map (λ t. t.old) ts) h))
 
 any_default : {A : Type 0} (l : List A) (i : ℕ) (d e : A) → i < length l → get_or l i d ≡ get_or l i e
 any_default [] i d e low = absurd (omega arith)

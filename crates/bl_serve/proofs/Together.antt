@@ -1,9 +1,10 @@
 -- All passes meet: the first learns of the others, and then they are told.
 use Rattle.std.proofs.Common.{◌≡◌, ℕ, zero, suc, ◌+◌, ◌<◌, ◌≤◌, List, [], ◌∷◌, ◌++◌, length, take, drop, set, get_or, refl, sym, ap, ◌∙◌, subst, arith, add-one}
-use Rattle.std.specs.Prelude.{All}
+use Rattle.std.specs.Prelude.{All, Option}
 use Rattle.std.specs.List.{AllZip}
 use Rattle.std.proofs.lemmas.List.Elements.{All-nil, All-head, All-tail, All-push, All-weaker, AllZip-push, AllZip-get_or, length_all_zip}
 use Rattle.std.proofs.lemmas.List.{take_more, take_all}
+use Rattle.bl_page.specs.declared.page.Page.{Page}
 use Rattle.bl_index.specs.declared.index.Pass.{Pass}
 use Rattle.bl_trails.specs.Trails.{Trail}
 use Rattle.bl_passes.specs.Seeing.{IsSeen, own, GoesOnFrom}
@@ -15,14 +16,14 @@ use Rattle.bl_serve.proofs.Lines.{goes_on, stays}
 use Rattle.bl_serve.specs.Meetings.{Keeps, Comes, LearnsAll, AllMeet}
 
 same_again : (p q r : Pass) → IsSamePass p q → IsSamePass q r → IsSamePass p r
-same_again p q r a b = (b.0 ∙ a.0, b.1 ∙ a.1, b.2 ∙ a.2)
+same_again p q r a b = (b.0 ∙ a.0, b.1 ∙ a.1, b.2 ∙ a.2, b.3 ∙ a.3)
 
 keeps_again : (p q r : Pass) → Keeps p q → Keeps q r → Keeps p r
 keeps_again p q r a b = (same_again p q r a.0 b.0, b.1 ∙ a.1)
 
 keeps_all : (ps : List Pass) → AllZip Keeps ps ps
 keeps_all [] = tt
-keeps_all (p ∷ ps) = (((refl, refl, refl), refl), keeps_all ps)
+keeps_all (p ∷ ps) = (((refl, refl, refl, refl), refl), keeps_all ps)
 
 -- one element has changed
 keeps_set : (ps qs : List Pass) (i : ℕ) (r d : Pass) → AllZip Keeps ps qs → Keeps (get_or qs i d) r → i < length qs → AllZip Keeps ps (set qs i r)
@@ -48,32 +49,32 @@ own_at index ps qs i d own kept low = let long = length_all_zip Keeps ps qs kept
 pub own_all : (index : Index) (ps qs : List Pass) → All (IsPassOf index) ps → AllZip Keeps ps qs → All (IsPassOf index) qs
 own_all index ps qs own kept i d low = own_at index ps qs i d own kept low
 
-pub own_parts : (index : Index) (ps : List Pass) (first : Pass) (others : List Pass) → ps ≡ first ∷ others → All (IsPassOf index) ps → IsPassOf index first × All (IsPassOf index) others
-own_parts index ps first others is own = let all : All (IsPassOf index) (first ∷ others) = subst (All (IsPassOf index)) is own in (All-head (IsPassOf index) first others all, All-tail (IsPassOf index) first others all)
+pub own_parts : (index : Index) (ps : List Pass) (one : Pass) (others : List Pass) → ps ≡ one ∷ others → All (IsPassOf index) ps → IsPassOf index one × All (IsPassOf index) others
+own_parts index ps one others is own = let all : All (IsPassOf index) (one ∷ others) = subst (All (IsPassOf index)) is own in (All-head (IsPassOf index) one others all, All-tail (IsPassOf index) one others all)
 
 -- ---- the first one learns
 
 abbrev pub Knows : Pass → Pass → Type 0
-Knows first p = GoesOnFrom (trail p) (trail first)
+Knows one p = GoesOnFrom (trail p) (trail one)
 
 -- how far the first pass has come
-pub record LearnsUpTo (first first' : Pass) (others others' : List Pass) (i : ℕ) : Type 0 where
-  pub same : IsSamePass first first'
-  pub begins : GoesOnFrom (trail first) (trail first')
-  pub none : own (number_of first) (trail first') ≡ own (number_of first) (trail first)
-  pub may_be : IsSeen [] (trail first) → IsSeen [] (trail first')
+pub record LearnsUpTo (first : List (Option Page)) (one one' : Pass) (others others' : List Pass) (i : ℕ) : Type 0 where
+  pub same : IsSamePass one one'
+  pub begins : GoesOnFrom (trail one) (trail one')
+  pub none : own (number_of one) (trail one') ≡ own (number_of one) (trail one)
+  pub may_be : IsSeen first (trail one) → IsSeen first (trail one')
   pub kept : AllZip Keeps others others'
-  pub known : All (Knows first') (take i others')
+  pub known : All (Knows one') (take i others')
 
-pub learns_none : (first : Pass) (others : List Pass) → LearnsUpTo first first others others 0
-learns_none first others = record { same = (refl, refl, refl); begins = stays (trail first); none = refl; may_be = λ h. h; kept = keeps_all others; known = All-nil (Knows first) }
+pub learns_none : (first : List (Option Page)) (one : Pass) (others : List Pass) → LearnsUpTo first one one others others 0
+learns_none first one others = record { same = (refl, refl, refl, refl); begins = stays (trail one); none = refl; may_be = λ h. h; kept = keeps_all others; known = All-nil (Knows one) }
 
-pub learns_one : (first mid new d other other' : Pass) (others now : List Pass) (i : ℕ) → LearnsUpTo first mid others now i → i < length now → other ≡ get_or now i d
-    → IsSamePass mid new → IsSamePass other other' × (trail other' ≡ trail other) → Learns (number_of mid) (number_of other) (trail mid) (trail other) (trail new) → IsSeen [] (trail new)
-    → LearnsUpTo first new others (set now i other') (i + 1)
-learns_one first mid new d other other' others now i l low at same keeps learns seen = record {
-  same = same_again first mid new l.same same;
-  begins = goes_on (trail first) (trail mid) (trail new) l.begins learns.begins;
+pub learns_one : (first : List (Option Page)) (one mid new d other other' : Pass) (others now : List Pass) (i : ℕ) → LearnsUpTo first one mid others now i → i < length now → other ≡ get_or now i d
+    → IsSamePass mid new → IsSamePass other other' × (trail other' ≡ trail other) → Learns (number_of mid) (number_of other) (trail mid) (trail other) (trail new) → IsSeen first (trail new)
+    → LearnsUpTo first one new others (set now i other') (i + 1)
+learns_one first one mid new d other other' others now i l low at same keeps learns seen = record {
+  same = same_again one mid new l.same same;
+  begins = goes_on (trail one) (trail mid) (trail new) l.begins learns.begins;
   none = subst (λ (z : ℕ). own z (trail new) ≡ own z (trail mid)) l.same.2 learns.none ∙ l.none;
   may_be = λ h. seen;
   kept = keeps_set others now i other' d l.kept (subst (λ (z : Pass). Keeps z other') at keeps) low;
@@ -82,26 +83,26 @@ learns_one first mid new d other other' others now i l low at same keeps learns 
       (subst (λ (z : Trail). GoesOnFrom z (trail new)) (sym keeps.1) learns.begins_theirs));
 }
 
-pub learns_all : (first first' : Pass) (others others' : List Pass) (i : ℕ) → length others' ≤ i → LearnsUpTo first first' others others' i → LearnsAll first first' others others'
-learns_all first first' others others' i end l = record {
+pub learns_all : (first : List (Option Page)) (one one' : Pass) (others others' : List Pass) (i : ℕ) → length others' ≤ i → LearnsUpTo first one one' others others' i → LearnsAll first one one' others others'
+learns_all first one one' others others' i end l = record {
   same = l.same;
   begins = l.begins;
   none = l.none;
   may_be = l.may_be;
   kept = l.kept;
-  known = subst (All (Knows first')) (take_all i others' end) l.known;
+  known = subst (All (Knows one')) (take_all i others' end) l.known;
 }
 
 -- ---- the others are told
 
 -- how many have been told
-pub record TellsUpTo (first first' : Pass) (others others' : List Pass) (i : ℕ) : Type 0 where
-  pub keeps : Keeps first first'
-  pub told : AllZip (Comes (trail first)) (take i others) (take i others')
+pub record TellsUpTo (one one' : Pass) (others others' : List Pass) (i : ℕ) : Type 0 where
+  pub keeps : Keeps one one'
+  pub told : AllZip (Comes (trail one)) (take i others) (take i others')
   pub left : drop i others' ≡ drop i others
 
-pub tells_none : (first : Pass) (others : List Pass) → TellsUpTo first first others others 0
-tells_none first others = record { keeps = ((refl, refl, refl), refl); told = tt; left = refl }
+pub tells_none : (one : Pass) (others : List Pass) → TellsUpTo one one others others 0
+tells_none one others = record { keeps = ((refl, refl, refl, refl), refl); told = tt; left = refl }
 
 -- the next one is as it was
 pub next_is : (others now : List Pass) (i : ℕ) (d : Pass) → drop i now ≡ drop i others → i < length now → get_or now i d ≡ get_or others i d
@@ -134,39 +135,39 @@ drop_one xs ys i is = sym (more xs i) ∙ (ap (drop 1) is ∙ more ys i)
 zip_push : (t : Trail) (xs ys : List Pass) (x y : Pass) → AllZip (Comes t) xs ys → Comes t x y → AllZip (Comes t) (xs ++ x ∷ []) (ys ++ y ∷ [])
 zip_push t xs ys x y h k = AllZip-push (Comes t) xs ys x y h k
 
-pub tells_one : (first mid new d other other' : Pass) (others now : List Pass) (i : ℕ) → length now ≡ length others → TellsUpTo first mid others now i → i < length now → other ≡ get_or now i d
-    → All (Knows first) others → IsSamePass mid new × (trail new ≡ trail mid) → IsSamePass other other' → Hears (number_of other) (trail other) (trail mid) (trail other')
-    → TellsUpTo first new others (set now i other') (i + 1)
-tells_one first mid new d other other' others now i long l low at known keeps same hears =
+pub tells_one : (one mid new d other other' : Pass) (others now : List Pass) (i : ℕ) → length now ≡ length others → TellsUpTo one mid others now i → i < length now → other ≡ get_or now i d
+    → All (Knows one) others → IsSamePass mid new × (trail new ≡ trail mid) → IsSamePass other other' → Hears (number_of other) (trail other) (trail mid) (trail other')
+    → TellsUpTo one new others (set now i other') (i + 1)
+tells_one one mid new d other other' others now i long l low at known keeps same hears =
     let was : other ≡ get_or others i d = at ∙ next_is others now i d l.left low in
-    let at_first : trail other' ≡ trail first = hears.is ∙ l.keeps.1 in record {
-      keeps = keeps_again first mid new l.keeps keeps;
-      told = subst (λ (z : List Pass). AllZip (Comes (trail first)) z (take (i + 1) (set now i other'))) (sym (take_more others i d (omega arith) ∙ ap (λ (z : Pass). take i others ++ z ∷ []) (sym was)))
-          (subst (λ (z : List Pass). AllZip (Comes (trail first)) (take i others ++ other ∷ []) z) (sym (take_set now i other' low))
-          (zip_push (trail first) (take i others) (take i now) other other' l.told (record {
+    let at_one : trail other' ≡ trail one = hears.is ∙ l.keeps.1 in record {
+      keeps = keeps_again one mid new l.keeps keeps;
+      told = subst (λ (z : List Pass). AllZip (Comes (trail one)) z (take (i + 1) (set now i other'))) (sym (take_more others i d (omega arith) ∙ ap (λ (z : Pass). take i others ++ z ∷ []) (sym was)))
+          (subst (λ (z : List Pass). AllZip (Comes (trail one)) (take i others ++ other ∷ []) z) (sym (take_set now i other' low))
+          (zip_push (trail one) (take i others) (take i now) other other' l.told (record {
             same = same;
-            is = at_first;
-            begins = subst (λ (z : Pass). GoesOnFrom (trail z) (trail first)) (sym was) (known i d (omega arith));
-            none = ap (own (number_of other)) (sym at_first) ∙ hears.none;
+            is = at_one;
+            begins = subst (λ (z : Pass). GoesOnFrom (trail z) (trail one)) (sym was) (known i d (omega arith));
+            none = ap (own (number_of other)) (sym at_one) ∙ hears.none;
           })));
       left = rw add-one (drop_set now i other' ∙ drop_one now others i l.left);
     }
 
-pub tell_own : (index : Index) (first mid d other : Pass) (others now : List Pass) (i : ℕ) → length now ≡ length others → TellsUpTo first mid others now i → i < length now → other ≡ get_or now i d → All (IsPassOf index) others → IsPassOf index first
+pub tell_own : (index : Index) (one mid d other : Pass) (others now : List Pass) (i : ℕ) → length now ≡ length others → TellsUpTo one mid others now i → i < length now → other ≡ get_or now i d → All (IsPassOf index) others → IsPassOf index one
     → IsPassOf index other × IsPassOf index mid
-tell_own index first mid d other others now i long l low at own of =
+tell_own index one mid d other others now i long l low at own of =
     let was : other ≡ get_or others i d = at ∙ next_is others now i d l.left low in
-    (subst (IsPassOf index) (sym was) (own i d (omega arith)), same_of index first mid l.keeps.0 of)
+    (subst (IsPassOf index) (sym was) (own i d (omega arith)), same_of index one mid l.keeps.0 of)
 
 -- what it knew is a beginning of what it is to be told
-pub tell_begins : (first mid d other : Pass) (others now : List Pass) (i : ℕ) → length now ≡ length others → TellsUpTo first mid others now i → i < length now → other ≡ get_or now i d → All (Knows first) others → GoesOnFrom (trail other) (trail mid)
-tell_begins first mid d other others now i long l low at known =
+pub tell_begins : (one mid d other : Pass) (others now : List Pass) (i : ℕ) → length now ≡ length others → TellsUpTo one mid others now i → i < length now → other ≡ get_or now i d → All (Knows one) others → GoesOnFrom (trail other) (trail mid)
+tell_begins one mid d other others now i long l low at known =
     let was : other ≡ get_or others i d = at ∙ next_is others now i d l.left low in
-    subst (λ (z : Trail). GoesOnFrom (trail other) z) (sym l.keeps.1) (subst (λ (z : Pass). GoesOnFrom (trail z) (trail first)) (sym was) (known i d (omega arith)))
+    subst (λ (z : Trail). GoesOnFrom (trail other) z) (sym l.keeps.1) (subst (λ (z : Pass). GoesOnFrom (trail z) (trail one)) (sym was) (known i d (omega arith)))
 
-pub tells_all : (first first' : Pass) (others others' : List Pass) (i : ℕ) → length others' ≡ length others → length others' ≤ i → TellsUpTo first first' others others' i → AllZip (Comes (trail first)) others others'
-tells_all first first' others others' i long end l =
-    subst (λ (z : List Pass). AllZip (Comes (trail first)) z others') (take_all i others (omega arith)) (subst (λ (z : List Pass). AllZip (Comes (trail first)) (take i others) z) (take_all i others' end) l.told)
+pub tells_all : (one one' : Pass) (others others' : List Pass) (i : ℕ) → length others' ≡ length others → length others' ≤ i → TellsUpTo one one' others others' i → AllZip (Comes (trail one)) others others'
+tells_all one one' others others' i long end l =
+    subst (λ (z : List Pass). AllZip (Comes (trail one)) z others') (take_all i others (omega arith)) (subst (λ (z : List Pass). AllZip (Comes (trail one)) (take i others) z) (take_all i others' end) l.told)
 
 -- ---- all
 
@@ -186,9 +187,9 @@ then_told t (p ∷ ps) (q ∷ qs) (r ∷ rs) h k = (
   then_told t ps qs rs h.1 k.1,
 )
 
-pub all_meet : (first mid last : Pass) (others mids lasts : List Pass) → LearnsAll first mid others mids → Keeps mid last → AllZip (Comes (trail mid)) mids lasts → AllMeet (first ∷ others) (last ∷ lasts)
-all_meet first mid last others mids lasts l k told = record {
+pub all_meet : (first : List (Option Page)) (one mid last : Pass) (others mids lasts : List Pass) → LearnsAll first one mid others mids → Keeps mid last → AllZip (Comes (trail mid)) mids lasts → AllMeet first (one ∷ others) (last ∷ lasts)
+all_meet first one mid last others mids lasts l k told = record {
   seen = trail mid;
-  each = (record { same = same_again first mid last l.same k.0; is = k.1; begins = l.begins; none = l.none }, then_told (trail mid) others mids lasts l.kept told);
-  may_be = λ h. l.may_be (h 0 first (omega arith));
+  each = (record { same = same_again one mid last l.same k.0; is = k.1; begins = l.begins; none = l.none }, then_told (trail mid) others mids lasts l.kept told);
+  may_be = λ h. l.may_be (h 0 one (omega arith));
 }

@@ -10,6 +10,7 @@ use Rattle.bl_lines.specs.declared.request.Request.TheVariants.{Ask, Scan, Sync}
 use Rattle.bl_lines.specs.Lines.{Answer, Replied, Scanned, Synced, Malformed, AreParts, rows_below, entries, answer_text}
 use Rattle.bl_model.specs.Parts.{rows_of, next_key, ended_at}
 use Rattle.bl_lines.specs.Text.{numbered, row_text}
+use Rattle.bl_page.specs.declared.page.Page.{Page}
 use Rattle.bl_trails.specs.Trails.{Trail}
 use Rattle.bl_passes.specs.Seeing.{IsSeen, own, GoesOnFrom}
 use Rattle.bl_serve.specs.Works.{Works}
@@ -28,35 +29,35 @@ answers_text n [] = []
 answers_text n (answer ∷ answers) = numbered n (answer_text answer) ++ answers_text (suc n) answers
 
 -- A part was answered, and its rows that lie below an end were written behind what there was.
-pub record WritesPart (pass from high : ℕ) (next : Next) (before after : List ℕ) (old new : Trail) : Type 0 where
+pub record WritesPart (first : List (Option Page)) (pass from high : ℕ) (next : Next) (before after : List ℕ) (old new : Trail) : Type 0 where
   pub reply : Reply
-  pub works : Works pass (Part from) reply old new
+  pub works : Works first pass (Part from) reply old new
   pub ends : ended_at reply ≡ next_key next
   pub prints : after ≡ before ++ flat_map row_text (rows_below high (rows_of reply))
 
 -- A scan was answered by its parts, which are the new entries of the pass, and their rows that lie below its end were written.
-pub record WritesRows (pass low high : ℕ) (before after : List ℕ) (old new : Trail) : Type 0 where
+pub record WritesRows (first : List (Option Page)) (pass low high : ℕ) (before after : List ℕ) (old new : Trail) : Type 0 where
   pub parts : List Entry
   pub are_parts : AreParts (Some low) high parts
   pub prints : after ≡ before ++ flat_map row_text (rows_below high (flat_map (λ entry. rows_of entry.reply) parts))
   pub begins : GoesOnFrom old new
-  pub seen : IsSeen [] old → IsSeen [] new
+  pub seen : IsSeen first old → IsSeen first new
   pub mine : own pass new ≡ own pass old ++ parts
 
 -- The line of that number was answered, and its answer was written: the new entries of the pass are those of the answer.
-pub record AnswersLine (pass number : ℕ) (asked : Option Request) (before after : List ℕ) (old new : Trail) : Type 0 where
+pub record AnswersLine (first : List (Option Page)) (pass number : ℕ) (asked : Option Request) (before after : List ℕ) (old new : Trail) : Type 0 where
   pub answer : Answer
   pub is_for : IsFor asked answer
   pub prints : after ≡ before ++ numbered number (answer_text answer)
   pub begins : GoesOnFrom old new
-  pub seen : IsSeen [] old → IsSeen [] new
+  pub seen : IsSeen first old → IsSeen first new
   pub mine : own pass new ≡ own pass old ++ entries answer
 
--- The lines were answered one after another, and the text prints the answers, numbered from the first one on.
-pub record AnswersLines (pass first : ℕ) (lines : List (Option Request)) (text : List ℕ) (old new : Trail) : Type 0 where
+-- The lines were answered one after another, and the text prints the answers, numbered from that number on.
+pub record AnswersLines (first : List (Option Page)) (pass number : ℕ) (lines : List (Option Request)) (text : List ℕ) (old new : Trail) : Type 0 where
   pub answers : List Answer
   pub each : AllZip IsFor lines answers
-  pub prints : text ≡ answers_text first answers
+  pub prints : text ≡ answers_text number answers
   pub begins : GoesOnFrom old new
-  pub seen : IsSeen [] old → IsSeen [] new
+  pub seen : IsSeen first old → IsSeen first new
   pub mine : own pass new ≡ own pass old ++ flat_map entries answers

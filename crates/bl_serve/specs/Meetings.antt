@@ -1,6 +1,7 @@
 -- All passes meet.
-use Rattle.std.specs.Prelude.{[], ◌≡◌, List, All}
+use Rattle.std.specs.Prelude.{◌≡◌, List, Option, All}
 use Rattle.std.specs.List.{AllZip}
+use Rattle.bl_page.specs.declared.page.Page.{Page}
 use Rattle.bl_index.specs.declared.index.Pass.{Pass}
 use Rattle.bl_trails.specs.Trails.{Trail}
 use Rattle.bl_passes.specs.Seeing.{IsSeen, own, GoesOnFrom}
@@ -18,16 +19,16 @@ pub record Comes (seen : Trail) (old new : Pass) : Type 0 where
   pub none : own (number_of old) seen ≡ own (number_of old) (trail old)
 
 -- The first pass has seen what the others had seen, and the others what they had.
-pub record LearnsAll (first first' : Pass) (others others' : List Pass) : Type 0 where
-  pub same : IsSamePass first first'
-  pub begins : GoesOnFrom (trail first) (trail first')
-  pub none : own (number_of first) (trail first') ≡ own (number_of first) (trail first)
-  pub may_be : IsSeen [] (trail first) → IsSeen [] (trail first')
+pub record LearnsAll (first : List (Option Page)) (one one' : Pass) (others others' : List Pass) : Type 0 where
+  pub same : IsSamePass one one'
+  pub begins : GoesOnFrom (trail one) (trail one')
+  pub none : own (number_of one) (trail one') ≡ own (number_of one) (trail one)
+  pub may_be : IsSeen first (trail one) → IsSeen first (trail one')
   pub kept : AllZip Keeps others others'
-  pub known : All (λ p. GoesOnFrom (trail p) (trail first')) others'
+  pub known : All (λ p. GoesOnFrom (trail p) (trail one')) others'
 
 -- All have seen one trail. It is one that an index may have, if what they had seen was.
-pub record AllMeet (old new : List Pass) : Type 0 where
+pub record AllMeet (first : List (Option Page)) (old new : List Pass) : Type 0 where
   pub seen : Trail
   pub each : AllZip (Comes seen) old new
-  pub may_be : All (λ p. IsSeen [] (trail p)) old → IsSeen [] seen
+  pub may_be : All (λ p. IsSeen first (trail p)) old → IsSeen first seen

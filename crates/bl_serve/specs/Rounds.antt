@@ -6,6 +6,7 @@ use Rattle.bl_model.specs.declared.operation.Entry.{Entry}
 use Rattle.bl_lines.specs.declared.request.Request.{Request}
 use Rattle.bl_lines.specs.Lines.{Answer, entries}
 use Rattle.bl_lines.specs.Served.{Interleaves}
+use Rattle.bl_page.specs.declared.page.Page.{Page}
 use Rattle.bl_passes.specs.Seeing.{IsSeen, own, GoesOnFrom}
 use Rattle.bl_index.specs.declared.index.Pass.{Pass}
 use Rattle.bl_index.specs.Calls.{IsSamePass, number_of, trail}
@@ -20,10 +21,10 @@ pub record Taken : Type 0 where
   pub share : List (List Entry)
 
 -- The pass came back, and its new own entries are those of its batches, in their order.
-pub record IsTaken (t : Taken) : Type 0 where
+pub record IsTaken (first : List (Option Page)) (t : Taken) : Type 0 where
   pub same : IsSamePass t.old t.new
   pub begins : GoesOnFrom (trail t.old) (trail t.new)
-  pub seen : IsSeen [] (trail t.old) → IsSeen [] (trail t.new)
+  pub seen : IsSeen first (trail t.old) → IsSeen first (trail t.new)
   pub mine : own (number_of t.old) (trail t.new) ≡ own (number_of t.old) (trail t.old) ++ flat_map (λ list. list) t.share
 
 -- A history that interleaves the entries of all batches interleaves those of the answers.
@@ -31,14 +32,14 @@ abbrev pub Weaves : List Taken → List Answer → Type 0
 Weaves taken answers = (history : List Entry) → Interleaves (flat_map (λ t. t.share) taken) history → Interleaves (map entries answers) history
 
 -- The lines were answered by these passes, and the text prints the answers.
-pub record IsRound (first : ℕ) (lines : List (Option Request)) (text : List ℕ) (old new : List Pass) : Type 0 where
+pub record IsRound (first : List (Option Page)) (number : ℕ) (lines : List (Option Request)) (text : List ℕ) (old new : List Pass) : Type 0 where
   pub answers : List Answer
   pub each : AllZip IsFor lines answers
-  pub prints : text ≡ answers_text first answers
+  pub prints : text ≡ answers_text number answers
   pub taken : List Taken
   pub old_are : map (λ t. t.old) taken ≡ old
   pub new_are : map (λ t. t.new) taken ≡ new
-  pub each_taken : All IsTaken taken
+  pub each_taken : All (IsTaken first) taken
   pub weaves : Weaves taken answers
 
 -- what the threads gave back: their passes, and what they wrote

@@ -5,11 +5,12 @@ use Rattle.bl_lines.specs.declared.serving.Totals.{Totals}
 use Rattle.bl_lines.specs.declared.serving.ServeFault.{ServeFault}
 use Rattle.bl_lines.specs.declared.serving.ServeFault.TheVariants.{Read, Write, Memory, Lost}
 use Rattle.bl_lines.specs.Served.{Served, whole_history}
+use Rattle.bl_page.specs.declared.page.Page.{Page}
 use Rattle.bl_trails.specs.Trails.{Trail, history_of}
 use Rattle.bl_passes.specs.Seeing.{IsSeen}
 use Rattle.bl_index.specs.declared.index.Index.{Index}
 use Rattle.bl_index.specs.declared.index.Pass.{Pass}
-use Rattle.bl_index.specs.Calls.{IsPassOf, number_of, trail, passes_of, map_after}
+use Rattle.bl_index.specs.Calls.{first_of, IsPassOf, number_of, trail, passes_of, map_after}
 use Rattle.bl_serve.specs.declared.reading.SectionEnd.{SectionEnd}
 use Rattle.bl_serve.specs.Sections.{Held, end_text}
 
@@ -22,7 +23,7 @@ AreFrom index seen from (pass ∷ passes) = IsPassOf index pass × (number_of pa
 pub record AreTogether (index : Index) (seen : Trail) (passes : List Pass) : Type 0 where
   pub count : length passes ≡ passes_of index
   pub each : AreFrom index seen 0 passes
-  pub may_be : IsSeen [] seen
+  pub may_be : IsSeen (first_of index) seen
 
 -- what the first pass has seen
 abbrev pub seen_by : List Pass → Trail
@@ -50,8 +51,8 @@ IsInside (Lost number) = Unit {0}
 
 -- The input is served from the map after old on, and the trail now is old with the entries of what was served, in the order of
 -- its history, and with no others.
-pub record ServedBy (old now : Trail) (input output : List ℕ) (totals : Totals) : Type 0 where
-  pub served : Served (map_after old) input output totals
+pub record ServedBy (first : List (Option Page)) (old now : Trail) (input output : List ℕ) (totals : Totals) : Type 0 where
+  pub served : Served (map_after first old) input output totals
   pub more : Trail
   pub begins : now ≡ old ++ more
   pub history : history_of more ≡ whole_history served
@@ -59,5 +60,5 @@ pub record ServedBy (old now : Trail) (input output : List ℕ) (totals : Totals
 -- The passes have served: all have seen one trail, which is what they had seen with the entries of what was served.
 pub record Serves (index : Index) (olds news : List Pass) (input output : List ℕ) (totals : Totals) : Type 0 where
   pub now : Trail
-  pub served : ServedBy (seen_by olds) now input output totals
+  pub served : ServedBy (first_of index) (seen_by olds) now input output totals
   pub together : AreTogether index now news

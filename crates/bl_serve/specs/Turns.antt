@@ -3,6 +3,7 @@ use Rattle.std.specs.Prelude.{◌≡◌, ℕ, ◌+◌, ◌-◌, ◌<◌, ◌≤�
 use Rattle.std.specs.List.{AllZip}
 use Rattle.bl_lines.specs.declared.request.Request.{Request}
 use Rattle.bl_lines.specs.Lines.{Answer, entries}
+use Rattle.bl_page.specs.declared.page.Page.{Page}
 use Rattle.bl_trails.specs.Trails.{Trail}
 use Rattle.bl_passes.specs.Seeing.{IsSeen, own, GoesOnFrom}
 use Rattle.bl_index.specs.declared.index.Pass.{Pass}
@@ -21,21 +22,21 @@ abbrev pub lines_in : {A : Type 0} → List A → ℕ → ℕ → List A
 lines_in lines from upto = take (upto - from) (drop from lines)
 
 -- the answers are those of the batch's lines, and its output prints them
-pub record IsPiece (first : ℕ) (lines : List (Option Request)) (piece : Piece) : Type 0 where
+pub record IsPiece (number : ℕ) (lines : List (Option Request)) (piece : Piece) : Type 0 where
   pub order : piece.written.from < piece.written.upto
   pub within : piece.written.upto ≤ length lines
   pub each : AllZip IsFor (lines_in lines piece.written.from piece.written.upto) piece.answers
-  pub prints : piece.written.text.items ≡ answers_text (first + piece.written.from) piece.answers
+  pub prints : piece.written.text.items ≡ answers_text (number + piece.written.from) piece.answers
 
 -- Batches were answered and logged: the new own entries of the pass are those of the batches, in their order.
-pub record Logs (first : ℕ) (lines : List (Option Request)) (pass : ℕ) (old new : Trail) (log_old log_new : List Written) : Type 0 where
+pub record Logs (first : List (Option Page)) (number : ℕ) (lines : List (Option Request)) (pass : ℕ) (old new : Trail) (log_old log_new : List Written) : Type 0 where
   pub pieces : List Piece
   pub log : log_new ≡ log_old ++ map (λ p. p.written) pieces
-  pub each : All (IsPiece first lines) pieces
+  pub each : All (IsPiece number lines) pieces
   pub begins : GoesOnFrom old new
-  pub seen : IsSeen [] old → IsSeen [] new
+  pub seen : IsSeen first old → IsSeen first new
   pub mine : own pass new ≡ own pass old ++ flat_map (λ p. flat_map entries p.answers) pieces
 
 -- The pass comes back with the log of what its thread wrote.
-abbrev pub IsTurn : ℕ → List (Option Request) → Pass → Worked → Type 0
-IsTurn first lines old worked = IsSamePass old worked.pass × Logs first lines (number_of old) (trail old) (trail worked.pass) [] worked.log.items
+abbrev pub IsTurn : List (Option Page) → ℕ → List (Option Request) → Pass → Worked → Type 0
+IsTurn first number lines old worked = IsSamePass old worked.pass × Logs first number lines (number_of old) (trail old) (trail worked.pass) [] worked.log.items

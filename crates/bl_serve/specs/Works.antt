@@ -1,19 +1,20 @@
 -- What a worker's request adds to what its pass has seen.
-use Rattle.std.specs.Prelude.{◌≡◌, ℕ, ◌++◌, [], ◌∷◌}
+use Rattle.std.specs.Prelude.{◌≡◌, ℕ, ◌++◌, List, [], ◌∷◌, Option}
 use Rattle.bl_model.specs.declared.operation.Op.{Op}
 use Rattle.bl_model.specs.declared.operation.Reply.{Reply}
+use Rattle.bl_page.specs.declared.page.Page.{Page}
 use Rattle.bl_trails.specs.Trails.{Trail}
 use Rattle.bl_passes.specs.Seeing.{IsSeen, own, GoesOnFrom}
 
 -- What the pass has seen begins with what it had seen and is a trail that an index may have, and its only new entry of this
 -- pass is this operation with this reply.
-pub record Works (pass : ℕ) (op : Op) (reply : Reply) (old new : Trail) : Type 0 where
+pub record Works (first : List (Option Page)) (pass : ℕ) (op : Op) (reply : Reply) (old new : Trail) : Type 0 where
   pub begins : GoesOnFrom old new
-  pub seen : IsSeen [] new
+  pub seen : IsSeen first new
   pub once : own pass new ≡ own pass old ++ record { pass = pass; op = op; reply = reply } ∷ []
 
 -- The same of what adds no entry.
-pub record Adds (pass : ℕ) (old new : Trail) : Type 0 where
+pub record Adds (first : List (Option Page)) (pass : ℕ) (old new : Trail) : Type 0 where
   pub begins : GoesOnFrom old new
-  pub seen : IsSeen [] old → IsSeen [] new
+  pub seen : IsSeen first old → IsSeen first new
   pub none : own pass new ≡ own pass old

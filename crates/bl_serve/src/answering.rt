@@ -2,7 +2,7 @@
 
 ghost use Rattle.std.specs.Prelude.{◌≡◌, suc, ◌+◌, ◌<◌, ◌≤◌, ◌^◌, ◌++◌, length, Some, IfOk, OnOk};
 ghost use Rattle.bl_model.specs.declared.operation.Op.TheVariants as op;
-ghost use Rattle.bl_index.specs.Calls.{IsPassOf, IsSamePass, number_of, trail};
+ghost use Rattle.bl_index.specs.Calls.{first_of, IsPassOf, IsSamePass, number_of, trail};
 ghost use Rattle.bl_serve.specs.Works.{Works, Adds};
 ghost use Rattle.bl_serve.specs.Answering.{AnswersLine, AnswersLines, WritesPart, WritesRows};
 
@@ -24,7 +24,7 @@ const ROUNDS: u32 = 64;
 fn find<R: Wait>(rt: &R, index: &Index, pass: &mut Pass, key: u64) -> Reply
     requires { IsPassOf index.now pass.old }
     ensures same { IsSamePass pass.old pass.new }
-    ensures works { Works (number_of pass.old) (op.Find key) result (trail pass.old) (trail pass.new) }
+    ensures works { Works (first_of index.now) (number_of pass.old) (op.Find key) result (trail pass.old) (trail pass.new) }
 {
     let turns = index.patience();
     for _ in rt.forever() {
@@ -39,7 +39,7 @@ fn find<R: Wait>(rt: &R, index: &Index, pass: &mut Pass, key: u64) -> Reply
 fn part<R: Wait>(rt: &R, index: &Index, pass: &mut Pass, from: u64) -> Reply
     requires { IsPassOf index.now pass.old }
     ensures same { IsSamePass pass.old pass.new }
-    ensures works { Works (number_of pass.old) (op.Part from) result (trail pass.old) (trail pass.new) }
+    ensures works { Works (first_of index.now) (number_of pass.old) (op.Part from) result (trail pass.old) (trail pass.new) }
 {
     let turns = index.patience();
     for _ in rt.forever() {
@@ -55,7 +55,7 @@ fn part<R: Wait>(rt: &R, index: &Index, pass: &mut Pass, from: u64) -> Reply
 fn make_room(index: &Index, pass: &mut Pass)
     requires { IsPassOf index.now pass.old }
     ensures same { IsSamePass pass.old pass.new }
-    ensures adds { Adds (number_of pass.old) (trail pass.old) (trail pass.new) }
+    ensures adds { Adds (first_of index.now) (number_of pass.old) (trail pass.old) (trail pass.new) }
 {
     for _ in 0..ROUNDS {
         if !index.lacks_frames(pass) {
@@ -77,7 +77,7 @@ fn insert<R: Wait>(
 ) -> Reply
     requires { IsPassOf index.now pass.old }
     ensures same { IsSamePass pass.old pass.new }
-    ensures works { Works (number_of pass.old) (op.Insert key value) result (trail pass.old) (trail pass.new) }
+    ensures works { Works (first_of index.now) (number_of pass.old) (op.Insert key value) result (trail pass.old) (trail pass.new) }
 {
     make_room(index, pass);
     let (reply, hint) = index.insert(rt, pass, key, value);
@@ -89,7 +89,7 @@ fn insert<R: Wait>(
 fn delete<R: Wait>(rt: &R, index: &Index, hints: &Hints, pass: &mut Pass, key: u64) -> Reply
     requires { IsPassOf index.now pass.old }
     ensures same { IsSamePass pass.old pass.new }
-    ensures works { Works (number_of pass.old) (op.Delete key) result (trail pass.old) (trail pass.new) }
+    ensures works { Works (first_of index.now) (number_of pass.old) (op.Delete key) result (trail pass.old) (trail pass.new) }
 {
     make_room(index, pass);
     let (reply, hint) = index.delete(rt, pass, key);
@@ -101,7 +101,7 @@ fn delete<R: Wait>(rt: &R, index: &Index, hints: &Hints, pass: &mut Pass, key: u
 fn operate<R: Wait>(rt: &R, index: &Index, hints: &Hints, pass: &mut Pass, op: Op) -> Reply
     requires { IsPassOf index.now pass.old }
     ensures same { IsSamePass pass.old pass.new }
-    ensures works { Works (number_of pass.old) op result (trail pass.old) (trail pass.new) }
+    ensures works { Works (first_of index.now) (number_of pass.old) op result (trail pass.old) (trail pass.new) }
 {
     match op {
         Op::Find(key) => find(rt, index, pass, key),
@@ -115,7 +115,7 @@ fn operate<R: Wait>(rt: &R, index: &Index, hints: &Hints, pass: &mut Pass, op: O
 fn give_back(index: &Index, pass: &mut Pass)
     requires { IsPassOf index.now pass.old }
     ensures same { IsSamePass pass.old pass.new }
-    ensures adds { Adds (number_of pass.old) (trail pass.old) (trail pass.new) }
+    ensures adds { Adds (first_of index.now) (number_of pass.old) (trail pass.old) (trail pass.new) }
 {
     if pass.is_due() {
         index.sweep(pass);
@@ -126,7 +126,7 @@ fn give_back(index: &Index, pass: &mut Pass)
 fn carry_out<R: Wait>(rt: &R, index: &Index, hints: &Hints, pass: &mut Pass, op: Op) -> Reply
     requires { IsPassOf index.now pass.old }
     ensures same { IsSamePass pass.old pass.new }
-    ensures works { Works (number_of pass.old) op result (trail pass.old) (trail pass.new) }
+    ensures works { Works (first_of index.now) (number_of pass.old) op result (trail pass.old) (trail pass.new) }
 {
     let reply = operate(rt, index, hints, pass, op);
     give_back(index, pass);
@@ -144,7 +144,7 @@ fn write_part<R: Wait>(
 ) -> Result<Next, AllocError>
     requires { IsPassOf index.now pass.old }
     ensures same { IsSamePass pass.old pass.new }
-    ensures writes { IfOk result (λ next. WritesPart (number_of pass.old) from high next text.old.items text.new.items (trail pass.old) (trail pass.new)) }
+    ensures writes { IfOk result (λ next. WritesPart (first_of index.now) (number_of pass.old) from high next text.old.items text.new.items (trail pass.old) (trail pass.new)) }
 {
     let Reply::Rows(rows, next) = part(rt, index, pass, from) else {
         unreachable!()
@@ -164,7 +164,7 @@ fn write_rows<R: Wait>(
 ) -> Result<(), AllocError>
     requires { IsPassOf index.now pass.old }
     ensures same { IsSamePass pass.old pass.new }
-    ensures writes { OnOk result (WritesRows (number_of pass.old) low high text.old.items text.new.items (trail pass.old) (trail pass.new)) }
+    ensures writes { OnOk result (WritesRows (first_of index.now) (number_of pass.old) low high text.old.items text.new.items (trail pass.old) (trail pass.new)) }
 {
     let mut at = low;
     while at < high {
@@ -188,7 +188,7 @@ fn scan<R: Wait>(
 ) -> Result<(), AllocError>
     requires { IsPassOf index.now pass.old }
     ensures same { IsSamePass pass.old pass.new }
-    ensures answers { OnOk result (AnswersLine (number_of pass.old) number (Some (Request.Scan low high)) text.old.items text.new.items (trail pass.old) (trail pass.new)) }
+    ensures answers { OnOk result (AnswersLine (first_of index.now) (number_of pass.old) number (Some (Request.Scan low high)) text.old.items text.new.items (trail pass.old) (trail pass.new)) }
 {
     push_number(text, b"", number)?;
     text.extend_from_slice(b" rows")?;
@@ -211,7 +211,7 @@ fn answer<R: Wait, G: Gate>(
 ) -> Result<(), AllocError>
     requires { IsPassOf index.now pass.old }
     ensures same { IsSamePass pass.old pass.new }
-    ensures answers { OnOk result (AnswersLine (number_of pass.old) number asked text.old.items text.new.items (trail pass.old) (trail pass.new)) }
+    ensures answers { OnOk result (AnswersLine (first_of index.now) (number_of pass.old) number asked text.old.items text.new.items (trail pass.old) (trail pass.new)) }
 {
     match asked {
         Some(Request::Ask(op)) => {
@@ -245,7 +245,7 @@ pub fn answer_lines<R: Wait, G: Gate>(
     requires own { IsPassOf index.now pass.old }
     requires room { done + length lines.now < 2 ^ 64 }
     ensures same { IsSamePass pass.old pass.new }
-    ensures answers { IfOk result (λ text. AnswersLines (number_of pass.old) (suc done) lines.now text.items (trail pass.old) (trail pass.new)) }
+    ensures answers { IfOk result (λ text. AnswersLines (first_of index.now) (number_of pass.old) (suc done) lines.now text.items (trail pass.old) (trail pass.new)) }
 {
     let mut text = Vec::new(alloc);
     let mut number = done;

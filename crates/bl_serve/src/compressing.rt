@@ -1,7 +1,7 @@
 //! Hints are followed: pages are listed by their parents, merged and evened out.
 
 ghost use Rattle.std.specs.Prelude.{◌≡◌};
-ghost use Rattle.bl_index.specs.Calls.{IsPassOf, IsSamePass, number_of, trail};
+ghost use Rattle.bl_index.specs.Calls.{first_of, IsPassOf, IsSamePass, number_of, trail};
 ghost use Rattle.bl_serve.specs.Works.{Adds};
 
 use bl_hints::Hints;
@@ -34,7 +34,7 @@ fn post_once<R: Wait>(
 ) -> Option<Hint>
     requires { IsPassOf index.now pass.old }
     ensures same { IsSamePass pass.old pass.new }
-    ensures adds { Adds (number_of pass.old) (trail pass.old) (trail pass.new) }
+    ensures adds { Adds (first_of index.now) (number_of pass.old) (trail pass.old) (trail pass.new) }
 {
     let again = hint;
     let (posted, more) = index.post(rt, pass, hint);
@@ -48,7 +48,7 @@ fn post_once<R: Wait>(
 pub fn post<R: Wait>(rt: &R, index: &Index, hints: &Hints, pass: &mut Pass, hint: Option<Hint>)
     requires { IsPassOf index.now pass.old }
     ensures same { IsSamePass pass.old pass.new }
-    ensures adds { Adds (number_of pass.old) (trail pass.old) (trail pass.new) }
+    ensures adds { Adds (first_of index.now) (number_of pass.old) (trail pass.old) (trail pass.new) }
 {
     let mut hint = hint;
     for _level in 0..LEVELS {
@@ -63,7 +63,7 @@ pub fn post<R: Wait>(rt: &R, index: &Index, hints: &Hints, pass: &mut Pass, hint
 fn follow<R: Wait>(rt: &R, index: &Index, hints: &Hints, pass: &mut Pass, hint: Hint)
     requires { IsPassOf index.now pass.old }
     ensures same { IsSamePass pass.old pass.new }
-    ensures adds { Adds (number_of pass.old) (trail pass.old) (trail pass.new) }
+    ensures adds { Adds (first_of index.now) (number_of pass.old) (trail pass.old) (trail pass.new) }
 {
     match hint {
         Hint::Post { .. } => {
@@ -81,7 +81,7 @@ fn follow<R: Wait>(rt: &R, index: &Index, hints: &Hints, pass: &mut Pass, hint: 
 pub fn follow_hint<R: Wait>(rt: &R, index: &Index, hints: &Hints, pass: &mut Pass) -> bool
     requires { IsPassOf index.now pass.old }
     ensures same { IsSamePass pass.old pass.new }
-    ensures adds { Adds (number_of pass.old) (trail pass.old) (trail pass.new) }
+    ensures adds { Adds (first_of index.now) (number_of pass.old) (trail pass.old) (trail pass.new) }
 {
     let Some(hint) = hints.next(rt) else {
         return false;
@@ -130,7 +130,7 @@ impl Shift {
 fn follow_some<R: Wait>(rt: &R, index: &Index, hints: &Hints, pass: &mut Pass)
     requires { IsPassOf index.now pass.old }
     ensures same { IsSamePass pass.old pass.new }
-    ensures adds { Adds (number_of pass.old) (trail pass.old) (trail pass.new) }
+    ensures adds { Adds (first_of index.now) (number_of pass.old) (trail pass.old) (trail pass.new) }
 {
     for _number in 0..BEHIND {
         if !follow_hint(rt, index, hints, pass) {
@@ -149,7 +149,7 @@ pub fn follow_hints<R: Wait>(
 ) -> Pass
     requires { IsPassOf index.now pass }
     ensures same { IsSamePass pass result }
-    ensures adds { Adds (number_of pass) (trail pass) (trail result) }
+    ensures adds { Adds (first_of index.now) (number_of pass) (trail pass) (trail result) }
 {
     let mut pass = pass;
     follow_some(rt, index, hints, &mut pass);

@@ -6,8 +6,8 @@ ghost use Rattle.bl_model.specs.Map.{empty};
 ghost use Rattle.bl_lines.specs.Served.{Served, Stops, whole_history};
 ghost use Rattle.bl_lines.specs.Streams.{EndsRead};
 ghost use Rattle.bl_trails.specs.Trails.{history_of};
-ghost use Rattle.bl_index.specs.Calls.{pages_of};
-ghost use Rattle.bl_serve.specs.Dumps.{HoldMapAfter};
+ghost use Rattle.bl_index.specs.Calls.{first_of, pages_of};
+ghost use Rattle.bl_serve.specs.Dumps.{HoldMapFrom, HoldMapAfter};
 ghost use Rattle.bl_serve.specs.Serving.{AreTogether, seen_by};
 
 use crate::gate::OpenGate;
@@ -26,7 +26,7 @@ use std::thread::Threads;
 fn shut(alloc: Global, index: Index, passes: Vec<Pass>) -> Result<Quiet, AllocError>
     requires some { 0 < vec_len passes }
     requires together { AreTogether index (seen_by passes.items) passes.items }
-    ensures { IfOk result (λ quiet. HoldMapAfter (history_of (seen_by passes.items)) (pages_of index) quiet.image.pages.items) }
+    ensures { IfOk result (λ quiet. HoldMapFrom (first_of index) (history_of (seen_by passes.items)) (pages_of index) quiet.image.pages.items) }
 {
     match index.close(alloc, passes) {
         Ok(quiet) => Ok(quiet),

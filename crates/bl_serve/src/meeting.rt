@@ -3,7 +3,7 @@
 ghost use Rattle.std.specs.Prelude.{◌≡◌, ◌<◌, length, All};
 ghost use Rattle.std.specs.List.{AllZip};
 ghost use Rattle.bl_passes.specs.Seeing.{GoesOnFrom};
-ghost use Rattle.bl_index.specs.Calls.{IsPassOf, trail};
+ghost use Rattle.bl_index.specs.Calls.{first_of, IsPassOf, trail};
 ghost use Rattle.bl_serve.specs.Meetings.{Keeps, Comes, LearnsAll, AllMeet};
 
 use bl_index::{Index, Pass};
@@ -11,7 +11,7 @@ use bl_index::{Index, Pass};
 /// The first pass learns all that has happened, and so what the others know.
 fn learn_all(index: &Index, first: &mut Pass, others: &mut [Pass])
     requires own { IsPassOf index.now first.old × All (IsPassOf index.now) others.old }
-    ensures learns { LearnsAll first.old first.new others.old others.new }
+    ensures learns { LearnsAll (first_of index.now) first.old first.new others.old others.new }
 {
     for number in 0..others.len() {
         index.learn(first, &mut others[number]);
@@ -34,7 +34,7 @@ fn tell_all(index: &Index, first: &mut Pass, others: &mut [Pass])
 pub fn meet_all(index: &Index, passes: &mut [Pass])
     requires own { All (IsPassOf index.now) passes.old }
     requires some { 0 < length passes.old }
-    ensures { AllMeet passes.old passes.new }
+    ensures { AllMeet (first_of index.now) passes.old passes.new }
 {
     if let Some((first, others)) = passes.split_first_mut() {
         learn_all(index, first, others);

@@ -1,7 +1,7 @@
 //! A section is answered: its batches are given out, threads work on them, and all are joined.
 
 ghost use Rattle.std.specs.Prelude.{◌≡◌, ℕ, suc, ◌+◌, ◌<◌, ◌^◌, length, map, All, IfOk, IfErr, vec_len, slice_index_or};
-ghost use Rattle.bl_index.specs.Calls.{IsPassOf};
+ghost use Rattle.bl_index.specs.Calls.{first_of, IsPassOf};
 ghost use Rattle.bl_serve.specs.Turns.{IsTurn};
 ghost use Rattle.bl_serve.specs.Rounds.{IsRound, Gathers};
 ghost use Rattle.bl_serve.specs.Serving.{AreTogether, HoldsSection, IsInside, seen_by};
@@ -103,14 +103,14 @@ fn work_abreast<R: Threads + Wait + Sync, G: Gate + Sync>(
     requires own { All (λ t. IsPassOf index.now t.pass) turns.items }
     requires room { done + length lines.now < 2 ^ 64 }
     ensures len { IfOk result (λ v. vec_len v ≡ vec_len turns) }
-    ensures each { IfOk result (λ v. (i : ℕ) (t : _) (d : _) → i < vec_len turns → IfOk (slice_index_or v.items i d) (IsTurn (suc done) lines.now (slice_index_or turns.items i t).pass)) }
+    ensures each { IfOk result (λ v. (i : ℕ) (t : _) (d : _) → i < vec_len turns → IfOk (slice_index_or v.items i d) (IsTurn (first_of index.now) (suc done) lines.now (slice_index_or turns.items i t).pass)) }
 {
     thread::map_vec(
         rt,
         turns,
         &|turn: Turn| -> Result<Worked, AllocError>
             requires { IsPassOf index.now turn.pass × (done + length lines.now < 2 ^ 64) }
-            ensures { IfOk result (IsTurn (suc done) lines.entry.now turn.pass) }
+            ensures { IfOk result (IsTurn (first_of index.entry.now) (suc done) lines.entry.now turn.pass) }
         {
             take_turn(
                 rt, alloc, index, hints, gate, shift, batches, done, lines, turn,
@@ -135,7 +135,7 @@ fn work_in_turn<R: Wait, G: Gate>(
     requires own { All (λ t. IsPassOf index.now t.pass) turns.items }
     requires room { done + length lines.now < 2 ^ 64 }
     ensures len { IfOk result (λ v. vec_len v ≡ vec_len turns) }
-    ensures each { IfOk result (λ v. (i : ℕ) (t : _) (d : _) → i < vec_len turns → IfOk (slice_index_or v.items i d) (IsTurn (suc done) lines.now (slice_index_or turns.items i t).pass)) }
+    ensures each { IfOk result (λ v. (i : ℕ) (t : _) (d : _) → i < vec_len turns → IfOk (slice_index_or v.items i d) (IsTurn (first_of index.now) (suc done) lines.now (slice_index_or turns.items i t).pass)) }
 {
     let mut turns = turns;
     let count = turns.len();
@@ -167,7 +167,7 @@ fn work<R: Threads + Wait + Sync, G: Gate + Sync>(
     requires own { All (λ t. IsPassOf index.now t.pass) turns.items }
     requires room { done + length lines.now < 2 ^ 64 }
     ensures len { IfOk result (λ v. vec_len v ≡ vec_len turns) }
-    ensures each { IfOk result (λ v. (i : ℕ) (t : _) (d : _) → i < vec_len turns → IfOk (slice_index_or v.items i d) (IsTurn (suc done) lines.now (slice_index_or turns.items i t).pass)) }
+    ensures each { IfOk result (λ v. (i : ℕ) (t : _) (d : _) → i < vec_len turns → IfOk (slice_index_or v.items i d) (IsTurn (first_of index.now) (suc done) lines.now (slice_index_or turns.items i t).pass)) }
 {
     let mut turns = turns;
     let later = turns.split_off(threads.min(turns.len()))?;
@@ -217,7 +217,7 @@ pub fn answer_section<R: Threads + Wait + Sync, G: Gate + Sync>(
     requires room { done + length lines.now < 2 ^ 64 }
     ensures own { IfOk result (λ t. All (IsPassOf index.now) t.0.items) }
     ensures fault { IfErr result IsInside }
-    ensures round { IfOk result (λ t. IsRound (suc done) lines.now t.1.items passes.items t.0.items) }
+    ensures round { IfOk result (λ t. IsRound (first_of index.now) (suc done) lines.now t.1.items passes.items t.0.items) }
 {
     let batches = batches(rt, alloc, lines.len())?;
     let shift = Shift::new(workers as u64);

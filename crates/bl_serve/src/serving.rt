@@ -4,7 +4,7 @@ ghost use Rattle.std.specs.Prelude.{◌≡◌, ℕ, ◌+◌, ◌<◌, ◌≤◌,
 ghost use Rattle.std.specs.Io.KnownBytes.{Appends, Consumes, IsAtEnd};
 ghost use Rattle.bl_lines.specs.Served.{Stops};
 ghost use Rattle.bl_lines.specs.Streams.{EndsRead};
-ghost use Rattle.bl_index.specs.Calls.{map_after};
+ghost use Rattle.bl_index.specs.Calls.{first_of, map_after};
 ghost use Rattle.bl_serve.specs.Sections.{CountsSection, rests, syncs};
 ghost use Rattle.bl_serve.specs.Serving.{AreTogether, IsInside, Serves, ServesSection, seen_by};
 
@@ -120,7 +120,7 @@ pub fn serve<T: Threads + Wait + Sync, R: Read, W: Write, G: Gate + Sync>(
         × MatchResult result
         (λ t. Serves index.now passes.items t.1.items input output t.0
         × EndsRead input ahead (IsAtEnd (R.remaining reader.new.inner)))
-        (λ fault. Stops (map_after (seen_by passes.items)) (input ++ ahead) output fault
+        (λ fault. Stops (map_after (first_of index.now) (seen_by passes.items)) (input ++ ahead) output fault
         (reader.new.failed ≡ true) (writer.new.failed ≡ true)) }
 {
     let hints = Hints::new(alloc)?;

@@ -5,7 +5,7 @@ ghost use Rattle.std.specs.Io.KnownBytes.{Appends, Consumes, IsAtEnd};
 ghost use Rattle.bl_model.specs.Map.{empty};
 ghost use Rattle.bl_lines.specs.Served.{Served, Stops};
 ghost use Rattle.bl_lines.specs.Streams.{EndsRead};
-ghost use Rattle.bl_index.specs.Calls.{pages_of};
+ghost use Rattle.bl_index.specs.Calls.{first_of, pages_of};
 ghost use Rattle.bl_serve.specs.Serving.{AreTogether, seen_by};
 
 use crate::gate::OpenGate;
@@ -24,6 +24,7 @@ pub fn open_index(alloc: Global, pages: u32, passes: u32) -> Result<(Index, Vec<
     requires passes { (1 ≤ passes) × (passes ≤ 64) }
     ensures pages { IfOk result (λ t. pages_of t.0 ≡ pages) }
     ensures many { IfOk result (λ t. vec_len t.1 ≡ passes) }
+    ensures first { IfOk result (λ t. first_of t.0 ≡ []) }
     ensures unseen { IfOk result (λ t. seen_by t.1.items ≡ []) }
     ensures together { IfOk result (λ t. AreTogether t.0 (seen_by t.1.items) t.1.items) }
 {

@@ -1,7 +1,7 @@
 //! What the threads of a section do: workers take batches of lines from a channel, compressors follow hints.
 
 ghost use Rattle.std.specs.Prelude.{◌≡◌, suc, ◌+◌, ◌<◌, ◌^◌, length, IfOk, OnOk};
-ghost use Rattle.bl_index.specs.Calls.{IsPassOf, IsSamePass, number_of, trail};
+ghost use Rattle.bl_index.specs.Calls.{first_of, IsPassOf, IsSamePass, number_of, trail};
 ghost use Rattle.bl_serve.specs.Turns.{IsTurn, Logs};
 
 use crate::answering::answer_lines;
@@ -60,7 +60,7 @@ fn serve_batch<R: Wait, G: Gate>(
     requires own { IsPassOf index.now pass.old }
     requires room { done + length lines.now < 2 ^ 64 }
     ensures same { IsSamePass pass.old pass.new }
-    ensures logs { OnOk result (Logs (suc done) lines.now (number_of pass.old) (trail pass.old) (trail pass.new) log.old.items log.new.items) }
+    ensures logs { OnOk result (Logs (first_of index.now) (suc done) lines.now (number_of pass.old) (trail pass.old) (trail pass.new) log.old.items log.new.items) }
 {
     let Batch { from, upto } = batch;
     if upto <= from {
@@ -99,7 +99,7 @@ fn serve_batches<R: Wait, G: Gate>(
 ) -> Result<Worked, AllocError>
     requires own { IsPassOf index.now pass }
     requires room { done + length lines.now < 2 ^ 64 }
-    ensures { IfOk result (IsTurn (suc done) lines.now pass) }
+    ensures { IfOk result (IsTurn (first_of index.now) (suc done) lines.now pass) }
 {
     let mut pass = pass;
     let mut log = Vec::new(alloc);
@@ -130,7 +130,7 @@ pub fn take_turn<R: Wait, G: Gate>(
 ) -> Result<Worked, AllocError>
     requires own { IsPassOf index.now turn.pass }
     requires room { done + length lines.now < 2 ^ 64 }
-    ensures { IfOk result (IsTurn (suc done) lines.now turn.pass) }
+    ensures { IfOk result (IsTurn (first_of index.now) (suc done) lines.now turn.pass) }
 {
     let Turn { pass, serves } = turn;
     if serves {

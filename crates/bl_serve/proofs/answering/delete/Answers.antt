@@ -2,4 +2,4 @@ use Rattle.bl_serve.proofs.Requests.{call_works, adds_works}
 use Rattle.bl_serve.proofs.answering.delete.Goals as goal
 
 pub returns-clause-works : goal.returns-clause-works
-returns-clause-works g c = adds_works _ _ _ _ _ _ c.make_room.ensures.adds (call_works _ _ _ _ _ _ c.make_room.ensures.same.2 c.delete-reply.ensures.deletes.answers)
+returns-clause-works g c = adds_works _ _ _ _ _ _ _ c.make_room.ensures.adds (call_works _ _ _ _ _ _ _ c.make_room.ensures.same.2 c.delete-reply.ensures.deletes.answers)

@@ -1,12 +1,12 @@
 use Rattle.std.proofs.Common.{◌-◌, ◌^◌}
-use Rattle.bl_index.specs.Calls.{IsSamePass, number_of, trail}
+use Rattle.bl_index.specs.Calls.{first_of, IsSamePass, number_of, trail}
 use Rattle.bl_serve.proofs.Scanning.{Goes}
 use Rattle.bl_serve.proofs.answering.write_rows.Given as goal
 
 abbrev pub invariant-loop-at : goal.invariant-loop-at
 invariant-loop-at g l = record {
   same : IsSamePass l.fn.pass l.pass;
-  so_far : Goes (number_of l.fn.pass) l.low l.at l.high l.fn.text.items l.text.items (trail l.fn.pass) (trail l.pass);
+  so_far : Goes (first_of l.index) (number_of l.fn.pass) l.low l.at l.high l.fn.text.items l.text.items (trail l.fn.pass) (trail l.pass);
 }
 
 abbrev pub decreases-loop-at : goal.decreases-loop-at

@@ -8,5 +8,5 @@ loop-init g c = record { same = search rules; adds = c.follow_some.ensures.adds 
 pub loop-preserved : goal.loop-preserved
 loop-preserved g c = record {
   same = search rules;
-  adds = then_adds _ _ _ _ c.loop.invariant.adds (adds_as _ _ _ _ c.loop.invariant.same.2 c.follow_hint-followed.ensures.adds);
+  adds = then_adds _ _ _ _ _ c.loop.invariant.adds (adds_as _ _ _ _ _ c.loop.invariant.same.2 c.follow_hint-followed.ensures.adds);
 }

@@ -7,17 +7,17 @@ work-requires-clause-own g c = λ κs lives. turns_own c.args.index.now c.in_ok-
 
 pub collect-requires-clause-within : goal.collect-requires-clause-within
 collect-requires-clause-within g c = let a = c.in_ok-turns.turns.ok in let b = c.in_ok-results.results.ok in let same = c.in_ok-results.ensures.len in
-    gathered_within _ c.args.lines.now c.in_ok-turns.turns.items c.in_ok-results.results.items c.in_ok-passes.passes.items c.in_ok-passes.written.items (omega arith) (λ i t d low. c.in_ok-results.ensures.each i t d (omega arith)) c.in_ok-passes.ensures
+    gathered_within _ _ c.args.lines.now c.in_ok-turns.turns.items c.in_ok-results.results.items c.in_ok-passes.passes.items c.in_ok-passes.written.items (omega arith) (λ i t d low. c.in_ok-results.ensures.each i t d (omega arith)) c.in_ok-passes.ensures
 
 pub returns-clause-round : goal.returns-clause-round
 returns-clause-round g c =
     let a = c.in_ok-turns.turns.ok in let b = c.in_ok-results.results.ok in let same = c.in_ok-results.ensures.len in
-    round _ c.args.lines.now c.in_ok-text.text.items c.args.passes.items c.in_ok-passes.passes.items c.in_ok-turns.turns.items c.in_ok-results.results.items c.in_ok-passes.written.items c.in_ok-text.ensures.text.0
+    round _ _ c.args.lines.now c.in_ok-text.text.items c.args.passes.items c.in_ok-passes.passes.items c.in_ok-turns.turns.items c.in_ok-results.results.items c.in_ok-passes.written.items c.in_ok-text.ensures.text.0
     c.in_ok-turns.ensures (omega arith) (λ i t d low. c.in_ok-results.ensures.each i t d (omega arith)) c.in_ok-passes.ensures c.in_ok-text.ensures.text.1 c.in_ok-text.ensures.text.2 c.in_ok-text.ensures.text.3
 
 pub returns-clause-own : goal.returns-clause-own
 returns-clause-own g c =
     let a = c.in_ok-turns.turns.ok in let b = c.in_ok-results.results.ok in let same = c.in_ok-results.ensures.len in
-    let r = round _ c.args.lines.now c.in_ok-text.text.items c.args.passes.items c.in_ok-passes.passes.items c.in_ok-turns.turns.items c.in_ok-results.results.items c.in_ok-passes.written.items c.in_ok-text.ensures.text.0
+    let r = round _ _ c.args.lines.now c.in_ok-text.text.items c.args.passes.items c.in_ok-passes.passes.items c.in_ok-turns.turns.items c.in_ok-results.results.items c.in_ok-passes.written.items c.in_ok-text.ensures.text.0
     c.in_ok-turns.ensures (omega arith) (λ i t d low. c.in_ok-results.ensures.each i t d (omega arith)) c.in_ok-passes.ensures c.in_ok-text.ensures.text.1 c.in_ok-text.ensures.text.2 c.in_ok-text.ensures.text.3 in
-    round_own c.args.index.now _ _ _ _ _ c.requires.own r
+    round_own _ c.args.index.now _ _ _ _ _ c.requires.own r

@@ -21,7 +21,7 @@ returns g c =
     let d = c.in_ok-later.later.ok in
     let e = c.in_ok-results.results.ok in record {
       len = omega (arith, at, tail, first, second, both);
-      each = λ i t r low. each_part _ c.args.lines.now c.args.turns.items c.split_off.new.self.items c.in_ok-later.later.items c.min.result c.in_ok-results.results.items c.in_ok-others.others.items c.append.new.self.items
+      each = λ i t r low. each_part _ _ c.args.lines.now c.args.turns.items c.split_off.new.self.items c.in_ok-later.later.items c.min.result c.in_ok-results.results.items c.in_ok-others.others.items c.append.new.self.items
           c.in_ok-later.ensures.items c.in_ok-later.ensures.tail (omega (arith, first, b, e)) (λ j u q l. c.in_ok-results.ensures.each j u q (omega (arith, l, b))) (λ j u q l. c.in_ok-others.ensures.each j u q (omega (arith, l, d))) c.in_ok-append.ensures.items
           i t r (omega (arith, low, a));
     }

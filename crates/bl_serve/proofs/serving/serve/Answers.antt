@@ -5,6 +5,7 @@ use Rattle.std.proofs.lemmas.Result.{err_from_is_err_and}
 use Rattle.bl_lines.specs.declared.request.Request.{Request}
 use Rattle.bl_lines.specs.declared.serving.ServeFault.TheVariants.{Memory}
 use Rattle.bl_lines.proofs.Known.{consumes_start, consumes_next, consumes_rest, appends_start, appends_more, appends_text}
+use Rattle.bl_index.specs.Calls.{first_of}
 use Rattle.bl_serve.specs.declared.reading.SectionEnd.TheVariants as section_end
 use Rattle.bl_serve.specs.Reading.{EndsReading}
 use Rattle.bl_serve.specs.Sections.{rests}
@@ -17,11 +18,11 @@ use Rattle.bl_serve.proofs.serving.serve.Goals as goal
 -- no memory at the start
 pub returns-in_err-hints : goal.returns-in_err-hints
 returns-in_err-hints g c = let p = err_from_is_err_and c.from_residual.result c.from_residual.ensures.1 in
-    rw (p.1, p.2) ([], [], [], consumes_start _, appends_start _, stops_inside (seen_by c.args.passes.items) (seen_by c.args.passes.items) _ [] [] [] Memory (c.args.reader.now.failed ≡ true) (c.args.writer.now.failed ≡ true) (no_progress (seen_by c.args.passes.items)) c.requires.together.may_be refl tt)
+    rw (p.1, p.2) ([], [], [], consumes_start _, appends_start _, stops_inside (first_of c.args.index.now) (seen_by c.args.passes.items) (seen_by c.args.passes.items) _ [] [] [] Memory (c.args.reader.now.failed ≡ true) (c.args.writer.now.failed ≡ true) (no_progress (seen_by c.args.passes.items)) c.requires.together.may_be refl tt)
 
 pub returns-in_err-source : goal.returns-in_err-source
 returns-in_err-source g c = let p = err_from_is_err_and c.from_residual-in_err-source.result c.from_residual-in_err-source.ensures.1 in
-    rw (p.1, p.2) ([], [], [], consumes_start _, appends_start _, stops_inside (seen_by c.args.passes.items) (seen_by c.args.passes.items) _ [] [] [] Memory (c.args.reader.now.failed ≡ true) (c.args.writer.now.failed ≡ true) (no_progress (seen_by c.args.passes.items)) c.requires.together.may_be refl tt)
+    rw (p.1, p.2) ([], [], [], consumes_start _, appends_start _, stops_inside (first_of c.args.index.now) (seen_by c.args.passes.items) (seen_by c.args.passes.items) _ [] [] [] Memory (c.args.reader.now.failed ≡ true) (c.args.writer.now.failed ≡ true) (no_progress (seen_by c.args.passes.items)) c.requires.together.may_be refl tt)
 
 pub loop-section-init : goal.loop-section-init
 loop-section-init g c = record {
@@ -48,7 +49,7 @@ returns-in_err-end g c = let i = c.loop-section.invariant in let e = c.in_err-en
       i.output,
       consumes_next _ _ _ i.input c.loop-section.source e.1 _ i.consumed e.2 refl,
       i.wrote,
-      stops_at_read c.in_err-end.field-0.0 (seen_by c.args.passes.items) i.seen c.loop-section.totals i.input i.output (c.loop-section.source ++ e.1) c.read_section.new.source e.0 c.read_section.new.lines.items (18446744073709551615 - c.loop-section.totals.requests)
+      stops_at_read (first_of c.args.index.now) c.in_err-end.field-0.0 (seen_by c.args.passes.items) i.seen c.loop-section.totals i.input i.output (c.loop-section.source ++ e.1) c.read_section.new.source e.0 c.read_section.new.lines.items (18446744073709551615 - c.loop-section.totals.requests)
           (IsAtEnd (g.R.Read.remaining c.read_section.new.reader.inner)) (c.read_section.new.reader.failed ≡ true) (c.loop-section.writer.failed ≡ true) i.progress i.together.may_be e.3,
     )
 
@@ -69,7 +70,7 @@ returns-in_err-back g c = let i = c.loop-section.invariant in let e = c.in_ok-en
       i.output,
       consumes_next _ _ _ i.input c.loop-section.source e.1 _ i.consumed e.2 refl,
       i.wrote,
-      stops_at_answers c.in_err-back.field-0.0 (seen_by c.args.passes.items) i.seen c.loop-section.totals i.input i.output (c.loop-section.source ++ e.1) (c.read_section.new.reader.failed ≡ true) (c.loop-section.writer.failed ≡ true) i.progress i.together.may_be c.in_err-back.ensures.fault,
+      stops_at_answers (first_of c.args.index.now) c.in_err-back.field-0.0 (seen_by c.args.passes.items) i.seen c.loop-section.totals i.input i.output (c.loop-section.source ++ e.1) (c.read_section.new.reader.failed ≡ true) (c.loop-section.writer.failed ≡ true) i.progress i.together.may_be c.in_err-back.ensures.fault,
     )
 
 -- its output was not written whole
@@ -127,7 +128,7 @@ loop-section-preserved g c = let i = c.loop-section.invariant in let e = c.in_ok
 -- as many sections as there are numbers
 pub returns : goal.returns
 returns g c = let i = c.loop-section.invariant in
-    let v = serves_no_more (seen_by c.args.passes.items) i.seen c.loop-section.totals i.input i.output c.loop-section.source (IsAtEnd (g.R.Read.remaining c.loop-section.reader.inner)) i.progress i.together.may_be (let a = i.number in let b = c.loop-section-test.false in omega (arith, a, b)) in (
+    let v = serves_no_more (first_of c.args.index.now) (seen_by c.args.passes.items) i.seen c.loop-section.totals i.input i.output c.loop-section.source (IsAtEnd (g.R.Read.remaining c.loop-section.reader.inner)) i.progress i.together.may_be (let a = i.number in let b = c.loop-section-test.false in omega (arith, a, b)) in (
       i.input ++ v.consumed,
       c.loop-section.source,
       i.output ++ [],

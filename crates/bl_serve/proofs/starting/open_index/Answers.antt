@@ -6,6 +6,7 @@ pub returns-in-Ok : goal.returns-in-Ok
 returns-in-Ok c = record {
   pages = c.in-Ok.ensures.ok.pages;
   many = (let a = c.in-Ok.ensures.ok.count in let b = c.in-Ok.passes.ok in omega (arith, a, b));
+  first = c.in-Ok.ensures.ok.first;
   unseen = opened_unseen _ c.in-Ok.index c.in-Ok.passes.items c.in-Ok.ensures.ok;
   together = opened_together _ c.in-Ok.index c.in-Ok.passes.items c.in-Ok.ensures.ok;
 }

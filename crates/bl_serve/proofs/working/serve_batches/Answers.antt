@@ -3,10 +3,10 @@ use Rattle.bl_serve.proofs.Lines.{no_logs_in, then_logs}
 use Rattle.bl_serve.proofs.working.serve_batches.Goals as goal
 
 pub loop-init : goal.loop-init
-loop-init g c = record { same = search rules; logs = no_logs_in _ _ _ _ _ c.new-log.ensures.items }
+loop-init g c = record { same = search rules; logs = no_logs_in _ _ _ _ _ _ c.new-log.ensures.items }
 
 pub loop-preserved : goal.loop-preserved
 loop-preserved g c = record {
   same = search rules;
-  logs = then_logs _ _ _ _ _ _ _ _ _ _ c.loop.invariant.same.2 c.loop.invariant.logs c.in_ok-serve_batch.ensures.logs;
+  logs = then_logs _ _ _ _ _ _ _ _ _ _ _ c.loop.invariant.same.2 c.loop.invariant.logs c.in_ok-serve_batch.ensures.logs;
 }
