@@ -214,7 +214,7 @@ impl Index {
             return Err((quiet, OpenFault::Passes));
         }
         match Self::made_from(alloc, &quiet, passes) {
-            Ok(made) => Ok(made),
+            Ok(opened) => Ok(opened),
             Err(_) => Err((quiet, OpenFault::Memory)),
         }
     }

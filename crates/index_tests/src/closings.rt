@@ -38,7 +38,12 @@ pub(crate) fn insert_fifteen<R: Wait>(rt: &R, index: &Index, pass: &mut Pass)
 }
 
 /// The bytes of the image that the closed index leaves.
-pub(crate) fn image_of(alloc: Global, index: Index, passes: Vec<Pass>, last: Pass) -> Option<Vec<u8>>
+pub(crate) fn image_of(
+    alloc: Global,
+    index: Index,
+    passes: Vec<Pass>,
+    last: Pass,
+) -> Option<Vec<u8>>
     requires { All (IsPassOf index) passes.items × IsPassOf index last }
 {
     let mut passes = passes;

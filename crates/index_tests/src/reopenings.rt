@@ -57,9 +57,13 @@ fn an_image_that_is_not_opened_comes_back(rt: HostRuntime) -> Result<(), Fail> {
     let (index, passes, mut last) = opened(rt.alloc(), 8).ok_or("no index")?;
     insert_fifteen(&rt, &index, &mut last);
     let quiet = closed(rt.alloc(), index, passes, last).ok_or("not closed")?;
-    let (quiet, fault) = Index::open_image(rt.alloc(), quiet, 0).err().ok_or("opened")?;
+    let (quiet, fault) = Index::open_image(rt.alloc(), quiet, 0)
+        .err()
+        .ok_or("opened")?;
     assert!(rt; fault == OpenFault::Passes);
-    let (quiet, fault) = Index::open_image(rt.alloc(), quiet, 65).err().ok_or("opened")?;
+    let (quiet, fault) = Index::open_image(rt.alloc(), quiet, 65)
+        .err()
+        .ok_or("opened")?;
     assert!(rt; fault == OpenFault::Passes);
     assert_eq!(rt; quiet.image().pages.len(), 8);
     let (index, _passes, mut last) = reopened(rt.alloc(), quiet, 1).ok_or("not opened")?;
