@@ -31,9 +31,9 @@ pages_of index = index.store.layout.pages
 abbrev pub passes_of : Index → ℕ
 passes_of index = index.store.layout.passes
 
--- what the index began with: the pages of an image, or no pages where it was opened empty
+-- what the index began with, as its store lent it to each pass: the pages of an image, or no pages where it was opened empty
 abbrev pub first_of : Index → List (Option Page)
-first_of index = index.first.value.items
+first_of index = index.store.table.shared.key.known.value.first
 
 -- the pass is of this index, and knows what it began with
 abbrev pub IsPassOf : Index → Pass → Type 0

@@ -6,10 +6,8 @@ ghost use Rattle.bl_passes.specs.Noting.{trail_of};
 ghost use Rattle.bl_passes.specs.Seeing.{IsSeen};
 ghost use Rattle.bl_index.specs.Runs.{IsWithin};
 
-use bl_page::Page;
 use bl_passes::{Mine, Passes};
 use bl_store::{Hand, Store};
-use std::snapshot::Snapshot;
 
 /// Pages of a tree that threads share.
 #[derive(Drop)]
@@ -17,8 +15,6 @@ pub struct Index {
     pub(crate) store: Store<Mine, Passes>,
     pub(crate) pages: u32,
     pub(crate) passes: u32,
-    // What it began with: the pages of an image, or none where it was opened empty.
-    pub(crate) first: Snapshot<Vec<Option<Page>>>,
     pub ghost sized: { pages ≡ store.layout.pages },
     pub ghost shared: { passes ≡ store.layout.passes },
 }

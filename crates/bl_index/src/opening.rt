@@ -18,7 +18,6 @@ use bl_proc::{Find, FindStage, Proc};
 use bl_store::{Hand, Store};
 use std::alloc::{AllocError, Global};
 use std::collections::LinkedList;
-use std::snapshot::Snapshot;
 
 /// The anchor of a tree whose only page is page 1.
 fn first_anchor() -> Page
@@ -195,7 +194,6 @@ impl Index {
             store,
             pages: words.len() as u32,
             passes,
-            first: Snapshot::of(image),
         };
         Ok((index, made))
     }

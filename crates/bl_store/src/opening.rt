@@ -40,6 +40,7 @@ impl<D, R: PageRule<D>> Store<D, R, Global> {
         requires rule { R.holds (first_pages first.now passes known.now) }
         ensures layout { IfOk result (λ t. (t.0.layout.pages ≡ length first.now) × (t.0.layout.passes ≡ passes)) }
         ensures hands { IfOk result (λ t. IsDealt t.0.table.shared.table_id t.0.layout known.now passes t.1.items) }
+        ensures known { IfOk result (λ t. t.0.table.shared.key.known.value ≡ known.now) }
     {
         let layout = Layout {
             pages: first.len() as u32,
@@ -58,6 +59,7 @@ impl<D, R: PageRule<D>> Store<D, R, Global> {
         requires rule { R.holds (first_pages first.now layout.passes known.now) }
         ensures layout { IfOk result (λ t. t.0.layout ≡ layout) }
         ensures hands { IfOk result (λ t. IsDealt t.0.table.shared.table_id layout known.now layout.passes t.1.items) }
+        ensures known { IfOk result (λ t. t.0.table.shared.key.known.value ≡ known.now) }
     {
         let mut words = Vec::with_capacity(alloc, layout.words())?;
         for _ in 0..layout.words() {

@@ -1,4 +1,4 @@
-use Rattle.std.proofs.Common.{Vec, Global, List, Option, [], refl, sym, ap, subst, ◌∙◌}
+use Rattle.std.proofs.Common.{List, Option, [], refl, sym, ap, subst, ◌∙◌}
 use Rattle.bl_page.specs.declared.page.Page.{Page}
 use Rattle.bl_store.specs.Opening.{first_pages}
 use Rattle.bl_passes.specs.declared.known.Mine.{Mine}
@@ -17,4 +17,4 @@ pub passes_of-requires-clause-seen : goal.passes_of-requires-clause-seen
 passes_of-requires-clause-seen c = subst (λ (z : List (Option Page)). IsSeen z []) (sym c.of-first.ensures) c.requires.seen
 
 pub returns : goal.returns
-returns c = is_begun c.of-first.result c.args.image.now.items _ _ _ _ _ c.in_ok-store.ensures.layout.0 c.in_ok-store.ensures.layout.1 c.in_ok-store.ensures.hands.count c.in_ok-made.ensures (ap (λ (z : Vec (Option Page) Global). z.items) c.of.ensures ∙ sym c.of-first.ensures) c.of-first.ensures c.requires.seen
+returns c = is_begun c.of-first.result c.args.image.now.items _ _ _ _ _ c.in_ok-store.ensures.layout.0 c.in_ok-store.ensures.layout.1 c.in_ok-store.ensures.hands.count c.in_ok-made.ensures (ap (λ (z : Mine). z.first) (c.in_ok-store.ensures.known ∙ c.beginner-known.ensures) ∙ (c.of-told.ensures ∙ sym c.of-first.ensures)) c.of-first.ensures c.requires.seen
