@@ -1,4 +1,6 @@
-//! A plain Rust program that answers request lines as `blink serve` does, for comparison, and a generator of such lines. `twin lines N` writes N lines; `twin serve` answers standard input.
+//! A plain Rust program that answers request lines as `blink serve` does, for comparison, and a generator of such lines.
+//! `twin lines N` writes N mixed lines, `twin finds N` as many that find but for 4,000 insertions; `twin serve` answers standard
+//! input.
 
 use std::collections::BTreeMap;
 use std::env;
@@ -79,13 +81,35 @@ fn serve() -> io::Result<()> {
     writer.flush()
 }
 
-/// Finds, inserts and deletes of keys 1 to 4,000 in turn, by a linear congruential generator, and a sync each 1,000 lines.
+const KEYS: u64 = 4000;
+
+/// The next state of a linear congruential generator.
+fn step(state: u64) -> u64 {
+    state.wrapping_mul(6364136223846793005).wrapping_add(1442695040888963407)
+}
+
+/// An insertion of each key from 1 to 4,000 and a sync, then finds of these keys, and a sync each 100,000 lines.
+fn write_finds(count: u64) -> io::Result<()> {
+    let mut writer = BufWriter::new(io::stdout().lock());
+    let mut state = 1u64;
+    for line in 1..=count {
+        state = step(state);
+        match line {
+            _ if line <= KEYS => writeln!(writer, "insert {line} {}", state >> 20)?,
+            _ if line == KEYS + 1 || line % 100_000 == 0 => writeln!(writer, "sync")?,
+            _ => writeln!(writer, "find {}", (state >> 33) % KEYS + 1)?,
+        }
+    }
+    writer.flush()
+}
+
+/// Finds, inserts and deletes of keys 1 to 4,000 in turn, and a sync each 1,000 lines.
 fn write_lines(count: u64) -> io::Result<()> {
     let mut writer = BufWriter::new(io::stdout().lock());
     let mut state = 1u64;
     for line in 1..=count {
-        state = state.wrapping_mul(6364136223846793005).wrapping_add(1442695040888963407);
-        let key = (state >> 33) % 4000 + 1;
+        state = step(state);
+        let key = (state >> 33) % KEYS + 1;
         match (state >> 60) % 4 {
             _ if line % 1000 == 0 => writeln!(writer, "sync")?,
             0 | 1 => writeln!(writer, "find {key}")?,
@@ -101,8 +125,9 @@ fn main() -> io::Result<()> {
     match words.iter().map(String::as_str).collect::<Vec<_>>().as_slice() {
         ["serve"] => serve(),
         ["lines", count] => write_lines(count.parse().unwrap_or(0)),
+        ["finds", count] => write_finds(count.parse().unwrap_or(0)),
         _ => {
-            eprintln!("usage: twin serve | twin lines N");
+            eprintln!("usage: twin serve | twin lines N | twin finds N");
             std::process::exit(2);
         }
     }
