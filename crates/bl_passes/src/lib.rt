@@ -1,6 +1,5 @@
 //! What a pass knows, and the rule by which threads share a store of pages: one world of processes stands behind the
-//! words of the store, and each pass knows a beginning of what has happened in it, and what it began with: nothing, or the pages
-//! of a sound image.
+//! words of the store, and each pass knows a beginning of what has happened in it.
 //!
 //! Promised to `bl_index`: each event of a store is a turn of the process that the hand's pass has, whatever its kind, so
 //! the rule holds after it, and the pass knows all that has happened up to its own event. Each release of a sweep is one too,
