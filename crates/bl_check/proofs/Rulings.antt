@@ -100,9 +100,5 @@ sound_bytes fault.Memory bytes sound broken = refl
 
 -- where the fault is returned
 
-pub pages_at : {T : Type 0} (r : Result T Fault) (e f : Fault) (pages : List (Option Page)) (bytes : List ℕ) → r ≡ Err e → e ≡ f → IsImage pages bytes → IsPageFault f pages
-    → IfErr r (λ g. IsFault g bytes)
-pages_at r e f pages bytes is same whole h = subst (λ r. IfErr r (λ g. IsFault g bytes)) (sym (is ∙ ap Err same)) (in_bytes f pages bytes whole h)
-
 pub memory_at : {T : Type 0} (r : Result T Fault) (e f : Fault) (bytes : List ℕ) → r ≡ Err e → e ≡ f → IsFault f bytes → AreSoundImage bytes → IfErr r (λ g. g ≡ fault.Memory)
 memory_at r e f bytes is same h sound = subst (λ r. IfErr r (λ g. g ≡ fault.Memory)) (sym (is ∙ ap Err same)) (sound_bytes f bytes sound h)

@@ -68,6 +68,22 @@ fn image_in(alloc: Global, bytes: &[u8]) -> Result<Image, Fault>
     }
 }
 
+/// The sound image that the bytes spell; else the least rule that is broken and the least page that breaks it, as `check`
+/// names them. `Memory` comes only where a growth was refused.
+pub fn load(alloc: Global, bytes: &[u8]) -> Result<Quiet, Fault>
+    // The bytes are this image, which is sound by its type.
+    ensures ok { IfOk result (λ quiet. IsImage quiet.image.pages.items bytes.now) }
+    // Which rule is broken, at which page.
+    ensures fault { IfErr result (λ fault. IsFault fault bytes.now) }
+    // A sound image has no fault.
+    ensures only { AreSoundImage bytes.now → IfErr result (λ given. given ≡ fault.Memory) }
+{
+    match sound(alloc, image_in(alloc, bytes)?) {
+        Ok(quiet) => Ok(quiet),
+        Err((_, fault)) => Err(fault),
+    }
+}
+
 /// Checks the bytes of an image. Ok exactly where it is sound, with its numbers; else the least rule that is broken and
 /// the least page that breaks it. `Memory` comes only where a growth was refused.
 pub fn check(alloc: Global, bytes: &[u8]) -> Result<Report, Fault>
@@ -79,10 +95,8 @@ pub fn check(alloc: Global, bytes: &[u8]) -> Result<Report, Fault>
     // A sound image has no fault.
     ensures only { AreSoundImage bytes.now → IfErr result (λ given. given ≡ fault.Memory) }
 {
-    let image = image_in(alloc, bytes)?;
-    let pages = image.pages.as_slice();
-    keep_rules(alloc, pages)?;
-    Ok(report_of(alloc, pages)?)
+    let quiet = load(alloc, bytes)?;
+    Ok(report_of(alloc, quiet.image().pages.as_slice())?)
 }
 
 /// The image as a sound one, where it is sound; else the image, with the least rule that is broken and the least page

@@ -1,16 +1,18 @@
 //! The program `blink`: what its command line asks for, over the files of the system and its standard streams.
 //!
-//! Promised to whoever runs it: `serve` writes what is served for what it reads, over a new index and by as many workers and
-//! compressors as are wanted; `dump` does so too, and its image has the rows that were served; and what `bl_commands` promises
+//! Promised to whoever runs it: `serve` writes what is served for what it reads, over a new index or one with the rows of an
+//! image, and by as many workers and compressors as are wanted; `dump` does so too, and its image has the rows that were served; and what `bl_commands` promises
 //! of `check` and `replay`.
 #![tactic(auto)]
 
+ghost use Rattle.std.specs.Prelude.{◌≤◌, IfOk};
 ghost use Rattle.bl_lines.specs.Options.{AreWithin};
+ghost use Rattle.bl_serve.specs.Origins.{HasPages};
 
-use bl_commands::{CommandFault, check_file, replace_file, replay_file};
+use bl_commands::{CommandFault, check_file, load_file, replace_file, replay_file};
 use bl_model::Watched;
-use bl_options::{Invocation, ServeOptions, read_words};
-use bl_serve::{dump_index, serve_index};
+use bl_options::{Invocation, ServeOptions, Server, read_words};
+use bl_serve::{Origin, dump_index, serve_index};
 use clap::Error;
 use clap::error::ErrorKind;
 use std::io;
@@ -37,8 +39,8 @@ fn carry_out<T: Threads + Wait + Sync>(
     let alloc = rt.alloc();
     let words: Vec<String> = std::env::args(rt)?.collect(alloc)?;
     match read_words(alloc, words.as_slice()) {
-        Ok(Invocation::Serve(options)) => serve(rt, threads, options),
-        Ok(Invocation::Dump(options, file)) => dump(rt, threads, options, file.as_str()),
+        Ok(Invocation::Serve(server)) => serve(rt, threads, server),
+        Ok(Invocation::Dump(server, file)) => dump(rt, threads, server, file.as_str()),
         Ok(Invocation::Check(file)) => {
             let mut writer = Watched::new(io::writer(rt));
             let sound = check_file(rt, file.as_str(), &mut writer)?;
@@ -54,25 +56,37 @@ fn carry_out<T: Threads + Wait + Sync>(
     }
 }
 
+/// What a server begins with: the image in that file, where one is named.
+fn origin_of(rt: &HostRuntime, pages: u32, image: Option<String>) -> Result<Origin, CommandFault>
+    requires { (4 ≤ pages) × (pages ≤ 65536) }
+    ensures { IfOk result HasPages }
+{
+    match image {
+        Some(file) => Ok(Origin::Image(load_file(rt, file.as_str())?)),
+        None => Ok(Origin::Empty(pages)),
+    }
+}
+
 /// Serves standard input.
 fn serve<T: Threads + Wait + Sync>(
     rt: &HostRuntime,
     threads: &T,
-    options: ServeOptions,
+    server: Server,
 ) -> Result<ExitCode, CommandFault>
-    requires { AreWithin options }
+    requires { AreWithin server.options }
 {
     let ServeOptions {
         pages,
         workers,
         compressors,
-    } = options;
+    } = server.options;
+    let origin = origin_of(rt, pages, server.image)?;
     let mut reader = Watched::new(rt.stdin());
     let mut writer = Watched::new(io::writer(rt));
     serve_index(
         threads,
         rt.alloc(),
-        pages,
+        origin,
         workers,
         compressors,
         &mut reader,
@@ -85,22 +99,23 @@ fn serve<T: Threads + Wait + Sync>(
 fn dump<T: Threads + Wait + Sync>(
     rt: &HostRuntime,
     threads: &T,
-    options: ServeOptions,
+    server: Server,
     file: &str,
 ) -> Result<ExitCode, CommandFault>
-    requires { AreWithin options }
+    requires { AreWithin server.options }
 {
     let ServeOptions {
         pages,
         workers,
         compressors,
-    } = options;
+    } = server.options;
+    let origin = origin_of(rt, pages, server.image)?;
     let mut reader = Watched::new(rt.stdin());
     let mut writer = Watched::new(io::writer(rt));
     let (_totals, closed) = dump_index(
         threads,
         rt.alloc(),
-        pages,
+        origin,
         workers,
         compressors,
         &mut reader,

@@ -9,7 +9,7 @@ use Rattle.bl_check.specs.Faults.{Breaks}
 use Rattle.bl_check.specs.Reports.{IsReport}
 use Rattle.bl_check.specs.Rules.{AreSound}
 use Rattle.bl_commands.specs.declared.fault.CommandFault.{CommandFault}
-use Rattle.bl_commands.specs.declared.fault.CommandFault.TheVariants.{Read, Write, Memory, Script, Lost}
+use Rattle.bl_commands.specs.declared.fault.CommandFault.TheVariants.{Read, Write, Memory, Script, Unsound, Lost}
 
 -- the line of a sound image
 abbrev pub report_text : Report → List ℕ
@@ -42,9 +42,20 @@ abbrev pub ComesFrom : CommandFault → Type 0 → Type 0 → Type 0
 ComesFrom Read cannot_read writer_failed = cannot_read
 ComesFrom Write cannot_read writer_failed = writer_failed
 ComesFrom Memory cannot_read writer_failed = Unit {0}
--- a check reads no script, and serves nothing
+-- a check reads no script, gives no image, and serves nothing
 ComesFrom (Script line) cannot_read writer_failed = ⊥
+ComesFrom (Unsound rule page) cannot_read writer_failed = ⊥
 ComesFrom (Lost number) cannot_read writer_failed = ⊥
+
+-- No image was loaded: what the reader gives cannot be read whole; or its bytes break this rule at this page, as a check says.
+abbrev pub CannotLoad : CommandFault → Option ℕ → Option (List ℕ) → Option (List ℕ) → Type 0 → Type 0
+CannotLoad Read length old new reader_failed = CannotRead length old new reader_failed
+CannotLoad (Unsound rule page) length old new reader_failed = (bytes : List ℕ) × ReadsAll old new bytes × HasLength length bytes × Breaks bytes rule page
+CannotLoad Memory length old new reader_failed = Unit {0}
+-- loading writes nothing, reads no script and serves nothing
+CannotLoad Write length old new reader_failed = ⊥
+CannotLoad (Script line) length old new reader_failed = ⊥
+CannotLoad (Lost number) length old new reader_failed = ⊥
 
 -- Nothing was written but, where the writer failed, a beginning of the line.
 abbrev pub Leaves : CommandFault → Option (List ℕ) → Option (List ℕ) → List ℕ → Type 0
@@ -52,4 +63,5 @@ Leaves Read old new line = Keeps old new
 Leaves Write old new line = StartsOut old new line
 Leaves Memory old new line = Keeps old new
 Leaves (Script number) old new line = ⊥
+Leaves (Unsound rule page) old new line = ⊥
 Leaves (Lost number) old new line = ⊥

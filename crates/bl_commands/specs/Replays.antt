@@ -6,7 +6,7 @@ use Rattle.bl_script.specs.declared.command.Command.{Command}
 use Rattle.bl_script.specs.Scripts.{IsScript, IsBadAt}
 use Rattle.bl_replay.specs.Plays.{all_kinds, PlaysOut, PlaysInto}
 use Rattle.bl_commands.specs.declared.fault.CommandFault.{CommandFault}
-use Rattle.bl_commands.specs.declared.fault.CommandFault.TheVariants.{Read, Write, Memory, Script, Lost}
+use Rattle.bl_commands.specs.declared.fault.CommandFault.TheVariants.{Read, Write, Memory, Script, Unsound, Lost}
 
 -- All bytes are a script, and its text was written.
 pub record Replays (bytes : List ℕ) (at_end : Type 0) (old new : Option (List ℕ)) : Type 0 where
@@ -35,5 +35,6 @@ StopsReplay Read bytes at_end reader_failed writer_failed old new = reader_faile
 StopsReplay Write bytes at_end reader_failed writer_failed old new = writer_failed × BreaksInto bytes at_end old new
 StopsReplay Memory bytes at_end reader_failed writer_failed old new = (new ≡ old) ⊎ BreaksInto bytes at_end old new
 StopsReplay (Script line) bytes at_end reader_failed writer_failed old new = IsBadAt all_kinds bytes at_end line × (new ≡ old)
--- a replay serves nothing
+-- a replay loads no image and serves nothing
+StopsReplay (Unsound rule page) bytes at_end reader_failed writer_failed old new = ⊥
 StopsReplay (Lost number) bytes at_end reader_failed writer_failed old new = ⊥

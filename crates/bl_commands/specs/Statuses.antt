@@ -14,12 +14,14 @@ use Rattle.bl_commands.specs.declared.dump.DumpFault.TheVariants as dump
 use Rattle.bl_commands.specs.declared.fault.CommandFault.{CommandFault}
 use Rattle.bl_commands.specs.declared.fault.CommandFault.TheVariants as command
 
--- 3 where reading or writing failed or a script was bad, 4 where there was no memory, 5 where a request was lost
+-- 1 where an image was not sound, 3 where reading or writing failed or a script was bad, 4 where there was no memory, 5 where a
+-- request was lost
 abbrev pub status_of : CommandFault → ℕ
 status_of command.Read = 3
 status_of command.Write = 3
 status_of command.Memory = 4
 status_of (command.Script line) = 3
+status_of (command.Unsound rule page) = 1
 status_of (command.Lost number) = 5
 
 -- the same where the image did not come to stand in its file

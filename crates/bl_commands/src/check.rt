@@ -19,6 +19,24 @@ use std::rt::Files;
 /// How many bytes one call reads at most.
 const PIECE: usize = 16_384;
 
+/// All bytes of a reader. Where their number is known and another number is read, the read has failed.
+pub(crate) fn read_told<R: Read>(
+    alloc: Global,
+    reader: &mut Watched<R>,
+    length: Option<u64>,
+) -> Result<Vec<u8>, CommandFault>
+    ensures ok { IfOk result (λ bytes. ReadsAll (R.remaining reader.old.inner) (R.remaining reader.new.inner) bytes.items
+        × HasLength length bytes.items) }
+    ensures fault { IfErr result (λ fault. ComesFrom fault
+        (CannotRead length (R.remaining reader.old.inner) (R.remaining reader.new.inner) (reader.new.failed ≡ true)) ⊥) }
+{
+    let bytes = read_whole(alloc, reader)?;
+    if length.is_some_and(|length| length != bytes.len() as u64) {
+        return Err(CommandFault::Read);
+    }
+    Ok(bytes)
+}
+
 /// All bytes of a reader.
 fn read_whole<R: Read>(alloc: Global, reader: &mut Watched<R>) -> Result<Vec<u8>, CommandFault>
     ensures ok { IfOk result (λ bytes.
@@ -105,14 +123,20 @@ pub fn check_image<R: Read, W: Write>(
     ensures left { IfErr result (λ fault. (line : List ℕ)
         × Leaves fault (W.contents writer.old.inner) (W.contents writer.new.inner) line) }
 {
-    let bytes = read_whole(alloc, reader)?;
-    if length.is_some_and(|length| length != bytes.len() as u64) {
-        return Err(CommandFault::Read);
-    }
+    let bytes = read_told(alloc, reader, length)?;
     let (sound, line) = verdict(alloc, bytes.as_slice())?;
     match write_out(writer, line.as_bytes()) {
         Ok(()) => Ok(sound),
         Err(_) => Err(CommandFault::Write),
+    }
+}
+
+/// The length of a file, which a pipe or a device has not.
+pub(crate) fn length_of<F: OpenFile>(file: &F) -> Result<Option<u64>, CommandFault> {
+    match file.metadata() {
+        Ok(metadata) if metadata.is_file() => Ok(Some(metadata.len())),
+        Ok(_) => Ok(None),
+        Err(_) => Err(CommandFault::Read),
     }
 }
 
@@ -125,13 +149,6 @@ pub fn check_file<R: Files + AllocGlobal, W: Write>(
     let Ok(file) = fs::open(rt, path) else {
         return Err(CommandFault::Read);
     };
-    let Ok(metadata) = file.metadata() else {
-        return Err(CommandFault::Read);
-    };
-    let length = if metadata.is_file() {
-        Some(metadata.len())
-    } else {
-        None
-    };
+    let length = length_of(&file)?;
     check_image(rt.alloc(), &mut Watched::new(file), length, writer)
 }

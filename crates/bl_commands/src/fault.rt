@@ -22,6 +22,10 @@ pub enum CommandFault {
     /// This line of the script, counted from 1, is the first that is bad.
     #[error("blink: bad script line {0}")]
     Script(u64),
+    /// The image that a server is to begin with is not sound: the least rule that is broken, and the least page that breaks it.
+    /// Its text is the line that `check` prints.
+    #[error("fault C{0} page {1}")]
+    Unsound(u32, u32),
     /// The server lost the answer of a line, or had it twice; this is the least such line.
     #[error("blink: lost request {0}")]
     Lost(u64),
@@ -34,6 +38,7 @@ impl CommandFault {
     {
         match self {
             CommandFault::Read | CommandFault::Write | CommandFault::Script(_) => 3,
+            CommandFault::Unsound(..) => 1,
             CommandFault::Memory => 4,
             CommandFault::Lost(_) => 5,
         }

@@ -1,11 +1,12 @@
 //! What an image holds.
 
-ghost use Rattle.std.specs.Prelude.{◌≡◌, ◌≤◌, [], length, map, vec_capacity};
+ghost use Rattle.std.specs.Prelude.{◌≡◌, ◌≤◌, [], length, map, vec_capacity, IfOk, OnOk};
 ghost use Rattle.std.specs.List.{AllByRecursion};
 ghost use Rattle.bl_image.specs.Images.{IsCount, IsSpelled, Fits64, page_words};
 
-use crate::words::page_in;
+use crate::words::{page_in, words_of};
 use bl_page::Page;
+use std::alloc::{AllocError, Global};
 
 /// The pages of an index at rest.
 #[derive(Drop)]
@@ -28,6 +29,18 @@ fn page_of(words: &[u64; 32]) -> Option<Page>
     }
 }
 
+/// The words of all these pages.
+fn words_in(alloc: Global, pages: &[Option<Page>]) -> Result<Vec<[u64; 32]>, AllocError>
+    ensures words { IfOk result (λ v. v.items ≡ map page_words pages.now) }
+    ensures fits { OnOk result (AllByRecursion (λ page. Fits64 (page_words page)) pages.now) }
+{
+    let mut words = Vec::with_capacity(alloc, pages.len())?;
+    for page in pages {
+        words.push(words_of(page))?;
+    }
+    Ok(words)
+}
+
 impl Image {
     /// The image of pages with these words, 4 to 65,536 of them, each by its number: those of a page, or zeros where it is
     /// not in use. It takes an empty vector with room for all pages, and no memory.
@@ -44,5 +57,13 @@ impl Image {
             pages.push_reserved(page_of(page));
         }
         Image { pages }
+    }
+
+    /// The words of each page, by its number: zeros where it is not in use.
+    pub fn to_words(&self, alloc: Global) -> Result<Vec<[u64; 32]>, AllocError>
+        ensures words { IfOk result (λ v. v.items ≡ map page_words self.now.pages.items) }
+        ensures fits { OnOk result (AllByRecursion (λ page. Fits64 (page_words page)) self.now.pages.items) }
+    {
+        words_in(alloc, self.pages.as_slice())
     }
 }

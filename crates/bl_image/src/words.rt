@@ -1,6 +1,6 @@
 //! The bytes of one page.
 
-ghost use Rattle.std.specs.Prelude.{◌≡◌, ◌+◌, ◌*◌, ◌≤◌, ◌↔◌, Option, Some, length, replicate, IfSome, IsTrue, MatchOption};
+ghost use Rattle.std.specs.Prelude.{◌≡◌, ◌+◌, ◌*◌, ◌≤◌, ◌↔◌, true, Option, Some, length, replicate, IfSome, IsTrue, MatchOption};
 ghost use Rattle.bl_page.specs.declared.page.Page.{Page};
 ghost use Rattle.bl_image.specs.Images.{word_bytes, page_words, page_bytes, ArePage, Fits64, chunk};
 
@@ -19,14 +19,25 @@ pub fn words_in(bytes: &[u8]) -> [u64; 32]
     words
 }
 
+/// Whether each word is of 64 bits, as those of an image have to be. All are: what is promised is that they are.
+fn are_of_64_bits(words: &[u64; 32]) -> bool
+    ensures same { result ≡ true }
+    ensures fits { Fits64 words.now }
+{
+    words.iter().all(|word| *word <= u64::MAX)
+}
+
 /// The words of a page, zeros where it is not in use.
 pub fn words_of(page: &Option<Page>) -> [u64; 32]
-    ensures { result ≡ page_words page.now }
+    ensures words { result ≡ page_words page.now }
+    ensures fits { Fits64 result }
 {
-    match page {
+    let words = match page {
         Some(page) => page.to_words(),
         None => [0; 32],
-    }
+    };
+    are_of_64_bits(&words);
+    words
 }
 
 /// The bytes that spell words.

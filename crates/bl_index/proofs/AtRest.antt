@@ -1,5 +1,5 @@
 -- A store of passes at its end: no process runs, nobody holds a page, and what is left of the pages is a sound image.
-use Rattle.std.proofs.Common.{ℕ, zero, suc, ◌≡◌, ◌≢◌, ◌⊎◌, ◌<◌, ◌≤◌, Option, None, Some, List, [], ◌∷◌, length, map, replicate, get_or, refl, sym, ap, ◌∙◌, subst, inl, inr, arith}
+use Rattle.std.proofs.Common.{ℕ, zero, suc, ◌≡◌, ◌≢◌, ◌<◌, Option, None, Some, List, [], ◌∷◌, length, map, replicate, refl, sym, ap, ◌∙◌, subst, inl, inr, arith}
 use Rattle.std.specs.List.{AllByRecursion}
 use Rattle.std.proofs.lemmas.Bool.{cases_lt}
 use Rattle.std.proofs.lemmas.List.{get_or_past}
@@ -14,24 +14,21 @@ use Rattle.bl_page.specs.Machine.{Name}
 use Rattle.bl_page.specs.Machine as machine
 use Rattle.bl_image.specs.Images.{IsCount, IsSpelled, page_words, image_bytes}
 use Rattle.bl_image.proofs.Chunks.{no_kind, pages_words-same}
-use Rattle.bl_check.specs.Rows.{AreRowsOf}
 use Rattle.bl_check.specs.Rules.{AreSound}
 use Rattle.bl_check.specs.Spans.{page_at}
-use Rattle.bl_tree.specs.Trees.{Status}
-use Rattle.bl_tree.specs.Trees.Status.{Free, Live, Anchored}
 use Rattle.bl_tree.proofs.Statuses.{live_live}
 use Rattle.bl_laws.specs.Pages.{IsTreePage}
 use Rattle.bl_trails.specs.Trails.{history_of}
 use Rattle.bl_trails.specs.States.{HasMoments}
-use Rattle.bl_steps.specs.Worlds.{Stage, Know, World, HoldsPage, IsStage}
+use Rattle.bl_steps.specs.Worlds.{World}
 use Rattle.bl_starts.proofs.WorldLaws.{tree_page}
 use Rattle.bl_quiet.specs.Begins.{IsLeft, AreLeft}
 use Rattle.bl_quiet.proofs.Beginnings.{AllFit}
 use Rattle.bl_quiet.proofs.Opened.{one_list}
 use Rattle.bl_quiet.proofs.Resting.{rests_sound, rests_map}
-use Rattle.bl_tables.specs.Knowing.{Run, bare as know_bare}
+use Rattle.bl_tables.specs.Knowing.{Run}
 use Rattle.bl_layout.specs.declared.layout.Layout.{Layout}
-use Rattle.bl_store.specs.Pages.{Owner, Released, Open, Held, Retired, Stage as Stands_at, Idle, Running, Pages, Stands, IsPage}
+use Rattle.bl_store.specs.Pages.{Owner, Released, Open, Held, Retired, Stage as Stands_at, Idle, Running, Stands, IsPage}
 use Rattle.bl_store.specs.Closing.{HasEach, left_of, IsClosed}
 use Rattle.bl_store.specs.Hands.{known, IsOf, IsIdle}
 use Rattle.bl_store.specs.declared.store.Hand.{Hand}
@@ -39,7 +36,7 @@ use Rattle.bl_passes.proofs.Shown.{at_below}
 use Rattle.bl_index.proofs.Gathered.{there, one_there, all_there}
 use Rattle.bl_passes.specs.declared.known.Mine.{Mine}
 use Rattle.bl_passes.specs.Seeing.{first_map, BeginsFrom, AreWithin}
-use Rattle.bl_passes.specs.Fitting.{Shows, IsAnchor, owner_in, IsHand, Fits}
+use Rattle.bl_passes.specs.Fitting.{Shows, IsAnchor, IsHand, Fits}
 use Rattle.bl_index.specs.declared.index.Index.{Index}
 use Rattle.bl_index.specs.declared.index.Pass.{Pass}
 use Rattle.bl_index.specs.Calls.{pages_of, first_of, IsPassOf, number_of}

@@ -1,5 +1,5 @@
 -- Pages and hands of a new index, one after another.
-use Rattle.std.proofs.Common.{ℕ, zero, suc, ◌≡◌, ◌⊎◌, ◌+◌, ◌<◌, ◌++◌, Option, List, [], ◌∷◌, length, refl, sym, ap, ◌∙◌, subst, inl, inr, ⊎_elim, arith, map, take}
+use Rattle.std.proofs.Common.{ℕ, zero, suc, ◌≡◌, ◌⊎◌, ◌+◌, ◌<◌, ◌++◌, Option, List, [], ◌∷◌, length, refl, sym, ap, ◌∙◌, subst, inl, inr, ⊎_elim, arith}
 use Rattle.std.specs.Prelude.{slice_index_or, remove}
 use Rattle.std.proofs.lemmas.List.{length-append}
 use mathlib.Core.Option.{some, some-injective, some-ne-none}
@@ -7,7 +7,6 @@ use lib.ListN.{get_elem?}
 use Rattle.atomic_table.specs.Seated.{TableId}
 use Rattle.bl_layout.specs.declared.layout.Layout.{Layout}
 use Rattle.bl_page.specs.declared.page.Page.{Page}
-use Rattle.bl_image.specs.Images.{page_words}
 use Rattle.bl_store.specs.declared.store.Hand.{Hand}
 use Rattle.bl_passes.specs.declared.known.Mine.{Mine}
 use Rattle.bl_index.specs.declared.index.Pass.{Pass}
@@ -45,11 +44,3 @@ module _ (table : TableId) (layout : Layout) (first : List (Option Page)) where
         (λ (t : (n ≡ length passes) × (pass ≡ p)). subst (λ (z : ℕ × Pass). IsNewHand table layout first z.0 z.1.hand) (λ i. ((sym f.count ∙ sym t.0) i, t.1 i)) is)
         (at_push passes pass p n (ap (λ (z : List Pass). get_elem? z n) (sym e) ∙ at));
   }
-
--- the words of the pages of an image, one after another
-map_push : (pages : List (Option Page)) (page : Option Page) → map page_words (pages ++ page ∷ []) ≡ map page_words pages ++ page_words page ∷ []
-map_push [] page = refl
-map_push (first ∷ pages) page = ap (λ (z : List (List ℕ)). page_words first ∷ z) (map_push pages page)
-
-pub words_push : (words new : List (List ℕ)) (w : List ℕ) (pages : List (Option Page)) (page : Option Page) (i : ℕ) → take (i + 1) pages ≡ take i pages ++ page ∷ [] → new ≡ words ++ w ∷ [] → w ≡ page_words page → words ≡ map page_words (take i pages) → new ≡ map page_words (take (i + 1) pages)
-words_push words new w pages page i more pushed is so_far = pushed ∙ ((λ k. so_far k ++ is k ∷ []) ∙ (sym (map_push (take i pages) page) ∙ ap (map page_words) (sym more)))

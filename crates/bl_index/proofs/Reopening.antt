@@ -1,7 +1,6 @@
 -- An index that is opened from a sound image.
-use Rattle.std.proofs.Common.{◌≡◌, ◌≤◌, ℕ, List, Option, length, map, refl, ap, ◌∙◌, subst}
-use Rattle.bl_page.specs.declared.page.Page.{Page}
-use Rattle.bl_image.specs.Images.{IsImage, page_words, image_bytes}
+use Rattle.std.proofs.Common.{◌≡◌, ℕ, List, length, refl, subst}
+use Rattle.bl_image.specs.Images.{IsImage, image_bytes}
 use Rattle.bl_image.specs.declared.image.Image.{Image}
 use Rattle.bl_check.specs.Rules.{AreSound}
 use Rattle.bl_quiet.proofs.Beginnings.{AllFit}

@@ -1,14 +1,13 @@
 -- What a hand was refused that found no room, from one event of its process to the next.
-use Rattle.std.proofs.Common.{ℕ, ◌≡◌, ◌≢◌, ◌⊎◌, None, Some, inl, inr, refl, sym, ap, subst, ◌∙◌}
+use Rattle.std.proofs.Common.{ℕ, ◌≡◌, ◌≢◌, None, Some, inl, inr, refl, sym, subst, ◌∙◌}
 use Rattle.atomic_table.specs.declared.shared.Seat.{Seat}
-use Rattle.bl_ways.specs.declared.acts.Action.{Action}
 use Rattle.bl_ways.specs.declared.acts.Action.TheVariants as act
 use Rattle.bl_ways.specs.declared.acts.Seen.{Seen}
 use Rattle.bl_ways.specs.declared.acts.Seen.TheVariants as seen
 use Rattle.bl_page.specs.declared.page.Page.{Page}
 use Rattle.bl_proc.specs.declared.kinds.Proc.{Proc}
 use Rattle.bl_proc.specs.Processes.{next_of, needs_of, Takes}
-use Rattle.bl_courses.specs.Refusals.{IsRefused, PutsRefused, MayAsk}
+use Rattle.bl_courses.specs.Refusals.{IsRefused, PutsRefused}
 use Rattle.bl_courses.proofs.RefusedTurns.{takes_refused, takes_puts}
 use Rattle.bl_courses.proofs.RefusedNexts.{refused_opens, may_ask, may_ask_on}
 use Rattle.bl_store.specs.declared.view.View.{View}

@@ -1,8 +1,6 @@
 //! An index is made.
 
-ghost use Rattle.std.specs.Prelude.{◌≡◌, ◌≤◌, true, [], length, map, IfOk, OnOk, IfErr};
-ghost use Rattle.std.specs.List.{AllByRecursion};
-ghost use Rattle.bl_image.specs.Images.{Fits64, page_words};
+ghost use Rattle.std.specs.Prelude.{◌≡◌, ◌≤◌, [], length, IfOk, IfErr};
 ghost use Rattle.bl_store.specs.Opening.{first_pages as store_pages};
 ghost use Rattle.bl_passes.specs.Seeing.{IsSeen};
 ghost use Rattle.bl_passes.specs.Fitting.{beginner as unborn_pass, Fits};
@@ -87,39 +85,6 @@ fn beginner(alloc: Global, first: Beginning<Page>) -> Mine
         past: LinkedList::new(alloc),
         trail: LinkedList::new(alloc),
     }
-}
-
-/// Whether the words are of 64 bits, which those of an image have to be. All are.
-fn are_of_64_bits(words: &[u64; 32]) -> bool
-    ensures same { result ≡ true }
-    ensures fits { Fits64 words.now }
-{
-    words.iter().all(|word| *word <= u64::MAX)
-}
-
-/// The words of a page of an image, zeros where it is not in use.
-fn words_of(page: &Option<Page>) -> [u64; 32]
-    ensures words { result ≡ page_words page.now }
-    ensures fits { Fits64 result }
-{
-    let words = match page {
-        Some(page) => page.to_words(),
-        None => [0; 32],
-    };
-    are_of_64_bits(&words);
-    words
-}
-
-/// The words of all its pages.
-fn words_in(alloc: Global, pages: &[Option<Page>]) -> Result<Vec<[u64; 32]>, AllocError>
-    ensures words { IfOk result (λ v. v.items ≡ map page_words pages.now) }
-    ensures fits { OnOk result (AllByRecursion (λ page. Fits64 (page_words page)) pages.now) }
-{
-    let mut words = Vec::with_capacity(alloc, pages.len())?;
-    for page in pages {
-        words.push(words_of(page))?;
-    }
-    Ok(words)
 }
 
 /// A pass of each hand.
@@ -226,7 +191,7 @@ impl Index {
         ensures { IfOk result (λ t. IsReopened quiet.now.image.pages.items passes t.0 t.1.items) }
     {
         let image = quiet.image();
-        let words = words_in(alloc, image.pages.as_slice())?;
+        let words = image.to_words(alloc)?;
         Self::begun(alloc, words.as_slice(), passes, &image.pages)
     }
 }

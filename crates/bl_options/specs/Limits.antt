@@ -5,8 +5,8 @@ use Rattle.bl_options.specs.declared.command.Invocation.TheVariants.{Serve, Dump
 
 -- what is asked for, with its options within their limits
 abbrev pub IsWithinLimits : Invocation → Type 0
-IsWithinLimits (Serve options) = AreWithin options
-IsWithinLimits (Dump options file) = AreWithin options
+IsWithinLimits (Serve server) = AreWithin server.options
+IsWithinLimits (Dump server file) = AreWithin server.options
 IsWithinLimits (Check file) = Unit {0}
 IsWithinLimits (Replay file) = Unit {0}
 IsWithinLimits Nothing = Unit {0}

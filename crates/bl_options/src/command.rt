@@ -7,15 +7,24 @@ ghost use Rattle.bl_options.specs.Limits.{IsWithinLimits};
 use crate::texts::{ABOUT_ALL, ABOUT_CHECK, ABOUT_DUMP, ABOUT_REPLAY, ABOUT_SERVE, VERSION};
 use bl_lines::ServeOptions;
 use clap::{Arg, ArgAction, ArgMatches, Command, Error, value_parser};
-use std::alloc::Global;
+use std::alloc::{AllocError, Global};
+
+/// A server that the command line asks for.
+#[derive(Debug, PartialEq, Eq, Drop)]
+pub struct Server {
+    /// Its options. With an image their pages say nothing.
+    pub options: ServeOptions,
+    /// The file of the image that it begins with; without one it begins without rows.
+    pub image: Option<String>,
+}
 
 /// What the command line asks for.
 #[derive(Debug, PartialEq, Eq, Drop)]
 pub enum Invocation {
     /// `blink serve`.
-    Serve(ServeOptions),
+    Serve(Server),
     /// `blink dump` to this file.
-    Dump(ServeOptions, String),
+    Dump(Server, String),
     /// `blink check` of this file.
     Check(String),
     /// `blink replay` of this file.
@@ -44,7 +53,18 @@ fn with_options<'a>(alloc: Global, command: Command<'a>) -> Result<Command<'a>, 
         .help("Threads that merge thin pages, 0 to 16")
         .value_parser(value_parser!(u32).range(0..=16))
         .default_value("1");
-    Ok(command.arg(pages)?.arg(workers)?.arg(compressors)?)
+    let image = Arg::new(alloc, "image")
+        .long("image")
+        .value_name("FILE")
+        .help("Begin with the rows and the pages of this image, in place of an empty index")
+        .conflicts_with("pages")?;
+    Ok(
+        command
+            .arg(pages)?
+            .arg(workers)?
+            .arg(compressors)?
+            .arg(image)?,
+    )
 }
 
 /// The command line of `serve`.
@@ -68,16 +88,21 @@ fn dump_command<'a>(alloc: Global) -> Result<Command<'a>, Error> {
     with_options(alloc, command)
 }
 
-/// The options that clap has found. It has refused a value outside the limits; they are kept here too, since its answer is
+/// The server that clap has found. It has refused a value outside the limits; they are kept here too, since its answer is
 /// not known to the proof.
-fn options_of(found: &ArgMatches) -> ServeOptions
-    ensures { AreWithin result }
+fn server_of(alloc: Global, found: &ArgMatches) -> Result<Server, AllocError>
+    ensures { IfOk result (λ server. AreWithin server.options) }
 {
-    ServeOptions::of(
+    let options = ServeOptions::of(
         found.get_one::<u32>("pages"),
         found.get_one::<u32>("workers"),
         found.get_one::<u32>("compressors"),
-    )
+    );
+    let image = match found.get_str("image") {
+        Some(file) => Some(String::from_str(alloc, file)?),
+        None => None,
+    };
+    Ok(Server { options, image })
 }
 
 /// The command line of `check`.
@@ -124,9 +149,12 @@ pub fn read_words(alloc: Global, words: &[String]) -> Result<Invocation, Error>
         .subcommand(replay_command(alloc)?)?;
     let matches = blink.try_get_matches_from(words)?;
     match matches.subcommand() {
-        Some(("serve", found)) => Ok(Invocation::Serve(options_of(found))),
+        Some(("serve", found)) => Ok(Invocation::Serve(server_of(alloc, found)?)),
         Some(("dump", found)) => match found.get_str("FILE") {
-            Some(file) => Ok(Invocation::Dump(options_of(found), String::from_str(alloc, file)?)),
+            Some(file) => Ok(Invocation::Dump(
+                server_of(alloc, found)?,
+                String::from_str(alloc, file)?,
+            )),
             None => Ok(Invocation::Nothing),
         },
         Some(("check", found)) => match found.get_str("FILE") {

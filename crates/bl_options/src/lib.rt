@@ -8,4 +8,4 @@ mod command;
 mod texts;
 
 pub use bl_lines::ServeOptions;
-pub use command::{Invocation, read_words};
+pub use command::{Invocation, Server, read_words};

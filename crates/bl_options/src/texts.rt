@@ -5,7 +5,7 @@ pub(crate) const VERSION: &str = "0.1.0, proved with rattle-kit-13b logic dac820
 
 /// Of all commands.
 pub(crate) const ABOUT_ALL: &str = "\
-Exit status: 0 all is well; 1 check found a broken rule; 2 the command line is refused; 3 reading or writing failed, or a \
+Exit status: 0 all is well; 1 an image breaks a rule; 2 the command line is refused; 3 reading or writing failed, or a \
 script is bad; 4 out of memory; 5 the answer of a request was lost.
 
 `blink help COMMAND` has the lines that a command reads, and examples.";
@@ -16,6 +16,7 @@ Request lines, in lower case with one space between words; numbers are 0 to 1844
   find K          found V, or absent
   insert K V      inserted; or present V, with the value that stays; or noroom
   delete K        deleted V, or absent; or noroom
+  scan LO HI      rows K=V K=V, the rows from key LO on and below key HI, by rising keys
   sync            synced: the end of a section
 Any other line is malformed. Each reply stands behind the number of its line. Replies are written at each sync and at \
 the end of the input. All requests before a sync are carried out before those behind it; requests between two syncs are \
@@ -25,8 +26,12 @@ Examples:
   printf 'insert 5 50\\nsync\\nfind 5\\n' | blink serve
   printf 'insert 5 50\\nfind 5\\n' | blink serve --workers 1
   blink serve --pages 65536 --workers 8 <requests >replies
+  blink serve --image index.image <requests >replies
 
-Exit status: 0 all is well; 3 reading or writing failed; 4 out of memory; 5 the answer of a request was lost.";
+With --image the index begins with the rows of the image, as `blink dump` writes it, and has as many pages; the file stays as it is.
+
+Exit status: 0 all is well; 1 the image breaks a rule, which standard error names as `blink check` does, and nothing is read; 3 \
+reading or writing failed; 4 out of memory; 5 the answer of a request was lost.";
 
 /// Of `dump`.
 pub(crate) const ABOUT_DUMP: &str = "\
@@ -37,8 +42,11 @@ the whole image, or what it had. `blink check FILE` says what is in it.
 Examples:
   printf 'insert 5 50\\n' | blink dump index.image
   blink dump index.image --pages 65536 <requests >replies
+  blink dump index.image --image index.image <requests >replies
 
-Exit status: 0 all is well; 3 reading or writing failed; 4 out of memory; 5 the answer of a request was lost. Where it is not 0, \
+With --image the index begins with the rows of that image, and has as many pages.
+
+Exit status: 0 all is well; 1 that image breaks a rule, which standard error names as `blink check` does; 3 reading or writing failed; 4 out of memory; 5 the answer of a request was lost. Where it is not 0, \
 FILE is as it was.";
 
 /// Of `check`.

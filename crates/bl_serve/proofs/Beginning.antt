@@ -1,46 +1,85 @@
--- The passes of a new index are together.
-use Rattle.std.proofs.Common.{◌≡◌, ℕ, suc, ◌+◌, List, [], ◌∷◌, Option, refl, sym, ap, ◌∙◌, subst, arith}
+-- The passes of a new index are together, and what they serve is served from the rows that it began with.
+use Rattle.std.proofs.Common.{◌≡◌, ℕ, suc, ◌+◌, List, [], ◌∷◌, Option, length, refl, sym, ap, ◌∙◌, subst, arith}
 use mathlib.Core.Option.{some}
 use lib.ListN.{get_elem?}
-use Rattle.bl_model.specs.Map.{Map, empty}
+use Rattle.bl_model.specs.Map.{Map}
+use Rattle.bl_model.specs.Rows.{map_of}
+use Rattle.bl_check.specs.declared.quiet.Quiet.{Quiet}
+use Rattle.bl_lines.specs.declared.serving.Totals.{Totals}
 use Rattle.bl_lines.specs.declared.serving.ServeFault.{ServeFault}
-use Rattle.bl_lines.specs.Served.{Stops}
+use Rattle.bl_lines.specs.Served.{Served, Stops}
 use Rattle.bl_page.specs.declared.page.Page.{Page}
 use Rattle.bl_trails.specs.Trails.{Trail}
-use Rattle.bl_index.specs.declared.config.Config.{Config}
+use Rattle.bl_passes.specs.Seeing.{first_map}
 use Rattle.bl_index.specs.declared.index.Index.{Index}
 use Rattle.bl_index.specs.declared.index.Pass.{Pass}
-use Rattle.bl_index.specs.Calls.{IsPassOf, number_of, trail, map_after}
-use Rattle.bl_index.specs.Opened.{IsOpened}
-use Rattle.bl_serve.specs.Serving.{AreFrom, AreTogether, seen_by}
+use Rattle.bl_index.specs.Calls.{first_of, IsPassOf, number_of, trail, map_after}
+use Rattle.bl_index.specs.Opened.{IsBegun, IsReopened}
+use Rattle.bl_serve.specs.declared.origin.Origin.{Origin}
+use Rattle.bl_serve.specs.declared.origin.Origin.TheVariants.{Empty, Image}
+use Rattle.bl_serve.specs.Begun.{IsBegunFrom}
+use Rattle.bl_serve.specs.Origins.{ServedFrom, StopsFrom, Stopped}
+use Rattle.bl_serve.specs.Serving.{AreFrom, AreTogether, Serves, seen_by}
 
-opened_from : (index : Index) (from : ℕ) (passes : List Pass) → ((n : ℕ) (pass : Pass) → get_elem? passes n ≡ some pass → IsPassOf index pass × (number_of pass ≡ from + n) × (trail pass ≡ [])) → AreFrom index [] from passes
-opened_from index from [] each = tt
-opened_from index from (p ∷ ps) each = let h = each 0 p refl in (
+-- ---- they are together
+
+begun_from : (index : Index) (from : ℕ) (passes : List Pass) → ((n : ℕ) (pass : Pass) → get_elem? passes n ≡ some pass → IsPassOf index pass × (number_of pass ≡ from + n) × (trail pass ≡ [])) → AreFrom index [] from passes
+begun_from index from [] each = tt
+begun_from index from (p ∷ ps) each = let h = each 0 p refl in (
   h.0,
   (let e = h.1 in omega arith),
   h.2,
-  opened_from index (suc from) ps (λ n q at. let r = each (suc n) q at in (r.0, (let e = r.1 in omega arith), r.2)),
+  begun_from index (suc from) ps (λ n q at. let r = each (suc n) q at in (r.0, (let e = r.1 in omega arith), r.2)),
 )
 
 none_seen : (passes : List Pass) → ((n : ℕ) (pass : Pass) → get_elem? passes n ≡ some pass → trail pass ≡ []) → seen_by passes ≡ []
 none_seen [] each = refl
 none_seen (p ∷ ps) each = each 0 p refl
 
-pub opened_unseen : (config : Config) (index : Index) (passes : List Pass) → IsOpened config index passes → seen_by passes ≡ []
-opened_unseen config index passes o = none_seen passes (λ n pass at. (o.each n pass at).2)
+module _ (image : List (Option Page)) (size among : ℕ) (index : Index) (passes : List Pass) (b : IsBegun image size among index passes) where
+  unseen : seen_by passes ≡ []
+  unseen = none_seen passes (λ n pass at. (b.each n pass at).2)
 
-pub opened_together : (config : Config) (index : Index) (passes : List Pass) → IsOpened config index passes → AreTogether index (seen_by passes) passes
-opened_together config index passes o = subst (λ (z : Trail). AreTogether index z passes) (sym (opened_unseen config index passes o)) (record {
-  count = o.count ∙ sym o.passes_are;
-  each = opened_from index 0 passes (λ n pass at. let r = o.each n pass at in (r.0, (let e = r.1 in omega arith), r.2));
-  may_be = o.seen;
-})
+  pub together : AreTogether index (seen_by passes) passes
+  together = subst (λ (z : Trail). AreTogether index z passes) (sym unseen) (record {
+    count = b.count ∙ sym b.passes_are;
+    each = begun_from index 0 passes (λ n pass at. let r = b.each n pass at in (r.0, (let e = r.1 in omega arith), r.2));
+    may_be = b.seen;
+  })
 
--- the map after what they have seen is the empty map
-pub empty_seen : (first : List (Option Page)) (olds : List Pass) → first ≡ [] → seen_by olds ≡ [] → map_after first (seen_by olds) ≡ empty
-empty_seen first olds new unseen = ap (λ (z : List (Option Page)). map_after z (seen_by olds)) new ∙ ap (map_after []) unseen
+-- ---- an index without rows, and one with those of an image
 
--- a server over them stops as one from the empty map
-pub stops_empty : (first : List (Option Page)) (olds : List Pass) (input output : List ℕ) (fault : ServeFault) (reader_failed writer_failed : Type 0) → first ≡ [] → seen_by olds ≡ [] → Stops (map_after first (seen_by olds)) input output fault reader_failed writer_failed → Stops empty input output fault reader_failed writer_failed
-stops_empty first olds input output fault reader_failed writer_failed new unseen s = subst (λ (m : Map). Stops m input output fault reader_failed writer_failed) (empty_seen first olds new unseen) s
+pub empty_begins : (pages among : ℕ) (index : Index) (passes : List Pass) → IsBegun [] pages among index passes → IsBegunFrom (Empty pages) among index passes
+empty_begins pages among index passes b = record {
+  pages = b.pages;
+  rows = [];
+  are_rows = refl;
+  map = ap first_map b.first;
+  many = b.count;
+  unseen = unseen [] pages among index passes b;
+  together = together [] pages among index passes b;
+}
+
+pub image_begins : (quiet : Quiet) (among : ℕ) (index : Index) (passes : List Pass) → IsReopened quiet.image.pages.items among index passes → IsBegunFrom (Image quiet) among index passes
+image_begins quiet among index passes r = let image = quiet.image.pages.items in record {
+  pages = r.begun.pages;
+  rows = r.rows;
+  are_rows = r.are_rows;
+  map = ap first_map r.begun.first ∙ (λ i key. sym (r.map key) i);
+  many = r.begun.count;
+  unseen = unseen image (length image) among index passes r.begun;
+  together = together image (length image) among index passes r.begun;
+}
+
+-- ---- they serve from those rows
+
+module _ (origin : Origin) (among : ℕ) (index : Index) (olds : List Pass) (b : IsBegunFrom origin among index olds) where
+  -- the map after what they have seen is that of the rows
+  pub rows_seen : map_after (first_of index) (seen_by olds) ≡ map_of b.rows
+  rows_seen = ap (map_after (first_of index)) b.unseen ∙ b.map
+
+  pub served_from : (news : List Pass) (input output : List ℕ) (totals : Totals) → Serves index olds news input output totals → ServedFrom origin input output totals
+  served_from news input output totals s = record { rows = b.rows; are_rows = b.are_rows; served = subst (λ (m : Map). Served m input output totals) rows_seen s.served.served }
+
+  pub stops_from : (input output : List ℕ) (fault : ServeFault) (reader_failed writer_failed : Type 0) → Stops (map_after (first_of index) (seen_by olds)) input output fault reader_failed writer_failed → StopsFrom origin input output fault reader_failed writer_failed
+  stops_from input output fault reader_failed writer_failed s = Stopped b.rows b.are_rows (subst (λ (m : Map). Stops m input output fault reader_failed writer_failed) rows_seen s)

@@ -7,7 +7,7 @@ use Rattle.std.specs.declared.alloc.AllocError.{AllocError}
 use mathlib.Core.Option.{some, some-ne-none}
 use lib.ListN.{get_elem?}
 use Rattle.bl_model.specs.declared.operation.Entry.{Entry}
-use Rattle.bl_model.specs.Map.{SameMap, empty}
+use Rattle.bl_model.specs.Map.{Map, SameMap}
 use Rattle.bl_model.specs.Rows.{map_of}
 use Rattle.bl_model.specs.History.{final_map, entries_of_pass}
 use Rattle.bl_model.proofs.Histories.{entries_of_pass-append, entries_of_pass-own}
@@ -21,8 +21,11 @@ use Rattle.bl_index.specs.declared.index.Index.{Index}
 use Rattle.bl_index.specs.declared.index.Pass.{Pass}
 use Rattle.bl_index.specs.Calls.{first_of, number_of, trail, pages_of, passes_of}
 use Rattle.bl_index.specs.Closed.{HasPass, AreAll, Closes}
-use Rattle.bl_serve.specs.Serving.{AreFrom, AreTogether, ServedBy}
-use Rattle.bl_serve.specs.Dumps.{HoldMapFrom}
+use Rattle.bl_serve.specs.Serving.{AreFrom, AreTogether, ServedBy, seen_by}
+use Rattle.bl_serve.specs.declared.origin.Origin.{Origin}
+use Rattle.bl_serve.specs.Begun.{IsBegunFrom}
+use Rattle.bl_serve.specs.Dumps.{HoldMapAfter}
+use Rattle.bl_serve.specs.Origins.{size_of, ServedFrom}
 use Rattle.bl_serve.proofs.Sections.{IsBelow, all_below, within_rest, own_more, history_append}
 
 -- ---- all passes are there
@@ -65,24 +68,27 @@ history_kept index seen passes pages any t c =
     append_cancel_left (own n seen) (entries_of_pass n (history_of more)) [] (sym (own_more seen c.whole more on.1 n) ∙ (same ∙ sym (append-nil (own n seen))))) in
     ap history_of on.1 ∙ (history_append seen more ∙ (ap (λ (z : List Entry). history_of seen ++ z) none ∙ append-nil (history_of seen)))
 
-pub hold_map : (index : Index) (seen : Trail) (passes : List Pass) (pages : List (Option Page)) → 0 < length passes → AreTogether index seen passes → Closes index passes pages → HoldMapFrom (first_of index) (history_of seen) (pages_of index) pages
+pub hold_map : (index : Index) (seen : Trail) (passes : List Pass) (pages : List (Option Page)) → 0 < length passes → AreTogether index seen passes → Closes index passes pages → HoldMapAfter (first_map (first_of index)) (history_of seen) (pages_of index) pages
 hold_map index seen passes pages any t c = record {
   count = c.count;
   rows = c.rows;
   are_rows = c.are_rows;
-  map = subst (λ (z : List Entry). SameMap (final_map (first_map (first_of index)) z) (map_of c.rows)) (history_kept index seen passes pages any t c) c.map;
+  same = subst (λ (z : List Entry). SameMap (final_map (first_map (first_of index)) z) (map_of c.rows)) (history_kept index seen passes pages any t c) c.map;
 }
 
 -- ---- the image is that of what was served
 
 -- an image with the map after the history, where there was memory for one
-abbrev pub Leaves : List (Option Page) → List Entry → ℕ → Result Quiet AllocError → Type 0
-Leaves first history many closed = IfOk closed (λ quiet. HoldMapFrom first history many quiet.image.pages.items)
+abbrev pub Leaves : Map → List Entry → ℕ → Result Quiet AllocError → Type 0
+Leaves map history many closed = IfOk closed (λ quiet. HoldMapAfter map history many quiet.image.pages.items)
 
 -- new passes have served, and then they were closed
-pub served_image : (first : List (Option Page)) (old now : Trail) (input output : List ℕ) (totals : Totals) (many : ℕ) (closed : Result Quiet AllocError) → first ≡ [] → old ≡ [] → ServedBy first old now input output totals → Leaves first (history_of now) many closed
-    → (served : Served empty input output totals) × Leaves [] (whole_history served) many closed
-served_image first old now input output totals many closed new unseen s left =
-    let t : ServedBy [] [] now input output totals = subst (λ (z : Trail). ServedBy [] z now input output totals) unseen (subst (λ (z : List (Option Page)). ServedBy z old now input output totals) new s) in
-    let l : Leaves [] (history_of now) many closed = subst (λ (z : List (Option Page)). Leaves z (history_of now) many closed) new left in
-    (t.served, subst (λ (z : List Entry). Leaves [] z many closed) (ap history_of t.begins ∙ t.history) l)
+pub served_image : (origin : Origin) (among : ℕ) (index : Index) (olds : List Pass) (now : Trail) (input output : List ℕ) (totals : Totals) (closed : Result Quiet AllocError)
+    → IsBegunFrom origin among index olds → ServedBy (first_of index) (seen_by olds) now input output totals → Leaves (first_map (first_of index)) (history_of now) (pages_of index) closed
+    → (from : ServedFrom origin input output totals) × Leaves (map_of from.rows) (whole_history from.served) (size_of origin) closed
+served_image origin among index olds now input output totals closed b s left =
+    let t : ServedBy (first_of index) [] now input output totals = subst (λ (z : Trail). ServedBy (first_of index) z now input output totals) b.unseen s in
+    let is = subst (λ (m : Map). (served : Served m input output totals) × (history_of t.more ≡ whole_history served)) b.map (t.served, t.history) in (
+      record { rows = b.rows; are_rows = b.are_rows; served = is.0 },
+      subst (λ (z : Map × List Entry × ℕ). Leaves z.0 z.1 z.2 closed) (λ i. (b.map i, (ap history_of t.begins ∙ is.1) i, b.pages i)) left,
+    )

@@ -1,20 +1,15 @@
 -- The image that a server leaves.
-use Rattle.std.specs.Prelude.{◌≡◌, ℕ, List, [], Option, length}
-use Rattle.bl_model.specs.Map.{SameMap}
+use Rattle.std.specs.Prelude.{◌≡◌, ℕ, List, Option, length}
+use Rattle.bl_model.specs.Map.{Map, SameMap}
 use Rattle.bl_model.specs.History.{final_map}
 use Rattle.bl_model.specs.Rows.{map_of}
 use Rattle.bl_model.specs.declared.operation.Entry.{Entry}
 use Rattle.bl_page.specs.declared.page.Page.{Page}
-use Rattle.bl_passes.specs.Seeing.{first_map}
 use Rattle.bl_check.specs.Rows.{AreRowsOf}
 
--- There are so many pages, and their rows are the map after the history, from the map that the index began with on.
-pub record HoldMapFrom (first : List (Option Page)) (history : List Entry) (many : ℕ) (pages : List (Option Page)) : Type 0 where
+-- There are so many pages, and their rows are the map after the history, from that map on.
+pub record HoldMapAfter (map : Map) (history : List Entry) (many : ℕ) (pages : List (Option Page)) : Type 0 where
   pub count : length pages ≡ many
   pub rows : List (ℕ × ℕ)
   pub are_rows : AreRowsOf pages rows
-  pub map : SameMap (final_map (first_map first) history) (map_of rows)
-
--- the same of an index that was opened empty
-abbrev pub HoldMapAfter : List Entry → ℕ → List (Option Page) → Type 0
-HoldMapAfter history many pages = HoldMapFrom [] history many pages
+  pub same : SameMap (final_map map history) (map_of rows)

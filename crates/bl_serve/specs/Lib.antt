@@ -8,3 +8,5 @@ pub mod Reading
 pub mod Sections
 pub mod Serving
 pub mod Dumps
+pub mod Origins
+pub mod Begun

@@ -1,5 +1,5 @@
 -- A section that was answered.
-use Rattle.std.specs.Prelude.{[], ◌≡◌, ℕ, ◌++◌, List, All, Option, flat_map, map, Result, Ok}
+use Rattle.std.specs.Prelude.{◌≡◌, ℕ, ◌++◌, List, All, Option, flat_map, map, Result, Ok}
 use Rattle.std.specs.List.{AllZip}
 use Rattle.std.specs.declared.alloc.AllocError.{AllocError}
 use Rattle.bl_model.specs.declared.operation.Entry.{Entry}

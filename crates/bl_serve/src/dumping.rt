@@ -2,15 +2,18 @@
 
 ghost use Rattle.std.specs.Prelude.{◌≡◌, ◌+◌, ◌<◌, ◌≤◌, ℕ, List, ◌++◌, true, vec_len, IfOk, MatchResult};
 ghost use Rattle.std.specs.Io.KnownBytes.{Appends, Consumes, IsAtEnd};
-ghost use Rattle.bl_model.specs.Map.{empty};
-ghost use Rattle.bl_lines.specs.Served.{Served, Stops, whole_history};
+ghost use Rattle.bl_model.specs.Rows.{map_of};
+ghost use Rattle.bl_lines.specs.Served.{whole_history};
 ghost use Rattle.bl_lines.specs.Streams.{EndsRead};
 ghost use Rattle.bl_trails.specs.Trails.{history_of};
+ghost use Rattle.bl_passes.specs.Seeing.{first_map};
 ghost use Rattle.bl_index.specs.Calls.{first_of, pages_of};
-ghost use Rattle.bl_serve.specs.Dumps.{HoldMapFrom, HoldMapAfter};
+ghost use Rattle.bl_serve.specs.Dumps.{HoldMapAfter};
+ghost use Rattle.bl_serve.specs.Origins.{HasPages, size_of, ServedFrom, StopsFrom};
 ghost use Rattle.bl_serve.specs.Serving.{AreTogether, seen_by};
 
 use crate::gate::OpenGate;
+use crate::origin::Origin;
 use crate::serving::serve;
 use crate::starting::open_index;
 use bl_check::Quiet;
@@ -26,7 +29,7 @@ use std::thread::Threads;
 fn shut(alloc: Global, index: Index, passes: Vec<Pass>) -> Result<Quiet, AllocError>
     requires some { 0 < vec_len passes }
     requires together { AreTogether index (seen_by passes.items) passes.items }
-    ensures { IfOk result (λ quiet. HoldMapFrom (first_of index) (history_of (seen_by passes.items)) (pages_of index) quiet.image.pages.items) }
+    ensures { IfOk result (λ quiet. HoldMapAfter (first_map (first_of index)) (history_of (seen_by passes.items)) (pages_of index) quiet.image.pages.items) }
 {
     match index.close(alloc, passes) {
         Ok(quiet) => Ok(quiet),
@@ -38,29 +41,29 @@ fn shut(alloc: Global, index: Index, passes: Vec<Pass>) -> Result<Quiet, AllocEr
 /// Serves as `serve_index` does, and where that ended without a fault closes the index: behind the totals stands its image,
 /// which is sound, or that there was no memory to close it.
 ///
-/// What was written is served for what was read, and the rows of the image are the map after the history of what was served:
-/// each answer that was written has its part in the image, and nothing else has.
+/// What was written is served for what was read, and the rows of the image are the map after the history of what was served,
+/// from the rows on that it began with: each answer that was written has its part in the image, and nothing else has.
 pub fn dump_index<T: Threads + Wait + Sync, R: Read, W: Write>(
     rt: &T,
     alloc: Global,
-    pages: u32,
+    origin: Origin,
     workers: u32,
     compressors: u32,
     reader: &mut Watched<R>,
     writer: &mut Watched<W>,
 ) -> Result<(Totals, Result<Quiet, AllocError>), ServeFault>
-    requires pages { (4 ≤ pages) × (pages ≤ 65536) }
+    requires pages { HasPages origin }
     requires passes { (1 ≤ workers) × (workers + compressors ≤ 64) }
     ensures { (input : List ℕ) × (ahead : List ℕ) × (output : List ℕ)
         × Consumes (R.remaining reader.old.inner) (R.remaining reader.new.inner) (input ++ ahead)
         × Appends (W.contents writer.old.inner) (W.contents writer.new.inner) output
         × MatchResult result
-        (λ t. (served : Served empty input output t.0)
-        × IfOk t.1 (λ quiet. HoldMapAfter (whole_history served) pages quiet.image.pages.items)
+        (λ t. (from : ServedFrom origin input output t.0)
+        × IfOk t.1 (λ quiet. HoldMapAfter (map_of from.rows) (whole_history from.served) (size_of origin) quiet.image.pages.items)
         × EndsRead input ahead (IsAtEnd (R.remaining reader.new.inner)))
-        (λ fault. Stops empty (input ++ ahead) output fault (reader.new.failed ≡ true) (writer.new.failed ≡ true)) }
+        (λ fault. StopsFrom origin (input ++ ahead) output fault (reader.new.failed ≡ true) (writer.new.failed ≡ true)) }
 {
-    let (index, passes) = open_index(alloc, pages, workers + compressors)?;
+    let (index, passes) = open_index(alloc, origin, workers + compressors)?;
     let workers = workers as usize;
     match serve(
         rt, alloc, &index, passes, reader, writer, &OpenGate, workers,

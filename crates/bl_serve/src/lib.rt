@@ -3,7 +3,7 @@
 //! The input is read section by section, up to each `sync`. A section's lines are shared by threads that each have a pass
 //! of the index: workers take batches of lines from a channel and answer them, and compressors follow the hints that the
 //! workers leave. When all have ended, the answers are put in the order of their lines and written, and only then is the
-//! next section read.
+//! next section read. An index of the server's own begins without rows or with those of a sound image.
 #![tactic(auto)]
 
 mod answering;
@@ -12,6 +12,7 @@ mod dumping;
 mod gate;
 mod joining;
 mod meeting;
+mod origin;
 mod reading;
 mod rounds;
 mod serving;
@@ -22,5 +23,6 @@ pub use bl_lines::{ServeFault, Totals};
 pub use compressing::follow_hint;
 pub use dumping::dump_index;
 pub use gate::{Gate, OpenGate};
+pub use origin::Origin;
 pub use serving::serve;
 pub use starting::serve_index;

@@ -1,6 +1,6 @@
 //! The command `check` over bytes, over streams that fail, and over paths that are no file.
 
-use bl_commands::{CommandFault, check_file, check_image};
+use bl_commands::{CommandFault, check_file, check_image, load_file, load_image};
 use bl_model::Watched;
 use bl_options::{Invocation, read_words};
 use std::alloc::Global;
@@ -159,6 +159,41 @@ fn paths_that_are_no_file(rt: HostRuntime) {
             "{path}"
         );
         assert!(rt; writer.into_inner().is_empty());
+    }
+}
+
+/// The pages of the image that these bytes are.
+fn loaded(alloc: Global, bytes: &[u8], length: Option<u64>) -> Result<usize, CommandFault> {
+    let mut reader = Watched::new(bytes);
+    let quiet = load_image(alloc, &mut reader, length)?;
+    Ok(quiet.image().pages.len())
+}
+
+#[test]
+fn an_image_is_loaded_or_refused(rt: HostRuntime) {
+    let alloc = rt.alloc();
+    assert_eq!(rt; loaded(alloc, &split(&[]), Some(2080)), Ok(8));
+    assert_eq!(rt; loaded(alloc, &split(&[]), None), Ok(8));
+    assert_eq!(rt;
+        loaded(alloc, &split(&[]), Some(2079)),
+        Err(CommandFault::Read)
+    );
+    assert_eq!(rt; loaded(alloc, b"", None), Err(CommandFault::Unsound(1, 0)));
+    assert_eq!(rt;
+        loaded(alloc, &split(&[(856, 1)]), None),
+        Err(CommandFault::Unsound(7, 3))
+    );
+    let mut reader = Watched::new(Failing { left: 100 });
+    assert_eq!(rt;
+        load_image(alloc, &mut reader, None).err(),
+        Some(CommandFault::Read)
+    );
+    for path in ["/", "no such file", ""] {
+        assert_eq!(rt;
+            load_file(&rt, path).err(),
+            Some(CommandFault::Read),
+            "{path}"
+        );
     }
 }
 

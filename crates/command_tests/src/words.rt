@@ -2,7 +2,7 @@
 
 use bl_commands::{CommandFault, DumpFault};
 use bl_lines::ServeFault;
-use bl_options::{Invocation, ServeOptions, read_words};
+use bl_options::{Invocation, ServeOptions, Server, read_words};
 use std::alloc::Global;
 use std::test::Fail;
 
@@ -13,6 +13,20 @@ fn words(alloc: Global, text: &str) -> Result<Vec<String>, Fail> {
         words.push(String::from_str(alloc, word)?)?;
     }
     Ok(words)
+}
+
+/// A server with these options that begins without rows.
+fn without_image(options: ServeOptions) -> Server {
+    Server {
+        options,
+        image: None,
+    }
+}
+
+/// A server with these options that begins with the image.
+fn with_image(alloc: Global, options: ServeOptions, file: &str) -> Result<Server, Fail> {
+    let image = Some(String::from_str(alloc, file)?);
+    Ok(Server { options, image })
 }
 
 /// What a command line asks for, None where clap refuses it.
@@ -29,7 +43,7 @@ fn words_of_the_command_line(rt: HostRuntime) -> Result<(), Fail> {
     };
     assert_eq!(rt;
         invoked(rt.alloc(), "blink serve")?,
-        Some(Invocation::Serve(plain))
+        Some(Invocation::Serve(without_image(plain)))
     );
     let least = ServeOptions {
         pages: 4,
@@ -41,7 +55,7 @@ fn words_of_the_command_line(rt: HostRuntime) -> Result<(), Fail> {
             rt.alloc(),
             "blink serve --pages 4 --workers 1 --compressors 0"
         )?,
-        Some(Invocation::Serve(least))
+        Some(Invocation::Serve(without_image(least)))
     );
     let most = ServeOptions {
         pages: 65536,
@@ -53,20 +67,26 @@ fn words_of_the_command_line(rt: HostRuntime) -> Result<(), Fail> {
             rt.alloc(),
             "blink serve --pages 65536 --workers 32 --compressors 16"
         )?,
-        Some(Invocation::Serve(most))
+        Some(Invocation::Serve(without_image(most)))
     );
     assert_eq!(rt;
         invoked(
             rt.alloc(),
             "blink dump --pages 4 index.image --workers 1 --compressors 0"
         )?,
-        Some(Invocation::Dump(least, String::from_str(rt.alloc(), "index.image")?))
+        Some(Invocation::Dump(
+            without_image(least),
+            String::from_str(rt.alloc(), "index.image")?
+        ))
     );
     for refused in [
         "blink",
         "blink dump",
         "blink dump a b",
         "blink dump index.image --pages 3",
+        "blink serve --image",
+        "blink serve --image old.image --pages 1024",
+        "blink dump new.image --pages 8 --image old.image",
         "blink serve --pages 3",
         "blink serve --pages 65537",
         "blink serve --workers 0",
@@ -77,6 +97,27 @@ fn words_of_the_command_line(rt: HostRuntime) -> Result<(), Fail> {
     ] {
         assert_eq!(rt; invoked(rt.alloc(), refused)?, None, "{refused}");
     }
+    Ok(())
+}
+
+#[test]
+fn words_that_name_an_image(rt: HostRuntime) -> Result<(), Fail> {
+    let plain = ServeOptions {
+        pages: 1024,
+        workers: 4,
+        compressors: 1,
+    };
+    assert_eq!(rt;
+        invoked(rt.alloc(), "blink serve --image old.image")?,
+        Some(Invocation::Serve(with_image(rt.alloc(), plain, "old.image")?))
+    );
+    assert_eq!(rt;
+        invoked(rt.alloc(), "blink dump new.image --image old.image")?,
+        Some(Invocation::Dump(
+            with_image(rt.alloc(), plain, "old.image")?,
+            String::from_str(rt.alloc(), "new.image")?
+        ))
+    );
     Ok(())
 }
 
@@ -119,5 +160,11 @@ fn words_on_standard_error(rt: HostRuntime) -> Result<(), Fail> {
         assert_eq!(rt; format!(in rt.alloc(); "{fault}")?.as_str(), text);
         assert_eq!(rt; fault.status(), status);
     }
+    let unsound = CommandFault::Unsound(5, 12);
+    assert_eq!(rt;
+        format!(in rt.alloc(); "{unsound}")?.as_str(),
+        "fault C5 page 12"
+    );
+    assert_eq!(rt; unsound.status(), 1);
     Ok(())
 }

@@ -1,18 +1,21 @@
 //! Four threads with a pass each share an index. They insert keys of their own, and each key is found. Then each deletes nine
 //! tenths of its keys, follows the hints that deletions and compressions give, so that pages are merged and evened out under
-//! the searches of the others, and finds the keys that it has kept. At last all four delete each key and search for it, and
+//! the searches of the others, and finds the keys that it has kept. Then they insert the deleted keys again, while a fifth
+//! thread scans the whole map again and again: the keys rise, and the kept ones are all there. The index is closed, its image
+//! checked, and an index opened from it, in which each key is found. At last all four delete each key and search for it, and
 //! their replies are counted against what any order allows. What it prints is the same whatever the schedule.
 //!
 //! No order can answer otherwise, by the contracts of the calls: the run shows that the compiled code keeps them.
 #![tactic(auto)]
 
-ghost use Rattle.std.specs.Prelude.{◌≡◌, All, length, IfSome};
+ghost use Rattle.std.specs.Prelude.{◌≡◌, All, length, IfOk, IfSome};
 ghost use Rattle.bl_index.specs.Calls.{IsPassOf};
 
+use bl_check::{check, load};
 use bl_index::{Config, Index, Pass};
-use bl_model::Reply;
+use bl_model::{Reply, Watched};
 use bl_proc::{Hint, Squeezed};
-use std::alloc::Global;
+use std::alloc::{AllocError, Global};
 use std::sync::Wait;
 use std::sync::atomic::{AtomicU64, Ordering};
 use std::thread;
@@ -27,6 +30,9 @@ const THREADS: u64 = 4;
 /// Of so many rows of a thread the first is kept while the tree shrinks.
 const KEPT: u64 = 10;
 
+/// How often the fifth thread scans the map.
+const SCANS: u32 = 30;
+
 /// How many levels a tree may have: a split or a merge is followed by at most one on each.
 const LEVELS: u32 = 12;
 
@@ -37,6 +43,7 @@ struct Counts {
     deleted: AtomicU64,
     absent: AtomicU64,
     merged: AtomicU64,
+    scanned: AtomicU64,
     // Replies that no order allows.
     wrong: AtomicU64,
 }
@@ -69,7 +76,8 @@ fn sweep(index: &Index, pass: &mut Pass)
     }
 }
 
-// The keys of the threads lie between each other: every fourth key is of one of them. Leaves that are parted are posted.
+// The keys of the threads lie between each other: every fourth key is of one of them. Leaves that are parted are posted. The
+// second time the keys that were kept are there.
 fn fill<R: Wait>(rt: &R, index: &Index, pass: &mut Pass, place: usize, counts: &Counts)
     requires { IsPassOf index.now pass.old }
     ensures { IsPassOf index.now pass.new }
@@ -80,6 +88,7 @@ fn fill<R: Wait>(rt: &R, index: &Index, pass: &mut Pass, place: usize, counts: &
         let (reply, hint) = index.insert(rt, pass, key, key + 1);
         match reply {
             Reply::Inserted => count(&counts.inserted),
+            Reply::Present(value) if value == key + 1 && row % KEPT == 0 => {}
             _ => count(&counts.wrong),
         }
         follow(rt, index, pass, hint, counts);
@@ -134,6 +143,37 @@ fn shrink<R: Wait>(rt: &R, index: &Index, pass: &mut Pass, place: usize, counts:
     }
 }
 
+// Whether the keys rise, each has its value, and those that were kept are all there.
+fn is_right(rows: &[(u64, u64)]) -> bool {
+    let rising = rows
+        .iter()
+        .zip(rows.iter().skip(1))
+        .all(|(row, next)| row.0 < next.0);
+    let valued = rows.iter().all(|row| row.1.checked_sub(1) == Some(row.0));
+    let kept = rows
+        .iter()
+        .filter(|row| row.0 / THREADS % KEPT == 0)
+        .count();
+    rising && valued && kept as u64 == THREADS * ROWS / KEPT
+}
+
+// Scans the whole map again and again.
+fn scan(alloc: Global, index: &Index, pass: &mut Pass, counts: &Counts)
+    requires { IsPassOf index.now pass.old }
+    ensures { IsPassOf index.now pass.new }
+{
+    let turns = index.patience();
+    let mut rows = Vec::new(alloc);
+    for _scan in 0..SCANS {
+        rows.clear();
+        match index.scan_into(pass, 0, None, turns, &mut rows) {
+            Ok(()) if is_right(rows.as_slice()) => count(&counts.scanned),
+            _ => count(&counts.wrong),
+        }
+        sweep(index, pass);
+    }
+}
+
 // Deletes each key and searches for it. Nobody inserts any more, so that it is absent then.
 fn clear<R: Wait>(rt: &R, index: &Index, pass: &mut Pass, counts: &Counts)
     requires { IsPassOf index.now pass.old }
@@ -177,9 +217,10 @@ enum Work {
     Clear,
 }
 
-// Each pass works in a thread of its own.
+// Each pass works in a thread of its own. The fifth, where it is there, scans.
 fn race<R: Threads + Wait + Sync>(
     rt: &R,
+    alloc: Global,
     index: &Index,
     passes: &mut [Pass],
     work: Work,
@@ -191,9 +232,10 @@ fn race<R: Threads + Wait + Sync>(
     thread::for_each_mut(
         rt,
         passes,
-        4,
+        5,
         &|place, pass| {
             match work {
+                _ if place == 4 => scan(alloc, index, pass, counts),
                 Work::Fill => fill(rt, index, pass, place, counts),
                 Work::Shrink => shrink(rt, index, pass, place, counts),
                 Work::Clear => clear(rt, index, pass, counts),
@@ -219,6 +261,37 @@ fn opened(alloc: Global) -> Option<(Index, Vec<Pass>, Pass)>
     }
 }
 
+// The passes with one more behind them.
+fn together(index: &Index, passes: Vec<Pass>, last: Pass) -> Result<Vec<Pass>, AllocError>
+    requires passes { All (IsPassOf index.now) passes.items }
+    requires last { IsPassOf index.now last }
+    ensures { IfOk result (λ all. All (IsPassOf index.now) all.items) }
+{
+    let mut all = passes;
+    all.push(last)?;
+    Ok(all)
+}
+
+// How many rows the checker finds in the image of the index, and an index that is opened from it.
+fn reopened(alloc: Global, index: Index, passes: Vec<Pass>) -> Option<(u32, Index, Vec<Pass>, Pass)>
+    requires { All (IsPassOf index) passes.items }
+    ensures { IfSome result (λ t. All (IsPassOf t.1) t.2.items × IsPassOf t.1 t.3) }
+{
+    let quiet = index.close(alloc, passes).ok()?;
+    let mut image = Watched::new(Vec::new(alloc));
+    quiet.image().write(&mut image).ok()?;
+    let bytes = image.into_inner();
+    let rows = check(alloc, bytes.as_slice()).ok()?.rows;
+    let quiet = load(alloc, bytes.as_slice()).ok()?;
+    match Index::open_image(alloc, quiet, 5) {
+        Ok((index, mut passes)) => {
+            let last = passes.pop()?;
+            Some((rows, index, passes, last))
+        }
+        Err(_) => None,
+    }
+}
+
 fn main(rt: HostRuntime) -> anyhow::Result<()> {
     let Some((index, mut passes, mut last)) = opened(rt.alloc()) else {
         eprintln!(&rt; "out of memory")?;
@@ -229,18 +302,58 @@ fn main(rt: HostRuntime) -> anyhow::Result<()> {
         deleted: AtomicU64::new(0),
         absent: AtomicU64::new(0),
         merged: AtomicU64::new(0),
+        scanned: AtomicU64::new(0),
         wrong: AtomicU64::new(0),
     };
-    race(&rt, &index, passes.as_mut_slice(), Work::Fill, &counts);
+    race(
+        &rt,
+        rt.alloc(),
+        &index,
+        passes.as_mut_slice(),
+        Work::Fill,
+        &counts,
+    );
     let inserted = counts.inserted.load(Ordering::SeqCst);
     let there = found(&rt, &index, &mut last);
     println!(rt; "inserted {inserted}, found {there}")?;
-    race(&rt, &index, passes.as_mut_slice(), Work::Shrink, &counts);
+    race(
+        &rt,
+        rt.alloc(),
+        &index,
+        passes.as_mut_slice(),
+        Work::Shrink,
+        &counts,
+    );
     let deleted = counts.deleted.load(Ordering::SeqCst);
     let some = counts.merged.load(Ordering::SeqCst) > 0;
     let kept = found(&rt, &index, &mut last);
     println!(rt; "deleted {deleted}, merged {some}, found {kept}")?;
-    race(&rt, &index, passes.as_mut_slice(), Work::Clear, &counts);
+    let mut passes = together(&index, passes, last)?;
+    race(
+        &rt,
+        rt.alloc(),
+        &index,
+        passes.as_mut_slice(),
+        Work::Fill,
+        &counts,
+    );
+    let inserted = counts.inserted.load(Ordering::SeqCst);
+    let scanned = counts.scanned.load(Ordering::SeqCst);
+    println!(rt; "inserted {inserted}, scanned {scanned}")?;
+    let Some((rows, index, mut passes, mut last)) = reopened(rt.alloc(), index, passes) else {
+        eprintln!(&rt; "no index from the image")?;
+        return Ok(());
+    };
+    let there = found(&rt, &index, &mut last);
+    println!(rt; "rows of the image {rows}, found {there}")?;
+    race(
+        &rt,
+        rt.alloc(),
+        &index,
+        passes.as_mut_slice(),
+        Work::Clear,
+        &counts,
+    );
     let deleted = counts.deleted.load(Ordering::SeqCst);
     let absent = counts.absent.load(Ordering::SeqCst);
     let left = found(&rt, &index, &mut last);

@@ -2,7 +2,7 @@
 
 ghost use Rattle.std.specs.Prelude.{◌<◌, ◌≤◌, length};
 
-use bl_check::{Fault, Report, chains_end, check, sound};
+use bl_check::{Fault, Report, chains_end, check, load, sound};
 use bl_image::{Image, ImageFault, read};
 use byteorder::{ByteOrder, LittleEndian};
 use std::alloc::Global;
@@ -295,6 +295,23 @@ fn a_sound_image_is_quiet(rt: HostRuntime) -> Result<(), Fail> {
     let quiet = sound(rt.alloc(), image).ok().ok_or("not sound")?;
     assert_eq!(rt; quiet.image().pages.len(), 8);
     assert!(rt; quiet.image().pages[3].is_some());
+    Ok(())
+}
+
+#[test]
+fn bytes_are_a_sound_image_or_name_the_rule(rt: HostRuntime) -> Result<(), Fail> {
+    let quiet = load(rt.alloc(), &split()).ok().ok_or("not sound")?;
+    assert_eq!(rt; quiet.image().pages.len(), 8);
+    assert_eq!(rt;
+        load(rt.alloc(), cut(&opening())).err(),
+        Some(Fault::Rule { rule: 1, page: 0 })
+    );
+    let mut damaged = split();
+    damaged[32 + 256 + 4] = 9;
+    assert_eq!(rt;
+        load(rt.alloc(), &damaged).err(),
+        Some(Fault::Rule { rule: 2, page: 1 })
+    );
     Ok(())
 }
 

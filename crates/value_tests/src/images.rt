@@ -38,6 +38,21 @@ fn an_opening_index(rt: HostRuntime) -> Result<(), Fail> {
 }
 
 #[test]
+fn the_words_of_each_page(rt: HostRuntime) -> Result<(), Fail> {
+    let image = read(rt.alloc(), &opening()).ok().ok_or("no image")?;
+    let pages = image.to_words(rt.alloc()).ok().ok_or("no memory")?;
+    assert_eq!(rt; pages.len(), 4);
+    let mut anchor = [0; 32];
+    anchor[0] = (1 << 32) + 1;
+    anchor[4] = 1;
+    let mut leaf = [0; 32];
+    leaf[0] = 2 << 32;
+    let first = [anchor, leaf, [0; 32], [0; 32]];
+    assert!(rt; pages.as_slice() == first.as_slice());
+    Ok(())
+}
+
+#[test]
 fn a_head_that_is_cut_or_altered(rt: HostRuntime) {
     let image = opening();
     for length in 0..1056usize {

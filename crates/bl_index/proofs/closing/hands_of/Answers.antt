@@ -1,5 +1,5 @@
-use Rattle.std.proofs.Common.{ℕ, sym, ap, ◌∙◌, length, arith, ◌+◌, List}
-use mathlib.Core.Option.{some, some-ne-none}
+use Rattle.std.proofs.Common.{sym, ap, ◌∙◌, length, arith, List}
+use mathlib.Core.Option.{some-ne-none}
 use lib.ListN.{get_elem?}
 use Rattle.std.proofs.lemmas.List.{length_push}
 use Rattle.bl_store.specs.declared.store.Hand.{Hand}

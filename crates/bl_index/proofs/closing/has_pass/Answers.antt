@@ -1,4 +1,4 @@
-use Rattle.std.proofs.Common.{ℕ, arith}
+use Rattle.std.proofs.Common.{arith}
 use Rattle.bl_index.proofs.Gathered.{item_at, none_more, not_there}
 use Rattle.bl_index.proofs.closing.has_pass.Goals as goal
 

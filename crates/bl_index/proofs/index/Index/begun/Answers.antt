@@ -1,4 +1,4 @@
-use Rattle.std.proofs.Common.{List, Option, [], refl, sym, ap, subst, ◌∙◌}
+use Rattle.std.proofs.Common.{List, Option, [], sym, ap, subst, ◌∙◌}
 use Rattle.bl_page.specs.declared.page.Page.{Page}
 use Rattle.bl_store.specs.Opening.{first_pages}
 use Rattle.bl_passes.specs.declared.known.Mine.{Mine}

@@ -1,8 +1,6 @@
-use Rattle.std.proofs.Common.{◌≡◌, ◌≤◌, ◌∙◌, ℕ, List, Option, [], length, map, sym, ap, subst, refl, arith}
-use Rattle.bl_page.specs.declared.page.Page.{Page}
-use Rattle.bl_image.specs.Images.{IsImage, page_words, image_bytes}
+use Rattle.std.proofs.Common.{◌≡◌, ◌∙◌, ℕ, List, length, map, sym, ap, subst, arith}
+use Rattle.bl_image.specs.Images.{page_words, image_bytes}
 use Rattle.bl_image.specs.declared.image.Image.{Image}
-use Rattle.bl_check.specs.Rules.{AreSound}
 use Rattle.bl_quiet.proofs.Beginnings.{AllFit}
 use Rattle.bl_store.specs.Opening.{first_pages}
 use Rattle.bl_passes.specs.Fitting.{beginner, Fits}
@@ -17,29 +15,29 @@ use Rattle.bl_index.proofs.index.Index.made_from.Goals as goal
 pub begun-requires-clause-pages : goal.begun-requires-clause-pages
 begun-requires-clause-pages c =
     let image = c.image-image.result.now in
-    let words : c.as_slice-2.result.now ≡ map page_words image.pages.items = c.as_slice-2.ensures.value ∙ (c.in_ok-words.ensures.words ∙ ap (map page_words) c.as_slice.ensures.value) in
-    let count : length c.as_slice-2.result.now ≡ length image.pages.items = ap length words ∙ map_length image.pages.items in
+    let words : c.as_slice.result.now ≡ map page_words image.pages.items = c.as_slice.ensures.value ∙ c.in_ok-words.ensures.words in
+    let count : length c.as_slice.result.now ≡ length image.pages.items = ap length words ∙ map_length image.pages.items in
     let least = image.some in let most = image.limit in
     (omega (arith, least, count), omega (arith, most, count))
 
 pub begun-requires-clause-rule : goal.begun-requires-clause-rule
 begun-requires-clause-rule c =
     let image = c.image-image.result.now in
-    let fits : AllFit image.pages.items = subst AllFit c.as_slice.ensures.value c.in_ok-words.ensures.fits in
-    let words : c.as_slice-2.result.now ≡ map page_words image.pages.items = c.as_slice-2.ensures.value ∙ (c.in_ok-words.ensures.words ∙ ap (map page_words) c.as_slice.ensures.value) in
+    let fits : AllFit image.pages.items = c.in_ok-words.ensures.fits in
+    let words : c.as_slice.result.now ≡ map page_words image.pages.items = c.as_slice.ensures.value ∙ c.in_ok-words.ensures.words in
     subst (λ (z : List (List ℕ)). Fits (first_pages z c.args.passes (beginner image.pages.items))) (sym words) (reopens image.pages.items (image_bytes image.pages.items) (is_image image fits) c.image-image.ensures.sound c.args.passes)
 
 pub begun-requires-clause-seen : goal.begun-requires-clause-seen
 begun-requires-clause-seen c =
     let image = c.image-image.result.now in
-    let fits : AllFit image.pages.items = subst AllFit c.as_slice.ensures.value c.in_ok-words.ensures.fits in
+    let fits : AllFit image.pages.items = c.in_ok-words.ensures.fits in
     beginner_seen image.pages.items (image_bytes image.pages.items) (is_image image fits) c.image-image.ensures.sound
 
 pub returns : goal.returns
 returns c =
     let image = c.image-image.result.now in
-    let fits : AllFit image.pages.items = subst AllFit c.as_slice.ensures.value c.in_ok-words.ensures.fits in
-    let words : c.as_slice-2.result.now ≡ map page_words image.pages.items = c.as_slice-2.ensures.value ∙ (c.in_ok-words.ensures.words ∙ ap (map page_words) c.as_slice.ensures.value) in
-    let count : length c.as_slice-2.result.now ≡ length image.pages.items = ap length words ∙ map_length image.pages.items in
+    let fits : AllFit image.pages.items = c.in_ok-words.ensures.fits in
+    let words : c.as_slice.result.now ≡ map page_words image.pages.items = c.as_slice.ensures.value ∙ c.in_ok-words.ensures.words in
+    let count : length c.as_slice.result.now ≡ length image.pages.items = ap length words ∙ map_length image.pages.items in
     subst (λ (z : Image). IfOk c.begun.result (λ t. IsReopened z.pages.items c.args.passes t.0 t.1.items)) c.image-image.ensures.same
     (if_ok _ _ c.begun.result (λ t begun. is_reopened image _ c.args.passes t.0 t.1.items fits c.image-image.ensures.sound count begun) c.begun.ensures)

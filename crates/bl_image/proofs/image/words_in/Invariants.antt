@@ -1,7 +1,7 @@
 use Rattle.std.proofs.Common.{◌≡◌, map, take}
 use Rattle.std.specs.List.{AllByRecursion}
 use Rattle.bl_image.specs.Images.{Fits64, page_words}
-use Rattle.bl_index.proofs.opening.words_in.Given as goal
+use Rattle.bl_image.proofs.image.words_in.Given as goal
 
 abbrev pub invariant-loop-page : goal.invariant-loop-page
 invariant-loop-page l = record {

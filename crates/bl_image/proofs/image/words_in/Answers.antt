@@ -1,11 +1,11 @@
-use Rattle.std.proofs.Common.{sym, ap, subst, ◌∙◌, ◌≡◌, ◌+◌, ◌<◌, ◌++◌, List, Option, [], ◌∷◌, length, take, map, arith}
+use Rattle.std.proofs.Common.{sym, ap, subst, ◌∙◌, ◌≡◌, ◌+◌, ◌<◌, ◌++◌, Option, [], ◌∷◌, length, take, map, arith}
 use Rattle.std.specs.List.{AllByRecursion}
 use Rattle.std.proofs.lemmas.List.{take_more, take_all}
 use Rattle.bl_page.specs.declared.page.Page.{Page}
 use Rattle.bl_image.specs.Images.{Fits64, page_words}
+use Rattle.bl_image.proofs.Spelling.{words_push}
 use Rattle.bl_image.proofs.Writes.{page_fits}
-use Rattle.bl_index.proofs.Hands.{words_push}
-use Rattle.bl_index.proofs.opening.words_in.Goals as goal
+use Rattle.bl_image.proofs.image.words_in.Goals as goal
 
 pub loop-page-preserved : goal.loop-page-preserved
 loop-page-preserved c =

@@ -1,0 +1,37 @@
+-- What a server begins with, and serving from there on.
+use Rattle.std.specs.Prelude.{◌≡◌, ◌≤◌, ℕ, List, [], length}
+use Rattle.bl_model.specs.Rows.{map_of}
+use Rattle.bl_check.specs.Rows.{AreRowsOf}
+use Rattle.bl_lines.specs.declared.serving.Totals.{Totals}
+use Rattle.bl_lines.specs.declared.serving.ServeFault.{ServeFault}
+use Rattle.bl_lines.specs.declared.serving.ServeFault.TheVariants.{Memory}
+use Rattle.bl_lines.specs.Served.{Served, Stops}
+use Rattle.bl_serve.specs.declared.origin.Origin.{Origin}
+use Rattle.bl_serve.specs.declared.origin.Origin.TheVariants.{Empty, Image}
+
+-- it has as many pages as an index may have, as an image has by its type
+abbrev pub HasPages : Origin → Type 0
+HasPages (Empty pages) = (4 ≤ pages) × (pages ≤ 65536)
+HasPages (Image quiet) = Unit {0}
+
+-- how many pages the index has
+abbrev pub size_of : Origin → ℕ
+size_of (Empty pages) = pages
+size_of (Image quiet) = length quiet.image.pages.items
+
+-- the rows that the index begins with: none, or those of the image
+abbrev pub HasRows : Origin → List (ℕ × ℕ) → Type 0
+HasRows (Empty pages) rows = rows ≡ []
+HasRows (Image quiet) rows = AreRowsOf quiet.image.pages.items rows
+
+-- The input is served from the map of those rows on.
+pub record ServedFrom (origin : Origin) (input output : List ℕ) (totals : Totals) : Type 0 where
+  pub rows : List (ℕ × ℕ)
+  pub are_rows : HasRows origin rows
+  pub served : Served (map_of rows) input output totals
+
+-- Serving stopped: there was no memory for the index, and nothing was read or written; or it stopped as it served from the map
+-- of those rows on.
+pub data StopsFrom (origin : Origin) (input output : List ℕ) (fault : ServeFault) (reader_failed writer_failed : Type 0) : Type 0 where
+  Unopened : input ≡ [] → output ≡ [] → fault ≡ Memory → StopsFrom origin input output fault reader_failed writer_failed
+  Stopped : (rows : List (ℕ × ℕ)) → HasRows origin rows → Stops (map_of rows) input output fault reader_failed writer_failed → StopsFrom origin input output fault reader_failed writer_failed
