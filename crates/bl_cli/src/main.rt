@@ -9,7 +9,9 @@ ghost use Rattle.std.specs.Prelude.{◌≤◌, IfOk};
 ghost use Rattle.bl_lines.specs.Options.{AreWithin};
 ghost use Rattle.bl_serve.specs.Origins.{HasPages};
 
-use bl_commands::{CommandFault, check_file, load_file, replace_file, replay_file};
+use bl_commands::{
+    CommandFault, DumpFault, check_file, load_file, may_replace, replace_file, replay_file,
+};
 use bl_model::Watched;
 use bl_options::{Invocation, ServeOptions, Server, read_words};
 use bl_serve::{Origin, dump_index, serve_index};
@@ -95,7 +97,15 @@ fn serve<T: Threads + Wait + Sync>(
     Ok(ExitCode::SUCCESS)
 }
 
-/// Serves standard input, and then writes the image of the index to the file.
+/// Ends with the fault of a dump's file.
+fn fail(rt: &HostRuntime, fault: DumpFault) -> ExitCode {
+    // Where standard error fails too, the status still tells the fault.
+    let _ = eprintln!(rt; "{fault}");
+    ExitCode::from(fault.status())
+}
+
+/// Serves standard input, and then writes the image of the index to the file. Where the file cannot be replaced, that is said
+/// before anything is read.
 fn dump<T: Threads + Wait + Sync>(
     rt: &HostRuntime,
     threads: &T,
@@ -109,6 +119,9 @@ fn dump<T: Threads + Wait + Sync>(
         workers,
         compressors,
     } = server.options;
+    if let Err(fault) = may_replace(rt, file) {
+        return Ok(fail(rt, fault));
+    }
     let origin = origin_of(rt, pages, server.image)?;
     let mut reader = Watched::new(rt.stdin());
     let mut writer = Watched::new(io::writer(rt));
@@ -124,11 +137,7 @@ fn dump<T: Threads + Wait + Sync>(
     let quiet = closed?;
     match replace_file(rt, file, quiet.image()) {
         Ok(()) => Ok(ExitCode::SUCCESS),
-        Err(fault) => {
-            // Where standard error fails too, the status still tells the fault.
-            let _ = eprintln!(rt; "{fault}");
-            Ok(ExitCode::from(fault.status()))
-        }
+        Err(fault) => Ok(fail(rt, fault)),
     }
 }
 

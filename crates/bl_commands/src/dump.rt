@@ -5,7 +5,7 @@ ghost use Rattle.bl_commands.specs.Statuses.{status_of_dump};
 
 use bl_image::Image;
 use bl_model::Watched;
-use std::alloc::AllocError;
+use std::alloc::{AllocError, Global};
 use std::fs;
 use std::fs::{File, OpenFile};
 use std::io::Write;
@@ -55,6 +55,25 @@ fn fill<F: Write + OpenFile + Drop>(file: F, image: &Image) -> bool {
     writer.into_inner().sync_all().is_ok()
 }
 
+/// The path of the new file that is to replace the one at this path.
+fn new_path(alloc: Global, path: &str) -> Result<String, AllocError> {
+    format!(in alloc; "{path}.new")
+}
+
+/// Whether `replace_file` could make its new file now: it is made, and removed again. So a server need not answer all its
+/// requests before that is said.
+pub fn may_replace<R: Files + AllocGlobal>(rt: &R, path: &str) -> Result<(), DumpFault> {
+    let new = new_path(rt.alloc(), path)?;
+    match File::create_new(rt, new.as_str()) {
+        Ok(_) => {
+            // Where it cannot be removed, the replacement will say that it is there.
+            let _ = fs::remove_file(rt, new.as_str());
+            Ok(())
+        }
+        Err(_) => Err(DumpFault::Make(new)),
+    }
+}
+
 /// Replaces what stands at the path, if anything does, by the image. It is written to a new file beside it, whose name has
 /// `.new` behind, and that is then renamed: at the path there is the whole image or what there was. A new file that was made
 /// and not renamed is removed where that is possible.
@@ -63,7 +82,7 @@ pub fn replace_file<R: Files + AllocGlobal>(
     path: &str,
     image: &Image,
 ) -> Result<(), DumpFault> {
-    let new = format!(in rt.alloc(); "{path}.new")?;
+    let new = new_path(rt.alloc(), path)?;
     let Ok(file) = File::create_new(rt, new.as_str()) else {
         return Err(DumpFault::Make(new));
     };

@@ -13,7 +13,7 @@ mod load;
 mod replay;
 
 pub use check::{check_file, check_image};
-pub use dump::{DumpFault, replace_file};
+pub use dump::{DumpFault, may_replace, replace_file};
 pub use fault::CommandFault;
 pub use load::{load_file, load_image};
 pub use replay::{replay_file, replay_script};
