@@ -58,14 +58,27 @@ fn carry_out<T: Threads + Wait + Sync>(
     }
 }
 
-/// What a server begins with: the image in that file, where one is named.
-fn origin_of(rt: &HostRuntime, pages: u32, image: Option<String>) -> Result<Origin, CommandFault>
+/// What a server begins with: the image in that file, where one is named. Where it cannot be read, that is said, and how the
+/// program ends.
+fn origin_of(
+    rt: &HostRuntime,
+    pages: u32,
+    image: Option<String>,
+) -> Result<Result<Origin, ExitCode>, CommandFault>
     requires { (4 ≤ pages) × (pages ≤ 65536) }
-    ensures { IfOk result HasPages }
+    ensures { IfOk result (λ found. IfOk found HasPages) }
 {
-    match image {
-        Some(file) => Ok(Origin::Image(load_file(rt, file.as_str())?)),
-        None => Ok(Origin::Empty(pages)),
+    let Some(file) = image else {
+        return Ok(Ok(Origin::Empty(pages)));
+    };
+    match load_file(rt, file.as_str()) {
+        Ok(quiet) => Ok(Ok(Origin::Image(quiet))),
+        Err(CommandFault::Read) => {
+            // Where standard error fails too, the status still tells the fault.
+            let _ = eprintln!(rt; "blink: read failed: cannot read {file}");
+            Ok(Err(ExitCode::from(CommandFault::Read.status())))
+        }
+        Err(fault) => Err(fault),
     }
 }
 
@@ -82,7 +95,10 @@ fn serve<T: Threads + Wait + Sync>(
         workers,
         compressors,
     } = server.options;
-    let origin = origin_of(rt, pages, server.image)?;
+    let origin = match origin_of(rt, pages, server.image)? {
+        Ok(origin) => origin,
+        Err(code) => return Ok(code),
+    };
     let mut reader = Watched::new(rt.stdin());
     let mut writer = Watched::new(io::writer(rt));
     serve_index(
@@ -122,7 +138,10 @@ fn dump<T: Threads + Wait + Sync>(
     if let Err(fault) = may_replace(rt, file) {
         return Ok(fail(rt, fault));
     }
-    let origin = origin_of(rt, pages, server.image)?;
+    let origin = match origin_of(rt, pages, server.image)? {
+        Ok(origin) => origin,
+        Err(code) => return Ok(code),
+    };
     let mut reader = Watched::new(rt.stdin());
     let mut writer = Watched::new(io::writer(rt));
     let (_totals, closed) = dump_index(
