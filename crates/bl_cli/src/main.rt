@@ -1,8 +1,8 @@
 //! The program `blink`: what its command line asks for, over the files of the system and its standard streams.
 //!
 //! Promised to whoever runs it: `serve` writes what is served for what it reads, over a new index or one with the rows of an
-//! image, and by as many workers and compressors as are wanted; `dump` does so too, and its image has the rows that were served; and what `bl_commands` promises
-//! of `check` and `replay`.
+//! image, and by as many workers and compressors as are wanted; `dump` does so too, and its image has the rows of the map after
+//! what was served; and what `bl_commands` promises of `check` and `replay`.
 #![tactic(auto)]
 
 ghost use Rattle.std.specs.Prelude.{◌≤◌, IfOk};

@@ -79,7 +79,7 @@ fn after(seed: u64) -> u64 {
         .wrapping_add(1_442_695_040_888_963_407)
 }
 
-// One of the rows, or row 0 where there are none.
+// The number of one of the rows, or 0 where there are none.
 fn row_of(seed: u64, rows: u64) -> u64 {
     if rows == 0 { 0 } else { (seed >> 24) % rows }
 }
