@@ -1,6 +1,6 @@
 //! A plain Rust program that answers request lines as `blink serve` does, for comparison, and a generator of such lines.
-//! `twin lines N` writes N mixed lines, `twin finds N` as many that find but for 4,000 insertions; `twin serve` answers standard
-//! input.
+//! `twin lines N M` writes N mixed lines with a sync each M, `twin finds N` as many that find but for 4,000 insertions; `twin serve`
+//! answers standard input.
 
 use std::collections::BTreeMap;
 use std::env;
@@ -103,15 +103,15 @@ fn write_finds(count: u64) -> io::Result<()> {
     writer.flush()
 }
 
-/// Finds, inserts and deletes of keys 1 to 4,000 in turn, and a sync each 1,000 lines.
-fn write_lines(count: u64) -> io::Result<()> {
+/// Finds, inserts and deletes of keys 1 to 4,000 in turn, and a sync each so many lines.
+fn write_lines(count: u64, section: u64) -> io::Result<()> {
     let mut writer = BufWriter::new(io::stdout().lock());
     let mut state = 1u64;
     for line in 1..=count {
         state = step(state);
         let key = (state >> 33) % KEYS + 1;
         match (state >> 60) % 4 {
-            _ if line % 1000 == 0 => writeln!(writer, "sync")?,
+            _ if line % section == 0 => writeln!(writer, "sync")?,
             0 | 1 => writeln!(writer, "find {key}")?,
             2 => writeln!(writer, "insert {key} {}", state >> 20)?,
             _ => writeln!(writer, "delete {key}")?,
@@ -124,10 +124,10 @@ fn main() -> io::Result<()> {
     let words: Vec<String> = env::args().skip(1).collect();
     match words.iter().map(String::as_str).collect::<Vec<_>>().as_slice() {
         ["serve"] => serve(),
-        ["lines", count] => write_lines(count.parse().unwrap_or(0)),
+        ["lines", count, section] => write_lines(count.parse().unwrap_or(0), section.parse().unwrap_or(1000).max(1)),
         ["finds", count] => write_finds(count.parse().unwrap_or(0)),
         _ => {
-            eprintln!("usage: twin serve | twin lines N | twin finds N");
+            eprintln!("usage: twin serve | twin lines N M | twin finds N");
             std::process::exit(2);
         }
     }

@@ -44,6 +44,11 @@ impl Hints {
         self.next_post(rt).or_else(|| self.next_thin(rt))
     }
 
+    /// Whether a hint waits. It is a hint itself, of which nothing is promised: others give and take meanwhile.
+    pub fn is_waiting(&self) -> bool {
+        self.has_post() || self.has_thin()
+    }
+
     /// Puts a hint to list a page into its queue.
     fn give_post<R: Wait>(&self, rt: &R, hint: Hint) -> bool
         requires { IsPost hint }
@@ -58,6 +63,18 @@ impl Hints {
     {
         let mut pass = self.thins.pass();
         self.thins.push_as::<Thins, R>(rt, &mut pass, hint).is_ok()
+    }
+
+    /// Whether a hint to list a page waits.
+    fn has_post(&self) -> bool {
+        let mut pass = self.posts.pass();
+        !self.posts.is_empty_as::<Posts>(&mut pass)
+    }
+
+    /// Whether a hint of a thin page waits.
+    fn has_thin(&self) -> bool {
+        let mut pass = self.thins.pass();
+        !self.thins.is_empty_as::<Thins>(&mut pass)
     }
 
     /// Takes a hint to list a page.

@@ -15,7 +15,9 @@ use Rattle.bl_trails.specs.Trails.{Said, Trail, entries_at, history_of}
 use Rattle.bl_passes.specs.Seeing.{first_map, IsSeen, own, AreWithin}
 use Rattle.bl_index.specs.declared.index.Index.{Index}
 use Rattle.bl_index.specs.declared.index.Pass.{Pass}
+use Rattle.bl_index.specs.Replies.{reply_of, found_of}
 use Rattle.bl_index.specs.declared.config.OutOfTurns.{OutOfTurns}
+use Rattle.bl_index.specs.declared.reply.KeyReply.{KeyReply}
 use Rattle.bl_index.specs.Calls.{passes_of, first_of, number_of, trail, IsPassOf, Answers, AnswersOrRunsOut, StepsAlone, map_after}
 use Rattle.bl_index.specs.Runs.{IsWithin}
 use Rattle.atomic_table.specs.declared.shared.Seat.{Seat}
@@ -75,3 +77,7 @@ module _ (index : Index) (old : Pass) (h : Seat (Unit {0}) (View Mine)) (op : Op
   pub finds_alone : (pages turns : ℕ) (result : Result Reply OutOfTurns) → AnswersOrRunsOut (first_of index) pages (number_of old) turns op result (trail old) new → IfOk result (λ reply. StepsAlone (first_of index) index op reply (trail old) new)
   finds_alone pages turns (Ok reply) answered = steps_alone reply answered.answered.answers
   finds_alone pages turns (Err fault) answered = tt
+
+  pub keys_alone : (pages turns : ℕ) (result : Result KeyReply OutOfTurns) → AnswersOrRunsOut (first_of index) pages (number_of old) turns op (found_of result) (trail old) new → IfOk result (λ reply. StepsAlone (first_of index) index op (reply_of reply) (trail old) new)
+  keys_alone pages turns (Ok reply) answered = steps_alone (reply_of reply) answered.answered.answers
+  keys_alone pages turns (Err fault) answered = tt

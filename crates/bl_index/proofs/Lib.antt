@@ -3,10 +3,12 @@ pub mod Hands
 pub mod Standing
 pub mod Inserted
 mod Spreading
+mod Parted
 pub mod Deleted
 pub mod Silent
 pub mod Searches
 pub mod Listings
+pub mod Appended
 pub mod Firsts
 pub mod Taken
 pub mod Ends
@@ -21,6 +23,7 @@ pub mod Paces
 pub mod Learning
 pub mod Encounters
 pub mod Ranges
+pub mod Picked
 pub mod Scanned
 pub mod Onward
 pub mod Rooms

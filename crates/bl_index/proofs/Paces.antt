@@ -20,7 +20,7 @@ use Rattle.bl_passes.specs.Seeing.{AreElse}
 use Rattle.bl_passes.specs.Fitting.{name}
 use Rattle.bl_passes.specs.Told.{Notes, Steps, Begins, Finishes}
 use Rattle.bl_passes.proofs.Marks.{each_append}
-use Rattle.bl_index.specs.Runs.{IsAtTurn}
+use Rattle.bl_index.specs.Runs.{IsAtTurn, IsAtLast}
 use Rattle.bl_index.proofs.Calls.{does_on}
 
 -- a process that did none of these events has not begun there
@@ -114,13 +114,23 @@ module _ (pages pass number turns : ℕ) (d : Mine) (named : d.pass ≡ pass) (c
         subst (IsBelowBound pages p) (sym n.trail) (quiet_below pages p (trail_of d.trail) (n.between ++ n.last ∷ []) q t.below),
       )
 
-  -- a get by which it has found its leaf, and its end
-  pub at_found : (x : ℕ) (answer : Option Reply) (e f : Mine) → e.pages ≡ pages → e.pass ≡ pass → e.number ≡ number → Steps (Get x) d e → IsSearch e.state → Finishes answer e f → IsWithinBound pages (name pass number) (trail_of f.trail)
-  at_found x answer e f size named_then counted_then s search done =
-      let p = name pass number in
-      let n = done.notes in
-      let then : name e.pass e.number ≡ p = λ i. name (named_then i) (counted_then i) in
-      let begun = begun_on pages p d.pass d.number (Get x) d e is_p s.notes t.begin t.begun in
-      let bounded : IsWithinBound pages p (trail_of e.trail) = subst (λ (q : Name). IsWithinBound pages q (trail_of e.trail)) is_p (subst (λ (z : ℕ). IsWithinBound z (name d.pass d.number) (trail_of e.trail)) size (s.notes.bounded search)) in
-      let q = whole pages p e.pass e.number (End answer) e f then n t.begin begun refl in
-      subst (IsWithinBound pages p) (sym n.trail) (q.within bounded)
+  -- a get by which it has found its leaf
+  pub at_last : (x : ℕ) (e : Mine) → e.pages ≡ pages → Steps (Get x) d e → IsSearch e.state → IsAtLast pages pass number (trail_of e.trail)
+  at_last x e size s search = record {
+    begin = t.begin;
+    begun = begun_on pages (name pass number) d.pass d.number (Get x) d e is_p s.notes t.begin t.begun;
+    bounded = subst (λ (q : Name). IsWithinBound pages q (trail_of e.trail)) is_p (subst (λ (z : ℕ). IsWithinBound z (name d.pass d.number) (trail_of e.trail)) size (s.notes.bounded search));
+  }
+
+-- and then its end
+pub at_answer : (pages pass number : ℕ) (answer : Option Reply) (e f : Mine) → e.pass ≡ pass → e.number ≡ number → IsAtLast pages pass number (trail_of e.trail) → Finishes answer e f → IsWithinBound pages (name pass number) (trail_of f.trail)
+at_answer pages pass number answer e f named counted last done =
+    let p = name pass number in
+    let n = done.notes in
+    let then : name e.pass e.number ≡ p = λ i. name (named i) (counted i) in
+    let q = whole pages p e.pass e.number (End answer) e f then n last.begin last.begun refl in
+    subst (IsWithinBound pages p) (sym n.trail) (q.within last.bounded)
+
+-- both
+pub at_found : (pages pass number turns : ℕ) (d : Mine) (named : d.pass ≡ pass) (counted : d.number ≡ number) (t : IsAtTurn pages pass number turns (trail_of d.trail)) (x : ℕ) (answer : Option Reply) (e f : Mine) → e.pages ≡ pages → e.pass ≡ pass → e.number ≡ number → Steps (Get x) d e → IsSearch e.state → Finishes answer e f → IsWithinBound pages (name pass number) (trail_of f.trail)
+at_found pages pass number turns d named counted t x answer e f size named_then counted_then s search done = at_answer pages pass number answer e f named_then counted_then (at_last pages pass number turns d named counted t x e size s search) done

@@ -91,3 +91,9 @@ pub record IsAtTurn (pages pass number turns : ℕ) (trail : Trail) : Type 0 whe
   pub bounded : IsWithinBound pages (name pass number) trail
   pub below : IsBelowBound pages (name pass number) trail
   pub gets : gets_of (name pass number) trail ≡ turns
+
+-- A search that the pass began as its process of that number has got its last page, within its bound.
+pub record IsAtLast (pages pass number : ℕ) (trail : Trail) : Type 0 where
+  pub begin : ℕ
+  pub begun : DoesAt trail begin (name pass number) Begin
+  pub bounded : IsWithinBound pages (name pass number) trail

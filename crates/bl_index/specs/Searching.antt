@@ -1,11 +1,9 @@
--- A search and a part that go on, and the answers of an operation, of a post and of a compression.
+-- A search that goes on, and the answers of a post and of a compression.
 use Rattle.std.specs.Prelude.{Option, None, Some}
 use Rattle.bl_ways.specs.declared.answers.Answer.{Answer}
 use Rattle.bl_ways.specs.declared.answers.Answer.TheVariants.{Op, Post, Compress, Reclaim}
 use Rattle.bl_proc.specs.declared.searching.FindStage.{FindStage}
 use Rattle.bl_proc.specs.declared.searching.FindStage.TheVariants.{New, AtAnchor, At, Ending, Over}
-use Rattle.bl_proc.specs.declared.parts.PartStage.{PartStage}
-use Rattle.bl_proc.specs.declared.parts.PartStage.TheVariants as part
 
 abbrev pub IsSearching : FindStage → Type 0
 IsSearching New = ⊥
@@ -13,21 +11,6 @@ IsSearching AtAnchor = Unit {0}
 IsSearching (At x) = Unit {0}
 IsSearching (Ending v) = ⊥
 IsSearching (Over v) = ⊥
-
-abbrev pub IsListing : PartStage → Type 0
-IsListing part.New = ⊥
-IsListing part.AtAnchor = Unit {0}
-IsListing (part.At x) = Unit {0}
-IsListing (part.Ending r) = ⊥
-IsListing (part.Over r) = ⊥
-
--- the answer of an operation
-abbrev pub IsOpAnswer : Option Answer → Type 0
-IsOpAnswer None = ⊥
-IsOpAnswer (Some (Op reply hint)) = Unit {0}
-IsOpAnswer (Some (Post what hint)) = ⊥
-IsOpAnswer (Some (Reclaim what)) = ⊥
-IsOpAnswer (Some (Compress what hint)) = ⊥
 
 -- the answer of a post
 abbrev pub IsPostAnswer : Option Answer → Type 0

@@ -3,11 +3,10 @@
 ghost use Rattle.std.specs.Prelude.{◌≡◌, ◌≢◌, ◌⊎◌, ℕ, None, Some, false};
 ghost use Rattle.bl_ways.specs.declared.acts.Action.TheVariants as act;
 ghost use Rattle.bl_model.specs.declared.operation.Op.TheVariants as op;
-ghost use Rattle.bl_model.specs.declared.operation.Reply.TheVariants as reply;
+ghost use Rattle.bl_index.specs.declared.reply.KeyReply.TheVariants as replies;
+ghost use Rattle.bl_index.specs.Replies.{reply_of};
 ghost use Rattle.bl_ways.specs.declared.answers.Answer.{Answer as AnswerIs};
-ghost use Rattle.bl_ways.specs.declared.answers.Answer.TheVariants as answers;
 ghost use Rattle.bl_courses.specs.Refusals.{IsNoRoom, IsRefused, PutsRefused};
-ghost use Rattle.bl_index.specs.Searching.{IsOpAnswer};
 ghost use Rattle.bl_store.specs.Hands.{known, IsOf, IsIdle, IsRunning, IsSameHand, HasNoStock};
 ghost use Rattle.bl_passes.specs.Told.{IsUnborn};
 ghost use Rattle.bl_passes.specs.declared.known.Mine.{Mine as Knows};
@@ -16,24 +15,13 @@ ghost use Rattle.bl_index.specs.Rooms.{LacksRoom, LacksAsked};
 
 use crate::index::{Index, Pass};
 use crate::kinds::Kind;
+use crate::reply::KeyReply;
 use crate::stepping::Stepped;
-use bl_model::Reply;
 use bl_passes::Mine;
-use bl_proc::{Answer, Hint};
+use bl_proc::Hint;
 use bl_store::{Hand, Stock};
 use crossbeam_utils::Backoff;
 use std::sync::Wait;
-
-/// The reply of an operation, and its hint.
-pub(crate) fn answered(answer: Option<Answer>) -> (Reply, Option<Hint>)
-    requires { IsOpAnswer answer }
-    ensures { answer ≡ Some (answers.Op result.0 result.1) }
-{
-    match answer {
-        Some(Answer::Op(reply, hint)) => (reply, hint),
-        _ => unreachable!(),
-    }
-}
 
 impl Index {
     ghost use Rattle.bl_index.specs.Calls.{first_of, IsPassOf, IsSamePass, number_of, trail, Inserts, Deletes, MetNoRoom, StepsAlone};
@@ -45,23 +33,23 @@ impl Index {
         pass: &mut Pass,
         key: u64,
         value: u64,
-    ) -> (Reply, Option<Hint>)
+    ) -> (KeyReply, Option<Hint>)
         requires { IsPassOf self.now pass.old }
         ensures same { IsSamePass pass.old pass.new }
-        ensures inserts { Inserts (first_of self.now) (number_of pass.old) key value result.0 result.1 (trail pass.old) (trail pass.new) }
-        ensures no_room { result.0 ≡ reply.NoRoom → MetNoRoom pass.new 0 1 ⊎ MetNoRoom pass.new 1 2 }
-        ensures alone { StepsAlone (first_of self.now) self.now (op.Insert key value) result.0 (trail pass.old) (trail pass.new) }
+        ensures inserts { Inserts (first_of self.now) (number_of pass.old) key value (reply_of result.0) result.1 (trail pass.old) (trail pass.new) }
+        ensures no_room { result.0 ≡ replies.NoRoom → MetNoRoom pass.new 0 1 ⊎ MetNoRoom pass.new 1 2 }
+        ensures alone { StepsAlone (first_of self.now) self.now (op.Insert key value) (reply_of result.0) (trail pass.old) (trail pass.new) }
     {
         self.insert_by(rt, &mut pass.hand, key, value)
     }
 
     /// Takes the key and its value away. Where the leaf is thin then, there is a hint to merge it or even it out.
-    pub fn delete<R: Wait>(&self, rt: &R, pass: &mut Pass, key: u64) -> (Reply, Option<Hint>)
+    pub fn delete<R: Wait>(&self, rt: &R, pass: &mut Pass, key: u64) -> (KeyReply, Option<Hint>)
         requires { IsPassOf self.now pass.old }
         ensures same { IsSamePass pass.old pass.new }
-        ensures deletes { Deletes (first_of self.now) (number_of pass.old) key result.0 result.1 (trail pass.old) (trail pass.new) }
-        ensures no_room { result.0 ≡ reply.NoRoom → MetNoRoom pass.new 0 1 }
-        ensures alone { StepsAlone (first_of self.now) self.now (op.Delete key) result.0 (trail pass.old) (trail pass.new) }
+        ensures deletes { Deletes (first_of self.now) (number_of pass.old) key (reply_of result.0) result.1 (trail pass.old) (trail pass.new) }
+        ensures no_room { result.0 ≡ replies.NoRoom → MetNoRoom pass.new 0 1 }
+        ensures alone { StepsAlone (first_of self.now) self.now (op.Delete key) (reply_of result.0) (trail pass.old) (trail pass.new) }
     {
         self.delete_by(rt, &mut pass.hand, key)
     }

@@ -1,7 +1,7 @@
 //! Deletions, by the words of pages: a leaf gets its new words from those that were read.
 
 ghost use Rattle.std.specs.Prelude.{◌≡◌, ℕ, None, Some, false};
-ghost use Rattle.bl_model.specs.declared.operation.Reply.TheVariants as replies;
+ghost use Rattle.bl_index.specs.declared.reply.KeyReply.TheVariants as replies;
 ghost use Rattle.bl_page.specs.declared.page.Page.{Page};
 ghost use Rattle.bl_page.specs.Words.{words_of};
 ghost use Rattle.bl_model.specs.Rows.{map_of};
@@ -21,11 +21,12 @@ ghost use Rattle.bl_store.specs.Hands.{known, read_words, IsOf, IsIdle, IsRunnin
 ghost use Rattle.bl_passes.specs.declared.known.Mine.{Mine as Knows};
 ghost use Rattle.bl_index.specs.Runs.{IsOn, IsSince, IsWithin};
 ghost use Rattle.bl_index.specs.Events.{IsThere, HasDeleted, HasDeletedBy};
+ghost use Rattle.bl_index.specs.Replies.{reply_of};
 
 use crate::errands::Deleting;
 use crate::index::Index;
+use crate::reply::KeyReply;
 use crate::shown::Shown;
-use bl_model::Reply;
 use bl_passes::Mine;
 use bl_proc::{DeleteReply, Hint, Removed};
 use bl_store::{Glance, Hand};
@@ -44,14 +45,14 @@ fn hint_of(thin: Option<u64>) -> Option<Hint>
 
 /// What a deletion answers, with its hint.
 #[inline(always)]
-fn answer_of(reply: DeleteReply) -> (Reply, Option<Hint>)
-    ensures answer { deleted_answer reply ≡ answers.Op result.0 result.1 }
+fn answer_of(reply: DeleteReply) -> (KeyReply, Option<Hint>)
+    ensures answer { deleted_answer reply ≡ answers.Op (reply_of result.0) result.1 }
     ensures no_room { result.0 ≡ replies.NoRoom → reply ≡ removal.NoRoom }
 {
     match reply {
-        DeleteReply::Deleted(removed) => (Reply::Deleted(removed.value), hint_of(removed.thin)),
-        DeleteReply::Absent => (Reply::Absent, None),
-        DeleteReply::NoRoom => (Reply::NoRoom, None),
+        DeleteReply::Deleted(removed) => (KeyReply::Deleted(removed.value), hint_of(removed.thin)),
+        DeleteReply::Absent => (KeyReply::Absent, None),
+        DeleteReply::NoRoom => (KeyReply::NoRoom, None),
     }
 }
 
@@ -147,14 +148,14 @@ impl Index {
         rt: &R,
         hand: &mut Hand<Mine>,
         key: u64,
-    ) -> (Reply, Option<Hint>)
+    ) -> (KeyReply, Option<Hint>)
         requires own { IsOf self.now.store.table.shared.table_id self.now.store.layout hand.old.seat }
         requires idle { IsIdle hand.old.seat × HasNoStock hand.old.seat }
         ensures same { IsSameHand hand.old.seat hand.new.seat }
         ensures idle { IsIdle hand.new.seat × HasNoStock hand.new.seat }
         ensures within { IsWithin hand.new.seat }
         ensures rests { (known hand.new.seat).runs ≡ false }
-        ensures deleted { HasDeleted hand.old.number (known hand.old.seat) (known hand.new.seat) (proc.Delete (record { key = key; stage = delete.New })) result.0 result.1 }
+        ensures deleted { HasDeleted hand.old.number (known hand.old.seat) (known hand.new.seat) (proc.Delete (record { key = key; stage = delete.New })) (reply_of result.0) result.1 }
         ensures no_room { result.0 ≡ replies.NoRoom → WasRefused hand.new.seat 0 1 }
     {
         let errand = Deleting { key };

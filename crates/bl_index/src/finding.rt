@@ -9,23 +9,24 @@ ghost use Rattle.bl_passes.specs.Seeing.{IsSeen};
 ghost use Rattle.bl_ways.specs.declared.acts.Action.TheVariants as act;
 ghost use Rattle.bl_proc.specs.Searches.{find_next_in};
 ghost use Rattle.bl_index.specs.Runs.{IsWithin};
+ghost use Rattle.bl_index.specs.Replies.{reply_of, found_of};
 ghost use Rattle.bl_index.specs.Searching.{IsSearching};
 
 use crate::config::OutOfTurns;
 use crate::index::{Index, Pass};
-use bl_model::Reply;
+use crate::reply::KeyReply;
 use bl_passes::Mine;
 use bl_proc::{Find, FindStage};
 use bl_store::Hand;
 
 /// What a search answers.
 #[inline(always)]
-fn reply_of(value: Option<u64>) -> Reply
-    ensures { result ≡ found_reply value }
+fn found(value: Option<u64>) -> KeyReply
+    ensures { reply_of result ≡ found_reply value }
 {
     match value {
-        Some(value) => Reply::Found(value),
-        None => Reply::Absent,
+        Some(value) => KeyReply::Found(value),
+        None => KeyReply::Absent,
     }
 }
 
@@ -47,17 +48,17 @@ impl Index {
 
     /// The value of a key, or that the key is absent. It gets at most so many pages, the anchor included.
     #[inline(always)]
-    pub fn find(&self, pass: &mut Pass, key: u64, turns: u32) -> Result<Reply, OutOfTurns>
+    pub fn find(&self, pass: &mut Pass, key: u64, turns: u32) -> Result<KeyReply, OutOfTurns>
         requires { IsPassOf self.now pass.old }
         ensures same { IsSamePass pass.old pass.new }
-        ensures answers { AnswersOrRunsOut (first_of self.now) (pages_of self.now) (number_of pass.old) turns (op.Find key) result (trail pass.old) (trail pass.new) }
-        ensures alone { IfOk result (λ reply. StepsAlone (first_of self.now) self.now (op.Find key) reply (trail pass.old) (trail pass.new)) }
+        ensures answers { AnswersOrRunsOut (first_of self.now) (pages_of self.now) (number_of pass.old) turns (op.Find key) (found_of result) (trail pass.old) (trail pass.new) }
+        ensures alone { IfOk result (λ reply. StepsAlone (first_of self.now) self.now (op.Find key) (reply_of reply) (trail pass.old) (trail pass.new)) }
     {
         self.find_by(&mut pass.hand, key, turns)
     }
 
     #[inline(always)]
-    fn find_by(&self, hand: &mut Hand<Mine>, key: u64, turns: u32) -> Result<Reply, OutOfTurns>
+    fn find_by(&self, hand: &mut Hand<Mine>, key: u64, turns: u32) -> Result<KeyReply, OutOfTurns>
         requires own { IsOf self.now.store.table.shared.table_id self.now.store.layout hand.old.seat }
         requires idle { IsIdle hand.old.seat }
         ensures same { IsSameHand hand.old.seat hand.new.seat × IsSameStock hand.old.seat hand.new.seat }
@@ -66,7 +67,7 @@ impl Index {
         ensures rests { (known hand.new.seat).runs ≡ false }
         ensures first { (known hand.new.seat).first ≡ (known hand.old.seat).first }
         ensures seen { IsSeen (known hand.new.seat).first (trail_of (known hand.new.seat).trail) }
-        ensures answers { AnswersOrRunsOut (known hand.old.seat).first self.now.store.layout.pages hand.old.number turns (op.Find key) result (trail_of (known hand.old.seat).trail) (trail_of (known hand.new.seat).trail) }
+        ensures answers { AnswersOrRunsOut (known hand.old.seat).first self.now.store.layout.pages hand.old.number turns (op.Find key) (found_of result) (trail_of (known hand.old.seat).trail) (trail_of (known hand.new.seat).trail) }
     {
         let mut process = Find::new(key);
         self.begin(hand, &mut process);
@@ -75,7 +76,7 @@ impl Index {
             self.read(hand, &mut process, page);
             if let FindStage::Ending(value) = process.stage {
                 self.finish(hand, &mut process);
-                return Ok(reply_of(value));
+                return Ok(found(value));
             }
         }
         self.give_up(hand);

@@ -1,7 +1,7 @@
 //! Insertions, by the words of pages. A leaf that has room gets its new words from those that were read.
 
 ghost use Rattle.std.specs.Prelude.{◌≡◌, ℕ, ◌<◌, None, Some, false};
-ghost use Rattle.bl_model.specs.declared.operation.Reply.TheVariants as replies;
+ghost use Rattle.bl_index.specs.declared.reply.KeyReply.TheVariants as replies;
 ghost use Rattle.bl_page.specs.declared.page.Page.{Page};
 ghost use Rattle.bl_page.specs.Words.{words_of};
 ghost use Rattle.bl_laws.specs.Pages.{IsTreePage};
@@ -19,12 +19,13 @@ ghost use Rattle.bl_passes.specs.declared.known.Mine.{Mine as Knows};
 ghost use Rattle.bl_index.specs.Runs.{IsOn, IsSince, IsWithin};
 ghost use Rattle.bl_index.specs.Events.{IsThere, HasInserted, HasInsertedBy};
 ghost use Rattle.bl_index.specs.Rooms.{LacksRoom};
+ghost use Rattle.bl_index.specs.Replies.{reply_of};
 
 use crate::errands::Inserting;
 use crate::index::Index;
 use crate::placing::listed_at;
+use crate::reply::KeyReply;
 use crate::shown::Shown;
-use bl_model::Reply;
 use bl_page::{LEVEL_UNIT, WordSource, place_in, words_from};
 use bl_passes::Mine;
 use bl_proc::{Hint, InsertReply};
@@ -45,21 +46,21 @@ fn inserted_by(outcome: Outcome) -> InsertReply
 
 /// What an insertion answers, with its hint.
 #[inline(always)]
-fn answer_of(reply: InsertReply) -> (Reply, Option<Hint>)
-    ensures answer { inserted_answer reply ≡ answers.Op result.0 result.1 }
+fn answer_of(reply: InsertReply) -> (KeyReply, Option<Hint>)
+    ensures answer { inserted_answer reply ≡ answers.Op (reply_of result.0) result.1 }
     ensures no_room { result.0 ≡ replies.NoRoom → reply ≡ inserted.NoRoom }
 {
     match reply {
-        InsertReply::Inserted(None) => (Reply::Inserted, None),
+        InsertReply::Inserted(None) => (KeyReply::Inserted, None),
         InsertReply::Inserted(Some(separator)) => {
             let hint = Hint::Post {
                 level: Level::new(1),
                 key: separator,
             };
-            (Reply::Inserted, Some(hint))
+            (KeyReply::Inserted, Some(hint))
         }
-        InsertReply::Present(value) => (Reply::Present(value), None),
-        InsertReply::NoRoom => (Reply::NoRoom, None),
+        InsertReply::Present(value) => (KeyReply::Present(value), None),
+        InsertReply::NoRoom => (KeyReply::NoRoom, None),
     }
 }
 
@@ -200,14 +201,14 @@ impl Index {
         hand: &mut Hand<Mine>,
         key: u64,
         value: u64,
-    ) -> (Reply, Option<Hint>)
+    ) -> (KeyReply, Option<Hint>)
         requires own { IsOf self.now.store.table.shared.table_id self.now.store.layout hand.old.seat }
         requires idle { IsIdle hand.old.seat × HasNoStock hand.old.seat }
         ensures same { IsSameHand hand.old.seat hand.new.seat }
         ensures idle { IsIdle hand.new.seat × HasNoStock hand.new.seat }
         ensures within { IsWithin hand.new.seat }
         ensures rests { (known hand.new.seat).runs ≡ false }
-        ensures inserted { HasInserted hand.old.number (known hand.old.seat) (known hand.new.seat) (proc.Insert (record { key = key; value = value; stage = insert.New })) result.0 result.1 }
+        ensures inserted { HasInserted hand.old.number (known hand.old.seat) (known hand.new.seat) (proc.Insert (record { key = key; value = value; stage = insert.New })) (reply_of result.0) result.1 }
         ensures no_room { result.0 ≡ replies.NoRoom → LacksRoom hand.new.seat }
     {
         let errand = Inserting { key, value };

@@ -1,6 +1,6 @@
 //! Kinds of processes, each by its own type.
 
-use bl_proc::{Compress, Find, Part, Post, Process, Reader};
+use bl_proc::{Compress, Find, Post, Process, Reader};
 
 /// A kind of process that the index carries out: each is one of the kinds that the world of processes knows, and goes on
 /// in one way.
@@ -84,32 +84,6 @@ impl Kind for Post {
     ghost follows = { post_follows };
 
     ghost retires = { post_retires };
-}
-
-impl Kind for Part {
-    ghost use Rattle.std.specs.Prelude.{refl};
-    ghost use Rattle.bl_proc.specs.declared.kinds.Proc.TheVariants as proc;
-    ghost use Rattle.bl_courses.proofs.Parts.{part_goes};
-    ghost use Rattle.bl_courses.proofs.PartsFollowing.{part_wants, part_follows};
-    ghost use Rattle.bl_courses.proofs.Retirements.{part_retires};
-
-    ghost proc_of = { λ p. proc.Part p };
-
-    ghost acts = { λ p. refl };
-
-    ghost asks = { λ p. refl };
-
-    ghost answers = { λ p. refl };
-
-    ghost goes = { λ p q what t. t };
-
-    ghost courses = { part_goes };
-
-    ghost wants = { part_wants };
-
-    ghost follows = { part_follows };
-
-    ghost retires = { part_retires };
 }
 
 impl Kind for Compress {

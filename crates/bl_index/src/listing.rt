@@ -1,33 +1,45 @@
-//! Parts of the map.
+//! Parts of the map, by the words of pages: a part goes by its events, and its rows are read from its leaf's words.
 
-ghost use Rattle.std.specs.Prelude.{◌≡◌, false, IfOk};
+ghost use Rattle.std.specs.Prelude.{◌≡◌, ℕ, List, false, IfOk, MatchOption};
 ghost use Rattle.bl_model.specs.declared.operation.Op.TheVariants as op;
-ghost use Rattle.bl_store.specs.Hands.{known, IsOf, IsIdle, IsSameHand, IsSameStock};
+ghost use Rattle.bl_page.specs.Machine.Act.{Get};
+ghost use Rattle.bl_ways.specs.declared.acts.Action.TheVariants as act;
+ghost use Rattle.bl_ways.specs.declared.acts.Seen.TheVariants as seen;
+ghost use Rattle.bl_proc.specs.declared.parts.PartStage.TheVariants as part_stage;
+ghost use Rattle.bl_proc.specs.Processes.{next_of};
+ghost use Rattle.bl_courses.specs.Courses.{GoesOn};
+ghost use Rattle.bl_store.specs.Hands.{known, IsOf, IsIdle, IsRunning, IsSameHand, IsSameStage, IsSameStock};
 ghost use Rattle.bl_passes.specs.Noting.{trail_of};
 ghost use Rattle.bl_passes.specs.Seeing.{IsSeen};
-ghost use Rattle.bl_ways.specs.declared.acts.Action.TheVariants as act;
-ghost use Rattle.bl_proc.specs.Parts.{part_next_in};
-ghost use Rattle.bl_index.specs.Runs.{IsWithin};
-ghost use Rattle.bl_index.specs.Searching.{IsListing};
+ghost use Rattle.bl_passes.specs.Told.{Begins, Steps, ends, IsUnborn};
+ghost use Rattle.bl_index.specs.declared.listing.Ahead.TheVariants as ahead;
+ghost use Rattle.bl_index.specs.Runs.{IsOn, IsSince, IsWithin};
+ghost use Rattle.bl_index.specs.Parts.{listing, part_at, IsAtLeaf, HasReached, HasLeaf, HasGivenUp};
 
-use crate::changing::answered;
 use crate::config::OutOfTurns;
 use crate::index::{Index, Pass};
+use crate::leaf_rows::{next_in, rows_in};
+use crate::shown::Shown;
 use bl_model::Reply;
-use bl_passes::Mine;
-use bl_proc::{Part, PartStage, Process};
-use bl_store::Hand;
+use bl_passes::{Began, Ended, Launch, Mine};
+use bl_store::{Glance, Hand};
+use bl_ways::{Onward, top_in, way_in};
+use std::marker::Brand;
 
 /// The page that a part is to get next.
-fn page_of(stage: &PartStage) -> u32
-    requires { IsListing stage.now }
-    ensures { part_next_in stage.now ≡ act.Get result }
-{
-    match stage {
-        PartStage::AtAnchor => 0,
-        PartStage::At(page) => *page,
-        _ => unreachable!(),
-    }
+#[derive(Clone, Copy)]
+pub(crate) enum Ahead {
+    Anchor,
+    Page(u32),
+}
+
+/// Where a part has come by a get.
+#[derive(Clone, Copy)]
+pub(crate) enum Reached {
+    /// It is to get another page.
+    Further(Ahead),
+    /// It has its leaf, whose rows it lists.
+    Leaf(Glance),
 }
 
 impl Index {
@@ -55,18 +67,144 @@ impl Index {
         ensures seen { IsSeen (known hand.new.seat).first (trail_of (known hand.new.seat).trail) }
         ensures answers { AnswersOrRunsOut (known hand.old.seat).first self.now.store.layout.pages hand.old.number turns (op.Part from) result (trail_of (known hand.old.seat).trail) (trail_of (known hand.new.seat).trail) }
     {
-        let mut process = Part::new(from);
-        self.begin(hand, &mut process);
+        let Some(glance) = self.come_to_leaf(hand, from, turns) else {
+            return Err(OutOfTurns);
+        };
+        let shown = Shown {
+            store: &self.store,
+            glance,
+        };
+        let rows = rows_in(&shown, hand, from);
+        let next = next_in(&shown, hand);
+        self.end_part(hand);
+        Ok(Reply::Rows(rows, next))
+    }
+
+    // The part from that key on begins, which the bound names beside its pass.
+    #[inline(always)]
+    fn launch_part<J: Launch>(&self, hand: &mut Hand<Mine>, from: u64)
+        requires own { IsOf self.now.store.table.shared.table_id self.now.store.layout hand.old.seat }
+        requires idle { IsIdle hand.old.seat }
+        requires names { (hand.old.number ≡ J.pass) × (self.now.store.layout.pages ≡ J.pages) × (self.now.store.layout.passes ≡ J.passes) × (listing from part_stage.New ≡ J.process) }
+        requires next { next_of J.process ≡ act.Begin }
+        requires unborn { IsUnborn J.process }
+        requires course { GoesOn J.process seen.Done }
+        ensures same { IsSameHand hand.old.seat hand.new.seat × IsSameStock hand.old.seat hand.new.seat }
+        ensures running { IsRunning hand.new.seat }
+        ensures told { Begins J.pass J.pages J.passes J.process (known hand.old.seat) (known hand.new.seat) }
+    {
+        let _ = from;
+        self.store.begin::<Began<J>>(hand);
+    }
+
+    /// A part from that key on begins.
+    #[inline(always)]
+    fn begin_part(&self, hand: &mut Hand<Mine>, from: u64)
+        requires own { IsOf self.now.store.table.shared.table_id self.now.store.layout hand.old.seat }
+        requires idle { IsIdle hand.old.seat }
+        ensures same { IsSameHand hand.old.seat hand.new.seat × IsSameStock hand.old.seat hand.new.seat }
+        ensures running { IsRunning hand.new.seat }
+        ensures process { IsOn self.now.store.layout (known hand.new.seat) (part_at from ahead.Anchor) }
+        ensures begun { IsSince hand.old.number (known hand.old.seat) (known hand.new.seat) }
+        ensures told { Begins hand.old.number self.now.store.layout.pages self.now.store.layout.passes (listing from part_stage.New) (known hand.old.seat) (known hand.new.seat) }
+    {
+        self.launch_part::<Brand>(hand, from);
+    }
+
+    /// The part gets the anchor, and goes on by its words.
+    #[inline(always)]
+    fn list_anchor(&self, hand: &mut Hand<Mine>, from: u64) -> u32
+        requires own { IsOf self.now.store.table.shared.table_id self.now.store.layout hand.old.seat }
+        requires running { IsRunning hand.old.seat }
+        requires process { IsOn self.now.store.layout (known hand.old.seat) (part_at from ahead.Anchor) }
+        ensures same { IsSameHand hand.old.seat hand.new.seat × IsSameStage hand.old.seat hand.new.seat × IsSameStock hand.old.seat hand.new.seat }
+        ensures process { IsOn self.now.store.layout (known hand.new.seat) (part_at from (ahead.Page result)) }
+        ensures got { Steps (Get 0) (known hand.old.seat) (known hand.new.seat) }
+    {
+        let _ = from;
+        let glance = self.look(hand, 0);
+        let shown = Shown {
+            store: &self.store,
+            glance,
+        };
+        top_in(&shown, hand)
+    }
+
+    /// The part gets the page, and goes on by its words.
+    #[inline(always)]
+    fn list_page(&self, hand: &mut Hand<Mine>, from: u64, page: u32) -> Reached
+        requires own { IsOf self.now.store.table.shared.table_id self.now.store.layout hand.old.seat }
+        requires running { IsRunning hand.old.seat }
+        requires process { IsOn self.now.store.layout (known hand.old.seat) (part_at from (ahead.Page page)) }
+        ensures same { IsSameHand hand.old.seat hand.new.seat × IsSameStage hand.old.seat hand.new.seat × IsSameStock hand.old.seat hand.new.seat }
+        ensures reached { HasReached from self.now.store.layout hand.new.seat result }
+        ensures got { Steps (Get page) (known hand.old.seat) (known hand.new.seat) }
+    {
+        let glance = self.look(hand, page);
+        let shown = Shown {
+            store: &self.store,
+            glance,
+        };
+        match way_in(&shown, hand, from, 0) {
+            Onward::Again => Reached::Further(Ahead::Anchor),
+            Onward::Right(next) | Onward::Down(next) => Reached::Further(Ahead::Page(next)),
+            Onward::Here => Reached::Leaf(glance),
+        }
+    }
+
+    /// The part gets the page that is next.
+    #[inline(always)]
+    fn list_on(&self, hand: &mut Hand<Mine>, from: u64, ahead: Ahead) -> Reached
+        requires own { IsOf self.now.store.table.shared.table_id self.now.store.layout hand.old.seat }
+        requires running { IsRunning hand.old.seat }
+        requires process { IsOn self.now.store.layout (known hand.old.seat) (part_at from ahead) }
+        ensures same { IsSameHand hand.old.seat hand.new.seat × IsSameStage hand.old.seat hand.new.seat × IsSameStock hand.old.seat hand.new.seat }
+        ensures reached { HasReached from self.now.store.layout hand.new.seat result }
+        ensures got { (x : ℕ) × Steps (Get x) (known hand.old.seat) (known hand.new.seat) }
+    {
+        match ahead {
+            Ahead::Anchor => Reached::Further(Ahead::Page(self.list_anchor(hand, from))),
+            Ahead::Page(page) => self.list_page(hand, from, page),
+        }
+    }
+
+    /// A part begins, and gets so many pages at most, until it has its leaf. Where it runs out of turns, it ends.
+    #[inline(always)]
+    pub(crate) fn come_to_leaf(
+        &self,
+        hand: &mut Hand<Mine>,
+        from: u64,
+        turns: u32,
+    ) -> Option<Glance>
+        requires own { IsOf self.now.store.table.shared.table_id self.now.store.layout hand.old.seat }
+        requires idle { IsIdle hand.old.seat }
+        ensures same { IsSameHand hand.old.seat hand.new.seat × IsSameStock hand.old.seat hand.new.seat }
+        ensures came { MatchOption result (HasGivenUp self.now.store.layout hand.old.number turns (known hand.old.seat) hand.new.seat) (HasLeaf self.now.store.layout hand.old.number from (known hand.old.seat) hand.new.seat) }
+    {
+        self.begin_part(hand, from);
+        let mut ahead = Ahead::Anchor;
         for _turn in 0..turns {
-            let page = page_of(&process.stage);
-            self.read(hand, &mut process, page);
-            if let PartStage::Ending(_) = &process.stage {
-                self.finish(hand, &mut process);
-                let (reply, _) = answered(process.answer());
-                return Ok(reply);
+            match self.list_on(hand, from, ahead) {
+                Reached::Further(next) => ahead = next,
+                Reached::Leaf(glance) => return Some(glance),
             }
         }
         self.give_up(hand);
-        Err(OutOfTurns)
+        None
+    }
+
+    /// The part, which has its leaf, ends.
+    #[inline(always)]
+    pub(crate) fn end_part(&self, hand: &mut Hand<Mine>)
+        requires own { IsOf self.now.store.table.shared.table_id self.now.store.layout hand.old.seat }
+        requires running { IsRunning hand.old.seat }
+        requires process { IsOn self.now.store.layout (known hand.old.seat) (known hand.old.seat).state }
+        requires leaf { (from : ℕ) × (words : List ℕ) × IsAtLeaf from words (known hand.old.seat) }
+        ensures same { IsSameHand hand.old.seat hand.new.seat × IsSameStock hand.old.seat hand.new.seat }
+        ensures idle { IsIdle hand.new.seat }
+        ensures within { IsWithin hand.new.seat }
+        ensures ended { ends (known hand.old.seat) 0 (known hand.new.seat) }
+    {
+        self.store.end::<Ended>(hand);
     }
 }

@@ -1,13 +1,19 @@
 //! Scans: parts of the map, each from where the last one ended.
 
-ghost use Rattle.std.specs.Prelude.{◌≡◌, ◌-◌, ◌<◌, ◌++◌, Some, length, filter, vec_len, OnOk, OnErr};
+ghost use Rattle.std.specs.Prelude.{◌≡◌, ◌-◌, Some, false, vec_len};
 ghost use Rattle.std.specs.Vec.{vec_capacity};
-ghost use Rattle.bl_model.specs.Rows.{HasRisingKeys};
+ghost use Rattle.bl_store.specs.Hands.{known, IsOf, IsIdle, IsSameHand, IsSameStock};
+ghost use Rattle.bl_passes.specs.Noting.{trail_of};
+ghost use Rattle.bl_passes.specs.Seeing.{IsSeen};
+ghost use Rattle.bl_index.specs.Runs.{IsWithin};
 ghost use Rattle.bl_index.specs.Scans.{is_below as below, IsOver, MayAppend, MayScan};
 
 use crate::index::{Index, Pass};
-use bl_model::{Next, Reply};
-use std::alloc::AllocError;
+use crate::leaf_rows::{append_rows, next_in};
+use crate::shown::Shown;
+use bl_model::Next;
+use bl_passes::Mine;
+use bl_store::Hand;
 
 /// Why a scan stopped, with the key from which it goes on.
 #[derive(Clone, Copy, Debug, PartialEq, Eq)]
@@ -26,27 +32,6 @@ fn is_below(to: Option<u64>, key: u64) -> bool
         Some(end) => key < end,
         None => true,
     }
-}
-
-/// The first rows, whose keys are below the end.
-fn rows_below(to: Option<u64>, rows: &[(u64, u64)]) -> &[(u64, u64)]
-    requires { HasRisingKeys rows.now }
-    ensures { result.now ≡ filter (λ row. below to row.0) rows.now }
-{
-    match to {
-        Some(end) => &rows[..rows.partition_point(|row| row.0 < end)],
-        None => rows,
-    }
-}
-
-/// Appends all of the rows or, where there is no room, none.
-fn append(rows: &mut Vec<(u64, u64)>, more: &[(u64, u64)]) -> Result<(), AllocError>
-    ensures ok { OnOk result (rows.new.items ≡ rows.old.items ++ more.now) }
-    ensures err { OnErr result (rows.new.items ≡ rows.old.items) }
-    ensures room { OnErr result (vec_capacity rows.new - vec_len rows.new < length more.now) }
-{
-    rows.reserve(more.len())?;
-    rows.extend_from_slice(more)
 }
 
 impl Index {
@@ -94,13 +79,38 @@ impl Index {
         ensures same { IsSamePass pass.old pass.new }
         ensures appends { MayAppend (first_of self.now) (pages_of self.now) (number_of pass.old) turns from to (vec_capacity rows.new - vec_len rows.new) result rows.old.items rows.new.items (trail pass.old) (trail pass.new) }
     {
-        let Ok(reply) = self.part(pass, from, turns) else {
+        self.append_part_by(&mut pass.hand, from, to, turns, rows)
+    }
+
+    fn append_part_by(
+        &self,
+        hand: &mut Hand<Mine>,
+        from: u64,
+        to: Option<u64>,
+        turns: u32,
+        rows: &mut Vec<(u64, u64)>,
+    ) -> Result<Next, ScanFault>
+        requires own { IsOf self.now.store.table.shared.table_id self.now.store.layout hand.old.seat }
+        requires idle { IsIdle hand.old.seat }
+        ensures same { IsSameHand hand.old.seat hand.new.seat × IsSameStock hand.old.seat hand.new.seat }
+        ensures idle { IsIdle hand.new.seat }
+        ensures within { IsWithin hand.new.seat }
+        ensures rests { (known hand.new.seat).runs ≡ false }
+        ensures first { (known hand.new.seat).first ≡ (known hand.old.seat).first }
+        ensures seen { IsSeen (known hand.new.seat).first (trail_of (known hand.new.seat).trail) }
+        ensures appends { MayAppend (known hand.old.seat).first self.now.store.layout.pages hand.old.number turns from to (vec_capacity rows.new - vec_len rows.new) result rows.old.items rows.new.items (trail_of (known hand.old.seat).trail) (trail_of (known hand.new.seat).trail) }
+    {
+        let Some(glance) = self.come_to_leaf(hand, from, turns) else {
             return Err(ScanFault::OutOfTurns(from));
         };
-        let Reply::Rows(part, next) = reply else {
-            unreachable!()
+        let shown = Shown {
+            store: &self.store,
+            glance,
         };
-        match append(rows, rows_below(to, part.as_slice())) {
+        let next = next_in(&shown, hand);
+        let appended = append_rows(&shown, hand, from, to, rows);
+        self.end_part(hand);
+        match appended {
             Ok(()) => Ok(next),
             Err(_) => Err(ScanFault::Memory(from)),
         }

@@ -3,13 +3,15 @@
 ghost use Rattle.std.specs.Prelude.{◌≡◌, suc, ◌+◌, ◌<◌, ◌≤◌, ◌^◌, ◌++◌, length, Some, IfOk, OnOk};
 ghost use Rattle.bl_model.specs.declared.operation.Op.TheVariants as op;
 ghost use Rattle.bl_index.specs.Calls.{first_of, IsPassOf, IsSamePass, number_of, trail};
+ghost use Rattle.bl_index.specs.Replies.{reply_of};
 ghost use Rattle.bl_serve.specs.Works.{Works, Adds};
 ghost use Rattle.bl_serve.specs.Answering.{AnswersLine, AnswersLines, WritesPart, WritesRows};
 
 use crate::compressing::{leave, post};
 use crate::gate::Gate;
+use crate::printing::{push_key_line, push_word_line};
 use bl_hints::Hints;
-use bl_index::{Index, Pass};
+use bl_index::{Index, KeyReply, Pass};
 use bl_lines::print::{Response, push_line, push_number, push_rows_below};
 use bl_lines::request::Request;
 use bl_model::{Next, Op, Reply};
@@ -20,11 +22,19 @@ use std::thread;
 /// How often a worker looks for room before a change at most.
 const ROUNDS: u32 = 64;
 
+/// A worker looks each so many lines whether a sweep is due, and behind a batch of one line. With few pages for each pass one is
+/// due after each put; but a sweep reads words that the other workers write, and what it releases is no longer at hand for the next
+/// puts of the pass.
+const LINES_TO_SWEEP: u64 = 256;
+
+/// So many bytes of output are made room for at once for each line: an answer about one key has few more.
+const ROOM: usize = 32;
+
 /// The value of a key, or that the key is absent.
-fn find<R: Wait>(rt: &R, index: &Index, pass: &mut Pass, key: u64) -> Reply
+fn find<R: Wait>(rt: &R, index: &Index, pass: &mut Pass, key: u64) -> KeyReply
     requires { IsPassOf index.now pass.old }
     ensures same { IsSamePass pass.old pass.new }
-    ensures works { Works (first_of index.now) (number_of pass.old) (op.Find key) result (trail pass.old) (trail pass.new) }
+    ensures works { Works (first_of index.now) (number_of pass.old) (op.Find key) (reply_of result) (trail pass.old) (trail pass.new) }
 {
     let turns = index.patience();
     for _ in rt.forever() {
@@ -66,7 +76,19 @@ fn make_room(index: &Index, pass: &mut Pass)
     }
 }
 
-/// Puts the value at the key, where the key has none, and posts what was parted.
+/// Gives back what the pass has retired, where it is time to look and a sweep is due. A search retires nothing.
+fn give_back(index: &Index, pass: &mut Pass, looks: bool)
+    requires { IsPassOf index.now pass.old }
+    ensures same { IsSamePass pass.old pass.new }
+    ensures adds { Adds (first_of index.now) (number_of pass.old) (trail pass.old) (trail pass.new) }
+{
+    if looks && pass.is_due() {
+        index.sweep(pass);
+    }
+}
+
+/// Puts the value at the key, where the key has none, posts what was parted, and sweeps where it is time to look
+/// and that is due.
 fn insert<R: Wait>(
     rt: &R,
     index: &Index,
@@ -74,62 +96,37 @@ fn insert<R: Wait>(
     pass: &mut Pass,
     key: u64,
     value: u64,
-) -> Reply
+    looks: bool,
+) -> KeyReply
     requires { IsPassOf index.now pass.old }
     ensures same { IsSamePass pass.old pass.new }
-    ensures works { Works (first_of index.now) (number_of pass.old) (op.Insert key value) result (trail pass.old) (trail pass.new) }
+    ensures works { Works (first_of index.now) (number_of pass.old) (op.Insert key value) (reply_of result) (trail pass.old) (trail pass.new) }
 {
     make_room(index, pass);
     let (reply, hint) = index.insert(rt, pass, key, value);
     post(rt, index, hints, pass, hint);
+    give_back(index, pass, looks);
     reply
 }
 
-/// Takes the key and its value away. A hint of a thin page waits for a compressor.
-fn delete<R: Wait>(rt: &R, index: &Index, hints: &Hints, pass: &mut Pass, key: u64) -> Reply
+/// Takes the key and its value away, and sweeps where it is time to look and that is due. A hint of a thin page waits for a
+/// compressor.
+fn delete<R: Wait>(
+    rt: &R,
+    index: &Index,
+    hints: &Hints,
+    pass: &mut Pass,
+    key: u64,
+    looks: bool,
+) -> KeyReply
     requires { IsPassOf index.now pass.old }
     ensures same { IsSamePass pass.old pass.new }
-    ensures works { Works (first_of index.now) (number_of pass.old) (op.Delete key) result (trail pass.old) (trail pass.new) }
+    ensures works { Works (first_of index.now) (number_of pass.old) (op.Delete key) (reply_of result) (trail pass.old) (trail pass.new) }
 {
     make_room(index, pass);
     let (reply, hint) = index.delete(rt, pass, key);
     leave(rt, hints, hint);
-    reply
-}
-
-/// Carries an operation out.
-fn operate<R: Wait>(rt: &R, index: &Index, hints: &Hints, pass: &mut Pass, op: Op) -> Reply
-    requires { IsPassOf index.now pass.old }
-    ensures same { IsSamePass pass.old pass.new }
-    ensures works { Works (first_of index.now) (number_of pass.old) op result (trail pass.old) (trail pass.new) }
-{
-    match op {
-        Op::Find(key) => find(rt, index, pass, key),
-        Op::Insert(key, value) => insert(rt, index, hints, pass, key, value),
-        Op::Delete(key) => delete(rt, index, hints, pass, key),
-        Op::Part(from) => part(rt, index, pass, from),
-    }
-}
-
-/// Gives back what the pass has retired, where that is due. A search retires nothing.
-fn give_back(index: &Index, pass: &mut Pass)
-    requires { IsPassOf index.now pass.old }
-    ensures same { IsSamePass pass.old pass.new }
-    ensures adds { Adds (first_of index.now) (number_of pass.old) (trail pass.old) (trail pass.new) }
-{
-    if pass.is_due() {
-        index.sweep(pass);
-    }
-}
-
-/// Carries an operation out, and sweeps where that is due.
-fn carry_out<R: Wait>(rt: &R, index: &Index, hints: &Hints, pass: &mut Pass, op: Op) -> Reply
-    requires { IsPassOf index.now pass.old }
-    ensures same { IsSamePass pass.old pass.new }
-    ensures works { Works (first_of index.now) (number_of pass.old) op result (trail pass.old) (trail pass.new) }
-{
-    let reply = operate(rt, index, hints, pass, op);
-    give_back(index, pass);
+    give_back(index, pass, looks);
     reply
 }
 
@@ -176,7 +173,8 @@ fn write_rows<R: Wait>(
     Ok(())
 }
 
-/// Answers a scan, and sweeps where that is due.
+/// Answers a scan, and sweeps where it is time to look and that is due.
+#[inline(never)]
 fn scan<R: Wait>(
     rt: &R,
     index: &Index,
@@ -185,6 +183,7 @@ fn scan<R: Wait>(
     low: u64,
     high: u64,
     text: &mut Vec<u8>,
+    looks: bool,
 ) -> Result<(), AllocError>
     requires { IsPassOf index.now pass.old }
     ensures same { IsSamePass pass.old pass.new }
@@ -194,8 +193,58 @@ fn scan<R: Wait>(
     text.extend_from_slice(b" rows")?;
     write_rows(rt, index, pass, low, high, text)?;
     text.push(b'\n')?;
-    give_back(index, pass);
+    give_back(index, pass, looks);
     Ok(())
+}
+
+/// Answers a part. Its reply is wide, so it stands apart from the operations on one key.
+#[inline(never)]
+fn list<R: Wait>(
+    rt: &R,
+    index: &Index,
+    pass: &mut Pass,
+    number: u64,
+    from: u64,
+    text: &mut Vec<u8>,
+) -> Result<(), AllocError>
+    requires { IsPassOf index.now pass.old }
+    ensures same { IsSamePass pass.old pass.new }
+    ensures answers { OnOk result (AnswersLine (first_of index.now) (number_of pass.old) number (Some (Request.Ask (op.Part from))) text.old.items text.new.items (trail pass.old) (trail pass.new)) }
+{
+    let reply = part(rt, index, pass, from);
+    push_line(text, number, &Response::Replied(reply))
+}
+
+/// Carries an operation out, and answers it.
+fn operate<R: Wait>(
+    rt: &R,
+    index: &Index,
+    hints: &Hints,
+    pass: &mut Pass,
+    number: u64,
+    op: Op,
+    text: &mut Vec<u8>,
+    looks: bool,
+) -> Result<(), AllocError>
+    requires { IsPassOf index.now pass.old }
+    ensures same { IsSamePass pass.old pass.new }
+    ensures answers { OnOk result (AnswersLine (first_of index.now) (number_of pass.old) number (Some (Request.Ask op)) text.old.items text.new.items (trail pass.old) (trail pass.new)) }
+{
+    match op {
+        Op::Find(key) => {
+            let reply = find(rt, index, pass, key);
+            push_key_line(text, number, reply)
+        }
+        Op::Insert(key, value) => {
+            let reply = insert(rt, index, hints, pass, key, value, looks);
+            push_key_line(text, number, reply)
+        }
+        Op::Delete(key) => {
+            let reply = delete(rt, index, hints, pass, key, looks);
+            push_key_line(text, number, reply)
+        }
+        Op::Part(from) => list(rt, index, pass, number, from, text),
+    }
 }
 
 /// Answers the line of that number.
@@ -208,6 +257,7 @@ fn answer<R: Wait, G: Gate>(
     number: u64,
     asked: Option<Request>,
     text: &mut Vec<u8>,
+    looks: bool,
 ) -> Result<(), AllocError>
     requires { IsPassOf index.now pass.old }
     ensures same { IsSamePass pass.old pass.new }
@@ -216,18 +266,18 @@ fn answer<R: Wait, G: Gate>(
     match asked {
         Some(Request::Ask(op)) => {
             gate.before(number);
-            let reply = carry_out(rt, index, hints, pass, op);
-            gate.after(number);
-            push_line(text, number, &Response::Replied(reply))
-        }
-        Some(Request::Scan(low, high)) => {
-            gate.before(number);
-            let answered = scan(rt, index, pass, number, low, high, text);
+            let answered = operate(rt, index, hints, pass, number, op, text, looks);
             gate.after(number);
             answered
         }
-        Some(Request::Sync) => push_line(text, number, &Response::Synced),
-        None => push_line(text, number, &Response::Malformed),
+        Some(Request::Scan(low, high)) => {
+            gate.before(number);
+            let answered = scan(rt, index, pass, number, low, high, text, looks);
+            gate.after(number);
+            answered
+        }
+        Some(Request::Sync) => push_word_line(text, number, b"synced"),
+        None => push_word_line(text, number, b"malformed"),
     }
 }
 
@@ -247,11 +297,14 @@ pub fn answer_lines<R: Wait, G: Gate>(
     ensures same { IsSamePass pass.old pass.new }
     ensures answers { IfOk result (λ text. AnswersLines (first_of index.now) (number_of pass.old) (suc done) lines.now text.items (trail pass.old) (trail pass.new)) }
 {
-    let mut text = Vec::new(alloc);
+    let mut text = Vec::with_capacity(alloc, lines.len().saturating_mul(ROOM))?;
     let mut number = done;
     for asked in lines {
         number += 1;
-        answer(rt, index, hints, gate, pass, number, *asked, &mut text)?;
+        let looks = number % LINES_TO_SWEEP == 0 || lines.len() == 1;
+        answer(
+            rt, index, hints, gate, pass, number, *asked, &mut text, looks,
+        )?;
     }
     Ok(text)
 }

@@ -91,10 +91,11 @@ pub fn follow_hint<R: Wait>(rt: &R, index: &Index, hints: &Hints, pass: &mut Pas
     true
 }
 
-/// How many workers of the section are at work, and a bell that wakes the compressors.
+/// How many workers of the section are at work, how many compressors rest, and a bell that wakes these.
 #[derive(Drop)]
 pub struct Shift {
     working: AtomicU64,
+    resting: AtomicU64,
     bell: AtomicU64,
 }
 
@@ -102,21 +103,34 @@ impl Shift {
     pub fn new(workers: u64) -> Shift {
         Shift {
             working: AtomicU64::new(workers),
+            resting: AtomicU64::new(0),
             bell: AtomicU64::new(0),
         }
     }
 
-    /// Something may be there for a compressor.
-    pub fn ring(&self) {
+    fn ring(&self) {
         self.bell.fetch_add(1, Ordering::SeqCst);
         self.bell.wake_all();
     }
 
-    /// Sleeps until the bell rings again, unless there was something to do.
-    fn rest<R: Wait>(&self, rt: &R, rung: u64, busy: bool) {
-        if !busy {
+    /// Rings where a hint waits and a compressor rests: a bell costs a call of the system.
+    pub fn call(&self, hints: &Hints) {
+        if self.resting.load(Ordering::SeqCst) > 0 && hints.is_waiting() {
+            self.ring();
+        }
+    }
+
+    /// Sleeps until the bell rings again, unless there was something to do or a hint waits. Who gives a hint behind that look finds
+    /// that somebody rests.
+    fn rest<R: Wait>(&self, rt: &R, hints: &Hints, rung: u64, busy: bool) {
+        if busy {
+            return;
+        }
+        self.resting.fetch_add(1, Ordering::SeqCst);
+        if !hints.is_waiting() {
             self.bell.park(rt, (rung & 0xffff_ffff) as u32);
         }
+        self.resting.fetch_sub(1, Ordering::SeqCst);
     }
 
     /// A worker has ended.
@@ -159,7 +173,7 @@ pub fn follow_hints<R: Wait>(
             return pass;
         }
         let followed = follow_hint(rt, index, hints, &mut pass);
-        shift.rest(rt, rung, followed);
+        shift.rest(rt, hints, rung, followed);
     }
     unreachable!()
 }

@@ -13,6 +13,7 @@ mod gate;
 mod joining;
 mod meeting;
 mod origin;
+mod printing;
 mod reading;
 mod rounds;
 mod serving;

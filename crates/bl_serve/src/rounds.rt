@@ -1,6 +1,6 @@
 //! A section is answered: its batches are given out, threads work on them, and all are joined.
 
-ghost use Rattle.std.specs.Prelude.{◌≡◌, ℕ, suc, ◌+◌, ◌<◌, ◌^◌, length, map, All, IfOk, IfErr, vec_len, slice_index_or};
+ghost use Rattle.std.specs.Prelude.{◌≡◌, ℕ, suc, ◌+◌, ◌<◌, ◌≤◌, ◌^◌, length, map, All, IfOk, IfErr, vec_len, slice_index_or};
 ghost use Rattle.bl_index.specs.Calls.{first_of, IsPassOf};
 ghost use Rattle.bl_serve.specs.Turns.{IsTurn};
 ghost use Rattle.bl_serve.specs.Rounds.{IsRound, Gathers};
@@ -23,25 +23,44 @@ use std::thread;
 use std::thread::Threads;
 
 /// How many lines a batch has at most.
-const BATCH: usize = 256;
+const LONGEST: usize = 256;
 
-/// So many batches at the begin of a section have one line each, so that each worker has one soon.
-const SINGLE: usize = 64;
+/// How many lines it has at least, but for the first batches and the last one.
+const SHORTEST: usize = 16;
 
-/// Batches of so many lines, the first ones of one line and the later ones of more, in a channel that takes no more.
-fn batches<R: Wait>(rt: &R, alloc: Global, count: usize) -> Result<Receiver<Batch>, AllocError> {
+/// A thread takes as long to start and to join as so many requests take, about.
+const REQUESTS_A_THREAD: usize = 512;
+
+/// With so many requests, deletions among them, compressors work beside the workers.
+const MANY: usize = 4096;
+
+/// How many lines the next batch has, of so many that are left. The first batches have one line each, so that each worker has one
+/// soon; the others become shorter towards the end, so that all workers end together.
+fn size_of(from: usize, left: usize, workers: usize) -> usize
+    ensures { result ≤ left }
+{
+    let size = if from < workers {
+        1
+    } else {
+        (left / 2 / workers.max(1)).max(SHORTEST).min(LONGEST)
+    };
+    size.min(left)
+}
+
+/// Batches of so many lines for so many workers, in a channel that takes no more.
+fn batches<R: Wait>(
+    rt: &R,
+    alloc: Global,
+    count: usize,
+    workers: usize,
+) -> Result<Receiver<Batch>, AllocError> {
     let (sender, receiver) = unbounded(alloc)?;
     let mut from = 0;
     for _ in 0..count {
         if from >= count {
             break;
         }
-        let size = if from < SINGLE {
-            1
-        } else {
-            (from / 4).min(BATCH)
-        };
-        let upto = from + size.min(count - from);
+        let upto = from + size_of(from, count - from, workers);
         if sender.send(rt, Batch { from, upto }).is_err() {
             return Err(AllocError);
         }
@@ -67,8 +86,9 @@ fn turns(alloc: Global, passes: Vec<Pass>, workers: usize) -> Result<Vec<Turn>, 
     Ok(turns)
 }
 
-/// How many of the turns are worth a thread of their own. A lone request needs none; else there is one for each, up to the number
-/// of workers. Where there are many, and deletions among them, compressors work beside them.
+/// How many of the turns are worth a thread of their own. A lone request needs none; else there are two at least, and more where
+/// there are more requests, up to the number of workers. Where there are many, and deletions among them, compressors work beside
+/// them.
 fn threads_for(lines: &[Option<Request>], workers: usize, passes: usize) -> usize {
     let asked = lines
         .iter()
@@ -80,10 +100,10 @@ fn threads_for(lines: &[Option<Request>], workers: usize, passes: usize) -> usiz
         .count();
     if asked < 2 {
         0
-    } else if asked >= SINGLE && deleted > 0 {
+    } else if asked >= MANY && deleted > 0 {
         passes
     } else {
-        asked.min(workers)
+        (asked / REQUESTS_A_THREAD).max(2).min(workers)
     }
 }
 
@@ -219,7 +239,7 @@ pub fn answer_section<R: Threads + Wait + Sync, G: Gate + Sync>(
     ensures fault { IfErr result IsInside }
     ensures round { IfOk result (λ t. IsRound (first_of index.now) (suc done) lines.now t.1.items passes.items t.0.items) }
 {
-    let batches = batches(rt, alloc, lines.len())?;
+    let batches = batches(rt, alloc, lines.len(), workers)?;
     let shift = Shift::new(workers as u64);
     let threads = threads_for(lines, workers, passes.len());
     let turns = turns(alloc, passes, workers)?;

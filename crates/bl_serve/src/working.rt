@@ -110,7 +110,7 @@ fn serve_batches<R: Wait, G: Gate>(
         serve_batch(
             rt, alloc, index, hints, gate, done, lines, &mut pass, &mut log, batch,
         )?;
-        shift.ring();
+        shift.call(hints);
     }
     unreachable!()
 }

@@ -13,7 +13,7 @@ use Rattle.bl_layout.specs.declared.layout.Layout.{Layout}
 use Rattle.bl_layout.specs.Words.{frame_count}
 use Rattle.bl_store.specs.Pages.{Running, Pages, Stands}
 use Rattle.bl_store.specs.Frames.{owner_at, state_at, place_at, Use, drafted, shown, dropped, timed, retired, Frame, free, used, FrameIs, MayRead, Stocks, Drops, Swept, SweepIs, Budgeted, IsLive, Kept}
-use Rattle.bl_store.specs.Told.{draft, allotted, noted, reserved, returned, wrote, settled, released}
+use Rattle.bl_store.specs.Told.{draft, allotted, noted, reserved, returned, wrote, confirmed, settled, released}
 use Rattle.bl_store.specs.declared.view.View.{View}
 use Rattle.bl_store.specs.declared.view.Draft.{Draft}
 use Rattle.bl_store.specs.declared.view.Dropping.{Dropping}
@@ -195,6 +195,18 @@ module _ {D : Type 0} (l : Layout) (first : D) (holds : Pages D → Type 0) wher
     where
       last : (n k : ℕ) → get_or (n ∷ []) (k - k) 0 ≡ n
       last n k = let z : k - k ≡ 0 = omega arith in ap (λ (j : ℕ). get_or (n ∷ []) j 0) z
+
+  -- where the word is 0 already, all is as if 0 had been written
+  pub confirms : (slots id i f k : ℕ) (me : M) (xs : List ℕ) (ds : List Draft) → i ≡ place_at l f k → me.0.stock ≡ draft f xs ∷ ds → length xs ≡ k → k < 32 → IsLive me.0 → Allows Rule slots id me i (λ n. n) (confirmed (step slots i 0 0 none) me)
+  confirms slots id i f k me xs ds i_is has so_far more live st r at_word at at_last = let n : ℕ = get_or st.words i 0 in dite (ℕ_discrete n 0)
+      (λ blank. let w = writes slots id i n f k me xs ds i_is has so_far more live st r at_word at at_last in let is = w.4 in (
+        w.0,
+        w.1,
+        w.2,
+        w.3,
+        (is.0, is.1, is.2, is.3, (λ g ys es e. ((λ _. is.4 g ys es e ∙ ap (λ (z : ℕ). draft g (ys ++ z ∷ []) ∷ es) blank), λ some. absurd (some blank))), is.5),
+      ))
+      (λ some. (me.0, keeps, tt, idle_step st r i id me.1 me.0 at live, ((refl, refl, refl, refl), refl, refl, (refl, refl), (λ g ys es e. ((λ blank. absurd (some blank)), λ _. e)), refl)))
 
   -- the frame that the hand took from a page is retired at the time that it drew
   pub retires_frame : (slots id i n f t : ℕ) (me : M) → i ≡ state_at l f → n ≡ 4 * t + 3 → me.0.dropping ≡ Timed f t → IsLive me.0 → Allows Rule slots id me i (λ _. n) (λ _. settled (step slots i n 0 none) me n)

@@ -95,6 +95,11 @@ module _ {D : Type 0} where
   wrote st m r m' = IsThere m m' × (m'.0.stamp ≡ m.0.stamp) × (m'.0.known ≡ m.0.known) × HasTicks m.0 m'.0
       × ((f : ℕ) (xs : List ℕ) (ds : List Draft) → m.0.stock ≡ draft f xs ∷ ds → m'.0.stock ≡ draft f (xs ++ st.first ∷ []) ∷ ds) × (m'.0.reading ≡ m.0.reading)
 
+  -- a look at the next word of the frame that was reserved last, which is one more word of it where it is 0
+  abbrev pub confirmed : Play → Sat D → ℕ → Sat D → Type 0
+  confirmed st m r m' = IsThere m m' × (m'.0.stamp ≡ m.0.stamp) × (m'.0.known ≡ m.0.known) × HasTicks m.0 m'.0
+      × ((f : ℕ) (xs : List ℕ) (ds : List Draft) → m.0.stock ≡ draft f xs ∷ ds → (r ≡ 0 → m'.0.stock ≡ draft f (xs ++ 0 ∷ []) ∷ ds) × (r ≢ 0 → m'.0.stock ≡ draft f xs ∷ ds)) × (m'.0.reading ≡ m.0.reading)
+
   -- the one event of a put: the frame that the page had is now the hand's to retire
   abbrev pub swapped : (D → ℕ → Owner → List ℕ → D → Type 0) → Play → Sat D → ℕ → Sat D → Type 0
   swapped then st m r m' = IsThere m m' × (m'.0.stamp ≡ m.0.stamp) × HasTicks m.0 m'.0

@@ -1,5 +1,5 @@
 //! What each step on the table tells its seat.
-ghost use Rattle.bl_store.specs.Told.{allotted, clocked, copied, drew, ended, freed, horizoned, looked, met, noted, opened, passed, published, refused, released, reserved, returned, sealed, settled, stamped, swapped, took, tried, wrote};
+ghost use Rattle.bl_store.specs.Told.{allotted, clocked, confirmed, copied, drew, ended, freed, horizoned, looked, met, noted, opened, passed, published, refused, released, reserved, returned, sealed, settled, stamped, swapped, took, tried, wrote};
 ghost use Rattle.std.specs.Prelude.{ℕ};
 
 use crate::rule::{MeetPlay, PagePlay, SweepPlay, TimePlay};
@@ -64,6 +64,12 @@ pub(crate) struct Write;
 
 impl<D> Play<(), View<D>> for Write {
     ghost then = { wrote };
+}
+
+pub(crate) struct Confirm;
+
+impl<D> Play<(), View<D>> for Confirm {
+    ghost then = { confirmed };
 }
 
 pub(crate) struct Tick;

@@ -9,7 +9,7 @@ ghost use Rattle.bl_store.specs.Told.{draft};
 ghost use Rattle.bl_store.specs.declared.view.Draft.{Draft};
 ghost use Rattle.bl_store.specs.declared.view.Dropping.TheVariants.{Dropped};
 
-use crate::plays::{Settle, Swap, Tick, Write};
+use crate::plays::{Confirm, Settle, Swap, Tick, Write};
 use crate::rule::{PagePlay, PageRule};
 use crate::stock::Stock;
 use crate::store::{Glance, Hand, RING, Store};
@@ -141,8 +141,48 @@ impl<D, R: PageRule<D>, A: Allocator> Store<D, R, A> {
             .store::<Write>(&mut hand.seat, first + at, word);
     }
 
-    // The next words of the frame that was reserved last, up to that many, are those of the page that the hand looked at last,
-    // from the word `source` on.
+    // The next word of the frame that was reserved last is 0, as it mostly stands there already: what is written takes as long as
+    // some ten loads.
+    #[inline(always)]
+    fn write_blank(&self, hand: &mut Hand<D>, frame: u32, first: usize, at: usize)
+        requires own { IsOf self.now.table.shared.table_id self.now.layout hand.old.seat }
+        requires frame { (frame < frame_count self.now.layout) × (first ≡ place_at self.now.layout frame 0) }
+        requires draft { (at < 32) × HasDraft hand.old.seat frame at }
+        ensures same { IsQuiet hand.old.seat hand.new.seat × IsSameReading hand.old.seat hand.new.seat }
+        ensures draft { HasDraft hand.new.seat frame (at + 1) × (other_drafts hand.new.seat ≡ other_drafts hand.old.seat) }
+        ensures kept { (k : ℕ) → k < at → slice_index (draft_words hand.new.seat) k ≡ slice_index (draft_words hand.old.seat) k }
+        ensures there { slice_index (draft_words hand.new.seat) at ≡ 0 }
+    {
+        if self
+            .table
+            .shared
+            .load::<Confirm>(&mut hand.seat, first + at)
+            != 0
+        {
+            self.write_next(hand, frame, first, at, 0);
+        }
+    }
+
+    // The next word of the frame that was reserved last, which is 0 mostly.
+    #[inline(always)]
+    fn write_sparse(&self, hand: &mut Hand<D>, frame: u32, first: usize, at: usize, word: u64)
+        requires own { IsOf self.now.table.shared.table_id self.now.layout hand.old.seat }
+        requires frame { (frame < frame_count self.now.layout) × (first ≡ place_at self.now.layout frame 0) }
+        requires draft { (at < 32) × HasDraft hand.old.seat frame at }
+        ensures same { IsQuiet hand.old.seat hand.new.seat × IsSameReading hand.old.seat hand.new.seat }
+        ensures draft { HasDraft hand.new.seat frame (at + 1) × (other_drafts hand.new.seat ≡ other_drafts hand.old.seat) }
+        ensures kept { (k : ℕ) → k < at → slice_index (draft_words hand.new.seat) k ≡ slice_index (draft_words hand.old.seat) k }
+        ensures there { slice_index (draft_words hand.new.seat) at ≡ word }
+    {
+        if word == 0 {
+            self.write_blank(hand, frame, first, at);
+        } else {
+            self.write_next(hand, frame, first, at, word);
+        }
+    }
+
+    // The next words of the frame that was reserved last, so many pairs of them, are those of the page that the hand looked at
+    // last, from the word `source` on. Two words a round take less time than one.
     #[inline(always)]
     fn carry(
         &self,
@@ -151,22 +191,51 @@ impl<D, R: PageRule<D>, A: Allocator> Store<D, R, A> {
         first: usize,
         glance: Glance,
         from: usize,
-        upto: usize,
+        pairs: usize,
         source: usize,
     )
         requires own { IsOf self.now.table.shared.table_id self.now.layout hand.old.seat }
         requires frame { (frame < frame_count self.now.layout) × (first ≡ place_at self.now.layout frame 0) }
         requires reads { ReadsFrom hand.old.seat glance }
-        requires range { (from ≤ upto) × (upto ≤ 32) × (source ≤ from) }
+        requires range { (from + 2 * pairs ≤ 32) × (source ≤ from) }
         requires draft { HasDraft hand.old.seat frame from }
         ensures same { IsQuiet hand.old.seat hand.new.seat × IsSameReading hand.old.seat hand.new.seat }
-        ensures draft { HasDraft hand.new.seat frame upto × (other_drafts hand.new.seat ≡ other_drafts hand.old.seat) }
+        ensures draft { HasDraft hand.new.seat frame (from + 2 * pairs) × (other_drafts hand.new.seat ≡ other_drafts hand.old.seat) }
         ensures kept { (k : ℕ) → k < from → slice_index (draft_words hand.new.seat) k ≡ slice_index (draft_words hand.old.seat) k }
-        ensures carried { (k : ℕ) → from ≤ k → k < upto → slice_index (draft_words hand.new.seat) k ≡ slice_index (read_words hand.old.seat) (k - from + source) }
+        ensures carried { (k : ℕ) → from ≤ k → k < from + 2 * pairs → slice_index (draft_words hand.new.seat) k ≡ slice_index (read_words hand.old.seat) (k - from + source) }
     {
-        for at in from..upto {
+        for pair in 0..pairs {
+            let one = self.word(hand, glance, source + 2 * pair);
+            let two = self.word(hand, glance, source + 2 * pair + 1);
+            self.write_next(hand, frame, first, from + 2 * pair, one);
+            self.write_next(hand, frame, first, from + 2 * pair + 1, two);
+        }
+    }
+
+    // The same of words that are 0 mostly, one by one up to the last word of the frame.
+    #[inline(always)]
+    fn carry_rest(
+        &self,
+        hand: &mut Hand<D>,
+        frame: u32,
+        first: usize,
+        glance: Glance,
+        from: usize,
+        source: usize,
+    )
+        requires own { IsOf self.now.table.shared.table_id self.now.layout hand.old.seat }
+        requires frame { (frame < frame_count self.now.layout) × (first ≡ place_at self.now.layout frame 0) }
+        requires reads { ReadsFrom hand.old.seat glance }
+        requires range { (from ≤ 32) × (source ≤ from) }
+        requires draft { HasDraft hand.old.seat frame from }
+        ensures same { IsQuiet hand.old.seat hand.new.seat × IsSameReading hand.old.seat hand.new.seat }
+        ensures draft { HasDraft hand.new.seat frame 32 × (other_drafts hand.new.seat ≡ other_drafts hand.old.seat) }
+        ensures kept { (k : ℕ) → k < from → slice_index (draft_words hand.new.seat) k ≡ slice_index (draft_words hand.old.seat) k }
+        ensures carried { (k : ℕ) → from ≤ k → k < 32 → slice_index (draft_words hand.new.seat) k ≡ slice_index (read_words hand.old.seat) (k - from + source) }
+    {
+        for at in from..32 {
             let word = self.word(hand, glance, at - from + source);
-            self.write_next(hand, frame, first, at, word);
+            self.write_sparse(hand, frame, first, at, word);
         }
     }
 
@@ -185,10 +254,12 @@ impl<D, R: PageRule<D>, A: Allocator> Store<D, R, A> {
         let place = change.place;
         let first = self.layout.frame_word(frame, 0);
         self.write_next(hand, frame, first, 0, change.first);
-        self.carry(hand, frame, first, glance, 1, 4 + 2 * place, 1);
+        let low = self.word(hand, glance, 1);
+        self.write_next(hand, frame, first, 1, low);
+        self.carry(hand, frame, first, glance, 2, 1 + place, 2);
         self.write_next(hand, frame, first, 4 + 2 * place, change.key);
         self.write_next(hand, frame, first, 5 + 2 * place, change.word);
-        self.carry(hand, frame, first, glance, 6 + 2 * place, 32, 4 + 2 * place);
+        self.carry_rest(hand, frame, first, glance, 6 + 2 * place, 4 + 2 * place);
     }
 
     // The frame that the hand took from a page is retired, at a time that no other has.

@@ -6,8 +6,7 @@
 ghost use Rattle.std.specs.Prelude.{◌≡◌, ◌+◌, ◌*◌, ◌≤◌, ◌<◌, All, IfSome};
 ghost use Rattle.bl_index.specs.Calls.{IsPassOf};
 
-use bl_index::{Config, Index, Pass};
-use bl_model::Reply;
+use bl_index::{Config, Index, KeyReply, Pass};
 use bl_proc::{Hint, Posted};
 use std::alloc::Global;
 use std::sync::Wait;
@@ -94,7 +93,7 @@ fn width(rows: u64) -> u64 {
 }
 
 // Searches until it is answered.
-fn find<R: Wait>(rt: &R, index: &Index, pass: &mut Pass, key: u64) -> Reply
+fn find<R: Wait>(rt: &R, index: &Index, pass: &mut Pass, key: u64) -> KeyReply
     requires { IsPassOf index.now pass.old }
     ensures { IsPassOf index.now pass.new }
 {
@@ -135,7 +134,7 @@ fn post<R: Wait>(rt: &R, index: &Index, pass: &mut Pass, hint: Option<Hint>)
 }
 
 // Inserts a row, with its posts and a sweep where one is due.
-fn insert<R: Wait>(rt: &R, index: &Index, pass: &mut Pass, key: u64, value: u64) -> Reply
+fn insert<R: Wait>(rt: &R, index: &Index, pass: &mut Pass, key: u64, value: u64) -> KeyReply
     requires { IsPassOf index.now pass.old }
     ensures { IsPassOf index.now pass.new }
 {
@@ -146,7 +145,7 @@ fn insert<R: Wait>(rt: &R, index: &Index, pass: &mut Pass, key: u64, value: u64)
 }
 
 // Deletes a row, with a sweep where one is due.
-fn delete<R: Wait>(rt: &R, index: &Index, pass: &mut Pass, key: u64) -> Reply
+fn delete<R: Wait>(rt: &R, index: &Index, pass: &mut Pass, key: u64) -> KeyReply
     requires { IsPassOf index.now pass.old }
     ensures { IsPassOf index.now pass.new }
 {
@@ -163,7 +162,7 @@ fn fill<R: Wait>(rt: &R, index: &Index, pass: &mut Pass, place: u64, load: Load)
     let mut done = 0u64;
     for row in 0..load.rows {
         if row % load.threads as u64 == place {
-            if let Reply::Inserted = insert(rt, index, pass, key_of(row), row) {
+            if let KeyReply::Inserted = insert(rt, index, pass, key_of(row), row) {
                 done = done.wrapping_add(1);
             }
         }
@@ -182,7 +181,7 @@ fn search(index: &Index, pass: &mut Pass, place: u64, load: Load) -> u64
     for _round in 0..load.finds {
         seed = after(seed);
         let key = key_of(row_of(seed, load.rows));
-        if let Ok(Reply::Found(_)) = index.find(pass, key, turns) {
+        if let Ok(KeyReply::Found(_)) = index.find(pass, key, turns) {
             done = done.wrapping_add(1);
         }
     }
@@ -206,7 +205,7 @@ fn mix<R: Wait>(rt: &R, index: &Index, pass: &mut Pass, place: u64, load: Load) 
             3 => insert(rt, index, pass, key_of(row), row),
             _ => find(rt, index, pass, key_of(row)),
         };
-        if !matches!(reply, Reply::NoRoom) {
+        if !matches!(reply, KeyReply::NoRoom) {
             done = done.wrapping_add(1);
         }
     }

@@ -12,8 +12,8 @@ ghost use Rattle.std.specs.Prelude.{◌≡◌, All, length, IfOk, IfSome};
 ghost use Rattle.bl_index.specs.Calls.{IsPassOf};
 
 use bl_check::{check, load};
-use bl_index::{Config, Index, Pass};
-use bl_model::{Reply, Watched};
+use bl_index::{Config, Index, KeyReply, Pass};
+use bl_model::Watched;
 use bl_proc::{Hint, Squeezed};
 use std::alloc::{AllocError, Global};
 use std::sync::Wait;
@@ -53,7 +53,7 @@ fn count(counter: &AtomicU64) {
 }
 
 // Searches until it is answered.
-fn find<R: Wait>(rt: &R, index: &Index, pass: &mut Pass, key: u64) -> Reply
+fn find<R: Wait>(rt: &R, index: &Index, pass: &mut Pass, key: u64) -> KeyReply
     requires { IsPassOf index.now pass.old }
     ensures { IsPassOf index.now pass.new }
 {
@@ -87,8 +87,8 @@ fn fill<R: Wait>(rt: &R, index: &Index, pass: &mut Pass, place: usize, counts: &
         let key = THREADS * row + first;
         let (reply, hint) = index.insert(rt, pass, key, key + 1);
         match reply {
-            Reply::Inserted => count(&counts.inserted),
-            Reply::Present(value) if value == key + 1 && row % KEPT == 0 => {}
+            KeyReply::Inserted => count(&counts.inserted),
+            KeyReply::Present(value) if value == key + 1 && row % KEPT == 0 => {}
             _ => count(&counts.wrong),
         }
         follow(rt, index, pass, hint, counts);
@@ -130,14 +130,14 @@ fn shrink<R: Wait>(rt: &R, index: &Index, pass: &mut Pass, place: usize, counts:
             let key = THREADS * row + first;
             let (reply, hint) = index.delete(rt, pass, key);
             match reply {
-                Reply::Deleted(value) if value == key + 1 => count(&counts.deleted),
+                KeyReply::Deleted(value) if value == key + 1 => count(&counts.deleted),
                 _ => count(&counts.wrong),
             }
             follow(rt, index, pass, hint, counts);
         }
         let kept = THREADS * (row - row % KEPT) + first;
         match find(rt, index, pass, kept) {
-            Reply::Found(value) if value == kept + 1 => {}
+            KeyReply::Found(value) if value == kept + 1 => {}
             _ => count(&counts.wrong),
         }
     }
@@ -182,13 +182,13 @@ fn clear<R: Wait>(rt: &R, index: &Index, pass: &mut Pass, counts: &Counts)
     for key in 0..THREADS * ROWS {
         let (reply, _) = index.delete(rt, pass, key);
         match reply {
-            Reply::Deleted(value) if value == key + 1 => count(&counts.deleted),
-            Reply::Absent => count(&counts.absent),
+            KeyReply::Deleted(value) if value == key + 1 => count(&counts.deleted),
+            KeyReply::Absent => count(&counts.absent),
             _ => count(&counts.wrong),
         }
         sweep(index, pass);
         match find(rt, index, pass, key) {
-            Reply::Absent => {}
+            KeyReply::Absent => {}
             _ => count(&counts.wrong),
         }
     }
@@ -202,7 +202,7 @@ fn found<R: Wait>(rt: &R, index: &Index, pass: &mut Pass) -> u64
     let found = AtomicU64::new(0);
     for key in 0..THREADS * ROWS {
         match find(rt, index, pass, key) {
-            Reply::Found(value) if value == key + 1 => count(&found),
+            KeyReply::Found(value) if value == key + 1 => count(&found),
             _ => {}
         }
     }

@@ -5,7 +5,7 @@ ghost use Rattle.bl_index.specs.Calls.{IsPassOf, IsSamePass};
 
 use arrayvec::ArrayVec;
 use bl_index::{
-    Config, Hint, Index, Level, Next, OpenFault, OutOfTurns, Pass, Posted, Reply, Squeezed,
+    Config, Hint, Index, KeyReply, Level, Next, OpenFault, OutOfTurns, Pass, Posted, Reply, Squeezed,
 };
 use std::alloc::Global;
 use std::sync::Wait;
@@ -63,7 +63,7 @@ fn is_absent(index: &Index, pass: Pass, key: u64) -> bool
     requires { IsPassOf index.now pass }
 {
     let mut pass = pass;
-    matches!(index.find(&mut pass, key, 2), Ok(Reply::Absent))
+    matches!(index.find(&mut pass, key, 2), Ok(KeyReply::Absent))
 }
 
 // In an index without rows, two threads find nothing.
@@ -97,7 +97,7 @@ fn searches_run_out_of_turns(rt: HostRuntime) -> Result<(), Fail> {
     let few = index.find(&mut pass, 5, 1);
     assert!(rt; matches!(few, Err(OutOfTurns)));
     let enough = index.find(&mut pass, 5, 2);
-    assert!(rt; matches!(enough, Ok(Reply::Absent)));
+    assert!(rt; matches!(enough, Ok(KeyReply::Absent)));
     Ok(())
 }
 
@@ -109,15 +109,15 @@ fn one_thread_changes_a_key(rt: HostRuntime) -> Result<(), Fail> {
         return Ok(());
     };
     let first = index.insert(&rt, &mut pass, 5, 50);
-    assert!(rt; matches!(first, (Reply::Inserted, None)));
+    assert!(rt; matches!(first, (KeyReply::Inserted, None)));
     let second = index.insert(&rt, &mut pass, 5, 51);
-    assert!(rt; matches!(second, (Reply::Present(50), None)));
+    assert!(rt; matches!(second, (KeyReply::Present(50), None)));
     let found = index.find(&mut pass, 5, 2);
-    assert!(rt; matches!(found, Ok(Reply::Found(50))));
+    assert!(rt; matches!(found, Ok(KeyReply::Found(50))));
     let gone = index.delete(&rt, &mut pass, 5);
-    assert!(rt; matches!(gone, (Reply::Deleted(50), None)));
+    assert!(rt; matches!(gone, (KeyReply::Deleted(50), None)));
     let again = index.delete(&rt, &mut pass, 5);
-    assert!(rt; matches!(again, (Reply::Absent, None)));
+    assert!(rt; matches!(again, (KeyReply::Absent, None)));
     Ok(())
 }
 
@@ -130,17 +130,17 @@ fn full_leaves_are_parted(rt: HostRuntime) -> Result<(), Fail> {
     };
     for key in 1..15 {
         let reply = index.insert(&rt, &mut pass, key, 10 * key);
-        assert!(rt; matches!(reply, (Reply::Inserted, None)));
+        assert!(rt; matches!(reply, (KeyReply::Inserted, None)));
     }
     let (last, hint) = index.insert(&rt, &mut pass, 15, 150);
-    assert!(rt; matches!(last, Reply::Inserted));
+    assert!(rt; matches!(last, KeyReply::Inserted));
     assert!(rt; hint == Some(hint_to_post(1, 9)));
     let few = index.find(&mut pass, 12, 2);
     assert!(rt; matches!(few, Err(OutOfTurns)));
     let found = index.find(&mut pass, 12, 3);
-    assert!(rt; matches!(found, Ok(Reply::Found(120))));
+    assert!(rt; matches!(found, Ok(KeyReply::Found(120))));
     let (gone, thin) = index.delete(&rt, &mut pass, 9);
-    assert!(rt; matches!(gone, Reply::Deleted(90)));
+    assert!(rt; matches!(gone, KeyReply::Deleted(90)));
     let level = Level::new(1);
     assert!(rt; thin == Some(Hint::Thin { level, key: 9 }));
     Ok(())
@@ -156,14 +156,14 @@ fn frames_run_out(rt: HostRuntime) -> Result<(), Fail> {
     assert!(rt; !index.lacks_frames(&pass));
     for _round in 0..11 {
         let inserted = index.insert(&rt, &mut pass, 1, 10);
-        assert!(rt; matches!(inserted, (Reply::Inserted, None)));
+        assert!(rt; matches!(inserted, (KeyReply::Inserted, None)));
         let deleted = index.delete(&rt, &mut pass, 1);
-        assert!(rt; matches!(deleted, (Reply::Deleted(10), None)));
+        assert!(rt; matches!(deleted, (KeyReply::Deleted(10), None)));
     }
     let refused = index.insert(&rt, &mut pass, 1, 10);
-    assert!(rt; matches!(refused, (Reply::NoRoom, None)));
+    assert!(rt; matches!(refused, (KeyReply::NoRoom, None)));
     let absent = index.find(&mut pass, 1, 2);
-    assert!(rt; matches!(absent, Ok(Reply::Absent)));
+    assert!(rt; matches!(absent, Ok(KeyReply::Absent)));
     // frames are scarce until those of the 22 changes come back
     assert!(rt; index.lacks_frames(&pass));
     let released = index.sweep(&mut pass);
@@ -183,20 +183,20 @@ fn sweeps_make_room(rt: HostRuntime) -> Result<(), Fail> {
     assert!(rt; first == 0);
     for _round in 0..500 {
         let inserted = index.insert(&rt, &mut pass, 1, 10);
-        assert!(rt; matches!(inserted, (Reply::Inserted, None)));
+        assert!(rt; matches!(inserted, (KeyReply::Inserted, None)));
         let released = index.sweep(&mut pass);
         assert!(rt; released == 1);
         let deleted = index.delete(&rt, &mut pass, 1);
-        assert!(rt; matches!(deleted, (Reply::Deleted(10), None)));
+        assert!(rt; matches!(deleted, (KeyReply::Deleted(10), None)));
         let released = index.sweep(&mut pass);
         assert!(rt; released == 1);
     }
     let last = index.sweep(&mut pass);
     assert!(rt; last == 0);
     let inserted = index.insert(&rt, &mut pass, 1, 10);
-    assert!(rt; matches!(inserted, (Reply::Inserted, None)));
+    assert!(rt; matches!(inserted, (KeyReply::Inserted, None)));
     let found = index.find(&mut pass, 1, 2);
-    assert!(rt; matches!(found, Ok(Reply::Found(10))));
+    assert!(rt; matches!(found, Ok(KeyReply::Found(10))));
     Ok(())
 }
 
@@ -208,7 +208,7 @@ fn insert_some<R: Wait>(rt: &R, index: &Index, pass: Pass, first: u64) -> u64
     for key in first..first + 7 {
         if matches!(
             index.insert(rt, &mut pass, key, key),
-            (Reply::Inserted, None)
+            (KeyReply::Inserted, None)
         ) {
             inserted += 1;
         }
@@ -258,10 +258,10 @@ fn posts_grow_the_tree(rt: HostRuntime) -> Result<(), Fail> {
     };
     for key in 1..15 {
         let reply = index.insert(&rt, &mut one, key, 10 * key);
-        assert!(rt; matches!(reply, (Reply::Inserted, None)));
+        assert!(rt; matches!(reply, (KeyReply::Inserted, None)));
     }
     let last = index.insert(&rt, &mut one, 15, 150);
-    let (Reply::Inserted, Some(hint)) = last else {
+    let (KeyReply::Inserted, Some(hint)) = last else {
         assert!(rt; false);
         return Ok(());
     };
@@ -274,7 +274,7 @@ fn posts_grow_the_tree(rt: HostRuntime) -> Result<(), Fail> {
     let few = index.find(&mut two, 12, 2);
     assert!(rt; matches!(few, Err(OutOfTurns)));
     let found = index.find(&mut two, 12, 3);
-    assert!(rt; matches!(found, Ok(Reply::Found(120))));
+    assert!(rt; matches!(found, Ok(KeyReply::Found(120))));
     Ok(())
 }
 
@@ -290,7 +290,7 @@ fn posts_of_nothing_are_stale(rt: HostRuntime) -> Result<(), Fail> {
     let two = index.post(&rt, &mut pass, hint_to_post(2, 9));
     assert!(rt; matches!(two, (Posted::Stale, None)));
     let few = index.find(&mut pass, 5, 2);
-    assert!(rt; matches!(few, Ok(Reply::Absent)));
+    assert!(rt; matches!(few, Ok(KeyReply::Absent)));
     let level = Level::new(1);
     let one = index.post(&rt, &mut pass, Hint::Thin { level, key: 9 });
     assert!(rt; matches!(one, (Posted::Stale, None)));
@@ -310,13 +310,13 @@ fn posts_meet_want_of_pages(rt: HostRuntime) -> Result<(), Fail> {
     };
     for key in 1..24 {
         let (reply, _hint) = index.insert(&rt, &mut pass, key, 10 * key);
-        assert!(rt; matches!(reply, Reply::Inserted));
+        assert!(rt; matches!(reply, KeyReply::Inserted));
         let _released = index.sweep(&mut pass);
     }
     let refused = index.post(&rt, &mut pass, hint_to_post(1, 9));
     assert!(rt; matches!(refused, (Posted::NoRoom, None)));
     let found = index.find(&mut pass, 12, 3);
-    assert!(rt; matches!(found, Ok(Reply::Found(120))));
+    assert!(rt; matches!(found, Ok(KeyReply::Found(120))));
     Ok(())
 }
 
@@ -329,12 +329,12 @@ fn posts_meet_want_of_frames(rt: HostRuntime) -> Result<(), Fail> {
     };
     for key in 1..15 {
         let reply = index.insert(&rt, &mut pass, key, 10 * key);
-        assert!(rt; matches!(reply, (Reply::Inserted, None)));
+        assert!(rt; matches!(reply, (KeyReply::Inserted, None)));
     }
     let refused = index.post(&rt, &mut pass, hint_to_post(1, 9));
     assert!(rt; matches!(refused, (Posted::NoRoom, None)));
     let found = index.find(&mut pass, 12, 2);
-    assert!(rt; matches!(found, Ok(Reply::Found(120))));
+    assert!(rt; matches!(found, Ok(KeyReply::Found(120))));
     Ok(())
 }
 
@@ -360,14 +360,14 @@ fn compressions_merge(rt: HostRuntime) -> Result<(), Fail> {
     };
     for key in 1..16 {
         let (reply, _hint) = index.insert(&rt, &mut one, key, 10 * key);
-        assert!(rt; matches!(reply, Reply::Inserted));
+        assert!(rt; matches!(reply, KeyReply::Inserted));
     }
     let done = index.post(&rt, &mut one, hint_to_post(1, 9));
     assert!(rt; matches!(done, (Posted::Done, None)));
     let enough = index.compress(&rt, &mut two, thin_hint(1, 9));
     assert!(rt; matches!(enough, (Squeezed::Enough, None)));
     let (gone, hint) = index.delete(&rt, &mut one, 9);
-    assert!(rt; matches!(gone, Reply::Deleted(90)));
+    assert!(rt; matches!(gone, KeyReply::Deleted(90)));
     assert!(rt; hint == Some(thin_hint(1, 9)));
     let released = index.sweep(&mut one);
     assert!(rt; released == 18);
@@ -376,7 +376,7 @@ fn compressions_merge(rt: HostRuntime) -> Result<(), Fail> {
     let released = index.sweep(&mut one);
     assert!(rt; released == 4);
     let found = index.find(&mut one, 12, 3);
-    assert!(rt; matches!(found, Ok(Reply::Found(120))));
+    assert!(rt; matches!(found, Ok(KeyReply::Found(120))));
     let again = index.compress(&rt, &mut one, thin_hint(1, 9));
     assert!(rt; matches!(again, (Squeezed::Alone, None)));
     Ok(())
@@ -394,15 +394,15 @@ fn compressions_even_out(rt: HostRuntime) -> Result<(), Fail> {
     for ten in 11..16u64 {
         if ten != 14 {
             let (gone, _hint) = index.delete(&rt, &mut pass, 10 * ten);
-            assert!(rt; matches!(gone, Reply::Deleted(_)));
+            assert!(rt; matches!(gone, KeyReply::Deleted(_)));
         }
     }
     let (gone, hint) = index.delete(&rt, &mut pass, 140);
-    assert!(rt; matches!(gone, Reply::Deleted(1400)));
+    assert!(rt; matches!(gone, KeyReply::Deleted(1400)));
     assert!(rt; hint == Some(thin_hint(1, 90)));
     for key in 11..17 {
         let (reply, _hint) = index.insert(&rt, &mut pass, key, 10 * key);
-        assert!(rt; matches!(reply, Reply::Inserted));
+        assert!(rt; matches!(reply, KeyReply::Inserted));
     }
     let refused = index.compress(&rt, &mut pass, thin_hint(1, 90));
     assert!(rt; matches!(refused, (Squeezed::NoRoom, None)));
@@ -448,7 +448,7 @@ fn compressions_ask_for_a_post(rt: HostRuntime) -> Result<(), Fail> {
     assert!(rt; matches!(done, Posted::Done));
     for key in 11..18 {
         let (reply, _hint) = index.insert(&rt, &mut pass, key, 10 * key);
-        assert!(rt; matches!(reply, Reply::Inserted));
+        assert!(rt; matches!(reply, KeyReply::Inserted));
     }
     let (what, hint) = index.compress(&rt, &mut pass, thin_hint(1, 90));
     assert!(rt; matches!(what, Squeezed::Unposted));
@@ -492,7 +492,7 @@ fn a_part_at_the_greatest_key(rt: HostRuntime) -> Result<(), Fail> {
     let none = index.part(&mut pass, 0, 2);
     assert!(rt; lists(none, &[], Next::End));
     let inserted = index.insert(&rt, &mut pass, 18446744073709551615, 1);
-    assert!(rt; matches!(inserted, (Reply::Inserted, None)));
+    assert!(rt; matches!(inserted, (KeyReply::Inserted, None)));
     let last = index.part(&mut pass, 18446744073709551615, 2);
     assert!(rt; lists(last, &[(18446744073709551615, 1)], Next::End));
     Ok(())
@@ -507,7 +507,7 @@ fn parts_of_two_leaves(rt: HostRuntime) -> Result<(), Fail> {
     };
     for key in 1..16 {
         let (reply, _hint) = index.insert(&rt, &mut pass, key, 10 * key);
-        assert!(rt; matches!(reply, Reply::Inserted));
+        assert!(rt; matches!(reply, KeyReply::Inserted));
     }
     let lower = index.part(&mut pass, 7, 2);
     assert!(rt; lists(lower, &[(7, 70), (8, 80)], Next::More(9)));

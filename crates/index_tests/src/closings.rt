@@ -5,7 +5,7 @@ ghost use Rattle.bl_index.specs.Calls.{IsPassOf};
 
 use crate::scans::{KEPT, KEYS, SCANS, follow, keep, kept, rises, scan_all, six_passes, work};
 use bl_check::{Report, check};
-use bl_index::{CloseFault, Config, Index, Pass, Reply};
+use bl_index::{CloseFault, Config, Index, KeyReply, Pass};
 use bl_model::Watched;
 use byteorder::{ByteOrder, LittleEndian};
 use std::alloc::Global;
@@ -185,7 +185,7 @@ fn a_missing_pass_changes_nothing(rt: HostRuntime) -> Result<(), Fail> {
     assert!(rt; fault == CloseFault::Pass);
     assert_eq!(rt; passes.len(), 1);
     let found = index.find(&mut last, 12, 3);
-    assert!(rt; matches!(found, Ok(Reply::Found(120))));
+    assert!(rt; matches!(found, Ok(KeyReply::Found(120))));
     Ok(())
 }
 

@@ -3,7 +3,7 @@
 ghost use Rattle.std.specs.Prelude.{All, IfSome};
 ghost use Rattle.bl_index.specs.Calls.{IsPassOf, IsSamePass};
 
-use bl_index::{Config, Index, Pass, Reply};
+use bl_index::{Config, Index, KeyReply, Pass};
 use std::alloc::Global;
 use std::sync::Wait;
 use std::test::Fail;
@@ -71,7 +71,7 @@ fn found(index: &Index, pass: &mut Pass) -> u64
     let mut count = 0u64;
     for key in 0..THREADS * ROWS {
         let reply = index.find(pass, key, 1000);
-        if matches!(reply, Ok(Reply::Found(value)) if value == 1000 - key.min(1000)) {
+        if matches!(reply, Ok(KeyReply::Found(value)) if value == 1000 - key.min(1000)) {
             count = count.wrapping_add(1);
         }
     }

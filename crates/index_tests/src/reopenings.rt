@@ -5,7 +5,7 @@ ghost use Rattle.bl_index.specs.Calls.{IsPassOf};
 
 use crate::closings::{has_words, image_of, insert_fifteen, lower, opened, report};
 use bl_check::{Quiet, check};
-use bl_index::{Index, OpenFault, Pass, Reply};
+use bl_index::{Index, KeyReply, OpenFault, Pass};
 use std::alloc::Global;
 use std::test::Fail;
 
@@ -40,10 +40,10 @@ fn an_index_begins_with_an_image(rt: HostRuntime) -> Result<(), Fail> {
     let quiet = closed(rt.alloc(), index, passes, last).ok_or("not closed")?;
     let (index, passes, mut last) = reopened(rt.alloc(), quiet, 3).ok_or("not opened")?;
     assert_eq!(rt; passes.len(), 2);
-    assert!(rt; matches!(index.find(&mut last, 12, 3), Ok(Reply::Found(120))));
+    assert!(rt; matches!(index.find(&mut last, 12, 3), Ok(KeyReply::Found(120))));
     assert!(rt; index.find(&mut last, 12, 2).is_err());
     let (reply, _hint) = index.insert(&rt, &mut last, 16, 160);
-    assert!(rt; matches!(reply, Reply::Inserted));
+    assert!(rt; matches!(reply, KeyReply::Inserted));
     let bytes = image_of(rt.alloc(), index, passes, last).ok_or("not closed again")?;
     let bytes = bytes.as_slice();
     assert!(rt; has_words(bytes, 1, &lower()));
@@ -67,6 +67,6 @@ fn an_image_that_is_not_opened_comes_back(rt: HostRuntime) -> Result<(), Fail> {
     assert!(rt; fault == OpenFault::Passes);
     assert_eq!(rt; quiet.image().pages.len(), 8);
     let (index, _passes, mut last) = reopened(rt.alloc(), quiet, 1).ok_or("not opened")?;
-    assert!(rt; matches!(index.find(&mut last, 15, 3), Ok(Reply::Found(150))));
+    assert!(rt; matches!(index.find(&mut last, 15, 3), Ok(KeyReply::Found(150))));
     Ok(())
 }

@@ -4,8 +4,7 @@ ghost use Rattle.std.specs.Prelude.{All, IfSome};
 ghost use Rattle.bl_index.specs.Calls.{IsPassOf};
 
 use crate::calls::one_pass;
-use bl_index::{Config, Index, Pass, ScanFault};
-use bl_model::Reply;
+use bl_index::{Config, Index, KeyReply, Pass, ScanFault};
 use bl_proc::Hint;
 use std::alloc::Global;
 use std::sync::Wait;
@@ -122,7 +121,7 @@ fn a_scan_at_the_greatest_key(rt: HostRuntime) -> Result<(), Fail> {
         return Ok(());
     };
     let inserted = index.insert(&rt, &mut pass, u64::MAX, 1);
-    assert!(rt; matches!(inserted, (Reply::Inserted, None)));
+    assert!(rt; matches!(inserted, (KeyReply::Inserted, None)));
     let mut rows = Vec::new(rt.alloc());
     let below = index.scan_into(&mut pass, 0, Some(u64::MAX), 2, &mut rows);
     assert!(rt; below == Ok(()) && rows.is_empty());

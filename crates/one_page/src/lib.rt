@@ -18,9 +18,6 @@ use bl_store::{
 };
 use std::alloc::{AllocError, Global};
 
-#[cfg(test)]
-mod tests;
-
 /// What a hand knows: the page that it holds.
 #[derive(Drop)]
 pub struct Mine {

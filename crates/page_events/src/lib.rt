@@ -6,9 +6,6 @@
 
 ghost use Rattle.page_events.specs.Shown.{IsTied};
 
-#[cfg(test)]
-mod tests;
-
 /// Each event of a store is the event of that name of the page machine.
 pub fn tied<D>()
     ensures { IsTied D }

@@ -1,5 +1,5 @@
-//! Tests of each kind of process, run alone over plain pages, event by event, of what processes read of a page, and of hints that
-//! wait.
+//! Tests of processes that release a page, of what processes read of a page, and of hints that wait. Each other kind of process is
+//! run by `worked_turns`.
 //!
 //! They stand apart from `bl_proc`, `bl_ways` and `bl_hints`, and nothing else uses them: whatever is built on the processes need not
 //! wait until these tests are proved.
@@ -10,6 +10,6 @@ mod counts;
 #[cfg(test)]
 mod hints;
 #[cfg(test)]
-mod spelled;
+mod releases;
 #[cfg(test)]
-mod turns;
+mod spelled;

@@ -4,7 +4,7 @@ ghost use Rattle.std.specs.Prelude.{IfSome};
 ghost use Rattle.bl_index.specs.Calls.{IsPassOf, IsSamePass};
 
 use bl_hints::Hints;
-use bl_index::{Config, Index, Pass};
+use bl_index::{Config, Index, KeyReply, Pass};
 use bl_model::{Next, Reply};
 use bl_serve::follow_hint;
 use std::alloc::Global;
@@ -64,7 +64,7 @@ fn a_compressor_merges_two_leaves(rt: HostRuntime) -> Result<(), Fail> {
     fill(&rt, &index, &hints, &mut pass);
     assert!(rt; follow_hint(&rt, &index, &hints, &mut pass));
     let (gone, hint) = index.delete(&rt, &mut pass, 9);
-    assert!(rt; matches!(gone, Reply::Deleted(90)));
+    assert!(rt; matches!(gone, KeyReply::Deleted(90)));
     let Some(hint) = hint else {
         assert!(rt; false);
         return Ok(());

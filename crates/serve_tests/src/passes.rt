@@ -4,8 +4,7 @@ ghost use Rattle.std.specs.Prelude.{All};
 ghost use Rattle.bl_index.specs.Calls.{IsPassOf};
 
 use crate::served::{inserts, opened, serve_on};
-use bl_index::{Index, Pass};
-use bl_model::Reply;
+use bl_index::{Index, KeyReply, Pass};
 use std::test::Fail;
 
 /// Whether one of the passes finds the value at the key within so many turns.
@@ -17,7 +16,7 @@ fn finds(index: &Index, passes: Vec<Pass>, key: u64, value: u64, turns: u32) -> 
         return false;
     }
     let found = index.find(&mut passes[0], key, turns);
-    found == Ok(Reply::Found(value))
+    found == Ok(KeyReply::Found(value))
 }
 
 // They go on from what they have seen.

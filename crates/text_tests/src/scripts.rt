@@ -1,11 +1,10 @@
-//! Scripts that are read, and scripts with a bad line.
+//! Scripts in pieces, kinds that are not there, and reads that fail. What each line means stands in `worked_scripts`.
 
-use bl_model::{Op, Watched};
-use bl_script::{Command, Kinds, Script, ScriptFault, Start, has_one_reading, read_script};
+use bl_model::Watched;
+use bl_script::{Kinds, Script, ScriptFault, has_one_reading, read_script};
 use std::alloc::Global;
 use std::io;
 use std::io::{ErrorKind, Read};
-use std::test::Fail;
 
 /// Every kind of process.
 const ALL: Kinds = Kinds {
@@ -31,65 +30,6 @@ fn is_bad_at(rt: &HostRuntime, text: &[u8], kinds: Kinds, line: u64) -> bool {
         Err(fault) => fault == ScriptFault::Line(line),
         Ok(_) => false,
     }
-}
-
-#[test]
-fn a_search_beside_an_insertion(rt: HostRuntime) -> Result<(), Fail> {
-    let text = b"pages 4\ninsert 5 50\nfind 5\nrun 1 4\nrun 2 9\nrun 1 9\n";
-    let script = script_of(rt.alloc(), text, FEW).ok().ok_or("bad")?;
-    assert_eq!(rt; script.pages, 4);
-    let wanted = [
-        Command::Start(Start::Operation(Op::Insert(5, 50))),
-        Command::Start(Start::Operation(Op::Find(5))),
-        Command::Run(1, 4),
-        Command::Run(2, 9),
-        Command::Run(1, 9),
-    ];
-    assert!(rt; script.commands.as_slice() == wanted.as_slice());
-    Ok(())
-}
-
-#[test]
-fn each_line_has_its_command(rt: HostRuntime) -> Result<(), Fail> {
-    let lines: [(&[u8], Command); 14] = [
-        (b"find 0", Command::Start(Start::Operation(Op::Find(0)))),
-        (
-            b"insert 18446744073709551615 18446744073709551615",
-            Command::Start(Start::Operation(Op::Insert(u64::MAX, u64::MAX))),
-        ),
-        (b"delete 7", Command::Start(Start::Operation(Op::Delete(7)))),
-        (b"part 8", Command::Start(Start::Operation(Op::Part(8)))),
-        (
-            b"post 1 9",
-            Command::Start(Start::Post { level: 1, key: 9 }),
-        ),
-        (
-            b"post 12 0",
-            Command::Start(Start::Post { level: 12, key: 0 }),
-        ),
-        (
-            b"compress 1 90",
-            Command::Start(Start::Compress { level: 1, key: 90 }),
-        ),
-        (b"reclaim 0", Command::Start(Start::Reclaim(0))),
-        (b"reclaim 7", Command::Start(Start::Reclaim(7))),
-        (b"turn 1", Command::Turn(1)),
-        (b"turn 1 7", Command::TurnAt(1, 7)),
-        (b"turn 1 0", Command::TurnAt(1, 0)),
-        (b"refuse 1", Command::Refuse(1)),
-        (b"run 1 18446744073709551615", Command::Run(1, u64::MAX)),
-    ];
-    for (line, command) in lines {
-        let mut text = Vec::from_slice(rt.alloc(), b"pages 8\nfind 1\n")?;
-        text.extend_from_slice(line)?;
-        text.push(b'\n')?;
-        let script = script_of(rt.alloc(), text.as_slice(), ALL)
-            .ok()
-            .ok_or("bad")?;
-        assert_eq!(rt; script.commands.len(), 2);
-        assert_eq!(rt; script.commands[1], command);
-    }
-    Ok(())
 }
 
 #[test]
@@ -175,6 +115,10 @@ fn a_script_in_pieces(rt: HostRuntime) {
     let whole = slowly(alloc, b"pages 8\nfind ", 3, b"\nrun 1 9\n", false);
     let at_once = script_of(alloc, b"pages 8\nfind 111\nrun 1 9\n", ALL);
     assert!(rt; whole == at_once);
+    match at_once {
+        Ok(script) => assert!(rt; script.pages == 8 && script.commands.len() == 2),
+        Err(_) => assert!(rt; false),
+    }
     // a line of two million bytes, with an LF and without
     let long = slowly(alloc, b"pages 8\nfind ", 2_000_000, b"\nrun 1 9\n", false);
     assert!(rt; long == Err(ScriptFault::Line(2)));

@@ -12,7 +12,7 @@ use std::io::{ErrorKind, Write};
 use std::test::Fail;
 
 /// The image of an opening index: the anchor with one level, an empty leaf, and two pages that are not in use.
-fn opening() -> [u8; 1056] {
+pub(crate) fn opening() -> [u8; 1056] {
     let mut bytes = [0; 1056];
     bytes[..8].copy_from_slice(b"BLNKIDX1");
     bytes[8] = 1;

@@ -1,5 +1,5 @@
-//! Tests of values: the plain map and its streams, the layout of a store, pages and their words, pages that are rearranged, images byte by
-//! byte, and the checker.
+//! Tests of values: the plain map and its streams, the layout of a store, images byte by byte, and refused memory in the checker.
+//! Pages and what becomes of them, and damaged images, are calls of `worked_values`, which cost no proof.
 //!
 //! They stand apart from the crates of these values, each of which would be proved once more for its tests.
 #![tactic(auto)]
@@ -14,5 +14,3 @@ mod layout;
 mod model;
 #[cfg(test)]
 mod pages;
-#[cfg(test)]
-mod rearranged;

@@ -1,7 +1,8 @@
 //! Replays each script `NAME.script` of the folder that it is run in, and compares all that `blink replay` prints for it with
 //! the file `NAME.out`, byte by byte: what goes to standard output, and then the line on standard error where there is one.
 //! It also tries each line of a file `NAME.lines` behind the lines of `NAME.head`, where that line must be refused; and it
-//! reads each line of a file `NAME.requests` as a request, which must be that of the same line of `NAME.parsed`.
+//! reads each line of a file `NAME.requests` as a request, which must be that of the same line of `NAME.parsed`; and each line of a
+//! file `NAME.commands` as the second line of a script of 8 pages, which must be the command of the same line of `NAME.meant`.
 //!
 //! It prints a line for each file, by its name: `ok`, or the first line that is wrong, which is counted from 1. Its status is
 //! 1 where one is wrong or a file is missing.
@@ -12,6 +13,8 @@ ghost use Rattle.std.specs.Prelude.{◌≡◌, ◌↔◌, IsNone};
 use bl_commands::{CommandFault, replay_script};
 use bl_lines::request::parse;
 use bl_model::Watched;
+use bl_replay::PLAYED;
+use bl_script::read_script;
 use std::alloc::Global;
 use std::fs;
 use std::process::ExitCode;
@@ -29,6 +32,13 @@ fn main(rt: HostRuntime) -> anyhow::Result<ExitCode> {
             &rt,
             name.as_str(),
             request_read_wrongly(&rt, name.as_str())?,
+        )?;
+    }
+    for name in names_with(&rt, ".commands")?.iter() {
+        all_right &= tell(
+            &rt,
+            name.as_str(),
+            command_read_wrongly(&rt, name.as_str())?,
         )?;
     }
     Ok(ExitCode::from(if all_right { 0 } else { 1 }))
@@ -136,4 +146,28 @@ fn request_read_wrongly(rt: &HostRuntime, name: &str) -> anyhow::Result<Option<u
         found.extend_from_slice(format!(in rt.alloc(); "{request:?}\n")?.as_bytes())?;
     }
     Ok(first_difference(found.as_slice(), wanted.as_slice()))
+}
+
+/// The first line of a file of commands that is not read as wanted.
+fn command_read_wrongly(rt: &HostRuntime, name: &str) -> anyhow::Result<Option<usize>> {
+    let wanted = contents(rt, name, ".meant")?;
+    let lines = contents(rt, name, ".commands")?;
+    let mut found = Vec::new(rt.alloc());
+    for line in lines.as_slice().split_inclusive(|byte| *byte == b'\n') {
+        found.extend_from_slice(command_of(rt.alloc(), line)?.as_bytes())?;
+    }
+    Ok(first_difference(found.as_slice(), wanted.as_slice()))
+}
+
+/// The last command of a script of this line behind a search, as a line.
+fn command_of(alloc: Global, line: &[u8]) -> anyhow::Result<String> {
+    let mut script = Vec::from_slice(alloc, b"pages 8\nfind 1\n")?;
+    script.extend_from_slice(line)?;
+    match read_script(alloc, &mut Watched::new(script.as_slice()), PLAYED) {
+        Ok(script) => {
+            let last = script.commands.as_slice().get(1);
+            Ok(format!(in alloc; "{last:?}\n")?)
+        }
+        Err(fault) => Ok(format!(in alloc; "{fault:?}\n")?),
+    }
 }

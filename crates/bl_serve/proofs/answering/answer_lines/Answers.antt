@@ -3,7 +3,7 @@ use Rattle.bl_serve.proofs.Lines.{no_text, next_line, all_lines}
 use Rattle.bl_serve.proofs.answering.answer_lines.Goals as goal
 
 pub loop-asked-init : goal.loop-asked-init
-loop-asked-init g c = record { number = omega arith; same = search rules; so_far = no_text _ _ _ _ _ c.new-text.ensures.items }
+loop-asked-init g c = record { number = omega arith; same = search rules; so_far = no_text _ _ _ _ _ c.in_ok-text.ensures.items }
 
 pub loop-asked-preserved : goal.loop-asked-preserved
 loop-asked-preserved g c = record {

@@ -1,6 +1,6 @@
 use Rattle.bl_model.specs.declared.operation.Op.TheVariants as op
 use Rattle.bl_index.proofs.Taken.{same_pass, told_from}
-use Rattle.bl_index.proofs.Alone.{finds_alone}
+use Rattle.bl_index.proofs.Alone.{keys_alone}
 use Rattle.bl_index.proofs.index.Index.find.Goals as goal
 
 pub returns-clause-same : goal.returns-clause-same
@@ -10,4 +10,4 @@ pub returns-clause-answers : goal.returns-clause-answers
 returns-clause-answers c = told_from _ _ _ _ _ _ _ _ _ c.requires.2 c.find_by.ensures.answers
 
 pub returns-clause-alone : goal.returns-clause-alone
-returns-clause-alone c = let e = c.find_by.ensures in finds_alone c.args.self.now c.args.pass.now c.find_by.new.hand.seat (op.Find c.args.key) c.requires e.same.0 e.within _ _ c.find_by.result (returns-clause-answers c)
+returns-clause-alone c = let e = c.find_by.ensures in keys_alone c.args.self.now c.args.pass.now c.find_by.new.hand.seat (op.Find c.args.key) c.requires e.same.0 e.within _ _ c.find_by.result (returns-clause-answers c)

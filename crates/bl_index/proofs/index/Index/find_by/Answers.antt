@@ -1,4 +1,5 @@
 use Rattle.std.proofs.Common.{rules, refl, ◌≡◌, ◌∙◌, None, arith}
+use Rattle.bl_index.specs.Replies.{reply_of}
 use Rattle.bl_index.specs.Searching.{IsSearching}
 use Rattle.bl_index.proofs.Calls.{since_step, own_looks}
 use Rattle.bl_index.proofs.Silent.{gives_up}
@@ -44,7 +45,7 @@ returns-in-Ending-clause-answers c =
     let since = since_step _ _ _ _ _ inv.since c.read.ensures.moves.1 in
     record {
       answered = record {
-        answers = find_answers _ _ _ _ _ c.read.new.process c.args.key c.in-Ending.value c.reply_of.result refl since process.state (takes.1.0 ∙ inv.key) c.in-Ending.is c.finish.ensures.told c.reply_of.ensures;
+        answers = find_answers _ _ _ _ _ c.read.new.process c.args.key c.in-Ending.value (reply_of c.found.result) refl since process.state (takes.1.0 ∙ inv.key) c.in-Ending.is c.finish.ensures.told c.found.ensures;
         bounded = at_found _ _ _ _ _ inv.since.named inv.since.number inv.turn _ _ _ _ process.pages since.named since.number c.read.ensures.got (find_is_search _ _ process.state) c.finish.ensures.told;
         looks = own_looks _ _ _ _ since c.finish.ensures.tidy;
       };

@@ -1,73 +1,27 @@
-use Rattle.std.proofs.Common.{rules, refl, ◌≡◌, ◌∙◌, sym, ap, Some, None, ℕ, arith}
-use Rattle.bl_model.specs.declared.operation.Op.TheVariants as op
-use Rattle.bl_index.specs.Searching.{IsListing}
-use Rattle.bl_index.proofs.Calls.{since_step, own_looks}
-use Rattle.bl_index.proofs.Ends.{op_answered}
-use Rattle.bl_index.proofs.Silent.{gives_up}
-use Rattle.bl_index.proofs.Listings.{lists_on, part_under_way, part_is_search, part_may_give_up, part_done}
-use Rattle.bl_index.proofs.Paces.{at_begin, at_step, at_found, at_end}
+use Rattle.std.proofs.Common.{ℕ, List, ap, sym, subst, refl, ◌∙◌}
+use Rattle.bl_store.specs.Hands.{known, read_words}
+use Rattle.bl_store.specs.declared.store.Hand.{Hand}
+use Rattle.bl_passes.specs.declared.known.Mine.{Mine}
+use Rattle.bl_passes.specs.Told.{ends}
+use Rattle.bl_index.specs.Parts.{IsAtLeaf}
+use Rattle.bl_index.proofs.Appended.{GoesOnBehind, leaf_pairs, part_answers}
 use Rattle.bl_index.proofs.index.Index.part_by.Goals as goal
 
-pub loop-turn-init : goal.loop-turn-init
-loop-turn-init c =
-    let going : IsListing c.begin.new.process.stage = search rules in
-    let state = c.begin.ensures.process.state in
-    record {
-      same = search rules;
-      running = search rules;
-      process = c.begin.ensures.process;
-      since = c.begin.ensures.begun;
-      from = search rules;
-      going = going;
-      turn = at_begin _ _ _ _ _ _ c.begin.ensures.told (part_is_search _ _ state) (part_under_way _ _ state going);
-    }
+pub rows_in-rows-requires-clause-pairs : goal.rows_in-rows-requires-clause-pairs
+rows_in-rows-requires-clause-pairs c = leaf_pairs _ _ _ c.in-Some.ensures.came.leaf
 
-pub loop-turn-preserved : goal.loop-turn-preserved
-loop-turn-preserved c =
-    let inv = c.loop-turn.invariant in
-    let takes = c.read.ensures.takes in
-    let process = c.read.ensures.process in
-    let going = lists_on _ _ _ inv.going takes.1 c.in_default.not-Ending in
-    record {
-      same = search rules;
-      running = search rules;
-      process = process;
-      since = since_step _ _ _ _ _ inv.since c.read.ensures.moves.1;
-      from = takes.1.0 ∙ inv.from;
-      going = going;
-      turn = at_step _ _ _ _ _ inv.since.named inv.since.number inv.turn _ _ process.pages c.read.ensures.got (part_is_search _ _ process.state) (part_under_way _ _ process.state going);
-    }
-
-pub returns-in-Ending-clause-answers : goal.returns-in-Ending-clause-answers
-returns-in-Ending-clause-answers c =
-    let inv = c.loop-turn.invariant in
-    let process = c.read.ensures.process in
-    let since = since_step _ _ _ _ _ inv.since c.read.ensures.moves.1 in
-    let done = part_done _ _ _ _ c.read.new.process c.finish.new.process _ since process.state c.in-Ending.is c.finish.ensures.told c.finish.ensures.takes c.finish.ensures.tidy in
-    record {
-      answered = record {
-        answers = op_answered _ _ _ _ _ _ _ _ _ done refl (ap (λ (k : ℕ). Some (op.Part k)) (c.read.ensures.takes.1.0 ∙ inv.from)) (sym c.answer.ensures ∙ c.answered-reply.ensures);
-        bounded = at_found _ _ _ _ _ inv.since.named inv.since.number inv.turn _ _ _ _ process.pages since.named since.number c.read.ensures.got (part_is_search _ _ process.state) c.finish.ensures.told;
-        looks = own_looks _ _ _ _ since c.finish.ensures.tidy;
-      };
-      refused = tt;
-    }
+pub end_part-requires-clause-leaf : goal.end_part-requires-clause-leaf
+end_part-requires-clause-leaf c =
+    let leaf = c.in-Some.ensures.came.leaf in
+    subst (λ (h : Hand Mine). (from : ℕ) × (words : List ℕ) × IsAtLeaf from words (known h.seat)) (sym (c.next_in-next.ensures.same ∙ c.rows_in-rows.ensures.same)) (c.args.from, _, leaf)
 
 pub returns-clause-answers : goal.returns-clause-answers
 returns-clause-answers c =
-    let inv = c.loop-turn.invariant in
-    let end = at_end _ _ _ _ _ inv.since.named inv.since.number inv.turn None _ c.give_up.ensures.told in
-    let all : c.loop-turn._turn ≡ c.args.turns = omega arith in
+    let has = c.in-Some.ensures.came in
+    let same = c.next_in-next.ensures.same ∙ c.rows_in-rows.ensures.same in
+    let ended = subst (λ (h : Hand Mine). ends (known h.seat) 0 (known c.end_part.new.hand.seat)) same c.end_part.ensures.ended in
+    let goes : GoesOnBehind (read_words c.come_to_leaf.new.hand.seat) c.next_in-next.result = λ page tree e. c.next_in-next.ensures.next page tree (ap (λ (h : Hand Mine). read_words h.seat) c.rows_in-rows.ensures.same ∙ e) in
     record {
-      answered = tt;
-      refused = record {
-        adds = gives_up _ _ _ _ _ refl inv.since (part_may_give_up c.loop-turn.process _ inv.process.state inv.going) c.give_up.ensures.told;
-        bounded = end.0;
-        gets = end.1 ∙ all;
-        below = end.2;
-        looks = own_looks _ _ _ _ inv.since c.give_up.ensures.looks;
-      };
+      answered = part_answers _ _ c.args.from _ c.come_to_leaf.new.hand.seat c.end_part.new.hand.seat _ has ended c.next_in-next.result goes (record { rows = c.rows_in-rows.result; next = c.next_in-next.result }) c.rows_in-rows.ensures.rows refl;
+      refused = tt;
     }
-
-pub give_up-requires-clause-may : goal.give_up-requires-clause-may
-give_up-requires-clause-may c = part_may_give_up c.loop-turn.process _ c.loop-turn.invariant.process.state c.loop-turn.invariant.going

@@ -1,9 +1,11 @@
-use Rattle.std.proofs.Common.{refl, sym, ap, ◌∙◌}
+use Rattle.std.proofs.Common.{refl, sym, ap, ◌∙◌, get_or}
 use Rattle.bl_ways.specs.declared.acts.Seen.TheVariants as seen
 use Rattle.bl_ways.specs.declared.changing.Change.TheVariants as change
 use Rattle.bl_ways.specs.declared.changing.Outcome.TheVariants as outcome
 use Rattle.bl_proc.specs.Processes.{next_of}
 use Rattle.bl_index.proofs.Standing.{on_itself, on_goes, same_goes, same_all, course_at}
+use Rattle.bl_index.proofs.Parted.{parted_by, full_tree, full_head}
+use Rattle.bl_ways.specs.declared.changing.Parting.{Parting}
 use Rattle.bl_index.proofs.index.Index.part_full.Goals as goal
 
 pub take_page-requires-clause-process : goal.take_page-requires-clause-process
@@ -17,13 +19,18 @@ take_page-requires-clause-course g c =
     let taking = change.Taking c.requires.full.0 in let is = c.requires.full.5.state in
     (λ y child. course_at (seen.Took y) _ _ is (g.J.Changer.courses c.args.changer.now taking (seen.Took y) child), course_at seen.Refused _ _ is (g.J.Changer.courses c.args.changer.now taking seen.Refused refl))
 
-pub parting-parting-requires-clause-full : goal.parting-parting-requires-clause-full
-parting-parting-requires-clause-full g c = let f = c.requires.full in (f.0, f.1, f.2, f.3, f.4)
+pub entries_with-requires : goal.entries_with-requires
+entries_with-requires g c = let f = c.requires.full in record { page = (f.0.page, full_tree f.0, f.4, f.0.full) }
 
 pub put_parts-requires-clause-process : goal.put_parts-requires-clause-process
 put_parts-requires-clause-process g c =
-    let f = c.requires.full in
-    on_goes _ _ _ _ _ _ f.5 c.in-Some.ensures.took.3 (g.J.Changer.goes c.args.changer.now (change.Taking f.0) (change.PuttingNew c.parting-parting.result) (seen.Took c.in-Some.new) (c.parting-parting.ensures f.0 f.1 f.2 f.3 f.4))
+    let f = c.requires.full in let took = c.in-Some.ensures.took in
+    let parts = parted_by f.0 c.args.at c.args.key c.args.word c.in-Some.new c.args.words.now c.entries_with.new.entries f.1 f.2 f.3 took.0 f.4 (c.entries_with.ensures f.0.page f.4) in
+    let p : Parting = record { at = c.args.at; new = c.in-Some.new; left = parts.0; right = parts.1; separator = get_or c.entries_with.new.entries 16 0 } in
+    (parts.0, parts.1, parts.2, on_goes _ _ _ _ _ _ f.5 took.3 (g.J.Changer.goes c.args.changer.now (change.Taking f.0) (change.PuttingNew p) (seen.Took c.in-Some.new) parts.3))
+
+pub put_parts-requires-clause-head : goal.put_parts-requires-clause-head
+put_parts-requires-clause-head g c = let f = c.requires.full in full_head f.0.page c.args.words.now (full_tree f.0) f.4 f.0.full
 
 pub returns-in-None-clause-process : goal.returns-in-None-clause-process
 returns-in-None-clause-process g c =

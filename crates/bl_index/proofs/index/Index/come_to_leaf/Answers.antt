@@ -1,0 +1,69 @@
+use Rattle.std.proofs.Common.{rules, refl, ◌≡◌, ◌∙◌, None, arith}
+use Rattle.bl_index.specs.declared.listing.Ahead.TheVariants as ahead
+use Rattle.bl_index.proofs.Calls.{since_step, own_looks}
+use Rattle.bl_index.proofs.Silent.{gives_up}
+use Rattle.bl_index.proofs.Listings.{part_under_way, part_is_search, part_may_give_up, leaf_is_search}
+use Rattle.bl_index.proofs.Paces.{at_begin, at_step, at_last, at_end}
+use Rattle.bl_index.proofs.index.Index.come_to_leaf.Goals as goal
+
+pub loop-turn-init : goal.loop-turn-init
+loop-turn-init c =
+    let state = c.begin_part.ensures.process.state in
+    record {
+      same = search rules;
+      running = search rules;
+      process = c.begin_part.ensures.process;
+      since = c.begin_part.ensures.begun;
+      turn = at_begin _ _ _ _ _ _ c.begin_part.ensures.told (part_is_search c.args.from ahead.Anchor _ state) (part_under_way c.args.from ahead.Anchor _ state);
+    }
+
+pub loop-turn-preserved : goal.loop-turn-preserved
+loop-turn-preserved c =
+    let inv = c.loop-turn.invariant in
+    let got = c.in-Further.ensures.got in
+    let process = c.in-Further.ensures.reached in
+    record {
+      same = search rules;
+      running = search rules;
+      process = process;
+      since = since_step _ _ _ _ _ inv.since got.1;
+      turn = at_step _ _ _ _ _ inv.since.named inv.since.number inv.turn _ _ process.pages got.1 (part_is_search c.args.from c.in-Further.next _ process.state) (part_under_way c.args.from c.in-Further.next _ process.state);
+    }
+
+pub returns-in-Leaf-clause-came : goal.returns-in-Leaf-clause-came
+returns-in-Leaf-clause-came c =
+    let inv = c.loop-turn.invariant in
+    let got = c.in-Leaf.ensures.got in
+    let at = c.in-Leaf.ensures.reached in
+    record {
+      running = search rules;
+      reads = at.0;
+      leaf = at.1;
+      process = at.2;
+      since = since_step _ _ _ _ _ inv.since got.1;
+      last = at_last _ _ _ _ _ inv.since.named inv.since.number inv.turn _ _ at.2.pages got.1 (leaf_is_search c.args.from at.1.rows _ at.1.state);
+    }
+
+pub give_up-requires-clause-may : goal.give_up-requires-clause-may
+give_up-requires-clause-may c = part_may_give_up c.args.from c.loop-turn.ahead _ c.loop-turn.invariant.process.state
+
+pub returns-clause-came : goal.returns-clause-came
+returns-clause-came c =
+    let inv = c.loop-turn.invariant in
+    let told = c.give_up.ensures.told in
+    let end = at_end _ _ _ _ _ inv.since.named inv.since.number inv.turn None _ told in
+    let all : c.loop-turn._turn ≡ c.args.turns = omega arith in
+    record {
+      idle = c.give_up.ensures.idle;
+      within = c.give_up.ensures.within;
+      rests = told.runs;
+      first = told.notes.first ∙ inv.since.beginning;
+      seen = told.notes.seen;
+      out = record {
+        adds = gives_up _ _ _ _ _ refl inv.since (part_may_give_up c.args.from c.loop-turn.ahead _ inv.process.state) told;
+        bounded = end.0;
+        gets = end.1 ∙ all;
+        below = end.2;
+        looks = own_looks _ _ _ _ inv.since c.give_up.ensures.looks;
+      };
+    }

@@ -1,0 +1,27 @@
+use Rattle.std.proofs.Common.{ap, sym, subst}
+use Rattle.bl_ways.specs.declared.onwards.Onward.TheVariants.{Here}
+use Rattle.bl_proc.specs.Processes.{next_of}
+use Rattle.bl_store.specs.Hands.{known}
+use Rattle.bl_store.specs.declared.store.Hand.{Hand}
+use Rattle.bl_passes.specs.declared.known.Mine.{Mine}
+use Rattle.bl_index.specs.declared.listing.Reached.TheVariants as reached
+use Rattle.bl_index.specs.Parts.{HasReached}
+use Rattle.bl_index.proofs.Listings.{page_course, page_reached}
+use Rattle.bl_index.proofs.Standing.{on_itself}
+use Rattle.bl_index.proofs.index.Index.list_page.Goals as goal
+
+pub look-glance-requires-clause-process : goal.look-glance-requires-clause-process
+look-glance-requires-clause-process c = on_itself _ _ _ c.requires.process
+
+pub look-glance-requires-clause-next : goal.look-glance-requires-clause-next
+look-glance-requires-clause-next c = ap next_of c.requires.process.state
+
+pub look-glance-requires-clause-course : goal.look-glance-requires-clause-course
+look-glance-requires-clause-course c = λ page. page_course c.args.from c.args.page page _ c.requires.process.state
+
+pub returns-in-Here-clause-reached : goal.returns-in-Here-clause-reached
+returns-in-Here-clause-reached c =
+    let went = c.look-glance.ensures.goes in
+    let leads = c.in-Here.ensures.leads went.0 went.1 in
+    subst (λ (h : Hand Mine). HasReached c.args.from c.args.self.now.store.layout h.seat (reached.Leaf c.look-glance.result)) (sym c.way_in.ensures.same)
+    (page_reached c.args.self.now.store.layout c.args.from c.args.page went.0 (known c.args.hand.now.seat) c.look-glance.new.hand.seat c.look-glance.result c.requires.process went.2 c.look-glance.ensures.reads went.1 Here leads)

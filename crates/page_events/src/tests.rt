@@ -1,6 +1,0 @@
-use crate::tied;
-
-#[test]
-fn ties(_rt: HostRuntime) {
-    tied::<u64>();
-}
