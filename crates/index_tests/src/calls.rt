@@ -5,7 +5,8 @@ ghost use Rattle.bl_index.specs.Calls.{IsPassOf, IsSamePass};
 
 use arrayvec::ArrayVec;
 use bl_index::{
-    Config, Hint, Index, KeyReply, Level, Next, OpenFault, OutOfTurns, Pass, Posted, Reply, Squeezed,
+    Config, Hint, Index, KeyReply, Level, Next, OpenFault, OutOfTurns, Pass, Posted, Reply,
+    Squeezed,
 };
 use std::alloc::Global;
 use std::sync::Wait;
