@@ -117,8 +117,10 @@ impl<D, R: PageRule<D>, A: Allocator> Store<D, R, A> {
         ensures stock { (ds : List Draft) → hand.old.seat.me.0.stock ≡ draft frame [] ∷ ds → hand.new.seat.me.0.stock ≡ draft frame words.now ∷ ds }
     {
         let first = self.layout.frame_word(frame, 0);
-        for at in 0..32 {
+        for pair in 0..16 {
+            let at = 2 * pair;
             self.write_sparse(hand, frame, first, at, words[at]);
+            self.write_sparse(hand, frame, first, at + 1, words[at + 1]);
         }
     }
 
