@@ -1,5 +1,5 @@
 -- Places of keys in pairs that rise, and these pairs in words.
-use Rattle.std.proofs.Common.{◌≡◌, ◌≢◌, ℕ, zero, suc, ◌+◌, ◌*◌, ◌-◌, ◌<◌, ◌≤◌, List, [], ◌∷◌, length, get_or, drop, Option, Some, None, true, false, refl, ap, sym, ◌∙◌, inl, inr, arith}
+use Rattle.std.proofs.Common.{◌≡◌, ◌≢◌, ℕ, zero, suc, ◌+◌, ◌*◌, ◌-◌, ◌%◌, ◌<◌, ◌≤◌, ◌⊎◌, List, [], ◌∷◌, length, get_or, drop, Option, Some, None, true, false, refl, ap, sym, ◌∙◌, inl, inr, arith}
 use Rattle.std.specs.Prelude.{nat_lt, if◌then◌else◌}
 use Rattle.std.proofs.lemmas.Bool.{cases_lt}
 use Rattle.std.proofs.lemmas.List.{get_or-drop, length-drop}
@@ -110,78 +110,117 @@ pair-before words n p long few some within =
     let word : 5 + 2 * (p - 1) ≡ 3 + 2 * p = omega (arith, some) in
     (ap (λ pair. pair.0) at ∙ ap (λ j. get_or words j 0) key, ap (λ pair. pair.1) at ∙ ap (λ j. get_or words j 0) word)
 
--- how many of the first keys in words are at or below a key, and zeros with them
-abbrev pub count_to : ℕ → ℕ → List ℕ → ℕ
-count_to key zero words = 0
-count_to key (suc i) words = count_to key i words + (if nat_lt key (get_or words (4 + 2 * i) 0) then 0 else 1)
+-- only the first key may be 0
+key-later : (least i : ℕ) (pairs : List (ℕ × ℕ)) → RisesFrom least pairs → suc i < length pairs → 1 ≤ key_at pairs (suc i)
+key-later least i [] h few = absurd (omega arith)
+key-later least i (pair ∷ pairs) h few = let more = key-least (pair.0 + 1) i pairs h.1 (omega arith) in omega (arith, more)
 
--- whether a word is at or below the key, as a number
-abbrev pub counted : ℕ → ℕ → ℕ
-counted key word = if nat_lt key word then 0 else 1
+key_of : (words : List ℕ) (which : ℕ) → length words ≡ 32 → HasPairs words → 1 ≤ which → which ≤ count_in words → key_at (pairs_of words) (which - 1) ≡ get_or words (2 + 2 * which) 0
+key_of words which long has some within =
+    let key : 4 + 2 * (which - 1) ≡ 2 + 2 * which = omega (arith, some) in
+    ap (λ pair. pair.0) (pairs-at (count_in words) (which - 1) words long has.few (omega (arith, some, within))) ∙ ap (λ j. get_or words j 0) key
 
-pub counted-one : (key word : ℕ) → word ≤ key → counted key word ≡ 1
-counted-one key word reached = let e : nat_lt key word ≡ false = grind (arith, reached) in grind (arith, e)
+pub at-or-below : (key which : ℕ) (words : List ℕ) → length words ≡ 32 → HasPairs words → 1 ≤ which → which ≤ count_in words → get_or words (2 + 2 * which) 0 ≤ key → which ≤ place key (pairs_of words)
+at-or-below key which words long has some within reached =
+    let there = key_of words which long has some within in
+    let size = pairs-length (count_in words) words long has.few in
+    let past = place-above 0 key (which - 1) (pairs_of words) has.rises (omega (arith, size, some, within)) (omega (arith, there, reached)) in
+    omega (arith, past, some)
 
-pub counted-none : (key word : ℕ) → key < word → counted key word ≡ 0
-counted-none key word above = let e : nat_lt key word ≡ true = grind (arith, above) in grind (arith, e)
+pub above : (key which : ℕ) (words : List ℕ) → length words ≡ 32 → HasPairs words → 1 ≤ which → which ≤ count_in words → key < get_or words (2 + 2 * which) 0 → place key (pairs_of words) < which
+above key which words long has some within over =
+    let there = key_of words which long has some within in
+    let size = pairs-length (count_in words) words long has.few in
+    let most = place-below key (which - 1) (pairs_of words) (omega (arith, size, some, within)) (omega (arith, there, over)) in
+    omega (arith, most, some)
 
--- two keys more
-pub count-two : (key i : ℕ) (words : List ℕ) → count_to key (2 * (i + 1)) words ≡ count_to key (2 * i) words + counted key (get_or words (4 + 4 * i) 0) + counted key (get_or words (6 + 4 * i) 0)
-count-two key i words =
-    let two : 2 * (i + 1) ≡ suc (suc (2 * i)) = omega arith in
-    let first : 4 + 2 * (2 * i) ≡ 4 + 4 * i = omega arith in
-    let second : 4 + 2 * suc (2 * i) ≡ 6 + 4 * i = omega arith in
-    ap (λ n. count_to key n words) two ∙ ap (λ j. count_to key (2 * i) words + counted key (get_or words j 0) + counted key (get_or words (4 + 2 * suc (2 * i)) 0)) first
-    ∙ ap (λ j. count_to key (2 * i) words + counted key (get_or words (4 + 4 * i) 0) + counted key (get_or words j 0)) second
+pub behind : (key which : ℕ) (words : List ℕ) → length words ≡ 32 → HasPairs words → count_in words < which → place key (pairs_of words) < which
+behind key which words long has past = let size = pairs-length (count_in words) words long has.few in omega (arith, place-le key (pairs_of words), size, past)
 
--- among the pairs these are all up to the place of the key
-pub count-pairs : (key i : ℕ) (words : List ℕ) → length words ≡ 32 → HasPairs words → i ≤ count_in words
-    → (i ≤ place key (pairs_of words) → count_to key i words ≡ i) × (place key (pairs_of words) ≤ i → count_to key i words ≡ place key (pairs_of words))
-count-pairs key zero words long has within = ((λ h. refl), λ h. omega (arith, h))
-count-pairs key (suc i) words long has within =
-    let n = count_in words in
-    let few = has.few in
-    let before = count-pairs key i words long has (omega arith) in
-    let at : key_at (pairs_of words) i ≡ get_or words (4 + 2 * i) 0 = ap (λ pair. pair.0) (pairs-at n i words long few (omega arith)) in
-    let low : i < length (pairs_of words) = omega (arith, pairs-length n words long few) in
-    elim (cases_lt key (get_or words (4 + 2 * i) 0)) [
-      | inl above ↦
-          let e : nat_lt key (get_or words (4 + 2 * i) 0) ≡ true = grind (arith, above) in
-          let step : count_to key (suc i) words ≡ count_to key i words = grind (arith, e) in
-          let most = place-below key i (pairs_of words) low (omega (arith, at, above)) in
-          ((λ h. absurd (omega (arith, h, most))), λ h. step ∙ before.1 most)
-      | inr reached ↦
-          let e : nat_lt key (get_or words (4 + 2 * i) 0) ≡ false = grind (arith, reached) in
-          let step : count_to key (suc i) words ≡ count_to key i words + 1 = grind (arith, e) in
-          let past = place-above 0 key i (pairs_of words) has.rises low (omega (arith, at, reached)) in
-          let all = before.0 (omega (arith, past)) in
-          ((λ h. omega (arith, step, all)), λ h. omega (arith, step, all, past, h))
+pub some_later : (which : ℕ) (words : List ℕ) → length words ≡ 32 → HasPairs words → 2 ≤ which → which ≤ count_in words → 1 ≤ get_or words (2 + 2 * which) 0
+some_later which words long has second within =
+    let there = key_of words which long has (omega (arith, second)) within in
+    let size = pairs-length (count_in words) words long has.few in
+    let one : which - 1 ≡ suc (which - 2) = omega (arith, second) in
+    let later = key-later 0 (which - 2) (pairs_of words) has.rises (omega (arith, size, second, within)) in
+    let same = ap (λ i. key_at (pairs_of words) i) one in
+    omega (arith, later, same, there)
+
+pub zero_behind : (which : ℕ) (words : List ℕ) → HasPairs words → count_in words < which → which ≤ 14 → get_or words (2 + 2 * which) 0 ≡ 0
+zero_behind which words has past within = has.rest (2 + 2 * which) (omega (arith, past)) (omega (arith, within))
+
+-- one less, where a number that is not 0 stands; the greatest number, where 0 stands
+pub one_less_some : (word : ℕ) → 1 ≤ word → word < 18446744073709551616 → (word + 18446744073709551615) % 18446744073709551616 ≡ word - 1
+one_less_some word some fits = omega (arith, some, fits)
+
+pub one_less_none : (word : ℕ) → word ≡ 0 → (word + 18446744073709551615) % 18446744073709551616 ≡ 18446744073709551615
+one_less_none word none = omega (arith, none)
+
+-- so a later key is at or below a key where one less is below it
+pub below_tells : (key which word : ℕ) (words : List ℕ) → length words ≡ 32 → HasPairs words → 2 ≤ which → which ≤ 14 → key < 18446744073709551616 → word < 18446744073709551616
+    → word ≡ get_or words (2 + 2 * which) 0 → (word + 18446744073709551615) % 18446744073709551616 < key → which ≤ place key (pairs_of words)
+below_tells key which word words long has second within small fits is tells = elim (cases_lt (count_in words) which) [
+  | inl past ↦ let none = zero_behind which words has past within in let most = one_less_none word (is ∙ none) in absurd (omega (arith, most, tells, small))
+  | inr there ↦
+      let some = some_later which words long has second there in
+      let less = one_less_some word (omega (arith, some, is)) fits in
+      at-or-below key which words long has (omega (arith, second)) there (omega (arith, less, tells, is, some))
+]
+
+pub not_below_tells : (key which word : ℕ) (words : List ℕ) → length words ≡ 32 → HasPairs words → 2 ≤ which → word < 18446744073709551616
+    → word ≡ get_or words (2 + 2 * which) 0 → key ≤ (word + 18446744073709551615) % 18446744073709551616 → place key (pairs_of words) < which
+not_below_tells key which word words long has second fits is tells = elim (cases_lt (count_in words) which) [
+  | inl past ↦ behind key which words long has past
+  | inr there ↦
+      let some = some_later which words long has second there in
+      let less = one_less_some word (omega (arith, some, is)) fits in
+      above key which words long has (omega (arith, second)) there (omega (arith, less, tells, is, some))
+]
+
+-- a number is 1 up to a place, and 0 behind it
+abbrev pub IsReached : ℕ → ℕ → ℕ → Type 0
+IsReached which place number = (which ≤ place → number ≡ 1) × (place < which → number ≡ 0)
+
+reached-either : (which place number : ℕ) → IsReached which place number → ((which ≤ place) × (number ≡ 1)) ⊎ ((place < which) × (number ≡ 0))
+reached-either which place number is = elim (cases_lt place which) [
+  | inl past ↦ inr (past, is.1 past)
+  | inr there ↦ inl (there, is.0 there)
+]
+
+-- three numbers tell the part of a page where a place is
+pub part_of : (p a b c : ℕ) → p ≤ 14 → IsReached 4 p a → IsReached 8 p b → IsReached 11 p c
+    → (4 * a + 4 * b + 3 * c ≤ p) × (p ≤ 4 * a + 4 * b + 3 * c + 3) × (4 * a + 4 * b + 3 * c ≤ 11)
+part_of p a b c few first second third =
+    let x = reached-either 4 p a first in
+    let y = reached-either 8 p b second in
+    let z = reached-either 11 p c third in
+    elim x [
+      | inl x ↦ elim y [
+          | inl y ↦ elim z [
+              | inl z ↦ (omega (arith, x.1, y.1, z.1, z.0), omega (arith, x.1, y.1, z.1, few), omega (arith, x.1, y.1, z.1))
+              | inr z ↦ (omega (arith, x.1, y.1, z.1, y.0), omega (arith, x.1, y.1, z.1, z.0), omega (arith, x.1, y.1, z.1))
+            ]
+          | inr y ↦ let z' : c ≡ 0 = third.1 (omega (arith, y.0)) in (omega (arith, x.1, y.1, z', x.0), omega (arith, x.1, y.1, z', y.0), omega (arith, x.1, y.1, z'))
+        ]
+      | inr x ↦
+          let y' : b ≡ 0 = second.1 (omega (arith, x.0)) in
+          let z' : c ≡ 0 = third.1 (omega (arith, x.0)) in
+          (omega (arith, x.1, y', z'), omega (arith, x.1, y', z', x.0), omega (arith, x.1, y', z'))
     ]
 
--- behind them each zero counts
-pub count-rest : (key j : ℕ) (words : List ℕ) → length words ≡ 32 → HasPairs words → count_in words + j ≤ 14
-    → count_to key (count_in words + j) words ≡ place key (pairs_of words) + j
-count-rest key zero words long has within =
-    let n = count_in words in
-    let most : place key (pairs_of words) ≤ n = omega (arith, place-le key (pairs_of words), pairs-length n words long has.few) in
-    let all = (count-pairs key n words long has (omega arith)).1 most in
-    let e : n + 0 ≡ n = omega arith in
-    let f : place key (pairs_of words) + 0 ≡ place key (pairs_of words) = omega arith in
-    ap (λ i. count_to key i words) e ∙ all ∙ sym f
-count-rest key (suc j) words long has within =
-    let n = count_in words in
-    let before = count-rest key j words long has (omega arith) in
-    let none : get_or words (4 + 2 * (n + j)) 0 ≡ 0 = has.rest (4 + 2 * (n + j)) (omega arith) (omega arith) in
-    let e : nat_lt key (get_or words (4 + 2 * (n + j)) 0) ≡ false = grind (arith, none) in
-    let step : count_to key (suc (n + j)) words ≡ count_to key (n + j) words + 1 = grind (arith, e) in
-    let is : n + suc j ≡ suc (n + j) = omega arith in
-    ap (λ i. count_to key i words) is ∙ step ∙ omega (arith, before)
-
-pub count-all : (key : ℕ) (words : List ℕ) → length words ≡ 32 → HasPairs words → count_to key 14 words + count_in words ≡ place key (pairs_of words) + 14
-count-all key words long has =
-    let n = count_in words in
-    let few = has.few in
-    let whole : n + (14 - n) ≡ 14 = omega arith in
-    let all = count-rest key (14 - n) words long has (omega arith) in
-    let moved : count_to key 14 words ≡ count_to key (n + (14 - n)) words = ap (λ i. count_to key i words) (sym whole) in
-    omega (arith, all, moved, few)
+-- and three more the place in that part
+pub place_of_part : (p before a b c : ℕ) → before ≤ p → p ≤ before + 3 → IsReached (before + 1) p a → IsReached (before + 2) p b → IsReached (before + 3) p c → before + a + b + c ≡ p
+place_of_part p before a b c low high first second third =
+    elim (reached-either (before + 1) p a first) [
+      | inl x ↦ elim (reached-either (before + 2) p b second) [
+          | inl y ↦ elim (reached-either (before + 3) p c third) [
+              | inl z ↦ omega (arith, x.1, y.1, z.1, z.0, high)
+              | inr z ↦ omega (arith, x.1, y.1, z.1, z.0, y.0)
+            ]
+          | inr y ↦ let z' : c ≡ 0 = third.1 (omega (arith, y.0)) in omega (arith, x.1, y.1, z', x.0, y.0)
+        ]
+      | inr x ↦
+          let y' : b ≡ 0 = second.1 (omega (arith, x.0)) in
+          let z' : c ≡ 0 = third.1 (omega (arith, x.0)) in
+          omega (arith, x.1, y', z', x.0, low)
+    ]

@@ -108,7 +108,7 @@ impl<D, R: PageRule<D>, A: Allocator> Store<D, R, A> {
         }
     }
 
-    // Writes the words into the frame that was reserved last.
+    // Writes the words into the frame that was reserved last, of which those behind the pairs are zeros.
     fn write(&self, hand: &mut Hand<D>, frame: u32, words: &[u64; 32])
         requires own { IsOf self.now.table.shared.table_id self.now.layout hand.old.seat }
         requires frame { frame < frame_count self.now.layout }
@@ -117,10 +117,10 @@ impl<D, R: PageRule<D>, A: Allocator> Store<D, R, A> {
         ensures stock { (ds : List Draft) → hand.old.seat.me.0.stock ≡ draft frame [] ∷ ds → hand.new.seat.me.0.stock ≡ draft frame words.now ∷ ds }
     {
         let first = self.layout.frame_word(frame, 0);
-        for i in 0..32 {
-            self.table
-                .shared
-                .store::<Write>(&mut hand.seat, first + i, words[i]);
+        for pair in 0..16 {
+            let at = 2 * pair;
+            self.write_sparse(hand, frame, first, at, words[at]);
+            self.write_sparse(hand, frame, first, at + 1, words[at + 1]);
         }
     }
 

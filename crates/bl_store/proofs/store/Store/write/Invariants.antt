@@ -1,11 +1,12 @@
-use Rattle.std.proofs.Common.{◌≡◌, List, [], ◌∷◌, take}
+use Rattle.std.proofs.Common.{◌≡◌, ℕ, ◌*◌, ◌<◌, get_or}
+use Rattle.bl_store.specs.Drafts.{draft_words, other_drafts, HasDraft}
 use Rattle.bl_store.specs.Hands.{IsQuiet}
-use Rattle.bl_store.specs.Told.{draft}
-use Rattle.bl_store.specs.declared.view.Draft.{Draft}
 use Rattle.bl_store.proofs.store.Store.write.Given as goal
 
-abbrev pub invariant-loop-i : goal.invariant-loop-i
-invariant-loop-i g l = record {
+abbrev pub invariant-loop-pair : goal.invariant-loop-pair
+invariant-loop-pair g l = record {
   same : IsQuiet l.fn.hand.seat l.hand.seat;
-  stock : (ds : List Draft) → l.fn.hand.seat.me.0.stock ≡ draft l.fn.frame [] ∷ ds → l.hand.seat.me.0.stock ≡ draft l.fn.frame (take l.i l.words) ∷ ds;
+  draft : HasDraft l.hand.seat l.fn.frame (2 * l.pair);
+  others : other_drafts l.hand.seat ≡ other_drafts l.fn.hand.seat;
+  written : (k : ℕ) → k < 2 * l.pair → get_or (draft_words l.hand.seat) k 0 ≡ get_or l.words k 0;
 }
