@@ -4,8 +4,8 @@ use Rattle.bl_page.specs.declared.page.Page.{Page}
 use Rattle.bl_laws.specs.Pages.{node_of, roots_of, IsTreePage}
 use Rattle.bl_laws.specs.Walks.{IsWalk, Each}
 use Rattle.bl_laws.specs.Walks.IsWalk.{Ends, Right, Down}
-use Rattle.bl_ways.specs.declared.onwards.Onward.{Onward}
-use Rattle.bl_ways.specs.declared.onwards.Onward.TheVariants as onward
+use Rattle.bl_ways.specs.declared.onwards.Step.{Step}
+use Rattle.bl_ways.specs.declared.onwards.Step.TheVariants as onward
 use Rattle.bl_ways.specs.Onwards.{top_of, Leads}
 use Rattle.bl_courses.proofs.Onwards.{leads_one}
 use Rattle.bl_bounds.specs.Paces.{IsAhead}
@@ -24,7 +24,7 @@ pub record AheadOf (contents : ℕ → Page) (k y n : ℕ) : Type 0 where
   pub less : n ≡ suc left
 
 module _ (contents : ℕ → Page) (k x : ℕ) where
-  one_place : (o o' : Onward) → Leads (contents x) k 0 o → Leads (contents x) k 0 o' → o ≡ o'
+  one_place : (o o' : Step) → Leads (contents x) k 0 o → Leads (contents x) k 0 o' → o ≡ o'
   one_place o o' h i = leads_one (contents x) k 0 o o' h i
 
   pub ahead_right : (y n : ℕ) → Leads (contents x) k 0 (onward.Right y) → IsAhead contents k x n → AheadOf contents k y n

@@ -17,7 +17,7 @@ use Rattle.bl_laws.proofs.WalksEnd.{After, Walked, walk_from, at_most}
 use Rattle.bl_steps.specs.Worlds.{Know, World, nodes, tree_of, was_in, MayGet, IsGood}
 use Rattle.bl_steps.proofs.Steady.{free_not, fresh_not, anchored_not}
 use Rattle.bl_starts.proofs.WorldLaws.{tree_page, all_sound}
-use Rattle.bl_ways.specs.declared.onwards.Onward.TheVariants as onward
+use Rattle.bl_ways.specs.declared.onwards.Step.TheVariants as onward
 use Rattle.bl_ways.specs.Onwards.{top_of, Leads}
 use Rattle.bl_bounds.specs.Paces.{IsAhead}
 use Rattle.bl_bounds.specs.Paces.IsAhead.{On, Again}

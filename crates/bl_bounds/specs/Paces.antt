@@ -7,7 +7,7 @@ use Rattle.bl_page.specs.Machine.Act.{Begin}
 use Rattle.bl_laws.specs.Pages.{roots_of}
 use Rattle.bl_trails.specs.Trails.{Trail, DoesAt}
 use Rattle.bl_steps.specs.Worlds.{World}
-use Rattle.bl_ways.specs.declared.onwards.Onward.TheVariants as onward
+use Rattle.bl_ways.specs.declared.onwards.Step.TheVariants as onward
 use Rattle.bl_ways.specs.Onwards.{top_of, Leads}
 use Rattle.bl_proc.specs.declared.searching.FindStage.{FindStage}
 use Rattle.bl_proc.specs.declared.searching.FindStage.TheVariants as find

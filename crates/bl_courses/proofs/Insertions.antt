@@ -4,7 +4,7 @@ use Rattle.bl_page.specs.declared.page.Page.{Page}
 use Rattle.bl_laws.specs.Pages.{node_of}
 use Rattle.bl_ways.specs.declared.acts.Seen.{Seen}
 use Rattle.bl_ways.specs.declared.acts.Seen.TheVariants as seen
-use Rattle.bl_ways.specs.declared.onwards.Onward.TheVariants.{Here}
+use Rattle.bl_ways.specs.declared.onwards.Step.TheVariants.{Here}
 use Rattle.bl_ways.specs.declared.approaching.Approach.{Approach}
 use Rattle.bl_ways.specs.declared.approaching.Approach.TheVariants.{Start}
 use Rattle.bl_ways.specs.declared.approaching.Approached.{Approached}

@@ -6,7 +6,7 @@ use Rattle.bl_page.specs.Pages.{Covers}
 use Rattle.bl_model.specs.Rows.{map_of}
 use Rattle.bl_laws.specs.Pages.{node_of}
 use Rattle.bl_rearrange.specs.Rearranged.{pairs_of, MayHold, MayLose}
-use Rattle.bl_ways.specs.declared.onwards.Onward.TheVariants.{Here}
+use Rattle.bl_ways.specs.declared.onwards.Step.TheVariants.{Here}
 use Rattle.bl_ways.specs.Onwards.{Leads}
 
 pub leaf_covers : (c : Page) (key level : ℕ) → Leads c key level Here → Covers c key

@@ -10,8 +10,8 @@ use Rattle.bl_model.specs.Rows.{map_of}
 use Rattle.bl_tree.specs.Nodes.{Look, Covers}
 use Rattle.bl_laws.specs.Pages.{node_of, IsTreePage}
 use Rattle.bl_laws.specs.Walks.{IsChildOf}
-use Rattle.bl_ways.specs.declared.onwards.Onward.{Onward}
-use Rattle.bl_ways.specs.declared.onwards.Onward.TheVariants.{Again, Right, Down, Here}
+use Rattle.bl_ways.specs.declared.onwards.Step.{Step}
+use Rattle.bl_ways.specs.declared.onwards.Step.TheVariants.{Again, Right, Down, Here}
 use Rattle.bl_ways.specs.Onwards.{IsDead, Leads}
 
 -- no page is dead and of the tree
@@ -56,7 +56,7 @@ module _ (c : Page) (key level : ℕ) where
   down_here : (x : ℕ) → Leads c key level (Down x) → Leads c key level Here → ⊥
   down_here x a b = omega arith
 
-  pub leads_one : (o o' : Onward) → Leads c key level o → Leads c key level o' → o ≡ o'
+  pub leads_one : (o o' : Step) → Leads c key level o → Leads c key level o' → o ≡ o'
   leads_one Again Again a b = refl
   leads_one Again (Right y) a b = absurd (again_right y a b)
   leads_one Again (Down y) a b = absurd (again_down y a b)
@@ -80,7 +80,7 @@ child_of i key in_it =
     let is : IsChildFor i.children.items key (child_before (place key i.children.items) i.children.items) = child_at_place 0 key i.children.items i.order some in
     (child_before (place key i.children.items) i.children.items, record { key = is.key; listed = is.listed; reached = is.reached; greatest = is.greatest })
 
-pub leads_some : (c : Page) (key level : ℕ) → (o : Onward) × Leads c key level o
+pub leads_some : (c : Page) (key level : ℕ) → (o : Step) × Leads c key level o
 leads_some (Anchor a) key level = (Again, (λ d. d, λ t. absurd t))
 leads_some (Leaf l) key level = elim (cases_lt key l.low) [
   | inl low ↦ (Again, (λ d. d, λ t. inl low))

@@ -4,8 +4,8 @@ use Rattle.bl_page.specs.declared.page.Page.{Page}
 use Rattle.bl_laws.specs.Pages.{node_of, roots_of}
 use Rattle.bl_ways.specs.declared.acts.Seen.{Seen}
 use Rattle.bl_ways.specs.declared.acts.Seen.TheVariants as seen
-use Rattle.bl_ways.specs.declared.onwards.Onward.{Onward}
-use Rattle.bl_ways.specs.declared.onwards.Onward.TheVariants.{Again, Right, Down, Here}
+use Rattle.bl_ways.specs.declared.onwards.Step.{Step}
+use Rattle.bl_ways.specs.declared.onwards.Step.TheVariants.{Again, Right, Down, Here}
 use Rattle.bl_ways.specs.Given.{Gives}
 use Rattle.bl_ways.specs.Onwards.{top_of, Leads}
 use Rattle.bl_proc.specs.declared.kinds.Proc.{Proc}
@@ -77,7 +77,7 @@ module _ (from x : ℕ) (c : Page) where
   at_one (Over r) b s t = absurd s
   at_one old b s t = absurd t
 
-  at_goes : (o : Onward) → Leads c from 0 o → Goes from (At x) (seen.Words c)
+  at_goes : (o : Step) → Leads c from 0 o → Goes from (At x) (seen.Words c)
   at_goes Again a = record { new = AtAnchor; goes = a; only = λ other t. at_one other AtAnchor t a }
   at_goes (Right y) a = record { new = At y; goes = inl a; only = λ other t. at_one other (At y) t (inl a) }
   at_goes (Down y) a = record { new = At y; goes = inr a; only = λ other t. at_one other (At y) t (inr a) }

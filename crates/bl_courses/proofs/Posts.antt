@@ -13,8 +13,8 @@ use Rattle.bl_laws.specs.Pages.{node_of, roots_of}
 use Rattle.bl_laws.specs.Walks.{IsChildOf}
 use Rattle.bl_ways.specs.declared.acts.Seen.{Seen}
 use Rattle.bl_ways.specs.declared.acts.Seen.TheVariants as seen
-use Rattle.bl_ways.specs.declared.onwards.Onward.{Onward}
-use Rattle.bl_ways.specs.declared.onwards.Onward.TheVariants.{Again, Right, Down, Here}
+use Rattle.bl_ways.specs.declared.onwards.Step.{Step}
+use Rattle.bl_ways.specs.declared.onwards.Step.TheVariants.{Again, Right, Down, Here}
 use Rattle.bl_ways.specs.declared.approaching.Approach.{Approach}
 use Rattle.bl_ways.specs.declared.approaching.Approach.TheVariants.{Start, At, Latching, Latched, Leaving}
 use Rattle.bl_ways.specs.declared.approaching.Approached.{Approached}
@@ -206,17 +206,17 @@ module _ (level : ℕ) (w : Walk) (c : Page) where
   right_only v at key parent h (Staying m reply.Stale) t = absurd (let e = leads_one c w.key (level - 1) (Right v.child) Here h t.1 in cc)
   right_only v at key parent h old t = absurd t
 
-  lost_only : (o : Onward) → Leads c w.key (level - 1) o → IsLost o → (other : PostStage) → PostWalks level w c other → other ≡ Coming (Leaving w.at None)
+  lost_only : (o : Step) → Leads c w.key (level - 1) o → IsLost o → (other : PostStage) → PostWalks level w c other → other ≡ Coming (Leaving w.at None)
   lost_only o h lost (Coming b) t = ap Coming t.0
   lost_only o h lost (Walking u) t = absurd (let zero_is : u.child ≡ 0 = subst IsLost (leads_one c w.key (level - 1) o (Right u.child) h t.3) lost in let some = u.names.0 in omega arith)
   lost_only o h lost (Changing n) t = absurd (subst IsLost (leads_one c w.key (level - 1) o Here h t.0) lost)
   lost_only o h lost (Staying m reply.Stale) t = absurd (subst IsLost (leads_one c w.key (level - 1) o Here h t.1) lost)
   lost_only o h lost old t = absurd t
 
-  lost : (o : Onward) → Leads c w.key (level - 1) o → IsLost o → One (PostWalks level w c)
+  lost : (o : Step) → Leads c w.key (level - 1) o → IsLost o → One (PostWalks level w c)
   lost o h is = record { new = Coming (Leaving w.at None); goes = (refl, (o, h, is)); only = lost_only o h is }
 
-  walk_by : (o : Onward) → Leads c w.key (level - 1) o → One (PostWalks level w c)
+  walk_by : (o : Step) → Leads c w.key (level - 1) o → One (PostWalks level w c)
   walk_by Again h = lost Again h tt
   walk_by (Down y) h = lost (Down y) h tt
   walk_by (Right y) h = elim (cases_eq y 0) [

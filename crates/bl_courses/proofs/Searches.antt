@@ -4,8 +4,8 @@ use Rattle.bl_page.specs.declared.page.Page.{Page}
 use Rattle.bl_laws.specs.Pages.{node_of, roots_of}
 use Rattle.bl_ways.specs.declared.acts.Seen.{Seen}
 use Rattle.bl_ways.specs.declared.acts.Seen.TheVariants as seen
-use Rattle.bl_ways.specs.declared.onwards.Onward.{Onward}
-use Rattle.bl_ways.specs.declared.onwards.Onward.TheVariants.{Again, Right, Down, Here}
+use Rattle.bl_ways.specs.declared.onwards.Step.{Step}
+use Rattle.bl_ways.specs.declared.onwards.Step.TheVariants.{Again, Right, Down, Here}
 use Rattle.bl_ways.specs.Given.{Gives}
 use Rattle.bl_ways.specs.Onwards.{top_of, Leads}
 use Rattle.bl_proc.specs.declared.kinds.Proc.{Proc}
@@ -64,7 +64,7 @@ module _ (key x : ℕ) (c : Page) where
   here_only a New t = absurd t
   here_only a (Over v) t = absurd t
 
-  at_goes : (o : Onward) → Leads c key 0 o → Goes key (At x) (seen.Words c)
+  at_goes : (o : Step) → Leads c key 0 o → Goes key (At x) (seen.Words c)
   at_goes Again a = record { new = AtAnchor; goes = a; only = again_only a }
   at_goes (Right y) a = record { new = At y; goes = inl a; only = right_only y a }
   at_goes (Down y) a = record { new = At y; goes = inr a; only = down_only y a }

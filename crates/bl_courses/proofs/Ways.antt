@@ -6,8 +6,8 @@ use Rattle.bl_tree.specs.Nodes.{Roots}
 use Rattle.bl_laws.specs.Pages.{node_of, roots_of}
 use Rattle.bl_ways.specs.declared.acts.Seen.{Seen}
 use Rattle.bl_ways.specs.declared.acts.Seen.TheVariants as seen
-use Rattle.bl_ways.specs.declared.onwards.Onward.{Onward}
-use Rattle.bl_ways.specs.declared.onwards.Onward.TheVariants.{Again, Right, Down, Here}
+use Rattle.bl_ways.specs.declared.onwards.Step.{Step}
+use Rattle.bl_ways.specs.declared.onwards.Step.TheVariants.{Again, Right, Down, Here}
 use Rattle.bl_ways.specs.declared.approaching.Approach.{Approach}
 use Rattle.bl_ways.specs.declared.approaching.Approach.TheVariants.{Start, At, Latching, Latched, Leaving}
 use Rattle.bl_ways.specs.declared.approaching.Approached.{Approached}
@@ -77,7 +77,7 @@ module _ (level x : ℕ) (c : Page) where
   down_at y h (Latching z) t = absurd (h t.1)
   down_at y h old t = absurd t
 
-  turn_one : (o : Onward) → One (Turns level x c o)
+  turn_one : (o : Step) → One (Turns level x c o)
   turn_one Again = record { new = Start; goes = tt; only = again_turn }
   turn_one Here = record { new = Latching x; goes = refl; only = here_turn }
   turn_one (Right y) = elim (cases_eq (node_of c).shape.level level) [
@@ -89,7 +89,7 @@ module _ (level x : ℕ) (c : Page) where
     | inr ne ↦ record { new = At y; goes = (refl, ne); only = down_at y ne }
   ]
 
-  quit_one : (key : ℕ) (o : Onward) → Leads c key level o → One (Approaches level key (Latched x) (seen.Words c))
+  quit_one : (key : ℕ) (o : Step) → Leads c key level o → One (Approaches level key (Latched x) (seen.Words c))
   quit_one key Here a = record { new = came.Here x c; goes = (refl, refl, a); only = here_only }
     where
       here_only : (other : Approached) → Approaches level key (Latched x) (seen.Words c) other → other ≡ came.Here x c
@@ -97,7 +97,7 @@ module _ (level x : ℕ) (c : Page) where
       here_only (came.On (At z)) t = absurd t
       here_only (came.On (Latching z)) t = absurd t
       here_only (came.On (Latched z)) t = absurd t
-      here_only (came.On (Leaving z to)) t = absurd (subst (λ (q : Onward). Quits q to) (leads_one c key level t.1.0 Here t.1.1 a) t.1.2)
+      here_only (came.On (Leaving z to)) t = absurd (subst (λ (q : Step). Quits q to) (leads_one c key level t.1.0 Here t.1.1 a) t.1.2)
       here_only (came.Here u p) t = λ i. came.Here (t.0 i) (t.1 i)
   quit_one key (Right y) a = record { new = came.On (Leaving x (Some y)); goes = (refl, (Right y, a, refl)); only = right_only }
     where
@@ -106,7 +106,7 @@ module _ (level x : ℕ) (c : Page) where
       right_only (came.On (At z)) t = absurd t
       right_only (came.On (Latching z)) t = absurd t
       right_only (came.On (Latched z)) t = absurd t
-      right_only (came.On (Leaving z to)) t = (let q = subst (λ (v : Onward). Quits v to) (leads_one c key level t.1.0 (Right y) t.1.1 a) t.1.2 in λ i. came.On (Leaving (t.0 i) (q i)))
+      right_only (came.On (Leaving z to)) t = (let q = subst (λ (v : Step). Quits v to) (leads_one c key level t.1.0 (Right y) t.1.1 a) t.1.2 in λ i. came.On (Leaving (t.0 i) (q i)))
       right_only (came.Here u p) t = (let q = leads_one c key level Here (Right y) t.2 a in cc)
   quit_one key (Down y) a = record { new = came.On (Leaving x None); goes = (refl, (Down y, a, refl)); only = down_only }
     where
@@ -115,7 +115,7 @@ module _ (level x : ℕ) (c : Page) where
       down_only (came.On (At z)) t = absurd t
       down_only (came.On (Latching z)) t = absurd t
       down_only (came.On (Latched z)) t = absurd t
-      down_only (came.On (Leaving z to)) t = (let q = subst (λ (v : Onward). Quits v to) (leads_one c key level t.1.0 (Down y) t.1.1 a) t.1.2 in λ i. came.On (Leaving (t.0 i) (q i)))
+      down_only (came.On (Leaving z to)) t = (let q = subst (λ (v : Step). Quits v to) (leads_one c key level t.1.0 (Down y) t.1.1 a) t.1.2 in λ i. came.On (Leaving (t.0 i) (q i)))
       down_only (came.Here u p) t = (let q = leads_one c key level Here (Down y) t.2 a in cc)
   quit_one key Again a = record { new = came.On (Leaving x None); goes = (refl, (Again, a, refl)); only = again_only }
     where
@@ -124,7 +124,7 @@ module _ (level x : ℕ) (c : Page) where
       again_only (came.On (At z)) t = absurd t
       again_only (came.On (Latching z)) t = absurd t
       again_only (came.On (Latched z)) t = absurd t
-      again_only (came.On (Leaving z to)) t = (let q = subst (λ (v : Onward). Quits v to) (leads_one c key level t.1.0 Again t.1.1 a) t.1.2 in λ i. came.On (Leaving (t.0 i) (q i)))
+      again_only (came.On (Leaving z to)) t = (let q = subst (λ (v : Step). Quits v to) (leads_one c key level t.1.0 Again t.1.1 a) t.1.2 in λ i. came.On (Leaving (t.0 i) (q i)))
       again_only (came.Here u p) t = (let q = leads_one c key level Here Again t.2 a in cc)
 
 module _ (level key : ℕ) where
@@ -132,8 +132,8 @@ module _ (level key : ℕ) where
   entered_only c (came.On a) t = ap came.On ((enter_one level (roots_of c)).only a t)
   entered_only c (came.Here y p) t = absurd t
 
-  turned_only : (x : ℕ) (c : Page) (o : Onward) → Leads c key level o → (other : Approached) → Approaches level key (At x) (seen.Words c) other → other ≡ came.On (turn_one level x c o).new
-  turned_only x c o a (came.On b) t = ap came.On ((turn_one level x c o).only b (subst (λ (v : Onward). Turns level x c v b) (leads_one c key level t.0 o t.1 a) t.2))
+  turned_only : (x : ℕ) (c : Page) (o : Step) → Leads c key level o → (other : Approached) → Approaches level key (At x) (seen.Words c) other → other ≡ came.On (turn_one level x c o).new
+  turned_only x c o a (came.On b) t = ap came.On ((turn_one level x c o).only b (subst (λ (v : Step). Turns level x c v b) (leads_one c key level t.0 o t.1 a) t.2))
   turned_only x c o a (came.Here y p) t = absurd t
 
   latched_only : (x : ℕ) (other : Approached) → Approaches level key (Latching x) seen.Done other → other ≡ came.On (Latched x)

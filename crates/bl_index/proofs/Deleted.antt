@@ -13,7 +13,7 @@ use Rattle.bl_ways.specs.declared.acts.Seen.TheVariants as seen
 use Rattle.bl_ways.specs.declared.answers.Hint.{Hint}
 use Rattle.bl_ways.specs.declared.answers.Answer.TheVariants.{Op}
 use Rattle.bl_ways.specs.declared.approaching.Approach.TheVariants as approach
-use Rattle.bl_ways.specs.declared.onwards.Onward.TheVariants.{Here}
+use Rattle.bl_ways.specs.declared.onwards.Step.TheVariants.{Here}
 use Rattle.bl_ways.specs.declared.changing.Change.TheVariants as change
 use Rattle.bl_ways.specs.declared.changing.Outcome.{Outcome}
 use Rattle.bl_ways.specs.Onwards.{Leads}

@@ -25,7 +25,7 @@ pub mod Encounters
 pub mod Ranges
 pub mod Picked
 pub mod Scanned
-pub mod Onward
+pub mod PartByPart
 pub mod Rooms
 pub mod Holders
 pub mod Gathered

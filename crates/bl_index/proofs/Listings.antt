@@ -8,8 +8,8 @@ use Rattle.bl_page.specs.declared.page.Page.{Page}
 use Rattle.bl_page.specs.Words.{words_of}
 use Rattle.bl_laws.specs.Pages.{roots_of}
 use Rattle.bl_ways.specs.declared.acts.Seen.TheVariants as seen
-use Rattle.bl_ways.specs.declared.onwards.Onward.{Onward}
-use Rattle.bl_ways.specs.declared.onwards.Onward.TheVariants.{Again, Right, Down, Here}
+use Rattle.bl_ways.specs.declared.onwards.Step.{Step}
+use Rattle.bl_ways.specs.declared.onwards.Step.TheVariants.{Again, Right, Down, Here}
 use Rattle.bl_ways.specs.Onwards.{Leads, top_of}
 use Rattle.bl_proc.specs.declared.kinds.Proc.{Proc}
 use Rattle.bl_proc.specs.declared.parts.PartRows.{PartRows}
@@ -81,7 +81,7 @@ leaf_course from rows state e = subst (λ (z : Proc). GoesOn z seen.Done) (sym e
 pub anchor_on : (l : Layout) (from x : ℕ) (c : Page) (d e : Mine) → IsOn l d (part_at from ahead.Anchor) → Goes (seen.Words c) d e → x ≡ top_of (roots_of c) → IsOn l e (part_at from (ahead.Page x))
 anchor_on l from x c d e on goes top = on_goes l (seen.Words c) d e (part_at from ahead.Anchor) (part_at from (ahead.Page x)) on goes (refl, top)
 
-abbrev pub reached_by : Onward → Glance → Reached
+abbrev pub reached_by : Step → Glance → Reached
 reached_by Again glance = reached.Further ahead.Anchor
 reached_by (Right y) glance = reached.Further (ahead.Page y)
 reached_by (Down y) glance = reached.Further (ahead.Page y)
@@ -91,7 +91,7 @@ module _ (l : Layout) (from x : ℕ) (c : Page) (d : Mine) (h : Seat (Unit {0}) 
   stands : (stage : PartStage) → Takes (listing from (At x)) (seen.Words c) (listing from stage) → IsOn l (known h) (listing from stage)
   stands stage takes = on_goes l (seen.Words c) d (known h) (listing from (At x)) (listing from stage) on goes takes
 
-  pub page_reached : (o : Onward) → Leads c from 0 o → HasReached from l h (reached_by o glance)
+  pub page_reached : (o : Step) → Leads c from 0 o → HasReached from l h (reached_by o glance)
   page_reached Again leads = stands AtAnchor (refl, leads)
   page_reached (Right y) leads = stands (At y) (refl, inl leads)
   page_reached (Down y) leads = stands (At y) (refl, inr leads)

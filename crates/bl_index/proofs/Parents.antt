@@ -14,8 +14,8 @@ use Rattle.bl_ways.specs.declared.changing.Change.TheVariants as change
 use Rattle.bl_ways.specs.declared.changing.Full.{Full}
 use Rattle.bl_ways.specs.declared.changing.Outcome.{Outcome}
 use Rattle.bl_ways.specs.declared.changing.Outcome.TheVariants as outcome
-use Rattle.bl_ways.specs.declared.onwards.Onward.{Onward}
-use Rattle.bl_ways.specs.declared.onwards.Onward.TheVariants.{Right, Down, Here}
+use Rattle.bl_ways.specs.declared.onwards.Step.{Step}
+use Rattle.bl_ways.specs.declared.onwards.Step.TheVariants.{Right, Down, Here}
 use Rattle.bl_ways.specs.Onwards.{Leads}
 use Rattle.bl_ways.specs.Respelled.{words_by}
 use Rattle.bl_proc.specs.declared.kinds.Proc.{Proc}
@@ -69,7 +69,7 @@ leads_down (page.Leaf l) key level least h = absurd (let e = h.2 in omega arith)
 leads_down (page.Inner i) key level least h = (let child = child_of i key h.1 in let e = h.2 in (child.0, (tt, h.1, omega arith, child.1)))
 leads_down (page.Dead d) key level least h = absurd h.0
 
-pub only_down : (c : Page) (key level : ℕ) (o : Onward) → 0 < level → Leads c key level Here → Leads c key (level - 1) o → ((child : ℕ) → o ≡ Down child → ⊥) → ⊥
+pub only_down : (c : Page) (key level : ℕ) (o : Step) → 0 < level → Leads c key level Here → Leads c key (level - 1) o → ((child : ℕ) → o ≡ Down child → ⊥) → ⊥
 only_down c key level o least h leads not = (let down = leads_down c key level least h in not down.0 (leads_one c key (level - 1) o (Down down.0) leads down.1))
 
 nonzero : (z : ℕ) → z ≢ 0 → 0 < z
@@ -135,7 +135,7 @@ module _ (j : Posting) where
         let course = post_goes (record { level = j.level; key = j.key; stage = post.Walking w.walk; least = j.least; most = j.most; below = w.below }) (seen.Words c) refl tt in
         course.only next (subst (λ (z : Proc). Takes z (seen.Words c) next) w.is takes) ∙ sym (course.only (posting j stage below) (refl, refl, goes))
 
-    leading : (o : Onward) → Leads c j.key (j.level - 1) o → Leads c w.walk.key (j.level - 1) o
+    leading : (o : Step) → Leads c j.key (j.level - 1) o → Leads c w.walk.key (j.level - 1) o
     leading o leads = subst (λ (z : ℕ). Leads c z (j.level - 1) o) (sym w.key) leads
 
     pub walked_on : (z : ℕ) → z ≢ 0 → Leads c j.key (j.level - 1) (Right z) → IsWalking j x words z next
@@ -160,7 +160,7 @@ module _ (j : Posting) where
         let it : PostWalks j.level w.walk c (post.Staying x reply.Stale) = (sym w.at, leading Here leads, λ e. other (e ∙ w.key)) in
         walks (post.Staying x reply.Stale) tt it it
 
-    pub walked_lost : (o : Onward) → Leads c j.key (j.level - 1) o → IsLost o → next ≡ posting j (post.Coming (approach.Leaving x None)) tt
+    pub walked_lost : (o : Step) → Leads c j.key (j.level - 1) o → IsLost o → next ≡ posting j (post.Coming (approach.Leaving x None)) tt
     walked_lost o leads lost =
         let it : PostWalks j.level w.walk c (post.Coming (approach.Leaving x None)) = (λ i. approach.Leaving (sym w.at i) None, (o, leading o leads, lost)) in
         walks (post.Coming (approach.Leaving x None)) tt it it

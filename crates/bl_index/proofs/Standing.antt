@@ -9,8 +9,8 @@ use Rattle.bl_ways.specs.declared.acts.Seen.TheVariants as seen
 use Rattle.bl_ways.specs.declared.approaching.Approach.{Approach}
 use Rattle.bl_ways.specs.declared.approaching.Approach.TheVariants.{Start, At, Latching, Latched, Leaving}
 use Rattle.bl_ways.specs.declared.approaching.Approached.TheVariants as came
-use Rattle.bl_ways.specs.declared.onwards.Onward.{Onward}
-use Rattle.bl_ways.specs.declared.onwards.Onward.TheVariants.{Again, Right, Down, Here}
+use Rattle.bl_ways.specs.declared.onwards.Step.{Step}
+use Rattle.bl_ways.specs.declared.onwards.Step.TheVariants.{Again, Right, Down, Here}
 use Rattle.bl_ways.specs.Approaches.{IsToLook, Turns, Approaches}
 use Rattle.bl_proc.specs.declared.kinds.Proc.{Proc}
 use Rattle.bl_proc.specs.Processes.{Takes}
@@ -90,7 +90,7 @@ pub course_at : (what : Seen) (p q : Proc) → p ≡ q → GoesOn q what → Goe
 course_at what p q is course = subst (λ (z : Proc). GoesOn z what) (sym is) course
 
 -- a writer that has looked holds no page
-turned_free : (level x : ℕ) (c : Page) (o : Onward) (b : Approach) → Turns level x c o b → HoldsNone b
+turned_free : (level x : ℕ) (c : Page) (o : Step) (b : Approach) → Turns level x c o b → HoldsNone b
 turned_free level x c o Start t = tt
 turned_free level x c o (At y) t = tt
 turned_free level x c o (Latching y) t = tt

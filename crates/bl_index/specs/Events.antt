@@ -22,7 +22,7 @@ use Rattle.bl_ways.specs.declared.answers.Posted.{Posted}
 use Rattle.bl_ways.specs.declared.approaching.Approach.{Approach}
 use Rattle.bl_ways.specs.declared.approaching.Approach.TheVariants.{Start, At, Latching, Latched, Leaving}
 use Rattle.bl_ways.specs.declared.changing.Change.{Change}
-use Rattle.bl_ways.specs.declared.onwards.Onward.TheVariants.{Here}
+use Rattle.bl_ways.specs.declared.onwards.Step.TheVariants.{Here}
 use Rattle.bl_ways.specs.Changes.{EntersPair}
 use Rattle.bl_ways.specs.Onwards.{Leads}
 use Rattle.bl_proc.specs.declared.inserting.Insert.{Insert}

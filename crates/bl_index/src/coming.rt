@@ -17,7 +17,7 @@ use crate::index::Index;
 use crate::shown::Shown;
 use bl_passes::{Began, Launch, Mine};
 use bl_store::{Glance, Hand};
-use bl_ways::{Approach, Onward, way_in};
+use bl_ways::{Approach, Step, step_in};
 use crossbeam_utils::Backoff;
 use std::marker::Brand;
 use std::sync::Wait;
@@ -161,11 +161,11 @@ impl Index {
             store: &self.store,
             glance,
         };
-        match way_in(&shown, hand, errand.key(), errand.level()) {
-            Onward::Here => Arrived::There(glance),
-            Onward::Right(next) => Arrived::Away(Some(next)),
-            Onward::Down(_child) => Arrived::Away(None),
-            Onward::Again => Arrived::Away(None),
+        match step_in(&shown, hand, &mut 0, errand.key(), errand.level()) {
+            Step::Here => Arrived::There(glance),
+            Step::Right(next) => Arrived::Away(Some(next)),
+            Step::Down(_child) => Arrived::Away(None),
+            Step::Again => Arrived::Away(None),
         }
     }
 

@@ -136,7 +136,7 @@ impl Index {
             store: &self.store,
             glance,
         };
-        match row_in(&shown, hand, errand.key) {
+        match row_in(&shown, hand, &mut 0, errand.key) {
             Some(value) => self.remove(hand, at, errand, value, glance),
             None => self.keep_absent(hand, at, errand),
         }

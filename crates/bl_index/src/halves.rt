@@ -31,7 +31,7 @@ pub(crate) fn entries_with(words: &[u64; 32], key: u64, word: u64, entries: &mut
     requires page { (c : Page) × IsTreePage c × (words.now ≡ words_of c) × (14 ≤ length (pairs_of c)) }
     ensures { (c : Page) → words.now ≡ words_of c → entries.new ≡ entries_of (entered key word (pairs_of c)) }
 {
-    let place = place_in(words, &mut (), 14, key);
+    let place = place_in(words, &mut (), &mut 0, 14, key);
     spread_entries(words, place, key, word, entries);
 }
 

@@ -26,7 +26,7 @@ use crate::index::Index;
 use crate::placing::listed_at;
 use crate::reply::KeyReply;
 use crate::shown::Shown;
-use bl_page::{LEVEL_UNIT, WordSource, place_in, words_from};
+use bl_page::{LEVEL_UNIT, place_in, word, words_from};
 use bl_passes::Mine;
 use bl_proc::{Hint, InsertReply};
 use bl_store::{Glance, Hand, Spread};
@@ -175,9 +175,9 @@ impl Index {
             store: &self.store,
             glance,
         };
-        let head = shown.word(hand, 0);
+        let head = word(&shown, hand, 0);
         let count = (head % LEVEL_UNIT) as usize;
-        let place = place_in(&shown, hand, count, errand.key);
+        let place = place_in(&shown, hand, &mut 0, count, errand.key);
         if let Some(there) = listed_at(&shown, hand, place, errand.key) {
             return self.keep_present(hand, at, errand, there);
         }

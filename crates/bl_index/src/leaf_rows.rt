@@ -13,12 +13,12 @@ ghost use Rattle.bl_index.specs.LeafRows.{rows_from, EndsBefore, AppendsBetween}
 
 use arrayvec::ArrayVec;
 use bl_model::Next;
-use bl_page::{LEVEL_UNIT, Pairs, WordSource};
+use bl_page::{LEVEL_UNIT, Pairs, Words, word};
 use std::alloc::AllocError;
 
 /// The place of the first of so many rows whose key is not below that one.
 #[inline(always)]
-fn place_from<W: WordSource>(source: &W, hand: &mut W::Hand, count: usize, from: u64) -> usize
+fn place_from<W: Words>(source: &W, hand: &mut W::Hand, count: usize, from: u64) -> usize
     requires sees { W.Sees source.now hand.old }
     requires count { count ≡ count_in (W.shown source.now hand.old) }
     requires pairs { HasPairs (W.shown source.now hand.old) }
@@ -26,7 +26,7 @@ fn place_from<W: WordSource>(source: &W, hand: &mut W::Hand, count: usize, from:
     ensures place { IsPlaceOf (pairs_of (W.shown source.now hand.old)) from result }
 {
     for place in 0..count {
-        if from <= source.word(hand, 4 + 2 * place) {
+        if from <= word(source, hand, 4 + 2 * place) {
             return place;
         }
     }
@@ -36,7 +36,7 @@ fn place_from<W: WordSource>(source: &W, hand: &mut W::Hand, count: usize, from:
 /// The place behind the last of so many rows, from that one on, whose key is below the end. It looks at them from the back, since
 /// most leaves of a scan lie below its end.
 #[inline(always)]
-fn place_below<W: WordSource>(
+fn place_below<W: Words>(
     source: &W,
     hand: &mut W::Hand,
     first: usize,
@@ -52,7 +52,7 @@ fn place_below<W: WordSource>(
 {
     for behind in 0..count - first {
         let last = count - behind;
-        if source.word(hand, 2 + 2 * last) < end {
+        if word(source, hand, 2 + 2 * last) < end {
             return last;
         }
     }
@@ -61,7 +61,7 @@ fn place_below<W: WordSource>(
 
 /// The same, where there may be no end.
 #[inline(always)]
-fn place_before<W: WordSource>(
+fn place_before<W: Words>(
     source: &W,
     hand: &mut W::Hand,
     first: usize,
@@ -83,21 +83,21 @@ fn place_before<W: WordSource>(
 
 /// The row at a place.
 #[inline(always)]
-fn row_at<W: WordSource>(source: &W, hand: &mut W::Hand, place: usize) -> (u64, u64)
+fn row_at<W: Words>(source: &W, hand: &mut W::Hand, place: usize) -> (u64, u64)
     requires sees { W.Sees source.now hand.old }
     requires pairs { HasPairs (W.shown source.now hand.old) }
     requires place { place < count_in (W.shown source.now hand.old) }
     ensures same { hand.new ≡ hand.old }
     ensures row { result ≡ slice_index_or (pairs_of (W.shown source.now hand.old)) place (0, 0) }
 {
-    let key = source.word(hand, 4 + 2 * place);
-    let value = source.word(hand, 5 + 2 * place);
+    let key = word(source, hand, 4 + 2 * place);
+    let value = word(source, hand, 5 + 2 * place);
     (key, value)
 }
 
 /// Appends the leaf's rows from a key on that lie below an end, if there is one; or none of them, where there is no room.
 #[inline(always)]
-pub(crate) fn append_rows<W: WordSource>(
+pub(crate) fn append_rows<W: Words>(
     source: &W,
     hand: &mut W::Hand,
     from: u64,
@@ -109,7 +109,7 @@ pub(crate) fn append_rows<W: WordSource>(
     ensures same { hand.new ≡ hand.old }
     ensures appends { AppendsBetween from to (pairs_of (W.shown source.now hand.old)) (vec_capacity rows.new - vec_len rows.new) result rows.old.items rows.new.items }
 {
-    let count = (source.word(hand, 0) % LEVEL_UNIT) as usize;
+    let count = (word(source, hand, 0) % LEVEL_UNIT) as usize;
     let first = place_from(source, hand, count, from);
     let last = place_before(source, hand, first, count, to);
     rows.reserve(last - first)?;
@@ -122,13 +122,13 @@ pub(crate) fn append_rows<W: WordSource>(
 
 /// The leaf's rows from a key on.
 #[inline(always)]
-pub(crate) fn rows_in<W: WordSource>(source: &W, hand: &mut W::Hand, from: u64) -> Pairs
+pub(crate) fn rows_in<W: Words>(source: &W, hand: &mut W::Hand, from: u64) -> Pairs
     requires sees { W.Sees source.now hand.old }
     requires pairs { HasPairs (W.shown source.now hand.old) }
     ensures same { hand.new ≡ hand.old }
     ensures rows { result.items ≡ rows_from from (pairs_of (W.shown source.now hand.old)) }
 {
-    let count = (source.word(hand, 0) % LEVEL_UNIT) as usize;
+    let count = (word(source, hand, 0) % LEVEL_UNIT) as usize;
     let first = place_from(source, hand, count, from);
     let mut rows = ArrayVec::new();
     for place in first..count {
@@ -152,10 +152,10 @@ fn next_after(high: u64) -> Next
 
 /// Where the part behind a leaf begins.
 #[inline(always)]
-pub(crate) fn next_in<W: WordSource>(source: &W, hand: &mut W::Hand) -> Next
+pub(crate) fn next_in<W: Words>(source: &W, hand: &mut W::Hand) -> Next
     requires sees { W.Sees source.now hand.old }
     ensures same { hand.new ≡ hand.old }
     ensures next { (c : Page) → IsTreePage c → W.shown source.now hand.old ≡ words_of c → GoesOnAt (node_of c).shape.end result }
 {
-    next_after(source.word(hand, 2))
+    next_after(word(source, hand, 2))
 }

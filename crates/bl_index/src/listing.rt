@@ -23,7 +23,7 @@ use crate::shown::Shown;
 use bl_model::Reply;
 use bl_passes::{Began, Ended, Launch, Mine};
 use bl_store::{Glance, Hand};
-use bl_ways::{Onward, top_in, way_in};
+use bl_ways::{Step, step_in, top_in};
 use std::marker::Brand;
 
 /// The page that a part is to get next.
@@ -145,10 +145,10 @@ impl Index {
             store: &self.store,
             glance,
         };
-        match way_in(&shown, hand, from, 0) {
-            Onward::Again => Reached::Further(Ahead::Anchor),
-            Onward::Right(next) | Onward::Down(next) => Reached::Further(Ahead::Page(next)),
-            Onward::Here => Reached::Leaf(glance),
+        match step_in(&shown, hand, &mut 0, from, 0) {
+            Step::Again => Reached::Further(Ahead::Anchor),
+            Step::Right(next) | Step::Down(next) => Reached::Further(Ahead::Page(next)),
+            Step::Here => Reached::Leaf(glance),
         }
     }
 

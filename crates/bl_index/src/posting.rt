@@ -8,7 +8,7 @@ ghost use Rattle.bl_ways.specs.declared.acts.Seen.TheVariants as seen;
 ghost use Rattle.bl_ways.specs.declared.answers.Answer.TheVariants as answers;
 ghost use Rattle.bl_ways.specs.declared.approaching.Approach.TheVariants as approach;
 ghost use Rattle.bl_ways.specs.declared.changing.Change.{Change};
-ghost use Rattle.bl_ways.specs.declared.onwards.Onward.TheVariants as onward;
+ghost use Rattle.bl_ways.specs.declared.onwards.Step.TheVariants as onward;
 ghost use Rattle.bl_ways.specs.Hints.{level_of, key_of};
 ghost use Rattle.bl_ways.specs.Onwards.{Leads};
 ghost use Rattle.bl_proc.specs.declared.kinds.Proc.{Proc};
@@ -30,11 +30,11 @@ use crate::changers::Listing;
 use crate::errands::Posting;
 use crate::index::{Index, Pass};
 use crate::shown::Shown;
-use bl_page::{WordSource, words_from};
+use bl_page::{Words, word, words_from};
 use bl_passes::Mine;
 use bl_proc::{Answer, Hint, Post, PostReply, PostStage, Posted, Process, Reader};
 use bl_store::{Glance, Hand};
-use bl_ways::{Approach, Level, Onward, Outcome, levels_in, row_in, way_in};
+use bl_ways::{Approach, Level, Outcome, Step, levels_in, row_in, step_in};
 use std::sync::Wait;
 
 /// What a walk from a parent to a child sees at a page.
@@ -100,19 +100,19 @@ fn first_child(parent: &[u64; 32], level: u32, key: u64) -> u32
     requires page { (c : Page) × (parent.now ≡ words_of c) × Leads c key level onward.Here }
     ensures { (c : Page) → parent.now ≡ words_of c → Leads c key (level - 1) (onward.Down result) }
 {
-    match way_in(parent, &mut (), key, level - 1) {
-        Onward::Down(child) => child,
+    match step_in(parent, &mut (), &mut 0, key, level - 1) {
+        Step::Down(child) => child,
         _ => unreachable!(),
     }
 }
 
 /// The low of a leaf or an inner page with these words.
-fn low_in<W: WordSource>(source: &W, hand: &mut W::Hand) -> u64
+fn low_in<W: Words>(source: &W, hand: &mut W::Hand) -> u64
     requires sees { W.Sees source.now hand.old }
     ensures same { hand.new ≡ hand.old }
     ensures low { (c : Page) → IsTreePage c → W.shown source.now hand.old ≡ words_of c → result ≡ (node_of c).shape.low }
 {
-    source.word(hand, 1)
+    word(source, hand, 1)
 }
 
 impl Index {
@@ -194,23 +194,23 @@ impl Index {
             store: &self.store,
             glance,
         };
-        match way_in(&shown, hand, errand.key, errand.level - 1) {
-            Onward::Here => {
+        match step_in(&shown, hand, &mut 0, errand.key, errand.level - 1) {
+            Step::Here => {
                 if low_in(&shown, hand) == errand.key {
                     Walked::Found
                 } else {
                     Walked::Stale
                 }
             }
-            Onward::Right(next) => {
+            Step::Right(next) => {
                 if next == 0 {
                     Walked::Lost
                 } else {
                     Walked::On(next)
                 }
             }
-            Onward::Again => Walked::Lost,
-            Onward::Down(_child) => Walked::Lost,
+            Step::Again => Walked::Lost,
+            Step::Down(_child) => Walked::Lost,
         }
     }
 
@@ -268,7 +268,7 @@ impl Index {
             store: &self.store,
             glance,
         };
-        if let Some(_child) = row_in(&shown, hand, errand.key) {
+        if let Some(_child) = row_in(&shown, hand, &mut 0, errand.key) {
             return Some(self.stay(hand, errand, at, PostReply::Already));
         }
         let parent = words_from(&shown, hand);

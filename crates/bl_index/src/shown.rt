@@ -2,7 +2,7 @@
 
 ghost use Rattle.std.specs.Prelude.{◌≡◌};
 
-use bl_page::WordSource;
+use bl_page::Words;
 use bl_passes::{Mine, Passes};
 use bl_store::{Glance, Hand, Store};
 
@@ -13,7 +13,7 @@ pub(crate) struct Shown<'a> {
     pub(crate) glance: Glance,
 }
 
-impl WordSource for Shown<'_> {
+impl Words for Shown<'_> {
     ghost use Rattle.bl_store.specs.Hands.{read_words, IsOf, ReadsFrom};
 
     type Hand = Hand<Mine>;
@@ -25,7 +25,10 @@ impl WordSource for Shown<'_> {
     ghost long = { λ source hand sees. sees.1.3 };
 
     #[inline(always)]
-    fn word(&self, hand: &mut Hand<Mine>, place: usize) -> u64 {
-        self.store.word(hand, self.glance, place)
+    fn word(&self, hand: &mut Hand<Mine>, used: &mut u32, place: usize) -> u64 {
+        let mut glance = self.glance.having(*used);
+        let word = self.store.word(hand, &mut glance, place);
+        *used = glance.used();
+        word
     }
 }

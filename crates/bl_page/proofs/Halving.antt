@@ -1,6 +1,6 @@
 -- Places of keys in pairs that rise, and these pairs in words.
 use Rattle.std.proofs.Common.{◌≡◌, ◌≢◌, ℕ, zero, suc, ◌+◌, ◌*◌, ◌-◌, ◌%◌, ◌<◌, ◌≤◌, ◌⊎◌, List, [], ◌∷◌, length, get_or, drop, Option, Some, None, true, false, refl, ap, sym, ◌∙◌, inl, inr, arith}
-use Rattle.std.specs.Prelude.{nat_lt, if◌then◌else◌}
+use Rattle.std.specs.Prelude.{nat_lt}
 use Rattle.std.proofs.lemmas.Bool.{cases_lt}
 use Rattle.std.proofs.lemmas.List.{get_or-drop, length-drop}
 use Rattle.bl_model.specs.Rows.{map_of}
@@ -177,6 +177,13 @@ not_below_tells key which word words long has second fits is tells = elim (cases
       above key which words long has (omega (arith, second)) there (omega (arith, less, tells, is, some))
 ]
 
+-- at most the first key is at or below 0
+pub first_alone : (key : ℕ) (words : List ℕ) → length words ≡ 32 → HasPairs words → key ≤ 0 → place key (pairs_of words) < 2
+first_alone key words long has none = elim (cases_lt (count_in words) 2) [
+  | inl past ↦ behind key 2 words long has past
+  | inr there ↦ let some = some_later 2 words long has (omega arith) there in above key 2 words long has (omega arith) there (omega (arith, some, none))
+]
+
 -- a number is 1 up to a place, and 0 behind it
 abbrev pub IsReached : ℕ → ℕ → ℕ → Type 0
 IsReached which place number = (which ≤ place → number ≡ 1) × (place < which → number ≡ 0)
@@ -196,12 +203,12 @@ part_of p a b c few first second third =
     let z = reached-either 11 p c third in
     elim x [
       | inl x ↦ elim y [
-          | inl y ↦ elim z [
-              | inl z ↦ (omega (arith, x.1, y.1, z.1, z.0), omega (arith, x.1, y.1, z.1, few), omega (arith, x.1, y.1, z.1))
-              | inr z ↦ (omega (arith, x.1, y.1, z.1, y.0), omega (arith, x.1, y.1, z.1, z.0), omega (arith, x.1, y.1, z.1))
-            ]
-          | inr y ↦ let z' : c ≡ 0 = third.1 (omega (arith, y.0)) in (omega (arith, x.1, y.1, z', x.0), omega (arith, x.1, y.1, z', y.0), omega (arith, x.1, y.1, z'))
+        | inl y ↦ elim z [
+          | inl z ↦ (omega (arith, x.1, y.1, z.1, z.0), omega (arith, x.1, y.1, z.1, few), omega (arith, x.1, y.1, z.1))
+          | inr z ↦ (omega (arith, x.1, y.1, z.1, y.0), omega (arith, x.1, y.1, z.1, z.0), omega (arith, x.1, y.1, z.1))
         ]
+        | inr y ↦ let z' : c ≡ 0 = third.1 (omega (arith, y.0)) in (omega (arith, x.1, y.1, z', x.0), omega (arith, x.1, y.1, z', y.0), omega (arith, x.1, y.1, z'))
+      ]
       | inr x ↦
           let y' : b ≡ 0 = second.1 (omega (arith, x.0)) in
           let z' : c ≡ 0 = third.1 (omega (arith, x.0)) in
@@ -213,12 +220,12 @@ pub place_of_part : (p before a b c : ℕ) → before ≤ p → p ≤ before + 3
 place_of_part p before a b c low high first second third =
     elim (reached-either (before + 1) p a first) [
       | inl x ↦ elim (reached-either (before + 2) p b second) [
-          | inl y ↦ elim (reached-either (before + 3) p c third) [
-              | inl z ↦ omega (arith, x.1, y.1, z.1, z.0, high)
-              | inr z ↦ omega (arith, x.1, y.1, z.1, z.0, y.0)
-            ]
-          | inr y ↦ let z' : c ≡ 0 = third.1 (omega (arith, y.0)) in omega (arith, x.1, y.1, z', x.0, y.0)
+        | inl y ↦ elim (reached-either (before + 3) p c third) [
+          | inl z ↦ omega (arith, x.1, y.1, z.1, z.0, high)
+          | inr z ↦ omega (arith, x.1, y.1, z.1, z.0, y.0)
         ]
+        | inr y ↦ let z' : c ≡ 0 = third.1 (omega (arith, y.0)) in omega (arith, x.1, y.1, z', x.0, y.0)
+      ]
       | inr x ↦
           let y' : b ≡ 0 = second.1 (omega (arith, x.0)) in
           let z' : c ≡ 0 = third.1 (omega (arith, x.0)) in

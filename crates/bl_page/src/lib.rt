@@ -8,12 +8,12 @@ mod pairs;
 mod reading;
 mod seeking;
 mod source;
-mod words;
+mod spelling;
 
 pub use keys::is_within;
 pub use page::{Anchor, Dead, Inner, Leaf, Page, Pairs, WordFault};
 pub use pairs::{listed_with, place_of};
 pub use reading::from_words;
 pub use seeking::{child_in, listed_in, place_in};
-pub use source::{WordSource, words_from};
-pub use words::{KIND_UNIT, LEVEL_UNIT};
+pub use source::{Words, word, words_from};
+pub use spelling::{KIND_UNIT, LEVEL_UNIT};

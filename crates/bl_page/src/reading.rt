@@ -8,7 +8,7 @@ ghost use Rattle.bl_page.specs.declared.page.Page.TheVariants as page;
 ghost use Rattle.bl_page.specs.declared.page.Page.{Page};
 
 use crate::page::{Anchor, Dead, Inner, Leaf, Page, Pairs, WordFault};
-use crate::words::{KIND_UNIT, LEVEL_UNIT};
+use crate::spelling::{KIND_UNIT, LEVEL_UNIT};
 use arrayvec::ArrayVec;
 
 /// That many pairs behind the head.

@@ -9,7 +9,7 @@ use Rattle.bl_ways.specs.declared.answers.Answer.TheVariants as answer
 use Rattle.bl_ways.specs.declared.answers.Posted.TheVariants as posted
 use Rattle.bl_ways.specs.declared.answers.Hint.TheVariants as hint
 use Rattle.bl_model.specs.declared.operation.Reply.TheVariants as reply
-use Rattle.bl_ways.specs.declared.onwards.Onward.TheVariants as onward
+use Rattle.bl_ways.specs.declared.onwards.Step.TheVariants as onward
 use Rattle.bl_proc.specs.declared.searching.FindStage.TheVariants as find
 use Rattle.bl_ways.specs.declared.approaching.Approach.TheVariants as approach
 use Rattle.bl_ways.specs.declared.approaching.Approached.TheVariants as came

@@ -11,8 +11,8 @@ use Rattle.bl_ways.specs.declared.acts.Seen.TheVariants as seen
 use Rattle.bl_ways.specs.declared.answers.Answer.{Answer}
 use Rattle.bl_ways.specs.declared.answers.Answer.TheVariants as answer
 use Rattle.bl_ways.specs.declared.answers.Posted.TheVariants as posted
-use Rattle.bl_ways.specs.declared.onwards.Onward.{Onward}
-use Rattle.bl_ways.specs.declared.onwards.Onward.TheVariants.{Again, Right, Down, Here}
+use Rattle.bl_ways.specs.declared.onwards.Step.{Step}
+use Rattle.bl_ways.specs.declared.onwards.Step.TheVariants.{Again, Right, Down, Here}
 use Rattle.bl_ways.specs.declared.approaching.Approach.{Approach}
 use Rattle.bl_ways.specs.declared.approaching.Approach.TheVariants.{Start, At, Latching, Latched, Leaving}
 use Rattle.bl_ways.specs.declared.approaching.Approached.TheVariants as came
@@ -93,7 +93,7 @@ PostArrives key x c (Walking w) = (w.at ≡ x) × (w.key ≡ key) × (c ≡ Inne
 PostArrives key x c stage = ⊥
 
 -- the walk cannot go on to the page that covers the key
-abbrev pub IsLost : Onward → Type 0
+abbrev pub IsLost : Step → Type 0
 IsLost Again = Unit {0}
 IsLost (Right y) = y ≡ 0
 IsLost (Down y) = Unit {0}
@@ -106,7 +106,7 @@ abbrev pub PostWalks : ℕ → Walk → Page → PostStage → Type 0
 PostWalks level w c (Walking v) = (v.at ≡ w.at) × (v.key ≡ w.key) × (v.parent ≡ w.parent) × Leads c w.key (level - 1) (Right v.child)
 PostWalks level w c (Changing change) = Leads c w.key (level - 1) Here × ((node_of c).shape.low ≡ w.key) × EntersPair w.at (Inner w.parent) w.key w.child change
 PostWalks level w c (Staying x reply.Stale) = (x ≡ w.at) × Leads c w.key (level - 1) Here × ((node_of c).shape.low ≢ w.key)
-PostWalks level w c (Coming a) = (a ≡ Leaving w.at None) × ((o : Onward) × Leads c w.key (level - 1) o × IsLost o)
+PostWalks level w c (Coming a) = (a ≡ Leaving w.at None) × ((o : Step) × Leads c w.key (level - 1) o × IsLost o)
 PostWalks level w c stage = ⊥
 
 -- On the way, past the anchor.

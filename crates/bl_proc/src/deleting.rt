@@ -5,13 +5,13 @@ ghost use Rattle.bl_laws.specs.Pages.{node_of};
 ghost use Rattle.bl_ways.specs.declared.changing.Change.{Change};
 ghost use Rattle.bl_proc.specs.declared.deleting.Removed.{Removed};
 ghost use Rattle.bl_proc.specs.declared.deleting.DeleteStage.TheVariants as delete_stage;
-ghost use Rattle.bl_ways.specs.declared.onwards.Onward.TheVariants as onward;
+ghost use Rattle.bl_ways.specs.declared.onwards.Step.TheVariants as onward;
 ghost use Rattle.bl_ways.specs.Given.{Gives};
 ghost use Rattle.bl_ways.specs.Onwards.{Leads};
 ghost use Rattle.bl_proc.specs.Deletes.{delete_reply, thin_after, deleted_answer, delete_next_in, delete_needs_in, delete_answer_in, DeleteArrives, DeleteGoes, delete_next, delete_needs, delete_answer, DeleteTakes};
 
 use bl_model::Reply;
-use bl_page::{Page, WordSource};
+use bl_page::{Page, Words};
 use bl_ways::{
     Action, Answer, Approach, Approached, Change, Changed, Level, Outcome, Process, Reader, Seen,
     dropping, hint_of_thin, listed, thin_low, took_page,
@@ -214,7 +214,7 @@ impl Process for Delete {
 impl Reader for Delete {
     // No page is made of the words on the way to the leaf.
     #[inline(always)]
-    fn took_words<W: WordSource>(&mut self, source: &W, hand: &mut W::Hand) {
+    fn took_words<W: Words>(&mut self, source: &W, hand: &mut W::Hand) {
         if let DeleteStage::Coming(approach) = &mut self.stage {
             if approach.is_to_look() {
                 *approach = approach.took_words(0, self.key, source, hand);

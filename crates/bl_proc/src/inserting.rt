@@ -11,10 +11,10 @@ ghost use Rattle.bl_ways.specs.Approaches.{Approaches};
 ghost use Rattle.bl_ways.specs.Changes.{Changes};
 ghost use Rattle.bl_proc.specs.Inserts.{post_hint, insert_reply, inserted_answer, insert_next_in, insert_needs_in, insert_answer_in, InsertArrives, InsertGoes, insert_next, insert_needs, insert_answer, InsertTakes};
 ghost use Rattle.bl_ways.specs.Onwards.{Leads};
-ghost use Rattle.bl_ways.specs.declared.onwards.Onward.TheVariants as onward;
+ghost use Rattle.bl_ways.specs.declared.onwards.Step.TheVariants as onward;
 
 use bl_model::Reply;
-use bl_page::{Page, WordSource};
+use bl_page::{Page, Words};
 use bl_ways::{
     Action, Answer, Approach, Approached, Change, Changed, Hint, Level, Outcome, Process, Reader,
     Seen, entering, listed, took_page,
@@ -201,7 +201,7 @@ impl Process for Insert {
 impl Reader for Insert {
     // No page is made of the words on the way to the leaf.
     #[inline(always)]
-    fn took_words<W: WordSource>(&mut self, source: &W, hand: &mut W::Hand) {
+    fn took_words<W: Words>(&mut self, source: &W, hand: &mut W::Hand) {
         if let InsertStage::Coming(approach) = &mut self.stage {
             if approach.is_to_look() {
                 *approach = approach.took_words(0, self.key, source, hand);

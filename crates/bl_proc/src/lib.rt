@@ -18,8 +18,10 @@ mod searching;
 mod walking;
 
 pub use bl_compress::{Compress, CompressReply, CompressStage};
+pub use bl_page::Words;
 pub use bl_ways::{
-    Action, Answer, Hint, Level, Posted, Process, Reader, Reclaimed, Seen, Squeezed,
+    Action, Answer, Hint, Level, Posted, Process, Reader, Reclaimed, Seen, Squeezed, Step, row_in,
+    step_in,
 };
 pub use deleting::{Delete, DeleteReply, DeleteStage, Removed};
 pub use inserting::{Insert, InsertReply, InsertStage};

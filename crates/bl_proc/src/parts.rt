@@ -6,7 +6,7 @@ ghost use Rattle.bl_model.specs.Rows.{map_of};
 ghost use Rattle.bl_model.proofs.Parts.{IsPlaceOf};
 ghost use Rattle.bl_page.specs.Pairs.{RisesFrom, end_of};
 ghost use Rattle.bl_ways.specs.declared.acts.Seen.TheVariants as seen;
-ghost use Rattle.bl_ways.specs.declared.onwards.Onward.TheVariants as onward;
+ghost use Rattle.bl_ways.specs.declared.onwards.Step.TheVariants as onward;
 ghost use Rattle.bl_proc.specs.declared.parts.PartStage.TheVariants as part_stage;
 ghost use Rattle.bl_ways.specs.Given.{Gives};
 ghost use Rattle.bl_ways.specs.Onwards.{Leads};
@@ -14,9 +14,9 @@ ghost use Rattle.bl_proc.specs.Parts.{GoesOnAt, IsPartOf, part_next_in, part_ans
 
 use arrayvec::ArrayVec;
 use bl_model::{Next, Reply};
-use bl_page::{Page, Pairs, WordSource};
+use bl_page::{Page, Pairs, Words};
 use bl_ways::{
-    Action, Answer, Onward, Process, Reader, Seen, took_page, top_in, top_page, way_from, way_in,
+    Action, Answer, Process, Reader, Seen, Step, step_in, took_page, top_in, top_page, way_from,
 };
 use std::mem;
 
@@ -109,9 +109,9 @@ fn went_on(from: u64, at: u32, page: &Page) -> PartStage
     ensures { PartGoes from (part_stage.At at) (seen.Words page.now) result }
 {
     match way_from(page, from, 0) {
-        Onward::Again => PartStage::AtAnchor,
-        Onward::Right(next) | Onward::Down(next) => PartStage::At(next),
-        Onward::Here => PartStage::Ending(part_of(page, from)),
+        Step::Again => PartStage::AtAnchor,
+        Step::Right(next) | Step::Down(next) => PartStage::At(next),
+        Step::Here => PartStage::Ending(part_of(page, from)),
     }
 }
 
@@ -193,13 +193,13 @@ impl Process for Part {
 impl Reader for Part {
     // Only of the leaf's words a page is made.
     #[inline(always)]
-    fn took_words<W: WordSource>(&mut self, source: &W, hand: &mut W::Hand) {
+    fn took_words<W: Words>(&mut self, source: &W, hand: &mut W::Hand) {
         match &self.stage {
             PartStage::AtAnchor => self.stage = PartStage::At(top_in(source, hand)),
-            PartStage::At(_) => match way_in(source, hand, self.from, 0) {
-                Onward::Again => self.stage = PartStage::AtAnchor,
-                Onward::Right(next) | Onward::Down(next) => self.stage = PartStage::At(next),
-                Onward::Here => took_page(self, source, hand),
+            PartStage::At(_) => match step_in(source, hand, &mut 0, self.from, 0) {
+                Step::Again => self.stage = PartStage::AtAnchor,
+                Step::Right(next) | Step::Down(next) => self.stage = PartStage::At(next),
+                Step::Here => took_page(self, source, hand),
             },
             _ => unreachable!(),
         }

@@ -4,7 +4,7 @@ ghost use Rattle.std.specs.Prelude.{◌≡◌, ◌<◌, ◌≤◌, ◌-◌, None
 ghost use Rattle.bl_page.specs.Pairs.{IsWithin};
 ghost use Rattle.bl_page.specs.declared.page.Page.TheVariants as page;
 ghost use Rattle.bl_ways.specs.declared.approaching.Approach.TheVariants as approach;
-ghost use Rattle.bl_ways.specs.declared.onwards.Onward.TheVariants as onward;
+ghost use Rattle.bl_ways.specs.declared.onwards.Step.TheVariants as onward;
 ghost use Rattle.bl_proc.specs.declared.posting.PostStage.TheVariants as post_stage;
 ghost use Rattle.bl_ways.specs.Given.{Gives};
 ghost use Rattle.bl_ways.specs.Onwards.{Leads};
@@ -14,10 +14,10 @@ ghost use Rattle.bl_proc.specs.Posts.{post_reply, posted_answer, post_next_in, p
 use crate::inserting::hint_to_post;
 use crate::posting::{Post, PostReply, PostStage};
 use crate::walking::Walk;
-use bl_page::{Inner, Page, WordSource, listed_with};
+use bl_page::{Inner, Page, Words, listed_with};
 use bl_ways::{
-    Action, Answer, Approach, Approached, Change, Changed, Grew, Growth, Level, Onward, Outcome,
-    Posted, Process, Reader, Seen, entered, entering, levels_of, low_of, took_page, way_from,
+    Action, Answer, Approach, Approached, Change, Changed, Grew, Growth, Level, Outcome, Posted,
+    Process, Reader, Seen, Step, entered, entering, levels_of, low_of, took_page, way_from,
 };
 use std::mem;
 
@@ -173,9 +173,9 @@ fn walked(level: u32, walk: Walk, page: &Page) -> PostStage
     ensures { PostWalks level walk page.now result }
 {
     match way_from(page, walk.key, level - 1) {
-        Onward::Here => found(level, walk, page),
-        Onward::Right(next) => walk_on(level, walk, page, next),
-        Onward::Again | Onward::Down(_) => again(walk.at),
+        Step::Here => found(level, walk, page),
+        Step::Right(next) => walk_on(level, walk, page, next),
+        Step::Again | Step::Down(_) => again(walk.at),
     }
 }
 
@@ -291,7 +291,7 @@ impl Process for Post {
 impl Reader for Post {
     // No page is made of the words on the way from the top of the tree to the parent.
     #[inline(always)]
-    fn took_words<W: WordSource>(&mut self, source: &W, hand: &mut W::Hand) {
+    fn took_words<W: Words>(&mut self, source: &W, hand: &mut W::Hand) {
         if let PostStage::Coming(approach) = &mut self.stage {
             if let Approach::At(_) = approach {
                 *approach = approach.took_words(self.level, self.key, source, hand);

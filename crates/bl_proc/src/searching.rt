@@ -9,10 +9,10 @@ ghost use Rattle.bl_ways.specs.Given.{Gives};
 ghost use Rattle.bl_proc.specs.Searches.{find_next_in, find_answer_in, find_next, find_needs, find_answer, FindGoes, FindTakes};
 
 use bl_model::Reply;
-use bl_page::{Page, WordSource};
+use bl_page::{Page, Words};
 use bl_ways::{
-    Action, Answer, Onward, Process, Reader, Seen, listed, row_in, top_in, top_page, way_from,
-    way_in,
+    Action, Answer, Process, Reader, Seen, Step, listed, row_in, step_in, top_in, top_page,
+    way_from,
 };
 
 /// A search for the value of a key.
@@ -42,24 +42,24 @@ fn went_on(key: u64, at: u32, page: &Page) -> FindStage
     ensures { FindGoes key (find_stage.At at) (seen.Words page.now) result }
 {
     match way_from(page, key, 0) {
-        Onward::Again => FindStage::AtAnchor,
-        Onward::Right(next) | Onward::Down(next) => FindStage::At(next),
-        Onward::Here => FindStage::Ending(listed(page, key)),
+        Step::Again => FindStage::AtAnchor,
+        Step::Right(next) | Step::Down(next) => FindStage::At(next),
+        Step::Here => FindStage::Ending(listed(page, key)),
     }
 }
 
 /// The same by the page's words.
 #[inline(always)]
-fn went_on_in<W: WordSource>(source: &W, hand: &mut W::Hand, key: u64, at: u32) -> FindStage
+fn went_on_in<W: Words>(source: &W, hand: &mut W::Hand, key: u64, at: u32) -> FindStage
     requires sees { W.Sees source.now hand.old }
     requires page { (c : PageIs) × (W.shown source.now hand.old ≡ words_of c) }
     ensures same { hand.new ≡ hand.old }
     ensures goes { (c : PageIs) → W.shown source.now hand.old ≡ words_of c → FindGoes key (find_stage.At at) (seen.Words c) result }
 {
-    match way_in(source, hand, key, 0) {
-        Onward::Right(next) | Onward::Down(next) => FindStage::At(next),
-        Onward::Here => FindStage::Ending(row_in(source, hand, key)),
-        Onward::Again => {
+    match step_in(source, hand, &mut 0, key, 0) {
+        Step::Right(next) | Step::Down(next) => FindStage::At(next),
+        Step::Here => FindStage::Ending(row_in(source, hand, &mut 0, key)),
+        Step::Again => {
             // The key has gone to the left since its parent was read.
             FindStage::AtAnchor
         }
@@ -133,7 +133,7 @@ impl Process for Find {
 impl Reader for Find {
     // A search makes no page of the words, and reads only those that it needs: most of its time would go there.
     #[inline(always)]
-    fn took_words<W: WordSource>(&mut self, source: &W, hand: &mut W::Hand) {
+    fn took_words<W: Words>(&mut self, source: &W, hand: &mut W::Hand) {
         self.stage = match self.stage {
             FindStage::AtAnchor => FindStage::At(top_in(source, hand)),
             FindStage::At(at) => went_on_in(source, hand, self.key, at),

@@ -36,6 +36,10 @@ words_in (At f xs) = xs
 abbrev pub BeginsAt : Layout → ℕ → Reading → Type 0
 BeginsAt l first reading = (f : ℕ) × (reading ≡ At f (words_in reading)) × (f < frame_count l) × (length (words_in reading) ≡ 32) × (first ≡ place_at l f 0)
 
+-- both are of one look
+abbrev pub IsSameLook : Glance → Glance → Type 0
+IsSameLook glance glance' = glance'.first ≡ glance.first
+
 module _ {D : Type 0} where
   -- what the hand knows
   abbrev pub known : Seat (Unit {0}) (View D) → D

@@ -205,8 +205,8 @@ impl<D, R: PageRule<D>, A: Allocator> Store<D, R, A> {
         ensures carried { (k : ℕ) → from ≤ k → k < from + 2 * pairs → slice_index (draft_words hand.new.seat) k ≡ slice_index (read_words hand.old.seat) (k - from + source) }
     {
         for pair in 0..pairs {
-            let one = self.word(hand, glance, source + 2 * pair);
-            let two = self.word(hand, glance, source + 2 * pair + 1);
+            let one = self.seen_word(hand, glance, source + 2 * pair);
+            let two = self.seen_word(hand, glance, source + 2 * pair + 1);
             self.write_next(hand, frame, first, from + 2 * pair, one);
             self.write_next(hand, frame, first, from + 2 * pair + 1, two);
         }
@@ -234,7 +234,7 @@ impl<D, R: PageRule<D>, A: Allocator> Store<D, R, A> {
         ensures carried { (k : ℕ) → from ≤ k → k < 32 → slice_index (draft_words hand.new.seat) k ≡ slice_index (read_words hand.old.seat) (k - from + source) }
     {
         for at in from..32 {
-            let word = self.word(hand, glance, at - from + source);
+            let word = self.seen_word(hand, glance, at - from + source);
             self.write_sparse(hand, frame, first, at, word);
         }
     }
@@ -254,7 +254,7 @@ impl<D, R: PageRule<D>, A: Allocator> Store<D, R, A> {
         let place = change.place;
         let first = self.layout.frame_word(frame, 0);
         self.write_next(hand, frame, first, 0, change.first);
-        let low = self.word(hand, glance, 1);
+        let low = self.seen_word(hand, glance, 1);
         self.write_next(hand, frame, first, 1, low);
         self.carry(hand, frame, first, glance, 2, 1 + place, 2);
         self.write_next(hand, frame, first, 4 + 2 * place, change.key);

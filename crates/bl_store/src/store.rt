@@ -1,9 +1,9 @@
 //! The store, and the calls that begin and end a process and read pages.
-ghost use Rattle.std.specs.Prelude.{◌≡◌, ◌≢◌, ℕ, ◌+◌, ◌*◌, ◌<◌, ◌≤◌, true, false, List, [], length, slice_index, None};
+ghost use Rattle.std.specs.Prelude.{◌≡◌, ◌≢◌, ℕ, ◌+◌, ◌*◌, ◌<◌, ◌≤◌, true, false, List, [], length, slice_index, Some, None};
 ghost use Rattle.bl_layout.specs.Words.{frame_count, word_count};
 ghost use Rattle.bl_store.specs.Frames.{page_at, place_at};
 ghost use Rattle.bl_store.specs.Pages.{Owner, Begins, Ends, Gets};
-ghost use Rattle.bl_store.specs.Hands.{known, read_words, IsOf, IsIdle, IsRunning, IsSameHand, IsSameStage, IsSameStock, IsSameRefusal, ReadsFrom, HasSeen};
+ghost use Rattle.bl_store.specs.Hands.{known, read_words, IsOf, IsIdle, IsRunning, IsSameHand, IsSameStage, IsSameStock, IsSameRefusal, IsSameLook, ReadsFrom, HasSeen};
 ghost use Rattle.bl_store.specs.declared.view.Reading.TheVariants.{At};
 ghost use Rattle.bl_store.specs.declared.view.Sealing.TheVariants.{Unsealed};
 
@@ -41,11 +41,12 @@ pub struct Hand<D> {
     pub ghost own: { (number ≡ seat.me.0.number) × (number < seat.me.0.layout.passes) × (seat.me.0.sealing ≡ Unsealed) × (seat.me.1 ≡ []) },
 }
 
-/// Where the words of a page stand, which a hand has looked at.
+/// Where the words of a page stand, which a hand has looked at, and how many of them it has read.
 #[derive(Clone, Copy)]
 pub struct Glance {
     // The number of the first of them in the table.
     pub(crate) first: usize,
+    pub(crate) used: u32,
 }
 
 /// Pages that threads share. D is what a hand knows, and R the user's rule.
@@ -63,6 +64,28 @@ pub struct Store<D, R: PageRule<D>, A: Allocator = Global> {
     pub ghost firsts_at: { firsts ≡ place_at layout 0 0 },
     pub ghost wide: { table.shared.table_id.words ≡ word_count layout },
     pub ghost bare: { table.shared.table_id.slots ≡ 0 },
+}
+
+impl Glance {
+    /// How many words were read.
+    #[inline(always)]
+    pub fn used(&self) -> u32
+        ensures { result ≡ self.now.used }
+    {
+        self.used
+    }
+
+    /// The same look, with so many words read.
+    #[inline(always)]
+    pub fn having(self, used: u32) -> Glance
+        ensures same { IsSameLook self result }
+        ensures used { result.used ≡ used }
+    {
+        Glance {
+            first: self.first,
+            used,
+        }
+    }
 }
 
 impl<D> Hand<D> {
@@ -127,6 +150,7 @@ impl<D, R: PageRule<D>, A: Allocator> Store<D, R, A> {
         requires rule { Gets R.holds self.now.layout hand.old.number (known hand.old.seat) page M.then }
         ensures same { IsSameHand hand.old.seat hand.new.seat × IsSameStage hand.old.seat hand.new.seat × IsSameStock hand.old.seat hand.new.seat }
         ensures told { (owner : Owner) × (words : List ℕ) × HasSeen result hand.new.seat words × M.then (known hand.old.seat) page owner words (known hand.new.seat) }
+        ensures unread { (glance : Glance) → result ≡ Some glance → glance.used ≡ 0 }
     {
         let found = self
             .table
@@ -136,13 +160,29 @@ impl<D, R: PageRule<D>, A: Allocator> Store<D, R, A> {
             None
         } else {
             let first = self.firsts + 32 * (found - 1) as usize;
-            Some(Glance { first })
+            Some(Glance { first, used: 0 })
         }
     }
 
-    /// The word at a place of the page that the hand looked at last.
+    /// The word at a place of the page that the hand looked at last. The glance counts it.
     #[inline(always)]
-    pub fn word(&self, hand: &mut Hand<D>, glance: Glance, place: usize) -> u64
+    pub fn word(&self, hand: &mut Hand<D>, glance: &mut Glance, place: usize) -> u64
+        requires own { IsOf self.now.table.shared.table_id self.now.layout hand.old.seat }
+        requires reads { ReadsFrom hand.old.seat glance.old }
+        requires place { place < 32 }
+        requires room { glance.old.used < 4294967295 }
+        ensures same { hand.new ≡ hand.old }
+        ensures look { IsSameLook glance.old glance.new }
+        ensures counted { glance.new.used ≡ glance.old.used + 1 }
+        ensures word { result ≡ slice_index (read_words hand.old.seat) place }
+    {
+        glance.used += 1;
+        self.seen_word(hand, *glance, place)
+    }
+
+    /// The same, without a count.
+    #[inline(always)]
+    pub(crate) fn seen_word(&self, hand: &mut Hand<D>, glance: Glance, place: usize) -> u64
         requires own { IsOf self.now.table.shared.table_id self.now.layout hand.old.seat }
         requires reads { ReadsFrom hand.old.seat glance }
         requires place { place < 32 }

@@ -16,8 +16,8 @@ use Rattle.bl_steps.proofs.Watches.{Learns}
 use Rattle.bl_descents.proofs.Descents.{goes_leftmost, goes_on, goes_right, goes_down, not_released, anchor_not_released, open_live}
 use Rattle.bl_ways.specs.declared.acts.Seen.{Seen}
 use Rattle.bl_ways.specs.declared.acts.Seen.TheVariants as seen
-use Rattle.bl_ways.specs.declared.onwards.Onward.{Onward}
-use Rattle.bl_ways.specs.declared.onwards.Onward.TheVariants.{Again, Right, Down, Here}
+use Rattle.bl_ways.specs.declared.onwards.Step.{Step}
+use Rattle.bl_ways.specs.declared.onwards.Step.TheVariants.{Again, Right, Down, Here}
 use Rattle.bl_ways.specs.declared.approaching.Approach.{Approach}
 use Rattle.bl_ways.specs.declared.approaching.Approach.TheVariants.{Start, At, Latching, Latched, Leaving}
 use Rattle.bl_ways.specs.declared.approaching.Approached.TheVariants as came
@@ -88,7 +88,7 @@ module _ {P : Type 0} (know : P → Know) (w : World P) (g : IsGood know w) (p :
   wider x least most lower upper l u h = record { may = h.may; least = let e = h.least in omega arith; most = let e = h.most in omega arith }
 
   -- from a page that is got without a latch
-  pub turns_goes : (level key x z : ℕ) (o : Onward) → IsGoes w p (goes_to x level 12) → key < unbounded → Leads (w.now.contents x) key level o → (Turns level x (w.now.contents x) o (At z) → IsGoes w p (goes_to z level 12)) × (Turns level x (w.now.contents x) o (Latching z) → IsGoes w p (goes_to z level level))
+  pub turns_goes : (level key x z : ℕ) (o : Step) → IsGoes w p (goes_to x level 12) → key < unbounded → Leads (w.now.contents x) key level o → (Turns level x (w.now.contents x) o (At z) → IsGoes w p (goes_to z level 12)) × (Turns level x (w.now.contents x) o (Latching z) → IsGoes w p (goes_to z level level))
   turns_goes level key x z Again h below l = (λ t. absurd t, λ t. absurd t)
   turns_goes level key x z (Right y) h below l =
       let to = to_right x key h.may l.1 below in (
@@ -137,7 +137,7 @@ module _ {P : Type 0} (know : P → Know) (w : World P) (g : IsGood know w) (p :
     start_turn (Latched x) c s before then told e does = absurd e
     start_turn (Leaving x to) c s before then told e does = absurd e
 
-    pub at_turn : (x : ℕ) (a : Approach) (c : Page) (o : Onward) (s : State Page) → know (w.proc p) ≡ know_approach level key (At x) → know b ≡ know_approach level key a → c ≡ w.now.contents x → Leads c key level o → Turns level x c o a → Does w.now p (Get x) s → Turned know w p (Get x) s b
+    pub at_turn : (x : ℕ) (a : Approach) (c : Page) (o : Step) (s : State Page) → know (w.proc p) ≡ know_approach level key (At x) → know b ≡ know_approach level key a → c ≡ w.now.contents x → Leads c key level o → Turns level x c o a → Does w.now p (Get x) s → Turned know w p (Get x) s b
     at_turn x Start c o s before then told l t does =
         let sure : IsSure w p (know_approach level key (At x)) = rw before at (g.sure p) in
         got_goes _ x s [] before refl refl then sure.stage sure.said (not_released know w g p x sure.goes.0.may) does sure.sound tt
@@ -149,14 +149,14 @@ module _ {P : Type 0} (know : P → Know) (w : World P) (g : IsGood know w) (p :
         got_goes _ x s (goes_to z level level ∷ []) before refl refl then sure.stage sure.said (not_released know w g p x sure.goes.0.may) does sure.sound ((turns_goes level key x z o sure.goes.0 sure.sound (rw told at l)).1 (rw told at t), tt)
     at_turn x (Latched z) c o s before then told l t does = absurd (no_latched o t)
       where
-        no_latched : (o : Onward) → Turns level x c o (Latched z) → ⊥
+        no_latched : (o : Step) → Turns level x c o (Latched z) → ⊥
         no_latched Again h = h
         no_latched (Right y) h = h
         no_latched (Down y) h = h
         no_latched Here h = h
     at_turn x (Leaving z to) c o s before then told l t does = absurd (no_leaving o t)
       where
-        no_leaving : (o : Onward) → Turns level x c o (Leaving z to) → ⊥
+        no_leaving : (o : Step) → Turns level x c o (Leaving z to) → ⊥
         no_leaving Again h = h
         no_leaving (Right y) h = h
         no_leaving (Down y) h = h
@@ -174,7 +174,7 @@ module _ {P : Type 0} (know : P → Know) (w : World P) (g : IsGood know w) (p :
         watched know w g p b _ _ before then Miss None None s tt tt does tt refl (λ y h. h) (λ it e. cc) (λ j. refl)
         (walks w _ p Miss None (goes_to x level 12 ∷ []) (key < unbounded) sure.stage sure.said (wider x level level level 12 (omega arith) low sure.goes.0, tt) sure.sound)
 
-    pub leave_turn : (x : ℕ) (to : Option ℕ) (c : Page) (o : Onward) (s : State Page) → know (w.proc p) ≡ know_approach level key (Latched x) → know b ≡ know_approach level key (Leaving x to) → c ≡ w.now.contents x → Leads c key level o → Quits o to → Does w.now p (Get x) s → Turned know w p (Get x) s b
+    pub leave_turn : (x : ℕ) (to : Option ℕ) (c : Page) (o : Step) (s : State Page) → know (w.proc p) ≡ know_approach level key (Latched x) → know b ≡ know_approach level key (Leaving x to) → c ≡ w.now.contents x → Leads c key level o → Quits o to → Does w.now p (Get x) s → Turned know w p (Get x) s b
     leave_turn x None c o s before then told l q does =
         let sure : IsSure w p (know_approach level key (Latched x)) = rw before at (g.sure p) in
         watched know w g p b _ _ before then (Get x) (Some (w.now.contents x)) None s tt (sure.stage, not_released know w g p x sure.goes.0.may) does refl refl (λ y h. h) (λ it e. cc) (λ j. refl)
@@ -184,7 +184,7 @@ module _ {P : Type 0} (know : P → Know) (w : World P) (g : IsGood know w) (p :
         watched know w g p b _ _ before then (Get x) (Some (w.now.contents x)) None s tt (sure.stage, not_released know w g p x sure.goes.0.may) does refl refl (λ y h. h) (λ it e. cc) (λ j. refl)
         (walks_held w _ p (Get x) (Some (w.now.contents x)) x (goes_to y level level ∷ []) (key < unbounded) sure.stage sure.said (does.changes.1 x ∙ sure.holds.0.owner) sure.holds.0.status (goes o (rw told at l) q sure, tt) sure.sound)
       where
-        goes : (o : Onward) → Leads (w.now.contents x) key level o → Quits o (Some y) → IsSure w p (know_approach level key (Latched x)) → IsGoes w p (goes_to y level level)
+        goes : (o : Step) → Leads (w.now.contents x) key level o → Quits o (Some y) → IsSure w p (know_approach level key (Latched x)) → IsGoes w p (goes_to y level level)
         goes (Right z) l q sure =
             let same : y ≡ (nodes w.now x).shape.right = (let e : Some y ≡ Some z = q in let f : y ≡ z = cc in f ∙ l.0) in
             let h = sure.goes.0 in

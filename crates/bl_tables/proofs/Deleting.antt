@@ -11,7 +11,7 @@ use Rattle.bl_descents.proofs.Descents.{held_leaf_says, not_released}
 use Rattle.bl_tree.proofs.Statuses.{live_live}
 use Rattle.bl_ways.specs.declared.acts.Seen.{Seen}
 use Rattle.bl_ways.specs.declared.acts.Seen.TheVariants as seen
-use Rattle.bl_ways.specs.declared.onwards.Onward.TheVariants.{Here}
+use Rattle.bl_ways.specs.declared.onwards.Step.TheVariants.{Here}
 use Rattle.bl_ways.specs.declared.approaching.Approach.{Approach}
 use Rattle.bl_ways.specs.declared.approaching.Approach.TheVariants as way
 use Rattle.bl_ways.specs.declared.approaching.Approached.TheVariants as came

@@ -18,7 +18,7 @@ use Rattle.bl_trails.proofs.Meant.{writes_of-append, begun_now, wrote_still, got
 use Rattle.bl_ways.specs.declared.acts.Seen.{Seen}
 use Rattle.bl_ways.specs.declared.acts.Seen.TheVariants as seen
 use Rattle.bl_ways.specs.declared.answers.Hint.{Hint}
-use Rattle.bl_ways.specs.declared.onwards.Onward.TheVariants.{Here}
+use Rattle.bl_ways.specs.declared.onwards.Step.TheVariants.{Here}
 use Rattle.bl_ways.specs.declared.approaching.Approach.{Approach}
 use Rattle.bl_ways.specs.declared.approaching.Approach.TheVariants as way
 use Rattle.bl_ways.specs.declared.approaching.Approached.TheVariants as came

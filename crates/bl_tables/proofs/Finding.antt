@@ -9,7 +9,7 @@ use Rattle.bl_steps.specs.Worlds.{Know, World, nodes, MapsTo, IsGoes, IsSure, Is
 use Rattle.bl_descents.proofs.Descents.{goes_leftmost, goes_down, leaf_says, not_released, anchor_not_released}
 use Rattle.bl_ways.specs.declared.acts.Seen.{Seen}
 use Rattle.bl_ways.specs.declared.acts.Seen.TheVariants as seen
-use Rattle.bl_ways.specs.declared.onwards.Onward.TheVariants.{Right, Down, Here}
+use Rattle.bl_ways.specs.declared.onwards.Step.TheVariants.{Right, Down, Here}
 use Rattle.bl_proc.specs.declared.searching.FindStage.{FindStage}
 use Rattle.bl_proc.specs.declared.searching.FindStage.TheVariants.{New, AtAnchor, At, Ending, Over}
 use Rattle.bl_ways.specs.Onwards.{Leads}

@@ -12,7 +12,7 @@ use Rattle.bl_steps.specs.Worlds.{Know, World, nodes, IsSure, IsBounded, IsGood}
 use Rattle.bl_descents.proofs.Descents.{leaf_says}
 use Rattle.bl_ways.specs.declared.acts.Seen.{Seen}
 use Rattle.bl_ways.specs.declared.acts.Seen.TheVariants as seen
-use Rattle.bl_ways.specs.declared.onwards.Onward.TheVariants.{Here}
+use Rattle.bl_ways.specs.declared.onwards.Step.TheVariants.{Here}
 use Rattle.bl_ways.specs.Onwards.{Leads}
 use Rattle.bl_proc.specs.declared.searching.FindStage.TheVariants as find
 use Rattle.bl_proc.specs.declared.parts.PartRows.{PartRows}

@@ -15,8 +15,8 @@ use Rattle.bl_rearrange.specs.Rearranged.{IsFitted}
 use Rattle.bl_ways.specs.declared.acts.Action.TheVariants as act
 use Rattle.bl_ways.specs.declared.acts.Seen.{Seen}
 use Rattle.bl_ways.specs.declared.acts.Seen.TheVariants as seen
-use Rattle.bl_ways.specs.declared.onwards.Onward.{Onward}
-use Rattle.bl_ways.specs.declared.onwards.Onward.TheVariants.{Again, Right, Down, Here}
+use Rattle.bl_ways.specs.declared.onwards.Step.{Step}
+use Rattle.bl_ways.specs.declared.onwards.Step.TheVariants.{Again, Right, Down, Here}
 use Rattle.bl_ways.specs.declared.approaching.Approach.{Approach}
 use Rattle.bl_ways.specs.declared.approaching.Approach.TheVariants as way
 use Rattle.bl_ways.specs.declared.approaching.Approached.TheVariants as came
@@ -42,7 +42,7 @@ use Rattle.bl_tables.specs.Turns.{event_of}
 use Rattle.bl_tables.specs.Logs.{Holding, HoldsParent, HoldsBoth, IsToPut, approach_log, outcome_log, change_log, growth_log, reply_log, post_log}
 use Rattle.bl_tables.proofs.Holdings.{held_raised, held_now, held_on, parent_held_on, both_held_on, child_got, parent_got, refused_while, under, is_parted, cut_low, row_together, cut_together}
 
-no_latched : (level x : ℕ) (c : Page) (o : Onward) (y : ℕ) → Turns level x c o (way.Latched y) → ⊥
+no_latched : (level x : ℕ) (c : Page) (o : Step) (y : ℕ) → Turns level x c o (way.Latched y) → ⊥
 no_latched level x c Again y h = h
 no_latched level x c (Right z) y h = h
 no_latched level x c (Down z) y h = h

@@ -17,7 +17,7 @@ use Rattle.bl_steps.specs.Worlds.{Stage, Know, World, MayGet, IsGoes, IsSure, Is
 use Rattle.bl_descents.proofs.Descents.{goes_down, not_released, anchor_not_released}
 use Rattle.bl_ways.specs.declared.acts.Seen.{Seen}
 use Rattle.bl_ways.specs.declared.acts.Seen.TheVariants as seen
-use Rattle.bl_ways.specs.declared.onwards.Onward.TheVariants.{Here}
+use Rattle.bl_ways.specs.declared.onwards.Step.TheVariants.{Here}
 use Rattle.bl_ways.specs.declared.approaching.Approach.{Approach}
 use Rattle.bl_ways.specs.declared.approaching.Approach.TheVariants as way
 use Rattle.bl_ways.specs.declared.approaching.Approached.TheVariants as came

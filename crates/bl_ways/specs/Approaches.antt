@@ -7,8 +7,8 @@ use Rattle.bl_ways.specs.declared.acts.Action.{Action}
 use Rattle.bl_ways.specs.declared.acts.Action.TheVariants as act
 use Rattle.bl_ways.specs.declared.acts.Seen.{Seen}
 use Rattle.bl_ways.specs.declared.acts.Seen.TheVariants as seen
-use Rattle.bl_ways.specs.declared.onwards.Onward.{Onward}
-use Rattle.bl_ways.specs.declared.onwards.Onward.TheVariants.{Again, Right, Down, Here}
+use Rattle.bl_ways.specs.declared.onwards.Step.{Step}
+use Rattle.bl_ways.specs.declared.onwards.Step.TheVariants.{Again, Right, Down, Here}
 use Rattle.bl_ways.specs.declared.approaching.Approach.{Approach}
 use Rattle.bl_ways.specs.declared.approaching.Approach.TheVariants.{Start, At, Latching, Latched, Leaving}
 use Rattle.bl_ways.specs.declared.approaching.Approached.{Approached}
@@ -41,7 +41,7 @@ Enters level roots (Leaving x to) = ⊥
 
 -- From a page x that was got without a latch: on by where it leads. A page of the writer's level is latched before it is
 -- got, and so is x itself where it covers the key.
-abbrev pub Turns : ℕ → ℕ → Page → Onward → Approach → Type 0
+abbrev pub Turns : ℕ → ℕ → Page → Step → Approach → Type 0
 Turns level x c Again Start = Unit {0}
 Turns level x c (Right y) (At z) = (z ≡ y) × ((node_of c).shape.level ≢ level)
 Turns level x c (Right y) (Latching z) = (z ≡ y) × ((node_of c).shape.level ≡ level)
@@ -51,7 +51,7 @@ Turns level x c Here (Latching z) = z ≡ x
 Turns level x c o a = ⊥
 
 -- From a page that is held: it is opened, then the page to its right is latched, or the way begins again.
-abbrev pub Quits : Onward → Option ℕ → Type 0
+abbrev pub Quits : Step → Option ℕ → Type 0
 Quits (Right y) to = to ≡ Some y
 Quits (Down y) to = to ≡ None
 Quits Again to = to ≡ None
@@ -60,10 +60,10 @@ Quits Here to = ⊥
 -- A writer of that level, on its way to that key.
 abbrev pub Approaches : ℕ → ℕ → Approach → Seen → Approached → Type 0
 Approaches level key Start (seen.Words c) (came.On a) = Enters level (roots_of c) a
-Approaches level key (At x) (seen.Words c) (came.On a) = (o : Onward) × Leads c key level o × Turns level x c o a
+Approaches level key (At x) (seen.Words c) (came.On a) = (o : Step) × Leads c key level o × Turns level x c o a
 Approaches level key (Latching x) seen.Done (came.On a) = a ≡ Latched x
 Approaches level key (Latching x) seen.Missed (came.On a) = a ≡ At x
-Approaches level key (Latched x) (seen.Words c) (came.On (Leaving y to)) = (y ≡ x) × ((o : Onward) × Leads c key level o × Quits o to)
+Approaches level key (Latched x) (seen.Words c) (came.On (Leaving y to)) = (y ≡ x) × ((o : Step) × Leads c key level o × Quits o to)
 Approaches level key (Latched x) (seen.Words c) (came.Here y page) = (y ≡ x) × (page ≡ c) × Leads c key level Here
 Approaches level key (Leaving x (Some y)) seen.Done (came.On a) = a ≡ Latching y
 Approaches level key (Leaving x None) seen.Done (came.On a) = a ≡ Start

@@ -10,7 +10,7 @@ ghost use Rattle.bl_ways.specs.Onwards.{Leads};
 ghost use Rattle.bl_ways.specs.Approaches.{approach_next, Enters, Turns, Quits, Approaches};
 
 use crate::acts::{Action, Seen};
-use crate::onwards::{Onward, way_from};
+use crate::onwards::{Step, way_from};
 use crate::reading::level_of;
 use bl_page::Page;
 
@@ -61,17 +61,17 @@ pub fn entered(level: u32, anchor: &Page) -> Approach
 }
 
 /// From a page that was got without a latch.
-fn turned(level: u32, at: u32, page: &Page, key: u64, way: Onward) -> Approach
+fn turned(level: u32, at: u32, page: &Page, key: u64, way: Step) -> Approach
     requires { Leads page.now key level way }
     ensures { Turns level at page.now way result }
 {
     match way {
-        Onward::Again => Approach::Start,
-        Onward::Right(next) if level_of(page) == level => Approach::Latching(next),
-        Onward::Right(next) => Approach::At(next),
-        Onward::Down(next) if level_of(page) - 1 == level => Approach::Latching(next),
-        Onward::Down(next) => Approach::At(next),
-        Onward::Here => Approach::Latching(at),
+        Step::Again => Approach::Start,
+        Step::Right(next) if level_of(page) == level => Approach::Latching(next),
+        Step::Right(next) => Approach::At(next),
+        Step::Down(next) if level_of(page) - 1 == level => Approach::Latching(next),
+        Step::Down(next) => Approach::At(next),
+        Step::Here => Approach::Latching(at),
     }
 }
 
@@ -87,9 +87,9 @@ fn looked(level: u32, key: u64, at: u32, page: Page) -> Approached
     ensures { Approaches level key (approach.Latched at) (seen.Words page) result }
 {
     match way_from(&page, key, level) {
-        Onward::Here => Approached::Here(at, page),
-        Onward::Right(next) => Approached::On(Approach::Leaving(at, Some(next))),
-        Onward::Again | Onward::Down(_) => Approached::On(Approach::Leaving(at, None)),
+        Step::Here => Approached::Here(at, page),
+        Step::Right(next) => Approached::On(Approach::Leaving(at, Some(next))),
+        Step::Again | Step::Down(_) => Approached::On(Approach::Leaving(at, None)),
     }
 }
 

@@ -10,13 +10,13 @@ ghost use Rattle.bl_ways.specs.declared.approaching.Approached.TheVariants as ap
 ghost use Rattle.bl_ways.specs.Approaches.{Enters, Approaches, IsToLook};
 
 use crate::approaching::Approach;
-use crate::onwards::Onward;
-use crate::spelled::{level_in, levels_in, top_in, way_in};
-use bl_page::WordSource;
+use crate::onwards::Step;
+use crate::spelled::{level_in, levels_in, step_in, top_in};
+use bl_page::Words;
 
 /// From the anchor.
 #[inline(always)]
-fn entered_in<W: WordSource>(source: &W, hand: &mut W::Hand, level: u32) -> Approach
+fn entered_in<W: Words>(source: &W, hand: &mut W::Hand, level: u32) -> Approach
     requires sees { W.Sees source.now hand.old }
     requires page { (c : Page) × (W.shown source.now hand.old ≡ words_of c) }
     ensures same { hand.new ≡ hand.old }
@@ -36,26 +36,20 @@ fn entered_in<W: WordSource>(source: &W, hand: &mut W::Hand, level: u32) -> Appr
 
 /// From a page that was got without a latch.
 #[inline(always)]
-fn turned_in<W: WordSource>(
-    source: &W,
-    hand: &mut W::Hand,
-    level: u32,
-    key: u64,
-    at: u32,
-) -> Approach
+fn turned_in<W: Words>(source: &W, hand: &mut W::Hand, level: u32, key: u64, at: u32) -> Approach
     requires sees { W.Sees source.now hand.old }
     requires page { (c : Page) × (W.shown source.now hand.old ≡ words_of c) }
     ensures same { hand.new ≡ hand.old }
     ensures turns { (c : Page) → W.shown source.now hand.old ≡ words_of c → Approaches level key (approach.At at) (seen.Words c) (approached.On result) }
 {
     let own = level_in(source, hand);
-    match way_in(source, hand, key, level) {
-        Onward::Again => Approach::Start,
-        Onward::Right(next) if own == level => Approach::Latching(next),
-        Onward::Right(next) => Approach::At(next),
-        Onward::Down(next) if own - 1 == level => Approach::Latching(next),
-        Onward::Down(next) => Approach::At(next),
-        Onward::Here => Approach::Latching(at),
+    match step_in(source, hand, &mut 0, key, level) {
+        Step::Again => Approach::Start,
+        Step::Right(next) if own == level => Approach::Latching(next),
+        Step::Right(next) => Approach::At(next),
+        Step::Down(next) if own - 1 == level => Approach::Latching(next),
+        Step::Down(next) => Approach::At(next),
+        Step::Here => Approach::Latching(at),
     }
 }
 
@@ -70,7 +64,7 @@ impl Approach {
 
     /// What becomes of an approach that is to get a page and holds none, by the page's words.
     #[inline(always)]
-    pub fn took_words<W: WordSource>(
+    pub fn took_words<W: Words>(
         self,
         level: u32,
         key: u64,

@@ -12,7 +12,7 @@ ghost use Rattle.bl_page.specs.Words.{words_of};
 
 use crate::acts::{Action, Seen};
 use crate::answers::Answer;
-use bl_page::{WordSource, from_words, words_from};
+use bl_page::{Words, from_words, words_from};
 
 /// A process of one kind: whoever runs it asks for its next action, carries it out, and tells it what the action gave,
 /// until it answers.
@@ -52,7 +52,7 @@ pub trait Process {
 /// A process of a kind that gets pages, and may be told of one by its words.
 pub trait Reader: Process {
     /// Goes on by the page that it got, by the page's words.
-    fn took_words<W: WordSource>(&mut self, source: &W, hand: &mut W::Hand)
+    fn took_words<W: Words>(&mut self, source: &W, hand: &mut W::Hand)
         requires sees { W.Sees source.now hand.old }
         requires running { Self.Process.answer_of self.old ≡ None }
         requires gets { (x : ℕ) × (Self.Process.next_of self.old ≡ act.Get x) }
@@ -67,7 +67,7 @@ pub trait Reader: Process {
 /// A process goes on by the page that it got, which is made of the page's words.
 // Its locals have pages in them, and are zero-filled wherever it is inlined, whether they are used or not.
 #[inline(never)]
-pub fn took_page<P: Process, W: WordSource>(process: &mut P, source: &W, hand: &mut W::Hand)
+pub fn took_page<P: Process, W: Words>(process: &mut P, source: &W, hand: &mut W::Hand)
     requires sees { W.Sees source.now hand.old }
     requires running { P.answer_of process.old ≡ None }
     requires gets { (x : ℕ) × (P.next_of process.old ≡ act.Get x) }

@@ -7,7 +7,7 @@ use bl_page::{Inner, Leaf, Page, is_within};
 
 /// Where a page leads on the way to the page of some level that covers a key.
 #[derive(Clone, Copy)]
-pub enum Onward {
+pub enum Step {
     /// Nowhere: the way begins again at the anchor.
     Again,
     /// To its right neighbour.
@@ -18,44 +18,44 @@ pub enum Onward {
     Here,
 }
 
-fn way_from_leaf(leaf: &Leaf, key: u64, level: u32) -> Onward
+fn way_from_leaf(leaf: &Leaf, key: u64, level: u32) -> Step
     ensures { Leads (page.Leaf leaf.now) key level result }
 {
     if key < leaf.low {
-        Onward::Again
+        Step::Again
     } else if !is_within(leaf.low, leaf.high, key) {
-        Onward::Right(leaf.right)
+        Step::Right(leaf.right)
     } else if level == 0 {
-        Onward::Here
+        Step::Here
     } else {
-        Onward::Again
+        Step::Again
     }
 }
 
-fn way_from_inner(inner: &Inner, key: u64, level: u32) -> Onward
+fn way_from_inner(inner: &Inner, key: u64, level: u32) -> Step
     ensures { Leads (page.Inner inner.now) key level result }
 {
     if key < inner.low {
-        Onward::Again
+        Step::Again
     } else if !is_within(inner.low, inner.high, key) {
-        Onward::Right(inner.right)
+        Step::Right(inner.right)
     } else if level < inner.level {
-        Onward::Down(inner.child_of(key))
+        Step::Down(inner.child_of(key))
     } else if inner.level == level {
-        Onward::Here
+        Step::Here
     } else {
-        Onward::Again
+        Step::Again
     }
 }
 
 /// Where the page leads on the way to the page of that level that covers the key.
-pub fn way_from(page: &Page, key: u64, level: u32) -> Onward
+pub fn way_from(page: &Page, key: u64, level: u32) -> Step
     ensures { Leads page.now key level result }
 {
     match page {
-        Page::Anchor(_) => Onward::Again,
+        Page::Anchor(_) => Step::Again,
         Page::Leaf(leaf) => way_from_leaf(leaf, key, level),
         Page::Inner(inner) => way_from_inner(inner, key, level),
-        Page::Dead(dead) => Onward::Right(dead.right),
+        Page::Dead(dead) => Step::Right(dead.right),
     }
 }

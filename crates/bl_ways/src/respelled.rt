@@ -9,11 +9,11 @@ ghost use Rattle.bl_rearrange.specs.Entered.{entered, dropped};
 ghost use Rattle.bl_rearrange.specs.Rearranged.{pairs_of};
 ghost use Rattle.bl_ways.specs.Respelled.{words_by, IsShiftedUp, IsShiftedDown};
 
-use bl_page::{LEVEL_UNIT, WordSource, place_in};
+use bl_page::{LEVEL_UNIT, Words, place_in};
 
 /// Copies the words, with a pair at that place among the entries.
 #[inline(always)]
-fn shifted_up<W: WordSource>(
+fn shifted_up<W: Words>(
     source: &W,
     hand: &mut W::Hand,
     place: usize,
@@ -27,28 +27,28 @@ fn shifted_up<W: WordSource>(
     ensures shifted { IsShiftedUp place key word (W.shown source.now hand.old) words.new }
 {
     for i in 0..4 + 2 * place {
-        words[i] = source.word(hand, i);
+        words[i] = bl_page::word(source, hand, i);
     }
     words[4 + 2 * place] = key;
     words[5 + 2 * place] = word;
     for j in 4 + 2 * place..30 {
-        words[j + 2] = source.word(hand, j);
+        words[j + 2] = bl_page::word(source, hand, j);
     }
 }
 
 /// Copies the words, without the pair before that place.
 #[inline(always)]
-fn shifted_down<W: WordSource>(source: &W, hand: &mut W::Hand, place: usize, words: &mut [u64; 32])
+fn shifted_down<W: Words>(source: &W, hand: &mut W::Hand, place: usize, words: &mut [u64; 32])
     requires sees { W.Sees source.now hand.old }
     requires place { (0 < place) × (place ≤ 14) }
     ensures same { hand.new ≡ hand.old }
     ensures shifted { IsShiftedDown place (W.shown source.now hand.old) words.new }
 {
     for i in 0..2 + 2 * place {
-        words[i] = source.word(hand, i);
+        words[i] = bl_page::word(source, hand, i);
     }
     for j in 2 + 2 * place..30 {
-        words[j] = source.word(hand, j + 2);
+        words[j] = bl_page::word(source, hand, j + 2);
     }
     words[30] = 0;
     words[31] = 0;
@@ -56,7 +56,7 @@ fn shifted_down<W: WordSource>(source: &W, hand: &mut W::Hand, place: usize, wor
 
 /// The words of a leaf or an inner page with a pair more, which has room.
 #[inline(always)]
-pub fn words_with<W: WordSource>(
+pub fn words_with<W: Words>(
     source: &W,
     hand: &mut W::Hand,
     key: u64,
@@ -68,24 +68,24 @@ pub fn words_with<W: WordSource>(
     ensures same { hand.new ≡ hand.old }
     ensures words { (c : Page) → W.shown source.now hand.old ≡ words_of c → words.new ≡ words_by c (entered key word (pairs_of c)) }
 {
-    let head = source.word(hand, 0);
+    let head = bl_page::word(source, hand, 0);
     let count = (head % LEVEL_UNIT) as usize;
-    let place = place_in(source, hand, count, key);
+    let place = place_in(source, hand, &mut 0, count, key);
     shifted_up(source, hand, place, key, word, words);
     words[0] = head + 1;
 }
 
 /// The words of a leaf or an inner page without the pair of a key that it lists.
 #[inline(always)]
-pub fn words_without<W: WordSource>(source: &W, hand: &mut W::Hand, key: u64, words: &mut [u64; 32])
+pub fn words_without<W: Words>(source: &W, hand: &mut W::Hand, key: u64, words: &mut [u64; 32])
     requires sees { W.Sees source.now hand.old }
     requires page { (c : Page) × IsTreePage c × (W.shown source.now hand.old ≡ words_of c) × IsSome (map_of (pairs_of c) key) }
     ensures same { hand.new ≡ hand.old }
     ensures words { (c : Page) → W.shown source.now hand.old ≡ words_of c → words.new ≡ words_by c (dropped key (pairs_of c)) }
 {
-    let head = source.word(hand, 0);
+    let head = bl_page::word(source, hand, 0);
     let count = (head % LEVEL_UNIT) as usize;
-    let place = place_in(source, hand, count, key);
+    let place = place_in(source, hand, &mut 0, count, key);
     shifted_down(source, hand, place, words);
     words[0] = head - 1;
 }

@@ -14,8 +14,8 @@ use Rattle.bl_starts.proofs.WorldLaws.{live_status}
 use Rattle.bl_tree.specs.Trees.{is_live}
 use Rattle.bl_tree.proofs.Statuses.{free_dead}
 use Rattle.std.proofs.lemmas.Bool.{false≢true}
-use Rattle.bl_ways.specs.declared.onwards.Onward.{Onward}
-use Rattle.bl_ways.specs.declared.onwards.Onward.TheVariants as onward
+use Rattle.bl_ways.specs.declared.onwards.Step.{Step}
+use Rattle.bl_ways.specs.declared.onwards.Step.TheVariants as onward
 use Rattle.bl_ways.specs.Onwards.{top_of, Leads}
 use Rattle.bl_courses.proofs.Onwards.{leads_one}
 use Rattle.bl_tables.specs.Knowing.{know}
@@ -32,7 +32,7 @@ walk_begins contents k x leaf pages (Right {pages = rest} beyond walk) = (rest, 
 walk_begins contents k x leaf pages (Down {pages = rest} above covers of walk) = (rest, refl)
 
 module _ (contents : ℕ → Page) (k : ℕ) where
-  one_place : (x : ℕ) (o o' : Onward) → Leads (contents x) k 0 o → Leads (contents x) k 0 o' → o ≡ o'
+  one_place : (x : ℕ) (o o' : Step) → Leads (contents x) k 0 o → Leads (contents x) k 0 o' → o ≡ o'
   one_place x o o' h i = leads_one (contents x) k 0 o o' h i
 
   walk_here : (x leaf : ℕ) (pages : List ℕ) → IsTreePage (contents x) → IsWalk (λ y. node_of (contents y)) k x pages leaf → Leads (contents x) k 0 onward.Here → (leaf ≡ x) × (length pages ≡ 1)

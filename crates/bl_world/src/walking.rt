@@ -6,7 +6,7 @@ ghost use Rattle.bl_world.specs.Worlds.{IsWorld};
 ghost use Rattle.bl_world.specs.Lone.{HasWalk};
 
 use crate::lists::Lists;
-use bl_ways::{Onward, top_page, way_from};
+use bl_ways::{Step, top_page, way_from};
 
 impl Lists {
     /// The leaf at which the lone walk of the key ends, and how many pages it gets, page 0 included.
@@ -19,10 +19,10 @@ impl Lists {
         for _turn in 0..self.pages.len() {
             gets += 1;
             match way_from(&self.pages[page as usize], key, 0) {
-                Onward::Right(next) => page = next,
-                Onward::Down(next) => page = next,
-                Onward::Here => return (page, gets),
-                Onward::Again => unreachable!(),
+                Step::Right(next) => page = next,
+                Step::Down(next) => page = next,
+                Step::Here => return (page, gets),
+                Step::Again => unreachable!(),
             }
         }
         unreachable!()

@@ -2,7 +2,7 @@
 
 use arrayvec::ArrayVec;
 use bl_page::{Anchor, Dead, Inner, Leaf, Page};
-use bl_ways::{Approach, Onward, level_in, levels_in, row_in, top_in, way_in};
+use bl_ways::{Approach, Step, level_in, levels_in, row_in, step_in, top_in};
 
 /// The anchor of a tree of two levels: page 1 is its leftmost leaf, and page 3 its top.
 fn anchor() -> Page {
@@ -62,26 +62,71 @@ fn levels_of_pages(rt: HostRuntime) {
 
 #[test]
 fn ways_and_rows(rt: HostRuntime) {
-    assert!(rt; matches!(way_in(&top().to_words(), &mut (), 8, 0), Onward::Down(1)));
-    assert!(rt; matches!(way_in(&top().to_words(), &mut (), 9, 0), Onward::Down(2)));
     assert!(rt;
         matches!(
-            way_in(&Page::Leaf(leaf()).to_words(), &mut (), 9, 0),
-            Onward::Right(2)
+            step_in(&top().to_words(), &mut (), &mut 0, 8, 0),
+            Step::Down(1)
         )
     );
     assert!(rt;
         matches!(
-            way_in(&Page::Leaf(leaf()).to_words(), &mut (), 5, 0),
-            Onward::Here
+            step_in(&top().to_words(), &mut (), &mut 0, 9, 0),
+            Step::Down(2)
         )
     );
-    assert!(rt; matches!(way_in(&dead().to_words(), &mut (), 9, 0), Onward::Right(3)));
+    assert!(rt;
+        matches!(
+            step_in(&Page::Leaf(leaf()).to_words(), &mut (), &mut 0, 9, 0),
+            Step::Right(2)
+        )
+    );
+    assert!(rt;
+        matches!(
+            step_in(&Page::Leaf(leaf()).to_words(), &mut (), &mut 0, 5, 0),
+            Step::Here
+        )
+    );
+    assert!(rt;
+        matches!(
+            step_in(&dead().to_words(), &mut (), &mut 0, 9, 0),
+            Step::Right(3)
+        )
+    );
     assert_eq!(rt;
-        row_in(&Page::Leaf(leaf()).to_words(), &mut (), 5),
+        row_in(&Page::Leaf(leaf()).to_words(), &mut (), &mut 0, 5),
         Some(50)
     );
-    assert_eq!(rt; row_in(&Page::Leaf(leaf()).to_words(), &mut (), 6), None);
+    assert_eq!(rt;
+        row_in(&Page::Leaf(leaf()).to_words(), &mut (), &mut 0, 6),
+        None
+    );
+}
+
+/// How many words are read to find where a page leads.
+fn words_of_step(page: &Page, key: u64, level: u32) -> u32 {
+    let mut used = 0;
+    let _step = step_in(&page.to_words(), &mut (), &mut used, key, level);
+    used
+}
+
+/// How many words are read to find what the leaf lists with a key.
+fn words_of_row(key: u64) -> u32 {
+    let mut used = 0;
+    let _row = row_in(&Page::Leaf(leaf()).to_words(), &mut (), &mut used, key);
+    used
+}
+
+// The head, both bounds, and what is needed more: six keys and the child, nothing, the link, or of a dead page the link alone. The
+// row of a key takes six keys, that key again and its value; the key 0 is looked for at the first place alone.
+#[test]
+fn words_that_are_read(rt: HostRuntime) {
+    assert_eq!(rt; words_of_step(&top(), 9, 0), 10);
+    assert_eq!(rt; words_of_step(&Page::Leaf(leaf()), 5, 0), 3);
+    assert_eq!(rt; words_of_step(&Page::Leaf(leaf()), 9, 0), 4);
+    assert_eq!(rt; words_of_step(&dead(), 9, 0), 2);
+    assert_eq!(rt; words_of_row(5), 8);
+    assert_eq!(rt; words_of_row(6), 7);
+    assert_eq!(rt; words_of_row(0), 2);
 }
 
 /// Where a writer to a level goes by the words of the page that it got.

@@ -7,14 +7,14 @@ use Rattle.bl_index.proofs.leaf_rows.append_rows.Goals as goal
 
 pub place_before-last-requires-clause-first : goal.place_before-last-requires-clause-first
 place_before-last-requires-clause-first g c =
-    let shown = g.W.WordSource.shown c.args.source.now in
+    let shown = g.W.Words.shown c.args.source.now in
     let place = subst (λ hand. IsPlaceOf (pairs_of (shown hand)) c.args.from c.place_from-first.result) c.word.ensures.same c.place_from-first.ensures.place in
-    let n = count_is (shown c.args.hand.now) (g.W.WordSource.long _ _ c.requires.sees) c.requires.pairs in
+    let n = count_is (shown c.args.hand.now) (g.W.Words.long _ _ c.requires.sees) c.requires.pairs in
     omega (arith, place.in_range, n, c.word.ensures.word)
 
 pub loop-place-preserved : goal.loop-place-preserved
 loop-place-preserved g c =
-    let shown = g.W.WordSource.shown c.args.source.now in
+    let shown = g.W.Words.shown c.args.source.now in
     let words = shown c.args.hand.now in
     let inv = c.loop-place.invariant in
     let ends = subst (λ hand. EndsBefore (pairs_of (shown hand)) c.args.to c.place_from-first.result c.place_before-last.result) (c.place_from-first.ensures.same ∙ c.word.ensures.same) c.place_before-last.ensures.ends in
@@ -27,7 +27,7 @@ loop-place-preserved g c =
 
 pub returns-clause-appends : goal.returns-clause-appends
 returns-clause-appends g c =
-    let shown = g.W.WordSource.shown c.args.source.now in
+    let shown = g.W.Words.shown c.args.source.now in
     let words = shown c.args.hand.now in
     let inv = c.loop-place.invariant in
     let place = subst (λ hand. IsPlaceOf (pairs_of (shown hand)) c.args.from c.place_from-first.result) c.word.ensures.same c.place_from-first.ensures.place in
@@ -42,19 +42,19 @@ returns-clause-appends g c =
 
 pub returns-in_err-reserve-clause-appends : goal.returns-in_err-reserve-clause-appends
 returns-in_err-reserve-clause-appends g c =
-    let shown = g.W.WordSource.shown c.args.source.now in
+    let shown = g.W.Words.shown c.args.source.now in
     let words = shown c.args.hand.now in
     let place = subst (λ hand. IsPlaceOf (pairs_of (shown hand)) c.args.from c.place_from-first.result) c.word.ensures.same c.place_from-first.ensures.place in
     let ends = subst (λ hand. EndsBefore (pairs_of (shown hand)) c.args.to c.place_from-first.result c.place_before-last.result) (c.place_from-first.ensures.same ∙ c.word.ensures.same) c.place_before-last.ensures.ends in
-    let long = between_length words (g.W.WordSource.long _ _ c.requires.sees) c.requires.pairs c.args.from c.args.to _ _ place ends in
+    let long = between_length words (g.W.Words.long _ _ c.requires.sees) c.requires.pairs c.args.from c.args.to _ _ place ends in
     let e = c.in_err-reserve.ensures in
     appends_none c.args.from c.args.to (pairs_of words) _ _ _ _ c.from_residual.ensures.0 e.items (omega (arith, e.err, e.full, e.len, long))
 
 pub row_at-row-requires-clause-place : goal.row_at-row-requires-clause-place
 row_at-row-requires-clause-place g c =
-    let shown = g.W.WordSource.shown c.args.source.now in
+    let shown = g.W.Words.shown c.args.source.now in
     let words = shown c.args.hand.now in
     let ends = subst (λ hand. EndsBefore (pairs_of (shown hand)) c.args.to c.place_from-first.result c.place_before-last.result) (c.place_from-first.ensures.same ∙ c.word.ensures.same) c.place_before-last.ensures.ends in
-    let n = count_is words (g.W.WordSource.long _ _ c.requires.sees) c.requires.pairs in
+    let n = count_is words (g.W.Words.long _ _ c.requires.sees) c.requires.pairs in
     let lt : c.loop-place.place < count_in words = omega (arith, ends.in_range, n) in
     subst (λ hand. c.loop-place.place < count_in (shown hand)) (sym c.loop-place.invariant.same) lt

@@ -8,5 +8,5 @@ abbrev pub invariant-loop-place : goal.invariant-loop-place
 invariant-loop-place g l = record {
   same : l.hand ≡ l.fn.hand;
   room : vec_len l.rows + (l.last - l.place) ≤ vec_capacity l.rows;
-  grown : l.rows.items ≡ l.fn.rows.items ++ take (l.place - l.first) (drop l.first (pairs_of (g.W.WordSource.shown l.source l.fn.hand)));
+  grown : l.rows.items ≡ l.fn.rows.items ++ take (l.place - l.first) (drop l.first (pairs_of (g.W.Words.shown l.source l.fn.hand)));
 }

@@ -7,25 +7,25 @@ loop-behind-init g c = record { same = refl; none = λ j low lt. absurd (let n =
 
 pub loop-behind-preserved : goal.loop-behind-preserved
 loop-behind-preserved g c =
-    let words = g.W.WordSource.shown c.args.source.now c.args.hand.now in
+    let words = g.W.Words.shown c.args.source.now c.args.hand.now in
     let inv = c.loop-behind.invariant in
     let last : ℕ = c.args.count - c.loop-behind.behind in
-    let key : c.word.result ≡ get_or words (2 + 2 * last) 0 = c.word.ensures.word ∙ ap (λ hand. get_or (g.W.WordSource.shown c.args.source.now hand) (2 + 2 * last) 0) inv.same in
+    let key : c.word.result ≡ get_or words (2 + 2 * last) 0 = c.word.ensures.word ∙ ap (λ hand. get_or (g.W.Words.shown c.args.source.now hand) (2 + 2 * last) 0) inv.same in
     record {
       same = c.word.ensures.same ∙ inv.same;
-      none = λ j low lt. none_more words (g.W.WordSource.long _ _ c.requires.sees) c.requires.pairs c.args.end last (omega arith) (omega (arith, c.requires.count)) inv.none (omega (arith, key, c.if-word-end.false)) j (omega arith) lt;
+      none = λ j low lt. none_more words (g.W.Words.long _ _ c.requires.sees) c.requires.pairs c.args.end last (omega arith) (omega (arith, c.requires.count)) inv.none (omega (arith, key, c.if-word-end.false)) j (omega arith) lt;
     }
 
 pub returns-then-word-end-clause-ends : goal.returns-then-word-end-clause-ends
 returns-then-word-end-clause-ends g c =
-    let words = g.W.WordSource.shown c.args.source.now c.args.hand.now in
+    let words = g.W.Words.shown c.args.source.now c.args.hand.now in
     let inv = c.loop-behind.invariant in
     let last : ℕ = c.args.count - c.loop-behind.behind in
-    let key : c.word.result ≡ get_or words (2 + 2 * last) 0 = c.word.ensures.word ∙ ap (λ hand. get_or (g.W.WordSource.shown c.args.source.now hand) (2 + 2 * last) 0) inv.same in
-    (ends_here words (g.W.WordSource.long _ _ c.requires.sees) c.requires.pairs c.args.end c.args.first last (omega arith) (omega (arith, c.requires.count)) inv.none (omega (arith, key, c.if-word-end.true)))
+    let key : c.word.result ≡ get_or words (2 + 2 * last) 0 = c.word.ensures.word ∙ ap (λ hand. get_or (g.W.Words.shown c.args.source.now hand) (2 + 2 * last) 0) inv.same in
+    (ends_here words (g.W.Words.long _ _ c.requires.sees) c.requires.pairs c.args.end c.args.first last (omega arith) (omega (arith, c.requires.count)) inv.none (omega (arith, key, c.if-word-end.true)))
 
 pub returns-clause-ends : goal.returns-clause-ends
 returns-clause-ends g c =
-    let words = g.W.WordSource.shown c.args.source.now c.args.hand.now in
+    let words = g.W.Words.shown c.args.source.now c.args.hand.now in
     let all : c.args.count - c.loop-behind.behind ≡ c.args.first = let h = c.requires.first in omega arith in
-    ends_first words (g.W.WordSource.long _ _ c.requires.sees) c.requires.pairs c.args.end c.args.first (omega (arith, c.requires.count, c.requires.first)) (rw all at c.loop-behind.invariant.none)
+    ends_first words (g.W.Words.long _ _ c.requires.sees) c.requires.pairs c.args.end c.args.first (omega (arith, c.requires.count, c.requires.first)) (rw all at c.loop-behind.invariant.none)

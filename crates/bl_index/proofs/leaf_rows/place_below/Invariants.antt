@@ -6,5 +6,5 @@ use Rattle.bl_index.proofs.leaf_rows.place_below.Given as goal
 abbrev pub invariant-loop-behind : goal.invariant-loop-behind
 invariant-loop-behind g l = record {
   same : l.hand ≡ l.fn.hand;
-  none : (j : ℕ) → l.count - l.behind ≤ j → j < count_in (g.W.WordSource.shown l.source l.fn.hand) → l.end ≤ key_at (pairs_of (g.W.WordSource.shown l.source l.fn.hand)) j;
+  none : (j : ℕ) → l.count - l.behind ≤ j → j < count_in (g.W.Words.shown l.source l.fn.hand) → l.end ≤ key_at (pairs_of (g.W.Words.shown l.source l.fn.hand)) j;
 }

@@ -6,5 +6,5 @@ use Rattle.bl_index.proofs.leaf_rows.place_from.Given as goal
 abbrev pub invariant-loop-place : goal.invariant-loop-place
 invariant-loop-place g l = record {
   same : l.hand ≡ l.fn.hand;
-  below : (j : ℕ) → j < l.place → key_at (pairs_of (g.W.WordSource.shown l.source l.fn.hand)) j < l.from;
+  below : (j : ℕ) → j < l.place → key_at (pairs_of (g.W.Words.shown l.source l.fn.hand)) j < l.from;
 }

@@ -8,23 +8,23 @@ use Rattle.bl_index.proofs.placing.listed_at.Goals.{else-place-gt0-via-then-plac
 
 pub returns-then-word-key-clause-listed : goal.returns-then-word-key-clause-listed
 returns-then-word-key-clause-listed g c =
-    let words = g.W.WordSource.shown c.args.source.now c.args.hand.now in
+    let words = g.W.Words.shown c.args.source.now c.args.hand.now in
     let pairs = pairs_of words in
-    let long = g.W.WordSource.long _ _ c.requires.sees in
+    let long = g.W.Words.long _ _ c.requires.sees in
     let few = c.requires.pairs.few in
     let p = c.args.place in
     let size = pairs-length (count_in words) words long few in
     let most : p ≤ length pairs = omega (arith, place-le c.args.key pairs, c.requires.place) in
     let before = pair-before words (count_in words) p long few c.if-place-gt0.true (omega (arith, most, size)) in
-    let value : c.word-then-word-key.result ≡ get_or words (3 + 2 * p) 0 = c.word-then-word-key.ensures.word ∙ ap (λ hand. get_or (g.W.WordSource.shown c.args.source.now hand) (3 + 2 * p) 0) c.word.ensures.same in
+    let value : c.word-then-word-key.result ≡ get_or words (3 + 2 * p) 0 = c.word-then-word-key.ensures.word ∙ ap (λ hand. get_or (g.W.Words.shown c.args.source.now hand) (3 + 2 * p) 0) c.word.ensures.same in
     let key : key_at pairs (p - 1) ≡ c.args.key = before.0 ∙ sym c.word.ensures.word ∙ c.if-word-key.true in
     sym (listed-at 0 c.args.key (p - 1) pairs c.requires.pairs.rises (omega (arith, most, c.if-place-gt0.true)) key ∙ ap Some (before.1 ∙ sym value))
 
 pub returns-else-place-gt0-clause-listed : goal.returns-else-place-gt0-clause-listed
 returns-else-place-gt0-clause-listed g c =
-    let words = g.W.WordSource.shown c.args.source.now c.args.hand.now in
+    let words = g.W.Words.shown c.args.source.now c.args.hand.now in
     let pairs = pairs_of words in
-    let long = g.W.WordSource.long _ _ c.requires.sees in
+    let long = g.W.Words.long _ _ c.requires.sees in
     let few = c.requires.pairs.few in
     let at = c.requires.place in
     let size = pairs-length (count_in words) words long few in

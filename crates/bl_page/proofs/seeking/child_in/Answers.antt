@@ -1,5 +1,5 @@
 use Rattle.std.proofs.Common.{◌≡◌, ℕ, ◌+◌, ◌*◌, ◌-◌, ◌<◌, ◌≤◌, List, length, get_or, ap, subst, sym, ◌∙◌, arith}
-use Rattle.bl_page.specs.Pairs.{BeginsWith, NameChildren, IsChild, IsChildFor, place}
+use Rattle.bl_page.specs.Pairs.{BeginsWith, IsChild, IsChildFor, place}
 use Rattle.bl_page.specs.Faults.{count_in, pairs_of, HasPairs}
 use Rattle.bl_page.proofs.Lookups.{child_at_place, place-some, place-le, NameChildren-at}
 use Rattle.bl_page.proofs.Halving.{pair-before, pairs-length, word_at}
@@ -18,17 +18,17 @@ child_at words key p long has first covers is =
 
 pub overflow_cast-result : goal.overflow_cast-result
 overflow_cast-result g c =
-    let words = g.W.WordSource.shown c.args.source.now c.args.hand.now in
+    let words = g.W.Words.shown c.args.source.now c.args.hand.now in
     let pairs = pairs_of words in
-    let is = child_at words c.args.key c.place_in-place.result (g.W.WordSource.long _ _ c.requires.sees) c.requires.pairs c.requires.first c.requires.covers c.place_in-place.ensures.place in
-    let read : c.word.result ≡ get_or words (3 + 2 * c.place_in-place.result) 0 = c.word.ensures.word ∙ ap (λ hand. get_or (g.W.WordSource.shown c.args.source.now hand) (3 + 2 * c.place_in-place.result) 0) c.place_in-place.ensures.same in
+    let is = child_at words c.args.key c.place_in-place.result (g.W.Words.long _ _ c.requires.sees) c.requires.pairs c.requires.first c.requires.covers c.place_in-place.ensures.place in
+    let read : c.word.result ≡ get_or words (3 + 2 * c.place_in-place.result) 0 = c.word.ensures.word ∙ ap (λ hand. get_or (g.W.Words.shown c.args.source.now hand) (3 + 2 * c.place_in-place.result) 0) c.place_in-place.ensures.same in
     let child : IsChild (word_at pairs (place c.args.key pairs - 1)) = NameChildren-at pairs (place c.args.key pairs - 1) c.requires.pages (omega (arith, is.1, is.2)) in
     record { fits = omega (arith, child.1, is.0, read) }
 
 pub returns-clause-child : goal.returns-clause-child
 returns-clause-child g c =
-    let words = g.W.WordSource.shown c.args.source.now c.args.hand.now in
+    let words = g.W.Words.shown c.args.source.now c.args.hand.now in
     let pairs = pairs_of words in
-    let is = child_at words c.args.key c.place_in-place.result (g.W.WordSource.long _ _ c.requires.sees) c.requires.pairs c.requires.first c.requires.covers c.place_in-place.ensures.place in
-    let read : c.word.result ≡ get_or words (3 + 2 * c.place_in-place.result) 0 = c.word.ensures.word ∙ ap (λ hand. get_or (g.W.WordSource.shown c.args.source.now hand) (3 + 2 * c.place_in-place.result) 0) c.place_in-place.ensures.same in
+    let is = child_at words c.args.key c.place_in-place.result (g.W.Words.long _ _ c.requires.sees) c.requires.pairs c.requires.first c.requires.covers c.place_in-place.ensures.place in
+    let read : c.word.result ≡ get_or words (3 + 2 * c.place_in-place.result) 0 = c.word.ensures.word ∙ ap (λ hand. get_or (g.W.Words.shown c.args.source.now hand) (3 + 2 * c.place_in-place.result) 0) c.place_in-place.ensures.same in
     subst (λ page. IsChildFor pairs c.args.key page) (is.0 ∙ sym read) (child_at_place 0 c.args.key pairs c.requires.pairs.rises is.1)

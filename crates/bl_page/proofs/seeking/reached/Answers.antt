@@ -1,19 +1,17 @@
-use Rattle.std.proofs.Common.{◌≡◌, ◌≤◌, ◌<◌, ℕ, get_or, arith}
-use Rattle.bl_page.specs.Pairs.{place}
-use Rattle.bl_page.specs.Faults.{pairs_of}
+use Rattle.std.proofs.Common.{arith}
 use Rattle.bl_page.proofs.Halving.{below_tells, not_below_tells}
 use Rattle.bl_page.proofs.seeking.reached.Goals as goal
 
 pub returns-then-one_less-key-clause-none : goal.returns-then-one_less-key-clause-none
 returns-then-one_less-key-clause-none g c = λ not.
-    let words = g.W.WordSource.shown c.args.source.now c.args.hand.now in
-    let there = below_tells c.args.key c.args.which c.word-one_less.result words (g.W.WordSource.long _ _ c.requires.sees) c.requires.pairs c.requires.which.0 c.requires.which.1 c.ranges.key.fits c.word-one_less.type_inv
-        c.word-one_less.ensures.word c.if-one_less-key.true in
+    let words = g.W.Words.shown c.args.source.now c.args.hand.now in
+    let there = below_tells c.args.key c.args.which c.word-one_less.result words (g.W.Words.long _ _ c.requires.sees) c.requires.pairs c.requires.which.0 c.requires.which.1 c.ranges.key.fits c.word-one_less.type_inv
+    c.word-one_less.ensures.word c.if-one_less-key.true in
     absurd (omega (arith, there, not))
 
 pub returns-else-one_less-key-clause-one : goal.returns-else-one_less-key-clause-one
 returns-else-one_less-key-clause-one g c = λ there.
-    let words = g.W.WordSource.shown c.args.source.now c.args.hand.now in
-    let not = not_below_tells c.args.key c.args.which c.word-one_less.result words (g.W.WordSource.long _ _ c.requires.sees) c.requires.pairs c.requires.which.0 c.word-one_less.type_inv c.word-one_less.ensures.word
-        c.if-one_less-key.false in
+    let words = g.W.Words.shown c.args.source.now c.args.hand.now in
+    let not = not_below_tells c.args.key c.args.which c.word-one_less.result words (g.W.Words.long _ _ c.requires.sees) c.requires.pairs c.requires.which.0 c.word-one_less.type_inv c.word-one_less.ensures.word
+    c.if-one_less-key.false in
     absurd (omega (arith, there, not))

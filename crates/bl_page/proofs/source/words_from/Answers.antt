@@ -6,14 +6,14 @@ use Rattle.bl_page.proofs.source.words_from.Goals as goal
 
 pub loop-place-preserved : goal.loop-place-preserved
 loop-place-preserved g c = let inv = c.loop-place.invariant in let long = inv.long in let at = c.loop-place.place in
-    let read = c.word.ensures.word ∙ ap (λ hand. get_or (g.W.WordSource.shown c.args.source.now hand) at 0) inv.hand in record {
+    let read = c.word.ensures.word ∙ ap (λ hand. get_or (g.W.Words.shown c.args.source.now hand) at 0) inv.hand in record {
       hand = c.word.ensures.same ∙ inv.hand;
       long = length-set c.loop-place.words at c.word.result ∙ inv.long;
       read = λ k low. dite (ℕ_discrete k at)
-          (λ e. get_or-set_at c.loop-place.words at k c.word.result 0 e (omega arith) ∙ read ∙ ap (λ i. get_or (g.W.WordSource.shown c.args.source.now c.args.hand.now) i 0) (sym e))
+          (λ e. get_or-set_at c.loop-place.words at k c.word.result 0 e (omega arith) ∙ read ∙ ap (λ i. get_or (g.W.Words.shown c.args.source.now c.args.hand.now) i 0) (sym e))
           (λ ne. get_or-set_other c.loop-place.words at k c.word.result 0 ne ∙ inv.read k (omega arith));
     }
 
 pub returns-clause-words : goal.returns-clause-words
-returns-clause-words g c = let inv = c.loop-place.invariant in let size = inv.long in let long = g.W.WordSource.long _ _ c.requires.sees in
+returns-clause-words g c = let inv = c.loop-place.invariant in let size = inv.long in let long = g.W.Words.long _ _ c.requires.sees in
     ext_get_or 0 c.loop-place.words _ (size ∙ sym long) (λ k low. inv.read k (omega arith))

@@ -5,5 +5,5 @@ abbrev pub invariant-loop-place : goal.invariant-loop-place
 invariant-loop-place g l = record {
   hand : l.hand ≡ l.fn.hand;
   long : length l.words ≡ 32;
-  read : (k : ℕ) → k < l.place → get_or l.words k 0 ≡ get_or (g.W.WordSource.shown l.fn.source l.fn.hand) k 0;
+  read : (k : ℕ) → k < l.place → get_or l.words k 0 ≡ get_or (g.W.Words.shown l.fn.source l.fn.hand) k 0;
 }

@@ -11,11 +11,11 @@ use Rattle.bl_ways.proofs.Respellings.{respelled_with}
 use Rattle.bl_ways.proofs.respelled.words_with.Goals as goal
 
 pub place_in-place-requires-clause-pairs : goal.place_in-place-requires-clause-pairs
-place_in-place-requires-clause-pairs g c = subst (λ hand. HasPairs (g.W.WordSource.shown c.args.source.now hand)) (sym c.word-head.ensures.same) (tree_pairs c.requires.page.0 (g.W.WordSource.shown c.args.source.now c.args.hand.now) c.requires.page.1 c.requires.page.2)
+place_in-place-requires-clause-pairs g c = subst (λ hand. HasPairs (g.W.Words.shown c.args.source.now hand)) (sym c.word-head.ensures.same) (tree_pairs c.requires.page.0 (g.W.Words.shown c.args.source.now c.args.hand.now) c.requires.page.1 c.requires.page.2)
 
 pub returns-clause-words : goal.returns-clause-words
 returns-clause-words g c = λ p e.
-    let shown = g.W.WordSource.shown c.args.source.now in
+    let shown = g.W.Words.shown c.args.source.now in
     let same = once c.requires.page.0 p (sym c.requires.page.2 ∙ e) in
     let old = shown c.args.hand.now in
     let at : c.place_in-place.result ≡ place c.args.key (pairs_in_words old) = c.place_in-place.ensures.place ∙ ap (λ hand. place c.args.key (pairs_in_words (shown hand))) c.word-head.ensures.same in

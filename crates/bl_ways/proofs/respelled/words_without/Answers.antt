@@ -17,18 +17,18 @@ the_value (Some v) is = (v, refl)
 the_value None is = absurd (cc)
 
 pub place_in-place-requires-clause-pairs : goal.place_in-place-requires-clause-pairs
-place_in-place-requires-clause-pairs g c = subst (λ hand. HasPairs (g.W.WordSource.shown c.args.source.now hand)) (sym c.word-head.ensures.same) (tree_pairs c.requires.page.0 (g.W.WordSource.shown c.args.source.now c.args.hand.now) c.requires.page.1 c.requires.page.2)
+place_in-place-requires-clause-pairs g c = subst (λ hand. HasPairs (g.W.Words.shown c.args.source.now hand)) (sym c.word-head.ensures.same) (tree_pairs c.requires.page.0 (g.W.Words.shown c.args.source.now c.args.hand.now) c.requires.page.1 c.requires.page.2)
 
 pub shifted_down-requires-clause-place : goal.shifted_down-requires-clause-place
 shifted_down-requires-clause-place g c =
-    let shown = g.W.WordSource.shown c.args.source.now in
+    let shown = g.W.Words.shown c.args.source.now in
     let listed = the_value (map_of (pairs_of c.requires.page.0) c.args.key) c.requires.page.3 in
     let at : c.place_in-place.result ≡ place c.args.key (pairs_in_words (shown c.args.hand.now)) = c.place_in-place.ensures.place ∙ ap (λ hand. place c.args.key (pairs_in_words (shown hand))) c.word-head.ensures.same in
     place_within c.requires.page.0 (shown c.args.hand.now) c.args.key listed.0 c.place_in-place.result c.requires.page.1 c.requires.page.2 listed.1 at
 
 pub returns-clause-words : goal.returns-clause-words
 returns-clause-words g c = λ p e.
-    let shown = g.W.WordSource.shown c.args.source.now in
+    let shown = g.W.Words.shown c.args.source.now in
     let same = once c.requires.page.0 p (sym c.requires.page.2 ∙ e) in
     let old = shown c.args.hand.now in
     let listed = the_value (map_of (pairs_of p) c.args.key) (subst (λ (q : Page). IsSome (map_of (pairs_of q) c.args.key)) same c.requires.page.3) in

@@ -1,5 +1,5 @@
 use Rattle.std.proofs.Common.{ap, sym, subst}
-use Rattle.bl_ways.specs.declared.onwards.Onward.TheVariants.{Here}
+use Rattle.bl_ways.specs.declared.onwards.Step.TheVariants.{Here}
 use Rattle.bl_proc.specs.Processes.{next_of}
 use Rattle.bl_store.specs.Hands.{known}
 use Rattle.bl_store.specs.declared.store.Hand.{Hand}
@@ -23,5 +23,5 @@ pub returns-in-Here-clause-reached : goal.returns-in-Here-clause-reached
 returns-in-Here-clause-reached c =
     let went = c.look-glance.ensures.goes in
     let leads = c.in-Here.ensures.leads went.0 went.1 in
-    subst (λ (h : Hand Mine). HasReached c.args.from c.args.self.now.store.layout h.seat (reached.Leaf c.look-glance.result)) (sym c.way_in.ensures.same)
+    subst (λ (h : Hand Mine). HasReached c.args.from c.args.self.now.store.layout h.seat (reached.Leaf c.look-glance.result)) (sym c.step_in.ensures.same)
     (page_reached c.args.self.now.store.layout c.args.from c.args.page went.0 (known c.args.hand.now.seat) c.look-glance.new.hand.seat c.look-glance.result c.requires.process went.2 c.look-glance.ensures.reads went.1 Here leads)

@@ -1,6 +1,6 @@
 use Rattle.std.proofs.Common.{rules, ◌++◌, List, [], sym, ap, ◌∙◌, append_assoc, append-nil, arith}
 use Rattle.bl_index.proofs.Ranges.{below_is}
-use Rattle.bl_index.proofs.Onward.{scans_none, goes_on, ends_there, over, nothing_done}
+use Rattle.bl_index.proofs.PartByPart.{scans_none, goes_on, ends_there, over, nothing_done}
 use Rattle.bl_index.proofs.index.Index.scan_into.Goals as goal
 
 pub loop-to-init : goal.loop-to-init

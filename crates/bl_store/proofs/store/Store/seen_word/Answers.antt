@@ -2,7 +2,7 @@ use Rattle.std.proofs.Common.{rules, arith, ap, sym, ◌∙◌}
 use Rattle.bl_layout.specs.declared.layout.Layout.{Layout}
 use Rattle.bl_store.proofs.Time.{copies}
 use Rattle.bl_store.proofs.Living.{live_hand}
-use Rattle.bl_store.proofs.store.Store.word.Goals as goal
+use Rattle.bl_store.proofs.store.Store.seen_word.Goals as goal
 
 pub load-requires : goal.load-requires
 load-requires g c = let st = c.args.self.now in let wide = st.wide in let passes = ap (λ (z : Layout). z.passes) (c.requires.own.1) in let pages = ap (λ (z : Layout). z.pages) (c.requires.own.1) in

@@ -111,10 +111,10 @@ nothing_done first pages pass turns from to room (Err fault) before after old ne
     absurd (not_both to from is (subst (IsBelow to) key m.stopped.left))
 
 module _ (first : List (Option Page)) (pages pass it from at : ℕ) (to : Option ℕ) (next : Next) (listed before after : List (ℕ × ℕ)) (old mid new : Trail) (same : it ≡ pass) (s : Scans first pages pass from to (Some at) listed old mid) (low : from ≤ at) (below : IsBelow to at) where
-  abbrev Onward : Option ℕ → Type 0
-  Onward upto = (rows : List (ℕ × ℕ)) × (after ≡ before ++ rows) × Scans first pages pass from to upto (listed ++ rows) old new
+  abbrev Step : Option ℕ → Type 0
+  Step upto = (rows : List (ℕ × ℕ)) × (after ≡ before ++ rows) × Scans first pages pass from to upto (listed ++ rows) old new
 
-  by_part : AppendsPart first pages it at to next before after mid new → Onward (next_key next)
+  by_part : AppendsPart first pages it at to next before after mid new → Step (next_key next)
   by_part a = let finds : Finds first pages pass (Part at) a.reply mid new = subst (λ (z : ℕ). Finds first pages z (Part at) a.reply mid new) same a.finds in (
     rows_below to a.reply,
     a.appended,
@@ -122,12 +122,12 @@ module _ (first : List (Option Page)) (pages pass it from at : ℕ) (to : Option
   )
 
   -- a scan that goes on behind a part
-  pub goes_on : (n : ℕ) → next ≡ More n → AppendsPart first pages it at to next before after mid new → (at < n) × Onward (Some n)
+  pub goes_on : (n : ℕ) → next ≡ More n → AppendsPart first pages it at to next before after mid new → (at < n) × Step (Some n)
   goes_on n is a = (
     subst (IsBehind at) (a.ends ∙ ap next_key is) (ends_behind first pages it at a.reply mid new a.finds),
-    subst (λ (z : Next). Onward (next_key z)) is (by_part a),
+    subst (λ (z : Next). Step (next_key z)) is (by_part a),
   )
 
   -- a scan that ends with the map
   pub ends_there : next ≡ End → AppendsPart first pages it at to next before after mid new → (rows : List (ℕ × ℕ)) × (after ≡ before ++ rows) × EndsScan first pages pass from to (listed ++ rows) old new
-  ends_there is a = let on : Onward None = subst (λ (z : Next). Onward (next_key z)) is (by_part a) in (on.0, on.1, record { upto = None; over = tt; scans = on.2 })
+  ends_there is a = let on : Step None = subst (λ (z : Next). Step (next_key z)) is (by_part a) in (on.0, on.1, record { upto = None; over = tt; scans = on.2 })

@@ -2,7 +2,7 @@ use Rattle.std.proofs.Common.{[], ◌∷◌, ◌++◌, length, take, set, ap, �
 use Rattle.std.proofs.lemmas.List.{take_more, length-take-le}
 use Rattle.bl_page.specs.Words.{layout, head}
 use Rattle.bl_page.proofs.Writing.{layout_more}
-use Rattle.bl_page.proofs.words.anchor_words.Goals as goal
+use Rattle.bl_page.proofs.spelling.anchor_words.Goals as goal
 
 pub loop-i-preserved : goal.loop-i-preserved
 loop-i-preserved c =

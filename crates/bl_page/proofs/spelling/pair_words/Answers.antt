@@ -2,7 +2,7 @@ use Rattle.std.proofs.Common.{◌+◌, ◌*◌, take, set, get_or, ap, ◌∙◌
 use Rattle.std.proofs.lemmas.List.{take_more, length-take-le}
 use Rattle.bl_page.specs.Words.{layout, entries_of}
 use Rattle.bl_page.proofs.Writing.{layout_pair}
-use Rattle.bl_page.proofs.words.pair_words.Goals as goal
+use Rattle.bl_page.proofs.spelling.pair_words.Goals as goal
 
 pub loop-i-preserved : goal.loop-i-preserved
 loop-i-preserved c =
