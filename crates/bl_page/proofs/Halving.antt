@@ -188,6 +188,10 @@ first_alone key words long has none = elim (cases_lt (count_in words) 2) [
 abbrev pub IsReached : ℕ → ℕ → ℕ → Type 0
 IsReached which place number = (which ≤ place → number ≡ 1) × (place < which → number ≡ 0)
 
+-- what was found of a key, told of the place in the words as they stood
+pub is_reached : (which place other number : ℕ) → place ≡ other → (which ≤ other → number ≡ 1) → (other < which → number ≡ 0) → IsReached which place number
+is_reached which place other number same one none = ((λ h. one (omega (arith, h, same))), λ h. none (omega (arith, h, same)))
+
 reached-either : (which place number : ℕ) → IsReached which place number → ((which ≤ place) × (number ≡ 1)) ⊎ ((place < which) × (number ≡ 0))
 reached-either which place number is = elim (cases_lt place which) [
   | inl past ↦ inr (past, is.1 past)

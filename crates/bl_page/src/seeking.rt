@@ -87,6 +87,24 @@ fn reached_behind<W: Words>(
     }
 }
 
+/// The place before the part of a page in which the place of a key is. Each part has three keys.
+#[inline(always)]
+fn part_in<W: Words>(source: &W, hand: &mut W::Hand, used: &mut u32, key: u64) -> usize
+    requires sees { W.Sees source.now hand.old }
+    requires pairs { HasPairs (W.shown source.now hand.old) }
+    requires room { used.old + 3 ≤ 4294967295 }
+    ensures same { hand.new ≡ hand.old }
+    ensures counted { used.new ≡ used.old + 3 }
+    ensures low { result ≤ place key (pairs_of (W.shown source.now hand.old)) }
+    ensures high { place key (pairs_of (W.shown source.now hand.old)) ≤ result + 3 }
+    ensures most { result ≤ 11 }
+{
+    let fourth = reached(source, hand, used, 4, key);
+    let eighth = reached(source, hand, used, 8, key);
+    let eleventh = reached(source, hand, used, 11, key);
+    4 * fourth + 4 * eighth + 3 * eleventh
+}
+
 /// How many keys are at or below a key, where there are so many. Three keys say in which part of the page the place is, and three
 /// of that part say which it is: two steps, each without a branch, where halving takes four, of which each waits for the one before.
 #[inline(always)]
@@ -106,10 +124,7 @@ pub fn place_in<W: Words>(
     ensures place { result ≡ place key (pairs_of (W.shown source.now hand.old)) }
     ensures within { result ≤ count }
 {
-    let fourth = reached(source, hand, used, 4, key);
-    let eighth = reached(source, hand, used, 8, key);
-    let eleventh = reached(source, hand, used, 11, key);
-    let before = 4 * fourth + 4 * eighth + 3 * eleventh;
+    let before = part_in(source, hand, used, key);
     let first = reached_within(source, hand, used, count, before + 1, key);
     let second = reached(source, hand, used, before + 2, key);
     let third = reached(source, hand, used, before + 3, key);
@@ -128,10 +143,7 @@ fn only_place_in<W: Words>(source: &W, hand: &mut W::Hand, used: &mut u32, key: 
     ensures place { 0 < place key (pairs_of (W.shown source.now hand.old)) → result ≡ place key (pairs_of (W.shown source.now hand.old)) }
     ensures within { result ≤ 14 }
 {
-    let fourth = reached(source, hand, used, 4, key);
-    let eighth = reached(source, hand, used, 8, key);
-    let eleventh = reached(source, hand, used, 11, key);
-    let before = 4 * fourth + 4 * eighth + 3 * eleventh;
+    let before = part_in(source, hand, used, key);
     let first = reached_behind(source, hand, used, before + 1, key);
     let second = reached(source, hand, used, before + 2, key);
     let third = reached(source, hand, used, before + 3, key);
