@@ -39,18 +39,20 @@ fn latches_refuse_a_second_hand(rt: HostRuntime) -> Result<(), Fail> {
 fn glances_show_one_put(rt: HostRuntime) -> Result<(), Fail> {
     let (store, mut one, mut two) = two_hands(rt.alloc(), 4)?;
     begin(&store, &mut one);
-    let Some(mut first) = glance(&store, &mut one, 1) else {
+    let Some(first) = glance(&store, &mut one, 1) else {
         assert!(rt; false);
         return Ok(());
     };
     let changed = change(&store, &mut two, 1, 7);
+    let mut first = first.having(0);
     let least = store.word(&mut one, &mut first, 0);
     let last = store.word(&mut one, &mut first, 31);
     assert!(rt; changed && least == 1 && last == 1 && first.used() == 2);
-    let Some(mut second) = glance(&store, &mut one, 1) else {
+    let Some(second) = glance(&store, &mut one, 1) else {
         assert!(rt; false);
         return Ok(());
     };
+    let mut second = second.having(0);
     let least = store.word(&mut one, &mut second, 0);
     let last = store.word(&mut one, &mut second, 31);
     assert!(rt; least == 7 && last == 7 && second.used() == 2);
