@@ -21,7 +21,7 @@ use Rattle.bl_ways.specs.Approaches.{approach_next, Approaches}
 use Rattle.bl_compress.specs.declared.compressing.Family.{Family}
 use Rattle.bl_compress.specs.declared.compressing.Fate.{Fate}
 use Rattle.bl_compress.specs.declared.compressing.Compression.{Compression}
-use Rattle.bl_compress.specs.declared.compressing.Compression.TheVariants.{LatchingLeft, LatchedLeft, LatchingRight, LatchedRight, PuttingFirst, PuttingParent, PuttingLast, Retiring, OpeningRight, OpeningLeft, OpeningParent}
+use Rattle.bl_compress.specs.declared.compressing.Compression.TheVariants.{LatchingLeft}
 use Rattle.bl_compress.specs.declared.compressing.Compressed.{Compressed}
 use Rattle.bl_compress.specs.declared.compressing.Compressed.TheVariants as step
 use Rattle.bl_compress.specs.declared.squeezing.Compress.{Compress}
@@ -198,12 +198,6 @@ module _ (level key : ℕ) where
   stage_one least old what r g = absurd g
 
 compress_only : (old : Compress) (what : Seen) (g : One (CompressGoes old.level old.key old.stage what)) (other : Proc) → Takes (proc.Compress old) what other → other ≡ proc.Compress (record { level = old.level; key = old.key; stage = g.new; least = old.least; most = old.most })
-compress_only old what g (proc.Find f) t = absurd t
-compress_only old what g (proc.Part f) t = absurd t
-compress_only old what g (proc.Reclaim f) t = absurd t
-compress_only old what g (proc.Post f) t = absurd t
-compress_only old what g (proc.Insert f) t = absurd t
-compress_only old what g (proc.Delete f) t = absurd t
 compress_only old what g (proc.Compress f) t = (let e = g.only f.stage t.2 in λ i. proc.Compress (record {
   level = t.0 i;
   key = t.1 i;
@@ -211,6 +205,7 @@ compress_only old what g (proc.Compress f) t = (let e = g.only f.stage t.2 in λ
   least = is_prop→PathP (λ i. 0 < t.0 i) (λ i. le_prop) f.least old.least i;
   most = is_prop→PathP (λ i. t.0 i ≤ 12) (λ i. le_prop) f.most old.most i;
 }))
+compress_only old what g new t = absurd t
 
 pub compress_goes : (old : Compress) (what : Seen) → compress_answer_in old.stage ≡ None → Gives (compress_next_in old.stage) (compress_needs_in old.stage) what → GoesOn (proc.Compress old) what
 compress_goes old what running given =

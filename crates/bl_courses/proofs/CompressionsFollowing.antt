@@ -1,14 +1,11 @@
 -- What a process that compresses wants, and what follows.
-use Rattle.std.proofs.Common.{ℕ, suc, ◌≡◌, ◌≢◌, Some, None, refl, sym, ap, ◌∙◌, subst, arith}
+use Rattle.std.proofs.Common.{ℕ, suc, ◌≡◌, ◌≢◌, Some, None, refl, sym, ap, ◌∙◌, arith}
 use Rattle.bl_page.specs.declared.page.Page.{Page}
 use Rattle.bl_rearrange.specs.declared.sides.Side.{Side}
 use Rattle.bl_rearrange.specs.declared.sides.Side.TheVariants as side
 use Rattle.bl_ways.specs.declared.acts.Action.TheVariants as act
 use Rattle.bl_ways.specs.declared.acts.Seen.{Seen}
 use Rattle.bl_ways.specs.declared.acts.Seen.TheVariants as seen
-use Rattle.bl_ways.specs.declared.approaching.Approach.{Approach}
-use Rattle.bl_ways.specs.declared.approaching.Approach.TheVariants as way
-use Rattle.bl_ways.specs.Approaches.{approach_next}
 use Rattle.bl_compress.specs.declared.compressing.Trio.{Trio}
 use Rattle.bl_compress.specs.declared.compressing.Family.{Family}
 use Rattle.bl_compress.specs.declared.compressing.Puts.{Puts}
@@ -20,12 +17,14 @@ use Rattle.bl_compress.specs.declared.compressing.Compressed.TheVariants as comp
 use Rattle.bl_compress.specs.declared.squeezing.Compress.{Compress}
 use Rattle.bl_compress.specs.declared.squeezing.CompressStage.{CompressStage}
 use Rattle.bl_compress.specs.declared.squeezing.CompressStage.TheVariants as compress
-use Rattle.bl_compress.specs.Compressions.{put_of, other, after_puts, compression_next, compression_needs, Links, Decides, Compresses}
-use Rattle.bl_compress.specs.Compresses.{compress_next_in, compress_needs_in, compress_answer_in, CompressArrives, CompressGoes}
+use Rattle.bl_compress.specs.Compressions.{put_of, other, after_puts, compression_next, compression_needs, Links, Decides}
+use Rattle.bl_compress.specs.Compresses.{compress_next_in, compress_needs_in, compress_answer_in}
 use Rattle.bl_proc.specs.declared.kinds.Proc.TheVariants as proc
 use Rattle.bl_proc.specs.Processes.{Takes}
 use Rattle.bl_courses.specs.Frames.{compression_frames, compress_frames, Wants, Leaves, Follows}
 use Rattle.bl_courses.proofs.Following.{approach_wants, approach_leaves, not_begin_way}
+use Rattle.bl_courses.proofs.WayCases.{SqueezeCase, squeeze_case}
+use Rattle.bl_courses.proofs.KindCases.{CompressCase, compress_case}
 
 -- the put of a child, whichever it is
 first_wants : (s : Side) (p : Puts) → Wants (put_of s p) (Some (0, 3)) 0
@@ -88,10 +87,6 @@ decides_frames f c d (step.OpeningRight at fate.Enough) t = refl
 decides_frames f c d (step.OpeningRight at fate.Lost) t = refl
 decides_frames f c d old t = absurd t
 
-arrives_frames : (key x : ℕ) (c : Page) (e : Compression) → CompressArrives key x c (compress.Compressing e) → compression_frames e ≡ 0
-arrives_frames key x c (step.LatchingLeft g) t = refl
-arrives_frames key x c old t = absurd t
-
 after_frames : (at : Trio) (became : Fate) → compression_frames (after_puts at became) ≡ 0
 after_frames at (fate.Merged h) = refl
 after_frames at fate.Evened = refl
@@ -101,36 +96,23 @@ after_frames at fate.Refused = refl
 after_frames at fate.Lost = refl
 
 -- a compression of two children that goes on, and one that is over
-compression_leaves : (c e : Compression) (what : Seen) → Compresses c what (compressed.On e) → Leaves (compression_next c) (compression_needs c) what (compression_frames c) (compression_frames e)
-compression_leaves (step.LatchingLeft f) e seen.Done t = ap compression_frames t
-compression_leaves (step.LatchingLeft f) e seen.Missed t = ap compression_frames t
-compression_leaves (step.LatchedLeft f) e (seen.Words c) t = links_frames f c e t
-compression_leaves (step.LatchingRight f d) e seen.Done t = ap compression_frames t
-compression_leaves (step.LatchingRight f d) e seen.Missed t = ap compression_frames t
-compression_leaves (step.LatchedRight f d) e (seen.Words c) t = decides_frames f d c e t
-compression_leaves (step.PuttingFirst p) e seen.Done t = first_leaves p.gains p (compression_frames e) (ap compression_frames t)
-compression_leaves (step.PuttingFirst p) e seen.Refused t = first_refused p.gains p (compression_frames e) (ap compression_frames t)
-compression_leaves (step.PuttingParent p) e seen.Done t = sym (ap (λ (n : Compression). suc (compression_frames n)) t)
-compression_leaves (step.PuttingLast p) e seen.Done t = last_leaves (other p.gains) p (compression_frames e) (ap compression_frames t ∙ after_frames p.at p.fate)
-compression_leaves (step.Retiring at z) e seen.Done t = ap compression_frames t
-compression_leaves (step.OpeningRight at z) e seen.Done t = ap compression_frames t
-compression_leaves (step.OpeningLeft at z) e seen.Done t = ap compression_frames t
-compression_leaves (step.OpeningParent x z) e seen.Done t = absurd t
-compression_leaves old e what t = absurd t
+compression_leaves : {c e : Compression} {what : Seen} → SqueezeCase c what (compressed.On e) → Leaves (compression_next c) (compression_needs c) what (compression_frames c) (compression_frames e)
+compression_leaves (SqueezeCase.GotLeft f c e t) = links_frames f c e t
+compression_leaves (SqueezeCase.GotRight f c d e t) = decides_frames f c d e t
+compression_leaves (SqueezeCase.PutFirst p e t) = first_leaves p.gains p (compression_frames e) (ap compression_frames t)
+compression_leaves (SqueezeCase.FirstRefused p e t) = first_refused p.gains p (compression_frames e) (ap compression_frames t)
+compression_leaves (SqueezeCase.PutParent p e t) = sym (ap (λ (n : Compression). suc (compression_frames n)) t)
+compression_leaves (SqueezeCase.PutLast p e t) = last_leaves (other p.gains) p (compression_frames e) (ap compression_frames t ∙ after_frames p.at p.fate)
+compression_leaves (SqueezeCase.LatchLeft f e t) = ap compression_frames t
+compression_leaves (SqueezeCase.MissLeft f e t) = ap compression_frames t
+compression_leaves (SqueezeCase.LatchRight f c e t) = ap compression_frames t
+compression_leaves (SqueezeCase.MissRight f c e t) = ap compression_frames t
+compression_leaves (SqueezeCase.Retired at z e t) = ap compression_frames t
+compression_leaves (SqueezeCase.OpenedRight at z e t) = ap compression_frames t
+compression_leaves (SqueezeCase.OpenedLeft at z e t) = ap compression_frames t
 
-compression_over : (c : Compression) (became : Fate) (what : Seen) → Compresses c what (compressed.Over became) → Leaves (compression_next c) (compression_needs c) what (compression_frames c) 0
-compression_over (step.LatchingLeft f) became seen.Done t = absurd t
-compression_over (step.LatchedLeft f) became seen.Done t = absurd t
-compression_over (step.LatchingRight f d) became seen.Done t = absurd t
-compression_over (step.LatchedRight f d) became seen.Done t = absurd t
-compression_over (step.PuttingFirst p) became seen.Done t = absurd t
-compression_over (step.PuttingParent p) became seen.Done t = absurd t
-compression_over (step.PuttingLast p) became seen.Done t = absurd t
-compression_over (step.Retiring at z) became seen.Done t = absurd t
-compression_over (step.OpeningRight at z) became seen.Done t = absurd t
-compression_over (step.OpeningLeft at z) became seen.Done t = absurd t
-compression_over (step.OpeningParent x z) became seen.Done t = refl
-compression_over old became what t = absurd t
+compression_over : {c : Compression} {became : Fate} {what : Seen} → SqueezeCase c what (compressed.Over became) → Leaves (compression_next c) (compression_needs c) what (compression_frames c) 0
+compression_over (SqueezeCase.OpenedParent x fate _ t) = refl
 
 not_begin_step : (c : Compression) → compression_next c ≢ act.Begin
 not_begin_step (step.LatchingLeft f) e = cc
@@ -145,82 +127,29 @@ not_begin_step (step.OpeningRight at z) e = cc
 not_begin_step (step.OpeningLeft at z) e = cc
 not_begin_step (step.OpeningParent x z) e = cc
 
--- on the way, no frames are there, and none come with the parent
-came_leaves : (key x : ℕ) (c : Page) (a : Approach) (what : Seen) (e : Compression) → CompressArrives key x c (compress.Compressing e) → Leaves (approach_next a) None what 0 (compression_frames e)
-came_leaves key x c a what e t = subst (λ (z : ℕ). Leaves (approach_next a) None what 0 z) (sym (arrives_frames key x c e t)) (approach_leaves a what)
+compress_leaves : {level key : ℕ} {a b : CompressStage} {what : Seen} → CompressCase level key a what b → Leaves (compress_next_in a) (compress_needs_in a) what (compress_frames a) (compress_frames b)
+compress_leaves (CompressCase.Came a what b t) = approach_leaves a what
+compress_leaves (CompressCase.Squeezed c what d t) = compression_leaves (squeeze_case c what _ t)
+compress_leaves (CompressCase.Lost c what a t) = compression_over (squeeze_case c what _ t.1)
+compress_leaves (CompressCase.Finished c what r t) = compression_over (squeeze_case c what _ t.1)
+compress_leaves other = refl
 
-compress_leaves : (level key : ℕ) (a b : CompressStage) (what : Seen) → CompressGoes level key a what b → Leaves (compress_next_in a) (compress_needs_in a) what (compress_frames a) (compress_frames b)
-compress_leaves level key (compress.Coming a) compress.New what t = approach_leaves a what
-compress_leaves level key (compress.Coming a) (compress.Coming n) what t = approach_leaves a what
-compress_leaves level key (compress.Coming way.Start) (compress.Compressing e) seen.Done t = absurd t
-compress_leaves level key (compress.Coming (way.At z)) (compress.Compressing e) what t = came_leaves key t.0 t.1 (way.At z) what e t.3
-compress_leaves level key (compress.Coming (way.Latching z)) (compress.Compressing e) what t = came_leaves key t.0 t.1 (way.Latching z) what e t.3
-compress_leaves level key (compress.Coming (way.Latched z)) (compress.Compressing e) what t = came_leaves key t.0 t.1 (way.Latched z) what e t.3
-compress_leaves level key (compress.Coming (way.Leaving z to)) (compress.Compressing e) what t = came_leaves key t.0 t.1 (way.Leaving z to) what e t.3
-compress_leaves level key (compress.Coming a) (compress.Staying m) what t = approach_leaves a what
-compress_leaves level key (compress.Coming a) (compress.Ending r) what t = approach_leaves a what
-compress_leaves level key (compress.Coming a) (compress.Over r) what t = approach_leaves a what
-compress_leaves level key (compress.Compressing c) (compress.Coming n) what t = compression_over c t.0 what t.1
-compress_leaves level key (compress.Compressing c) (compress.Compressing e) what t = compression_leaves c e what t
-compress_leaves level key (compress.Compressing c) (compress.Ending r) what t = compression_over c t.0 what t.1
-compress_leaves level key compress.New compress.New seen.Done t = absurd t
-compress_leaves level key compress.New (compress.Coming n) seen.Done t = refl
-compress_leaves level key compress.New (compress.Compressing e) seen.Done t = absurd t
-compress_leaves level key compress.New (compress.Staying m) seen.Done t = absurd t
-compress_leaves level key compress.New (compress.Ending r) seen.Done t = absurd t
-compress_leaves level key compress.New (compress.Over r) seen.Done t = absurd t
-compress_leaves level key (compress.Staying x) compress.New seen.Done t = absurd t
-compress_leaves level key (compress.Staying x) (compress.Coming n) seen.Done t = absurd t
-compress_leaves level key (compress.Staying x) (compress.Compressing e) seen.Done t = absurd t
-compress_leaves level key (compress.Staying x) (compress.Staying m) seen.Done t = absurd t
-compress_leaves level key (compress.Staying x) (compress.Ending r) seen.Done t = refl
-compress_leaves level key (compress.Staying x) (compress.Over r) seen.Done t = absurd t
-compress_leaves level key (compress.Ending q) compress.New seen.Done t = absurd t
-compress_leaves level key (compress.Ending q) (compress.Coming n) seen.Done t = absurd t
-compress_leaves level key (compress.Ending q) (compress.Compressing e) seen.Done t = absurd t
-compress_leaves level key (compress.Ending q) (compress.Staying m) seen.Done t = absurd t
-compress_leaves level key (compress.Ending q) (compress.Ending r) seen.Done t = absurd t
-compress_leaves level key (compress.Ending q) (compress.Over r) seen.Done t = refl
-compress_leaves level key old new what t = absurd t
+compress_begun : {level key : ℕ} {a b : CompressStage} {what : Seen} → CompressCase level key a what b → compress_next_in b ≢ act.Begin
+compress_begun (CompressCase.Began a t) = not_begin_way a
+compress_begun (CompressCase.Came a what b t) = not_begin_way b
+compress_begun (CompressCase.Squeezed c what d t) = not_begin_step d
+compress_begun (CompressCase.Lost c what a t) = not_begin_way a
+compress_begun other = λ z. cc
 
-compress_begun : (level key : ℕ) (a b : CompressStage) (what : Seen) → CompressGoes level key a what b → compress_next_in b ≢ act.Begin
-compress_begun level key (compress.Coming way.Start) compress.New seen.Done t = absurd t
-compress_begun level key (compress.Coming (way.At z)) compress.New what t = absurd t.3
-compress_begun level key (compress.Coming (way.Latching z)) compress.New what t = absurd t.3
-compress_begun level key (compress.Coming (way.Latched z)) compress.New what t = absurd t.3
-compress_begun level key (compress.Coming (way.Leaving z to)) compress.New what t = absurd t.3
-compress_begun level key compress.New compress.New seen.Done t = absurd t
-compress_begun level key (compress.Staying x) compress.New seen.Done t = absurd t
-compress_begun level key (compress.Ending q) compress.New seen.Done t = absurd t
-compress_begun level key a (compress.Coming n) what t = not_begin_way n
-compress_begun level key a (compress.Compressing e) what t = not_begin_step e
-compress_begun level key a (compress.Staying m) what t = λ z. cc
-compress_begun level key a (compress.Ending r) what t = λ z. cc
-compress_begun level key a (compress.Over r) what t = λ z. cc
-compress_begun level key a old what t = absurd t
-
-compress_running : (level key : ℕ) (a b : CompressStage) (what : Seen) → CompressGoes level key a what b → compress_next_in a ≢ act.End → compress_answer_in b ≡ None
-compress_running level key a compress.New what t ne = refl
-compress_running level key a (compress.Coming n) what t ne = refl
-compress_running level key a (compress.Compressing e) what t ne = refl
-compress_running level key a (compress.Staying m) what t ne = refl
-compress_running level key a (compress.Ending r) what t ne = refl
-compress_running level key (compress.Coming way.Start) (compress.Over r) seen.Done t ne = absurd t
-compress_running level key (compress.Coming (way.At z)) (compress.Over r) what t ne = absurd t.3
-compress_running level key (compress.Coming (way.Latching z)) (compress.Over r) what t ne = absurd t.3
-compress_running level key (compress.Coming (way.Latched z)) (compress.Over r) what t ne = absurd t.3
-compress_running level key (compress.Coming (way.Leaving z to)) (compress.Over r) what t ne = absurd t.3
-compress_running level key compress.New (compress.Over r) seen.Done t ne = absurd t
-compress_running level key (compress.Staying x) (compress.Over r) seen.Done t ne = absurd t
-compress_running level key (compress.Ending q) (compress.Over r) what t ne = absurd (ne refl)
-compress_running level key (compress.Over q) (compress.Over r) what t ne = absurd (ne refl)
-compress_running level key a old what t ne = absurd t
+compress_running : {level key : ℕ} {a b : CompressStage} {what : Seen} → CompressCase level key a what b → compress_next_in a ≢ act.End → compress_answer_in b ≡ None
+compress_running (CompressCase.Ended r last t) ne = absurd (ne refl)
+compress_running other ne = refl
 
 pub compress_follows : (p q : Compress) (what : Seen) → Takes (proc.Compress p) what (proc.Compress q) → Follows (proc.Compress p) what (proc.Compress q)
-compress_follows p q what t = record {
-  frames = compress_leaves p.level p.key p.stage q.stage what t.2;
-  begun = compress_begun p.level p.key p.stage q.stage what t.2;
+compress_follows p q what t = (let is = compress_case p.level p.key p.stage what q.stage t.2 in record {
+  frames = compress_leaves is;
+  begun = compress_begun is;
   op = refl;
   work = λ i. Some (t.0 i, t.1 i);
-  running = compress_running p.level p.key p.stage q.stage what t.2;
-}
+  running = compress_running is;
+})

@@ -13,9 +13,9 @@ use Rattle.bl_compress.specs.declared.compressing.Trio.{Trio}
 use Rattle.bl_compress.specs.declared.compressing.Family.{Family}
 use Rattle.bl_compress.specs.declared.compressing.Puts.{Puts}
 use Rattle.bl_compress.specs.declared.compressing.Fate.{Fate}
-use Rattle.bl_compress.specs.declared.compressing.Fate.TheVariants.{Merged, Evened as EvenedOut, Enough, Unposted, Refused, Lost}
+use Rattle.bl_compress.specs.declared.compressing.Fate.TheVariants.{Merged, Evened as EvenedOut, Enough, Unposted, Lost}
 use Rattle.bl_compress.specs.declared.compressing.Compression.{Compression}
-use Rattle.bl_compress.specs.declared.compressing.Compression.TheVariants.{LatchingLeft, LatchedLeft, LatchingRight, LatchedRight, PuttingFirst, PuttingParent, PuttingLast, Retiring, OpeningRight, OpeningLeft, OpeningParent}
+use Rattle.bl_compress.specs.declared.compressing.Compression.TheVariants.{LatchingRight, PuttingFirst, OpeningRight, OpeningLeft}
 use Rattle.bl_compress.specs.Compressions.{merge_hint, Merges, Relists, IsFew, MayEven, Evens, Decides, Links}
 use Rattle.bl_courses.specs.One.{One}
 use Rattle.bl_courses.proofs.Pages.{without_one, without_some}

@@ -303,12 +303,6 @@ module _ (level key : ℕ) where
   stage_one least old what r g = absurd g
 
 post_only : (old : Post) (what : Seen) (g : One (PostGoes old.level old.key old.stage what)) (other : Proc) → Takes (proc.Post old) what other → other ≡ proc.Post (record { level = old.level; key = old.key; stage = g.new; least = old.least; most = old.most; below = goes_below old.level old.key old.stage what g.new old.below g.goes })
-post_only old what g (proc.Find f) t = absurd t
-post_only old what g (proc.Part f) t = absurd t
-post_only old what g (proc.Reclaim f) t = absurd t
-post_only old what g (proc.Compress f) t = absurd t
-post_only old what g (proc.Insert f) t = absurd t
-post_only old what g (proc.Delete f) t = absurd t
 post_only old what g (proc.Post f) t = (let e = g.only f.stage t.2 in λ i. proc.Post (record {
   level = t.0 i;
   key = t.1 i;
@@ -317,6 +311,7 @@ post_only old what g (proc.Post f) t = (let e = g.only f.stage t.2 in λ i. proc
   most = is_prop→PathP (λ i. t.0 i ≤ 12) (λ i. le_prop) f.most old.most i;
   below = is_prop→PathP (λ i. IsBelowTop (t.0 i) (e i)) (λ i. IsBelowTop-prop (t.0 i) (e i)) f.below (goes_below old.level old.key old.stage what g.new old.below g.goes) i;
 }))
+post_only old what g new t = absurd t
 
 pub post_goes : (old : Post) (what : Seen) → post_answer_in old.level old.stage ≡ None → Gives (post_next_in old.stage) (post_needs_in old.stage) what → GoesOn (proc.Post old) what
 post_goes old what running given =

@@ -3,8 +3,6 @@ use Rattle.std.proofs.Common.{ℕ, ◌≡◌, ◌⊎◌, None, Some, refl, subst
 use Rattle.bl_page.specs.declared.page.Page.{Page}
 use Rattle.bl_ways.specs.declared.acts.Seen.{Seen}
 use Rattle.bl_ways.specs.declared.acts.Seen.TheVariants as seen
-use Rattle.bl_ways.specs.declared.approaching.Approach.{Approach}
-use Rattle.bl_ways.specs.declared.approaching.Approach.TheVariants as way
 use Rattle.bl_compress.specs.declared.compressing.Trio.{Trio}
 use Rattle.bl_compress.specs.declared.compressing.Family.{Family}
 use Rattle.bl_compress.specs.declared.compressing.Fate.{Fate}
@@ -13,13 +11,13 @@ use Rattle.bl_compress.specs.declared.compressing.Compression.{Compression}
 use Rattle.bl_compress.specs.declared.compressing.Compression.TheVariants.{LatchingLeft, LatchedLeft, LatchingRight, LatchedRight, PuttingFirst, PuttingParent, PuttingLast, Retiring, OpeningRight, OpeningLeft, OpeningParent}
 use Rattle.bl_compress.specs.declared.compressing.Compressed.{Compressed}
 use Rattle.bl_compress.specs.declared.compressing.Compressed.TheVariants as step
-use Rattle.bl_compress.specs.Compressions.{Links, Decides, after_puts, Compresses}
+use Rattle.bl_compress.specs.Compressions.{Links, Decides, after_puts}
 use Rattle.bl_compress.specs.declared.squeezing.CompressReply.{CompressReply}
-use Rattle.bl_compress.specs.declared.squeezing.CompressReply.TheVariants as pressed
 use Rattle.bl_compress.specs.declared.squeezing.CompressStage.{CompressStage}
-use Rattle.bl_compress.specs.declared.squeezing.CompressStage.TheVariants as compress
 use Rattle.bl_courses.specs.Refusals.{FateRefused, SqueezeRefused, PressNoRoom, CompressRefused, SqueezePuts, CompressPuts}
-use Rattle.bl_compress.specs.Compresses.{compress_reply, CompressStarts, CompressArrives, CompressNears, CompressComes, CompressGoes}
+use Rattle.bl_compress.specs.Compresses.{compress_reply}
+use Rattle.bl_courses.proofs.WayCases.{SqueezeCase, squeeze_case}
+use Rattle.bl_courses.proofs.KindCases.{CompressCase}
 
 -- Steps of the compression of two children
 
@@ -66,22 +64,21 @@ abbrev StepRefused : Compressed → Type 0
 StepRefused (step.On d) = SqueezeRefused d
 StepRefused (step.Over end) = FateRefused end
 
-squeezes_refused : (c : Compression) (what : Seen) (new : Compressed) → Compresses c what new → StepRefused new → SqueezeRefused c ⊎ (what ≡ seen.Refused)
-squeezes_refused (LatchingLeft f) seen.Done (step.On d) h r = absurd (subst SqueezeRefused h r)
-squeezes_refused (LatchingLeft f) seen.Missed (step.On d) h r = absurd (subst SqueezeRefused h r)
-squeezes_refused (LatchedLeft f) (seen.Words y) (step.On d) h r = absurd (links_not f y d h r)
-squeezes_refused (LatchingRight f page) seen.Done (step.On d) h r = absurd (subst SqueezeRefused h r)
-squeezes_refused (LatchingRight f page) seen.Missed (step.On d) h r = absurd (subst SqueezeRefused h r)
-squeezes_refused (LatchedRight f page) (seen.Words y) (step.On d) h r = absurd (decides_not f page y d h r)
-squeezes_refused (PuttingFirst u) seen.Done (step.On d) h r = inl (subst SqueezeRefused h r)
-squeezes_refused (PuttingFirst u) seen.Refused (step.On d) h r = inr refl
-squeezes_refused (PuttingParent u) seen.Done (step.On d) h r = inl (subst SqueezeRefused h r)
-squeezes_refused (PuttingLast u) seen.Done (step.On d) h r = inl (after_refused u.at u.fate (subst SqueezeRefused h r))
-squeezes_refused (Retiring at end) seen.Done (step.On d) h r = inl (subst SqueezeRefused h r)
-squeezes_refused (OpeningRight at end) seen.Done (step.On d) h r = inl (subst SqueezeRefused h r)
-squeezes_refused (OpeningLeft at end) seen.Done (step.On d) h r = inl (subst SqueezeRefused h r)
-squeezes_refused (OpeningParent x end) seen.Done (step.Over o) h r = inl (subst FateRefused h r)
-squeezes_refused old what new h r = absurd h
+squeezes_refused : {c : Compression} {what : Seen} {new : Compressed} → SqueezeCase c what new → StepRefused new → SqueezeRefused c ⊎ (what ≡ seen.Refused)
+squeezes_refused (SqueezeCase.GotLeft f c d t) r = inl (links_not f c d t r)
+squeezes_refused (SqueezeCase.GotRight f c e d t) r = inl (decides_not f c e d t r)
+squeezes_refused (SqueezeCase.FirstRefused u d t) r = inr refl
+squeezes_refused (SqueezeCase.PutLast u d t) r = inl (after_refused u.at u.fate (subst SqueezeRefused t r))
+squeezes_refused (SqueezeCase.OpenedParent x end _ t) r = inl (subst FateRefused t r)
+squeezes_refused (SqueezeCase.LatchLeft f d t) r = inl (subst SqueezeRefused t r)
+squeezes_refused (SqueezeCase.MissLeft f d t) r = inl (subst SqueezeRefused t r)
+squeezes_refused (SqueezeCase.LatchRight f c d t) r = inl (subst SqueezeRefused t r)
+squeezes_refused (SqueezeCase.MissRight f c d t) r = inl (subst SqueezeRefused t r)
+squeezes_refused (SqueezeCase.PutFirst u d t) r = inl (subst SqueezeRefused t r)
+squeezes_refused (SqueezeCase.PutParent u d t) r = inl (subst SqueezeRefused t r)
+squeezes_refused (SqueezeCase.Retired at end d t) r = inl (subst SqueezeRefused t r)
+squeezes_refused (SqueezeCase.OpenedRight at end d t) r = inl (subst SqueezeRefused t r)
+squeezes_refused (SqueezeCase.OpenedLeft at end d t) r = inl (subst SqueezeRefused t r)
 
 -- What is decided is never refused.
 after_puts_not : (at : Trio) (end : Fate) → SqueezePuts (after_puts at end) → ⊥
@@ -99,76 +96,22 @@ puts_are (PuttingLast u) r = r
 puts_are (Retiring at end) r = r
 puts_are old r = absurd r
 
-squeezes_puts : (c : Compression) (what : Seen) (d : Compression) → Compresses c what (step.On d) → SqueezePuts d → SqueezePuts c
-squeezes_puts (LatchingLeft f) seen.Done d h r = absurd (subst SqueezePuts h r)
-squeezes_puts (LatchingLeft f) seen.Missed d h r = absurd (subst SqueezePuts h r)
-squeezes_puts (LatchedLeft f) (seen.Words y) d h r = absurd (links_not f y d h (puts_are d r))
-squeezes_puts (LatchingRight f page) seen.Done d h r = absurd (subst SqueezePuts h r)
-squeezes_puts (LatchingRight f page) seen.Missed d h r = absurd (subst SqueezePuts h r)
-squeezes_puts (LatchedRight f page) (seen.Words y) d h r = absurd (decides_not f page y d h (puts_are d r))
-squeezes_puts (PuttingFirst u) seen.Done d h r = subst SqueezePuts h r
-squeezes_puts (PuttingFirst u) seen.Refused d h r = absurd (subst SqueezePuts h r)
-squeezes_puts (PuttingParent u) seen.Done d h r = subst SqueezePuts h r
-squeezes_puts (PuttingLast u) seen.Done d h r = absurd (after_puts_not u.at u.fate (subst SqueezePuts h r))
-squeezes_puts (Retiring at end) seen.Done d h r = absurd (subst SqueezePuts h r)
-squeezes_puts (OpeningRight at end) seen.Done d h r = subst SqueezePuts h r
-squeezes_puts (OpeningLeft at end) seen.Done d h r = subst SqueezePuts h r
-squeezes_puts (OpeningParent x end) seen.Done d h r = absurd h
-squeezes_puts old what d h r = absurd h
+squeezes_puts : {c d : Compression} {what : Seen} → SqueezeCase c what (step.On d) → SqueezePuts d → SqueezePuts c
+squeezes_puts (SqueezeCase.LatchLeft f d t) r = subst SqueezePuts t r
+squeezes_puts (SqueezeCase.MissLeft f d t) r = subst SqueezePuts t r
+squeezes_puts (SqueezeCase.GotLeft f c d t) r = links_not f c d t (puts_are d r)
+squeezes_puts (SqueezeCase.LatchRight f c d t) r = subst SqueezePuts t r
+squeezes_puts (SqueezeCase.MissRight f c d t) r = subst SqueezePuts t r
+squeezes_puts (SqueezeCase.GotRight f c e d t) r = decides_not f c e d t (puts_are d r)
+squeezes_puts (SqueezeCase.PutFirst u d t) r = subst SqueezePuts t r
+squeezes_puts (SqueezeCase.FirstRefused u d t) r = absurd (subst SqueezePuts t r)
+squeezes_puts (SqueezeCase.PutParent u d t) r = subst SqueezePuts t r
+squeezes_puts (SqueezeCase.PutLast u d t) r = absurd (after_puts_not u.at u.fate (subst SqueezePuts t r))
+squeezes_puts (SqueezeCase.Retired at end d t) r = absurd (subst SqueezePuts t r)
+squeezes_puts (SqueezeCase.OpenedRight at end d t) r = subst SqueezePuts t r
+squeezes_puts (SqueezeCase.OpenedLeft at end d t) r = subst SqueezePuts t r
 
 -- Steps of its process
-
-arrives_not : (key x : ℕ) (c : Page) (new : CompressStage) → CompressArrives key x c new → CompressRefused new → ⊥
-arrives_not key x c compress.New h r = r
-arrives_not key x c (compress.Coming a) h r = r
-arrives_not key x c (compress.Compressing (LatchingLeft f)) h r = r
-arrives_not key x c (compress.Compressing (LatchedLeft f)) h r = h
-arrives_not key x c (compress.Compressing (LatchingRight f page)) h r = h
-arrives_not key x c (compress.Compressing (LatchedRight f page)) h r = h
-arrives_not key x c (compress.Compressing (PuttingFirst u)) h r = h
-arrives_not key x c (compress.Compressing (PuttingParent u)) h r = h
-arrives_not key x c (compress.Compressing (PuttingLast u)) h r = h
-arrives_not key x c (compress.Compressing (Retiring at end)) h r = h
-arrives_not key x c (compress.Compressing (OpeningRight at end)) h r = h
-arrives_not key x c (compress.Compressing (OpeningLeft at end)) h r = h
-arrives_not key x c (compress.Compressing (OpeningParent y end)) h r = h
-arrives_not key x c (compress.Staying y) h r = r
-arrives_not key x c (compress.Ending s) h r = h
-arrives_not key x c (compress.Over s) h r = h
-
-nears_not : (level key : ℕ) (a : Approach) (what : Seen) (new : CompressStage) → CompressNears level key a what new → CompressRefused new → ⊥
-nears_not level key a what (compress.Coming b) h r = r
-nears_not level key a what compress.New h r = r
-nears_not level key a what (compress.Compressing d) h r = arrives_not key h.0 h.1 (compress.Compressing d) h.3 r
-nears_not level key a what (compress.Staying x) h r = r
-nears_not level key a what (compress.Ending s) h r = arrives_not key h.0 h.1 (compress.Ending s) h.3 r
-nears_not level key a what (compress.Over s) h r = arrives_not key h.0 h.1 (compress.Over s) h.3 r
-
-starts_not : (level key : ℕ) (c : Page) (new : CompressStage) → CompressStarts level key c new → CompressRefused new → ⊥
-starts_not level key c compress.New h r = r
-starts_not level key c (compress.Coming a) h r = r
-starts_not level key c (compress.Compressing d) h r = h
-starts_not level key c (compress.Staying x) h r = r
-starts_not level key c (compress.Ending (pressed.Merged s)) h r = r
-starts_not level key c (compress.Ending pressed.Evened) h r = r
-starts_not level key c (compress.Ending pressed.Enough) h r = r
-starts_not level key c (compress.Ending pressed.Alone) h r = r
-starts_not level key c (compress.Ending (pressed.Unposted s)) h r = r
-starts_not level key c (compress.Ending pressed.NoRoom) h r = h
-starts_not level key c (compress.Over s) h r = h
-
-press_comes_not : (level key : ℕ) (a : Approach) (what : Seen) (new : CompressStage) → CompressComes level key a what new → CompressRefused new → ⊥
-press_comes_not level key way.Start seen.Done new h r = h
-press_comes_not level key way.Start (seen.Words y) new h r = starts_not level key y new h r
-press_comes_not level key way.Start (seen.Took y) new h r = h
-press_comes_not level key way.Start (seen.Owner retired started own) new h r = h
-press_comes_not level key way.Start (seen.Blocks it) new h r = h
-press_comes_not level key way.Start seen.Missed new h r = h
-press_comes_not level key way.Start seen.Refused new h r = h
-press_comes_not level key (way.At x) what new h r = nears_not level key (way.At x) what new h r
-press_comes_not level key (way.Latching x) what new h r = nears_not level key (way.Latching x) what new h r
-press_comes_not level key (way.Latched x) what new h r = nears_not level key (way.Latched x) what new h r
-press_comes_not level key (way.Leaving x to) what new h r = nears_not level key (way.Leaving x to) what new h r
 
 some_reply : (a b : CompressReply) → Some a ≡ Some b → PressNoRoom b → PressNoRoom a
 some_reply a b e r = (let f : b ≡ a = cc in subst PressNoRoom f r)
@@ -181,35 +124,16 @@ refused_fate (fate.Unposted hint) r e none = some_reply _ r e none
 refused_fate fate.Refused r e none = tt
 refused_fate fate.Lost r e none = absurd (let f : None ≡ Some r = e in cc)
 
-pub compress_refused : (level key : ℕ) (a : CompressStage) (what : Seen) (b : CompressStage) → CompressGoes level key a what b → CompressRefused b → CompressRefused a ⊎ (what ≡ seen.Refused)
-compress_refused level key a what compress.New h r = absurd r
-compress_refused level key a what (compress.Coming w) h r = absurd r
-compress_refused level key a what (compress.Staying x) h r = absurd r
-compress_refused level key (compress.Coming w) what (compress.Compressing d) h r = absurd (press_comes_not level key w what (compress.Compressing d) h r)
-compress_refused level key (compress.Coming w) what (compress.Ending s) h r = absurd (press_comes_not level key w what (compress.Ending s) h r)
-compress_refused level key (compress.Coming w) what (compress.Over s) h r = absurd (press_comes_not level key w what (compress.Over s) h r)
-compress_refused level key (compress.Compressing c) what (compress.Compressing d) h r = squeezes_refused c what (step.On d) h r
-compress_refused level key (compress.Compressing c) what (compress.Ending s) h r = squeezes_refused c what (step.Over h.0) h.1 (refused_fate h.0 s h.2 r)
-compress_refused level key compress.New seen.Done (compress.Compressing d) h r = absurd h
-compress_refused level key compress.New seen.Done (compress.Ending s) h r = absurd h
-compress_refused level key compress.New seen.Done (compress.Over s) h r = absurd h
-compress_refused level key (compress.Staying x) seen.Done (compress.Compressing d) h r = absurd h
-compress_refused level key (compress.Staying x) seen.Done (compress.Ending s) h r = absurd (subst PressNoRoom h r)
-compress_refused level key (compress.Staying x) seen.Done (compress.Over s) h r = absurd h
-compress_refused level key (compress.Ending t) seen.Done (compress.Compressing d) h r = absurd h
-compress_refused level key (compress.Ending t) seen.Done (compress.Ending s) h r = absurd h
-compress_refused level key (compress.Ending t) seen.Done (compress.Over s) h r = inl (subst PressNoRoom h r)
-compress_refused level key a what old h r = absurd h
+pub compress_refused : {level key : ℕ} {a b : CompressStage} {what : Seen} → CompressCase level key a what b → CompressRefused b → CompressRefused a ⊎ (what ≡ seen.Refused)
+compress_refused (CompressCase.Squeezed c what d t) r = squeezes_refused (squeeze_case c what _ t) r
+compress_refused (CompressCase.Lost c what a t) r = absurd r
+compress_refused (CompressCase.Finished c what q t) r = squeezes_refused (squeeze_case c what _ t.1) (refused_fate t.0 q t.2 r)
+compress_refused (CompressCase.Opened x q t) r = inl (subst PressNoRoom t r)
+compress_refused (CompressCase.Ended q last t) r = inl (subst PressNoRoom t r)
+compress_refused other r = inl r
 
-pub compress_puts : (level key : ℕ) (a : CompressStage) (what : Seen) (b : CompressStage) → CompressGoes level key a what b → CompressPuts b → CompressPuts a
-compress_puts level key a what compress.New h r = absurd r
-compress_puts level key a what (compress.Coming w) h r = absurd r
-compress_puts level key a what (compress.Staying x) h r = absurd r
-compress_puts level key a what (compress.Ending s) h r = absurd r
-compress_puts level key a what (compress.Over s) h r = absurd r
-compress_puts level key (compress.Coming w) what (compress.Compressing d) h r = absurd (press_comes_not level key w what (compress.Compressing d) h (puts_are d r))
-compress_puts level key (compress.Compressing c) what (compress.Compressing d) h r = squeezes_puts c what d h r
-compress_puts level key compress.New seen.Done (compress.Compressing d) h r = absurd h
-compress_puts level key (compress.Staying x) seen.Done (compress.Compressing d) h r = absurd h
-compress_puts level key (compress.Ending t) seen.Done (compress.Compressing d) h r = absurd h
-compress_puts level key a what old h r = absurd h
+pub compress_puts : {level key : ℕ} {a b : CompressStage} {what : Seen} → CompressCase level key a what b → CompressPuts b → CompressPuts a
+compress_puts (CompressCase.Squeezed c what d t) r = squeezes_puts (squeeze_case c what _ t) r
+compress_puts (CompressCase.Lost c what a t) r = absurd r
+compress_puts (CompressCase.Finished c what q t) r = absurd r
+compress_puts other r = r

@@ -1,6 +1,7 @@
 -- A page is retired right after a put: of the kinds of an index, a compression alone retires one.
 use Rattle.std.proofs.Common.{ℕ, ◌≡◌, refl, subst}
 use Rattle.bl_ways.specs.declared.acts.Action.{Action}
+use Rattle.bl_ways.specs.declared.acts.Action.TheVariants as act
 use Rattle.bl_ways.specs.declared.acts.Seen.{Seen}
 use Rattle.bl_ways.specs.declared.acts.Seen.TheVariants as seen
 use Rattle.bl_ways.specs.declared.approaching.Approach.{Approach}
@@ -37,9 +38,8 @@ use Rattle.bl_compress.specs.declared.compressing.Compression.TheVariants.{Latch
 use Rattle.bl_compress.specs.declared.compressing.Compressed.TheVariants.{On}
 use Rattle.bl_compress.specs.declared.squeezing.Compress.{Compress}
 use Rattle.bl_compress.specs.declared.squeezing.CompressStage.{CompressStage}
-use Rattle.bl_compress.specs.declared.squeezing.CompressStage.TheVariants as compress
-use Rattle.bl_compress.specs.Compressions.{put_of, other, compression_next, Compresses}
-use Rattle.bl_compress.specs.Compresses.{compress_next_in, CompressGoes}
+use Rattle.bl_compress.specs.Compressions.{put_of, other, compression_next, Links, Decides}
+use Rattle.bl_compress.specs.Compresses.{compress_next_in}
 use Rattle.bl_proc.specs.declared.kinds.Proc.TheVariants as proc
 use Rattle.bl_proc.specs.Searches.{find_next_in}
 use Rattle.bl_proc.specs.Inserts.{insert_next_in}
@@ -48,6 +48,8 @@ use Rattle.bl_proc.specs.Posts.{post_next_in}
 use Rattle.bl_proc.specs.Parts.{part_next_in}
 use Rattle.bl_proc.specs.Processes.{next_of, Takes}
 use Rattle.bl_courses.specs.Retirements.{IsPutDone, RetiresAfter}
+use Rattle.bl_courses.proofs.WayCases.{SqueezeCase, squeeze_case}
+use Rattle.bl_courses.proofs.KindCases.{CompressCase, compress_case}
 
 module _ (old : Action) (what : Seen) where
   approach_none : (a : Approach) → RetiresAfter old what (approach_next a)
@@ -124,22 +126,20 @@ put_done side.Left p = tt
 put_done side.Right p = tt
 
 -- a compression that goes on to the retirement
-to_retiring : (c : Compression) (what : Seen) (at : Trio) (fate : Fate) → Compresses c what (On (Retiring at fate)) → IsPutDone (compression_next c) what
-to_retiring (LatchingLeft f) seen.Done at fate t = (let e = t in cc)
-to_retiring (LatchingLeft f) seen.Missed at fate t = (let e = t in cc)
-to_retiring (LatchedLeft f) seen.Done at fate t = absurd t
-to_retiring (LatchingRight f c) seen.Done at fate t = (let e = t in cc)
-to_retiring (LatchingRight f c) seen.Missed at fate t = (let e = t in cc)
-to_retiring (LatchedRight f c) seen.Done at fate t = absurd t
-to_retiring (PuttingFirst p) seen.Done at fate t = (let e = t in cc)
-to_retiring (PuttingFirst p) seen.Refused at fate t = (let e = t in cc)
-to_retiring (PuttingParent p) seen.Done at fate t = (let e = t in cc)
-to_retiring (PuttingLast p) seen.Done at fate t = put_done (other p.gains) p
-to_retiring (Retiring u f) seen.Done at fate t = (let e = t in cc)
-to_retiring (OpeningRight u f) seen.Done at fate t = (let e = t in cc)
-to_retiring (OpeningLeft u f) seen.Done at fate t = (let e = t in cc)
-to_retiring (OpeningParent x f) seen.Done at fate t = absurd t
-to_retiring old what at fate t = absurd t
+to_retiring : {c : Compression} {what : Seen} {d : Compression} {at : Trio} {fate : Fate} → SqueezeCase c what (On d) → d ≡ Retiring at fate → IsPutDone (compression_next c) what
+to_retiring (SqueezeCase.PutLast p d t) e = put_done (other p.gains) p
+to_retiring (SqueezeCase.GotLeft f c d t) e = absurd (subst (Links f c) e t)
+to_retiring (SqueezeCase.GotRight f c g d t) e = absurd (subst (Decides f c g) e t)
+to_retiring (SqueezeCase.LatchLeft f d t) e = cc
+to_retiring (SqueezeCase.MissLeft f d t) e = cc
+to_retiring (SqueezeCase.LatchRight f c d t) e = cc
+to_retiring (SqueezeCase.MissRight f c d t) e = cc
+to_retiring (SqueezeCase.PutFirst p d t) e = cc
+to_retiring (SqueezeCase.FirstRefused p d t) e = cc
+to_retiring (SqueezeCase.PutParent p d t) e = cc
+to_retiring (SqueezeCase.Retired u f d t) e = cc
+to_retiring (SqueezeCase.OpenedRight u f d t) e = cc
+to_retiring (SqueezeCase.OpenedLeft u f d t) e = cc
 
 -- and a process that may come to it from there alone
 after_unless : (old : Action) (what : Seen) (d : Compression) → ((at : Trio) (fate : Fate) → d ≡ Retiring at fate → IsPutDone old what) → RetiresAfter old what (compression_next d)
@@ -155,25 +155,12 @@ after_unless old what (OpeningRight at fate) done = tt
 after_unless old what (OpeningLeft at fate) done = tt
 after_unless old what (OpeningParent x fate) done = tt
 
-stage_to_retiring : (level key : ℕ) (a : CompressStage) (what : Seen) (at : Trio) (fate : Fate) → CompressGoes level key a what (compress.Compressing (Retiring at fate)) → IsPutDone (compress_next_in a) what
-stage_to_retiring level key compress.New seen.Done at fate t = absurd t
-stage_to_retiring level key (compress.Coming way.Start) seen.Done at fate t = absurd t
-stage_to_retiring level key (compress.Coming (way.At x)) what at fate t = absurd t.3
-stage_to_retiring level key (compress.Coming (way.Latching x)) what at fate t = absurd t.3
-stage_to_retiring level key (compress.Coming (way.Latched x)) what at fate t = absurd t.3
-stage_to_retiring level key (compress.Coming (way.Leaving x to)) what at fate t = absurd t.3
-stage_to_retiring level key (compress.Compressing c) what at fate t = to_retiring c what at fate t
-stage_to_retiring level key (compress.Staying x) seen.Done at fate t = absurd t
-stage_to_retiring level key (compress.Ending r) seen.Done at fate t = absurd t
-stage_to_retiring level key old what at fate t = absurd t
-
-stage_after : (level key : ℕ) (a b : CompressStage) (what : Seen) → CompressGoes level key a what b → RetiresAfter (compress_next_in a) what (compress_next_in b)
-stage_after level key a compress.New what t = tt
-stage_after level key a (compress.Coming w) what t = approach_none (compress_next_in a) what w
-stage_after level key a (compress.Compressing d) what t = after_unless (compress_next_in a) what d (λ at fate e. stage_to_retiring level key a what at fate (subst (λ (z : Compression). CompressGoes level key a what (compress.Compressing z)) e t))
-stage_after level key a (compress.Staying x) what t = tt
-stage_after level key a (compress.Ending r) what t = tt
-stage_after level key a (compress.Over r) what t = tt
+stage_after : {level key : ℕ} {a b : CompressStage} {what : Seen} → CompressCase level key a what b → RetiresAfter (compress_next_in a) what (compress_next_in b)
+stage_after (CompressCase.Began w t) = approach_none act.Begin seen.Done w
+stage_after (CompressCase.Came a what b t) = approach_none (approach_next a) what b
+stage_after (CompressCase.Squeezed c what d t) = after_unless (compression_next c) what d (λ at fate e. to_retiring (squeeze_case c what _ t) e)
+stage_after (CompressCase.Lost c what a t) = approach_none (compression_next c) what a
+stage_after other = tt
 
 pub find_retires : (p q : Find) (what : Seen) → Takes (proc.Find p) what (proc.Find q) → RetiresAfter (next_of (proc.Find p)) what (next_of (proc.Find q))
 find_retires p q what t = find_none (next_of (proc.Find p)) what q.stage
@@ -191,4 +178,4 @@ pub part_retires : (p q : Part) (what : Seen) → Takes (proc.Part p) what (proc
 part_retires p q what t = part_none (next_of (proc.Part p)) what q.stage
 
 pub compress_retires : (p q : Compress) (what : Seen) → Takes (proc.Compress p) what (proc.Compress q) → RetiresAfter (next_of (proc.Compress p)) what (next_of (proc.Compress q))
-compress_retires p q what t = stage_after p.level p.key p.stage q.stage what t.2
+compress_retires p q what t = stage_after (compress_case p.level p.key p.stage what q.stage t.2)

@@ -9,7 +9,7 @@ use Rattle.bl_ways.specs.declared.onwards.Step.TheVariants.{Again, Right, Down, 
 use Rattle.bl_ways.specs.Given.{Gives}
 use Rattle.bl_ways.specs.Onwards.{top_of, Leads}
 use Rattle.bl_proc.specs.declared.kinds.Proc.{Proc}
-use Rattle.bl_proc.specs.declared.kinds.Proc.TheVariants.{Find, Insert, Delete, Post, Part, Compress, Reclaim}
+use Rattle.bl_proc.specs.declared.kinds.Proc.TheVariants.{Find}
 use Rattle.bl_proc.specs.declared.searching.Find.{Find as FindState}
 use Rattle.bl_proc.specs.declared.searching.FindStage.{FindStage}
 use Rattle.bl_proc.specs.declared.searching.FindStage.TheVariants.{New, AtAnchor, At, Ending, Over}
