@@ -1,7 +1,7 @@
 -- A writer on its way to the page of its level that covers its key: each of its turns keeps a world good.
 use Rattle.std.proofs.Common.{ℕ, ◌≡◌, ◌≢◌, ◌⊎◌, ◌≤◌, ◌<◌, ◌-◌, Option, Some, None, List, [], ◌∷◌, arith, sym, ◌∙◌, refl, subst, inl, inr}
 use Rattle.bl_page.specs.declared.page.Page.{Page}
-use Rattle.bl_page.specs.declared.page.Page.TheVariants.{Anchor, Leaf, Inner, Dead}
+use Rattle.bl_page.specs.declared.page.Page.TheVariants.{Dead}
 use Rattle.bl_page.specs.Machine.{Name, Owner, State, Act}
 use Rattle.bl_page.specs.Machine.Owner.{Held}
 use Rattle.bl_page.specs.Machine.Act.{Get, Latch, Miss}
@@ -30,24 +30,6 @@ use Rattle.bl_tables.proofs.Acts.{watched, latched, opened}
 pub dead_end : (c : Page) → IsDead c → (node_of c).shape.end ≡ 0
 dead_end (Dead d) h = refl
 dead_end old h = absurd h
-
--- the way ends by a get of a page that is held
-abbrev pub IsArrival : Approach → Seen → Type 0
-IsArrival Start what = ⊥
-IsArrival (At x) what = ⊥
-IsArrival (Latching x) what = ⊥
-IsArrival (Leaving x to) what = ⊥
-IsArrival (Latched x) (seen.Words c) = Unit {0}
-IsArrival (Latched x) what = ⊥
-
-pub arrival : (level key : ℕ) (a : Approach) (what : Seen) (y : ℕ) (d : Page) → Approaches level key a what (came.Here y d) → IsArrival a what
-arrival level key (Latched x) (seen.Words c) y d h = tt
-arrival level key Start (seen.Words c) y d h = absurd h
-arrival level key (At x) (seen.Words c) y d h = absurd h
-arrival level key (Latching x) (seen.Words c) y d h = absurd h
-arrival level key (Leaving x None) (seen.Words c) y d h = absurd h
-arrival level key (Leaving x (Some z)) (seen.Words c) y d h = absurd h
-arrival level key old what y d h = absurd h
 
 -- A process that holds no page, or one, and may go to some.
 pub walks : {P : Type 0} (w w' : World P) (p : Name) (a : Act Page _) (saw : Option Page) (goes : List Goes) (S : Type 0) → IsStage Stage.Busy (w.now.phase p) → HasSaid w.trail p None → Each (IsGoes w p) goes → S → Learns w w' (record { event = record { process = p; act = a }; saw = saw; said = None }) (record (idle Stage.Busy) { goes = goes; sound = S })

@@ -1,5 +1,5 @@
 -- The hint beside the reply of a process means what it says.
-use Rattle.std.proofs.Common.{ℕ, ◌≡◌, Option, Some, None, sym, subst}
+use Rattle.std.proofs.Common.{◌≡◌, Option, Some, None, sym, subst}
 use Rattle.bl_model.specs.declared.operation.Reply.{Reply}
 use Rattle.bl_trails.specs.Trails.{Trail}
 use Rattle.bl_ways.specs.declared.answers.Answer.{Answer}

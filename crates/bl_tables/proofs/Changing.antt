@@ -21,9 +21,8 @@ use Rattle.bl_steps.proofs.After.{after, Extends-after, put_at, is_put_at}
 use Rattle.bl_puts.proofs.Moves.{PutsFresh-keeps, PutsRow-keeps, PutsSplit-keeps}
 use Rattle.bl_puts.proofs.Fitted.{split_cut}
 use Rattle.bl_ways.specs.declared.acts.Seen.{Seen}
-use Rattle.bl_ways.specs.declared.acts.Seen.TheVariants as seen
 use Rattle.bl_ways.specs.declared.changing.Changed.TheVariants.{On, Over}
-use Rattle.bl_ways.specs.Changes.{change_next, Changes}
+use Rattle.bl_ways.specs.Changes.{change_next}
 use Rattle.bl_tables.specs.Turns.{event_of, IsTold, Does, Turned}
 use Rattle.bl_ways.specs.declared.changing.Outcome.{Outcome}
 use Rattle.bl_ways.specs.declared.changing.Outcome.TheVariants as outcome
@@ -33,6 +32,7 @@ use Rattle.bl_ways.specs.declared.changing.Change.{Change}
 use Rattle.bl_ways.specs.declared.changing.Change.TheVariants.{Putting, Taking, PuttingNew, PuttingOld, OpeningNew, Opening}
 use Rattle.bl_tables.specs.Tables.{idle, holds_known, Aim, IsAim, IsDue, know_change}
 use Rattle.bl_tables.proofs.Acts.{of_held, not_gone, watched, opened, taken}
+use Rattle.bl_courses.proofs.WayCases.{ChangeCase}
 
 -- one row of one level
 abbrev pub row_at : ℕ → ℕ → Option ℕ → (ℕ → Look) → ℕ → Look
@@ -120,25 +120,6 @@ refused_maps know w aim x g fine live due =
     let before : w.map aim.level aim.key ≡ aim.was =
     (let e = g.tree.agree x aim.key (rw live live_live) due.covers in let l = due.level in sym (rw l at e) ∙ due.was) in
     fine.refused (w.map 0) (λ zero. rw zero at before)
-
--- a change ends when its page is opened
-abbrev pub IsLast : Change → Seen → Type 0
-IsLast (Putting x page) what = ⊥
-IsLast (Taking full) what = ⊥
-IsLast (PuttingNew u) what = ⊥
-IsLast (PuttingOld u) what = ⊥
-IsLast (OpeningNew x y separator) what = ⊥
-IsLast (Opening x o) seen.Done = Unit {0}
-IsLast (Opening x o) what = ⊥
-
-pub last : (c : Change) (what : Seen) (o : Outcome) → Changes c what (Over o) → IsLast c what
-last (Opening x o) seen.Done r h = tt
-last (Putting x page) (seen.Words q) r h = absurd h
-last (Taking full) (seen.Words q) r h = absurd h
-last (PuttingNew u) (seen.Words q) r h = absurd h
-last (PuttingOld u) (seen.Words q) r h = absurd h
-last (OpeningNew x z separator) (seen.Words q) r h = absurd h
-last old what r h = absurd h
 
 module _ {P : Type 0} (know : P → Know) (w : World P) (g : IsGood know w) (p : Name) (b : P) (aim : Aim) (fine : IsAim aim) (got : ℕ → Page) where
   -- the page is put, with the pair
@@ -387,37 +368,20 @@ module _ {P : Type 0} (know : P → Know) (w : World P) (g : IsGood know w) (p :
       })
 
   -- every turn of a change that does not end it
-  pub change_turn : (c d : Change) (what : Seen) (s : State Page) → know (w.proc p) ≡ know_change aim got c → know b ≡ know_change aim got d → Changes c what (On d) → IsTold w.now w.size (change_next c) what → Does w.now p (event_of None (change_next c) what) s → Turned know w p (event_of None (change_next c) what) s b
-  change_turn (Putting x page) d seen.Done s before then t told does = row_turn x page s before (subst (λ e. know b ≡ know_change aim got e) t then) does
-  change_turn (Putting x page) d seen.Refused s before then t told does =
+  pub change_turn : {c d : Change} {what : Seen} → ChangeCase c what (On d) → (s : State Page) → know (w.proc p) ≡ know_change aim got c → know b ≡ know_change aim got d → IsTold w.now w.size (change_next c) what → Does w.now p (event_of None (change_next c) what) s → Turned know w p (event_of None (change_next c) what) s b
+  change_turn (ChangeCase.Put x page d t) s before then told does = row_turn x page s before (subst (λ e. know b ≡ know_change aim got e) t then) does
+  change_turn (ChangeCase.PutRefused x page d t) s before then told does =
       let is : IsSure w p (know_change aim got (Putting x page)) = rw before at (g.sure p) in
       refuse_turn x (got x) (aim.children x) _ s before (subst (λ e. know b ≡ know_change aim got e) t then) is.sound.0 does
-  change_turn (Taking full) (PuttingNew u) (seen.Took y) s before then t told does = take_turn full y u s before then told.0 told.1 t.0 t.1 t.2 does
-  change_turn (Taking full) d seen.Refused s before then t told does =
+  change_turn (ChangeCase.Took full y u t) s before then told does = take_turn full y u s before then told.0 told.1 t.0 t.1 t.2 does
+  change_turn (ChangeCase.TakeRefused full d t) s before then told does =
       let is : IsSure w p (know_change aim got (Taking full)) = rw before at (g.sure p) in
       refuse_turn full.at full.page (aim.children full.at) _ s before (subst (λ e. know b ≡ know_change aim got e) t then) is.sound.0 does
-  change_turn (PuttingNew u) d seen.Done s before then t told does = fresh_turn u s before (subst (λ e. know b ≡ know_change aim got e) t then) does
-  change_turn (PuttingOld u) d seen.Done s before then t told does = split_turn u s before (subst (λ e. know b ≡ know_change aim got e) t then) does
-  change_turn (OpeningNew x y separator) d seen.Done s before then t told does = open_new_turn x y separator s before (subst (λ e. know b ≡ know_change aim got e) t then) does
-  change_turn (Opening x o) d what s before then t told does = absurd (ends what t)
-    where
-      ends : (what : Seen) → Changes (Opening x o) what (On d) → ⊥
-      ends (seen.Words page) h = h
-      ends seen.Done h = h
-      ends (seen.Took y) h = h
-      ends (seen.Owner retired started own) h = h
-      ends (seen.Blocks it) h = h
-      ends seen.Missed h = h
-      ends seen.Refused h = h
-  change_turn old d what s before then t told does = absurd t
+  change_turn (ChangeCase.PutNew u d t) s before then told does = fresh_turn u s before (subst (λ e. know b ≡ know_change aim got e) t then) does
+  change_turn (ChangeCase.PutOld u d t) s before then told does = split_turn u s before (subst (λ e. know b ≡ know_change aim got e) t then) does
+  change_turn (ChangeCase.OpenedNew x y separator d t) s before then told does = open_new_turn x y separator s before (subst (λ e. know b ≡ know_change aim got e) t then) does
 
   -- every turn that ends a change
-  pub finish_turn : (c : Change) (o : Outcome) (what : Seen) (S : Type 0) (s : State Page) → know (w.proc p) ≡ know_change aim got c → know b ≡ record (idle Stage.Busy) { said = aim.said o; sound = S } → S → Changes c what (Over o) → Does w.now p (event_of None (change_next c) what) s → Turned know w p (event_of None (change_next c) what) s b
-  finish_turn (Opening x u) o seen.Done S s before then sound t does =
+  pub finish_turn : {c : Change} {o : Outcome} {what : Seen} → ChangeCase c what (Over o) → (S : Type 0) (s : State Page) → know (w.proc p) ≡ know_change aim got c → know b ≡ record (idle Stage.Busy) { said = aim.said o; sound = S } → S → Does w.now p (event_of None (change_next c) what) s → Turned know w p (event_of None (change_next c) what) s b
+  finish_turn (ChangeCase.Opened x u o t) S s before then sound does =
       over_turn x u S s before (subst (λ z. know b ≡ record (idle Stage.Busy) { said = aim.said z; sound = S }) t then) sound does
-  finish_turn (Putting x page) o what S s before then sound t does = absurd (last (Putting x page) what o t)
-  finish_turn (Taking full) o what S s before then sound t does = absurd (last (Taking full) what o t)
-  finish_turn (PuttingNew u) o what S s before then sound t does = absurd (last (PuttingNew u) what o t)
-  finish_turn (PuttingOld u) o what S s before then sound t does = absurd (last (PuttingOld u) what o t)
-  finish_turn (OpeningNew x z separator) o what S s before then sound t does = absurd (last (OpeningNew x z separator) what o t)
-  finish_turn old o what new s before then sound t does = absurd t

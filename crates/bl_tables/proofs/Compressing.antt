@@ -1,11 +1,10 @@
 -- Turns of a compression that put nothing keep a world good.
-use Rattle.std.proofs.Common.{ℕ, suc, ◌≡◌, ◌≢◌, ◌-◌, ◌<◌, ◌≤◌, Option, Some, None, [], ◌∷◌, arith, ap, sym, ◌∙◌, refl, subst, inl, inr}
+use Rattle.std.proofs.Common.{ℕ, suc, ◌≡◌, ◌≢◌, ◌<◌, Some, None, arith, ap, sym, ◌∙◌, refl, inl, inr}
 use Rattle.bl_page.specs.declared.page.Page.{Page}
 use Rattle.bl_page.specs.Machine.{Name, Owner, State, Act}
 use Rattle.bl_page.specs.Machine.Owner.{Held}
-use Rattle.bl_page.specs.Machine.Act.{Get, Latch, Retire, Miss}
+use Rattle.bl_page.specs.Machine.Act.{Get, Latch, Miss}
 use Rattle.bl_tree.specs.Nodes.{unbounded}
-use Rattle.bl_tree.specs.Trees.Status.{Live, Gone}
 use Rattle.bl_laws.specs.Pages.{node_of}
 use Rattle.bl_trails.proofs.Pushes.{HasSaid-silent}
 use Rattle.bl_trails.specs.Trails.{Mark}
@@ -15,11 +14,11 @@ use Rattle.bl_compress.specs.declared.compressing.Trio.{Trio}
 use Rattle.bl_compress.specs.declared.compressing.Family.{Family}
 use Rattle.bl_compress.specs.declared.compressing.Fate.{Fate}
 use Rattle.bl_compress.specs.declared.compressing.Puts.{Puts}
-use Rattle.bl_compress.specs.declared.compressing.Compression.TheVariants.{LatchingLeft, LatchedLeft, LatchingRight, LatchedRight, PuttingFirst, Retiring, OpeningRight, OpeningLeft, OpeningParent}
+use Rattle.bl_compress.specs.declared.compressing.Compression.TheVariants.{LatchingLeft, LatchedLeft, LatchingRight, LatchedRight, PuttingFirst, OpeningRight, OpeningLeft, OpeningParent}
 use Rattle.bl_rearrange.specs.Rearranged.{right_of}
 use Rattle.bl_tables.specs.Turns.{Does, Turned}
 use Rattle.bl_tables.specs.Tables.{idle}
-use Rattle.bl_tables.specs.Compressing.{AreThree, know_compression}
+use Rattle.bl_tables.specs.Compressing.{know_compression}
 use Rattle.bl_tables.proofs.Acts.{watched, latched, opened}
 
 module _ {P : Type 0} (know : P → Know) (w : World P) (g : IsGood know w) (p : Name) (b : P) (level key : ℕ) (got : ℕ → Page) (at new : ℕ) where

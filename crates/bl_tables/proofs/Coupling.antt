@@ -1,20 +1,18 @@
 -- The first put of a compression keeps a world good, whichever of the two children gains; and so does a retirement.
-use Rattle.std.proofs.Common.{ℕ, suc, ◌≡◌, ◌≢◌, ◌<◌, Option, Some, None, [], ◌∷◌, arith, ap, sym, ◌∙◌, refl, subst, inl, inr}
+use Rattle.std.proofs.Common.{ℕ, suc, ◌≡◌, ◌≢◌, ◌<◌, None, ap, sym, ◌∙◌, refl, subst, inl, inr}
 use Rattle.bl_page.specs.declared.page.Page.{Page}
-use Rattle.bl_page.specs.Machine.{Name, Owner, State, Act}
+use Rattle.bl_page.specs.Machine.{Name, State}
 use Rattle.bl_page.specs.Machine.Owner.{Held}
 use Rattle.bl_page.specs.Machine.Act.{Put, Retire}
 use Rattle.bl_tree.specs.Nodes.{Covers, unbounded}
-use Rattle.bl_tree.specs.Trees.{Status}
-use Rattle.bl_tree.specs.Trees.Status.{Fresh, Live, Left, Right, Gone}
+use Rattle.bl_tree.specs.Trees.Status.{Fresh, Left, Right}
 use Rattle.bl_tree.specs.Moves.{IsAtTwo, IsJoin, IsLeftGain, IsRightGain}
 use Rattle.bl_laws.specs.Pages.{node_of}
 use Rattle.bl_trails.specs.Trails.{Mark}
 use Rattle.bl_trails.proofs.Pushes.{HasSaid-silent}
-use Rattle.bl_steps.specs.Worlds.{Know, World, nodes, HoldsPage, IsSure, IsGood, silent, put_mark}
+use Rattle.bl_steps.specs.Worlds.{Know, World, IsSure, IsGood, silent, put_mark}
 use Rattle.bl_steps.proofs.After.{after, Extends-after, put_at, is_put_at}
 use Rattle.bl_steps.proofs.Outside.{Retires-keeps}
-use Rattle.bl_puts.specs.Puts.{Owes}
 use Rattle.bl_puts.specs.Compressions.{Couples}
 use Rattle.bl_puts.proofs.Compressions.{PutsJoin-keeps, PutsLeftGain-keeps, PutsRightGain-keeps}
 use Rattle.bl_rearrange.specs.declared.sides.Side.TheVariants as side
@@ -23,7 +21,7 @@ use Rattle.bl_compress.specs.declared.compressing.Fate.{Fate}
 use Rattle.bl_compress.specs.declared.compressing.Puts.{Puts}
 use Rattle.bl_compress.specs.declared.compressing.Compression.TheVariants.{PuttingFirst, PuttingParent, Retiring, OpeningLeft}
 use Rattle.bl_tables.specs.Turns.{Does, Turned}
-use Rattle.bl_tables.specs.Compressing.{left_now, right_now, AreThree, IsToPut, ToMerge, ToEvenLeft, ToEvenRight, know_compression}
+use Rattle.bl_tables.specs.Compressing.{left_now, right_now, AreThree, IsToPut, ToEvenRight, know_compression}
 use Rattle.bl_tables.proofs.Acts.{of_held, not_gone}
 
 -- two places are changed, one after the other

@@ -1,9 +1,8 @@
 -- At the right child: a compression that is to put three pages knows what it needs for that.
-use Rattle.std.proofs.Common.{ℕ, suc, ◌≡◌, ◌≢◌, ◌⊎◌, ◌-◌, ◌<◌, ◌≤◌, Option, Some, None, [], ◌∷◌, arith, ap, sym, ◌∙◌, refl, subst, inl, inr}
-use Rattle.bl_model.specs.Rows.{map_of}
+use Rattle.std.proofs.Common.{ℕ, suc, ◌≡◌, ◌⊎◌, ◌-◌, ◌<◌, ◌≤◌, Some, None, arith, ap, sym, ◌∙◌, refl, subst, inl, inr}
 use Rattle.bl_page.specs.declared.page.Page.{Page}
 use Rattle.bl_page.specs.declared.page.Page.TheVariants.{Inner}
-use Rattle.bl_page.specs.Machine.{Name, Owner, State, Act}
+use Rattle.bl_page.specs.Machine.{Name, State}
 use Rattle.bl_page.specs.Machine.Owner.{Held}
 use Rattle.bl_page.specs.Machine.Act.{Get}
 use Rattle.bl_tree.specs.Nodes.{Covers, unbounded}
@@ -22,7 +21,7 @@ use Rattle.bl_compress.specs.declared.compressing.Family.{Family}
 use Rattle.bl_compress.specs.declared.compressing.Puts.{Puts}
 use Rattle.bl_compress.specs.declared.compressing.Compression.TheVariants.{LatchedRight, PuttingFirst}
 use Rattle.bl_tables.specs.Turns.{Does, Turned}
-use Rattle.bl_tables.specs.Compressing.{AreThree, IsToPut, ToMerge, ToEvenLeft, ToEvenRight, know_compression}
+use Rattle.bl_tables.specs.Compressing.{AreThree, ToMerge, ToEvenLeft, ToEvenRight, know_compression}
 use Rattle.bl_tables.proofs.Acts.{watched}
 
 module _ {P : Type 0} (know : P → Know) (w : World P) (g : IsGood know w) (p : Name) (b : P) (level key : ℕ) (got got' : ℕ → Page) (at at' new new' : ℕ) (f : Family) (c d : Page) (u : Puts) (before : know (w.proc p) ≡ know_compression level key got at new (LatchedRight f c)) (told : d ≡ w.now.contents f.at.right) where

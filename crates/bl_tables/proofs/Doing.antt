@@ -1,19 +1,15 @@
 -- What a compression has done, and one mark more.
-use Rattle.std.proofs.Common.{ℕ, ◌≡◌, ◌≢◌, ◌⊎◌, ◌<◌, ◌≤◌, ◌++◌, List, [], ◌∷◌, Option, None, Some, arith, ap, sym, ◌∙◌, refl, subst, inl, inr, append_assoc, append-nil}
-use Rattle.std.specs.Prelude.{Contains}
+use Rattle.std.proofs.Common.{ℕ, ◌≡◌, ◌⊎◌, ◌<◌, ◌++◌, List, [], ◌∷◌, Option, None, Some, ap, sym, ◌∙◌, refl, subst, inl, inr, append_assoc, append-nil}
 use Rattle.bl_model.specs.declared.operation.Reply.{Reply}
 use Rattle.bl_page.specs.declared.page.Page.{Page}
 use Rattle.bl_page.specs.declared.page.Page.TheVariants.{Inner as InnerPage}
-use Rattle.bl_page.specs.declared.page.Inner.{Inner}
 use Rattle.bl_page.specs.Machine.{Act}
 use Rattle.bl_page.specs.Machine.Act.{Get, Put, Latch, Retire, Miss}
 use Rattle.bl_laws.specs.Pages.{node_of}
-use Rattle.bl_rearrange.specs.Rearranged.{right_of}
-use Rattle.bl_rearrange.specs.Neighbours.{AreNeighbours}
 use Rattle.bl_rearrange.specs.declared.sides.Side.{Side}
 use Rattle.bl_rearrange.specs.declared.sides.Side.TheVariants as side
 use Rattle.bl_trails.specs.Trails.{Mark, Trail}
-use Rattle.bl_trails.specs.Meanings.{HasGot, writes_in, writes_of}
+use Rattle.bl_trails.specs.Meanings.{writes_in, writes_of}
 use Rattle.bl_trails.proofs.Meant.{writes_of-append, begun_now, wrote_still, got_on, got_last}
 use Rattle.bl_ways.specs.declared.acts.Seen.{Seen}
 use Rattle.bl_ways.specs.declared.acts.Seen.TheVariants as seen
@@ -32,17 +28,18 @@ use Rattle.bl_compress.specs.declared.compressing.Compression.TheVariants.{Latch
 use Rattle.bl_compress.specs.declared.compressing.Compressed.TheVariants as step
 use Rattle.bl_ways.specs.Onwards.{Leads}
 use Rattle.bl_ways.specs.Approaches.{approach_next, Approaches}
-use Rattle.bl_compress.specs.Compressions.{put_of, other, after_puts, AreSiblings, Merges, Evens, Links, Decides, compression_next, Compresses}
+use Rattle.bl_compress.specs.Compressions.{put_of, other, after_puts, AreSiblings, Links, Decides, compression_next}
 use Rattle.bl_compress.specs.declared.squeezing.CompressReply.{CompressReply}
 use Rattle.bl_compress.specs.declared.squeezing.CompressReply.TheVariants as reply
 use Rattle.bl_compress.specs.declared.squeezing.CompressStage.{CompressStage}
 use Rattle.bl_compress.specs.declared.squeezing.CompressStage.TheVariants as compress
-use Rattle.bl_compress.specs.Compresses.{compress_reply, compress_next_in, CompressStarts, CompressArrives, CompressNears, CompressComes, CompressGoes}
+use Rattle.bl_compress.specs.Compresses.{compress_reply, compress_next_in, CompressArrives}
 use Rattle.bl_tables.specs.Turns.{event_of}
-use Rattle.bl_tables.specs.Squeezed.{acts_in, acts_of, Unwritten, Since, AtFamily, AtLeft, AtBoth, to_left, to_right, put_act, to_first, to_second, to_last, to_end, Once, IsToSqueeze, HasMissed}
+use Rattle.bl_tables.specs.Squeezed.{acts_in, acts_of, Unwritten, Since, AtFamily, AtLeft, AtBoth, to_right, put_act, to_last, Once, IsToSqueeze}
 use Rattle.bl_tables.specs.Logs.{way_log, fate_log, squeeze_log, pressed_log, compress_log}
-use Rattle.bl_tables.proofs.Approaching.{arrival}
 use Rattle.bl_tables.proofs.Logging.{latched_on, approach_writes}
+use Rattle.bl_courses.proofs.WayCases.{approach_case, SqueezeCase, squeeze_case}
+use Rattle.bl_courses.proofs.KindCases.{CompressCase}
 
 acts_of-push : (ms : Trail) (m : Mark) → acts_of (ms ++ m ∷ []) ≡ acts_of ms ++ acts_in m.event.act
 acts_of-push [] m = append-nil (acts_in m.event.act)
@@ -221,40 +218,27 @@ module _ (ms : Trail) (m : Mark) where
     decides_on f c d (OpeningRight at fate.Lost) t did saw log = unwritten_on (ap writes_in did) (since_unwritten refl log.family.since)
     decides_on f c d old t did saw log = absurd t
 
-    squeeze_on : (c d : Compression) (what : Seen) → Compresses c what (step.On d) → m.event.act ≡ event_of None (compression_next c) what → ((x : ℕ) (e : Page) → m.event.act ≡ Get x → what ≡ seen.Words e → m.saw ≡ Some e) → squeeze_log level key c ms → squeeze_log level key d more
-    squeeze_on (LatchingLeft f) d seen.Done t did saw h = subst (λ z. squeeze_log level key z more) (sym t) (family_on (Latch f.at.left ∷ []) (ap acts_in did) h)
-    squeeze_on (LatchingLeft f) d seen.Missed t did saw h = subst (λ z. squeeze_log level key z more) (sym t) (family_on [] (ap acts_in did) h)
-    squeeze_on (LatchedLeft f) d (seen.Words c) t did saw h = links_on f c d t did (saw f.at.left c did refl) h
-    squeeze_on (LatchingRight f c) d seen.Done t did saw h = subst (λ z. squeeze_log level key z more) (sym t) (left_on (Latch f.at.right ∷ []) (ap acts_in did) h)
-    squeeze_on (LatchingRight f c) d seen.Missed t did saw h = subst (λ z. squeeze_log level key z more) (sym t) (left_on [] (ap acts_in did) h)
-    squeeze_on (LatchedRight f c) d (seen.Words e) t did saw h = decides_on f c e d t did (saw f.at.right e did refl) h
-    squeeze_on (PuttingFirst u) d seen.Done t did saw h = subst (λ z. squeeze_log level key z more) (sym t) (puts_on (put_act u.gains u ∷ []) (ap acts_in (did ∙ put_event u.gains u) ∙ act_put u.gains u) h)
-    squeeze_on (PuttingFirst u) d seen.Refused t did saw h = subst (λ z. squeeze_log level key z more) (sym t) (once_now (record { until = ms; mark = m; split = refl; miss = did ∙ refused_event u.gains u; puts = u; is = h }))
-    squeeze_on (PuttingParent u) d seen.Done t did saw h = subst (λ z. squeeze_log level key z more) (sym t) (puts_on (Put u.at.parent u.parent ∷ []) (ap acts_in did) h)
-    squeeze_on (PuttingLast u) d seen.Done t did saw h = subst (λ z. squeeze_log level key z more) (sym t) (last_on u (puts_on (put_act (other u.gains) u ∷ []) (ap acts_in (did ∙ put_event (other u.gains) u) ∙ act_put (other u.gains) u) h))
-    squeeze_on (Retiring at ended) d seen.Done t did saw h = subst (λ z. squeeze_log level key z more) (sym t) (retired_on at ended did h)
-    squeeze_on (OpeningRight at ended) d seen.Done t did saw h = subst (λ z. squeeze_log level key z more) (sym t) (fate_on ended (ap writes_in did) h)
-    squeeze_on (OpeningLeft at ended) d seen.Done t did saw h = subst (λ z. squeeze_log level key z more) (sym t) (fate_on ended (ap writes_in did) h)
-    squeeze_on (OpeningParent x fa) d seen.Done t did saw h = absurd t
-    squeeze_on old d what t did saw h = absurd t
+    squeeze_on : {c d : Compression} {what : Seen} → SqueezeCase c what (step.On d) → m.event.act ≡ event_of None (compression_next c) what → ((x : ℕ) (e : Page) → m.event.act ≡ Get x → what ≡ seen.Words e → m.saw ≡ Some e) → squeeze_log level key c ms → squeeze_log level key d more
+    squeeze_on (SqueezeCase.LatchLeft f d t) did saw h = subst (λ z. squeeze_log level key z more) (sym t) (family_on (Latch f.at.left ∷ []) (ap acts_in did) h)
+    squeeze_on (SqueezeCase.MissLeft f d t) did saw h = subst (λ z. squeeze_log level key z more) (sym t) (family_on [] (ap acts_in did) h)
+    squeeze_on (SqueezeCase.GotLeft f c d t) did saw h = links_on f c d t did (saw f.at.left c did refl) h
+    squeeze_on (SqueezeCase.LatchRight f c d t) did saw h = subst (λ z. squeeze_log level key z more) (sym t) (left_on (Latch f.at.right ∷ []) (ap acts_in did) h)
+    squeeze_on (SqueezeCase.MissRight f c d t) did saw h = subst (λ z. squeeze_log level key z more) (sym t) (left_on [] (ap acts_in did) h)
+    squeeze_on (SqueezeCase.GotRight f c e d t) did saw h = decides_on f c e d t did (saw f.at.right e did refl) h
+    squeeze_on (SqueezeCase.PutFirst u d t) did saw h = subst (λ z. squeeze_log level key z more) (sym t) (puts_on (put_act u.gains u ∷ []) (ap acts_in (did ∙ put_event u.gains u) ∙ act_put u.gains u) h)
+    squeeze_on (SqueezeCase.FirstRefused u d t) did saw h = subst (λ z. squeeze_log level key z more) (sym t) (once_now (record { until = ms; mark = m; split = refl; miss = did ∙ refused_event u.gains u; puts = u; is = h }))
+    squeeze_on (SqueezeCase.PutParent u d t) did saw h = subst (λ z. squeeze_log level key z more) (sym t) (puts_on (Put u.at.parent u.parent ∷ []) (ap acts_in did) h)
+    squeeze_on (SqueezeCase.PutLast u d t) did saw h = subst (λ z. squeeze_log level key z more) (sym t) (last_on u (puts_on (put_act (other u.gains) u ∷ []) (ap acts_in (did ∙ put_event (other u.gains) u) ∙ act_put (other u.gains) u) h))
+    squeeze_on (SqueezeCase.Retired at ended d t) did saw h = subst (λ z. squeeze_log level key z more) (sym t) (retired_on at ended did h)
+    squeeze_on (SqueezeCase.OpenedRight at ended d t) did saw h = subst (λ z. squeeze_log level key z more) (sym t) (fate_on ended (ap writes_in did) h)
+    squeeze_on (SqueezeCase.OpenedLeft at ended d t) did saw h = subst (λ z. squeeze_log level key z more) (sym t) (fate_on ended (ap writes_in did) h)
 
-    over_on : (c : Compression) (what : Seen) (ended : Fate) → Compresses c what (step.Over ended) → m.event.act ≡ event_of None (compression_next c) what → squeeze_log level key c ms → fate_log level key ended more
-    over_on (OpeningParent x ended) seen.Done same t did h = subst (λ z. fate_log level key z more) (sym t) (fate_on ended (ap writes_in did) h)
-    over_on (LatchingLeft h) seen.Done same t did log = absurd t
-    over_on (LatchedLeft h) seen.Done same t did log = absurd t
-    over_on (LatchingRight h page) seen.Done same t did log = absurd t
-    over_on (LatchedRight h page) seen.Done same t did log = absurd t
-    over_on (PuttingFirst z) seen.Done same t did log = absurd t
-    over_on (PuttingParent z) seen.Done same t did log = absurd t
-    over_on (PuttingLast z) seen.Done same t did log = absurd t
-    over_on (Retiring at fa) seen.Done same t did log = absurd t
-    over_on (OpeningRight at fa) seen.Done same t did log = absurd t
-    over_on (OpeningLeft at fa) seen.Done same t did log = absurd t
-    over_on old what same t did h = absurd t
+    over_on : {c : Compression} {what : Seen} {ended : Fate} → SqueezeCase c what (step.Over ended) → m.event.act ≡ event_of None (compression_next c) what → squeeze_log level key c ms → fate_log level key ended more
+    over_on (SqueezeCase.OpenedParent x ended _ t) did h = subst (λ z. fate_log level key z more) (sym t) (fate_on ended (ap writes_in did) h)
 
     -- at the parent
-    arrive_on : (x : ℕ) (c : Page) (new : CompressStage) → CompressArrives key x c new → Leads c key level Here → m.event.act ≡ Get x → m.saw ≡ Some c → Since ms x [] → compress_log level key new more
-    arrive_on x c (compress.Compressing (LatchingLeft f)) (parent, page, siblings) l did saw h =
+    met_on : (x : ℕ) (c : Page) (f : Family) → CompressArrives key x c (compress.Compressing (LatchingLeft f)) → Leads c key level Here → m.event.act ≡ Get x → m.saw ≡ Some c → Since ms x [] → compress_log level key (compress.Compressing (LatchingLeft f)) more
+    met_on x c f (parent, page, siblings) l did saw h =
         let family = siblings.1 in
         let here : c ≡ InnerPage f.parent = page ∙ ap InnerPage (sym family.parent_is) in
         let e : x ≡ f.at.parent = sym family.parent_at in
@@ -267,7 +251,9 @@ module _ (ms : Trail) (m : Mark) where
           covers = rw here at l.1;
           siblings = subst (λ z. AreSiblings z key f.parent (Some f)) e (subst (λ z. AreSiblings x key z (Some f)) (sym family.parent_is) siblings);
         }
-    arrive_on x c (compress.Staying y) t l did saw h = once_now (inr (record {
+
+    single_on : (x : ℕ) (c : Page) (y : ℕ) → CompressArrives key x c (compress.Staying y) → Leads c key level Here → m.event.act ≡ Get x → m.saw ≡ Some c → Since ms x [] → compress_log level key (compress.Staying y) more
+    single_on x c y t l did saw h = once_now (inr (record {
       at = x;
       parent = t.1.0;
       since = since_on (Get x ∷ []) (ap acts_in did) h;
@@ -276,20 +262,6 @@ module _ (ms : Trail) (m : Mark) where
       covers = rw t.1.1 at l.1;
       siblings = t.1.2;
     }))
-    arrive_on x c compress.New t l did saw h = absurd t
-    arrive_on x c (compress.Coming v) t l did saw h = absurd t
-    arrive_on x c (compress.Compressing (LatchedLeft g)) t l did saw h = absurd t
-    arrive_on x c (compress.Compressing (LatchingRight g page)) t l did saw h = absurd t
-    arrive_on x c (compress.Compressing (LatchedRight g page)) t l did saw h = absurd t
-    arrive_on x c (compress.Compressing (PuttingFirst z)) t l did saw h = absurd t
-    arrive_on x c (compress.Compressing (PuttingParent z)) t l did saw h = absurd t
-    arrive_on x c (compress.Compressing (PuttingLast z)) t l did saw h = absurd t
-    arrive_on x c (compress.Compressing (Retiring at fa)) t l did saw h = absurd t
-    arrive_on x c (compress.Compressing (OpeningRight at fa)) t l did saw h = absurd t
-    arrive_on x c (compress.Compressing (OpeningLeft at fa)) t l did saw h = absurd t
-    arrive_on x c (compress.Compressing (OpeningParent z fa)) t l did saw h = absurd t
-    arrive_on x c (compress.Ending v) t l did saw h = absurd t
-    arrive_on x c (compress.Over v) t l did saw h = absurd t
 
     module _ (least : 0 < level) where
       way_unwritten : (a : Approach) → way_log a ms → Unwritten ms
@@ -309,68 +281,21 @@ module _ (ms : Trail) (m : Mark) where
           on way.Start t = first
           on (way.At x) t = first
           on (way.Latching x) t = first
-          on (way.Latched x) t = since_now x (latched_on m level key a x what t did) (way_unwritten a log)
+          on (way.Latched x) t = since_now x (latched_on m level key (approach_case level key a what _ t) did) (way_unwritten a log)
           on (way.Leaving x to) t = first
 
-      here_on : (a : Approach) (new : CompressStage) (what : Seen) → ((y : ℕ) × (d : Page) × Approaches level key a what (came.Here y d) × CompressArrives key y d new) → m.event.act ≡ event_of None (approach_next a) what → ((x : ℕ) (e : Page) → m.event.act ≡ Get x → what ≡ seen.Words e → m.saw ≡ Some e) → way_log a ms → compress_log level key new more
-      here_on (way.Latched x) new (seen.Words c) (y, d, h, t) did saw log = arrive_on x c new (subst (λ z. CompressArrives key x z new) h.1 (subst (λ z. CompressArrives key z d new) h.0 t)) h.2 did (saw x c did refl) log
-      here_on way.Start new what (y, d, h, t) did saw log = absurd (arrival level key way.Start what y d h)
-      here_on (way.At x) new what (y, d, h, t) did saw log = absurd (arrival level key (way.At x) what y d h)
-      here_on (way.Latching x) new what (y, d, h, t) did saw log = absurd (arrival level key (way.Latching x) what y d h)
-      here_on (way.Leaving x to) new what (y, d, h, t) did saw log = absurd (arrival level key (way.Leaving x to) what y d h)
-      here_on (way.Latched x) new seen.Done (u, d, h, t) did saw log = absurd h
-      here_on (way.Latched x) new (seen.Took n) (u, d, h, t) did saw log = absurd h
-      here_on (way.Latched x) new (seen.Owner retired started own) (u, d, h, t) did saw log = absurd h
-      here_on (way.Latched x) new (seen.Blocks it) (u, d, h, t) did saw log = absurd h
-      here_on (way.Latched x) new seen.Missed (u, d, h, t) did saw log = absurd h
-      here_on (way.Latched x) new seen.Refused (u, d, h, t) did saw log = absurd h
-
-      near_on : (a : Approach) (new : CompressStage) (what : Seen) → CompressNears level key a what new → m.event.act ≡ event_of None (approach_next a) what → ((x : ℕ) (e : Page) → m.event.act ≡ Get x → what ≡ seen.Words e → m.saw ≡ Some e) → way_log a ms → compress_log level key new more
-      near_on a (compress.Coming b) what t did saw log = way_on a b what t did log
-      near_on a compress.New what t did saw log = here_on a compress.New what t did saw log
-      near_on a (compress.Compressing v) what t did saw log = here_on a (compress.Compressing v) what t did saw log
-      near_on a (compress.Staying v) what t did saw log = here_on a (compress.Staying v) what t did saw log
-      near_on a (compress.Ending v) what t did saw log = here_on a (compress.Ending v) what t did saw log
-      near_on a (compress.Over v) what t did saw log = here_on a (compress.Over v) what t did saw log
-
-      start_on : (c : Page) (new : CompressStage) → CompressStarts level key c new → m.event.act ≡ Get 0 → m.saw ≡ Some c → Unwritten ms → compress_log level key new more
-      start_on c (compress.Ending reply.Alone) t did saw log = once_now (inl (record { first = unwritten_on (ap writes_in did) log; anchor = c; got = got_last ms m did saw; few = t }))
-      start_on c (compress.Coming a) t did saw log = way_on way.Start a (seen.Words c) t.1 did log
-      start_on c old t did saw log = absurd t
-
-      come_on : (a : Approach) (new : CompressStage) (what : Seen) → CompressComes level key a what new → m.event.act ≡ event_of None (approach_next a) what → ((x : ℕ) (e : Page) → m.event.act ≡ Get x → what ≡ seen.Words e → m.saw ≡ Some e) → way_log a ms → compress_log level key new more
-      come_on way.Start new (seen.Words c) t did saw log = start_on c new t did (saw 0 c did refl) log
-      come_on (way.At x) new what t did saw log = near_on (way.At x) new what t did saw log
-      come_on (way.Latching x) new what t did saw log = near_on (way.Latching x) new what t did saw log
-      come_on (way.Latched x) new what t did saw log = near_on (way.Latched x) new what t did saw log
-      come_on (way.Leaving x to) new what t did saw log = near_on (way.Leaving x to) new what t did saw log
-      come_on old new what t did saw log = absurd t
-
       -- any step of a compression
-      pub compress_on : (a a' : CompressStage) (what : Seen) → CompressGoes level key a what a' → m.event.act ≡ event_of None (compress_next_in a) what → ((x : ℕ) (e : Page) → m.event.act ≡ Get x → what ≡ seen.Words e → m.saw ≡ Some e) → compress_log level key a ms → compress_log level key a' more
-      compress_on compress.New (compress.Coming v) seen.Done t did saw h = subst (λ z. way_log z more) (sym t) (begun_now ms m (λ acts. acts ≡ []) did refl)
-      compress_on (compress.Coming a) a' what t did saw h = come_on a a' what t did saw h
-      compress_on (compress.Compressing c) (compress.Compressing d) what t did saw h = squeeze_on c d what t did saw h
-      compress_on (compress.Compressing c) (compress.Coming a) what (ended, t, none, start) did saw h = subst (λ z. way_log z more) (sym start) (lost_unwritten ended none (over_on c what ended t did h))
-      compress_on (compress.Compressing c) (compress.Ending r) what (ended, t, some) did saw h = fate_pressed ended r some (over_on c what ended t did h)
-      compress_on (compress.Staying x) (compress.Ending r) seen.Done t did saw h = subst (λ z. pressed_log level key z more) (sym t) (once_on (ap writes_in did) h)
-      compress_on (compress.Ending r) (compress.Over r') seen.Done t did saw h = subst (λ z. pressed_log level key z more) (sym t) (pressed_on r (ap writes_in did) h)
-      compress_on compress.New compress.New seen.Done t did saw h = absurd t
-      compress_on compress.New (compress.Compressing v) seen.Done t did saw h = absurd t
-      compress_on compress.New (compress.Staying v) seen.Done t did saw h = absurd t
-      compress_on compress.New (compress.Ending v) seen.Done t did saw h = absurd t
-      compress_on compress.New (compress.Over v) seen.Done t did saw h = absurd t
-      compress_on (compress.Staying o) compress.New seen.Done t did saw h = absurd t
-      compress_on (compress.Staying o) (compress.Coming v) seen.Done t did saw h = absurd t
-      compress_on (compress.Staying o) (compress.Compressing v) seen.Done t did saw h = absurd t
-      compress_on (compress.Staying o) (compress.Staying v) seen.Done t did saw h = absurd t
-      compress_on (compress.Staying o) (compress.Over v) seen.Done t did saw h = absurd t
-      compress_on (compress.Ending o) compress.New seen.Done t did saw h = absurd t
-      compress_on (compress.Ending o) (compress.Coming v) seen.Done t did saw h = absurd t
-      compress_on (compress.Ending o) (compress.Compressing v) seen.Done t did saw h = absurd t
-      compress_on (compress.Ending o) (compress.Staying v) seen.Done t did saw h = absurd t
-      compress_on (compress.Ending o) (compress.Ending v) seen.Done t did saw h = absurd t
-      compress_on old a' what t did saw h = absurd t
+      pub compress_on : {a a' : CompressStage} {what : Seen} → CompressCase level key a what a' → m.event.act ≡ event_of None (compress_next_in a) what → ((x : ℕ) (e : Page) → m.event.act ≡ Get x → what ≡ seen.Words e → m.saw ≡ Some e) → compress_log level key a ms → compress_log level key a' more
+      compress_on (CompressCase.Began a t) did saw h = subst (λ z. way_log z more) (sym t) (begun_now ms m (λ acts. acts ≡ []) did refl)
+      compress_on (CompressCase.NoLevel c t) did saw h = once_now (inl (record { first = unwritten_on (ap writes_in did) h; anchor = c; got = got_last ms m did (saw 0 c did refl); few = t }))
+      compress_on (CompressCase.Came a what b t) did saw h = way_on a b what t did h
+      compress_on (CompressCase.Met x c f l t) did saw h = met_on x c f t l did (saw x c did refl) h
+      compress_on (CompressCase.Single x c y l t) did saw h = single_on x c y t l did (saw x c did refl) h
+      compress_on (CompressCase.Squeezed c what d t) did saw h = squeeze_on (squeeze_case c what _ t) did saw h
+      compress_on (CompressCase.Lost c what a (ended, t, none, start)) did saw h = subst (λ z. way_log z more) (sym start) (lost_unwritten ended none (over_on (squeeze_case c what _ t) did h))
+      compress_on (CompressCase.Finished c what r (ended, t, some)) did saw h = fate_pressed ended r some (over_on (squeeze_case c what _ t) did h)
+      compress_on (CompressCase.Opened x r t) did saw h = subst (λ z. pressed_log level key z more) (sym t) (once_on (ap writes_in did) h)
+      compress_on (CompressCase.Ended r last t) did saw h = subst (λ z. pressed_log level key z more) (sym t) (pressed_on r (ap writes_in did) h)
 
   -- a miss that is of no turn of its own changes nothing
   module _ (level key : ℕ) (did : m.event.act ≡ Miss) where

@@ -1,9 +1,9 @@
 -- What a process gets next is page 0, or a page that is or was of the tree and that it may still get. So it is no page that
 -- was never put.
-use Rattle.std.proofs.Common.{ℕ, ◌≡◌, ◌⊎◌, ◌<◌, None, Some, Option, Bool, true, false, inl, inr, refl}
+use Rattle.std.proofs.Common.{ℕ, ◌≡◌, ◌⊎◌, None, Some, inl, inr, refl}
 use Rattle.bl_page.specs.declared.page.Page.{Page}
 use Rattle.bl_page.specs.Machine.{Name}
-use Rattle.bl_steps.specs.Worlds.{Know, World, MayGet, IsSure, IsGood}
+use Rattle.bl_steps.specs.Worlds.{World, MayGet, IsSure, IsGood}
 use Rattle.bl_ways.specs.declared.acts.Action.{Action}
 use Rattle.bl_ways.specs.declared.acts.Action.TheVariants as act
 use Rattle.bl_ways.specs.declared.approaching.Approach.{Approach}

@@ -3,7 +3,7 @@ use Rattle.std.proofs.Common.{◌≡◌, None, [], refl, arith}
 use Rattle.bl_page.specs.Machine.{Name, State}
 use Rattle.bl_page.specs.Machine.Act.{End}
 use Rattle.bl_trails.proofs.Pushes.{HasSaid-silent}
-use Rattle.bl_steps.specs.Worlds.{Stage, World, IsSure, IsGood, silent}
+use Rattle.bl_steps.specs.Worlds.{Stage, World, IsGood, silent}
 use Rattle.bl_proc.specs.declared.kinds.Proc.TheVariants.{Post}
 use Rattle.bl_proc.specs.declared.posting.PostStage.TheVariants.{Over}
 use Rattle.bl_proc.specs.declared.posting.PostReply.TheVariants.{Stale}

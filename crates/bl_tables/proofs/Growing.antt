@@ -23,17 +23,17 @@ use Rattle.bl_ways.specs.declared.growing.Raising.{Raising}
 use Rattle.bl_ways.specs.declared.growing.Growth.{Growth}
 use Rattle.bl_ways.specs.declared.growing.Growth.TheVariants as growth
 use Rattle.bl_ways.specs.declared.acts.Seen.{Seen}
-use Rattle.bl_ways.specs.declared.acts.Seen.TheVariants as seen
 use Rattle.bl_ways.specs.declared.growing.Grew.TheVariants.{On, Grown, Refused}
 use Rattle.bl_ways.specs.declared.approaching.Approach.TheVariants.{Start}
 use Rattle.bl_proc.specs.declared.posting.PostStage.TheVariants.{Growing}
-use Rattle.bl_ways.specs.Growths.{growth_next, IsTop, IsAnchor, Raises, Grows}
+use Rattle.bl_ways.specs.Growths.{growth_next, IsTop, IsAnchor, Raises}
 use Rattle.bl_tables.specs.Turns.{event_of, IsTold, Does, Turned}
 use Rattle.bl_tables.specs.Tables.{idle, know_approach}
 use Rattle.bl_tables.specs.Knowing.{ending, anchor_known, know_growth, post_got}
 use Rattle.bl_tables.proofs.Acts.{of_held, not_gone, watched, latched, opened, taken}
 use Rattle.bl_tables.proofs.Approaching.{walks}
 use Rattle.bl_tables.proofs.Changing.{Aside, aside_held}
+use Rattle.bl_courses.proofs.WayCases.{GrowthCase}
 
 -- a list with one more at its end
 pub pushed_at : (xs : List ℕ) (y : ℕ) → IsAt (length xs) y (λ l. get_or xs l 0) (λ l. get_or (xs ++ y ∷ []) l 0)
@@ -304,45 +304,20 @@ module _ {P : Type 0} (know : P → Know) (w : World P) (g : IsGood know w) (p :
       (walks w _ p (Act.Open 0) None [] S' is.stage is.said tt (on is.sound))
 
   -- every turn of a growth that does not end it
-  pub growth_turn : (a a' : Growth) (got : ℕ → Page) (what : Seen) (s : State Page) → know (w.proc p) ≡ know_growth level key got a → know b ≡ know_growth level key (post_got got (Growing a) what) a' → Grows level a what (On a') → IsTold w.now w.size (growth_next a) what → Does w.now p (event_of None (growth_next a) what) s → Turned know w p (event_of None (growth_next a) what) s b
-  growth_turn growth.Latching a' got seen.Done s before then t told does = latch_turn got s before (subst (λ z. know b ≡ know_growth level key got z) t then) told does
-  growth_turn growth.Latching a' got seen.Missed s before then t told does = miss_turn got s before (subst (λ z. know b ≡ know_growth level key got z) t then) does
-  growth_turn growth.Latched (growth.Taking rise) got (seen.Words c) s before then t told does = rise_turn got rise c s before then told t.0 t.1 does
-  growth_turn growth.Latched growth.OpeningGrown got (seen.Words c) s before then t told does = grown_turn got (λ z. c) s before then does
-  growth_turn (growth.Taking rise) (growth.PuttingTop r) got (seen.Took y) s before then t told does = take_turn got rise y r s before then told.0 told.1 t.0 t.1 does
-  growth_turn (growth.Taking rise) a' got seen.Refused s before then t told does = refuse_turn got rise s before (subst (λ z. know b ≡ know_growth level key got z) t then) does
-  growth_turn (growth.PuttingTop r) a' got seen.Done s before then t told does = top_turn got r s before (subst (λ z. know b ≡ know_growth level key got z) t then) does
-  growth_turn (growth.PuttingAnchor r) a' got seen.Done s before then t told does = anchor_turn got r s before (subst (λ z. know b ≡ know_growth level key got z) t then) does
-  growth_turn (growth.OpeningTop x) a' got seen.Done s before then t told does = open_top_turn got x s before (subst (λ z. know b ≡ know_growth level key got z) t then) does
-  growth_turn growth.Latched growth.Latching got (seen.Words page) s before then t told does = absurd t
-  growth_turn growth.Latched growth.Latched got (seen.Words page) s before then t told does = absurd t
-  growth_turn growth.Latched (growth.PuttingTop o) got (seen.Words page) s before then t told does = absurd t
-  growth_turn growth.Latched (growth.PuttingAnchor o) got (seen.Words page) s before then t told does = absurd t
-  growth_turn growth.Latched (growth.OpeningTop o) got (seen.Words page) s before then t told does = absurd t
-  growth_turn growth.Latched growth.OpeningRefused got (seen.Words page) s before then t told does = absurd t
-  growth_turn growth.OpeningGrown a' got (seen.Words page) s before then t told does = absurd t
-  growth_turn growth.OpeningRefused a' got (seen.Words page) s before then t told does = absurd t
-  growth_turn old a' got what s before then t told does = absurd t
+  pub growth_turn : {a a' : Growth} {what : Seen} → GrowthCase level a what (On a') → (got : ℕ → Page) (s : State Page) → know (w.proc p) ≡ know_growth level key got a → know b ≡ know_growth level key (post_got got (Growing a) what) a' → IsTold w.now w.size (growth_next a) what → Does w.now p (event_of None (growth_next a) what) s → Turned know w p (event_of None (growth_next a) what) s b
+  growth_turn (GrowthCase.LatchedAnchor h t) got s before then told does = latch_turn got s before (subst (λ z. know b ≡ know_growth level key got z) t then) told does
+  growth_turn (GrowthCase.Missed h t) got s before then told does = miss_turn got s before (subst (λ z. know b ≡ know_growth level key got z) t then) does
+  growth_turn (GrowthCase.Rises c rise t) got s before then told does = rise_turn got rise c s before then told t.0 t.1 does
+  growth_turn (GrowthCase.Stands c t) got s before then told does = grown_turn got (λ z. c) s before then does
+  growth_turn (GrowthCase.TookTop rise y r t) got s before then told does = take_turn got rise y r s before then told.0 told.1 t.0 t.1 does
+  growth_turn (GrowthCase.TopRefused rise h t) got s before then told does = refuse_turn got rise s before (subst (λ z. know b ≡ know_growth level key got z) t then) does
+  growth_turn (GrowthCase.PutTop r h t) got s before then told does = top_turn got r s before (subst (λ z. know b ≡ know_growth level key got z) t then) does
+  growth_turn (GrowthCase.PutAnchor r h t) got s before then told does = anchor_turn got r s before (subst (λ z. know b ≡ know_growth level key got z) t then) does
+  growth_turn (GrowthCase.OpenedTop x h t) got s before then told does = open_top_turn got x s before (subst (λ z. know b ≡ know_growth level key got z) t then) does
 
   -- a growth is over when the anchor is open
-  pub over_turn : (a : Growth) (got : ℕ → Page) (what : Seen) (s : State Page) → know (w.proc p) ≡ know_growth level key got a → know b ≡ know_approach level key Start → Grows level a what Grown → Does w.now p (event_of None (growth_next a) what) s → Turned know w p (event_of None (growth_next a) what) s b
-  over_turn growth.OpeningGrown got seen.Done s before then t does = anchor_open_turn _ _ s before then (λ h. h) does
-  over_turn growth.Latching got (seen.Words page) s before then t does = absurd t
-  over_turn growth.Latched got (seen.Words page) s before then t does = absurd t
-  over_turn (growth.Taking o) got (seen.Words page) s before then t does = absurd t
-  over_turn (growth.PuttingTop o) got (seen.Words page) s before then t does = absurd t
-  over_turn (growth.PuttingAnchor o) got (seen.Words page) s before then t does = absurd t
-  over_turn (growth.OpeningTop o) got (seen.Words page) s before then t does = absurd t
-  over_turn growth.OpeningRefused got (seen.Words page) s before then t does = absurd t
-  over_turn old got what s before then t does = absurd t
+  pub over_turn : {a : Growth} {what : Seen} → GrowthCase level a what Grown → (got : ℕ → Page) (s : State Page) → know (w.proc p) ≡ know_growth level key got a → know b ≡ know_approach level key Start → Does w.now p (event_of None (growth_next a) what) s → Turned know w p (event_of None (growth_next a) what) s b
+  over_turn GrowthCase.OpenedGrown got s before then does = anchor_open_turn _ _ s before then (λ h. h) does
 
-  pub no_room_turn : (a : Growth) (got : ℕ → Page) (what : Seen) (s : State Page) → know (w.proc p) ≡ know_growth level key got a → know b ≡ ending None → Grows level a what Refused → Does w.now p (event_of None (growth_next a) what) s → Turned know w p (event_of None (growth_next a) what) s b
-  no_room_turn growth.OpeningRefused got seen.Done s before then t does = anchor_open_turn _ _ s before then (λ h. tt) does
-  no_room_turn growth.Latching got (seen.Words page) s before then t does = absurd t
-  no_room_turn growth.Latched got (seen.Words page) s before then t does = absurd t
-  no_room_turn (growth.Taking o) got (seen.Words page) s before then t does = absurd t
-  no_room_turn (growth.PuttingTop o) got (seen.Words page) s before then t does = absurd t
-  no_room_turn (growth.PuttingAnchor o) got (seen.Words page) s before then t does = absurd t
-  no_room_turn (growth.OpeningTop o) got (seen.Words page) s before then t does = absurd t
-  no_room_turn growth.OpeningGrown got (seen.Words page) s before then t does = absurd t
-  no_room_turn old got what s before then t does = absurd t
+  pub no_room_turn : {a : Growth} {what : Seen} → GrowthCase level a what Refused → (got : ℕ → Page) (s : State Page) → know (w.proc p) ≡ know_growth level key got a → know b ≡ ending None → Does w.now p (event_of None (growth_next a) what) s → Turned know w p (event_of None (growth_next a) what) s b
+  no_room_turn GrowthCase.OpenedRefused got s before then does = anchor_open_turn _ _ s before then (λ h. tt) does

@@ -14,7 +14,7 @@ use Rattle.bl_tree.specs.Moves.{IsRow, IsCut}
 use Rattle.bl_laws.specs.Pages.{node_of}
 use Rattle.bl_laws.proofs.SoundPages.{sound_node}
 use Rattle.bl_trails.specs.Trails.{Mark, Trail}
-use Rattle.bl_trails.specs.Meanings.{HasGot, writes_in, writes_of, RaisesOnly, HasRaised, ArePuts, UnderLatch, ListTogether, MeansDone, ArePartedAt, MeansParted, MeansNoRoom}
+use Rattle.bl_trails.specs.Meanings.{writes_in, writes_of, RaisesOnly, HasRaised, ArePuts, UnderLatch, ListTogether, MeansDone, ArePartedAt, MeansParted, MeansNoRoom}
 use Rattle.bl_trails.proofs.Meant.{writes_of-append, writes_of-push, puts_append, no_puts, got_on, got_last}
 use Rattle.bl_tables.specs.Logs.{Holding, HoldsParent, HoldsBoth, IsToPut}
 

@@ -1,5 +1,5 @@
 -- Every turn of an insertion keeps a world good.
-use Rattle.std.proofs.Common.{ℕ, ◌≡◌, ◌≢◌, Some, None, arith, ap, sym, ◌∙◌, refl, subst, inl, inr}
+use Rattle.std.proofs.Common.{ℕ, ◌≡◌, ◌≢◌, Some, None, arith, sym, ◌∙◌, refl, subst, inl, inr}
 use Rattle.bl_model.specs.Map.{Map}
 use Rattle.bl_page.specs.declared.page.Page.{Page}
 use Rattle.bl_page.specs.Machine.{Name, State, Act}
@@ -10,11 +10,8 @@ use Rattle.bl_steps.specs.Worlds.{HoldsPage, Know, World, nodes, MapsTo, IsSure,
 use Rattle.bl_descents.proofs.Descents.{held_leaf_says, not_released}
 use Rattle.bl_tree.proofs.Statuses.{live_live}
 use Rattle.bl_ways.specs.declared.acts.Seen.{Seen}
-use Rattle.bl_ways.specs.declared.acts.Seen.TheVariants as seen
 use Rattle.bl_ways.specs.declared.onwards.Step.TheVariants.{Here}
-use Rattle.bl_ways.specs.declared.approaching.Approach.{Approach}
 use Rattle.bl_ways.specs.declared.approaching.Approach.TheVariants as way
-use Rattle.bl_ways.specs.declared.approaching.Approached.TheVariants as came
 use Rattle.bl_ways.specs.declared.changing.Outcome.{Outcome}
 use Rattle.bl_ways.specs.declared.changing.Outcome.TheVariants as outcome
 use Rattle.bl_ways.specs.declared.changing.Change.{Change}
@@ -22,17 +19,18 @@ use Rattle.bl_proc.specs.declared.inserting.InsertStage.{InsertStage}
 use Rattle.bl_proc.specs.declared.inserting.InsertStage.TheVariants as insert
 use Rattle.bl_proc.specs.declared.inserting.InsertReply.TheVariants as inserted
 use Rattle.bl_ways.specs.Onwards.{Leads}
-use Rattle.bl_ways.specs.Approaches.{approach_next, Approaches}
-use Rattle.bl_ways.specs.Changes.{change_next, EntersPair}
-use Rattle.bl_proc.specs.Inserts.{insert_reply, insert_next_in, InsertArrives, InsertGoes}
+use Rattle.bl_ways.specs.Changes.{EntersPair}
+use Rattle.bl_proc.specs.Inserts.{insert_reply, insert_next_in}
 use Rattle.bl_tables.specs.Turns.{event_of, IsTold, Does, Turned}
 use Rattle.bl_tables.specs.Tables.{IsAim, know_approach, know_change}
 use Rattle.bl_tables.specs.Knowing.{inserts, insert_aim, know_insert, insert_got, insert_end}
 use Rattle.bl_tables.proofs.Acts.{watched, opened}
-use Rattle.bl_tables.proofs.Approaching.{arrival, approach_turn}
+use Rattle.bl_tables.proofs.Approaching.{approach_turn}
 use Rattle.bl_tables.proofs.Changing.{says, change_turn, finish_turn}
 use Rattle.bl_tables.proofs.Entering.{enters_learns, enters_places, change_middle}
 use Rattle.bl_tables.proofs.Ends.{begin_turn, end_turn}
+use Rattle.bl_courses.proofs.WayCases.{change_case}
+use Rattle.bl_courses.proofs.KindCases.{InsertCase}
 
 pub insert_fine : (key value : ℕ) → IsAim (insert_aim key value)
 insert_fine key value = record {
@@ -78,11 +76,6 @@ module _ {P : Type 0} (know : P → Know) (w : World P) (g : IsGood know w) (p :
         children = tt;
       }) refl enters)
 
-  arrive_turn : (x : ℕ) (a : InsertStage) (got : ℕ → Page) (s : State Page) → know (w.proc p) ≡ know_approach 0 key (way.Latched x) → know b ≡ know_insert key value got a → got ≡ (λ z. w.now.contents x) → Leads (w.now.contents x) key 0 Here → InsertArrives key value x (w.now.contents x) a → Does w.now p (Get x) s → Turned know w p (Get x) s b
-  arrive_turn x (insert.Present y there) got s before then same l t does = present_turn x there got s before (rw t.0 at then) l t.1 does
-  arrive_turn x (insert.Changing c) got s before then same l t does = enter_turn x c s before (subst (λ f. know b ≡ know_change (insert_aim key value) f c) same then) l t.0 t.1 does
-  arrive_turn x old got s before then same l t does = absurd t
-
   stay_turn : (x there : ℕ) (got : ℕ → Page) (s : State Page) → know (w.proc p) ≡ know_insert key value got (insert.Present x there) → know b ≡ know_insert key value got (insert.Ending (inserted.Present there)) → Does w.now p (Act.Open x) s → Turned know w p (Act.Open x) s b
   stay_turn x there got s before then does =
       let is : IsSure w p (know_insert key value got (insert.Present x there)) = rw before at (g.sure p) in
@@ -90,55 +83,15 @@ module _ {P : Type 0} (know : P → Know) (w : World P) (g : IsGood know w) (p :
       (λ z n h. elim h [ inl e ↦ absurd (n (sym e)) | inr u ↦ absurd u ])
       (record { stage = is.stage; said = HasSaid-silent w.trail (silent p (Act.Open x)) p (inserts key value (inserted.Present there)) refl is.said; holds = tt; goes = tt; children = tt; passed = tt; sound = tt; log = tt })
 
-  -- on the way to the leaf
-  come_turn : (a : Approach) (a' : InsertStage) (got : ℕ → Page) (what : Seen) (s : State Page) → know (w.proc p) ≡ know_approach 0 key a → know b ≡ know_insert key value (insert_got got (insert.Coming a) what) a' → ((x : ℕ) × (c : Page) × Approaches 0 key a what (came.Here x c) × InsertArrives key value x c a') → IsTold w.now w.size (approach_next a) what → Does w.now p (event_of None (approach_next a) what) s → Turned know w p (event_of None (approach_next a) what) s b
-  come_turn (way.Latched x) a' got (seen.Words c) s before then (y, d, h, t) told does =
-      let page : d ≡ w.now.contents x = h.1 ∙ told in
-      let here : Leads (w.now.contents x) key 0 Here = rw told at h.2 in
-      let at_x : InsertArrives key value x (w.now.contents x) a' = subst (λ z. InsertArrives key value x z a') page (subst (λ z. InsertArrives key value z d a') h.0 t) in
-      arrive_turn x a' (λ z. c) s before then (ap (λ u z. u) told) here at_x does
-  come_turn way.Start a' got what s before then (y, d, h, t) told does = absurd (arrival 0 key way.Start what y d h)
-  come_turn (way.At x) a' got what s before then (y, d, h, t) told does = absurd (arrival 0 key (way.At x) what y d h)
-  come_turn (way.Latching x) a' got what s before then (y, d, h, t) told does = absurd (arrival 0 key (way.Latching x) what y d h)
-  come_turn (way.Leaving x to) a' got what s before then (y, d, h, t) told does = absurd (arrival 0 key (way.Leaving x to) what y d h)
-  come_turn (way.Latched x) a' got seen.Done s before then (y, d, h, t) told does = absurd h
-  come_turn (way.Latched x) a' got (seen.Took n) s before then (y, d, h, t) told does = absurd h
-  come_turn (way.Latched x) a' got (seen.Owner retired started own) s before then (y, d, h, t) told does = absurd h
-  come_turn (way.Latched x) a' got (seen.Blocks it) s before then (y, d, h, t) told does = absurd h
-  come_turn (way.Latched x) a' got seen.Missed s before then (y, d, h, t) told does = absurd h
-  come_turn (way.Latched x) a' got seen.Refused s before then (y, d, h, t) told does = absurd h
-
-  change_ends : (c : Change) (a' : InsertStage) (got : ℕ → Page) (what : Seen) (s : State Page) → know (w.proc p) ≡ know_insert key value got (insert.Changing c) → know b ≡ know_insert key value got a' → InsertGoes key value (insert.Changing c) what a' → IsTold w.now w.size (change_next c) what → Does w.now p (event_of None (change_next c) what) s → Turned know w p (event_of None (change_next c) what) s b
-  change_ends c (insert.Changing d) got what s before then t told does = change_turn know w g p b (insert_aim key value) (insert_fine key value) got c d what s before then t told does
-  change_ends c (insert.Ending r) got what s before then (o, t, same) told does =
-      finish_turn know w g p b (insert_aim key value) (insert_fine key value) got c o what _ s before (subst (λ z. know b ≡ know_insert key value got (insert.Ending z)) same then) tt t does
-  change_ends c old got what s before then t told does = absurd t
-
   -- every turn of an insertion
-  pub insert_turn : (a a' : InsertStage) (got : ℕ → Page) (what : Seen) (s : State Page) → know (w.proc p) ≡ know_insert key value got a → know b ≡ know_insert key value (insert_got got a what) a' → InsertGoes key value a what a' → IsTold w.now w.size (insert_next_in a) what → Does w.now p (event_of (insert_end a) (insert_next_in a) what) s → Turned know w p (event_of (insert_end a) (insert_next_in a) what) s b
-  insert_turn (insert.Coming a) (insert.Coming a') got what s before then t told does = approach_turn know w g p b 0 key a a' what s (omega arith) before then t told does
-  insert_turn (insert.Coming a) insert.New got what s before then t told does = come_turn a insert.New got what s before then t told does
-  insert_turn (insert.Coming a) (insert.Present y v) got what s before then t told does = come_turn a (insert.Present y v) got what s before then t told does
-  insert_turn (insert.Coming a) (insert.Changing d) got what s before then t told does = come_turn a (insert.Changing d) got what s before then t told does
-  insert_turn (insert.Coming a) (insert.Ending last) got what s before then t told does = come_turn a (insert.Ending last) got what s before then t told does
-  insert_turn (insert.Coming a) (insert.Over last) got what s before then t told does = come_turn a (insert.Over last) got what s before then t told does
-  insert_turn (insert.Changing c) a' got what s before then t told does = change_ends c a' got what s before then t told does
-  insert_turn insert.New insert.New got seen.Done s before then t told does = absurd t
-  insert_turn insert.New (insert.Coming a') got seen.Done s before then t told does = begin_turn know w g p b key s before (rw t at then) does
-  insert_turn insert.New (insert.Present y v) got seen.Done s before then t told does = absurd t
-  insert_turn insert.New (insert.Changing d) got seen.Done s before then t told does = absurd t
-  insert_turn insert.New (insert.Ending last) got seen.Done s before then t told does = absurd t
-  insert_turn insert.New (insert.Over last) got seen.Done s before then t told does = absurd t
-  insert_turn (insert.Present x there) insert.New got seen.Done s before then t told does = absurd t
-  insert_turn (insert.Present x there) (insert.Coming a') got seen.Done s before then t told does = absurd t
-  insert_turn (insert.Present x there) (insert.Present y v) got seen.Done s before then t told does = absurd t
-  insert_turn (insert.Present x there) (insert.Changing d) got seen.Done s before then t told does = absurd t
-  insert_turn (insert.Present x there) (insert.Ending last) got seen.Done s before then t told does = stay_turn x there got s before (rw t at then) does
-  insert_turn (insert.Present x there) (insert.Over last) got seen.Done s before then t told does = absurd t
-  insert_turn (insert.Ending r) insert.New got seen.Done s before then t told does = absurd t
-  insert_turn (insert.Ending r) (insert.Coming a') got seen.Done s before then t told does = absurd t
-  insert_turn (insert.Ending r) (insert.Present y v) got seen.Done s before then t told does = absurd t
-  insert_turn (insert.Ending r) (insert.Changing d) got seen.Done s before then t told does = absurd t
-  insert_turn (insert.Ending r) (insert.Ending last) got seen.Done s before then t told does = absurd t
-  insert_turn (insert.Ending r) (insert.Over last) got seen.Done s before then t told does = end_turn know w g p b (inserts key value r) s before (rw t at then) does
-  insert_turn old a' got what s before then t told does = absurd t
+  pub insert_turn : {a a' : InsertStage} {what : Seen} → InsertCase key value a what a' → (got : ℕ → Page) (s : State Page) → know (w.proc p) ≡ know_insert key value got a → know b ≡ know_insert key value (insert_got got a what) a' → IsTold w.now w.size (insert_next_in a) what → Does w.now p (event_of (insert_end a) (insert_next_in a) what) s → Turned know w p (event_of (insert_end a) (insert_next_in a) what) s b
+  insert_turn (InsertCase.Began a t) got s before then told does = begin_turn know w g p b key s before (rw t at then) does
+  insert_turn (InsertCase.Came a what a' t) got s before then told does = approach_turn know w g p b 0 key a a' what s (omega arith) before then t told does
+  insert_turn (InsertCase.Found x c y there l t) got s before then told does = present_turn x there (λ z. c) s before (rw t.0 at then) (rw told at l) (rw told at t.1) does
+  insert_turn (InsertCase.Entered x c d l t) got s before then told does =
+      enter_turn x d s before (subst (λ z. know b ≡ know_change (insert_aim key value) (λ u. z) d) told then) (rw told at l) (rw told at t.0) (rw told at t.1) does
+  insert_turn (InsertCase.Opened x there r t) got s before then told does = stay_turn x there got s before (rw t at then) does
+  insert_turn (InsertCase.Changed c what d t) got s before then told does = change_turn know w g p b (insert_aim key value) (insert_fine key value) got (change_case c what _ t) s before then told does
+  insert_turn (InsertCase.Finished c what r (o, t, same)) got s before then told does =
+      finish_turn know w g p b (insert_aim key value) (insert_fine key value) got (change_case c what _ t) _ s before (subst (λ z. know b ≡ know_insert key value got (insert.Ending z)) same then) tt does
+  insert_turn (InsertCase.Ended r last t) got s before then told does = end_turn know w g p b (inserts key value r) s before (rw t at then) does

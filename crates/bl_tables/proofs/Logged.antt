@@ -1,6 +1,6 @@
 -- The step lemma with what each process has done: a world that is good by the states of its processes is good also by their
 -- logs, which every turn keeps.
-use Rattle.std.proofs.Common.{ℕ, ◌≡◌, ◌≢◌, ◌++◌, Option, Some, None, [], ◌∷◌, ap, sym, ◌∙◌, refl, subst, inl, inr}
+use Rattle.std.proofs.Common.{ℕ, ◌≡◌, ◌++◌, Option, Some, None, [], ◌∷◌, ap, sym, ◌∙◌, refl, subst, inl, inr}
 use Rattle.bl_model.specs.declared.operation.Reply.{Reply}
 use Rattle.bl_page.specs.declared.page.Page.{Page}
 use Rattle.bl_page.specs.Machine.{Name, State, Act}
@@ -8,17 +8,14 @@ use Rattle.bl_page.specs.Machine.Act.{Get, Miss}
 use Rattle.bl_trails.specs.Trails.{Mark, Trail, Saw, marks_of}
 use Rattle.bl_trails.specs.Meanings.{put_in, writes_in}
 use Rattle.bl_trails.proofs.Pushes.{name_cases, marks_of-own, marks_of-other}
-use Rattle.bl_steps.specs.Worlds.{Stage, World, IsSure, IsGood}
+use Rattle.bl_steps.specs.Worlds.{Stage, World, IsGood}
 use Rattle.bl_starts.specs.Blank.{IsBlank}
 use Rattle.bl_ways.specs.declared.acts.Action.{Action}
 use Rattle.bl_ways.specs.declared.acts.Action.TheVariants as act
 use Rattle.bl_ways.specs.declared.acts.Seen.{Seen}
 use Rattle.bl_ways.specs.declared.acts.Seen.TheVariants as seen
-use Rattle.bl_ways.specs.declared.approaching.Approach.{Approach}
 use Rattle.bl_ways.specs.declared.approaching.Approach.TheVariants as way
-use Rattle.bl_ways.specs.declared.changing.Change.{Change}
 use Rattle.bl_ways.specs.declared.changing.Change.TheVariants as change
-use Rattle.bl_ways.specs.declared.growing.Growth.{Growth}
 use Rattle.bl_ways.specs.declared.growing.Growth.TheVariants as growth
 use Rattle.bl_proc.specs.declared.inserting.InsertStage.{InsertStage}
 use Rattle.bl_proc.specs.declared.inserting.InsertStage.TheVariants as insert
@@ -26,20 +23,20 @@ use Rattle.bl_proc.specs.declared.deleting.DeleteStage.{DeleteStage}
 use Rattle.bl_proc.specs.declared.deleting.DeleteStage.TheVariants as delete
 use Rattle.bl_proc.specs.declared.posting.PostStage.{PostStage}
 use Rattle.bl_proc.specs.declared.posting.PostStage.TheVariants as post
-use Rattle.bl_compress.specs.declared.compressing.Compression.TheVariants.{LatchingLeft, LatchedLeft, LatchingRight, LatchedRight, PuttingFirst, PuttingParent, PuttingLast, Retiring, OpeningRight, OpeningLeft, OpeningParent}
+use Rattle.bl_compress.specs.declared.compressing.Compression.TheVariants.{LatchingLeft}
 use Rattle.bl_compress.specs.declared.squeezing.CompressStage.{CompressStage}
 use Rattle.bl_compress.specs.declared.squeezing.CompressStage.TheVariants as compress
 use Rattle.bl_proc.specs.declared.kinds.Proc.{Proc}
 use Rattle.bl_proc.specs.declared.kinds.Proc.TheVariants.{Find, Insert, Delete, Post, Part, Compress, Reclaim}
 use Rattle.bl_proc.specs.Processes.{next_of, Takes}
 use Rattle.bl_tables.specs.Turns.{event_of, IsTold, Turned}
-use Rattle.bl_tables.specs.Tables.{know_approach, know_change}
 use Rattle.bl_tables.specs.Logs.{proc_log, insert_log, delete_log, post_log, compress_log}
-use Rattle.bl_tables.specs.Knowing.{Run, know_of, bare, know, know_insert, know_delete, know_growth, know_post, know_compress, post_aim, end_of_proc, run_next}
+use Rattle.bl_tables.specs.Knowing.{Run, know_of, bare, know, know_insert, know_delete, know_post, know_compress, end_of_proc, run_next}
 use Rattle.bl_tables.proofs.Plain.{plain}
 use Rattle.bl_tables.proofs.Logging.{post_on, post_stays}
 use Rattle.bl_tables.proofs.Doing.{compress_on, compress_stays}
 use Rattle.bl_tables.proofs.Putting.{insert_on, insert_stays, delete_on, delete_stays}
+use Rattle.bl_courses.proofs.KindCases.{insert_case, delete_case, post_case, compress_case}
 
 pub bare_good : (w : World Run) → IsGood know w → IsGood bare w
 bare_good w g = record {
@@ -209,12 +206,12 @@ saw_words reply s size saw old what told is y d e f = absurd (let g = f in cc)
 
 pub log_turn : (old new : Proc) (what : Seen) (marks : Trail) (m : Mark) → Takes old what new → m.event.act ≡ event_of (end_of_proc old) (next_of old) what → ((x : ℕ) (c : Page) → m.event.act ≡ Get x → what ≡ seen.Words c → m.saw ≡ Some c) → proc_log old marks → proc_log new (marks ++ m ∷ [])
 log_turn (Post a) (Post c) what marks m t did saw h =
-    subst (λ l. post_log l c.key c.stage (marks ++ m ∷ [])) (sym t.0) (subst (λ k. post_log a.level k c.stage (marks ++ m ∷ [])) (sym t.1) (post_on marks m a.level a.key a.least a.stage c.stage what t.2 did saw h))
+    subst (λ l. post_log l c.key c.stage (marks ++ m ∷ [])) (sym t.0) (subst (λ k. post_log a.level k c.stage (marks ++ m ∷ [])) (sym t.1) (post_on marks m a.level a.key a.least (post_case a.level a.key a.stage what c.stage t.2) did saw h))
 log_turn (Find a) (Find c) what marks m t did saw h = tt
 log_turn (Insert a) (Find c) what marks m t did saw h = tt
-log_turn (Insert a) (Insert c) what marks m t did saw h = insert_on marks m a.key a.value a.stage c.stage what t.2 did h
+log_turn (Insert a) (Insert c) what marks m t did saw h = insert_on marks m (insert_case a.key a.value a.stage what c.stage t.2) did h
 log_turn (Delete a) (Find c) what marks m t did saw h = tt
-log_turn (Delete a) (Delete c) what marks m t did saw h = delete_on marks m a.key a.stage c.stage what t.1 did h
+log_turn (Delete a) (Delete c) what marks m t did saw h = delete_on marks m (delete_case a.key a.stage what c.stage t.1) did h
 log_turn (Post a) (Find c) what marks m t did saw h = tt
 log_turn (Find a) (Part c) what marks m t did saw h = tt
 log_turn (Insert a) (Part c) what marks m t did saw h = tt
@@ -231,7 +228,7 @@ log_turn (Reclaim a) (Reclaim c) what marks m t did saw h = tt
 log_turn (Reclaim a) (Find c) what marks m t did saw h = tt
 log_turn (Reclaim a) (Part c) what marks m t did saw h = tt
 log_turn (Compress a) (Compress c) what marks m t did saw h =
-    subst (λ l. compress_log l c.key c.stage (marks ++ m ∷ [])) (sym t.0) (subst (λ k. compress_log a.level k c.stage (marks ++ m ∷ [])) (sym t.1) (compress_on marks m a.level a.key a.least a.stage c.stage what t.2 did saw h))
+    subst (λ l. compress_log l c.key c.stage (marks ++ m ∷ [])) (sym t.0) (subst (λ k. compress_log a.level k c.stage (marks ++ m ∷ [])) (sym t.1) (compress_on marks m a.level a.key a.least (compress_case a.level a.key a.stage what c.stage t.2) did saw h))
 log_turn (Compress a) (Find c) what marks m t did saw h = tt
 log_turn (Compress a) (Part c) what marks m t did saw h = tt
 log_turn (Compress a) (Reclaim c) what marks m t did saw h = tt

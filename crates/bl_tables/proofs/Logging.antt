@@ -2,12 +2,12 @@
 use Rattle.std.proofs.Common.{ℕ, ◌≡◌, ◌≢◌, ◌<◌, ◌-◌, ◌++◌, List, [], ◌∷◌, None, Some, arith, ap, sym, ◌∙◌, refl, subst, inl, inr, append_assoc, append-nil}
 use Rattle.bl_model.specs.declared.operation.Reply.{Reply}
 use Rattle.bl_page.specs.declared.page.Page.{Page}
-use Rattle.bl_page.specs.declared.page.Page.TheVariants.{Anchor, Leaf, Inner, Dead}
+use Rattle.bl_page.specs.declared.page.Page.TheVariants.{Inner}
 use Rattle.bl_page.specs.Machine.{Act}
-use Rattle.bl_page.specs.Machine.Act.{Get, Put, Latch, Miss}
+use Rattle.bl_page.specs.Machine.Act.{Get, Put, Latch}
 use Rattle.bl_laws.specs.Pages.{node_of, roots_of}
 use Rattle.bl_trails.specs.Trails.{Mark, Trail}
-use Rattle.bl_trails.specs.Meanings.{writes_in, Wrote, RaisesOnly, HasRaised, ArePuts}
+use Rattle.bl_trails.specs.Meanings.{writes_in, RaisesOnly, HasRaised, ArePuts}
 use Rattle.bl_trails.proofs.Meant.{begun_now, wrote_on, wrote_still, got_on, got_last, parted_on, already_on, stale_on, tall_on, no_room_on}
 use Rattle.bl_puts.proofs.Fitted.{fits_row, split_cut}
 use Rattle.bl_rearrange.specs.declared.fitted.Fitted.TheVariants.{Split}
@@ -35,12 +35,14 @@ use Rattle.bl_proc.specs.declared.posting.PostStage.{PostStage}
 use Rattle.bl_proc.specs.declared.posting.PostStage.TheVariants as post
 use Rattle.bl_ways.specs.Onwards.{Leads}
 use Rattle.bl_ways.specs.Approaches.{approach_next, Turns, Approaches}
-use Rattle.bl_ways.specs.Changes.{change_next, EntersPair, Changes}
-use Rattle.bl_ways.specs.Growths.{growth_next, IsTop, Grows}
-use Rattle.bl_proc.specs.Posts.{post_reply, post_next_in, PostStarts, PostArrives, PostWalks, PostNears, PostComes, PostGoes}
+use Rattle.bl_ways.specs.Changes.{change_next, EntersPair}
+use Rattle.bl_ways.specs.Growths.{growth_next, IsTop}
+use Rattle.bl_proc.specs.Posts.{post_reply, post_next_in, PostArrives}
 use Rattle.bl_tables.specs.Turns.{event_of}
 use Rattle.bl_tables.specs.Logs.{Holding, HoldsParent, HoldsBoth, IsToPut, approach_log, outcome_log, change_log, growth_log, reply_log, post_log}
 use Rattle.bl_tables.proofs.Holdings.{held_raised, held_now, held_on, parent_held_on, both_held_on, child_got, parent_got, refused_while, under, is_parted, cut_low, row_together, cut_together}
+use Rattle.bl_courses.proofs.WayCases.{ApproachCase, approach_case, ChangeCase, change_case, GrowthCase, growth_case}
+use Rattle.bl_courses.proofs.KindCases.{PostCase}
 
 no_latched : (level x : ℕ) (c : Page) (o : Step) (y : ℕ) → Turns level x c o (way.Latched y) → ⊥
 no_latched level x c Again y h = h
@@ -82,15 +84,13 @@ approach_writes (way.Leaving x to) seen.Refused = refl
 
 module _ (m : Mark) (level key : ℕ) where
   -- on the way a page is held from its latch on
-  pub latched_on : (a : Approach) (y : ℕ) (what : Seen) → Approaches level key a what (came.On (way.Latched y)) → m.event.act ≡ event_of None (approach_next a) what → m.event.act ≡ Latch y
-  latched_on way.Start y seen.Done t did = absurd t
-  latched_on (way.At x) y (seen.Words c) (o, l, u) did = absurd (no_latched level x c o y u)
-  latched_on (way.Latching x) y seen.Done t did = did ∙ ap Latch (same_latched x y t)
-  latched_on (way.Latching x) y seen.Missed t did = absurd (let e = t in cc)
-  latched_on (way.Latched x) y seen.Done t did = absurd t
-  latched_on (way.Leaving x None) y seen.Done t did = absurd (let e = t in cc)
-  latched_on (way.Leaving x (Some z)) y seen.Done t did = absurd (let e = t in cc)
-  latched_on old y what t did = absurd t
+  pub latched_on : {a : Approach} {y : ℕ} {what : Seen} → ApproachCase level key a what (came.On (way.Latched y)) → m.event.act ≡ event_of None (approach_next a) what → m.event.act ≡ Latch y
+  latched_on (ApproachCase.Entered c _ t) did = absurd t
+  latched_on (ApproachCase.Turned x c _ o l u) did = absurd (no_latched level x c o _ u)
+  latched_on (ApproachCase.LatchedPage x _ t) did = did ∙ ap Latch (same_latched x _ t)
+  latched_on (ApproachCase.MissedPage x _ t) did = absurd (let e = t in cc)
+  latched_on (ApproachCase.OpenedFor x z _ t) did = absurd (let e = t in cc)
+  latched_on (ApproachCase.OpenedLost x _ t) did = absurd (let e = t in cc)
 
 module _ (marks : Trail) (m : Mark) (level key : ℕ) (least : 0 < level) where
   abbrev more : Trail
@@ -135,15 +135,17 @@ module _ (marks : Trail) (m : Mark) (level key : ℕ) (least : 0 < level) where
 
   approach_on : (a b : Approach) (what : Seen) → Approaches level key a what (came.On b) → m.event.act ≡ event_of None (approach_next a) what → approach_log level a marks → approach_log level b more
   approach_on a b what t did h = off_on b 0 (raised_on (ap writes_in did ∙ approach_writes a what) (approach_raised a h))
-      (λ x e. held_now marks m x (latched_on m level key a x what (subst (λ z. Approaches level key a what (came.On z)) e t) did) (approach_raised a h))
+      (λ x e. held_now marks m x (latched_on m level key (approach_case level key a what _ (subst (λ z. Approaches level key a what (came.On z)) e t)) did) (approach_raised a h))
 
   -- at the parent
-  arrive_on : (x : ℕ) (c : Page) (new : PostStage) → Leads c key level Here → PostArrives key x c new → m.event.act ≡ Get x → m.saw ≡ Some c → Holding level marks x [] → post_log level key new more
-  arrive_on x c (post.Walking v) l t did saw h =
+  to_walk_on : (x : ℕ) (c : Page) (v : Walk) → Leads c key level Here → PostArrives key x c (post.Walking v) → m.event.act ≡ Get x → m.saw ≡ Some c → Holding level marks x [] → post_log level key (post.Walking v) more
+  to_walk_on x c v l t did saw h =
       let unlisted : (node_of c).look key ≡ None = subst (λ z. (node_of z).look key ≡ None) (sym t.2) (subst (λ z. (node_of (Inner v.parent)).look z ≡ None) t.1 v.unlisted) in
       let here : HoldsParent level key more x c [] = parent_got marks m c did saw h l.2 l.1 unlisted in
       (subst (λ z. HoldsParent level key more z (Inner v.parent) []) (sym t.0) (subst (λ z. HoldsParent level key more x z []) t.2 here), t.1)
-  arrive_on x c (post.Staying y reply.Already) l t did saw h = record {
+
+  listed_on : (x : ℕ) (c : Page) (y : ℕ) → Leads c key level Here → PostArrives key x c (post.Staying y reply.Already) → m.event.act ≡ Get x → m.saw ≡ Some c → Holding level marks x [] → post_log level key (post.Staying y reply.Already) more
+  listed_on x c y l t did saw h = record {
     parent = record {
       at = x;
       under = under (held_on marks m [] (λ o. (let e = sym did ∙ o in cc)) (subst (λ a. ArePuts (writes_in a) []) (sym did) tt) h);
@@ -156,52 +158,6 @@ module _ (marks : Trail) (m : Mark) (level key : ℕ) (least : 0 < level) where
     child = t.1.0;
     listed = t.1.1;
   }
-  arrive_on x c post.New l t did saw h = absurd t
-  arrive_on x c (post.Coming a) l t did saw h = absurd t
-  arrive_on x c (post.Growing g) l t did saw h = absurd t
-  arrive_on x c (post.Changing d) l t did saw h = absurd t
-  arrive_on x c (post.Ending r) l t did saw h = absurd t
-  arrive_on x c (post.Over r) l t did saw h = absurd t
-  arrive_on x c (post.Staying y (reply.Done s)) l t did saw h = absurd t
-  arrive_on x c (post.Staying y reply.Stale) l t did saw h = absurd t
-  arrive_on x c (post.Staying y reply.NoRoom) l t did saw h = absurd t
-  arrive_on x c (post.Staying y reply.TooTall) l t did saw h = absurd t
-
-  here_on : (a : Approach) (new : PostStage) (what : Seen) (y : ℕ) (d : Page) → Approaches level key a what (came.Here y d) → PostArrives key y d new → m.event.act ≡ event_of None (approach_next a) what → ((x : ℕ) (c : Page) → m.event.act ≡ Get x → what ≡ seen.Words c → m.saw ≡ Some c) → approach_log level a marks → post_log level key new more
-  here_on way.Start new seen.Done y d t at did saw h = absurd t
-  here_on (way.At x) new seen.Done y d t at did saw h = absurd t
-  here_on (way.Latching x) new seen.Done y d t at did saw h = absurd t
-  here_on (way.Latched x) new (seen.Words c) y d t at did saw h =
-      arrive_on y d new (subst (λ z. Leads z key level Here) (sym t.1) t.2) at (did ∙ ap Get (sym t.0)) (saw x c did refl ∙ ap Some (sym t.1)) (subst (λ z. Holding level marks z []) (sym t.0) h)
-  here_on (way.Leaving x None) new seen.Done y d t at did saw h = absurd t
-  here_on (way.Leaving x (Some z)) new seen.Done y d t at did saw h = absurd t
-  here_on old new what y d t at did saw h = absurd t
-
-  near_on : (a : Approach) (new : PostStage) (what : Seen) → PostNears level key a what new → m.event.act ≡ event_of None (approach_next a) what → ((x : ℕ) (c : Page) → m.event.act ≡ Get x → what ≡ seen.Words c → m.saw ≡ Some c) → approach_log level a marks → post_log level key new more
-  near_on a (post.Coming b) what t did saw h = approach_on a b what t did h
-  near_on a post.New what (y, d, t, at) did saw h = here_on a post.New what y d t at did saw h
-  near_on a (post.Growing g) what (y, d, t, at) did saw h = here_on a (post.Growing g) what y d t at did saw h
-  near_on a (post.Walking v) what (y, d, t, at) did saw h = here_on a (post.Walking v) what y d t at did saw h
-  near_on a (post.Changing e) what (y, d, t, at) did saw h = here_on a (post.Changing e) what y d t at did saw h
-  near_on a (post.Staying z r) what (y, d, t, at) did saw h = here_on a (post.Staying z r) what y d t at did saw h
-  near_on a (post.Ending r) what (y, d, t, at) did saw h = here_on a (post.Ending r) what y d t at did saw h
-  near_on a (post.Over r) what (y, d, t, at) did saw h = here_on a (post.Over r) what y d t at did saw h
-
-  -- at the anchor
-  start_on : (c : Page) (new : PostStage) → PostStarts level key c new → m.event.act ≡ Get 0 → m.saw ≡ Some c → HasRaised level marks → post_log level key new more
-  start_on c (post.Ending reply.Stale) t did saw h = inl (record { first = raised_on (ap writes_in did) h; anchor = c; got = got_last marks m did saw; few = t })
-  start_on c (post.Ending reply.TooTall) t did saw h = record { last = t.1; first = raised_on (ap writes_in did) h; anchor = c; got = got_last marks m did saw; full = t.0 ∙ t.1 }
-  start_on c (post.Growing growth.Latching) t did saw h = raised_on (ap writes_in did) h
-  start_on c (post.Coming a) t did saw h = approach_on way.Start a (seen.Words c) t.1 did h
-  start_on c old t did saw h = absurd t
-
-  come_on : (a : Approach) (new : PostStage) (what : Seen) → PostComes level key a what new → m.event.act ≡ event_of None (approach_next a) what → ((x : ℕ) (c : Page) → m.event.act ≡ Get x → what ≡ seen.Words c → m.saw ≡ Some c) → approach_log level a marks → post_log level key new more
-  come_on way.Start new (seen.Words c) t did saw h = start_on c new t did (saw 0 c did refl) h
-  come_on (way.At x) new what t did saw h = near_on (way.At x) new what t did saw h
-  come_on (way.Latching x) new what t did saw h = near_on (way.Latching x) new what t did saw h
-  come_on (way.Latched x) new what t did saw h = near_on (way.Latched x) new what t did saw h
-  come_on (way.Leaving x to) new what t did saw h = near_on (way.Leaving x to) new what t did saw h
-  come_on old new what t did saw h = absurd t
 
   -- the anchor was put, and with it a new top level
   raised_more : (x : ℕ) (top anchor : Page) (acts : List (Act Page Reply)) → ((before : List (Act Page Reply)) × RaisesOnly level before × (acts ≡ before ++ Put x top ∷ [])) → (node_of top).shape.level ≡ level → m.event.act ≡ Put 0 anchor → RaisesOnly level (acts ++ writes_in m.event.act)
@@ -212,42 +168,22 @@ module _ (marks : Trail) (m : Mark) (level key : ℕ) (least : 0 < level) where
   top_level above below (Inner i) t = t.0
   top_level above below old t = absurd t
 
-  grow_on : (g h : Growth) (what : Seen) → Grows level g what (grew.On h) → m.event.act ≡ event_of None (growth_next g) what → growth_log level g marks → growth_log level h more
-  grow_on growth.Latching h seen.Done t did log = subst (λ z. growth_log level z more) (sym t) (held_now marks m 0 did log)
-  grow_on growth.Latching h seen.Missed t did log = subst (λ z. growth_log level z more) (sym t) (raised_on (ap writes_in did) log)
-  grow_on growth.Latched h seen.Done t did log = absurd t
-  grow_on growth.Latched (growth.Taking q) (seen.Words c) t did log = (held_on marks m [] (λ o. (let e = sym did ∙ o in cc)) (subst (λ a. ArePuts (writes_in a) []) (sym did) tt) log, ap (λ z. (roots_of z).levels) (sym t.0) ∙ t.1)
-  grow_on growth.Latched growth.OpeningGrown (seen.Words c) t did log = raised_on (ap writes_in did) (held_raised log)
-  grow_on (growth.Taking rise) (growth.PuttingTop q) (seen.Took n) t did log = (raised_on (ap writes_in did) (held_raised log.0), top_level _ _ q.top t.1.0 ∙ log.1)
-  grow_on (growth.Taking rise) h seen.Refused t did log = subst (λ z. growth_log level z more) (sym t) (refused_while marks m did log.0)
-  grow_on (growth.PuttingTop r) h seen.Done t did log = subst (λ z. growth_log level z more) (sym t) (wrote_on marks m (λ acts is. (acts, is, ap (λ z. acts ++ writes_in z) did)) log.0, log.1)
-  grow_on (growth.PuttingAnchor r) h seen.Done t did log = subst (λ z. growth_log level z more) (sym t) (wrote_on marks m (λ acts is. raised_more r.new r.top r.anchor acts is log.1 did) log.0)
-  grow_on (growth.OpeningTop x) h seen.Done t did log = subst (λ z. growth_log level z more) (sym t) (raised_on (ap writes_in did) log)
-  grow_on growth.OpeningGrown h seen.Done t did log = absurd t
-  grow_on growth.OpeningRefused h seen.Done t did log = absurd t
-  grow_on old h what t did log = absurd t
+  grow_on : {g h : Growth} {what : Seen} → GrowthCase level g what (grew.On h) → m.event.act ≡ event_of None (growth_next g) what → growth_log level g marks → growth_log level h more
+  grow_on (GrowthCase.LatchedAnchor h t) did log = subst (λ z. growth_log level z more) (sym t) (held_now marks m 0 did log)
+  grow_on (GrowthCase.Missed h t) did log = subst (λ z. growth_log level z more) (sym t) (raised_on (ap writes_in did) log)
+  grow_on (GrowthCase.Rises c q t) did log = (held_on marks m [] (λ o. (let e = sym did ∙ o in cc)) (subst (λ a. ArePuts (writes_in a) []) (sym did) tt) log, ap (λ z. (roots_of z).levels) (sym t.0) ∙ t.1)
+  grow_on (GrowthCase.Stands c t) did log = raised_on (ap writes_in did) (held_raised log)
+  grow_on (GrowthCase.TookTop rise n q t) did log = (raised_on (ap writes_in did) (held_raised log.0), top_level _ _ q.top t.1.0 ∙ log.1)
+  grow_on (GrowthCase.TopRefused rise h t) did log = subst (λ z. growth_log level z more) (sym t) (refused_while marks m did log.0)
+  grow_on (GrowthCase.PutTop r h t) did log = subst (λ z. growth_log level z more) (sym t) (wrote_on marks m (λ acts is. (acts, is, ap (λ z. acts ++ writes_in z) did)) log.0, log.1)
+  grow_on (GrowthCase.PutAnchor r h t) did log = subst (λ z. growth_log level z more) (sym t) (wrote_on marks m (λ acts is. raised_more r.new r.top r.anchor acts is log.1 did) log.0)
+  grow_on (GrowthCase.OpenedTop x h t) did log = subst (λ z. growth_log level z more) (sym t) (raised_on (ap writes_in did) log)
 
-  grow_end : (g : Growth) (what : Seen) → Grows level g what grew.Refused → m.event.act ≡ event_of None (growth_next g) what → growth_log level g marks → reply_log level key reply.NoRoom more
-  grow_end growth.Latching seen.Done t did h = absurd t
-  grow_end growth.Latched seen.Done t did h = absurd t
-  grow_end (growth.Taking rise) seen.Done t did h = absurd t
-  grow_end (growth.PuttingTop r) seen.Done t did h = absurd t
-  grow_end (growth.PuttingAnchor r) seen.Done t did h = absurd t
-  grow_end (growth.OpeningTop x) seen.Done t did h = absurd t
-  grow_end growth.OpeningGrown seen.Done t did h = absurd t
-  grow_end growth.OpeningRefused seen.Done t did h = no_room_on marks m (ap writes_in did) h
-  grow_end old what t did h = absurd t
+  grow_end : {g : Growth} {what : Seen} → GrowthCase level g what grew.Refused → m.event.act ≡ event_of None (growth_next g) what → growth_log level g marks → reply_log level key reply.NoRoom more
+  grow_end GrowthCase.OpenedRefused did h = no_room_on marks m (ap writes_in did) h
 
-  grown_on : (g : Growth) (what : Seen) → Grows level g what grew.Grown → m.event.act ≡ event_of None (growth_next g) what → growth_log level g marks → HasRaised level more
-  grown_on growth.Latching seen.Done t did h = absurd t
-  grown_on growth.Latched seen.Done t did h = absurd t
-  grown_on (growth.Taking rise) seen.Done t did h = absurd t
-  grown_on (growth.PuttingTop r) seen.Done t did h = absurd t
-  grown_on (growth.PuttingAnchor r) seen.Done t did h = absurd t
-  grown_on (growth.OpeningTop x) seen.Done t did h = absurd t
-  grown_on growth.OpeningGrown seen.Done t did h = raised_on (ap writes_in did) h
-  grown_on growth.OpeningRefused seen.Done t did h = absurd t
-  grown_on old what t did h = absurd t
+  grown_on : {g : Growth} {what : Seen} → GrowthCase level g what grew.Grown → m.event.act ≡ event_of None (growth_next g) what → growth_log level g marks → HasRaised level more
+  grown_on GrowthCase.OpenedGrown did h = raised_on (ap writes_in did) h
 
   -- a pair is to enter the parent
   enter_on : (x : ℕ) (c : Page) (word : ℕ) (d : Change) → EntersPair x c key word d → HoldsBoth level key more x c word [] → change_log level key d more
@@ -258,99 +194,69 @@ module _ (marks : Trail) (m : Mark) (level key : ℕ) (least : 0 < level) where
       (subst (λ z. HoldsBoth level key more full.at z full.word []) (sym t.3) (subst (λ z. HoldsBoth level key more full.at c z []) (sym t.2) (subst (λ z. HoldsBoth level key more z c word []) (sym t.0) h)), t.1)
   enter_on x c word old t h = absurd t
 
-  -- on the walk to the child
-  walk_on : (v : Walk) (c : Page) (new : PostStage) → PostWalks level v c new → m.event.act ≡ Get v.child → m.saw ≡ Some c → HoldsParent level key marks v.at (Inner v.parent) [] → v.key ≡ key → post_log level key new more
-  walk_on v c (post.Walking u) t did saw h same =
-      let on : HoldsParent level key more v.at (Inner v.parent) [] = parent_held_on marks m [] (λ o. (let e = sym did ∙ o in cc)) (subst (λ a. ArePuts (writes_in a) []) (sym did) tt) h in
-      (subst (λ z. HoldsParent level key more z (Inner u.parent) []) (sym t.0) (subst (λ z. HoldsParent level key more v.at (Inner z) []) (sym t.2) on), t.1 ∙ same)
-  walk_on v c (post.Changing d) t did saw h same =
-      let l : Leads c key (level - 1) Here = subst (λ z. Leads c z (level - 1) Here) same t.0 in
-      let both : HoldsBoth level key more v.at (Inner v.parent) v.child [] = child_got marks m v.child c did saw h (let e = l.2 in omega (arith, least)) l.1 (t.1 ∙ same) in
-      enter_on v.at (Inner v.parent) v.child d (subst (λ z. EntersPair v.at (Inner v.parent) z v.child d) same t.2) both
-  walk_on v c (post.Staying x reply.Stale) t did saw h same =
-      let l : Leads c key (level - 1) Here = subst (λ z. Leads c z (level - 1) Here) same t.1 in
-      let on = held_on marks m [] (λ o. (let e = sym did ∙ o in cc)) (subst (λ a. ArePuts (writes_in a) []) (sym did) tt) h.holding in
-      inr (record {
-        parent = record { at = v.at; under = under on; parent = Inner v.parent; got = got_on h.holding.during m h.got; level_is = h.level_is; covers = h.covers };
-        child = record { at = v.child; child = c; got = got_last h.holding.during m did saw; level_is = (let e = l.2 in omega (arith, least)); covers = l.1 };
-        none = refl;
-        low = subst (λ z. (node_of c).shape.low ≢ z) same t.2;
-      })
-  walk_on v c (post.Coming a) t did saw h same = subst (λ z. approach_log level z more) (sym t.0) (raised_on (ap writes_in did) (held_raised h.holding))
-  walk_on v c old t did saw h same = absurd t
-
   -- on with the change of the parent
-  change_on : (c d : Change) (what : Seen) → Changes c what (changed.On d) → m.event.act ≡ event_of None (change_next c) what → change_log level key c marks → change_log level key d more
-  change_on (change.Putting x page) d seen.Done t did h =
+  change_on : {c d : Change} {what : Seen} → ChangeCase c what (changed.On d) → m.event.act ≡ event_of None (change_next c) what → change_log level key c marks → change_log level key d more
+  change_on (ChangeCase.Put x page d t) did h =
       let both : HoldsBoth level key more x h.parent h.child (page ∷ []) = both_held_on marks m (page ∷ []) (λ o. (let e = sym did ∙ o in cc)) (subst (λ a. ArePuts (writes_in a) (page ∷ [])) (sym did) ((_, refl), tt)) h.both in
       let put : IsToPut level key more x (page ∷ []) (page ∷ []) = record { parent = h.parent; child = h.child; both = both; together = h.together } in
       subst (λ z. change_log level key z more) (sym t) (is_parted None (page ∷ []) put (page, refl))
-  change_on (change.Putting x page) d seen.Refused t did h =
+  change_on (ChangeCase.PutRefused x page d t) did h =
       subst (λ z. change_log level key z more) (sym t) (refused_while marks m did h.both.above.holding)
-  change_on (change.Taking full) (change.PuttingNew q) (seen.Took n) t did h =
+  change_on (ChangeCase.Took full n q t) did h =
       let both : HoldsBoth level key more full.at full.page full.word [] = both_held_on marks m [] (λ o. (let e = sym did ∙ o in cc)) (subst (λ a. ArePuts (writes_in a) []) (sym did) tt) h.0 in
       let cut = split_cut full.page q.left q.right key full.word n q.separator (subst (λ z. IsFitted full.page z full.word n (Split q.left q.right q.separator)) h.1 t.2) both.above.covers in
       let put = subst (λ z. IsToPut level key more z [] (q.right ∷ q.left ∷ [])) (sym t.0) (record { parent = full.page; child = full.word; both = both; together = cut_together full.page q.left q.right n key full.word cut both.above.unlisted }) in
       (put, cut_low full.page q.left q.right full.key full.word n q.separator t.2)
-  change_on (change.Taking full) d seen.Refused t did h =
+  change_on (ChangeCase.TakeRefused full d t) did h =
       subst (λ z. change_log level key z more) (sym t) (refused_while marks m did h.0.above.holding)
-  change_on (change.PuttingNew p) d seen.Done t did h =
+  change_on (ChangeCase.PutNew p d t) did h =
       let put = h.0 in
       let both : HoldsBoth level key more p.at put.parent put.child (p.right ∷ []) = both_held_on marks m (p.right ∷ []) (λ o. (let e = sym did ∙ o in cc)) (subst (λ a. ArePuts (writes_in a) (p.right ∷ [])) (sym did) ((_, refl), tt)) put.both in
       subst (λ z. change_log level key z more) (sym t) (record { parent = put.parent; child = put.child; both = both; together = put.together }, h.1)
-  change_on (change.PuttingOld p) d seen.Done t did h =
+  change_on (ChangeCase.PutOld p d t) did h =
       let was = h.0 in
       let both : HoldsBoth level key more p.at was.parent was.child (p.right ∷ p.left ∷ []) = both_held_on marks m (p.left ∷ []) (λ o. (let e = sym did ∙ o in cc)) (subst (λ a. ArePuts (writes_in a) (p.left ∷ [])) (sym did) ((_, refl), tt)) was.both in
       let put : IsToPut level key more p.at (p.right ∷ p.left ∷ []) (p.right ∷ p.left ∷ []) = record { parent = was.parent; child = was.child; both = both; together = was.together } in
       subst (λ z. change_log level key z more) (sym t) (is_parted (Some p.separator) (p.right ∷ p.left ∷ []) put (p.right, p.left, refl, h.1))
-  change_on (change.OpeningNew x new separator) d seen.Done t did h =
+  change_on (ChangeCase.OpenedNew x new separator d t) did h =
       subst (λ z. change_log level key z more) (sym t) (parted_on marks m (ap writes_in did) h)
-  change_on (change.Opening x o) d seen.Done t did h = absurd t
-  change_on old d what t did h = absurd t
 
-  change_end : (c : Change) (what : Seen) (o : Outcome) → Changes c what (changed.Over o) → m.event.act ≡ event_of None (change_next c) what → change_log level key c marks → reply_log level key (post_reply o) more
-  change_end (change.Putting x page) seen.Done last t did h = absurd t
-  change_end (change.Taking full) seen.Done last t did h = absurd t
-  change_end (change.PuttingNew p) seen.Done last t did h = absurd t
-  change_end (change.PuttingOld p) seen.Done last t did h = absurd t
-  change_end (change.OpeningNew x new separator) seen.Done last t did h = absurd t
-  change_end (change.Opening x o) seen.Done last t did h = outcome_reply last (outcome_on last (ap writes_in did) (subst (λ z. outcome_log level key z marks) (sym t) h))
-  change_end old what last t did h = absurd t
+  change_end : {c : Change} {what : Seen} {o : Outcome} → ChangeCase c what (changed.Over o) → m.event.act ≡ event_of None (change_next c) what → change_log level key c marks → reply_log level key (post_reply o) more
+  change_end (ChangeCase.Opened x o last t) did h = outcome_reply last (outcome_on last (ap writes_in did) (subst (λ z. outcome_log level key z marks) (sym t) h))
 
   -- any step of a post
-  pub post_on : (old new : PostStage) (what : Seen) → PostGoes level key old what new → m.event.act ≡ event_of None (post_next_in old) what → ((x : ℕ) (c : Page) → m.event.act ≡ Get x → what ≡ seen.Words c → m.saw ≡ Some c) → post_log level key old marks → post_log level key new more
-  post_on (post.Coming a) new what t did saw h = come_on a new what t did saw h
-  post_on post.New post.New seen.Done t did saw h = absurd t
-  post_on post.New (post.Coming b) seen.Done t did saw h = subst (λ z. approach_log level z more) (sym t) (begun_now marks m (RaisesOnly level) did RaisesOnly.Never)
-  post_on post.New (post.Growing k) seen.Done t did saw h = absurd t
-  post_on post.New (post.Walking u) seen.Done t did saw h = absurd t
-  post_on post.New (post.Changing d) seen.Done t did saw h = absurd t
-  post_on post.New (post.Staying y last) seen.Done t did saw h = absurd t
-  post_on post.New (post.Ending last) seen.Done t did saw h = absurd t
-  post_on post.New (post.Over last) seen.Done t did saw h = absurd t
-  post_on (post.Growing g) (post.Growing k) what t did saw h = grow_on g k what t did h
-  post_on (post.Growing g) (post.Coming b) what t did saw h = subst (λ z. approach_log level z more) (sym t.1) (grown_on g what t.0 did h)
-  post_on (post.Growing g) (post.Ending last) what t did saw h = subst (λ z. reply_log level key z more) (sym t.1) (grow_end g what t.0 did h)
-  post_on (post.Walking v) new (seen.Words page) t did saw h = walk_on v page new t did (saw v.child page did refl) h.0 h.1
-  post_on (post.Changing c) (post.Changing d) what t did saw h = change_on c d what t did h
-  post_on (post.Changing c) (post.Ending last) what t did saw h = subst (λ z. reply_log level key z more) (sym t.2) (change_end c what t.0 t.1 did h)
-  post_on (post.Staying x r) post.New seen.Done t did saw h = absurd t
-  post_on (post.Staying x r) (post.Coming b) seen.Done t did saw h = absurd t
-  post_on (post.Staying x r) (post.Growing k) seen.Done t did saw h = absurd t
-  post_on (post.Staying x r) (post.Walking u) seen.Done t did saw h = absurd t
-  post_on (post.Staying x r) (post.Changing d) seen.Done t did saw h = absurd t
-  post_on (post.Staying x r) (post.Staying y last) seen.Done t did saw h = absurd t
-  post_on (post.Staying x r) (post.Ending last) seen.Done t did saw h = subst (λ z. reply_log level key z more) (sym t) (reply_on r (ap writes_in did) h)
-  post_on (post.Staying x r) (post.Over last) seen.Done t did saw h = absurd t
-  post_on (post.Ending r) post.New seen.Done t did saw h = absurd t
-  post_on (post.Ending r) (post.Coming b) seen.Done t did saw h = absurd t
-  post_on (post.Ending r) (post.Growing k) seen.Done t did saw h = absurd t
-  post_on (post.Ending r) (post.Walking u) seen.Done t did saw h = absurd t
-  post_on (post.Ending r) (post.Changing d) seen.Done t did saw h = absurd t
-  post_on (post.Ending r) (post.Staying y last) seen.Done t did saw h = absurd t
-  post_on (post.Ending r) (post.Ending last) seen.Done t did saw h = absurd t
-  post_on (post.Ending r) (post.Over last) seen.Done t did saw h = subst (λ z. reply_log level key z more) (sym t) (reply_on r (ap writes_in did) h)
-  post_on old new what t did saw h = absurd t
+  pub post_on : {old new : PostStage} {what : Seen} → PostCase level key old what new → m.event.act ≡ event_of None (post_next_in old) what → ((x : ℕ) (c : Page) → m.event.act ≡ Get x → what ≡ seen.Words c → m.saw ≡ Some c) → post_log level key old marks → post_log level key new more
+  post_on (PostCase.Began a t) did saw h = subst (λ z. approach_log level z more) (sym t) (begun_now marks m (RaisesOnly level) did RaisesOnly.Never)
+  post_on (PostCase.NoLevel c t) did saw h = inl (record { first = raised_on (ap writes_in did) h; anchor = c; got = got_last marks m did (saw 0 c did refl); few = t })
+  post_on (PostCase.Tallest c t) did saw h = record { last = t.1; first = raised_on (ap writes_in did) h; anchor = c; got = got_last marks m did (saw 0 c did refl); full = t.0 ∙ t.1 }
+  post_on (PostCase.ToGrow c t) did saw h = raised_on (ap writes_in did) h
+  post_on (PostCase.Came a what b t) did saw h = approach_on a b what t did h
+  post_on (PostCase.Listed x c y l t) did saw h = listed_on x c y l t did (saw x c did refl) h
+  post_on (PostCase.ToWalk x c v l t) did saw h = to_walk_on x c v l t did (saw x c did refl) h
+  post_on (PostCase.Grew g what k t) did saw h = grow_on (growth_case level g what _ t) did h
+  post_on (PostCase.Grown g what b t) did saw h = subst (λ z. approach_log level z more) (sym t.1) (grown_on (growth_case level g what _ t.0) did h)
+  post_on (PostCase.NoRoom g what last t) did saw h = subst (λ z. reply_log level key z more) (sym t.1) (grow_end (growth_case level g what _ t.0) did h)
+  post_on (PostCase.Walked v c u t) did saw (h, same) =
+      let on : HoldsParent level key more v.at (Inner v.parent) [] = parent_held_on marks m [] (λ o. (let e = sym did ∙ o in cc)) (subst (λ a. ArePuts (writes_in a) []) (sym did) tt) h in
+      (subst (λ z. HoldsParent level key more z (Inner u.parent) []) (sym t.0) (subst (λ z. HoldsParent level key more v.at (Inner z) []) (sym t.2) on), t.1 ∙ same)
+  post_on (PostCase.Entered v c d t) did saw (h, same) =
+      let l : Leads c key (level - 1) Here = subst (λ z. Leads c z (level - 1) Here) same t.0 in
+      let both : HoldsBoth level key more v.at (Inner v.parent) v.child [] = child_got marks m v.child c did (saw v.child c did refl) h (let e = l.2 in omega (arith, least)) l.1 (t.1 ∙ same) in
+      enter_on v.at (Inner v.parent) v.child d (subst (λ z. EntersPair v.at (Inner v.parent) z v.child d) same t.2) both
+  post_on (PostCase.Stale v c x t) did saw (h, same) =
+      let l : Leads c key (level - 1) Here = subst (λ z. Leads c z (level - 1) Here) same t.1 in
+      let on = held_on marks m [] (λ o. (let e = sym did ∙ o in cc)) (subst (λ a. ArePuts (writes_in a) []) (sym did) tt) h.holding in
+      inr (record {
+        parent = record { at = v.at; under = under on; parent = Inner v.parent; got = got_on h.holding.during m h.got; level_is = h.level_is; covers = h.covers };
+        child = record { at = v.child; child = c; got = got_last h.holding.during m did (saw v.child c did refl); level_is = (let e = l.2 in omega (arith, least)); covers = l.1 };
+        none = refl;
+        low = subst (λ z. (node_of c).shape.low ≢ z) same t.2;
+      })
+  post_on (PostCase.Lost v c a t) did saw (h, same) = subst (λ z. approach_log level z more) (sym t.0) (raised_on (ap writes_in did) (held_raised h.holding))
+  post_on (PostCase.Changed c what d t) did saw h = change_on (change_case c what _ t) did h
+  post_on (PostCase.Finished c what last t) did saw h = subst (λ z. reply_log level key z more) (sym t.2) (change_end (change_case c what _ t.1) did h)
+  post_on (PostCase.Opened x r last t) did saw h = subst (λ z. reply_log level key z more) (sym t) (reply_on r (ap writes_in did) h)
+  post_on (PostCase.Ended r last t) did saw h = subst (λ z. reply_log level key z more) (sym t) (reply_on r (ap writes_in did) h)
 
   -- a mark that neither writes nor opens a page
   module _ (quiet : writes_in m.event.act ≡ []) (shut : (x : ℕ) → m.event.act ≢ Act.Open x) where

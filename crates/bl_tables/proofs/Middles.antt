@@ -1,6 +1,6 @@
 -- Whoever is in the middle of a compression has its trail say so: since it last latched a page it has put one of the two
 -- children, and not the other one.
-use Rattle.std.proofs.Common.{ℕ, ◌≡◌, ◌≢◌, ◌⊎◌, ◌<◌, ◌++◌, List, [], ◌∷◌, Option, None, Some, arith, ap, sym, ◌∙◌, refl, subst, inl, inr, append_assoc}
+use Rattle.std.proofs.Common.{ℕ, ◌≡◌, ◌≢◌, ◌⊎◌, ◌++◌, List, [], ◌∷◌, Option, None, Some, arith, ap, sym, ◌∙◌, refl, subst, inl, inr, append_assoc}
 use Rattle.std.specs.Prelude.{Contains}
 use Rattle.std.proofs.lemmas.List.Elements.{Contains-push, Contains-push_cases, Contains-append_left, Contains-append_right, Contains-append_cases}
 use Rattle.bl_model.specs.declared.operation.Reply.{Reply}
@@ -13,19 +13,16 @@ use Rattle.bl_laws.specs.Pages.{node_of}
 use Rattle.bl_rearrange.specs.declared.sides.Side.{Side}
 use Rattle.bl_rearrange.specs.declared.sides.Side.TheVariants as side
 use Rattle.bl_trails.specs.Trails.{Mark, Trail, marks_of}
-use Rattle.bl_trails.specs.Moments.{Puts as PutsPage, After, IsLatch, IsMiddleBy, InMiddle, InEvening}
-use Rattle.bl_steps.specs.Worlds.{Middle, Know, World, nodes, HasMiddle, IsSure, IsGood}
+use Rattle.bl_trails.specs.Moments.{Puts as PutsPage, IsMiddleBy, InMiddle, InEvening}
+use Rattle.bl_steps.specs.Worlds.{Middle, World, nodes, HasMiddle, IsSure, IsGood}
 use Rattle.bl_starts.specs.Told.{TellsMiddles}
 use Rattle.bl_ways.specs.declared.approaching.Approach.TheVariants as way
 use Rattle.bl_compress.specs.declared.compressing.Puts.{Puts}
-use Rattle.bl_compress.specs.declared.compressing.Compression.TheVariants.{LatchingLeft, LatchedLeft, LatchingRight, LatchedRight, PuttingFirst, PuttingParent, PuttingLast, Retiring, OpeningRight, OpeningLeft, OpeningParent}
-use Rattle.bl_compress.specs.declared.squeezing.Compress.{Compress}
+use Rattle.bl_compress.specs.declared.compressing.Compression.TheVariants.{PuttingParent, PuttingLast}
 use Rattle.bl_compress.specs.declared.squeezing.CompressStage.{CompressStage}
 use Rattle.bl_compress.specs.declared.squeezing.CompressStage.TheVariants as compress
-use Rattle.bl_proc.specs.declared.kinds.Proc.{Proc}
-use Rattle.bl_proc.specs.declared.kinds.Proc.TheVariants as proc
-use Rattle.bl_tables.specs.Compressing.{AreThree, IsToPut, left_now, right_now, know_squeeze}
-use Rattle.bl_tables.specs.Squeezed.{acts_in, acts_of, Since, put_act, to_first, to_second, IsToSqueeze}
+use Rattle.bl_tables.specs.Compressing.{AreThree, left_now, right_now}
+use Rattle.bl_tables.specs.Squeezed.{acts_in, acts_of, Since, put_act, IsToSqueeze}
 use Rattle.bl_tables.specs.Logs.{proc_log, compress_log}
 use Rattle.bl_tables.specs.Knowing.{Run, know_of, know_compress, bare}
 use Rattle.bl_tables.proofs.Plain.{of_middle}

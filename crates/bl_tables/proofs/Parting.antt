@@ -1,16 +1,16 @@
 -- The last put of a compression keeps a world good: a page dies, or loses what the other one has gained.
-use Rattle.std.proofs.Common.{ℕ, suc, ◌≡◌, ◌≢◌, ◌<◌, ◌≤◌, Option, Some, None, [], ◌∷◌, arith, ap, sym, ◌∙◌, refl, subst, inl, inr}
+use Rattle.std.proofs.Common.{ℕ, suc, ◌≡◌, ◌≢◌, ◌<◌, None, arith, ap, sym, ◌∙◌, refl, subst}
 use Rattle.bl_page.specs.declared.page.Page.{Page}
-use Rattle.bl_page.specs.declared.page.Page.TheVariants.{Anchor, Leaf, Inner, Dead}
-use Rattle.bl_page.specs.Machine.{Name, Owner, State, Act}
+use Rattle.bl_page.specs.declared.page.Page.TheVariants.{Dead}
+use Rattle.bl_page.specs.Machine.{Name, Owner, State}
 use Rattle.bl_page.specs.Machine.Act.{Put}
 use Rattle.bl_tree.specs.Nodes.{Covers}
 use Rattle.bl_tree.specs.Trees.{Status}
-use Rattle.bl_tree.specs.Trees.Status.{Fresh, Live, Left, Right, Gone}
+use Rattle.bl_tree.specs.Trees.Status.{Fresh, Live, Gone}
 use Rattle.bl_tree.specs.Moves.{IsAtTwo, IsRightLoss, IsLeftLoss}
 use Rattle.bl_laws.specs.Pages.{node_of}
 use Rattle.bl_trails.proofs.Pushes.{HasSaid-silent}
-use Rattle.bl_steps.specs.Worlds.{Hold, Know, World, nodes, IsHeld, IsSure, IsGood, HoldsPage, put_mark}
+use Rattle.bl_steps.specs.Worlds.{Know, World, nodes, IsHeld, IsSure, IsGood, HoldsPage, put_mark}
 use Rattle.bl_steps.proofs.After.{after, Extends-after, put_at}
 use Rattle.bl_puts.specs.Compressions.{Parts}
 use Rattle.bl_puts.proofs.Partings.{PutsRightLoss-keeps, PutsLeftLoss-keeps, PutsDead-keeps}

@@ -14,32 +14,26 @@ use Rattle.bl_steps.specs.Worlds.{HoldsPage, Stage, Know, World, nodes, tree_of,
 use Rattle.bl_descents.proofs.Descents.{goes_down, not_released, anchor_not_released}
 use Rattle.bl_descents.proofs.Children.{child_found}
 use Rattle.bl_ways.specs.declared.acts.Seen.{Seen}
-use Rattle.bl_ways.specs.declared.acts.Seen.TheVariants as seen
 use Rattle.bl_ways.specs.declared.onwards.Step.TheVariants.{Here}
-use Rattle.bl_ways.specs.declared.approaching.Approach.{Approach}
 use Rattle.bl_ways.specs.declared.approaching.Approach.TheVariants as way
-use Rattle.bl_ways.specs.declared.approaching.Approached.TheVariants as came
 use Rattle.bl_ways.specs.declared.changing.Change.{Change}
-use Rattle.bl_ways.specs.declared.growing.Growth.{Growth}
-use Rattle.bl_ways.specs.declared.growing.Growth.TheVariants as growth
 use Rattle.bl_proc.specs.declared.walking.Walk.{Walk}
 use Rattle.bl_proc.specs.declared.posting.PostStage.{PostStage}
 use Rattle.bl_proc.specs.declared.posting.PostStage.TheVariants as post
-use Rattle.bl_proc.specs.declared.posting.PostReply.TheVariants as reply
 use Rattle.bl_ways.specs.Onwards.{Leads}
-use Rattle.bl_ways.specs.Approaches.{approach_next, Approaches}
-use Rattle.bl_ways.specs.Changes.{change_next, EntersPair}
-use Rattle.bl_ways.specs.Growths.{growth_next}
-use Rattle.bl_proc.specs.Posts.{post_next_in, PostStarts, PostArrives, PostWalks, PostNears, PostComes, PostGoes}
+use Rattle.bl_ways.specs.Changes.{EntersPair}
+use Rattle.bl_proc.specs.Posts.{post_next_in, PostArrives, PostWalks}
 use Rattle.bl_tables.specs.Turns.{event_of, IsTold, Does, Turned}
 use Rattle.bl_tables.specs.Tables.{idle, holds_live, goes_to, IsAim, IsDue, know_approach, know_change}
-use Rattle.bl_tables.specs.Knowing.{ending, know_growth, post_aim, know_post, post_got, post_child}
+use Rattle.bl_tables.specs.Knowing.{ending, post_aim, know_post, post_got, post_child}
 use Rattle.bl_tables.proofs.Acts.{watched, opened}
-use Rattle.bl_tables.proofs.Approaching.{walks, walks_held, wider, to_right, got_goes, start_turn, arrival, approach_turn}
+use Rattle.bl_tables.proofs.Approaching.{walks, walks_held, wider, to_right, got_goes, approach_turn}
 use Rattle.bl_tables.proofs.Changing.{change_turn, finish_turn}
 use Rattle.bl_tables.proofs.Entering.{enters_learns, enters_places, change_middle}
 use Rattle.bl_tables.proofs.Ends.{begin_turn, end_turn}
 use Rattle.bl_tables.proofs.Growing as growing
+use Rattle.bl_courses.proofs.WayCases.{change_case, growth_case}
+use Rattle.bl_courses.proofs.KindCases.{PostCase}
 
 pub post_fine : (level key child : ℕ) → 0 < level → IsAim (post_aim level key child)
 post_fine level key child above = record {
@@ -61,15 +55,6 @@ module _ {P : Type 0} (know : P → Know) (w : World P) (g : IsGood know w) (p :
       let is : IsSure w p (know_approach level key way.Start) = rw before at (g.sure p) in
       watched know w g p b _ _ before then (Get 0) (Some (w.now.contents 0)) None s tt (is.stage, anchor_not_released know w g) does refl refl (λ y h. h) (λ it e. cc) (λ j. refl)
       (walks w _ p (Get 0) (Some (w.now.contents 0)) [] (Unit {0}) is.stage is.said tt tt)
-
-  anchor_turn : (c : Page) (new : PostStage) (got : ℕ → Page) (child : ℕ) (s : State Page) → know (w.proc p) ≡ know_approach level key way.Start → know b ≡ know_post level key got child new → PostStarts level key c new → c ≡ w.now.contents 0 → Does w.now p (Get 0) s → Turned know w p (Get 0) s b
-  anchor_turn c (post.Ending reply.Stale) got child s before then t told does = give_up_turn s before then does
-  anchor_turn c (post.Ending reply.TooTall) got child s before then t told does = give_up_turn s before then does
-  anchor_turn c (post.Growing growth.Latching) got child s before then t told does =
-      let is : IsSure w p (know_approach level key way.Start) = rw before at (g.sure p) in
-      got_goes know w g p b level key _ 0 s [] before refl refl then is.stage is.said (anchor_not_released know w g) does is.sound tt
-  anchor_turn c (post.Coming a) got child s before then t told does = start_turn know w g p b level key a c s before then told t.1 does
-  anchor_turn c old got child s before then t told does = absurd t
 
   -- at the parent
   listed_turn : (x : ℕ) (s : State Page) → know (w.proc p) ≡ know_approach level key (way.Latched x) → know b ≡ record (idle Stage.Busy) { holds = holds_live x ∷ [] } → Does w.now p (Get x) s → Turned know w p (Get x) s b
@@ -99,47 +84,6 @@ module _ {P : Type 0} (know : P → Know) (w : World P) (g : IsGood know w) (p :
         sound = (is.sound, record { level = ap (λ z. (node_of z).shape.level) (sym page) ∙ l.2; covers = rw page at l.1; was = unlisted }, t.1);
         log = tt;
       })
-
-  arrive_turn : (x : ℕ) (new : PostStage) (got : ℕ → Page) (child : ℕ) (s : State Page) → know (w.proc p) ≡ know_approach level key (way.Latched x) → know b ≡ know_post level key got child new → Leads (w.now.contents x) key level Here → PostArrives key x (w.now.contents x) new → Does w.now p (Get x) s → Turned know w p (Get x) s b
-  arrive_turn x (post.Walking v) got child s before then l t does = walk_turn x v got child s before then l t does
-  arrive_turn x (post.Staying y reply.Already) got child s before then l t does = listed_turn x s before (rw t.0 at then) does
-  arrive_turn x old got child s before then l t does = absurd t
-
-  -- on the way, past the anchor
-  near_turn : (a : Approach) (new : PostStage) (got : ℕ → Page) (child : ℕ) (what : Seen) (s : State Page) → know (w.proc p) ≡ know_approach level key a → know b ≡ know_post level key got child new → ((x : ℕ) × (c : Page) × Approaches level key a what (came.Here x c) × PostArrives key x c new) → IsTold w.now w.size (approach_next a) what → Does w.now p (event_of None (approach_next a) what) s → Turned know w p (event_of None (approach_next a) what) s b
-  near_turn (way.Latched x) new got child (seen.Words c) s before then (y, d, h, t) told does =
-      let page : d ≡ w.now.contents x = h.1 ∙ told in
-      let here : Leads (w.now.contents x) key level Here = rw told at h.2 in
-      let at_x : PostArrives key x (w.now.contents x) new = subst (λ z. PostArrives key x z new) page (subst (λ z. PostArrives key z d new) h.0 t) in
-      arrive_turn x new got child s before then here at_x does
-  near_turn way.Start new got child what s before then (y, d, h, t) told does = absurd (arrival level key way.Start what y d h)
-  near_turn (way.At x) new got child what s before then (y, d, h, t) told does = absurd (arrival level key (way.At x) what y d h)
-  near_turn (way.Latching x) new got child what s before then (y, d, h, t) told does = absurd (arrival level key (way.Latching x) what y d h)
-  near_turn (way.Leaving x to) new got child what s before then (y, d, h, t) told does = absurd (arrival level key (way.Leaving x to) what y d h)
-  near_turn (way.Latched x) new got child seen.Done s before then (y, d, h, t) told does = absurd h
-  near_turn (way.Latched x) new got child (seen.Took n) s before then (y, d, h, t) told does = absurd h
-  near_turn (way.Latched x) new got child (seen.Owner retired started own) s before then (y, d, h, t) told does = absurd h
-  near_turn (way.Latched x) new got child (seen.Blocks it) s before then (y, d, h, t) told does = absurd h
-  near_turn (way.Latched x) new got child seen.Missed s before then (y, d, h, t) told does = absurd h
-  near_turn (way.Latched x) new got child seen.Refused s before then (y, d, h, t) told does = absurd h
-
-  nears_turn : (a : Approach) (new : PostStage) (got : ℕ → Page) (child : ℕ) (what : Seen) (s : State Page) → know (w.proc p) ≡ know_approach level key a → know b ≡ know_post level key got child new → PostNears level key a what new → IsTold w.now w.size (approach_next a) what → Does w.now p (event_of None (approach_next a) what) s → Turned know w p (event_of None (approach_next a) what) s b
-  nears_turn a (post.Coming a') got child what s before then t told does = approach_turn know w g p b level key a a' what s limit before then t told does
-  nears_turn a post.New got child what s before then t told does = near_turn a post.New got child what s before then t told does
-  nears_turn a (post.Growing d) got child what s before then t told does = near_turn a (post.Growing d) got child what s before then t told does
-  nears_turn a (post.Walking v) got child what s before then t told does = near_turn a (post.Walking v) got child what s before then t told does
-  nears_turn a (post.Changing d) got child what s before then t told does = near_turn a (post.Changing d) got child what s before then t told does
-  nears_turn a (post.Staying y u) got child what s before then t told does = near_turn a (post.Staying y u) got child what s before then t told does
-  nears_turn a (post.Ending u) got child what s before then t told does = near_turn a (post.Ending u) got child what s before then t told does
-  nears_turn a (post.Over u) got child what s before then t told does = near_turn a (post.Over u) got child what s before then t told does
-
-  comes_turn : (a : Approach) (new : PostStage) (got : ℕ → Page) (child : ℕ) (what : Seen) (s : State Page) → know (w.proc p) ≡ know_approach level key a → know b ≡ know_post level key got child new → PostComes level key a what new → IsTold w.now w.size (approach_next a) what → Does w.now p (event_of None (approach_next a) what) s → Turned know w p (event_of None (approach_next a) what) s b
-  comes_turn way.Start new got child (seen.Words c) s before then t told does = anchor_turn c new got child s before then t told does
-  comes_turn (way.At x) new got child what s before then t told does = nears_turn (way.At x) new got child what s before then t told does
-  comes_turn (way.Latching x) new got child what s before then t told does = nears_turn (way.Latching x) new got child what s before then t told does
-  comes_turn (way.Latched x) new got child what s before then t told does = nears_turn (way.Latched x) new got child what s before then t told does
-  comes_turn (way.Leaving x to) new got child what s before then t told does = nears_turn (way.Leaving x to) new got child what s before then t told does
-  comes_turn old new got child what s before then t told does = absurd t
 
   -- on the walk to the child
   module _ (v : Walk) (got : ℕ → Page) (child : ℕ) (s : State Page) (before : know (w.proc p) ≡ know_post level key got child (post.Walking v)) (does : Does w.now p (Get v.child) s) where
@@ -207,13 +151,6 @@ module _ {P : Type 0} (know : P → Know) (w : World P) (g : IsGood know w) (p :
           children = ((does.changes.1 v.at ∙ held.owner, found), tt);
         }) refl enters)
 
-    walks_turn : (new : PostStage) (got' : ℕ → Page) (child' : ℕ) → got' ≡ (λ z. Inner v.parent) → child' ≡ v.child → know b ≡ know_post level key got' child' new → PostWalks level v (w.now.contents v.child) new → Turned know w p (Get v.child) s b
-    walks_turn (post.Walking u) got' child' same own then t = step_turn u got' child' then t
-    walks_turn (post.Changing c) got' child' same own then t = list_turn c (subst (λ f. know b ≡ know_change (post_aim level key v.child) f c) same (subst (λ n. know b ≡ know_change (post_aim level key n) got' c) own then)) t
-    walks_turn (post.Staying x reply.Stale) got' child' same own then t = lost_turn (rw t.0 at then)
-    walks_turn (post.Coming a) got' child' same own then t = again_turn (rw t.0 at then)
-    walks_turn old got' child' same own then t = absurd t
-
   -- the parent stays as it is, and is opened
   stay_turn : (x : ℕ) (s : State Page) → know (w.proc p) ≡ record (idle Stage.Busy) { holds = holds_live x ∷ [] } → know b ≡ ending None → Does w.now p (Act.Open x) s → Turned know w p (Act.Open x) s b
   stay_turn x s before then does =
@@ -222,46 +159,25 @@ module _ {P : Type 0} (know : P → Know) (w : World P) (g : IsGood know w) (p :
       (λ z n h. elim h [ inl e ↦ absurd (n (sym e)) | inr u ↦ absurd u ])
       (walks w _ p (Act.Open x) None [] (Unit {0}) is.stage is.said tt tt)
 
-  grow_turn : (h : Growth) (a' : PostStage) (got : ℕ → Page) (child : ℕ) (what : Seen) (s : State Page) → know (w.proc p) ≡ know_growth level key got h → know b ≡ know_post level key (post_got got (post.Growing h) what) child a' → PostGoes level key (post.Growing h) what a' → IsTold w.now w.size (growth_next h) what → Does w.now p (event_of None (growth_next h) what) s → Turned know w p (event_of None (growth_next h) what) s b
-  grow_turn h (post.Growing d) got child what s before then t told does = growing.growth_turn know w g p b level key h d got what s before then t told does
-  grow_turn h (post.Coming a) got child what s before then t told does = growing.over_turn know w g p b level key h got what s before (rw t.1 at then) t.0 does
-  grow_turn h (post.Ending r) got child what s before then t told does = growing.no_room_turn know w g p b level key h got what s before then t.0 does
-  grow_turn h old got child what s before then t told does = absurd t
-
-  change_ends : (c : Change) (a' : PostStage) (got : ℕ → Page) (child : ℕ) (what : Seen) (s : State Page) → know (w.proc p) ≡ know_change (post_aim level key child) got c → know b ≡ know_post level key got child a' → PostGoes level key (post.Changing c) what a' → IsTold w.now w.size (change_next c) what → Does w.now p (event_of None (change_next c) what) s → Turned know w p (event_of None (change_next c) what) s b
-  change_ends c (post.Changing d) got child what s before then t told does = change_turn know w g p b (post_aim level key child) (post_fine level key child least) got c d what s before then t told does
-  change_ends c (post.Ending r) got child what s before then (o, t, same) told does = finish_turn know w g p b (post_aim level key child) (post_fine level key child least) got c o what _ s before then tt t does
-  change_ends c old got child what s before then t told does = absurd t
-
   -- every turn of a post
-  pub post_turn : (a a' : PostStage) (got : ℕ → Page) (child : ℕ) (what : Seen) (s : State Page) → know (w.proc p) ≡ know_post level key got child a → know b ≡ know_post level key (post_got got a what) (post_child child a) a' → PostGoes level key a what a' → IsTold w.now w.size (post_next_in a) what → Does w.now p (event_of None (post_next_in a) what) s → Turned know w p (event_of None (post_next_in a) what) s b
-  post_turn (post.Coming a) a' got child what s before then t told does = comes_turn a a' got child what s before then t told does
-  post_turn (post.Growing h) a' got child what s before then t told does = grow_turn h a' got child what s before then t told does
-  post_turn (post.Walking v) a' got child (seen.Words c) s before then t told does =
-      walks_turn v got child s before does a' (λ z. Inner v.parent) v.child refl refl then (subst (λ z. PostWalks level v z a') told t)
-  post_turn (post.Changing c) a' got child what s before then t told does = change_ends c a' got child what s before then t told does
-  post_turn post.New post.New got child seen.Done s before then t told does = absurd t
-  post_turn post.New (post.Coming a') got child seen.Done s before then t told does = begin_turn know w g p b key s before (rw t at then) does
-  post_turn post.New (post.Growing d) got child seen.Done s before then t told does = absurd t
-  post_turn post.New (post.Walking u) got child seen.Done s before then t told does = absurd t
-  post_turn post.New (post.Changing d) got child seen.Done s before then t told does = absurd t
-  post_turn post.New (post.Staying y last) got child seen.Done s before then t told does = absurd t
-  post_turn post.New (post.Ending last) got child seen.Done s before then t told does = absurd t
-  post_turn post.New (post.Over last) got child seen.Done s before then t told does = absurd t
-  post_turn (post.Staying x r) post.New got child seen.Done s before then t told does = absurd t
-  post_turn (post.Staying x r) (post.Coming a') got child seen.Done s before then t told does = absurd t
-  post_turn (post.Staying x r) (post.Growing d) got child seen.Done s before then t told does = absurd t
-  post_turn (post.Staying x r) (post.Walking u) got child seen.Done s before then t told does = absurd t
-  post_turn (post.Staying x r) (post.Changing d) got child seen.Done s before then t told does = absurd t
-  post_turn (post.Staying x r) (post.Staying y last) got child seen.Done s before then t told does = absurd t
-  post_turn (post.Staying x r) (post.Ending last) got child seen.Done s before then t told does = stay_turn x s before then does
-  post_turn (post.Staying x r) (post.Over last) got child seen.Done s before then t told does = absurd t
-  post_turn (post.Ending r) post.New got child seen.Done s before then t told does = absurd t
-  post_turn (post.Ending r) (post.Coming a') got child seen.Done s before then t told does = absurd t
-  post_turn (post.Ending r) (post.Growing d) got child seen.Done s before then t told does = absurd t
-  post_turn (post.Ending r) (post.Walking u) got child seen.Done s before then t told does = absurd t
-  post_turn (post.Ending r) (post.Changing d) got child seen.Done s before then t told does = absurd t
-  post_turn (post.Ending r) (post.Staying y last) got child seen.Done s before then t told does = absurd t
-  post_turn (post.Ending r) (post.Ending last) got child seen.Done s before then t told does = absurd t
-  post_turn (post.Ending r) (post.Over last) got child seen.Done s before then t told does = end_turn know w g p b None s before then does
-  post_turn old a' got child what s before then t told does = absurd t
+  pub post_turn : {a a' : PostStage} {what : Seen} → PostCase level key a what a' → (got : ℕ → Page) (child : ℕ) (s : State Page) → know (w.proc p) ≡ know_post level key got child a → know b ≡ know_post level key (post_got got a what) (post_child child a) a' → IsTold w.now w.size (post_next_in a) what → Does w.now p (event_of None (post_next_in a) what) s → Turned know w p (event_of None (post_next_in a) what) s b
+  post_turn (PostCase.Began a t) got child s before then told does = begin_turn know w g p b key s before (rw t at then) does
+  post_turn (PostCase.NoLevel c t) got child s before then told does = give_up_turn s before then does
+  post_turn (PostCase.Tallest c t) got child s before then told does = give_up_turn s before then does
+  post_turn (PostCase.ToGrow c t) got child s before then told does =
+      let is : IsSure w p (know_approach level key way.Start) = rw before at (g.sure p) in
+      got_goes know w g p b level key _ 0 s [] before refl refl then is.stage is.said (anchor_not_released know w g) does is.sound tt
+  post_turn (PostCase.Came a what a' t) got child s before then told does = approach_turn know w g p b level key a a' what s limit before then t told does
+  post_turn (PostCase.Listed x c y l t) got child s before then told does = listed_turn x s before (rw t.0 at then) does
+  post_turn (PostCase.ToWalk x c v l t) got child s before then told does = walk_turn x v got child s before then (rw told at l) (subst (λ z. PostArrives key x z (post.Walking v)) told t) does
+  post_turn (PostCase.Grew h what d t) got child s before then told does = growing.growth_turn know w g p b level key (growth_case level h what _ t) got s before then told does
+  post_turn (PostCase.Grown h what a t) got child s before then told does = growing.over_turn know w g p b level key (growth_case level h what _ t.0) got s before (rw t.1 at then) does
+  post_turn (PostCase.NoRoom h what r t) got child s before then told does = growing.no_room_turn know w g p b level key (growth_case level h what _ t.0) got s before then does
+  post_turn (PostCase.Walked v c u t) got child s before then told does = step_turn v got child s before does u (λ z. Inner v.parent) v.child then (subst (λ z. PostWalks level v z (post.Walking u)) told t)
+  post_turn (PostCase.Entered v c d t) got child s before then told does = list_turn v got child s before does d then (subst (λ z. PostWalks level v z (post.Changing d)) told t)
+  post_turn (PostCase.Stale v c x t) got child s before then told does = lost_turn v got child s before does (rw t.0 at then)
+  post_turn (PostCase.Lost v c a t) got child s before then told does = again_turn v got child s before does (rw t.0 at then)
+  post_turn (PostCase.Changed c what d t) got child s before then told does = change_turn know w g p b (post_aim level key child) (post_fine level key child least) got (change_case c what _ t) s before then told does
+  post_turn (PostCase.Finished c what r (o, t, same)) got child s before then told does = finish_turn know w g p b (post_aim level key child) (post_fine level key child least) got (change_case c what _ t) _ s before then tt does
+  post_turn (PostCase.Opened x r last t) got child s before then told does = stay_turn x s before then does
+  post_turn (PostCase.Ended r last t) got child s before then told does = end_turn know w g p b None s before then does

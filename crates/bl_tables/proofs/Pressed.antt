@@ -1,5 +1,5 @@
 -- An answered compression tells what its answer means.
-use Rattle.std.proofs.Common.{ℕ, ◌≡◌, Option, Some, None, refl, subst}
+use Rattle.std.proofs.Common.{ℕ, ◌≡◌, Option, Some, refl, subst}
 use Rattle.bl_page.specs.Machine.{Name}
 use Rattle.bl_trails.specs.Trails.{Trail, marks_of}
 use Rattle.bl_steps.specs.Worlds.{World, IsGood}

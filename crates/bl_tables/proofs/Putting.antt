@@ -1,17 +1,13 @@
 -- What an insertion or a deletion has put, and one event more: what is told of it in the next state.
 use Rattle.std.proofs.Common.{ℕ, ◌≡◌, ◌≢◌, ◌++◌, List, [], ◌∷◌, None, Some, ap, sym, ◌∙◌, refl, subst, inl, inr, append_assoc, append-nil}
-use Rattle.std.specs.Prelude.{Contains}
 use Rattle.std.proofs.lemmas.List.Elements.{Contains-push_cases}
 use Rattle.bl_page.specs.declared.page.Page.{Page}
-use Rattle.bl_page.specs.Machine.Act.{Get, Latch, Miss}
+use Rattle.bl_page.specs.Machine.Act.{Latch}
 use Rattle.bl_page.specs.Machine.{Act}
 use Rattle.bl_trails.specs.Trails.{Mark, Trail}
-use Rattle.bl_trails.specs.Moments.{IsLatch}
-use Rattle.bl_trails.specs.Meanings.{put_in, ArePartedAt}
+use Rattle.bl_trails.specs.Meanings.{put_in}
 use Rattle.bl_trails.proofs.Meant.{puts_of-push}
-use Rattle.bl_ways.specs.declared.acts.Action.TheVariants as act
 use Rattle.bl_ways.specs.declared.acts.Seen.{Seen}
-use Rattle.bl_ways.specs.declared.acts.Seen.TheVariants as seen
 use Rattle.bl_ways.specs.declared.approaching.Approach.{Approach}
 use Rattle.bl_ways.specs.declared.approaching.Approach.TheVariants as way
 use Rattle.bl_ways.specs.declared.approaching.Approached.TheVariants as came
@@ -21,7 +17,7 @@ use Rattle.bl_ways.specs.declared.changing.Change.{Change}
 use Rattle.bl_ways.specs.declared.changing.Change.TheVariants as change
 use Rattle.bl_ways.specs.declared.changing.Changed.TheVariants as changed
 use Rattle.bl_ways.specs.Approaches.{approach_next, Approaches}
-use Rattle.bl_ways.specs.Changes.{change_next, Changes}
+use Rattle.bl_ways.specs.Changes.{change_next}
 use Rattle.bl_proc.specs.declared.inserting.InsertReply.{InsertReply}
 use Rattle.bl_proc.specs.declared.inserting.InsertReply.TheVariants as inserted
 use Rattle.bl_proc.specs.declared.inserting.InsertStage.{InsertStage}
@@ -31,14 +27,16 @@ use Rattle.bl_proc.specs.declared.deleting.DeleteReply.{DeleteReply}
 use Rattle.bl_proc.specs.declared.deleting.DeleteReply.TheVariants as deleted
 use Rattle.bl_proc.specs.declared.deleting.DeleteStage.{DeleteStage}
 use Rattle.bl_proc.specs.declared.deleting.DeleteStage.TheVariants as delete
-use Rattle.bl_proc.specs.Inserts.{insert_reply, insert_next_in, InsertArrives, InsertGoes}
-use Rattle.bl_proc.specs.Deletes.{delete_reply, delete_next_in, DeleteArrives, DeleteGoes}
+use Rattle.bl_proc.specs.Inserts.{insert_reply, insert_next_in, InsertArrives}
+use Rattle.bl_proc.specs.Deletes.{delete_reply, delete_next_in, DeleteArrives}
 use Rattle.bl_tables.specs.Turns.{event_of}
 use Rattle.bl_tables.specs.Hinted.{PutSince, HasParted}
 use Rattle.bl_tables.specs.Logs.{put_log, entry_log, coming_log, AnyPage, inserted_log, insert_log, IsThinAs, deleted_log, delete_log}
 use Rattle.bl_tables.specs.Knowing.{insert_end, delete_end}
 use Rattle.bl_tables.proofs.Holdings.{none_of, cut_low}
 use Rattle.bl_tables.proofs.Logging.{latched_on}
+use Rattle.bl_courses.proofs.WayCases.{approach_case, ChangeCase, change_case}
+use Rattle.bl_courses.proofs.KindCases.{InsertCase, DeleteCase}
 
 module _ (marks : Trail) (m : Mark) where
   abbrev more : Trail
@@ -123,42 +121,25 @@ module _ (marks : Trail) (m : Mark) where
   coming_on key a way.Start what t did = tt
   coming_on key a (way.At x) what t did = tt
   coming_on key a (way.Latching x) what t did = tt
-  coming_on key a (way.Latched x) what t did = put_now x (latched_on m 0 key a x what t did)
+  coming_on key a (way.Latched x) what t did = put_now x (latched_on m 0 key (approach_case 0 key a what _ t) did)
   coming_on key a (way.Leaving x to) what t did = tt
-
-  got_on : (key : ℕ) (a : Approach) (y : ℕ) (d : Page) (what : Seen) → Approaches 0 key a what (came.Here y d) → m.event.act ≡ event_of None (approach_next a) what → coming_log a marks → PutSince more []
-  got_on key way.Start y d seen.Done t did h = absurd t
-  got_on key (way.At x) y d seen.Done t did h = absurd t
-  got_on key (way.Latching x) y d seen.Done t did h = absurd t
-  got_on key (way.Latched x) y d (seen.Words c) t did h = put_stays (λ z l. (let e = sym did ∙ l in cc)) (ap put_in did) h
-  got_on key (way.Leaving x None) y d seen.Done t did h = absurd t
-  got_on key (way.Leaving x (Some z)) y d seen.Done t did h = absurd t
-  got_on key old y d what t did h = absurd t
 
   -- a change
   module _ (Whole : Page → Type 0) (Parts : Type 0) where
     opened : (x : ℕ) (o : Outcome) → m.event.act ≡ Act.Open x → put_log Whole Parts o marks → put_log Whole Parts o more
     opened x o did h = outcome_stays (λ z l. (let e = sym did ∙ l in cc)) (ap put_in did) Whole Parts o h
 
-    entry_on : (c d : Change) (what : Seen) → Changes c what (changed.On d) → m.event.act ≡ event_of None (change_next c) what → entry_log Whole Parts c marks → entry_log Whole Parts d more
-    entry_on (change.Putting x page) d seen.Done t did h = subst (λ z. entry_log Whole Parts z more) (sym t) (page, put_on (page ∷ []) (λ z l. (let e = sym did ∙ l in cc)) (ap put_in did) h.0, h.1)
-    entry_on (change.Putting x page) d seen.Refused t did h = subst (λ z. entry_log Whole Parts z more) (sym t) tt
-    entry_on (change.Taking full) (change.PuttingNew p) (seen.Took n) t did h = (put_stays (λ z l. (let e = sym did ∙ l in cc)) (ap put_in did) h.0, cut_low full.page p.left p.right full.key full.word n p.separator t.2, h.1)
-    entry_on (change.Taking full) d seen.Refused t did h = subst (λ z. entry_log Whole Parts z more) (sym t) tt
-    entry_on (change.PuttingNew p) d seen.Done t did h = subst (λ z. entry_log Whole Parts z more) (sym t) (put_on (p.right ∷ []) (λ z l. (let e = sym did ∙ l in cc)) (ap put_in did) h.0, h.1, h.2)
-    entry_on (change.PuttingOld p) d seen.Done t did h = subst (λ z. entry_log Whole Parts z more) (sym t) ((p.right ∷ p.left ∷ [], put_on (p.left ∷ []) (λ z l. (let e = sym did ∙ l in cc)) (ap put_in did) h.0, (p.right, p.left, refl, h.1)), h.2)
-    entry_on (change.OpeningNew x new separator) d seen.Done t did h = subst (λ z. entry_log Whole Parts z more) (sym t) (opened new (outcome.Parted separator) did h)
-    entry_on (change.Opening x o) d seen.Done t did h = absurd t
-    entry_on old d what t did h = absurd t
+    entry_on : {c d : Change} {what : Seen} → ChangeCase c what (changed.On d) → m.event.act ≡ event_of None (change_next c) what → entry_log Whole Parts c marks → entry_log Whole Parts d more
+    entry_on (ChangeCase.Put x page d t) did h = subst (λ z. entry_log Whole Parts z more) (sym t) (page, put_on (page ∷ []) (λ z l. (let e = sym did ∙ l in cc)) (ap put_in did) h.0, h.1)
+    entry_on (ChangeCase.PutRefused x page d t) did h = subst (λ z. entry_log Whole Parts z more) (sym t) tt
+    entry_on (ChangeCase.Took full n p t) did h = (put_stays (λ z l. (let e = sym did ∙ l in cc)) (ap put_in did) h.0, cut_low full.page p.left p.right full.key full.word n p.separator t.2, h.1)
+    entry_on (ChangeCase.TakeRefused full d t) did h = subst (λ z. entry_log Whole Parts z more) (sym t) tt
+    entry_on (ChangeCase.PutNew p d t) did h = subst (λ z. entry_log Whole Parts z more) (sym t) (put_on (p.right ∷ []) (λ z l. (let e = sym did ∙ l in cc)) (ap put_in did) h.0, h.1, h.2)
+    entry_on (ChangeCase.PutOld p d t) did h = subst (λ z. entry_log Whole Parts z more) (sym t) ((p.right ∷ p.left ∷ [], put_on (p.left ∷ []) (λ z l. (let e = sym did ∙ l in cc)) (ap put_in did) h.0, (p.right, p.left, refl, h.1)), h.2)
+    entry_on (ChangeCase.OpenedNew x new separator d t) did h = subst (λ z. entry_log Whole Parts z more) (sym t) (opened new (outcome.Parted separator) did h)
 
-    entry_end : (c : Change) (o : Outcome) (what : Seen) → Changes c what (changed.Over o) → m.event.act ≡ event_of None (change_next c) what → entry_log Whole Parts c marks → put_log Whole Parts o more
-    entry_end (change.Putting x page) o seen.Done t did h = absurd t
-    entry_end (change.Taking full) o seen.Done t did h = absurd t
-    entry_end (change.PuttingNew p) o seen.Done t did h = absurd t
-    entry_end (change.PuttingOld p) o seen.Done t did h = absurd t
-    entry_end (change.OpeningNew x new separator) o seen.Done t did h = absurd t
-    entry_end (change.Opening x q) o seen.Done t did h = subst (λ z. put_log Whole Parts z more) (sym t) (opened x q did h)
-    entry_end old o what t did h = absurd t
+    entry_end : {c : Change} {o : Outcome} {what : Seen} → ChangeCase c what (changed.Over o) → m.event.act ≡ event_of None (change_next c) what → entry_log Whole Parts c marks → put_log Whole Parts o more
+    entry_end (ChangeCase.Opened x q o t) did h = subst (λ z. put_log Whole Parts z more) (sym t) (opened x q did h)
 
   -- an insertion
   outcome_inserted : (o : Outcome) → put_log AnyPage (Unit {0}) o more → inserted_log (insert_reply o) more
@@ -171,32 +152,15 @@ module _ (marks : Trail) (m : Mark) where
   arrived_insert key value x c (change.Taking full) t h = (h, tt)
   arrived_insert key value x c old t h = absurd t.1
 
-  pub insert_on : (key value : ℕ) (old new : InsertStage) (what : Seen) → InsertGoes key value old what new → m.event.act ≡ event_of (insert_end old) (insert_next_in old) what → insert_log old marks → insert_log new more
-  insert_on key value old insert.New what t did h = tt
-  insert_on key value old (insert.Present x there) what t did h = tt
-  insert_on key value old (insert.Coming way.Start) what t did h = tt
-  insert_on key value old (insert.Coming (way.At x)) what t did h = tt
-  insert_on key value old (insert.Coming (way.Latching x)) what t did h = tt
-  insert_on key value old (insert.Coming (way.Leaving x to)) what t did h = tt
-  insert_on key value (insert.Coming a) (insert.Coming (way.Latched x)) what t did h = coming_on key a (way.Latched x) what t did
-  insert_on key value insert.New (insert.Coming (way.Latched x)) seen.Done t did h = absurd (let e = t in cc)
-  insert_on key value (insert.Present y v) (insert.Coming (way.Latched x)) seen.Done t did h = absurd t
-  insert_on key value (insert.Ending r) (insert.Coming (way.Latched x)) seen.Done t did h = absurd t
-  insert_on key value (insert.Coming a) (insert.Changing d) what (x, c, way_is, at) did h = arrived_insert key value x c d at (got_on key a x c what way_is did h)
-  insert_on key value (insert.Changing c) (insert.Changing d) what t did h = entry_on AnyPage (Unit {0}) c d what t did h
-  insert_on key value insert.New (insert.Changing d) seen.Done t did h = absurd t
-  insert_on key value (insert.Present y v) (insert.Changing d) seen.Done t did h = absurd t
-  insert_on key value (insert.Ending r) (insert.Changing d) seen.Done t did h = absurd t
-  insert_on key value (insert.Coming a) (insert.Ending last) what t did h = absurd t.3
-  insert_on key value (insert.Changing c) (insert.Ending last) what t did h = subst (λ z. inserted_log z more) (sym t.2) (outcome_inserted t.0 (entry_end AnyPage (Unit {0}) c t.0 what t.1 did h))
-  insert_on key value (insert.Present y v) (insert.Ending last) seen.Done t did h = subst (λ z. inserted_log z more) (sym t) tt
-  insert_on key value insert.New (insert.Ending last) seen.Done t did h = absurd t
-  insert_on key value (insert.Ending r) (insert.Ending last) seen.Done t did h = absurd t
-  insert_on key value (insert.Coming a) (insert.Over last) what t did h = absurd t.3
-  insert_on key value (insert.Ending r) (insert.Over last) seen.Done t did h = subst (λ z. inserted_log z more) (sym t) (inserted_stays (λ z l. (let e = sym did ∙ l in cc)) (ap put_in did) r h)
-  insert_on key value insert.New (insert.Over last) seen.Done t did h = absurd t
-  insert_on key value (insert.Present y v) (insert.Over last) seen.Done t did h = absurd t
-  insert_on key value old new what t did h = absurd t
+  pub insert_on : {key value : ℕ} {old new : InsertStage} {what : Seen} → InsertCase key value old what new → m.event.act ≡ event_of (insert_end old) (insert_next_in old) what → insert_log old marks → insert_log new more
+  insert_on (InsertCase.Began a t) did h = subst (λ z. coming_log z more) (sym t) tt
+  insert_on {key = key} (InsertCase.Came a what b t) did h = coming_on key a b what t did
+  insert_on (InsertCase.Found x c y there l t) did h = tt
+  insert_on {key = key} {value = value} (InsertCase.Entered x c d l t) did h = arrived_insert key value x c d t (put_stays (λ z l. (let e = sym did ∙ l in cc)) (ap put_in did) h)
+  insert_on (InsertCase.Opened x there last t) did h = subst (λ z. inserted_log z more) (sym t) tt
+  insert_on (InsertCase.Changed c what d t) did h = entry_on AnyPage (Unit {0}) (change_case c what _ t) did h
+  insert_on (InsertCase.Finished c what last t) did h = subst (λ z. inserted_log z more) (sym t.2) (outcome_inserted t.0 (entry_end AnyPage (Unit {0}) (change_case c what _ t.1) did h))
+  insert_on (InsertCase.Ended r last t) did h = subst (λ z. inserted_log z more) (sym t) (inserted_stays (λ z l. (let e = sym did ∙ l in cc)) (ap put_in did) r h)
 
   -- a deletion
   outcome_deleted : (removed : Removed) (o : Outcome) → put_log (IsThinAs removed) ⊥ o more → deleted_log (delete_reply removed o) more
@@ -208,29 +172,12 @@ module _ (marks : Trail) (m : Mark) where
   arrived_delete key x c removed (change.Putting y page) t h = (h, t.2)
   arrived_delete key x c removed old t h = absurd t.1
 
-  pub delete_on : (key : ℕ) (old new : DeleteStage) (what : Seen) → DeleteGoes key old what new → m.event.act ≡ event_of (delete_end old) (delete_next_in old) what → delete_log old marks → delete_log new more
-  delete_on key old delete.New what t did h = tt
-  delete_on key old (delete.Absent x) what t did h = tt
-  delete_on key old (delete.Coming way.Start) what t did h = tt
-  delete_on key old (delete.Coming (way.At x)) what t did h = tt
-  delete_on key old (delete.Coming (way.Latching x)) what t did h = tt
-  delete_on key old (delete.Coming (way.Leaving x to)) what t did h = tt
-  delete_on key (delete.Coming a) (delete.Coming (way.Latched x)) what t did h = coming_on key a (way.Latched x) what t did
-  delete_on key delete.New (delete.Coming (way.Latched x)) seen.Done t did h = absurd (let e = t in cc)
-  delete_on key (delete.Absent y) (delete.Coming (way.Latched x)) seen.Done t did h = absurd t
-  delete_on key (delete.Ending r) (delete.Coming (way.Latched x)) seen.Done t did h = absurd t
-  delete_on key (delete.Coming a) (delete.Changing same d) what (x, c, way_is, at) did h = arrived_delete key x c same d at (got_on key a x c what way_is did h)
-  delete_on key (delete.Changing removed c) (delete.Changing same d) what t did h = subst (λ z. entry_log (IsThinAs z) ⊥ d more) (sym t.0) (entry_on (IsThinAs removed) ⊥ c d what t.1 did h)
-  delete_on key delete.New (delete.Changing same d) seen.Done t did h = absurd t
-  delete_on key (delete.Absent y) (delete.Changing same d) seen.Done t did h = absurd t
-  delete_on key (delete.Ending r) (delete.Changing same d) seen.Done t did h = absurd t
-  delete_on key (delete.Coming a) (delete.Ending last) what t did h = absurd t.3
-  delete_on key (delete.Changing removed c) (delete.Ending last) what t did h = subst (λ z. deleted_log z more) (sym t.2) (outcome_deleted removed t.0 (entry_end (IsThinAs removed) ⊥ c t.0 what t.1 did h))
-  delete_on key (delete.Absent y) (delete.Ending last) seen.Done t did h = subst (λ z. deleted_log z more) (sym t) tt
-  delete_on key delete.New (delete.Ending last) seen.Done t did h = absurd t
-  delete_on key (delete.Ending r) (delete.Ending last) seen.Done t did h = absurd t
-  delete_on key (delete.Coming a) (delete.Over last) what t did h = absurd t.3
-  delete_on key (delete.Ending r) (delete.Over last) seen.Done t did h = subst (λ z. deleted_log z more) (sym t) (deleted_stays (λ z l. (let e = sym did ∙ l in cc)) (ap put_in did) r h)
-  delete_on key delete.New (delete.Over last) seen.Done t did h = absurd t
-  delete_on key (delete.Absent y) (delete.Over last) seen.Done t did h = absurd t
-  delete_on key old new what t did h = absurd t
+  pub delete_on : {key : ℕ} {old new : DeleteStage} {what : Seen} → DeleteCase key old what new → m.event.act ≡ event_of (delete_end old) (delete_next_in old) what → delete_log old marks → delete_log new more
+  delete_on (DeleteCase.Began a t) did h = subst (λ z. coming_log z more) (sym t) tt
+  delete_on {key = key} (DeleteCase.Came a what b t) did h = coming_on key a b what t did
+  delete_on (DeleteCase.Missing x c y l t) did h = tt
+  delete_on {key = key} (DeleteCase.Dropped x c v d l t) did h = arrived_delete key x c v d t (put_stays (λ z l. (let e = sym did ∙ l in cc)) (ap put_in did) h)
+  delete_on (DeleteCase.Opened x last t) did h = subst (λ z. deleted_log z more) (sym t) tt
+  delete_on (DeleteCase.Changed removed c what same d t) did h = subst (λ z. entry_log (IsThinAs z) ⊥ d more) (sym t.0) (entry_on (IsThinAs removed) ⊥ (change_case c what _ t.1) did h)
+  delete_on (DeleteCase.Finished removed c what last t) did h = subst (λ z. deleted_log z more) (sym t.2) (outcome_deleted removed t.0 (entry_end (IsThinAs removed) ⊥ (change_case c what _ t.1) did h))
+  delete_on (DeleteCase.Ended r last t) did h = subst (λ z. deleted_log z more) (sym t) (deleted_stays (λ z l. (let e = sym did ∙ l in cc)) (ap put_in did) r h)

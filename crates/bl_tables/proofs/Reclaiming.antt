@@ -1,6 +1,6 @@
 -- Every turn of a release keeps a world good. It watches, and in the end it may release the page: then each process that runs
 -- began after the page was retired, since the process has looked at all that had been started when it saw the page retired.
-use Rattle.std.proofs.Common.{ℕ, ◌≡◌, ◌≢◌, ◌<◌, ◌≤◌, true, false, Option, Some, None, arith, ap, sym, ◌∙◌, refl, inl, inr}
+use Rattle.std.proofs.Common.{ℕ, ◌≡◌, ◌≢◌, ◌<◌, ◌≤◌, true, Option, Some, None, arith, ap, sym, ◌∙◌, refl, inl, inr}
 use Rattle.std.proofs.lemmas.Bool.{cases_eq, cases_lt}
 use Rattle.bl_model.specs.declared.operation.Reply.{Reply}
 use Rattle.bl_page.specs.declared.page.Page.{Page}
@@ -17,15 +17,15 @@ use Rattle.bl_steps.proofs.After.{after, Extends-after, put_at, is_put_at}
 use Rattle.bl_steps.proofs.Outside.{Releases-keeps}
 use Rattle.bl_steps.proofs.Watches.{IsWatch}
 use Rattle.bl_ways.specs.declared.acts.Seen.{Seen}
-use Rattle.bl_ways.specs.declared.acts.Seen.TheVariants as seen
 use Rattle.bl_proc.specs.declared.reclaiming.Round.{Round}
 use Rattle.bl_proc.specs.declared.reclaiming.ReclaimStage.{ReclaimStage}
 use Rattle.bl_proc.specs.declared.reclaiming.ReclaimStage.TheVariants.{Seeing, Looking, Releasing, Over}
-use Rattle.bl_proc.specs.Reclaims.{reclaim_next_in, GoesPast, ReclaimGoes}
+use Rattle.bl_proc.specs.Reclaims.{reclaim_next_in, GoesPast}
 use Rattle.bl_tables.specs.Turns.{numbered, event_of, IsOwnerShown, IsShown, Does, Turned}
 use Rattle.bl_tables.specs.Tables.{idle}
 use Rattle.bl_tables.specs.Knowing.{looks, round, all, know_reclaim, retired_since, reclaim_time}
 use Rattle.bl_tables.proofs.Acts.{watched}
+use Rattle.bl_courses.proofs.KindCases.{ReclaimCase}
 
 -- what is known of the others in that state
 abbrev known : ℕ → ReclaimStage → Passed
@@ -119,69 +119,23 @@ module _ {P : Type 0} (know : P → Know) (w : World P) (g : IsGood know w) (p :
         }) g;
       }
 
-  pub reclaim_turn : (time : ℕ) (a a' : ReclaimStage) (what : Seen) (s : State Page) → know (w.proc p) ≡ know_reclaim time a → know b ≡ know_reclaim (reclaim_time w.now time page a) a' → ReclaimGoes a what a' → IsShown w.now p time (reclaim_next_in page a) what → Does w.now p (event_of None (reclaim_next_in page a) what) s → Turned know w p (event_of None (reclaim_next_in page a) what) s b
-  reclaim_turn time Seeing (Looking r) (seen.Owner true started own) s before then t shown does =
+  pub reclaim_turn : (time : ℕ) {a a' : ReclaimStage} {what : Seen} → ReclaimCase a what a' → (s : State Page) → know (w.proc p) ≡ know_reclaim time a → know b ≡ know_reclaim (reclaim_time w.now time page a) a' → IsShown w.now p time (reclaim_next_in page a) what → Does w.now p (event_of None (reclaim_next_in page a) what) s → Turned know w p (event_of None (reclaim_next_in page a) what) s b
+  reclaim_turn time (ReclaimCase.First started own r t) s before then shown does =
       let is : IsSure w p (idle Stage.Early) = rw before at (g.sure p) in
       watch_turn None _ (Look (OfPage page)) s tt tt tt does before then (first_round time started own _ (ahead_of (retired_since (w.now.owner page) time) 0 started own (Looking r) t) refl is.stage shown)
-  reclaim_turn time Seeing Releasing (seen.Owner true started own) s before then t shown does =
+  reclaim_turn time (ReclaimCase.NoneThere started own t) s before then shown does =
       let is : IsSure w p (idle Stage.Early) = rw before at (g.sure p) in
       watch_turn None _ (Look (OfPage page)) s tt tt tt does before then (first_round time started own _ (ahead_of (retired_since (w.now.owner page) time) 0 started own Releasing t) refl is.stage shown)
-  reclaim_turn time Seeing (Over k) (seen.Owner false started own) s before then t shown does =
+  reclaim_turn time (ReclaimCase.NotRetired started own k t) s before then shown does =
       watch_turn None None (Look (OfPage page)) s tt tt tt does before then tt
-  reclaim_turn time (Looking r) (Looking n) (seen.Blocks false) s before then t shown does =
+  reclaim_turn time (ReclaimCase.Further r n t) s before then shown does =
       let is : IsSure w p (looks (round time r)) = rw before at (g.sure p) in
       watch_turn _ _ (Look (Process (numbered r.next))) s tt tt tt does before then (next_round time r _ (ahead_of time r.next r.started r.own (Looking n) t) refl (shown refl) is.passed)
-  reclaim_turn time (Looking r) Releasing (seen.Blocks false) s before then t shown does =
+  reclaim_turn time (ReclaimCase.NoMore r t) s before then shown does =
       let is : IsSure w p (looks (round time r)) = rw before at (g.sure p) in
       watch_turn _ _ (Look (Process (numbered r.next))) s tt tt tt does before then (next_round time r _ (ahead_of time r.next r.started r.own Releasing t) refl (shown refl) is.passed)
-  reclaim_turn time (Looking r) (Over k) (seen.Blocks true) s before then t shown does =
+  reclaim_turn time (ReclaimCase.Blocked r k t) s before then shown does =
       watch_turn _ None (Look (Process (numbered r.next))) s tt tt tt does before then tt
-  reclaim_turn time Releasing (Over k) seen.Done s before then t shown does = release_turn time s before then shown does
-  reclaim_turn time Releasing (Over k) seen.Missed s before then t shown does =
+  reclaim_turn time (ReclaimCase.Done k t) s before then shown does = release_turn time s before then shown does
+  reclaim_turn time (ReclaimCase.Missed k t) s before then shown does =
       watch_turn _ None Miss s tt tt tt does before then tt
-  reclaim_turn time Seeing a' seen.Done s before then t shown does = absurd t
-  reclaim_turn time Seeing a' (seen.Words page') s before then t shown does = absurd t
-  reclaim_turn time Seeing a' (seen.Took y) s before then t shown does = absurd t
-  reclaim_turn time Seeing Seeing (seen.Owner true started own) s before then t shown does = absurd t
-  reclaim_turn time Seeing (Over k') (seen.Owner true started own) s before then t shown does = absurd t
-  reclaim_turn time Seeing Seeing (seen.Owner false started own) s before then t shown does = absurd t
-  reclaim_turn time Seeing (Looking n) (seen.Owner false started own) s before then t shown does = absurd t
-  reclaim_turn time Seeing Releasing (seen.Owner false started own) s before then t shown does = absurd t
-  reclaim_turn time Seeing a' (seen.Blocks true) s before then t shown does = absurd t
-  reclaim_turn time Seeing a' (seen.Blocks false) s before then t shown does = absurd t
-  reclaim_turn time Seeing a' seen.Missed s before then t shown does = absurd t
-  reclaim_turn time Seeing a' seen.Refused s before then t shown does = absurd t
-  reclaim_turn time (Looking r) a' seen.Done s before then t shown does = absurd t
-  reclaim_turn time (Looking r) a' (seen.Words page') s before then t shown does = absurd t
-  reclaim_turn time (Looking r) a' (seen.Took y) s before then t shown does = absurd t
-  reclaim_turn time (Looking r) a' (seen.Owner true started own) s before then t shown does = absurd t
-  reclaim_turn time (Looking r) a' (seen.Owner false started own) s before then t shown does = absurd t
-  reclaim_turn time (Looking r) Seeing (seen.Blocks true) s before then t shown does = absurd t
-  reclaim_turn time (Looking r) (Looking n) (seen.Blocks true) s before then t shown does = absurd t
-  reclaim_turn time (Looking r) Releasing (seen.Blocks true) s before then t shown does = absurd t
-  reclaim_turn time (Looking r) Seeing (seen.Blocks false) s before then t shown does = absurd t
-  reclaim_turn time (Looking r) (Over k') (seen.Blocks false) s before then t shown does = absurd t
-  reclaim_turn time (Looking r) a' seen.Missed s before then t shown does = absurd t
-  reclaim_turn time (Looking r) a' seen.Refused s before then t shown does = absurd t
-  reclaim_turn time Releasing Seeing seen.Done s before then t shown does = absurd t
-  reclaim_turn time Releasing (Looking n) seen.Done s before then t shown does = absurd t
-  reclaim_turn time Releasing Releasing seen.Done s before then t shown does = absurd t
-  reclaim_turn time Releasing a' (seen.Words page') s before then t shown does = absurd t
-  reclaim_turn time Releasing a' (seen.Took y) s before then t shown does = absurd t
-  reclaim_turn time Releasing a' (seen.Owner true started own) s before then t shown does = absurd t
-  reclaim_turn time Releasing a' (seen.Owner false started own) s before then t shown does = absurd t
-  reclaim_turn time Releasing a' (seen.Blocks true) s before then t shown does = absurd t
-  reclaim_turn time Releasing a' (seen.Blocks false) s before then t shown does = absurd t
-  reclaim_turn time Releasing Seeing seen.Missed s before then t shown does = absurd t
-  reclaim_turn time Releasing (Looking n) seen.Missed s before then t shown does = absurd t
-  reclaim_turn time Releasing Releasing seen.Missed s before then t shown does = absurd t
-  reclaim_turn time Releasing a' seen.Refused s before then t shown does = absurd t
-  reclaim_turn time (Over k) a' seen.Done s before then t shown does = absurd t
-  reclaim_turn time (Over k) a' (seen.Words page') s before then t shown does = absurd t
-  reclaim_turn time (Over k) a' (seen.Took y) s before then t shown does = absurd t
-  reclaim_turn time (Over k) a' (seen.Owner true started own) s before then t shown does = absurd t
-  reclaim_turn time (Over k) a' (seen.Owner false started own) s before then t shown does = absurd t
-  reclaim_turn time (Over k) a' (seen.Blocks true) s before then t shown does = absurd t
-  reclaim_turn time (Over k) a' (seen.Blocks false) s before then t shown does = absurd t
-  reclaim_turn time (Over k) a' seen.Missed s before then t shown does = absurd t
-  reclaim_turn time (Over k) a' seen.Refused s before then t shown does = absurd t

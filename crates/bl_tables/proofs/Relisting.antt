@@ -1,10 +1,10 @@
 -- The second put of a compression, of the parent, keeps a world good: it drops the right child, or lists it by another key.
-use Rattle.std.proofs.Common.{ℕ, suc, ◌≡◌, ◌≢◌, ◌<◌, ◌≤◌, Option, Some, None, [], ◌∷◌, arith, ap, sym, ◌∙◌, refl, subst, inl, inr}
+use Rattle.std.proofs.Common.{ℕ, suc, ◌≡◌, ◌≢◌, ◌<◌, ◌≤◌, Option, Some, None, arith, ap, sym, ◌∙◌, refl, subst}
 use Rattle.bl_page.specs.declared.page.Page.{Page}
-use Rattle.bl_page.specs.Machine.{Name, Owner, State, Act, IsAt}
+use Rattle.bl_page.specs.Machine.{Name, Owner, State}
 use Rattle.bl_page.specs.Machine.Act.{Put}
 use Rattle.bl_tree.specs.Nodes.{Look}
-use Rattle.bl_tree.specs.Trees.Status.{Fresh, Live, Left, Right, Gone}
+use Rattle.bl_tree.specs.Trees.Status.{Fresh}
 use Rattle.bl_tree.specs.Moves.{IsRow, IsMapRow, IsRelisted}
 use Rattle.bl_laws.specs.Pages.{node_of}
 use Rattle.bl_trails.proofs.Pushes.{HasSaid-silent}
@@ -13,11 +13,10 @@ use Rattle.bl_steps.proofs.After.{after, Extends-after, put_at, is_put_at}
 use Rattle.bl_puts.specs.Puts.{Owes}
 use Rattle.bl_puts.proofs.Moves.{PutsRow-keeps}
 use Rattle.bl_puts.proofs.Partings.{PutsRelisted-keeps}
-use Rattle.bl_rearrange.specs.declared.sides.Side.TheVariants as side
 use Rattle.bl_compress.specs.declared.compressing.Puts.{Puts}
 use Rattle.bl_compress.specs.declared.compressing.Compression.TheVariants.{PuttingParent, PuttingLast}
 use Rattle.bl_tables.specs.Turns.{Does, Turned}
-use Rattle.bl_tables.specs.Compressing.{left_now, right_now, AreThree, IsToPut, ToMerge, ToEvenLeft, ToEvenRight, know_compression}
+use Rattle.bl_tables.specs.Compressing.{right_now, AreThree, IsToPut, ToMerge, ToEvenLeft, ToEvenRight, know_compression}
 use Rattle.bl_tables.proofs.Acts.{of_held, not_gone}
 
 -- one level's map with its key changed, and with two of them

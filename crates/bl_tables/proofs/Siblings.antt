@@ -1,14 +1,12 @@
 -- What a compression is to put is what the moves of the tree want.
-use Rattle.std.proofs.Common.{ℕ, suc, ◌≡◌, ◌≢◌, ◌⊎◌, ◌+◌, ◌/◌, ◌<◌, ◌≤◌, ◌++◌, List, [], ◌∷◌, length, Option, Some, None, arith, ap, sym, ◌∙◌, refl, subst, inl, inr}
-use Rattle.std.proofs.lemmas.Bool.{cases_eq, cases_lt}
-use Rattle.bl_model.specs.Map.{with_pair, without_key}
+use Rattle.std.proofs.Common.{ℕ, suc, ◌≡◌, ◌≢◌, ◌⊎◌, ◌+◌, ◌/◌, ◌<◌, ◌≤◌, ◌++◌, List, [], ◌∷◌, length, Some, None, arith, ap, sym, ◌∙◌, refl, subst, inl, inr}
 use Rattle.bl_model.specs.Rows.{map_of}
 use Rattle.bl_page.specs.declared.page.Page.{Page}
 use Rattle.bl_page.specs.declared.page.Page.TheVariants.{Inner as InnerPage}
 use Rattle.bl_page.specs.declared.page.Inner.{Inner}
 use Rattle.bl_page.specs.Pairs.{end_of, IsWithin, AllWithin}
 use Rattle.bl_rearrange.specs.Rearranged.{pairs_of, low_of, high_of, right_of}
-use Rattle.bl_rearrange.specs.Neighbours.{AreNeighbours, IsEvened, Gains, together}
+use Rattle.bl_rearrange.specs.Neighbours.{AreNeighbours, IsEvened, Gains}
 use Rattle.bl_rearrange.specs.declared.sides.Evened.{Evened}
 use Rattle.bl_rearrange.specs.declared.sides.Side.{Side}
 use Rattle.bl_rearrange.specs.declared.sides.Side.TheVariants as side
@@ -19,7 +17,7 @@ use Rattle.bl_puts.proofs.Fitted.{look_of, frame_shape, end_is, fits_row, withou
 use Rattle.bl_puts.proofs.Neighbours.{meets, cover_of, merged_join, now_low, shares, evened_left, evened_right}
 use Rattle.bl_compress.specs.declared.compressing.Family.{Family}
 use Rattle.bl_compress.specs.declared.compressing.Puts.{Puts}
-use Rattle.bl_compress.specs.Compressions.{IsBuried, Merges, MayEven, Evens, Relists, IsFew, merge_hint}
+use Rattle.bl_compress.specs.Compressions.{IsBuried, Merges, MayEven, Evens, Relists, merge_hint}
 use Rattle.bl_compress.specs.declared.compressing.Trio.{Trio}
 use Rattle.bl_tables.specs.Compressing.{ToMerge, ToEvenLeft, ToEvenRight}
 use Rattle.bl_tables.proofs.Holdings.{covered_in}

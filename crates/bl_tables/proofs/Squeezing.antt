@@ -1,5 +1,5 @@
 -- Every turn of a compression of two children keeps a world good: by its state and what it was told.
-use Rattle.std.proofs.Common.{ℕ, suc, ◌≡◌, ◌≢◌, ◌⊎◌, ◌-◌, ◌<◌, Option, Some, None, arith, ap, sym, ◌∙◌, refl, subst, inl, inr}
+use Rattle.std.proofs.Common.{ℕ, ◌≡◌, ◌≢◌, ◌⊎◌, ◌<◌, None, arith, ap, sym, ◌∙◌, refl, subst, inl, inr}
 use Rattle.bl_page.specs.declared.page.Page.{Page}
 use Rattle.bl_page.specs.declared.page.Page.TheVariants.{Anchor, Leaf, Inner, Dead}
 use Rattle.bl_rearrange.specs.Rearranged.{low_of}
@@ -16,7 +16,6 @@ use Rattle.bl_ways.specs.declared.acts.Seen.TheVariants as seen
 use Rattle.bl_compress.specs.declared.compressing.Trio.{Trio}
 use Rattle.bl_compress.specs.declared.compressing.Family.{Family}
 use Rattle.bl_compress.specs.declared.compressing.Puts.{Puts}
-use Rattle.bl_compress.specs.declared.compressing.Fate.{Fate}
 use Rattle.bl_compress.specs.declared.compressing.Fate.TheVariants as fate
 use Rattle.bl_compress.specs.declared.compressing.Compression.{Compression}
 use Rattle.bl_compress.specs.declared.compressing.Compression.TheVariants.{LatchingLeft, LatchedLeft, LatchingRight, LatchedRight, PuttingFirst, PuttingParent, PuttingLast, Retiring, OpeningRight, OpeningLeft, OpeningParent}

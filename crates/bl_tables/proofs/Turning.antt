@@ -23,22 +23,23 @@ use Rattle.bl_tables.proofs.Deleting.{delete_turn}
 use Rattle.bl_tables.proofs.Posting.{post_turn}
 use Rattle.bl_tables.proofs.Pressing.{compress_turn}
 use Rattle.bl_tables.proofs.Reclaiming.{reclaim_turn}
+use Rattle.bl_courses.proofs.KindCases.{insert_case, delete_case, post_case, compress_case, reclaim_case}
 
 state_turn : (w : World Run) (p : Name) (got : ℕ → Page) (child time : ℕ) (old new : Proc) (b : Run) (what : Seen) (s : State Page) → IsGood bare w → bare (w.proc p) ≡ know_of got child time old → bare b ≡ know_of (got_next got old what) (child_next child old) (time_next w.now time old) new → Takes old what new → IsTold w.now w.size (next_of old) what → IsShown w.now p time (next_of old) what → Does w.now p (event_of (end_of_proc old) (next_of old) what) s → Turned bare w p (event_of (end_of_proc old) (next_of old) what) s b
 state_turn w p got child time (Find a) (Find c) b what s g before then t told shown does =
     find_turn bare w g p b a.key a.stage c.stage what s before (subst (λ k. bare b ≡ know_find k c.stage) t.0 then) t.1 told does
 state_turn w p got child time (Insert a) (Insert c) b what s g before then t told shown does =
-    insert_turn bare w g p b a.key a.value a.stage c.stage got what s before (subst (λ k. bare b ≡ know_insert k a.value (insert_got got a.stage what) c.stage) t.0 (subst (λ v. bare b ≡ know_insert c.key v (insert_got got a.stage what) c.stage) t.1 then)) t.2 told does
+    insert_turn bare w g p b a.key a.value (insert_case a.key a.value a.stage what c.stage t.2) got s before (subst (λ k. bare b ≡ know_insert k a.value (insert_got got a.stage what) c.stage) t.0 (subst (λ v. bare b ≡ know_insert c.key v (insert_got got a.stage what) c.stage) t.1 then)) told does
 state_turn w p got child time (Delete a) (Delete c) b what s g before then t told shown does =
-    delete_turn bare w g p b a.key a.stage c.stage got what s before (subst (λ k. bare b ≡ know_delete k (delete_got got a.stage what) c.stage) t.0 then) t.1 told does
+    delete_turn bare w g p b a.key (delete_case a.key a.stage what c.stage t.1) got s before (subst (λ k. bare b ≡ know_delete k (delete_got got a.stage what) c.stage) t.0 then) told does
 state_turn w p got child time (Post a) (Post c) b what s g before then t told shown does =
-    post_turn bare w g p b a.level a.key a.least a.most a.stage c.stage got child what s before (subst (λ l. bare b ≡ know_post l a.key (post_got got a.stage what) (post_child child a.stage) c.stage) t.0 (subst (λ k. bare b ≡ know_post c.level k (post_got got a.stage what) (post_child child a.stage) c.stage) t.1 then)) t.2 told does
+    post_turn bare w g p b a.level a.key a.least a.most (post_case a.level a.key a.stage what c.stage t.2) got child s before (subst (λ l. bare b ≡ know_post l a.key (post_got got a.stage what) (post_child child a.stage) c.stage) t.0 (subst (λ k. bare b ≡ know_post c.level k (post_got got a.stage what) (post_child child a.stage) c.stage) t.1 then)) told does
 state_turn w p got child time (Part a) (Part c) b what s g before then t told shown does =
     part_turn bare w g p b a.from a.stage c.stage what s before (subst (λ k. bare b ≡ know_part k c.stage) t.0 then) t.1 told does
 state_turn w p got child time (Reclaim a) (Reclaim c) b what s g before then t told shown does =
-    reclaim_turn bare w g p b a.page time a.stage c.stage what s before then t.1 shown does
+    reclaim_turn bare w g p b a.page time (reclaim_case a.stage what c.stage t.1) s before then shown does
 state_turn w p got child time (Compress a) (Compress c) b what s g before then t told shown does =
-    compress_turn bare w g p b a.level a.key a.least a.most a.stage c.stage got what s before (subst (λ l. bare b ≡ know_compress l a.key (compress_got got a.stage what) c.stage) t.0 (subst (λ k. bare b ≡ know_compress c.level k (compress_got got a.stage what) c.stage) t.1 then)) t.2 told does
+    compress_turn bare w g p b a.level a.key a.least a.most (compress_case a.level a.key a.stage what c.stage t.2) got s before (subst (λ l. bare b ≡ know_compress l a.key (compress_got got a.stage what) c.stage) t.0 (subst (λ k. bare b ≡ know_compress c.level k (compress_got got a.stage what) c.stage) t.1 then)) told does
 state_turn w p got child time old new b what s g before then t told shown does = absurd t
 
 -- Process p, which is a, was told this of its next action, truly, and goes to that state: from a good world this leads to a
