@@ -14,8 +14,6 @@ use Rattle.bl_ways.specs.Props.{Covers-prop, MayHold-prop}
 use Rattle.bl_ways.specs.declared.acts.Seen.{Seen}
 use Rattle.bl_ways.specs.declared.acts.Seen.TheVariants as seen
 use Rattle.bl_ways.specs.declared.changing.Full.{Full}
-use Rattle.bl_ways.specs.declared.changing.Parting.{Parting}
-use Rattle.bl_ways.specs.declared.changing.Outcome.{Outcome}
 use Rattle.bl_ways.specs.declared.changing.Outcome.TheVariants as outcome
 use Rattle.bl_ways.specs.declared.changing.Change.{Change}
 use Rattle.bl_ways.specs.declared.changing.Change.TheVariants.{Putting, Taking, PuttingNew, PuttingOld, OpeningNew, Opening}
@@ -25,6 +23,7 @@ use Rattle.bl_ways.specs.Given.{Gives}
 use Rattle.bl_ways.specs.Changes.{change_next, change_needs, EntersPair, DropsPair, Changes}
 use Rattle.bl_courses.specs.One.{One}
 use Rattle.bl_courses.proofs.Pages.{fits_one, fits_some, split_one, split_some, without_one, without_some}
+use Rattle.bl_courses.proofs.WayCases.{ChangeCase, change_case}
 
 full_same : (a b : Full) → a.at ≡ b.at → a.key ≡ b.key → a.word ≡ b.word → a.page ≡ b.page → a ≡ b
 full_same a b at key word page = λ i. record {
@@ -65,53 +64,36 @@ module _ (x : ℕ) (c : Page) (key : ℕ) (in_it : Covers c key) (may : MayLose 
   pub drop_one : One (DropsPair x c key)
   drop_one = (let p = without_some c key in_it may in record { new = Putting x p.0; goes = (refl, p.1); only = drop_only p.0 p.1 })
 
-put_done : (x : ℕ) (page : Page) (other : Changed) → Changes (Putting x page) seen.Done other → other ≡ On (Opening x outcome.Changed)
-put_done x page (On n) t = ap On t
-put_done x page (Over o) t = absurd t
+-- what two turns lead to where the same was seen
+change_same : {c : Change} {what : Seen} {a b : Changed} → ChangeCase c what a → ChangeCase c what b → b ≡ a
+change_same (ChangeCase.Put x page a s) (ChangeCase.Put _ _ b t) = ap On (t ∙ sym s)
+change_same (ChangeCase.PutRefused x page a s) (ChangeCase.PutRefused _ _ b t) = ap On (t ∙ sym s)
+change_same (ChangeCase.Took full y p s) (ChangeCase.Took _ _ u t) =
+    let e = split_one full.page full.key full.word y u.left u.right u.separator p.left p.right p.separator t.2 s.2 in
+    λ i. On (PuttingNew (record { at = (t.0 ∙ sym s.0) i; new = (t.1 ∙ sym s.1) i; left = e.left_one i; right = e.right_one i; separator = e.separator_one i }))
+change_same (ChangeCase.TakeRefused full a s) (ChangeCase.TakeRefused _ b t) = ap On (t ∙ sym s)
+change_same (ChangeCase.PutNew p a s) (ChangeCase.PutNew _ b t) = ap On (t ∙ sym s)
+change_same (ChangeCase.PutOld p a s) (ChangeCase.PutOld _ b t) = ap On (t ∙ sym s)
+change_same (ChangeCase.OpenedNew x y separator a s) (ChangeCase.OpenedNew _ _ _ b t) = ap On (t ∙ sym s)
+change_same (ChangeCase.Opened x o a s) (ChangeCase.Opened _ _ b t) = ap Over (t ∙ sym s)
 
-put_refused : (x : ℕ) (page : Page) (other : Changed) → Changes (Putting x page) seen.Refused other → other ≡ On (Opening x outcome.Refused)
-put_refused x page (On n) t = ap On t
-put_refused x page (Over o) t = absurd t
-
-take_refused : (full : Full) (other : Changed) → Changes (Taking full) seen.Refused other → other ≡ On (Opening full.at outcome.Refused)
-take_refused full (On n) t = ap On t
-take_refused full (Over o) t = absurd t
-
-new_done : (p : Parting) (other : Changed) → Changes (PuttingNew p) seen.Done other → other ≡ On (PuttingOld p)
-new_done p (On n) t = ap On t
-new_done p (Over o) t = absurd t
-
-old_done : (p : Parting) (other : Changed) → Changes (PuttingOld p) seen.Done other → other ≡ On (OpeningNew p.at p.new p.separator)
-old_done p (On n) t = ap On t
-old_done p (Over o) t = absurd t
-
-opened_new : (x y s : ℕ) (other : Changed) → Changes (OpeningNew x y s) seen.Done other → other ≡ On (Opening x (outcome.Parted s))
-opened_new x y s (On n) t = ap On t
-opened_new x y s (Over o) t = absurd t
-
-opened : (x : ℕ) (what : Outcome) (other : Changed) → Changes (Opening x what) seen.Done other → other ≡ Over what
-opened x what (On n) t = absurd t
-opened x what (Over o) t = ap Over t
-
-taken_only : (full : Full) (y : ℕ) (p : Parting) → Changes (Taking full) (seen.Took y) (On (PuttingNew p)) → (other : Changed) → Changes (Taking full) (seen.Took y) other → other ≡ On (PuttingNew p)
-taken_only full y p f (On (PuttingNew u)) t = (let s = split_one full.page full.key full.word y u.left u.right u.separator p.left p.right p.separator t.2 f.2 in λ i. On (PuttingNew (record { at = (t.0 ∙ sym f.0) i; new = (t.1 ∙ sym f.1) i; left = s.left_one i; right = s.right_one i; separator = s.separator_one i })))
-taken_only full y p f old t = absurd t
+changed : (c : Change) (what : Seen) (new : Changed) → Changes c what new → One (Changes c what)
+changed c what new goes = record { new = new; goes = goes; only = λ other t. change_same (change_case c what new goes) (change_case c what other t) }
 
 taken : (full : Full) (y : ℕ) → IsChild y → One (Changes (Taking full) (seen.Took y))
 taken full y child =
     let s = split_some full.page full.key full.word y full.covers full.absent full.fits child full.full in
-    let p : Parting = record { at = full.at; new = y; left = s.left; right = s.right; separator = s.separator } in
-    record { new = On (PuttingNew p); goes = (refl, refl, s.is); only = taken_only full y p (refl, refl, s.is) }
+    changed (Taking full) (seen.Took y) (On (PuttingNew (record { at = full.at; new = y; left = s.left; right = s.right; separator = s.separator }))) (refl, refl, s.is)
 
 pub change_one : (c : Change) (what : Seen) → Gives (change_next c) (change_needs c) what → One (Changes c what)
-change_one (Putting u v) seen.Done g = record { new = On (Opening u outcome.Changed); goes = refl; only = put_done u v }
-change_one (Putting u v) seen.Refused g = record { new = On (Opening u outcome.Refused); goes = refl; only = put_refused u v }
+change_one (Putting u v) seen.Done g = changed (Putting u v) seen.Done (On (Opening u outcome.Changed)) refl
+change_one (Putting u v) seen.Refused g = changed (Putting u v) seen.Refused (On (Opening u outcome.Refused)) refl
 change_one (Taking u) (seen.Took y) g = taken u y g
-change_one (Taking u) seen.Refused g = record { new = On (Opening u.at outcome.Refused); goes = refl; only = take_refused u }
-change_one (PuttingNew u) seen.Done g = record { new = On (PuttingOld u); goes = refl; only = new_done u }
+change_one (Taking u) seen.Refused g = changed (Taking u) seen.Refused (On (Opening u.at outcome.Refused)) refl
+change_one (PuttingNew u) seen.Done g = changed (PuttingNew u) seen.Done (On (PuttingOld u)) refl
 change_one (PuttingNew u) seen.Refused g = absurd (false≢true g)
-change_one (PuttingOld u) seen.Done g = record { new = On (OpeningNew u.at u.new u.separator); goes = refl; only = old_done u }
+change_one (PuttingOld u) seen.Done g = changed (PuttingOld u) seen.Done (On (OpeningNew u.at u.new u.separator)) refl
 change_one (PuttingOld u) seen.Refused g = absurd (false≢true g)
-change_one (OpeningNew u v s) seen.Done g = record { new = On (Opening u (outcome.Parted s)); goes = refl; only = opened_new u v s }
-change_one (Opening u v) seen.Done g = record { new = Over v; goes = refl; only = opened u v }
+change_one (OpeningNew u v s) seen.Done g = changed (OpeningNew u v s) seen.Done (On (Opening u (outcome.Parted s))) refl
+change_one (Opening u v) seen.Done g = changed (Opening u v) seen.Done (Over v) refl
 change_one old what g = absurd g

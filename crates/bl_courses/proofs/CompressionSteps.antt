@@ -1,5 +1,5 @@
 -- A compression goes on, and in one way.
-use Rattle.std.proofs.Common.{ℕ, ◌≡◌, Option, Some, None, refl, ap}
+use Rattle.std.proofs.Common.{ℕ, ◌≡◌, Option, Some, None, refl, ap, sym, subst}
 use Rattle.std.specs.Prelude.{IsSome}
 use Rattle.std.proofs.lemmas.Bool.{false≢true}
 use Rattle.bl_page.specs.declared.page.Page.{Page}
@@ -44,22 +44,19 @@ decide_goes : (f : Family) (c d : Page) → One (Compresses (LatchedRight f c) (
 decide_goes f c d = (let h = decide_one f c d in record { new = On h.new; goes = h.goes; only = on_only (LatchedRight f c) (seen.Words d) h.new h.only (λ z t. t) })
 
 first_goes : (p : Puts) (what : Seen) → Gives (compression_next (PuttingFirst p)) (compression_needs (PuttingFirst p)) what → One (Compresses (PuttingFirst p) what)
-first_goes p seen.Done g = record { new = On (PuttingParent p); goes = refl; only = on_only (PuttingFirst p) seen.Done (PuttingParent p) (λ d t. t) (λ z t. t) }
-first_goes p seen.Refused g = record { new = On (OpeningRight p.at Refused); goes = refl; only = on_only (PuttingFirst p) seen.Refused (OpeningRight p.at Refused) (λ d t. t) (λ z t. t) }
-first_goes p (seen.Words c) g = absurd (put_gives p.gains p (Some (0, 3)) (seen.Words c) ⊥ (λ e. cc) (λ e some. cc) g)
-first_goes p (seen.Took y) g = absurd (put_gives p.gains p (Some (0, 3)) (seen.Took y) ⊥ (λ e. cc) (λ e some. cc) g)
-first_goes p (seen.Owner retired started own) g = absurd (put_gives p.gains p (Some (0, 3)) (seen.Owner retired started own) ⊥ (λ e. cc) (λ e some. cc) g)
-first_goes p (seen.Blocks b) g = absurd (put_gives p.gains p (Some (0, 3)) (seen.Blocks b) ⊥ (λ e. cc) (λ e some. cc) g)
-first_goes p seen.Missed g = absurd (put_gives p.gains p (Some (0, 3)) seen.Missed ⊥ (λ e. cc) (λ e some. cc) g)
+first_goes p what g = put_gives p.gains p (Some (0, 3)) what (One (Compresses (PuttingFirst p) what)) (λ e. subst (λ z. One (Compresses (PuttingFirst p) z)) (sym e) put) (λ e some. subst (λ z. One (Compresses (PuttingFirst p) z)) (sym e) refused) g
+  where
+    put : One (Compresses (PuttingFirst p) seen.Done)
+    put = record { new = On (PuttingParent p); goes = refl; only = on_only (PuttingFirst p) seen.Done (PuttingParent p) (λ d t. t) (λ z t. t) }
+
+    refused : One (Compresses (PuttingFirst p) seen.Refused)
+    refused = record { new = On (OpeningRight p.at Refused); goes = refl; only = on_only (PuttingFirst p) seen.Refused (OpeningRight p.at Refused) (λ d t. t) (λ z t. t) }
 
 last_goes : (p : Puts) (what : Seen) → Gives (compression_next (PuttingLast p)) (compression_needs (PuttingLast p)) what → One (Compresses (PuttingLast p) what)
-last_goes p seen.Done g = record { new = On (after_puts p.at p.fate); goes = refl; only = on_only (PuttingLast p) seen.Done (after_puts p.at p.fate) (λ d t. t) (λ z t. t) }
-last_goes p (seen.Words c) g = absurd (put_gives (other p.gains) p None (seen.Words c) ⊥ (λ e. cc) (λ e some. cc) g)
-last_goes p (seen.Took y) g = absurd (put_gives (other p.gains) p None (seen.Took y) ⊥ (λ e. cc) (λ e some. cc) g)
-last_goes p (seen.Owner retired started own) g = absurd (put_gives (other p.gains) p None (seen.Owner retired started own) ⊥ (λ e. cc) (λ e some. cc) g)
-last_goes p (seen.Blocks b) g = absurd (put_gives (other p.gains) p None (seen.Blocks b) ⊥ (λ e. cc) (λ e some. cc) g)
-last_goes p seen.Missed g = absurd (put_gives (other p.gains) p None seen.Missed ⊥ (λ e. cc) (λ e some. cc) g)
-last_goes p seen.Refused g = absurd (put_gives (other p.gains) p None seen.Refused ⊥ (λ e. cc) (λ e some. false≢true some) g)
+last_goes p what g = put_gives (other p.gains) p None what (One (Compresses (PuttingLast p) what)) (λ e. subst (λ z. One (Compresses (PuttingLast p) z)) (sym e) put) (λ e some. absurd (false≢true some)) g
+  where
+    put : One (Compresses (PuttingLast p) seen.Done)
+    put = record { new = On (after_puts p.at p.fate); goes = refl; only = on_only (PuttingLast p) seen.Done (after_puts p.at p.fate) (λ d t. t) (λ z t. t) }
 
 pub compression_one : (c : Compression) (what : Seen) → Gives (compression_next c) (compression_needs c) what → One (Compresses c what)
 compression_one (PuttingFirst p) what g = first_goes p what g

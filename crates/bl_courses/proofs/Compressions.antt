@@ -37,10 +37,11 @@ use Rattle.bl_proc.specs.declared.kinds.Proc.TheVariants as proc
 use Rattle.bl_proc.specs.Processes.{Takes}
 use Rattle.bl_courses.specs.Courses.{GoesOn}
 use Rattle.bl_courses.specs.One.{One}
-use Rattle.bl_courses.proofs.Cases.{inner_one, came_on, came_at, came_as, not_both, step_on, step_over, step_not_over}
+use Rattle.bl_courses.proofs.Cases.{inner_one, came_on, came_at, came_as, not_both}
 use Rattle.bl_courses.proofs.Ways.{approach_one, here_leads}
 use Rattle.bl_courses.proofs.Families.{family_one, family_some}
 use Rattle.bl_courses.proofs.CompressionSteps.{compression_one}
+use Rattle.bl_courses.proofs.KindCases.{CompressCase, compress_case}
 
 -- At the anchor.
 module _ (level key : ℕ) (c : Page) where
@@ -140,60 +141,44 @@ come_one level key (Latched z) what least g = near_one level key (Latched z) wha
 come_one level key (Leaving z to) what least g = near_one level key (Leaving z to) what least g
 come_one level key old what least g = absurd g
 
-reply_one : (q r : CompressReply) → Some q ≡ Some r → q ≡ r
-reply_one q r e = cc
+-- By what becomes of the children.
+abbrev after_fate : Option CompressReply → CompressStage
+after_fate None = Coming Start
+after_fate (Some r) = Ending r
 
--- On with the children.
-module _ (level key : ℕ) (c : Compression) (what : Seen) where
-  more_only : (d : Compression) → ((o : Compressed) → Compresses c what o → o ≡ step.On d) → (other : CompressStage) → CompressGoes level key (Compressing c) what other → other ≡ Compressing d
-  more_only d is (Coming a) t = absurd (step_not_over d t.0 (sym (is (step.Over t.0) t.1)))
-  more_only d is (Compressing e) t = ap Compressing (step_on e d (is (step.On e) t))
-  more_only d is (Ending r) t = absurd (step_not_over d t.0 (sym (is (step.Over t.0) t.1)))
-  more_only d is old t = absurd t
+abbrev after_step : Compressed → CompressStage
+after_step (step.On d) = Compressing d
+after_step (step.Over fate) = after_fate (compress_reply fate)
 
-  module _ (fate : Fate) (is : (o : Compressed) → Compresses c what o → o ≡ step.Over fate) where
-    same_reply : (z : Fate) → Compresses c what (step.Over z) → compress_reply z ≡ compress_reply fate
-    same_reply z t = ap compress_reply (step_over z fate (is (step.Over z) t))
+over_goes : (level key : ℕ) (c : Compression) (what : Seen) (fate : Fate) (r : Option CompressReply) → compress_reply fate ≡ r → Compresses c what (step.Over fate) → CompressGoes level key (Compressing c) what (after_fate r)
+over_goes level key c what fate None e t = (fate, t, e, refl)
+over_goes level key c what fate (Some r) e t = (fate, t, e)
 
-    again_only : compress_reply fate ≡ None → (other : CompressStage) → CompressGoes level key (Compressing c) what other → other ≡ Coming Start
-    again_only none (Coming a) t = ap Coming t.3
-    again_only none (Compressing e) t = absurd (step_not_over e fate (is (step.On e) t))
-    again_only none (Ending r) t = absurd (let e : Some r ≡ None = sym t.2 ∙ (same_reply t.0 t.1 ∙ none) in cc)
-    again_only none old t = absurd t
+step_goes : (level key : ℕ) (c : Compression) (what : Seen) (n : Compressed) → Compresses c what n → CompressGoes level key (Compressing c) what (after_step n)
+step_goes level key c what (step.On d) t = t
+step_goes level key c what (step.Over fate) t = over_goes level key c what fate (compress_reply fate) refl t
 
-    ended_only : (r : CompressReply) → compress_reply fate ≡ Some r → (other : CompressStage) → CompressGoes level key (Compressing c) what other → other ≡ Ending r
-    ended_only r some (Coming a) t = absurd (let e : Some r ≡ None = sym some ∙ (sym (same_reply t.0 t.1) ∙ t.2) in cc)
-    ended_only r some (Compressing e) t = absurd (step_not_over e fate (is (step.On e) t))
-    ended_only r some (Ending q) t = ap Ending (reply_one q r (sym t.2 ∙ (same_reply t.0 t.1 ∙ some)))
-    ended_only r some old t = absurd t
-
-    over_by : Compresses c what (step.Over fate) → (r : Option CompressReply) → compress_reply fate ≡ r → One (CompressGoes level key (Compressing c) what)
-    over_by h None e = record { new = Coming Start; goes = (fate, h, e, refl); only = again_only e }
-    over_by h (Some r) e = record { new = Ending r; goes = (fate, h, e); only = ended_only r e }
-
-  squeeze_by : (o : Compressed) → Compresses c what o → ((z : Compressed) → Compresses c what z → z ≡ o) → One (CompressGoes level key (Compressing c) what)
-  squeeze_by (step.On d) h is = record { new = Compressing d; goes = h; only = more_only d is }
-  squeeze_by (step.Over fate) h is = over_by fate is h (compress_reply fate) refl
+step_only : {level key : ℕ} {c : Compression} {what : Seen} {b : CompressStage} (n : Compressed) → ((o : Compressed) → Compresses c what o → o ≡ n) → CompressCase level key (Compressing c) what b → b ≡ after_step n
+step_only n is (CompressCase.Squeezed c what d t) = ap after_step (is (step.On d) t)
+step_only n is (CompressCase.Lost c what a t) = ap Coming t.3 ∙ (ap after_fate (sym t.2) ∙ ap after_step (is (step.Over t.0) t.1))
+step_only n is (CompressCase.Finished c what r t) = ap after_fate (sym t.2) ∙ ap after_step (is (step.Over t.0) t.1)
 
 module _ (level key : ℕ) where
-  begun_only : (other : CompressStage) → CompressGoes level key New seen.Done other → other ≡ Coming Start
-  begun_only (Coming a) t = ap Coming t
-  begun_only old t = absurd t
+  begun_only : {b : CompressStage} → CompressCase level key New seen.Done b → b ≡ Coming Start
+  begun_only (CompressCase.Began a t) = ap Coming t
 
-  stays_only : (x : ℕ) → (other : CompressStage) → CompressGoes level key (Staying x) seen.Done other → other ≡ Ending reply.Alone
-  stays_only x (Ending r) t = ap Ending t
-  stays_only x old t = absurd t
+  stays_only : {x : ℕ} {b : CompressStage} → CompressCase level key (Staying x) seen.Done b → b ≡ Ending reply.Alone
+  stays_only (CompressCase.Opened x r t) = ap Ending t
 
-  last_only : (q : CompressReply) → (other : CompressStage) → CompressGoes level key (Ending q) seen.Done other → other ≡ Over q
-  last_only q (Over r) t = ap Over t
-  last_only q old t = absurd t
+  last_only : {q : CompressReply} {b : CompressStage} → CompressCase level key (Ending q) seen.Done b → b ≡ Over q
+  last_only (CompressCase.Ended q last t) = ap Over t
 
   stage_one : 0 < level → (a : CompressStage) (what : Seen) → compress_answer_in a ≡ None → Gives (compress_next_in a) (compress_needs_in a) what → One (CompressGoes level key a what)
   stage_one least (Coming a) what r g = (let h = come_one level key a what least g in record { new = h.new; goes = h.goes; only = h.only })
-  stage_one least (Compressing d) what r g = (let h = compression_one d what g in squeeze_by level key d what h.new h.goes h.only)
-  stage_one least New seen.Done r g = record { new = Coming Start; goes = refl; only = begun_only }
-  stage_one least (Staying x) seen.Done r g = record { new = Ending reply.Alone; goes = refl; only = stays_only x }
-  stage_one least (Ending q) seen.Done r g = record { new = Over q; goes = refl; only = last_only q }
+  stage_one least (Compressing d) what r g = (let h = compression_one d what g in record { new = after_step h.new; goes = step_goes level key d what h.new h.goes; only = λ b t. step_only h.new h.only (compress_case level key (Compressing d) what b t) })
+  stage_one least New seen.Done r g = record { new = Coming Start; goes = refl; only = λ b t. begun_only (compress_case level key New seen.Done b t) }
+  stage_one least (Staying x) seen.Done r g = record { new = Ending reply.Alone; goes = refl; only = λ b t. stays_only (compress_case level key (Staying x) seen.Done b t) }
+  stage_one least (Ending q) seen.Done r g = record { new = Over q; goes = refl; only = λ b t. last_only (compress_case level key (Ending q) seen.Done b t) }
   stage_one least (Over q) what r g = absurd (let z : Some _ ≡ None = r in cc)
   stage_one least old what r g = absurd g
 

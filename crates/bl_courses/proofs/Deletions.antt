@@ -12,7 +12,6 @@ use Rattle.bl_ways.specs.declared.approaching.Approached.TheVariants as came
 use Rattle.bl_ways.specs.declared.changing.Change.{Change}
 use Rattle.bl_ways.specs.declared.changing.Changed.{Changed}
 use Rattle.bl_ways.specs.declared.changing.Changed.TheVariants as change
-use Rattle.bl_ways.specs.declared.changing.Outcome.{Outcome}
 use Rattle.bl_ways.specs.Given.{Gives}
 use Rattle.bl_ways.specs.Onwards.{Leads}
 use Rattle.bl_ways.specs.Approaches.{Approaches}
@@ -22,7 +21,7 @@ use Rattle.bl_proc.specs.declared.kinds.Proc.TheVariants as proc
 use Rattle.bl_proc.specs.Processes.{Takes}
 use Rattle.bl_courses.specs.Courses.{GoesOn}
 use Rattle.bl_courses.specs.One.{One}
-use Rattle.bl_courses.proofs.Cases.{came_on, came_at, came_as, not_both, on_one, over_one, not_over}
+use Rattle.bl_courses.proofs.Cases.{came_on, came_at, came_as, not_both}
 use Rattle.bl_courses.proofs.Ways.{approach_one, here_leads}
 use Rattle.bl_courses.proofs.Changes.{drop_one, change_one}
 use Rattle.bl_courses.proofs.Leaves.{leaf_covers, leaf_loses}
@@ -33,6 +32,7 @@ use Rattle.bl_proc.specs.declared.deleting.DeleteStage.TheVariants.{New, Coming,
 use Rattle.bl_proc.specs.declared.deleting.DeleteReply.{DeleteReply}
 use Rattle.bl_proc.specs.declared.deleting.DeleteReply.TheVariants as reply
 use Rattle.bl_proc.specs.Deletes.{delete_reply, thin_after, delete_next_in, delete_needs_in, delete_answer_in, DeleteArrives, DeleteGoes}
+use Rattle.bl_courses.proofs.KindCases.{DeleteCase, delete_case}
 
 module _ (key : ℕ) (x : ℕ) (c : Page) where
   absent_only : (node_of c).look key ≡ None → (other : DeleteStage) → DeleteArrives key x c other → other ≡ Absent x
@@ -77,40 +77,35 @@ module _ (key : ℕ) (a : Approach) (what : Seen) where
   coming_by (came.On b) h only = record { new = Coming b; goes = h; only = on_only b only }
   coming_by (came.Here x c) h only = (let one = arrive_one key x c (here_leads 0 key a what x c h) in record { new = one.new; goes = here_goes x c h one.new one.goes; only = here_only x c only one })
 
-module _ (key : ℕ) (removed : Removed) (d : Change) (what : Seen) where
-  more_only : (e : Change) → ((o : Changed) → Changes d what o → o ≡ change.On e) → (other : DeleteStage) → DeleteGoes key (Changing removed d) what other → other ≡ Changing removed e
-  more_only e is (Changing v f) t = (let f_is = on_one f e (is (change.On f) t.1) in λ i. Changing (t.0 i) (f_is i))
-  more_only e is (Ending r) t = absurd (not_over e t.0 (sym (is (change.Over t.0) t.1)))
-  more_only e is old t = absurd t
+-- by what becomes of its change
+abbrev after_change : Removed → Changed → DeleteStage
+after_change v (change.On e) = Changing v e
+after_change v (change.Over o) = Ending (delete_reply v o)
 
-  over_only : (o : Outcome) → ((z : Changed) → Changes d what z → z ≡ change.Over o) → (other : DeleteStage) → DeleteGoes key (Changing removed d) what other → other ≡ Ending (delete_reply removed o)
-  over_only o is (Changing v f) t = absurd (not_over f o (is (change.On f) t.1))
-  over_only o is (Ending r) t = ap Ending (t.2 ∙ ap (delete_reply removed) (over_one t.0 o (is (change.Over t.0) t.1)))
-  over_only o is old t = absurd t
+change_goes : (key : ℕ) (v : Removed) (d : Change) (what : Seen) (n : Changed) → Changes d what n → DeleteGoes key (Changing v d) what (after_change v n)
+change_goes key v d what (change.On e) h = (refl, h)
+change_goes key v d what (change.Over o) h = (o, h, refl)
 
-  changing_by : (n : Changed) → Changes d what n → ((z : Changed) → Changes d what z → z ≡ n) → One (DeleteGoes key (Changing removed d) what)
-  changing_by (change.On e) h only = record { new = Changing removed e; goes = (refl, h); only = more_only e only }
-  changing_by (change.Over o) h only = record { new = Ending (delete_reply removed o); goes = (o, h, refl); only = over_only o only }
+change_only : {key : ℕ} {v : Removed} {d : Change} {what : Seen} {b : DeleteStage} (n : Changed) → ((z : Changed) → Changes d what z → z ≡ n) → DeleteCase key (Changing v d) what b → b ≡ after_change v n
+change_only n is (DeleteCase.Changed v d what u e t) = ap (λ z. Changing z e) t.0 ∙ ap (after_change v) (is (change.On e) t.1)
+change_only n is (DeleteCase.Finished v d what r t) = ap Ending t.2 ∙ ap (after_change v) (is (change.Over t.0) t.1)
 
 module _ (key : ℕ) where
-  begun_only : (other : DeleteStage) → DeleteGoes key New seen.Done other → other ≡ Coming Start
-  begun_only (Coming b) t = ap Coming t
-  begun_only old t = absurd t
+  begun_only : {b : DeleteStage} → DeleteCase key New seen.Done b → b ≡ Coming Start
+  begun_only (DeleteCase.Began a t) = ap Coming t
 
-  stays_only : (x : ℕ) → (other : DeleteStage) → DeleteGoes key (Absent x) seen.Done other → other ≡ Ending reply.Absent
-  stays_only x (Ending r) t = ap Ending t
-  stays_only x old t = absurd t
+  stays_only : {x : ℕ} {b : DeleteStage} → DeleteCase key (Absent x) seen.Done b → b ≡ Ending reply.Absent
+  stays_only (DeleteCase.Opened x r t) = ap Ending t
 
-  ended_only : (q : DeleteReply) → (other : DeleteStage) → DeleteGoes key (Ending q) seen.Done other → other ≡ Over q
-  ended_only q (Over r) t = ap Over t
-  ended_only q old t = absurd t
+  ended_only : {q : DeleteReply} {b : DeleteStage} → DeleteCase key (Ending q) seen.Done b → b ≡ Over q
+  ended_only (DeleteCase.Ended q last t) = ap Over t
 
   stage_one : (a : DeleteStage) (what : Seen) → delete_answer_in a ≡ None → Gives (delete_next_in a) (delete_needs_in a) what → One (DeleteGoes key a what)
   stage_one (Coming a) what r g = (let h = approach_one 0 key a what g in coming_by key a what h.new h.goes h.only)
-  stage_one (Changing v d) what r g = (let h = change_one d what g in changing_by key v d what h.new h.goes h.only)
-  stage_one New seen.Done r g = record { new = Coming Start; goes = refl; only = begun_only }
-  stage_one (Absent x) seen.Done r g = record { new = Ending reply.Absent; goes = refl; only = stays_only x }
-  stage_one (Ending q) seen.Done r g = record { new = Over q; goes = refl; only = ended_only q }
+  stage_one (Changing v d) what r g = (let h = change_one d what g in record { new = after_change v h.new; goes = change_goes key v d what h.new h.goes; only = λ b t. change_only h.new h.only (delete_case key (Changing v d) what b t) })
+  stage_one New seen.Done r g = record { new = Coming Start; goes = refl; only = λ b t. begun_only (delete_case key New seen.Done b t) }
+  stage_one (Absent x) seen.Done r g = record { new = Ending reply.Absent; goes = refl; only = λ b t. stays_only (delete_case key (Absent x) seen.Done b t) }
+  stage_one (Ending q) seen.Done r g = record { new = Over q; goes = refl; only = λ b t. ended_only (delete_case key (Ending q) seen.Done b t) }
   stage_one (Over q) what r g = (let z : Some _ ≡ None = r in cc)
   stage_one old what r g = absurd g
 

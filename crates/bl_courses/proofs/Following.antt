@@ -2,7 +2,6 @@
 use Rattle.std.proofs.Common.{ℕ, suc, ◌≡◌, ◌≢◌, Option, Some, None, refl, sym, ap, arith}
 use Rattle.bl_ways.specs.declared.acts.Action.TheVariants as act
 use Rattle.bl_ways.specs.declared.acts.Seen.{Seen}
-use Rattle.bl_ways.specs.declared.acts.Seen.TheVariants as seen
 use Rattle.bl_ways.specs.declared.approaching.Approach.{Approach}
 use Rattle.bl_ways.specs.declared.approaching.Approach.TheVariants as way
 use Rattle.bl_ways.specs.declared.changing.Change.{Change}
@@ -23,13 +22,13 @@ use Rattle.bl_proc.specs.declared.deleting.Delete.{Delete}
 use Rattle.bl_proc.specs.declared.deleting.DeleteStage.{DeleteStage}
 use Rattle.bl_proc.specs.declared.deleting.DeleteStage.TheVariants as delete
 use Rattle.bl_proc.specs.declared.kinds.Proc.TheVariants as proc
-use Rattle.bl_proc.specs.Searches.{find_next_in, find_answer_in, FindGoes}
+use Rattle.bl_proc.specs.Searches.{find_next_in, find_answer_in}
 use Rattle.bl_proc.specs.Inserts.{insert_next_in, insert_needs_in, insert_answer_in}
 use Rattle.bl_proc.specs.Deletes.{delete_next_in, delete_needs_in, delete_answer_in}
 use Rattle.bl_proc.specs.Processes.{next_of, Takes}
 use Rattle.bl_courses.specs.Frames.{change_frames, insert_frames, delete_frames, Wants, Leaves, Follows}
 use Rattle.bl_courses.proofs.WayCases.{ChangeCase, change_case}
-use Rattle.bl_courses.proofs.KindCases.{InsertCase, insert_case, DeleteCase, delete_case}
+use Rattle.bl_courses.proofs.KindCases.{FindCase, find_case, InsertCase, insert_case, DeleteCase, delete_case}
 
 pub approach_wants : (a : Approach) (needs : Option (ℕ × ℕ)) → Wants (approach_next a) needs 0
 approach_wants way.Start needs = refl
@@ -165,36 +164,21 @@ find_leaves (find.At y) what = refl
 find_leaves (find.Ending v) what = refl
 find_leaves (find.Over v) what = refl
 
-find_begun : (key : ℕ) (a b : FindStage) (what : Seen) → FindGoes key a what b → find_next_in b ≢ act.Begin
-find_begun key find.New find.New seen.Done t = absurd t
-find_begun key find.AtAnchor find.New seen.Done t = absurd t
-find_begun key (find.At x) find.New seen.Done t = absurd t
-find_begun key (find.Ending u) find.New seen.Done t = absurd t
-find_begun key a find.AtAnchor what t = λ z. cc
-find_begun key a (find.At y) what t = λ z. cc
-find_begun key a (find.Ending v) what t = λ z. cc
-find_begun key a (find.Over v) what t = λ z. cc
-find_begun key a old what t = absurd t
+find_begun : {key : ℕ} {a b : FindStage} {what : Seen} → FindCase key a what b → find_next_in b ≢ act.Begin
+find_begun FindCase.Began = λ z. cc
+find_begun other = λ z. cc
 
-find_running : (key : ℕ) (a b : FindStage) (what : Seen) → FindGoes key a what b → find_next_in a ≢ act.End → find_answer_in b ≡ None
-find_running key a find.New what t ne = refl
-find_running key a find.AtAnchor what t ne = refl
-find_running key a (find.At y) what t ne = refl
-find_running key a (find.Ending v) what t ne = refl
-find_running key find.New (find.Over v) seen.Done t ne = absurd t
-find_running key find.AtAnchor (find.Over v) seen.Done t ne = absurd t
-find_running key (find.At x) (find.Over v) seen.Done t ne = absurd t
-find_running key (find.Ending u) (find.Over v) what t ne = absurd (ne refl)
-find_running key (find.Over u) (find.Over v) what t ne = absurd (ne refl)
-find_running key a old what t ne = absurd t
+find_running : {key : ℕ} {a b : FindStage} {what : Seen} → FindCase key a what b → find_next_in a ≢ act.End → find_answer_in b ≡ None
+find_running (FindCase.Ended value last t) ne = absurd (ne refl)
+find_running other ne = refl
 
 pub find_follows : (p q : Find) (what : Seen) → Takes (proc.Find p) what (proc.Find q) → Follows (proc.Find p) what (proc.Find q)
 find_follows p q what t = record {
   frames = find_leaves p.stage what;
-  begun = find_begun p.key p.stage q.stage what t.1;
+  begun = find_begun (find_case p.key p.stage what q.stage t.1);
   op = ap (λ (k : ℕ). Some (op.Find k)) t.0;
   work = refl;
-  running = find_running p.key p.stage q.stage what t.1;
+  running = find_running (find_case p.key p.stage what q.stage t.1);
 }
 
 pub insert_follows : (p q : Insert) (what : Seen) → Takes (proc.Insert p) what (proc.Insert q) → Follows (proc.Insert p) what (proc.Insert q)

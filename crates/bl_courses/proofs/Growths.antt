@@ -16,7 +16,6 @@ use Rattle.bl_laws.specs.Pages.{roots_of}
 use Rattle.bl_ways.specs.declared.acts.Seen.{Seen}
 use Rattle.bl_ways.specs.declared.acts.Seen.TheVariants as seen
 use Rattle.bl_ways.specs.declared.growing.Rise.{Rise}
-use Rattle.bl_ways.specs.declared.growing.Raising.{Raising}
 use Rattle.bl_ways.specs.declared.growing.Growth.{Growth}
 use Rattle.bl_ways.specs.declared.growing.Growth.TheVariants.{Latching, Latched, Taking, PuttingTop, PuttingAnchor, OpeningTop, OpeningGrown, OpeningRefused}
 use Rattle.bl_ways.specs.declared.growing.Grew.{Grew}
@@ -25,6 +24,7 @@ use Rattle.bl_ways.specs.Given.{Gives}
 use Rattle.bl_ways.specs.Growths.{growth_next, growth_needs, IsTop, IsAnchor, Raises, Grows}
 use Rattle.bl_courses.specs.One.{One}
 use Rattle.bl_courses.proofs.Pages.{vec_one}
+use Rattle.bl_courses.proofs.WayCases.{GrowthCase, growth_case}
 
 rise_same : (a b : Rise) → a.anchor ≡ b.anchor → a ≡ b
 rise_same a b anchor = λ i. record {
@@ -38,9 +38,7 @@ anchor_one a b e = cc
 -- the first page of a level is known by its level and its child
 top_one : (level below : ℕ) (p q : Page) → IsTop level below p → IsTop level below q → p ≡ q
 top_one level below (page.Inner p) (page.Inner q) a b = ap page.Inner (inner_same p q (a.0 ∙ sym b.0) (a.1 ∙ sym b.1) (a.2 ∙ sym b.2) (a.3 ∙ sym b.3) (vec_one p.children q.children (a.4 ∙ sym b.4)))
-top_one level below (page.Inner p) (page.Anchor q) a b = absurd b
-top_one level below (page.Inner p) (page.Leaf q) a b = absurd b
-top_one level below (page.Inner p) (page.Dead q) a b = absurd b
+top_one level below (page.Inner p) old a b = absurd b
 top_one level below old q a b = absurd a
 
 -- and the anchor by its leftmost pages
@@ -49,9 +47,7 @@ leftmost_one leftmost (page.Anchor p) (page.Anchor q) a b = ap page.Anchor (anch
   where
     items_one : (v w : ArrayVec ℕ) → v.items ≡ w.items → v ≡ w
     items_one v w e = ap (λ (xs : List ℕ). record { items = xs }) e
-leftmost_one leftmost (page.Anchor p) (page.Leaf q) a b = absurd b
-leftmost_one leftmost (page.Anchor p) (page.Inner q) a b = absurd b
-leftmost_one leftmost (page.Anchor p) (page.Dead q) a b = absurd b
+leftmost_one leftmost (page.Anchor p) old a b = absurd b
 leftmost_one leftmost old q a b = absurd a
 
 raised : (rise : Rise) (y : ℕ) → IsChild y → (top : Page) × (anchor : Page) × Raises rise.anchor.leftmost.items y top anchor
@@ -86,98 +82,60 @@ raised rise y child =
     } in
     (page.Inner top, page.Anchor anchor, ((refl, refl, refl, refl, refl), refl))
 
-latched : (level : ℕ) (other : Grew) → Grows level Latching seen.Done other → other ≡ On Latched
-latched level (On n) t = ap On t
-latched level Grown t = absurd t
-latched level Refused t = absurd t
+-- A tree with that many levels may rise.
+rises_not : {level : ℕ} (c : Page) (rise : Rise) → (c ≡ page.Anchor rise.anchor) × ((roots_of c).levels ≡ level) → (level < 12 → (roots_of c).levels ≢ level) → ⊥
+rises_not c rise is differs = (let room = rise.room in let count : (roots_of c).levels ≡ length rise.anchor.leftmost.items = ap (λ (z : Page). (roots_of z).levels) is.0 in let levels = is.1 in differs (omega arith) levels)
 
-missed : (level : ℕ) (other : Grew) → Grows level Latching seen.Missed other → other ≡ On Latching
-missed level (On n) t = ap On t
-missed level Grown t = absurd t
-missed level Refused t = absurd t
+-- what two turns lead to where the same was seen
+growth_same : {level : ℕ} {g : Growth} {what : Seen} {a b : Grew} → GrowthCase level g what a → GrowthCase level g what b → b ≡ a
+growth_same (GrowthCase.LatchedAnchor a s) (GrowthCase.LatchedAnchor b t) = ap On (t ∙ sym s)
+growth_same (GrowthCase.Missed a s) (GrowthCase.Missed b t) = ap On (t ∙ sym s)
+growth_same (GrowthCase.Rises c r s) (GrowthCase.Rises _ u t) = (let e = rise_same u r (anchor_one u.anchor r.anchor (sym t.0 ∙ s.0)) in λ i. On (Taking (e i)))
+growth_same (GrowthCase.Rises c r s) (GrowthCase.Stands _ t) = absurd (rises_not c r s t)
+growth_same (GrowthCase.Stands c s) (GrowthCase.Rises _ u t) = absurd (rises_not c u t s)
+growth_same (GrowthCase.Stands c s) (GrowthCase.Stands _ t) = refl
+growth_same (GrowthCase.TookTop u y r s) (GrowthCase.TookTop _ _ v t) =
+    let leftmost = u.anchor.leftmost.items in
+    let tops = top_one (length leftmost) (get_or leftmost (length leftmost - 1) 0) v.top r.top t.1.0 s.1.0 in
+    let anchors = leftmost_one (leftmost ++ y ∷ []) v.anchor r.anchor t.1.1 s.1.1 in
+    λ i. On (PuttingTop (record { new = (t.0 ∙ sym s.0) i; top = tops i; anchor = anchors i }))
+growth_same (GrowthCase.TopRefused u a s) (GrowthCase.TopRefused _ b t) = ap On (t ∙ sym s)
+growth_same (GrowthCase.PutTop r a s) (GrowthCase.PutTop _ b t) = ap On (t ∙ sym s)
+growth_same (GrowthCase.PutAnchor r a s) (GrowthCase.PutAnchor _ b t) = ap On (t ∙ sym s)
+growth_same (GrowthCase.OpenedTop x a s) (GrowthCase.OpenedTop _ b t) = ap On (t ∙ sym s)
+growth_same GrowthCase.OpenedGrown GrowthCase.OpenedGrown = refl
+growth_same GrowthCase.OpenedRefused GrowthCase.OpenedRefused = refl
 
-take_refused : (level : ℕ) (u : Rise) (other : Grew) → Grows level (Taking u) seen.Refused other → other ≡ On OpeningRefused
-take_refused level u (On n) t = ap On t
-take_refused level u Grown t = absurd t
-take_refused level u Refused t = absurd t
-
-top_put : (level : ℕ) (u : Raising) (other : Grew) → Grows level (PuttingTop u) seen.Done other → other ≡ On (PuttingAnchor u)
-top_put level u (On n) t = ap On t
-top_put level u Grown t = absurd t
-top_put level u Refused t = absurd t
-
-anchor_put : (level : ℕ) (u : Raising) (other : Grew) → Grows level (PuttingAnchor u) seen.Done other → other ≡ On (OpeningTop u.new)
-anchor_put level u (On n) t = ap On t
-anchor_put level u Grown t = absurd t
-anchor_put level u Refused t = absurd t
-
-top_opened : (level : ℕ) (u : ℕ) (other : Grew) → Grows level (OpeningTop u) seen.Done other → other ≡ On OpeningGrown
-top_opened level u (On n) t = ap On t
-top_opened level u Grown t = absurd t
-top_opened level u Refused t = absurd t
-
-grown : (level : ℕ) (other : Grew) → Grows level OpeningGrown seen.Done other → other ≡ Grown
-grown level (On n) t = absurd t
-grown level Grown t = refl
-grown level Refused t = absurd t
-
-refused : (level : ℕ) (other : Grew) → Grows level OpeningRefused seen.Done other → other ≡ Refused
-refused level (On n) t = absurd t
-refused level Grown t = absurd t
-refused level Refused t = refl
+grows : (level : ℕ) (g : Growth) (what : Seen) (new : Grew) → Grows level g what new → One (Grows level g what)
+grows level g what new goes = record { new = new; goes = goes; only = λ other t. growth_same (growth_case level g what new goes) (growth_case level g what other t) }
 
 -- The anchor was got again: it may rise, or there is nothing to be done.
-module _ (level : ℕ) (c : Page) where
-  rises_only : (rise : Rise) → c ≡ page.Anchor rise.anchor → (roots_of c).levels ≡ level → (other : Grew) → Grows level Latched (seen.Words c) other → other ≡ On (Taking rise)
-  rises_only rise is levels (On (Taking u)) t = (let e = rise_same u rise (anchor_one u.anchor rise.anchor (sym t.0 ∙ is)) in λ i. On (Taking (e i)))
-  rises_only rise is levels (On OpeningGrown) t = absurd (let room = rise.room in let count : (roots_of c).levels ≡ length rise.anchor.leftmost.items = ap (λ (z : Page). (roots_of z).levels) is in t (omega arith) levels)
-  rises_only rise is levels old t = absurd t
-
-  stays_only : (level < 12 → (roots_of c).levels ≢ level) → (other : Grew) → Grows level Latched (seen.Words c) other → other ≡ On OpeningGrown
-  stays_only differs (On (Taking u)) t = absurd (let room = u.room in let count : (roots_of c).levels ≡ length u.anchor.leftmost.items = ap (λ (z : Page). (roots_of z).levels) t.0 in let is = t.1 in differs (omega arith) is)
-  stays_only differs (On OpeningGrown) t = refl
-  stays_only differs old t = absurd t
-
-  stays : (level < 12 → (roots_of c).levels ≢ level) → One (Grows level Latched (seen.Words c))
-  stays differs = record { new = On OpeningGrown; goes = differs; only = stays_only differs }
-
 got : (level : ℕ) → 0 < level → (c : Page) → One (Grows level Latched (seen.Words c))
 got level least (page.Anchor a) = elim (cases_eq (length a.leftmost.items) level) [
   | inl is ↦ elim (cases_lt level 12) [
-    | inl few ↦ (let rise : Rise = record { anchor = a; room = omega arith } in record { new = On (Taking rise); goes = (refl, is); only = rises_only level (page.Anchor a) rise refl is })
-    | inr many ↦ stays level (page.Anchor a) (λ few. absurd (omega arith))
+    | inl few ↦ (let rise : Rise = record { anchor = a; room = omega arith } in grows level Latched (seen.Words (page.Anchor a)) (On (Taking rise)) (refl, is))
+    | inr many ↦ grows level Latched (seen.Words (page.Anchor a)) (On OpeningGrown) (λ few. absurd (omega arith))
   ]
-  | inr other ↦ stays level (page.Anchor a) (λ few. other)
+  | inr other ↦ grows level Latched (seen.Words (page.Anchor a)) (On OpeningGrown) (λ few. other)
 ]
-got level least (page.Leaf l) = stays level (page.Leaf l) (λ few e. omega arith)
-got level least (page.Inner i) = stays level (page.Inner i) (λ few e. omega arith)
-got level least (page.Dead d) = stays level (page.Dead d) (λ few e. omega arith)
-
-taken_only : (level : ℕ) (u : Rise) (y : ℕ) (r : Raising) → Grows level (Taking u) (seen.Took y) (On (PuttingTop r)) → (other : Grew) → Grows level (Taking u) (seen.Took y) other → other ≡ On (PuttingTop r)
-taken_only level u y r f (On (PuttingTop v)) t =
-    let leftmost = u.anchor.leftmost.items in
-    let tops = top_one (length leftmost) (get_or leftmost (length leftmost - 1) 0) v.top r.top t.1.0 f.1.0 in
-    let anchors = leftmost_one (leftmost ++ y ∷ []) v.anchor r.anchor t.1.1 f.1.1 in
-    λ i. On (PuttingTop (record { new = (t.0 ∙ sym f.0) i; top = tops i; anchor = anchors i }))
-taken_only level u y r f old t = absurd t
+got level least (page.Leaf l) = grows level Latched (seen.Words (page.Leaf l)) (On OpeningGrown) (λ few e. omega arith)
+got level least (page.Inner i) = grows level Latched (seen.Words (page.Inner i)) (On OpeningGrown) (λ few e. omega arith)
+got level least (page.Dead d) = grows level Latched (seen.Words (page.Dead d)) (On OpeningGrown) (λ few e. omega arith)
 
 taken : (level : ℕ) (u : Rise) (y : ℕ) → IsChild y → One (Grows level (Taking u) (seen.Took y))
-taken level u y child =
-    let p = raised u y child in
-    let r : Raising = record { new = y; top = p.0; anchor = p.1 } in
-    record { new = On (PuttingTop r); goes = (refl, p.2); only = taken_only level u y r (refl, p.2) }
+taken level u y child = (let p = raised u y child in grows level (Taking u) (seen.Took y) (On (PuttingTop (record { new = y; top = p.0; anchor = p.1 }))) (refl, p.2))
 
 pub growth_one : (level : ℕ) → 0 < level → (g : Growth) (what : Seen) → Gives (growth_next g) (growth_needs g) what → One (Grows level g what)
-growth_one level least Latching seen.Done g = record { new = On Latched; goes = refl; only = latched level }
-growth_one level least Latching seen.Missed g = record { new = On Latching; goes = refl; only = missed level }
+growth_one level least Latching seen.Done g = grows level Latching seen.Done (On Latched) refl
+growth_one level least Latching seen.Missed g = grows level Latching seen.Missed (On Latching) refl
 growth_one level least Latched (seen.Words c) g = got level least c
 growth_one level least (Taking u) (seen.Took y) g = taken level u y g
-growth_one level least (Taking u) seen.Refused g = record { new = On OpeningRefused; goes = refl; only = take_refused level u }
-growth_one level least (PuttingTop u) seen.Done g = record { new = On (PuttingAnchor u); goes = refl; only = top_put level u }
+growth_one level least (Taking u) seen.Refused g = grows level (Taking u) seen.Refused (On OpeningRefused) refl
+growth_one level least (PuttingTop u) seen.Done g = grows level (PuttingTop u) seen.Done (On (PuttingAnchor u)) refl
 growth_one level least (PuttingTop u) seen.Refused g = absurd (false≢true g)
-growth_one level least (PuttingAnchor u) seen.Done g = record { new = On (OpeningTop u.new); goes = refl; only = anchor_put level u }
+growth_one level least (PuttingAnchor u) seen.Done g = grows level (PuttingAnchor u) seen.Done (On (OpeningTop u.new)) refl
 growth_one level least (PuttingAnchor u) seen.Refused g = absurd (false≢true g)
-growth_one level least (OpeningTop u) seen.Done g = record { new = On OpeningGrown; goes = refl; only = top_opened level u }
-growth_one level least OpeningGrown seen.Done g = record { new = Grown; goes = tt; only = grown level }
-growth_one level least OpeningRefused seen.Done g = record { new = Refused; goes = tt; only = refused level }
+growth_one level least (OpeningTop u) seen.Done g = grows level (OpeningTop u) seen.Done (On OpeningGrown) refl
+growth_one level least OpeningGrown seen.Done g = grows level OpeningGrown seen.Done Grown tt
+growth_one level least OpeningRefused seen.Done g = grows level OpeningRefused seen.Done Refused tt
 growth_one level least old what g = absurd g

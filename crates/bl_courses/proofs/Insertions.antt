@@ -12,7 +12,6 @@ use Rattle.bl_ways.specs.declared.approaching.Approached.TheVariants as came
 use Rattle.bl_ways.specs.declared.changing.Change.{Change}
 use Rattle.bl_ways.specs.declared.changing.Changed.{Changed}
 use Rattle.bl_ways.specs.declared.changing.Changed.TheVariants as change
-use Rattle.bl_ways.specs.declared.changing.Outcome.{Outcome}
 use Rattle.bl_ways.specs.Given.{Gives}
 use Rattle.bl_ways.specs.Onwards.{Leads}
 use Rattle.bl_ways.specs.Approaches.{Approaches}
@@ -22,7 +21,7 @@ use Rattle.bl_proc.specs.declared.kinds.Proc.TheVariants as proc
 use Rattle.bl_proc.specs.Processes.{Takes}
 use Rattle.bl_courses.specs.Courses.{GoesOn}
 use Rattle.bl_courses.specs.One.{One}
-use Rattle.bl_courses.proofs.Cases.{came_on, came_at, came_as, not_both, on_one, over_one, not_over}
+use Rattle.bl_courses.proofs.Cases.{came_on, came_at, came_as, not_both}
 use Rattle.bl_courses.proofs.Ways.{approach_one, here_leads}
 use Rattle.bl_courses.proofs.Changes.{enter_one, change_one}
 use Rattle.bl_courses.proofs.Leaves.{leaf_covers, leaf_lists, leaf_holds}
@@ -32,6 +31,7 @@ use Rattle.bl_proc.specs.declared.inserting.InsertStage.TheVariants.{New, Coming
 use Rattle.bl_proc.specs.declared.inserting.InsertReply.{InsertReply}
 use Rattle.bl_proc.specs.declared.inserting.InsertReply.TheVariants as reply
 use Rattle.bl_proc.specs.Inserts.{insert_reply, insert_next_in, insert_needs_in, insert_answer_in, InsertArrives, InsertGoes}
+use Rattle.bl_courses.proofs.KindCases.{InsertCase, insert_case}
 
 module _ (key value : ℕ) (x : ℕ) (c : Page) where
   present_only : (v : ℕ) → (node_of c).look key ≡ Some v → (other : InsertStage) → InsertArrives key value x c other → other ≡ Present x v
@@ -76,40 +76,35 @@ module _ (key value : ℕ) (a : Approach) (what : Seen) where
   coming_by (came.On b) h only = record { new = Coming b; goes = h; only = on_only b only }
   coming_by (came.Here x c) h only = (let one = arrive_one key value x c (here_leads 0 key a what x c h) in record { new = one.new; goes = here_goes x c h one.new one.goes; only = here_only x c only one })
 
-module _ (key value : ℕ) (d : Change) (what : Seen) where
-  more_only : (e : Change) → ((o : Changed) → Changes d what o → o ≡ change.On e) → (other : InsertStage) → InsertGoes key value (Changing d) what other → other ≡ Changing e
-  more_only e is (Changing f) t = ap Changing (on_one f e (is (change.On f) t))
-  more_only e is (Ending r) t = absurd (not_over e t.0 (sym (is (change.Over t.0) t.1)))
-  more_only e is old t = absurd t
+-- by what becomes of its change
+abbrev after_change : Changed → InsertStage
+after_change (change.On e) = Changing e
+after_change (change.Over o) = Ending (insert_reply o)
 
-  over_only : (o : Outcome) → ((z : Changed) → Changes d what z → z ≡ change.Over o) → (other : InsertStage) → InsertGoes key value (Changing d) what other → other ≡ Ending (insert_reply o)
-  over_only o is (Changing f) t = absurd (not_over f o (is (change.On f) t))
-  over_only o is (Ending r) t = ap Ending (t.2 ∙ ap insert_reply (over_one t.0 o (is (change.Over t.0) t.1)))
-  over_only o is old t = absurd t
+change_goes : (key value : ℕ) (d : Change) (what : Seen) (n : Changed) → Changes d what n → InsertGoes key value (Changing d) what (after_change n)
+change_goes key value d what (change.On e) h = h
+change_goes key value d what (change.Over o) h = (o, h, refl)
 
-  changing_by : (n : Changed) → Changes d what n → ((z : Changed) → Changes d what z → z ≡ n) → One (InsertGoes key value (Changing d) what)
-  changing_by (change.On e) h only = record { new = Changing e; goes = h; only = more_only e only }
-  changing_by (change.Over o) h only = record { new = Ending (insert_reply o); goes = (o, h, refl); only = over_only o only }
+change_only : {key value : ℕ} {d : Change} {what : Seen} {b : InsertStage} (n : Changed) → ((z : Changed) → Changes d what z → z ≡ n) → InsertCase key value (Changing d) what b → b ≡ after_change n
+change_only n is (InsertCase.Changed d what e t) = ap after_change (is (change.On e) t)
+change_only n is (InsertCase.Finished d what r t) = ap Ending t.2 ∙ ap after_change (is (change.Over t.0) t.1)
 
 module _ (key value : ℕ) where
-  begun_only : (other : InsertStage) → InsertGoes key value New seen.Done other → other ≡ Coming Start
-  begun_only (Coming b) t = ap Coming t
-  begun_only old t = absurd t
+  begun_only : {b : InsertStage} → InsertCase key value New seen.Done b → b ≡ Coming Start
+  begun_only (InsertCase.Began a t) = ap Coming t
 
-  stays_only : (x v : ℕ) → (other : InsertStage) → InsertGoes key value (Present x v) seen.Done other → other ≡ Ending (reply.Present v)
-  stays_only x v (Ending r) t = ap Ending t
-  stays_only x v old t = absurd t
+  stays_only : {x there : ℕ} {b : InsertStage} → InsertCase key value (Present x there) seen.Done b → b ≡ Ending (reply.Present there)
+  stays_only (InsertCase.Opened x there r t) = ap Ending t
 
-  ended_only : (q : InsertReply) → (other : InsertStage) → InsertGoes key value (Ending q) seen.Done other → other ≡ Over q
-  ended_only q (Over r) t = ap Over t
-  ended_only q old t = absurd t
+  ended_only : {q : InsertReply} {b : InsertStage} → InsertCase key value (Ending q) seen.Done b → b ≡ Over q
+  ended_only (InsertCase.Ended q last t) = ap Over t
 
   stage_one : (a : InsertStage) (what : Seen) → insert_answer_in a ≡ None → Gives (insert_next_in a) (insert_needs_in a) what → One (InsertGoes key value a what)
   stage_one (Coming a) what r g = (let h = approach_one 0 key a what g in coming_by key value a what h.new h.goes h.only)
-  stage_one (Changing d) what r g = (let h = change_one d what g in changing_by key value d what h.new h.goes h.only)
-  stage_one New seen.Done r g = record { new = Coming Start; goes = refl; only = begun_only }
-  stage_one (Present x v) seen.Done r g = record { new = Ending (reply.Present v); goes = refl; only = stays_only x v }
-  stage_one (Ending q) seen.Done r g = record { new = Over q; goes = refl; only = ended_only q }
+  stage_one (Changing d) what r g = (let h = change_one d what g in record { new = after_change h.new; goes = change_goes key value d what h.new h.goes; only = λ b t. change_only h.new h.only (insert_case key value (Changing d) what b t) })
+  stage_one New seen.Done r g = record { new = Coming Start; goes = refl; only = λ b t. begun_only (insert_case key value New seen.Done b t) }
+  stage_one (Present x v) seen.Done r g = record { new = Ending (reply.Present v); goes = refl; only = λ b t. stays_only (insert_case key value (Present x v) seen.Done b t) }
+  stage_one (Ending q) seen.Done r g = record { new = Over q; goes = refl; only = λ b t. ended_only (insert_case key value (Ending q) seen.Done b t) }
   stage_one (Over q) what r g = (let z : Some _ ≡ None = r in cc)
   stage_one old what r g = absurd g
 

@@ -1,5 +1,5 @@
 -- A part goes on, and in one way: on its way down as a search does.
-use Rattle.std.proofs.Common.{ℕ, ◌≡◌, None, ap, refl, inl, inr}
+use Rattle.std.proofs.Common.{ℕ, ◌≡◌, None, ap, refl, inl, inr, Some}
 use Rattle.bl_page.specs.declared.page.Page.{Page}
 use Rattle.bl_laws.specs.Pages.{node_of, roots_of}
 use Rattle.bl_ways.specs.declared.acts.Seen.{Seen}
@@ -23,23 +23,21 @@ use Rattle.bl_courses.specs.Courses.{GoesOn}
 use Rattle.bl_courses.proofs.Onwards.{leads_some}
 use Rattle.bl_courses.proofs.Listings.{part_some, part_one}
 use Rattle.bl_courses.proofs.Searches.{way_one}
+use Rattle.bl_courses.proofs.KindCases.{PartCase, part_case}
 
 record Goes (from : ℕ) (old : PartStage) (what : Seen) : Type 0 where
   pub new : PartStage
   pub goes : PartGoes from old what new
   pub only : (other : PartStage) → PartGoes from old what other → other ≡ new
 
-new_only : (from : ℕ) (other : PartStage) → PartGoes from New seen.Done other → other ≡ AtAnchor
-new_only from AtAnchor t = refl
-new_only from old t = absurd t
+new_only : {from : ℕ} {b : PartStage} → PartCase from New seen.Done b → b ≡ AtAnchor
+new_only PartCase.Began = refl
 
-anchor_only : (from : ℕ) (c : Page) (other : PartStage) → PartGoes from AtAnchor (seen.Words c) other → other ≡ At (top_of (roots_of c))
-anchor_only from c (At y) t = ap At t
-anchor_only from c old t = absurd t
+anchor_only : {from : ℕ} {c : Page} {b : PartStage} → PartCase from AtAnchor (seen.Words c) b → b ≡ At (top_of (roots_of c))
+anchor_only (PartCase.Entered c x t) = ap At t
 
-ending_only : (from : ℕ) (part : PartRows) (other : PartStage) → PartGoes from (Ending part) seen.Done other → other ≡ Over part
-ending_only from part (Over r) t = ap Over t
-ending_only from part old t = absurd t
+ending_only : {from : ℕ} {part : PartRows} {b : PartStage} → PartCase from (Ending part) seen.Done b → b ≡ Over part
+ending_only (PartCase.Ended part last t) = ap Over t
 
 same_page : (x y : ℕ) → find.At x ≡ find.At y → x ≡ y
 same_page x y e = cc
@@ -84,17 +82,11 @@ module _ (from x : ℕ) (c : Page) where
   at_goes Here a = (let p = part_some c from a in record { new = Ending p.0; goes = (a, p.1); only = λ other t. at_one other (Ending p.0) t (a, p.1) })
 
 stage_goes : (from : ℕ) (old : PartStage) (what : Seen) → part_answer_in old ≡ None → Gives (part_next_in old) None what → Goes from old what
-stage_goes from New seen.Done a g = record { new = AtAnchor; goes = tt; only = new_only from }
-stage_goes from AtAnchor (seen.Words c) a g = record { new = At (top_of (roots_of c)); goes = refl; only = anchor_only from c }
+stage_goes from New seen.Done a g = record { new = AtAnchor; goes = tt; only = λ b t. new_only (part_case from New seen.Done b t) }
+stage_goes from AtAnchor (seen.Words c) a g = record { new = At (top_of (roots_of c)); goes = refl; only = λ b t. anchor_only (part_case from AtAnchor (seen.Words c) b t) }
 stage_goes from (At x) (seen.Words c) a g = (let o = leads_some c from 0 in at_goes from x c o.0 o.1)
-stage_goes from (Ending p) seen.Done a g = record { new = Over p; goes = refl; only = ending_only from p }
-stage_goes from (Over p) seen.Done a g = absurd (cc)
-stage_goes from (Over p) (seen.Words c) a g = absurd (cc)
-stage_goes from (Over p) (seen.Took y) a g = absurd (cc)
-stage_goes from (Over p) (seen.Owner retired started own) a g = absurd (cc)
-stage_goes from (Over p) (seen.Blocks b) a g = absurd (cc)
-stage_goes from (Over p) seen.Missed a g = absurd (cc)
-stage_goes from (Over p) seen.Refused a g = absurd (cc)
+stage_goes from (Ending p) seen.Done a g = record { new = Over p; goes = refl; only = λ b t. ending_only (part_case from (Ending p) seen.Done b t) }
+stage_goes from (Over p) what a g = (let z : Some _ ≡ None = a in cc)
 stage_goes from old what a g = absurd g
 
 part_only : (old : PartState) (what : Seen) (g : Goes old.from old.stage what) (other : Proc) → Takes (Part old) what other → other ≡ Part (record { from = old.from; stage = g.new })

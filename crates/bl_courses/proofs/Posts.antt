@@ -26,7 +26,6 @@ use Rattle.bl_ways.specs.declared.growing.Grew.TheVariants as grew
 use Rattle.bl_ways.specs.declared.changing.Change.{Change}
 use Rattle.bl_ways.specs.declared.changing.Changed.{Changed}
 use Rattle.bl_ways.specs.declared.changing.Changed.TheVariants as change
-use Rattle.bl_ways.specs.declared.changing.Outcome.{Outcome}
 use Rattle.bl_ways.specs.Given.{Gives}
 use Rattle.bl_ways.specs.Onwards.{Leads}
 use Rattle.bl_ways.specs.Approaches.{approach_next, Approaches}
@@ -47,11 +46,12 @@ use Rattle.bl_proc.specs.Processes.{Takes}
 use Rattle.bl_proc.proofs.Named.{listed-child}
 use Rattle.bl_courses.specs.Courses.{GoesOn}
 use Rattle.bl_courses.specs.One.{One}
-use Rattle.bl_courses.proofs.Cases.{inner_one, came_on, came_at, came_as, not_both, on_one, over_one, not_over}
+use Rattle.bl_courses.proofs.Cases.{inner_one, came_on, came_at, came_as, not_both}
 use Rattle.bl_courses.proofs.Onwards.{leads_some, leads_one, child_of, child_one, right_small}
 use Rattle.bl_courses.proofs.Ways.{approach_one, here_leads}
 use Rattle.bl_courses.proofs.Changes.{enter_one, change_one}
 use Rattle.bl_courses.proofs.Growths.{growth_one}
+use Rattle.bl_courses.proofs.KindCases.{PostCase, post_case}
 
 walk_same : (a b : Walk) → a.at ≡ b.at → a.key ≡ b.key → a.parent ≡ b.parent → a.child ≡ b.child → a ≡ b
 walk_same a b at key parent child = λ i. record {
@@ -234,71 +234,52 @@ module _ (level : ℕ) (w : Walk) (c : Page) where
   walk_one : One (PostWalks level w c)
   walk_one = (let o = leads_some c w.key (level - 1) in walk_by o.0 o.1)
 
--- On with the growth.
-module _ (level key : ℕ) (g : Growth) (what : Seen) where
-  grew_on : (a b : Growth) → grew.On a ≡ grew.On b → a ≡ b
-  grew_on a b e = cc
+-- By what becomes of the growth, or of the change of the parent.
+abbrev after_growth : Grew → PostStage
+after_growth (grew.On h) = Growing h
+after_growth grew.Grown = Coming Start
+after_growth grew.Refused = Ending reply.NoRoom
 
-  growing_only : (h : Growth) → ((o : Grew) → Grows level g what o → o ≡ grew.On h) → (other : PostStage) → PostGoes level key (Growing g) what other → other ≡ Growing h
-  growing_only h is (Coming b) t = absurd (let e = is grew.Grown t.0 in cc)
-  growing_only h is (Growing n) t = ap Growing (grew_on n h (is (grew.On n) t))
-  growing_only h is (Ending r) t = absurd (let e = is grew.Refused t.0 in cc)
-  growing_only h is old t = absurd t
+growth_goes : (level key : ℕ) (g : Growth) (what : Seen) (n : Grew) → Grows level g what n → PostGoes level key (Growing g) what (after_growth n)
+growth_goes level key g what (grew.On h) t = t
+growth_goes level key g what grew.Grown t = (t, refl)
+growth_goes level key g what grew.Refused t = (t, refl)
 
-  grown_only : ((o : Grew) → Grows level g what o → o ≡ grew.Grown) → (other : PostStage) → PostGoes level key (Growing g) what other → other ≡ Coming Start
-  grown_only is (Coming b) t = ap Coming t.1
-  grown_only is (Growing n) t = absurd (let e = is (grew.On n) t in cc)
-  grown_only is (Ending r) t = absurd (let e = is grew.Refused t.0 in cc)
-  grown_only is old t = absurd t
+growth_only : {level key : ℕ} {g : Growth} {what : Seen} {b : PostStage} (n : Grew) → ((o : Grew) → Grows level g what o → o ≡ n) → PostCase level key (Growing g) what b → b ≡ after_growth n
+growth_only n is (PostCase.Grew g what h t) = ap after_growth (is (grew.On h) t)
+growth_only n is (PostCase.Grown g what a t) = ap Coming t.1 ∙ ap after_growth (is grew.Grown t.0)
+growth_only n is (PostCase.NoRoom g what r t) = ap Ending t.1 ∙ ap after_growth (is grew.Refused t.0)
 
-  refused_only : ((o : Grew) → Grows level g what o → o ≡ grew.Refused) → (other : PostStage) → PostGoes level key (Growing g) what other → other ≡ Ending reply.NoRoom
-  refused_only is (Coming b) t = absurd (let e = is grew.Grown t.0 in cc)
-  refused_only is (Growing n) t = absurd (let e = is (grew.On n) t in cc)
-  refused_only is (Ending r) t = ap Ending t.1
-  refused_only is old t = absurd t
+abbrev after_change : Changed → PostStage
+after_change (change.On e) = Changing e
+after_change (change.Over o) = Ending (post_reply o)
 
-  growing_by : (n : Grew) → Grows level g what n → ((o : Grew) → Grows level g what o → o ≡ n) → One (PostGoes level key (Growing g) what)
-  growing_by (grew.On h) goes only = record { new = Growing h; goes = goes; only = growing_only h only }
-  growing_by grew.Grown goes only = record { new = Coming Start; goes = (goes, refl); only = grown_only only }
-  growing_by grew.Refused goes only = record { new = Ending reply.NoRoom; goes = (goes, refl); only = refused_only only }
+change_goes : (level key : ℕ) (d : Change) (what : Seen) (n : Changed) → Changes d what n → PostGoes level key (Changing d) what (after_change n)
+change_goes level key d what (change.On e) h = h
+change_goes level key d what (change.Over o) h = (o, h, refl)
 
--- On with the change of the parent.
-module _ (level key : ℕ) (d : Change) (what : Seen) where
-  more_only : (e : Change) → ((o : Changed) → Changes d what o → o ≡ change.On e) → (other : PostStage) → PostGoes level key (Changing d) what other → other ≡ Changing e
-  more_only e is (Changing f) t = ap Changing (on_one f e (is (change.On f) t))
-  more_only e is (Ending r) t = absurd (not_over e t.0 (sym (is (change.Over t.0) t.1)))
-  more_only e is old t = absurd t
-
-  over_only : (o : Outcome) → ((z : Changed) → Changes d what z → z ≡ change.Over o) → (other : PostStage) → PostGoes level key (Changing d) what other → other ≡ Ending (post_reply o)
-  over_only o is (Changing f) t = absurd (not_over f o (is (change.On f) t))
-  over_only o is (Ending r) t = ap Ending (t.2 ∙ ap post_reply (over_one t.0 o (is (change.Over t.0) t.1)))
-  over_only o is old t = absurd t
-
-  changing_by : (n : Changed) → Changes d what n → ((z : Changed) → Changes d what z → z ≡ n) → One (PostGoes level key (Changing d) what)
-  changing_by (change.On e) h only = record { new = Changing e; goes = h; only = more_only e only }
-  changing_by (change.Over o) h only = record { new = Ending (post_reply o); goes = (o, h, refl); only = over_only o only }
+change_only : {level key : ℕ} {d : Change} {what : Seen} {b : PostStage} (n : Changed) → ((z : Changed) → Changes d what z → z ≡ n) → PostCase level key (Changing d) what b → b ≡ after_change n
+change_only n is (PostCase.Changed d what e t) = ap after_change (is (change.On e) t)
+change_only n is (PostCase.Finished d what r t) = ap Ending t.2 ∙ ap after_change (is (change.Over t.0) t.1)
 
 module _ (level key : ℕ) where
-  begun_only : (other : PostStage) → PostGoes level key New seen.Done other → other ≡ Coming Start
-  begun_only (Coming b) t = ap Coming t
-  begun_only old t = absurd t
+  begun_only : {b : PostStage} → PostCase level key New seen.Done b → b ≡ Coming Start
+  begun_only (PostCase.Began a t) = ap Coming t
 
-  stays_only : (x : ℕ) (q : PostReply) → (other : PostStage) → PostGoes level key (Staying x q) seen.Done other → other ≡ Ending q
-  stays_only x q (Ending r) t = ap Ending t
-  stays_only x q old t = absurd t
+  stays_only : {x : ℕ} {q : PostReply} {b : PostStage} → PostCase level key (Staying x q) seen.Done b → b ≡ Ending q
+  stays_only (PostCase.Opened x q last t) = ap Ending t
 
-  ended_only : (q : PostReply) → (other : PostStage) → PostGoes level key (Ending q) seen.Done other → other ≡ Over q
-  ended_only q (Over r) t = ap Over t
-  ended_only q old t = absurd t
+  ended_only : {q : PostReply} {b : PostStage} → PostCase level key (Ending q) seen.Done b → b ≡ Over q
+  ended_only (PostCase.Ended q last t) = ap Over t
 
   stage_one : 0 < level → (a : PostStage) (what : Seen) → post_answer_in level a ≡ None → Gives (post_next_in a) (post_needs_in a) what → One (PostGoes level key a what)
   stage_one least (Coming a) what r g = (let h = come_one level key a what least g in record { new = h.new; goes = h.goes; only = h.only })
-  stage_one least (Growing n) what r g = (let h = growth_one level least n what g in growing_by level key n what h.new h.goes h.only)
-  stage_one least (Changing d) what r g = (let h = change_one d what g in changing_by level key d what h.new h.goes h.only)
-  stage_one least New seen.Done r g = record { new = Coming Start; goes = refl; only = begun_only }
+  stage_one least (Growing n) what r g = (let h = growth_one level least n what g in record { new = after_growth h.new; goes = growth_goes level key n what h.new h.goes; only = λ b t. growth_only h.new h.only (post_case level key (Growing n) what b t) })
+  stage_one least (Changing d) what r g = (let h = change_one d what g in record { new = after_change h.new; goes = change_goes level key d what h.new h.goes; only = λ b t. change_only h.new h.only (post_case level key (Changing d) what b t) })
+  stage_one least New seen.Done r g = record { new = Coming Start; goes = refl; only = λ b t. begun_only (post_case level key New seen.Done b t) }
   stage_one least (Walking w) (seen.Words c) r g = (let h = walk_one level w c in record { new = h.new; goes = h.goes; only = h.only })
-  stage_one least (Staying x q) seen.Done r g = record { new = Ending q; goes = refl; only = stays_only x q }
-  stage_one least (Ending q) seen.Done r g = record { new = Over q; goes = refl; only = ended_only q }
+  stage_one least (Staying x q) seen.Done r g = record { new = Ending q; goes = refl; only = λ b t. stays_only (post_case level key (Staying x q) seen.Done b t) }
+  stage_one least (Ending q) seen.Done r g = record { new = Over q; goes = refl; only = λ b t. ended_only (post_case level key (Ending q) seen.Done b t) }
   stage_one least (Over q) what r g = (let z : Some _ ≡ None = r in cc)
   stage_one least old what r g = absurd g
 

@@ -1,5 +1,5 @@
 -- A writer on its way goes on, and in one way.
-use Rattle.std.proofs.Common.{ℕ, suc, ◌≡◌, ◌≢◌, ◌<◌, ◌≤◌, Some, None, refl, sym, ap, subst, inl, inr, arith}
+use Rattle.std.proofs.Common.{ℕ, suc, ◌≡◌, ◌≢◌, ◌<◌, ◌≤◌, Some, None, refl, sym, ap, subst, inl, inr, arith, ◌∙◌, Option}
 use Rattle.std.proofs.lemmas.Bool.{cases_lt, cases_eq}
 use Rattle.bl_page.specs.declared.page.Page.{Page}
 use Rattle.bl_tree.specs.Nodes.{Roots}
@@ -17,27 +17,25 @@ use Rattle.bl_ways.specs.Onwards.{top_of, Leads}
 use Rattle.bl_ways.specs.Approaches.{approach_next, Enters, Turns, Quits, Approaches}
 use Rattle.bl_courses.specs.One.{One}
 use Rattle.bl_courses.proofs.Onwards.{leads_some, leads_one}
+use Rattle.bl_courses.proofs.WayCases.{ApproachCase, approach_case}
 
 start_only : (level : ℕ) (roots : Roots) → roots.levels ≤ level → (other : Approach) → Enters level roots other → other ≡ Start
 start_only level roots h Start t = refl
 start_only level roots h (At z) t = absurd (let x = t.0 in omega arith)
 start_only level roots h (Latching z) t = absurd (let x = t.0 in omega arith)
-start_only level roots h (Latched z) t = absurd t
-start_only level roots h (Leaving z to) t = absurd t
+start_only level roots h old t = absurd t
 
 above_only : (level : ℕ) (roots : Roots) → suc level < roots.levels → (other : Approach) → Enters level roots other → other ≡ At (top_of roots)
 above_only level roots h Start t = absurd (omega arith)
 above_only level roots h (At z) t = ap At t.1
 above_only level roots h (Latching z) t = absurd (let x = t.0 in omega arith)
-above_only level roots h (Latched z) t = absurd t
-above_only level roots h (Leaving z to) t = absurd t
+above_only level roots h old t = absurd t
 
 top_only : (level : ℕ) (roots : Roots) → suc level ≡ roots.levels → (other : Approach) → Enters level roots other → other ≡ Latching (roots.leftmost level)
 top_only level roots h Start t = absurd (omega arith)
 top_only level roots h (At z) t = absurd (let x = t.0 in omega arith)
 top_only level roots h (Latching z) t = ap Latching t.1
-top_only level roots h (Latched z) t = absurd t
-top_only level roots h (Leaving z to) t = absurd t
+top_only level roots h old t = absurd t
 
 enter_one : (level : ℕ) (roots : Roots) → One (Enters level roots)
 enter_one level roots = elim (cases_lt level roots.levels) [
@@ -89,85 +87,52 @@ module _ (level x : ℕ) (c : Page) where
     | inr ne ↦ record { new = At y; goes = (refl, ne); only = down_at y ne }
   ]
 
-  quit_one : (key : ℕ) (o : Step) → Leads c key level o → One (Approaches level key (Latched x) (seen.Words c))
-  quit_one key Here a = record { new = came.Here x c; goes = (refl, refl, a); only = here_only }
-    where
-      here_only : (other : Approached) → Approaches level key (Latched x) (seen.Words c) other → other ≡ came.Here x c
-      here_only (came.On Start) t = absurd t
-      here_only (came.On (At z)) t = absurd t
-      here_only (came.On (Latching z)) t = absurd t
-      here_only (came.On (Latched z)) t = absurd t
-      here_only (came.On (Leaving z to)) t = absurd (subst (λ (q : Step). Quits q to) (leads_one c key level t.1.0 Here t.1.1 a) t.1.2)
-      here_only (came.Here u p) t = λ i. came.Here (t.0 i) (t.1 i)
-  quit_one key (Right y) a = record { new = came.On (Leaving x (Some y)); goes = (refl, (Right y, a, refl)); only = right_only }
-    where
-      right_only : (other : Approached) → Approaches level key (Latched x) (seen.Words c) other → other ≡ came.On (Leaving x (Some y))
-      right_only (came.On Start) t = absurd t
-      right_only (came.On (At z)) t = absurd t
-      right_only (came.On (Latching z)) t = absurd t
-      right_only (came.On (Latched z)) t = absurd t
-      right_only (came.On (Leaving z to)) t = (let q = subst (λ (v : Step). Quits v to) (leads_one c key level t.1.0 (Right y) t.1.1 a) t.1.2 in λ i. came.On (Leaving (t.0 i) (q i)))
-      right_only (came.Here u p) t = (let q = leads_one c key level Here (Right y) t.2 a in cc)
-  quit_one key (Down y) a = record { new = came.On (Leaving x None); goes = (refl, (Down y, a, refl)); only = down_only }
-    where
-      down_only : (other : Approached) → Approaches level key (Latched x) (seen.Words c) other → other ≡ came.On (Leaving x None)
-      down_only (came.On Start) t = absurd t
-      down_only (came.On (At z)) t = absurd t
-      down_only (came.On (Latching z)) t = absurd t
-      down_only (came.On (Latched z)) t = absurd t
-      down_only (came.On (Leaving z to)) t = (let q = subst (λ (v : Step). Quits v to) (leads_one c key level t.1.0 (Down y) t.1.1 a) t.1.2 in λ i. came.On (Leaving (t.0 i) (q i)))
-      down_only (came.Here u p) t = (let q = leads_one c key level Here (Down y) t.2 a in cc)
-  quit_one key Again a = record { new = came.On (Leaving x None); goes = (refl, (Again, a, refl)); only = again_only }
-    where
-      again_only : (other : Approached) → Approaches level key (Latched x) (seen.Words c) other → other ≡ came.On (Leaving x None)
-      again_only (came.On Start) t = absurd t
-      again_only (came.On (At z)) t = absurd t
-      again_only (came.On (Latching z)) t = absurd t
-      again_only (came.On (Latched z)) t = absurd t
-      again_only (came.On (Leaving z to)) t = (let q = subst (λ (v : Step). Quits v to) (leads_one c key level t.1.0 Again t.1.1 a) t.1.2 in λ i. came.On (Leaving (t.0 i) (q i)))
-      again_only (came.Here u p) t = (let q = leads_one c key level Here Again t.2 a in cc)
+-- What two turns lead to where the same was seen.
+quit_same : (level key : ℕ) (c : Page) (o o' : Step) (to to' : Option ℕ) → Leads c key level o → Quits o to → Leads c key level o' → Quits o' to' → to' ≡ to
+quit_same level key c (Right y) o' to to' h q h' q' = subst (λ (v : Step). Quits v to') (leads_one c key level o' (Right y) h' h) q' ∙ sym q
+quit_same level key c (Down y) o' to to' h q h' q' = subst (λ (v : Step). Quits v to') (leads_one c key level o' (Down y) h' h) q' ∙ sym q
+quit_same level key c Again o' to to' h q h' q' = subst (λ (v : Step). Quits v to') (leads_one c key level o' Again h' h) q' ∙ sym q
+quit_same level key c Here o' to to' h q h' q' = absurd q
 
-module _ (level key : ℕ) where
-  entered_only : (c : Page) (other : Approached) → Approaches level key Start (seen.Words c) other → other ≡ came.On (enter_one level (roots_of c)).new
-  entered_only c (came.On a) t = ap came.On ((enter_one level (roots_of c)).only a t)
-  entered_only c (came.Here y p) t = absurd t
+approach_same : {level key : ℕ} {a : Approach} {what : Seen} {m n : Approached} → ApproachCase level key a what m → ApproachCase level key a what n → n ≡ m
+approach_same {level = level} (ApproachCase.Entered c a s) (ApproachCase.Entered _ b t) = (let one = enter_one level (roots_of c) in ap came.On (one.only b t ∙ sym (one.only a s)))
+approach_same {level = level} {key = key} (ApproachCase.Turned x c a o h s) (ApproachCase.Turned _ _ b o' h' t) =
+    let one = turn_one level x c o in
+    ap came.On (one.only b (subst (λ (v : Step). Turns level x c v b) (leads_one c key level o' o h' h) t) ∙ sym (one.only a s))
+approach_same (ApproachCase.LatchedPage x a s) (ApproachCase.LatchedPage _ b t) = ap came.On (t ∙ sym s)
+approach_same (ApproachCase.MissedPage x a s) (ApproachCase.MissedPage _ b t) = ap came.On (t ∙ sym s)
+approach_same {level = level} {key = key} (ApproachCase.Quitted x c y to s) (ApproachCase.Quitted _ _ z to' t) =
+    let e = quit_same level key c s.1.0 t.1.0 to to' s.1.1 s.1.2 t.1.1 t.1.2 in
+    λ i. came.On (Leaving ((t.0 ∙ sym s.0) i) (e i))
+approach_same {level = level} {key = key} (ApproachCase.Quitted x c y to s) (ApproachCase.Arrived _ _ z d t) = absurd (subst (λ (v : Step). Quits v to) (leads_one c key level s.1.0 Here s.1.1 t.2) s.1.2)
+approach_same {level = level} {key = key} (ApproachCase.Arrived x c y d s) (ApproachCase.Quitted _ _ z to t) = absurd (subst (λ (v : Step). Quits v to) (leads_one c key level t.1.0 Here t.1.1 s.2) t.1.2)
+approach_same (ApproachCase.Arrived x c y d s) (ApproachCase.Arrived _ _ z e t) = λ i. came.Here ((t.0 ∙ sym s.0) i) ((t.1 ∙ sym s.1) i)
+approach_same (ApproachCase.OpenedFor x y a s) (ApproachCase.OpenedFor _ _ b t) = ap came.On (t ∙ sym s)
+approach_same (ApproachCase.OpenedLost x a s) (ApproachCase.OpenedLost _ b t) = ap came.On (t ∙ sym s)
 
-  turned_only : (x : ℕ) (c : Page) (o : Step) → Leads c key level o → (other : Approached) → Approaches level key (At x) (seen.Words c) other → other ≡ came.On (turn_one level x c o).new
-  turned_only x c o a (came.On b) t = ap came.On ((turn_one level x c o).only b (subst (λ (v : Step). Turns level x c v b) (leads_one c key level t.0 o t.1 a) t.2))
-  turned_only x c o a (came.Here y p) t = absurd t
+approaches : (level key : ℕ) (a : Approach) (what : Seen) (new : Approached) → Approaches level key a what new → One (Approaches level key a what)
+approaches level key a what new goes = record { new = new; goes = goes; only = λ other t. approach_same (approach_case level key a what new goes) (approach_case level key a what other t) }
 
-  latched_only : (x : ℕ) (other : Approached) → Approaches level key (Latching x) seen.Done other → other ≡ came.On (Latched x)
-  latched_only x (came.On a) t = ap came.On t
-  latched_only x (came.Here y p) t = absurd t
+-- from a page that is held
+quit_one : (level key x : ℕ) (c : Page) (o : Step) → Leads c key level o → One (Approaches level key (Latched x) (seen.Words c))
+quit_one level key x c Here h = approaches level key (Latched x) (seen.Words c) (came.Here x c) (refl, refl, h)
+quit_one level key x c (Right y) h = approaches level key (Latched x) (seen.Words c) (came.On (Leaving x (Some y))) (refl, (Right y, h, refl))
+quit_one level key x c (Down y) h = approaches level key (Latched x) (seen.Words c) (came.On (Leaving x None)) (refl, (Down y, h, refl))
+quit_one level key x c Again h = approaches level key (Latched x) (seen.Words c) (came.On (Leaving x None)) (refl, (Again, h, refl))
 
-  missed_only : (x : ℕ) (other : Approached) → Approaches level key (Latching x) seen.Missed other → other ≡ came.On (At x)
-  missed_only x (came.On a) t = ap came.On t
-  missed_only x (came.Here y p) t = absurd t
+pub approach_one : (level key : ℕ) (a : Approach) (what : Seen) → Gives (approach_next a) None what → One (Approaches level key a what)
+approach_one level key Start (seen.Words c) g = (let one = enter_one level (roots_of c) in approaches level key Start (seen.Words c) (came.On one.new) one.goes)
+approach_one level key (At x) (seen.Words c) g = (let o = leads_some c key level in let one = turn_one level x c o.0 in approaches level key (At x) (seen.Words c) (came.On one.new) (o.0, o.1, one.goes))
+approach_one level key (Latching x) seen.Done g = approaches level key (Latching x) seen.Done (came.On (Latched x)) refl
+approach_one level key (Latching x) seen.Missed g = approaches level key (Latching x) seen.Missed (came.On (At x)) refl
+approach_one level key (Latched x) (seen.Words c) g = (let o = leads_some c key level in quit_one level key x c o.0 o.1)
+approach_one level key (Leaving x (Some z)) seen.Done g = approaches level key (Leaving x (Some z)) seen.Done (came.On (Latching z)) refl
+approach_one level key (Leaving x None) seen.Done g = approaches level key (Leaving x None) seen.Done (came.On Start) refl
+approach_one level key old what g = absurd g
 
-  left_only : (x y : ℕ) (other : Approached) → Approaches level key (Leaving x (Some y)) seen.Done other → other ≡ came.On (Latching y)
-  left_only x y (came.On a) t = ap came.On t
-  left_only x y (came.Here z p) t = absurd t
-
-  again_only : (x : ℕ) (other : Approached) → Approaches level key (Leaving x None) seen.Done other → other ≡ came.On Start
-  again_only x (came.On a) t = ap came.On t
-  again_only x (came.Here z p) t = absurd t
-
-  pub approach_one : (a : Approach) (what : Seen) → Gives (approach_next a) None what → One (Approaches level key a what)
-  approach_one Start (seen.Words c) g = record { new = came.On (enter_one level (roots_of c)).new; goes = (enter_one level (roots_of c)).goes; only = entered_only c }
-  approach_one (At x) (seen.Words c) g = (let o = leads_some c key level in record { new = came.On (turn_one level x c o.0).new; goes = (o.0, o.1, (turn_one level x c o.0).goes); only = turned_only x c o.0 o.1 })
-  approach_one (Latching x) seen.Done g = record { new = came.On (Latched x); goes = refl; only = latched_only x }
-  approach_one (Latching x) seen.Missed g = record { new = came.On (At x); goes = refl; only = missed_only x }
-  approach_one (Latched x) (seen.Words c) g = (let o = leads_some c key level in quit_one level x c key o.0 o.1)
-  approach_one (Leaving x (Some z)) seen.Done g = record { new = came.On (Latching z); goes = refl; only = left_only x z }
-  approach_one (Leaving x None) seen.Done g = record { new = came.On Start; goes = refl; only = again_only x }
-  approach_one old what g = absurd g
-
-  -- a writer that is there has got a page of its level that covers its key
-  pub here_leads : (a : Approach) (what : Seen) (x : ℕ) (c : Page) → Approaches level key a what (came.Here x c) → Leads c key level Here
-  here_leads Start seen.Done x c t = absurd t
-  here_leads (At z) seen.Done x c t = absurd t
-  here_leads (Latching z) seen.Done x c t = absurd t
-  here_leads (Latched z) (seen.Words d) x c t = subst (λ (p : Page). Leads p key level Here) (sym t.1) t.2
-  here_leads (Leaving z (Some v)) seen.Done x c t = absurd t
-  here_leads (Leaving z None) seen.Done x c t = absurd t
-  here_leads old what x c t = absurd t
+-- a writer that is there has got a page of its level that covers its key
+pub here_leads : (level key : ℕ) (a : Approach) (what : Seen) (x : ℕ) (c : Page) → Approaches level key a what (came.Here x c) → Leads c key level Here
+here_leads level key a what x c t = by (approach_case level key a what (came.Here x c) t)
+  where
+    by : {a : Approach} {what : Seen} {x : ℕ} {c : Page} → ApproachCase level key a what (came.Here x c) → Leads c key level Here
+    by (ApproachCase.Arrived z d x c h) = subst (λ (p : Page). Leads p key level Here) (sym h.1) h.2
