@@ -108,6 +108,7 @@ part_case from (part.At x) (seen.Words c) (part.Ending r) t = Listed x c r t
 part_case from (part.Ending r) seen.Done (part.Over last) t = Ended r last t
 part_case from a what b t = absurd t
 
+-- At its leaf an insertion has found the key, or the pair enters.
 pub data InsertCase (key value : ℕ) : InsertStage → Seen → InsertStage → Type 0 where
   Began : (a : Approach) → a ≡ way.Start → InsertCase key value insert.New seen.Done (insert.Coming a)
   Came : (a : Approach) (what : Seen) (b : Approach) → Approaches 0 key a what (came.On b) → InsertCase key value (insert.Coming a) what (insert.Coming b)
@@ -132,6 +133,7 @@ insert_case key value (insert.Changing c) what (insert.Ending r) t = Finished c 
 insert_case key value (insert.Ending r) seen.Done (insert.Over last) t = Ended r last t
 insert_case key value a what b t = absurd t
 
+-- At its leaf a deletion misses the key, or the pair leaves.
 pub data DeleteCase (key : ℕ) : DeleteStage → Seen → DeleteStage → Type 0 where
   Began : (a : Approach) → a ≡ way.Start → DeleteCase key delete.New seen.Done (delete.Coming a)
   Came : (a : Approach) (what : Seen) (b : Approach) → Approaches 0 key a what (came.On b) → DeleteCase key (delete.Coming a) what (delete.Coming b)
@@ -156,6 +158,7 @@ delete_case key (delete.Changing v c) what (delete.Ending r) t = Finished v c wh
 delete_case key (delete.Ending r) seen.Done (delete.Over last) t = Ended r last t
 delete_case key a what b t = absurd t
 
+-- At the anchor the level may be missing, or is to be made; at the parent the key is listed, or the walk to the child begins.
 pub data PostCase (level key : ℕ) : PostStage → Seen → PostStage → Type 0 where
   Began : (a : Approach) → a ≡ way.Start → PostCase level key post.New seen.Done (post.Coming a)
   NoLevel : (c : Page) → (roots_of c).levels < level → PostCase level key (post.Coming way.Start) (seen.Words c) (post.Ending listed.Stale)
@@ -208,6 +211,7 @@ post_case level key (post.Staying x r) seen.Done (post.Ending last) t = Opened x
 post_case level key (post.Ending r) seen.Done (post.Over last) t = Ended r last t
 post_case level key a what b t = absurd t
 
+-- At the parent there are two children, or one.
 pub data CompressCase (level key : ℕ) : CompressStage → Seen → CompressStage → Type 0 where
   Began : (a : Approach) → a ≡ way.Start → CompressCase level key compress.New seen.Done (compress.Coming a)
   NoLevel : (c : Page) → (roots_of c).levels ≤ level → CompressCase level key (compress.Coming way.Start) (seen.Words c) (compress.Ending pressed.Alone)
@@ -244,6 +248,7 @@ compress_case level key (compress.Staying x) seen.Done (compress.Ending r) t = O
 compress_case level key (compress.Ending r) seen.Done (compress.Over last) t = Ended r last t
 compress_case level key a what b t = absurd t
 
+-- It looks at one process after another, and releases the page where none blocks it.
 pub data ReclaimCase : ReclaimStage → Seen → ReclaimStage → Type 0 where
   First : (started own : ℕ) (r : Round) → GoesPast 0 started own (reclaim.Looking r) → ReclaimCase reclaim.Seeing (seen.Owner true started own) (reclaim.Looking r)
   NoneThere : (started own : ℕ) → GoesPast 0 started own reclaim.Releasing → ReclaimCase reclaim.Seeing (seen.Owner true started own) reclaim.Releasing

@@ -1,5 +1,6 @@
--- Which turns a change, a growth, a compression of two children and an arrival can be, each with what it gives. Whoever
--- takes such a turn apart has one clause for each of them, and none for what cannot be.
+-- Which turns the machines that processes are built of can take, each with what it gives: the way of a writer, a change, a
+-- growth, and the compression of two children. Whoever takes such a turn apart has one clause for each of them, and none for
+-- what cannot be.
 use Rattle.std.proofs.Common.{ℕ, ◌≡◌, ◌≢◌, ◌<◌, Option, Some, None}
 use Rattle.bl_page.specs.declared.page.Page.{Page}
 use Rattle.bl_page.specs.declared.page.Page.TheVariants.{Anchor}
@@ -43,7 +44,7 @@ use Rattle.bl_ways.specs.Approaches.{Enters, Turns, Quits, Approaches}
 use Rattle.bl_ways.specs.Changes.{Changes}
 use Rattle.bl_ways.specs.Growths.{Raises, Grows}
 
--- a writer on its way, and there
+-- A writer on its way to the page that covers its key, and there.
 pub data ApproachCase (level key : ℕ) : Approach → Seen → Approached → Type 0 where
   Entered : (c : Page) (a : Approach) → Enters level (roots_of c) a → ApproachCase level key way.Start (seen.Words c) (came.On a)
   Turned : (x : ℕ) (c : Page) (a : Approach) (o : Step) → Leads c key level o → Turns level x c o a → ApproachCase level key (way.At x) (seen.Words c) (came.On a)
@@ -65,6 +66,7 @@ approach_case level key (way.Leaving x (Some y)) seen.Done (came.On b) t = Opene
 approach_case level key (way.Leaving x None) seen.Done (came.On b) t = OpenedLost x b t
 approach_case level key a what new t = absurd t
 
+-- The change of one pair of a page that is held.
 pub data ChangeCase : Change → Seen → Changed → Type 0 where
   Put : (x : ℕ) (page : Page) (new : Change) → new ≡ change.Opening x outcome.Changed → ChangeCase (change.Putting x page) seen.Done (changed.On new)
   PutRefused : (x : ℕ) (page : Page) (new : Change) → new ≡ change.Opening x outcome.Refused → ChangeCase (change.Putting x page) seen.Refused (changed.On new)
@@ -86,6 +88,7 @@ change_case (change.OpeningNew x y separator) seen.Done (changed.On new) t = Ope
 change_case (change.Opening x o) seen.Done (changed.Over last) t = Opened x o last t
 change_case c what new t = absurd t
 
+-- A new top level.
 pub data GrowthCase (level : ℕ) : Growth → Seen → Grew → Type 0 where
   LatchedAnchor : (new : Growth) → new ≡ growth.Latched → GrowthCase level growth.Latching seen.Done (grew.On new)
   Missed : (new : Growth) → new ≡ growth.Latching → GrowthCase level growth.Latching seen.Missed (grew.On new)
@@ -113,7 +116,7 @@ growth_case level growth.OpeningGrown seen.Done grew.Grown t = OpenedGrown
 growth_case level growth.OpeningRefused seen.Done grew.Refused t = OpenedRefused
 growth_case level g what new t = absurd t
 
--- of two children
+-- The compression of two children of a page that is held.
 pub data SqueezeCase : Compression → Seen → Compressed → Type 0 where
   LatchLeft : (f : Family) (new : Compression) → new ≡ LatchedLeft f → SqueezeCase (LatchingLeft f) seen.Done (step.On new)
   MissLeft : (f : Family) (new : Compression) → new ≡ LatchingLeft f → SqueezeCase (LatchingLeft f) seen.Missed (step.On new)
