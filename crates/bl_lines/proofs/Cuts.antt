@@ -7,6 +7,7 @@ use Rattle.std.proofs.lemmas.List.{append-nil, take-append-le, take-append-drop,
 use Rattle.std.proofs.lemmas.List.Elements.{All-from_get_or, All-append, All-nil}
 use Rattle.memchr.specs.Find.{IsFirstByte, Nowhere, Passes, is_byte}
 use Rattle.bl_lines.specs.Lines.{HasNoLf}
+use Rattle.bl_lines.specs.Streams.{IsFirstLine}
 
 -- bytes of a slice that were put behind a list with room for 65
 pub keep_is : (old piece new : List ℕ) (room kept : ℕ) → room + length old ≡ 65 → kept ≡ min (length piece) room → new ≡ old ++ take kept piece → new ≡ take 65 (old ++ piece)
@@ -34,13 +35,20 @@ no_lf_more bytes piece h k = All-append (λ b. b ≢ 10) bytes piece h k
 pub split_at : (ahead : List ℕ) (place : ℕ) → place < length ahead → get_or ahead place 0 ≡ 10 → ahead ≡ take place ahead ++ 10 ∷ drop (place + 1) ahead
 split_at ahead place lt e = sym (take-append-drop place ahead) ∙ ap (λ t. take place ahead ++ t) (drop-cons ahead place 0 lt ∙ ap (λ b. b ∷ drop (suc place) ahead) e ∙ ap (λ n. 10 ∷ drop n ahead) (let one : suc place ≡ place + 1 = omega arith in one))
 
--- what stands behind a place of the part of a buffer
-pub tail_of_part : (bytes : List ℕ) (from upto place : ℕ) → from ≤ upto → upto ≤ length bytes → place < upto - from
-    → drop (place + 1) (take (upto - from) (drop from bytes)) ≡ take (upto - (from + (place + 1))) (drop (from + (place + 1)) bytes)
-tail_of_part bytes from upto place le inside lt =
-    let n : upto - from ≡ place + 1 + (upto - (from + (place + 1))) = omega arith in
-    ap (λ m. drop (place + 1) (take m (drop from bytes))) n ∙ drop-take (place + 1) (upto - (from + (place + 1))) (drop from bytes)
-    ∙ ap (take (upto - (from + (place + 1)))) (drop-drop (place + 1) from bytes)
+-- what stands behind so many bytes of the part of a buffer
+pub rest_of_part : (bytes : List ℕ) (from upto count : ℕ) → count ≤ upto - from
+    → drop count (take (upto - from) (drop from bytes)) ≡ take (upto - (from + count)) (drop (from + count) bytes)
+rest_of_part bytes from upto count le =
+    let n : upto - from ≡ count + (upto - (from + count)) = omega arith in
+    ap (λ m. drop count (take m (drop from bytes))) n ∙ drop-take count (upto - (from + count)) (drop from bytes)
+    ∙ ap (take (upto - (from + count))) (drop-drop count from bytes)
+
+-- what is left of the part, where so many bytes of it are let go
+pub passed_over : (bytes self : List ℕ) (from upto count : ℕ) → upto ≤ length bytes → take (upto - from) (drop from bytes) ≡ self → count ≤ length self
+    → take (upto - (from + count)) (drop (from + count) bytes) ≡ drop count self
+passed_over bytes self from upto count inside is few =
+    let size : length self ≡ upto - from = ap length (sym is) ∙ length-take-le (upto - from) (drop from bytes) (omega (arith, length-drop from bytes)) in
+    sym (rest_of_part bytes from upto count (omega (arith, size, few))) ∙ ap (drop count) is
 
 -- the kept bytes of a line, with a further piece
 pub kept_more : (bytes old new piece : List ℕ) → old ≡ take 65 bytes → new ≡ take 65 (old ++ piece) → new ≡ take 65 (bytes ++ piece)
@@ -90,7 +98,7 @@ piece_to_lf bytes self old new from upto place le inside is first kept =
       take place ahead,
       no_lf_before ahead place lt first.0.before,
       kept,
-      sym is ∙ split_at ahead place lt lf ∙ ap (λ t. take place ahead ++ 10 ∷ t) (tail_of_part bytes from upto place le inside (omega (arith, size, lt))),
+      sym is ∙ split_at ahead place lt lf ∙ ap (λ t. take place ahead ++ 10 ∷ t) (rest_of_part bytes from upto (place + 1) (omega (arith, size, lt))),
     )
 
 -- what holds where a call is Ok, where it was
@@ -103,3 +111,11 @@ pub piece_whole : (bytes self old new : List ℕ) (from upto : ℕ) → take (up
     → (piece : List ℕ) × HasNoLf piece × (new ≡ take 65 (old ++ piece)) × ((self ≡ piece) × (take (upto - upto) (drop upto bytes) ≡ []))
 piece_whole bytes self old new from upto is none kept = let nothing : upto - upto ≡ 0 = omega arith in
     (take (upto - from) (drop from bytes), no_lf_any (take (upto - from) (drop from bytes)) none, kept, (sym is, ap (λ n. take n (drop upto bytes)) nothing))
+
+-- the bytes up to the first LF are the first line
+pub first_line : (bytes self : List ℕ) (from upto place : ℕ) → from ≤ upto → upto ≤ length bytes → take (upto - from) (drop from bytes) ≡ self
+    → IsFirstByte (is_byte 10) (take (upto - from) (drop from bytes)) (Some place) → IsFirstLine (take place (take (upto - from) (drop from bytes))) self
+unfolding piece_to_lf
+first_line bytes self from upto place le inside is first =
+    let cut = piece_to_lf bytes self [] (take 65 ([] ++ take place (take (upto - from) (drop from bytes)))) from upto place le inside is first refl in
+    record { rest = take (upto - (from + (place + 1))) (drop (from + (place + 1)) bytes); cut = cut.1; begins = cut.3 }

@@ -20,6 +20,12 @@ GivesMore old more (Err e) new at_end failed = (old ≡ []) × (more ≡ []) × 
 abbrev pub EndsRead : List ℕ → List ℕ → Type 0 → Type 0
 EndsRead bytes left at_end = ((left ≡ []) × at_end) ⊎ (2 ^ 64 ≤ length bytes + 1)
 
+-- the bytes begin with this line and an LF
+pub record IsFirstLine (line bytes : List ℕ) : Type 0 where
+  pub rest : List ℕ
+  pub cut : HasNoLf line
+  pub begins : bytes ≡ line ++ 10 ∷ rest
+
 -- unread begins with the bytes, which have no LF, and what stands behind them is left
 abbrev pub CutsLine : {E : Type 0} → List ℕ → List ℕ → Result Cut E → List ℕ → Type 0 → Type 0 → Type 0
 CutsLine unread bytes (Ok Whole) left at_end failed = HasNoLf bytes × (length bytes ≤ 64) × (unread ≡ bytes ++ 10 ∷ left)

@@ -27,38 +27,36 @@ pub fn after<'a>(line: &'a [u8], word: &[u8]) -> Option<&'a [u8]>
     line.strip_prefix(word)
 }
 
+/// The request that the line spells, byte by byte.
+fn spelled(line: &[u8]) -> Option<Request>
+    ensures { Means line.now result }
+{
+    match line {
+        [b'f', b'i', b'n', b'd', b' ', rest @ ..] => {
+            let key = number(rest)?;
+            Some(Request::Ask(Op::Find(key)))
+        }
+        [b'i', b'n', b's', b'e', b'r', b't', b' ', rest @ ..] => {
+            let (key, value) = two_numbers(rest)?;
+            Some(Request::Ask(Op::Insert(key, value)))
+        }
+        [b'd', b'e', b'l', b'e', b't', b'e', b' ', rest @ ..] => {
+            let key = number(rest)?;
+            Some(Request::Ask(Op::Delete(key)))
+        }
+        [b's', b'c', b'a', b'n', b' ', rest @ ..] => {
+            let (low, high) = two_numbers(rest)?;
+            Some(Request::Scan(low, high))
+        }
+        [b's', b'y', b'n', b'c'] => Some(Request::Sync),
+        _ => None,
+    }
+}
+
 /// What the line asks for, or None where it is malformed.
 pub fn parse(line: &[u8]) -> Option<Request>
     ensures meaning { Means line.now result }
     ensures long { LINE_LIMIT < length line.now → IsNone result }
 {
-    if let Some(rest) = after(line, b"find ") {
-        return match number(rest) {
-            Some(key) => Some(Request::Ask(Op::Find(key))),
-            None => None,
-        };
-    }
-    if let Some(rest) = after(line, b"insert ") {
-        return match two_numbers(rest) {
-            Some((key, value)) => Some(Request::Ask(Op::Insert(key, value))),
-            None => None,
-        };
-    }
-    if let Some(rest) = after(line, b"delete ") {
-        return match number(rest) {
-            Some(key) => Some(Request::Ask(Op::Delete(key))),
-            None => None,
-        };
-    }
-    if let Some(rest) = after(line, b"scan ") {
-        return match two_numbers(rest) {
-            Some((low, high)) => Some(Request::Scan(low, high)),
-            None => None,
-        };
-    }
-    if line == b"sync".as_slice() {
-        Some(Request::Sync)
-    } else {
-        None
-    }
+    spelled(line)
 }

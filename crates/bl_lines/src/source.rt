@@ -1,11 +1,11 @@
 //! The lines of a reader, in constant memory.
 
-ghost use Rattle.std.specs.Prelude.{◌≡◌, ℕ, ◌+◌, ◌-◌, ◌≤◌, ◌↔◌, length, List, [], ◌∷◌, ◌++◌, take, drop, true, IsTrue, IfOk, OnErr, MatchResult};
+ghost use Rattle.std.specs.Prelude.{◌≡◌, ℕ, ◌+◌, ◌-◌, ◌≤◌, ◌↔◌, length, List, [], ◌∷◌, ◌++◌, take, drop, true, IsTrue, IfOk, IfSome, OnErr, MatchResult};
 ghost use Rattle.std.specs.Bool.{MatchBool};
 ghost use Rattle.std.specs.Io.{ReadsAtMost};
 ghost use Rattle.std.specs.Io.KnownBytes.{Consumes, IsAtEnd, Keeps};
 ghost use Rattle.bl_lines.specs.Lines.{HasNoLf};
-ghost use Rattle.bl_lines.specs.Streams.{CutsLine, GivesMore, ReadsSome};
+ghost use Rattle.bl_lines.specs.Streams.{CutsLine, GivesMore, IsFirstLine, ReadsSome};
 
 use crate::request::LINE_LIMIT;
 use arrayvec::ArrayVec;
@@ -147,6 +147,23 @@ impl Source {
                 false
             }
         }
+    }
+
+    /// The first line of what was read ahead, without its LF, where that LF was read too.
+    pub fn front(&self) -> Option<&[u8]>
+        ensures { IfSome result (λ line. IsFirstLine line.now self.now) }
+    {
+        let ahead = &self.bytes[self.from..self.upto];
+        let place = memchr(b'\n', ahead)?;
+        Some(&ahead[..place])
+    }
+
+    /// Lets the first bytes go that were read ahead.
+    pub fn pass_over(&mut self, count: usize)
+        requires { count ≤ length self.old }
+        ensures { self.new ≡ drop count self.old }
+    {
+        self.from += count;
     }
 
     /// Cuts the next line off. Its first bytes are put into `line`, and the others are let go.
