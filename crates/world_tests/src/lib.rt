@@ -1,5 +1,5 @@
-//! Tests of calls of a world that no script makes: lone walks, chosen turns, faults, and a tree of four levels. Runs with all
-//! events of each process and its answer are scripts of `worked_scripts`.
+//! Tests of calls of a world that no script makes: lone walks, chosen turns, turns that are not fit, faults. Runs with all events of each
+//! process and its answer are scripts of `worked_scripts`, a tree of four levels among them.
 //!
 //! They stand apart from `bl_world`, and nothing else uses them: whatever is built on worlds need not wait until these tests
 //! are proved.
