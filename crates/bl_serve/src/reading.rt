@@ -45,12 +45,6 @@ fn read_line<R: Read>(
         × ReadsLine (source.old ++ more) bytes result source.new
         (IsAtEnd (R.remaining reader.new.inner)) (reader.new.failed ≡ true) }
 {
-    if let Some(front) = source.front() {
-        let asked = parse(front);
-        let count = front.len() + 1;
-        source.pass_over(count);
-        return Ok(Reading::Line(asked));
-    }
     match source.next_line(reader, line) {
         Ok(Cut::Whole) => Ok(Reading::Line(parse(line.as_slice()))),
         Ok(Cut::Long) => Ok(Reading::Line(None)),
