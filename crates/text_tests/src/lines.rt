@@ -107,6 +107,26 @@ fn a_reader_is_cut_into_lines(rt: HostRuntime) -> Result<(), Fail> {
     Ok(())
 }
 
+// A line that was read ahead is seen where it stands, and goes only where it is passed over.
+#[test]
+fn the_first_line_is_seen_where_it_stands(rt: HostRuntime) -> Result<(), Fail> {
+    let mut source = Source::new(rt.alloc())?;
+    assert!(rt; source.front().is_none());
+    let text = b"sync\nfind 66\nfind".as_slice();
+    let mut reader = Watched::new(text);
+    let mut line = ArrayVec::new();
+    assert_eq!(rt; source.next_line(&mut reader, &mut line), Ok(Cut::Whole));
+    assert_eq!(rt; source.front(), Some(b"find 66".as_slice()));
+    assert_eq!(rt; source.front(), Some(b"find 66".as_slice()));
+    if source.front().is_some() {
+        source.pass_over(b"find 66\n".len());
+    }
+    assert!(rt; source.front().is_none());
+    assert_eq!(rt; source.next_line(&mut reader, &mut line), Ok(Cut::Rest));
+    assert_eq!(rt; line.as_slice(), b"find".as_slice());
+    Ok(())
+}
+
 #[test]
 fn long_lines_are_cut_whole(rt: HostRuntime) -> Result<(), Fail> {
     // the longest request has 48 bytes, and the longest line that is kept 64
