@@ -11,4 +11,6 @@ mod plays;
 #[cfg(test)]
 mod replaying;
 #[cfg(test)]
+mod streams;
+#[cfg(test)]
 mod words;

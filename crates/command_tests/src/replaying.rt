@@ -1,13 +1,11 @@
-//! The command `replay` over streams that fail, where memory is refused, and over paths that are no file. What it prints for scripts is
+//! The command `replay` over streams that fail, and where memory is refused; and paths that are no file. What it prints for scripts is
 //! compared by `worked_scripts`.
 
-use bl_commands::{CommandFault, replay_file, replay_script};
+use crate::streams::Full;
+use bl_commands::{CommandFault, check_file, load_file, replay_file, replay_script};
 use bl_model::Watched;
-use bl_options::{Invocation, read_words};
-use std::alloc::Global;
 use std::io;
-use std::io::{ErrorKind, Read, Write};
-use std::test::Fail;
+use std::io::{ErrorKind, Read};
 
 /// Gives a text in pieces of at most 5 bytes, and then fails.
 #[derive(Drop)]
@@ -41,27 +39,6 @@ fn reads_that_fail(rt: HostRuntime) {
         let result = replay_script(alloc, &mut Watched::new(Failing { left }), &mut writer);
         assert_eq!(rt; result, Err(CommandFault::Read));
         assert!(rt; writer.into_inner().is_empty());
-    }
-}
-
-/// Takes so many bytes, and then fails.
-#[derive(Drop)]
-struct Full {
-    bytes: Vec<u8>,
-    room: usize,
-}
-
-impl Write for Full {
-    fn write(&mut self, buf: &[u8]) -> io::Result<usize> {
-        let count = buf.len().min(self.room - self.bytes.len().min(self.room));
-        if count == 0 || self.bytes.extend_from_slice(&buf[..count]).is_err() {
-            return Err(io::Error::from(ErrorKind::BrokenPipe));
-        }
-        Ok(count)
-    }
-
-    fn flush(&mut self) -> io::Result<()> {
-        Ok(())
     }
 }
 
@@ -101,50 +78,20 @@ fn memory_or_the_output(rt: HostRuntime) {
     }
 }
 
+/// `check`, the loading of an image and `replay` say that reading the path fails, and write nothing.
+fn is_no_file(rt: &HostRuntime, path: &str) -> bool {
+    let mut writer = Watched::new(Vec::new(rt.alloc()));
+    let checked = check_file(rt, path, &mut writer);
+    let replayed = replay_file(rt, path, &mut writer);
+    checked == Err(CommandFault::Read)
+        && replayed == Err(CommandFault::Read)
+        && load_file(rt, path).err() == Some(CommandFault::Read)
+        && writer.into_inner().is_empty()
+}
+
 #[test]
-fn paths_that_are_no_script(rt: HostRuntime) {
+fn paths_that_are_no_file(rt: HostRuntime) {
     for path in ["/", "no such file", ""] {
-        let mut writer = Watched::new(Vec::new(rt.alloc()));
-        assert_eq!(rt;
-            replay_file(&rt, path, &mut writer),
-            Err(CommandFault::Read),
-            "{path}"
-        );
-        assert!(rt; writer.into_inner().is_empty());
+        assert!(rt; is_no_file(&rt, path), "{path}");
     }
-}
-
-#[test]
-fn words_of_a_bad_script(rt: HostRuntime) -> Result<(), Fail> {
-    let fault = CommandFault::Script(7);
-    let text = format!(in rt.alloc(); "{fault}")?;
-    assert!(rt; text.as_str() == "blink: bad script line 7");
-    assert_eq!(rt; fault.status(), 3);
-    Ok(())
-}
-
-#[test]
-fn words_of_replay(rt: HostRuntime) -> Result<(), Fail> {
-    let alloc = rt.alloc();
-    let file = String::from_str(alloc, "script")?;
-    assert_eq!(rt;
-        read_words(alloc, words(alloc, "blink replay script")?.as_slice()).ok(),
-        Some(Invocation::Replay(file))
-    );
-    for refused in ["blink replay", "blink replay a b"] {
-        assert!(rt;
-            read_words(alloc, words(alloc, refused)?.as_slice()).is_err(),
-            "{refused}"
-        );
-    }
-    Ok(())
-}
-
-/// The words of a command line.
-fn words(alloc: Global, text: &str) -> Result<Vec<String>, Fail> {
-    let mut words = Vec::new(alloc);
-    for word in text.split(' ') {
-        words.push(String::from_str(alloc, word)?)?;
-    }
-    Ok(words)
 }

@@ -15,70 +15,87 @@ fn words(alloc: Global, text: &str) -> Result<Vec<String>, Fail> {
     Ok(words)
 }
 
-/// A server with these options that begins without rows.
-fn without_image(options: ServeOptions) -> Server {
-    Server {
-        options,
-        image: None,
-    }
-}
-
-/// A server with these options that begins with the image.
-fn with_image(alloc: Global, options: ServeOptions, file: &str) -> Result<Server, Fail> {
-    let image = Some(String::from_str(alloc, file)?);
-    Ok(Server { options, image })
-}
-
 /// What a command line asks for, None where clap refuses it.
 fn invoked(alloc: Global, text: &str) -> Result<Option<Invocation>, Fail> {
     Ok(read_words(alloc, words(alloc, text)?.as_slice()).ok())
 }
 
+/// What a server asks for: its pages, workers and compressors, and the image that it begins with.
+type Served<'a> = (u32, u32, u32, Option<&'a str>);
+
+/// A server of that kind.
+fn server(alloc: Global, served: Served<'_>) -> Result<Server, Fail> {
+    let (pages, workers, compressors, image) = served;
+    let options = ServeOptions {
+        pages,
+        workers,
+        compressors,
+    };
+    let image = match image {
+        Some(file) => Some(String::from_str(alloc, file)?),
+        None => None,
+    };
+    Ok(Server { options, image })
+}
+
+/// What such a server is asked for by, or a dump of it to that file.
+fn asked(alloc: Global, served: Served<'_>, dump: Option<&str>) -> Result<Invocation, Fail> {
+    let server = server(alloc, served)?;
+    match dump {
+        Some(file) => Ok(Invocation::Dump(server, String::from_str(alloc, file)?)),
+        None => Ok(Invocation::Serve(server)),
+    }
+}
+
 #[test]
 fn words_of_the_command_line(rt: HostRuntime) -> Result<(), Fail> {
-    let plain = ServeOptions {
-        pages: 1024,
-        workers: 4,
-        compressors: 1,
-    };
-    assert_eq!(rt;
-        invoked(rt.alloc(), "blink serve")?,
-        Some(Invocation::Serve(without_image(plain)))
-    );
-    let least = ServeOptions {
-        pages: 4,
-        workers: 1,
-        compressors: 0,
-    };
-    assert_eq!(rt;
-        invoked(
-            rt.alloc(),
-            "blink serve --pages 4 --workers 1 --compressors 0"
-        )?,
-        Some(Invocation::Serve(without_image(least)))
-    );
-    let most = ServeOptions {
-        pages: 65536,
-        workers: 32,
-        compressors: 16,
-    };
-    assert_eq!(rt;
-        invoked(
-            rt.alloc(),
-            "blink serve --pages 65536 --workers 32 --compressors 16"
-        )?,
-        Some(Invocation::Serve(without_image(most)))
-    );
-    assert_eq!(rt;
-        invoked(
-            rt.alloc(),
-            "blink dump --pages 4 index.image --workers 1 --compressors 0"
-        )?,
-        Some(Invocation::Dump(
-            without_image(least),
-            String::from_str(rt.alloc(), "index.image")?
-        ))
-    );
+    for (text, served, dump) in [
+        ("blink serve", (1024, 4, 1, None), None),
+        (
+            "blink serve --pages 4 --workers 1 --compressors 0",
+            (4, 1, 0, None),
+            None,
+        ),
+        (
+            "blink serve --pages 65536 --workers 32 --compressors 16",
+            (65536, 32, 16, None),
+            None,
+        ),
+        (
+            "blink dump --pages 4 index.image --workers 1 --compressors 0",
+            (4, 1, 0, None),
+            Some("index.image"),
+        ),
+        (
+            "blink serve --image old.image",
+            (1024, 4, 1, Some("old.image")),
+            None,
+        ),
+        (
+            "blink dump new.image --image old.image",
+            (1024, 4, 1, Some("old.image")),
+            Some("new.image"),
+        ),
+    ] {
+        let wanted = asked(rt.alloc(), served, dump)?;
+        assert!(rt; invoked(rt.alloc(), text)? == Some(wanted), "{text}");
+    }
+    Ok(())
+}
+
+#[test]
+fn words_that_name_a_file(rt: HostRuntime) -> Result<(), Fail> {
+    let image = String::from_str(rt.alloc(), "image")?;
+    let script = String::from_str(rt.alloc(), "script")?;
+    let checked = invoked(rt.alloc(), "blink check image")?;
+    assert!(rt; checked == Some(Invocation::Check(image)));
+    let replayed = invoked(rt.alloc(), "blink replay script")?;
+    assert!(rt; replayed == Some(Invocation::Replay(script)));
+    Ok(())
+}
+
+#[test]
+fn words_that_are_refused(rt: HostRuntime) -> Result<(), Fail> {
     for refused in [
         "blink",
         "blink dump",
@@ -94,30 +111,14 @@ fn words_of_the_command_line(rt: HostRuntime) -> Result<(), Fail> {
         "blink serve --compressors 17",
         "blink serve --pages x",
         "blink server",
+        "blink check",
+        "blink check a b",
+        "blink check --deep a",
+        "blink replay",
+        "blink replay a b",
     ] {
-        assert_eq!(rt; invoked(rt.alloc(), refused)?, None, "{refused}");
+        assert!(rt; invoked(rt.alloc(), refused)?.is_none(), "{refused}");
     }
-    Ok(())
-}
-
-#[test]
-fn words_that_name_an_image(rt: HostRuntime) -> Result<(), Fail> {
-    let plain = ServeOptions {
-        pages: 1024,
-        workers: 4,
-        compressors: 1,
-    };
-    assert_eq!(rt;
-        invoked(rt.alloc(), "blink serve --image old.image")?,
-        Some(Invocation::Serve(with_image(rt.alloc(), plain, "old.image")?))
-    );
-    assert_eq!(rt;
-        invoked(rt.alloc(), "blink dump new.image --image old.image")?,
-        Some(Invocation::Dump(
-            with_image(rt.alloc(), plain, "old.image")?,
-            String::from_str(rt.alloc(), "new.image")?
-        ))
-    );
     Ok(())
 }
 
@@ -142,8 +143,11 @@ fn words_of_a_dump_that_fails(rt: HostRuntime) -> Result<(), Fail> {
             3,
         ),
     ] {
-        assert_eq!(rt; format!(in rt.alloc(); "{fault}")?.as_str(), text);
-        assert_eq!(rt; fault.status(), status);
+        let words = format!(in rt.alloc(); "{fault}")?;
+        assert!(rt;
+            words.as_str() == text && fault.status() == status,
+            "{text}"
+        );
     }
     Ok(())
 }
@@ -151,20 +155,34 @@ fn words_of_a_dump_that_fails(rt: HostRuntime) -> Result<(), Fail> {
 #[test]
 fn words_on_standard_error(rt: HostRuntime) -> Result<(), Fail> {
     for (fault, text, status) in [
-        (ServeFault::Read, "blink: read failed", 3),
-        (ServeFault::Write, "blink: write failed", 3),
-        (ServeFault::Memory, "blink: out of memory", 4),
-        (ServeFault::Lost(7), "blink: lost request 7", 5),
+        (
+            CommandFault::from(ServeFault::Read),
+            "blink: read failed",
+            3,
+        ),
+        (
+            CommandFault::from(ServeFault::Write),
+            "blink: write failed",
+            3,
+        ),
+        (
+            CommandFault::from(ServeFault::Memory),
+            "blink: out of memory",
+            4,
+        ),
+        (
+            CommandFault::from(ServeFault::Lost(7)),
+            "blink: lost request 7",
+            5,
+        ),
+        (CommandFault::Script(7), "blink: bad script line 7", 3),
+        (CommandFault::Unsound(5, 12), "fault C5 page 12", 1),
     ] {
-        let fault = CommandFault::from(fault);
-        assert_eq!(rt; format!(in rt.alloc(); "{fault}")?.as_str(), text);
-        assert_eq!(rt; fault.status(), status);
+        let words = format!(in rt.alloc(); "{fault}")?;
+        assert!(rt;
+            words.as_str() == text && fault.status() == status,
+            "{text}"
+        );
     }
-    let unsound = CommandFault::Unsound(5, 12);
-    assert_eq!(rt;
-        format!(in rt.alloc(); "{unsound}")?.as_str(),
-        "fault C5 page 12"
-    );
-    assert_eq!(rt; unsound.status(), 1);
     Ok(())
 }

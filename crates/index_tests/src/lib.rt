@@ -1,5 +1,5 @@
-//! Tests of the calls of an index: searches, parts, insertions, deletions, posts, compressions, sweeps and closes, of one thread and
-//! of two, with want of pages and of frames; of passes that meet; and of indexes that are opened from an image.
+//! Tests of the calls of an index that need threads or want of memory: two threads that search and insert, eight whose passes meet, a
+//! scan beside four that write and a close after it, a scan whose memory is refused. Calls of one thread are lines of `worked_calls`.
 //!
 //! They stand apart from `bl_index`, and nothing else uses them: whatever is built on the index need not wait until these tests
 //! are proved. What a process on its way holds back is tested with the hands of a store, in `one_page`.
@@ -11,7 +11,5 @@ mod calls;
 mod closings;
 #[cfg(test)]
 mod meetings;
-#[cfg(test)]
-mod reopenings;
 #[cfg(test)]
 mod scans;

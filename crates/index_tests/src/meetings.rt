@@ -1,10 +1,10 @@
 //! Passes that meet.
 
-ghost use Rattle.std.specs.Prelude.{All, IfSome};
-ghost use Rattle.bl_index.specs.Calls.{IsPassOf, IsSamePass};
+ghost use Rattle.std.specs.Prelude.{All};
+ghost use Rattle.bl_index.specs.Calls.{IsPassOf};
 
-use bl_index::{Config, Index, KeyReply, Pass};
-use std::alloc::Global;
+use crate::calls::opened;
+use bl_index::{Index, KeyReply, Pass};
 use std::sync::Wait;
 use std::test::Fail;
 use std::thread;
@@ -78,30 +78,10 @@ fn found(index: &Index, pass: &mut Pass) -> u64
     count
 }
 
-/// An index with nine passes, the last of which stands beside the others.
-fn nine_passes(alloc: Global) -> Option<(Index, Vec<Pass>, Pass)>
-    ensures { IfSome result (λ t. All (IsPassOf t.0) t.1.items × IsPassOf t.0 t.2) }
-{
-    let config = Config {
-        pages: 256,
-        passes: 9,
-    };
-    match Index::open(alloc, config) {
-        Ok((index, mut passes)) => {
-            let last = passes.pop()?;
-            Some((index, passes, last))
-        }
-        Err(_) => None,
-    }
-}
-
 // Eight threads insert keys of their own. Their passes meet, and one of them finds all keys.
 #[test]
 fn one_pass_finds_the_keys_of_all(rt: HostRuntime) -> Result<(), Fail> {
-    let Some((index, mut passes, mut last)) = nine_passes(rt.alloc()) else {
-        assert!(rt; false);
-        return Ok(());
-    };
+    let (index, mut passes, mut last) = opened(rt.alloc(), 256, 9).ok_or("no index")?;
     fill_all(&rt, &index, passes.as_mut_slice());
     meet_each(&index, &mut last, passes.as_mut_slice());
     let all = found(&index, &mut last);

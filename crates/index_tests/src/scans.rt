@@ -1,10 +1,10 @@
-//! Scans of one thread, and one beside threads that write.
+//! Scans where memory is refused, and beside threads that write.
 
-ghost use Rattle.std.specs.Prelude.{All, IfSome};
+ghost use Rattle.std.specs.Prelude.{All};
 ghost use Rattle.bl_index.specs.Calls.{IsPassOf};
 
-use crate::calls::one_pass;
-use bl_index::{Config, Index, KeyReply, Pass, ScanFault};
+use crate::calls::opened;
+use bl_index::{Index, Pass, ScanFault};
 use bl_proc::Hint;
 use std::alloc::Global;
 use std::sync::Wait;
@@ -42,95 +42,6 @@ fn fifteen_rows<R: Wait>(rt: &R, index: &Index, pass: &mut Pass)
     }
 }
 
-fn are(rows: &Vec<(u64, u64)>, wanted: &[(u64, u64)]) -> bool {
-    rows.as_slice() == wanted
-}
-
-// A scan ends before its end, and stands behind the rows of an earlier one.
-#[test]
-fn scans_list_the_rows_of_two_leaves(rt: HostRuntime) -> Result<(), Fail> {
-    let Some((index, mut pass)) = one_pass(rt.alloc(), 8) else {
-        assert!(rt; false);
-        return Ok(());
-    };
-    fifteen_rows(&rt, &index, &mut pass);
-    let mut rows = Vec::new(rt.alloc());
-    let some = index.scan_into(&mut pass, 7, Some(11), 3, &mut rows);
-    assert!(rt; some == Ok(()));
-    assert!(rt; are(&rows, &[(7, 70), (8, 80), (9, 90), (10, 100)]));
-    let none = index.scan_into(&mut pass, 11, Some(11), 3, &mut rows);
-    assert!(rt; none == Ok(()));
-    assert!(rt; are(&rows, &[(7, 70), (8, 80), (9, 90), (10, 100)]));
-    let rest = index.scan_into(&mut pass, 14, None, 3, &mut rows);
-    assert!(rt; rest == Ok(()));
-    assert!(rt;
-        are(
-            &rows,
-            &[(7, 70), (8, 80), (9, 90), (10, 100), (14, 140), (15, 150)]
-        )
-    );
-    Ok(())
-}
-
-// Two gets lead to the lower leaf, and not to the upper one. The scan goes on where it stopped.
-#[test]
-fn scans_run_out_of_turns(rt: HostRuntime) -> Result<(), Fail> {
-    let Some((index, mut pass)) = one_pass(rt.alloc(), 8) else {
-        assert!(rt; false);
-        return Ok(());
-    };
-    fifteen_rows(&rt, &index, &mut pass);
-    let mut rows = Vec::new(rt.alloc());
-    let few = index.scan_into(&mut pass, 7, Some(11), 1, &mut rows);
-    assert!(rt; few == Err(ScanFault::OutOfTurns(7)));
-    assert!(rt; rows.is_empty());
-    let half = index.scan_into(&mut pass, 7, Some(11), 2, &mut rows);
-    assert!(rt; half == Err(ScanFault::OutOfTurns(9)));
-    assert!(rt; are(&rows, &[(7, 70), (8, 80)]));
-    let rest = index.scan_into(&mut pass, 9, Some(11), 3, &mut rows);
-    assert!(rt; rest == Ok(()));
-    assert!(rt; are(&rows, &[(7, 70), (8, 80), (9, 90), (10, 100)]));
-    Ok(())
-}
-
-// The upper leaf is empty, and still there.
-#[test]
-fn scans_after_deletions(rt: HostRuntime) -> Result<(), Fail> {
-    let Some((index, mut pass)) = one_pass(rt.alloc(), 8) else {
-        assert!(rt; false);
-        return Ok(());
-    };
-    fifteen_rows(&rt, &index, &mut pass);
-    for key in 9..16u64 {
-        let _reply = index.delete(&rt, &mut pass, key);
-        let _released = index.sweep(&mut pass);
-    }
-    let mut rows = Vec::new(rt.alloc());
-    let upper = index.scan_into(&mut pass, 9, None, 3, &mut rows);
-    assert!(rt; upper == Ok(()) && rows.is_empty());
-    let both = index.scan_into(&mut pass, 8, None, 3, &mut rows);
-    assert!(rt; both == Ok(()));
-    assert!(rt; are(&rows, &[(8, 80)]));
-    Ok(())
-}
-
-#[test]
-fn a_scan_at_the_greatest_key(rt: HostRuntime) -> Result<(), Fail> {
-    let Some((index, mut pass)) = one_pass(rt.alloc(), 8) else {
-        assert!(rt; false);
-        return Ok(());
-    };
-    let inserted = index.insert(&rt, &mut pass, u64::MAX, 1);
-    assert!(rt; matches!(inserted, (KeyReply::Inserted, None)));
-    let mut rows = Vec::new(rt.alloc());
-    let below = index.scan_into(&mut pass, 0, Some(u64::MAX), 2, &mut rows);
-    assert!(rt; below == Ok(()) && rows.is_empty());
-    let all = index.scan_into(&mut pass, u64::MAX, None, 2, &mut rows);
-    assert!(rt; all == Ok(()));
-    assert!(rt; are(&rows, &[(u64::MAX, 1)]));
-    Ok(())
-}
-
 /// Scans all keys, again and again from where a part had no room or ran out of turns.
 pub fn scan_all<R: Wait>(rt: &R, index: &Index, pass: &mut Pass, rows: &mut Vec<(u64, u64)>)
     requires { IsPassOf index.now pass.old }
@@ -149,7 +60,7 @@ pub fn scan_all<R: Wait>(rt: &R, index: &Index, pass: &mut Pass, rows: &mut Vec<
 // Whichever allocation is refused, no row is lost and none is listed twice.
 #[test]
 fn scans_go_on_after_want_of_memory(rt: HostRuntime) -> Result<(), Fail> {
-    let Some((index, mut pass)) = one_pass(rt.alloc(), 8) else {
+    let Some((index, _none, mut pass)) = opened(rt.alloc(), 8, 1) else {
         return Ok(());
     };
     fifteen_rows(&rt, &index, &mut pass);
@@ -273,35 +184,4 @@ pub fn work<R: Threads + Wait + Sync>(
             }
         },
     );
-}
-
-/// An index with six passes, the last of which stands beside the others.
-pub fn six_passes(alloc: Global) -> Option<(Index, Vec<Pass>, Pass)>
-    ensures { IfSome result (λ t. All (IsPassOf t.0) t.1.items × IsPassOf t.0 t.2) }
-{
-    let config = Config {
-        pages: 1024,
-        passes: 6,
-    };
-    match Index::open(alloc, config) {
-        Ok((index, mut passes)) => {
-            let last = passes.pop()?;
-            Some((index, passes, last))
-        }
-        Err(_) => None,
-    }
-}
-
-// Four threads write, and one scans: its keys rise, and keys that nobody touches are all there.
-#[test]
-fn a_scan_beside_four_writers(rt: HostRuntime) -> Result<(), Fail> {
-    let Some((index, mut passes, mut last)) = six_passes(rt.alloc()) else {
-        assert!(rt; false);
-        return Ok(());
-    };
-    keep(&rt, &index, &mut last);
-    let good = AtomicU64::new(0);
-    work(&rt, rt.alloc(), &index, passes.as_mut_slice(), &good);
-    assert!(rt; good.load(Ordering::SeqCst) == SCANS);
-    Ok(())
 }
