@@ -1,5 +1,5 @@
-//! The load of `index_load` on a plain Rust `RwLock<BTreeMap>`, for comparison. `index_twin ROWS THREADS FINDS MIXED SCANS`
-//! prints what `index_load` prints.
+//! The load of `bench_index` on a plain Rust `RwLock<BTreeMap>`, for comparison. `index_twin ROWS THREADS FINDS MIXED SCANS`
+//! prints what `bench_index` prints.
 
 use std::collections::BTreeMap;
 use std::env;

@@ -10,7 +10,8 @@ use Rattle.bl_page.specs.declared.page.Page.{Page}
 use Rattle.bl_page.specs.declared.page.Page.TheVariants.{Anchor, Leaf, Inner, Dead}
 use Rattle.bl_page.specs.Pairs.{end_of}
 use Rattle.bl_check.specs.declared.span.Span.{Span}
-use Rattle.bl_check.specs.Spans.{page_at, span_of, span_at, StandsAt, leftmost}
+use Rattle.bl_page.specs.Pages.{page_at}
+use Rattle.bl_check.specs.Spans.{span_of, span_at, StandsAt, leftmost}
 use Rattle.bl_check.specs.Rules.{HasNext, LinkFits, Reaches, OnChain, ChildrenFit, AreSound, NeverRound}
 use Rattle.bl_check.specs.Rules.Rule.{OneAnchor, Leftmost, Links, Chains, Children, NoneDead}
 use Rattle.bl_check.specs.Rules.Reaches.{Here, Next}

@@ -4,7 +4,8 @@ use Rattle.std.specs.List.{sum_by, count_by, list_any}
 use Rattle.bl_page.specs.declared.page.Page.{Page}
 use Rattle.bl_page.specs.declared.page.Page.TheVariants.{Anchor, Leaf, Inner, Dead}
 use Rattle.bl_check.specs.declared.report.Report.{Report}
-use Rattle.bl_check.specs.Spans.{page_at, levels, leftmost}
+use Rattle.bl_page.specs.Pages.{page_at}
+use Rattle.bl_check.specs.Spans.{levels, leftmost}
 
 -- how many pairs a leaf has
 abbrev pub rows_in : Option Page → ℕ

@@ -3,7 +3,8 @@ use Rattle.std.specs.Prelude.{◌≡◌, ◌≢◌, ℕ, List, ◌++◌, Option,
 use Rattle.bl_page.specs.declared.page.Leaf.{Leaf}
 use Rattle.bl_page.specs.declared.page.Page.{Page}
 use Rattle.bl_page.specs.declared.page.Page.TheVariants as page
-use Rattle.bl_check.specs.Spans.{page_at, leftmost}
+use Rattle.bl_page.specs.Pages.{page_at}
+use Rattle.bl_check.specs.Spans.{leftmost}
 
 -- the rows of the leaf x, and then those of the leaves to its right; the last has no link
 pub data RowsFrom (pages : List (Option Page)) : ℕ → List (ℕ × ℕ) → Type 0 where

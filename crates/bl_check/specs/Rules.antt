@@ -4,7 +4,8 @@ use Rattle.std.specs.Prelude.{◌≡◌, ◌≢◌, ◌↔◌, ℕ, ◌-◌, ◌
 use Rattle.bl_page.specs.declared.page.Page.{Page}
 use Rattle.bl_page.specs.declared.page.Page.TheVariants.{Anchor, Leaf, Inner, Dead}
 use Rattle.bl_check.specs.declared.span.Span.{Span}
-use Rattle.bl_check.specs.Spans.{page_at, span_at, StandsAt, levels, leftmost}
+use Rattle.bl_page.specs.Pages.{page_at}
+use Rattle.bl_check.specs.Spans.{span_at, StandsAt, levels, leftmost}
 
 abbrev pub is_anchor : Option Page → Bool
 is_anchor None = false

@@ -1,12 +1,9 @@
 -- Live pages and where they stand.
 use Rattle.std.specs.Prelude.{◌≡◌, ℕ, List, Option, Some, None, slice_index_or, IsSomeAnd, length, []}
 use Rattle.bl_page.specs.declared.page.Page.{Page}
+use Rattle.bl_page.specs.Pages.{page_at}
 use Rattle.bl_page.specs.declared.page.Page.TheVariants.{Anchor, Leaf, Inner, Dead}
 use Rattle.bl_check.specs.declared.span.Span.{Span}
-
--- page x: None where it is not in use, and behind the last page
-abbrev pub page_at : List (Option Page) → ℕ → Option Page
-page_at pages x = slice_index_or pages x None
 
 -- A live page is a leaf or an inner page. What it says of its place: its level, its bounds, and the page to its right.
 abbrev pub span_of : Option Page → Option Span

@@ -2,18 +2,18 @@
 //!
 //! Promised to whoever runs it: `serve` writes what is served for what it reads, over a new index or one with the rows of an
 //! image, and by as many workers and compressors as are wanted; `dump` does so too, and its image has the rows of the map after
-//! what was served; and what `bl_commands` promises of `check` and `replay`.
+//! what was served; and what `bl_cli_commands` promises of `check` and `replay`.
 #![tactic(auto)]
 
 ghost use Rattle.std.specs.Prelude.{◌≤◌, IfOk};
-ghost use Rattle.bl_lines.specs.Options.{AreWithin};
+ghost use Rattle.bl_serve_lines.specs.Options.{AreWithin};
 ghost use Rattle.bl_serve.specs.Origins.{HasPages};
 
-use bl_commands::{
+use bl_cli_commands::{
     CommandFault, DumpFault, check_file, load_file, may_replace, replace_file, replay_file,
 };
+use bl_cli_options::{Invocation, ServeOptions, Server, read_words};
 use bl_model::Watched;
-use bl_options::{Invocation, ServeOptions, Server, read_words};
 use bl_serve::{Origin, dump_index, serve_index};
 use clap::Error;
 use clap::error::ErrorKind;

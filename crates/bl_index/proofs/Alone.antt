@@ -11,8 +11,8 @@ use Rattle.bl_model.specs.History.{IsLegalFrom, final_map}
 use Rattle.bl_model.proofs.Histories.{final_map-push, legal_rest, entries_of_pass-own}
 use Rattle.bl_page.specs.declared.page.Page.{Page}
 use Rattle.bl_page.specs.Machine.{Name}
-use Rattle.bl_trails.specs.Trails.{Said, Trail, entries_at, history_of}
-use Rattle.bl_passes.specs.Seeing.{first_map, IsSeen, own, AreWithin}
+use Rattle.bl_claims.specs.Trails.{Said, Trail, entries_at, history_of}
+use Rattle.bl_claims.specs.Seeing.{first_map, IsSeen, own, AreWithin}
 use Rattle.bl_index.specs.declared.index.Index.{Index}
 use Rattle.bl_index.specs.declared.index.Pass.{Pass}
 use Rattle.bl_index.specs.Replies.{reply_of, found_of}
@@ -23,8 +23,8 @@ use Rattle.bl_index.specs.Runs.{IsWithin}
 use Rattle.atomic_table.specs.declared.shared.Seat.{Seat}
 use Rattle.bl_store.specs.declared.view.View.{View}
 use Rattle.bl_store.specs.Hands.{known, IsSameHand}
-use Rattle.bl_passes.specs.declared.known.Mine.{Mine}
-use Rattle.bl_passes.specs.Noting.{trail_of}
+use Rattle.bl_index_rule.specs.declared.known.Mine.{Mine}
+use Rattle.bl_index_rule.specs.Noting.{trail_of}
 
 abbrev OfFirst : Entry → Type 0
 OfFirst e = e.pass ≡ 0

@@ -10,17 +10,17 @@ use Rattle.bl_model.specs.Parts.{next_key}
 use Rattle.bl_page.specs.declared.page.Page.{Page}
 use Rattle.bl_page.specs.Faults.{HasPairs, pairs_of}
 use Rattle.bl_page.specs.Words.{words_of}
-use Rattle.bl_laws.specs.Pages.{IsTreePage, node_of}
-use Rattle.bl_ways.proofs.Spellings.{tree_pairs}
+use Rattle.bl_claims.specs.Pages.{IsTreePage, node_of}
+use Rattle.bl_proc_base.proofs.Spellings.{tree_pairs}
 use Rattle.bl_proc.specs.declared.parts.PartRows.{PartRows}
 use Rattle.bl_proc.specs.Parts.{GoesOnAt}
-use Rattle.bl_courses.proofs.Listings.{part_one}
+use Rattle.bl_proc_unique.proofs.Listings.{part_one}
 use Rattle.bl_store.specs.declared.store.Glance.{Glance}
 use Rattle.bl_store.specs.declared.view.View.{View}
 use Rattle.bl_store.specs.Hands.{known, read_words}
-use Rattle.bl_passes.specs.declared.known.Mine.{Mine}
-use Rattle.bl_passes.specs.Noting.{trail_of}
-use Rattle.bl_passes.specs.Told.{ends}
+use Rattle.bl_index_rule.specs.declared.known.Mine.{Mine}
+use Rattle.bl_index_rule.specs.Noting.{trail_of}
+use Rattle.bl_index_rule.specs.Told.{ends}
 use Rattle.bl_index.specs.declared.scanning.ScanFault.TheVariants.{Memory}
 use Rattle.bl_index.specs.Calls.{Finds}
 use Rattle.bl_index.specs.LeafRows.{rows_from, rows_between}

@@ -15,28 +15,28 @@ use Rattle.bl_page.specs.Machine as machine
 use Rattle.bl_image.specs.Images.{IsCount, IsSpelled, page_words, image_bytes}
 use Rattle.bl_image.proofs.Chunks.{no_kind, pages_words-same}
 use Rattle.bl_check.specs.Rules.{AreSound}
-use Rattle.bl_check.specs.Spans.{page_at}
-use Rattle.bl_tree.proofs.Statuses.{live_live}
-use Rattle.bl_laws.specs.Pages.{IsTreePage}
-use Rattle.bl_trails.specs.Trails.{history_of}
-use Rattle.bl_trails.specs.States.{HasMoments}
-use Rattle.bl_steps.specs.Worlds.{World}
-use Rattle.bl_starts.proofs.WorldLaws.{tree_page}
-use Rattle.bl_quiet.specs.Begins.{IsLeft, AreLeft}
-use Rattle.bl_quiet.proofs.Beginnings.{AllFit}
-use Rattle.bl_quiet.proofs.Opened.{one_list}
-use Rattle.bl_quiet.proofs.Resting.{rests_sound, rests_map}
-use Rattle.bl_tables.specs.Knowing.{Run}
+use Rattle.bl_page.specs.Pages.{page_at}
+use Rattle.bl_core_tree.proofs.Statuses.{live_live}
+use Rattle.bl_claims.specs.Pages.{IsTreePage}
+use Rattle.bl_claims.specs.Trails.{history_of}
+use Rattle.bl_claims.specs.States.{HasMoments}
+use Rattle.bl_core.specs.Worlds.{World}
+use Rattle.bl_core.proofs.WorldLaws.{tree_page}
+use Rattle.bl_check_tree.specs.Begins.{IsLeft, AreLeft}
+use Rattle.bl_check_tree.proofs.Beginnings.{AllFit}
+use Rattle.bl_check_tree.proofs.Opened.{one_list}
+use Rattle.bl_check_tree.proofs.Resting.{rests_sound, rests_map}
+use Rattle.bl_proc_invariant.specs.Knowing.{Run}
 use Rattle.bl_layout.specs.declared.layout.Layout.{Layout}
 use Rattle.bl_store.specs.Pages.{Owner, Released, Open, Held, Retired, Stage as Stands_at, Idle, Running, Stands, IsPage}
 use Rattle.bl_store.specs.Closing.{HasEach, left_of, IsClosed}
 use Rattle.bl_store.specs.Hands.{known, IsOf, IsIdle}
 use Rattle.bl_store.specs.declared.store.Hand.{Hand}
-use Rattle.bl_passes.proofs.Shown.{at_below}
+use Rattle.bl_index_rule.proofs.Shown.{at_below}
 use Rattle.bl_index.proofs.Gathered.{there, one_there, all_there}
-use Rattle.bl_passes.specs.declared.known.Mine.{Mine}
-use Rattle.bl_passes.specs.Seeing.{first_map, BeginsFrom, AreWithin}
-use Rattle.bl_passes.specs.Fitting.{Shows, IsAnchor, IsHand, Fits}
+use Rattle.bl_index_rule.specs.declared.known.Mine.{Mine}
+use Rattle.bl_claims.specs.Seeing.{first_map, BeginsFrom, AreWithin}
+use Rattle.bl_index_rule.specs.Fitting.{Shows, IsAnchor, IsHand, Fits}
 use Rattle.bl_index.specs.declared.index.Index.{Index}
 use Rattle.bl_index.specs.declared.index.Pass.{Pass}
 use Rattle.bl_index.specs.Calls.{pages_of, first_of, IsPassOf, number_of}

@@ -5,18 +5,17 @@ use Rattle.bl_model.specs.declared.operation.Reply.{Reply}
 use Rattle.bl_page.specs.declared.page.Page.{Page}
 use Rattle.bl_page.specs.Machine.{Name, Act}
 use Rattle.bl_page.specs.Machine.Act.{End}
-use Rattle.bl_trails.specs.Trails.{Said, Mark, Trail, DoesAt, entries_at, marks_of}
-use Rattle.bl_trails.proofs.Pushes.{DoesAt-push}
-use Rattle.bl_steps.proofs.Frames.{Each-map}
+use Rattle.bl_claims.specs.Trails.{Said, Mark, Trail, DoesAt, entries_at, marks_of}
+use Rattle.bl_core.proofs.Pushes.{DoesAt-push}
+use Rattle.bl_core.proofs.Frames.{Each-map}
 use Rattle.bl_proc.specs.declared.kinds.Proc.{Proc}
-use Rattle.bl_tables.specs.Knowing.{Run, bare as know}
-use Rattle.bl_bounds.specs.Latches.{OnlyLooks}
-use Rattle.bl_passes.specs.declared.known.Mine.{Mine}
-use Rattle.bl_passes.specs.Noting.{trail_of}
-use Rattle.bl_passes.specs.Seeing.{IsSeen, AreElse, AreOnlyOf, own, Holds}
-use Rattle.bl_passes.specs.Fitting.{name}
-use Rattle.bl_passes.specs.Told.{Steps, Begins, Finishes}
-use Rattle.bl_passes.proofs.Marks.{each_append}
+use Rattle.bl_proc_invariant.specs.Knowing.{Run, bare as know}
+use Rattle.bl_claims.specs.Latches.{OnlyLooks}
+use Rattle.bl_index_rule.specs.declared.known.Mine.{Mine}
+use Rattle.bl_index_rule.specs.Noting.{trail_of}
+use Rattle.bl_claims.specs.Seeing.{IsSeen, AreElse, AreOnlyOf, own, Holds, name}
+use Rattle.bl_index_rule.specs.Told.{Steps, Begins, Finishes}
+use Rattle.bl_index_rule.proofs.Marks.{each_append}
 use Rattle.bl_index.specs.Runs.{IsSince}
 
 -- an event stays where it is when others follow

@@ -5,20 +5,20 @@ use Rattle.bl_model.specs.Rows.{map_of}
 use Rattle.bl_page.specs.declared.page.Page.{Page}
 use Rattle.bl_page.specs.declared.page.Page.TheVariants as page
 use Rattle.bl_page.specs.Words.{words_of}
-use Rattle.bl_laws.specs.Pages.{node_of, IsTreePage}
+use Rattle.bl_claims.specs.Pages.{node_of, IsTreePage}
 use Rattle.bl_rearrange.specs.Entered.{dropped}
 use Rattle.bl_rearrange.specs.Rearranged.{pairs_of, KeepsFrame}
 use Rattle.bl_rearrange.proofs.EnteredLemmas.{RisesFrom-dropped, map_of-dropped}
-use Rattle.bl_ways.specs.declared.acts.Seen.TheVariants as seen
-use Rattle.bl_ways.specs.declared.answers.Hint.{Hint}
-use Rattle.bl_ways.specs.declared.answers.Answer.TheVariants.{Op}
-use Rattle.bl_ways.specs.declared.approaching.Approach.TheVariants as approach
-use Rattle.bl_ways.specs.declared.onwards.Step.TheVariants.{Here}
-use Rattle.bl_ways.specs.declared.changing.Change.TheVariants as change
-use Rattle.bl_ways.specs.declared.changing.Outcome.{Outcome}
-use Rattle.bl_ways.specs.Onwards.{Leads}
-use Rattle.bl_ways.specs.Respelled.{words_by}
-use Rattle.bl_ways.specs.Thin.{thin_low}
+use Rattle.bl_proc_base.specs.declared.acts.Seen.TheVariants as seen
+use Rattle.bl_proc_base.specs.declared.answers.Hint.{Hint}
+use Rattle.bl_proc_base.specs.declared.answers.Answer.TheVariants.{Op}
+use Rattle.bl_proc_base.specs.declared.approaching.Approach.TheVariants as approach
+use Rattle.bl_proc_base.specs.declared.onwards.Step.TheVariants.{Here}
+use Rattle.bl_proc_base.specs.declared.changing.Change.TheVariants as change
+use Rattle.bl_proc_base.specs.declared.changing.Outcome.{Outcome}
+use Rattle.bl_proc_base.specs.Onwards.{Leads}
+use Rattle.bl_proc_base.specs.Respelled.{words_by}
+use Rattle.bl_proc_base.specs.Thin.{thin_low}
 use Rattle.bl_proc.specs.declared.deleting.Delete.{Delete}
 use Rattle.bl_proc.specs.declared.deleting.Removed.{Removed}
 use Rattle.bl_proc.specs.declared.deleting.DeleteStage.{DeleteStage}
@@ -29,13 +29,13 @@ use Rattle.bl_proc.specs.declared.kinds.Proc.{Proc}
 use Rattle.bl_proc.specs.declared.kinds.Proc.TheVariants as proc
 use Rattle.bl_proc.specs.Deletes.{delete_reply, deleted_answer, DeleteGoes}
 use Rattle.bl_proc.specs.Processes.{Takes}
-use Rattle.bl_courses.specs.Courses.{GoesOn}
-use Rattle.bl_courses.proofs.Rows.{rows_one}
-use Rattle.bl_courses.proofs.Pages.{without_some, rising}
-use Rattle.bl_courses.proofs.Leaves.{leaf_covers, leaf_loses}
-use Rattle.bl_courses.proofs.Deletions.{delete_goes}
-use Rattle.bl_passes.specs.declared.known.Mine.{Mine}
-use Rattle.bl_passes.specs.Told.{Goes}
+use Rattle.bl_proc_unique.specs.Courses.{GoesOn}
+use Rattle.bl_proc_unique.proofs.Rows.{rows_one}
+use Rattle.bl_proc_unique.proofs.Pages.{without_some, rising}
+use Rattle.bl_proc_unique.proofs.Leaves.{leaf_covers, leaf_loses}
+use Rattle.bl_proc_unique.proofs.Deletions.{delete_goes}
+use Rattle.bl_index_rule.specs.declared.known.Mine.{Mine}
+use Rattle.bl_index_rule.specs.Told.{Goes}
 use Rattle.bl_index.specs.Runs.{IsDone}
 use Rattle.bl_index.specs.Events.{OpensLast, HasDeleted}
 use Rattle.bl_index.proofs.Standing.{put_gave, goes_to, course_at}

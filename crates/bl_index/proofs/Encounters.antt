@@ -1,8 +1,8 @@
 -- Two passes that have learned of each other, one after the other.
 use Rattle.std.proofs.Common.{ℕ, List, Option, ◌≡◌, sym, ap, ◌∙◌, subst}
 use Rattle.bl_page.specs.declared.page.Page.{Page}
-use Rattle.bl_trails.specs.Trails.{Trail}
-use Rattle.bl_passes.specs.Seeing.{IsSeen, own}
+use Rattle.bl_claims.specs.Trails.{Trail}
+use Rattle.bl_claims.specs.Seeing.{IsSeen, own}
 use Rattle.bl_index.specs.Meetings.{Learns, Meet}
 
 -- one learned, two was told then, and neither forgot

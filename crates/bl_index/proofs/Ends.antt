@@ -5,18 +5,18 @@ use Rattle.bl_model.specs.declared.operation.Op.TheVariants as op
 use Rattle.bl_model.specs.declared.operation.Reply.{Reply}
 use Rattle.bl_model.specs.declared.operation.Reply.TheVariants.{Rows}
 use Rattle.bl_page.specs.declared.page.Page.{Page}
-use Rattle.bl_trails.specs.Trails.{marks_of}
-use Rattle.bl_ways.specs.declared.acts.Action.TheVariants as act
-use Rattle.bl_ways.specs.declared.acts.Seen.TheVariants as seen
-use Rattle.bl_ways.specs.declared.answers.Hint.{Hint}
-use Rattle.bl_ways.specs.declared.answers.Answer.{Answer}
-use Rattle.bl_ways.specs.declared.answers.Answer.TheVariants.{Op}
-use Rattle.bl_ways.specs.declared.approaching.Approach.{Approach}
-use Rattle.bl_ways.specs.declared.approaching.Approach.TheVariants as way
-use Rattle.bl_ways.specs.declared.changing.Change.{Change}
-use Rattle.bl_ways.specs.declared.changing.Change.TheVariants as change
-use Rattle.bl_ways.specs.Approaches.{approach_next}
-use Rattle.bl_ways.specs.Changes.{change_next}
+use Rattle.bl_claims.specs.Trails.{marks_of}
+use Rattle.bl_proc_base.specs.declared.acts.Action.TheVariants as act
+use Rattle.bl_proc_base.specs.declared.acts.Seen.TheVariants as seen
+use Rattle.bl_proc_base.specs.declared.answers.Hint.{Hint}
+use Rattle.bl_proc_base.specs.declared.answers.Answer.{Answer}
+use Rattle.bl_proc_base.specs.declared.answers.Answer.TheVariants.{Op}
+use Rattle.bl_proc_base.specs.declared.approaching.Approach.{Approach}
+use Rattle.bl_proc_base.specs.declared.approaching.Approach.TheVariants as way
+use Rattle.bl_proc_base.specs.declared.changing.Change.{Change}
+use Rattle.bl_proc_base.specs.declared.changing.Change.TheVariants as change
+use Rattle.bl_proc_base.specs.Approaches.{approach_next}
+use Rattle.bl_proc_base.specs.Changes.{change_next}
 use Rattle.bl_proc.specs.declared.inserting.InsertStage.{InsertStage}
 use Rattle.bl_proc.specs.declared.inserting.InsertStage.TheVariants as insert
 use Rattle.bl_proc.specs.declared.inserting.InsertReply.{InsertReply}
@@ -37,14 +37,13 @@ use Rattle.bl_proc.specs.Deletes.{deleted_answer, delete_next_in, delete_answer_
 use Rattle.bl_proc.specs.Searches.{found_answer, find_next_in, find_answer_in, FindGoes}
 use Rattle.bl_proc.specs.Parts.{part_next_in, part_answer_in, PartGoes}
 use Rattle.bl_proc.specs.Processes.{next_of, answer_of, Takes}
-use Rattle.bl_tables.specs.Hinted.{MeansBeside}
-use Rattle.bl_tables.proofs.Beside.{beside_means}
-use Rattle.bl_tables.specs.Knowing.{Run, bare as know, know_of, inserted_reply, deleted_reply, found_reply, know_find, know_part, know_insert, know_delete, find_end, part_end, insert_end, delete_end, end_of_proc}
-use Rattle.bl_courses.specs.Frames.{op_of}
-use Rattle.bl_passes.specs.declared.known.Mine.{Mine}
-use Rattle.bl_passes.specs.Noting.{trail_of}
-use Rattle.bl_passes.specs.Seeing.{Holds}
-use Rattle.bl_passes.specs.Fitting.{name}
+use Rattle.bl_proc_invariant.specs.Beside.{MeansBeside}
+use Rattle.bl_proc_invariant.proofs.Beside.{beside_means}
+use Rattle.bl_proc_invariant.specs.Knowing.{Run, bare as know, know_of, inserted_reply, deleted_reply, found_reply, know_find, know_part, know_insert, know_delete, find_end, part_end, insert_end, delete_end, end_of_proc}
+use Rattle.bl_proc_unique.specs.Frames.{op_of}
+use Rattle.bl_index_rule.specs.declared.known.Mine.{Mine}
+use Rattle.bl_index_rule.specs.Noting.{trail_of}
+use Rattle.bl_claims.specs.Seeing.{Holds, name}
 use Rattle.bl_index.specs.Calls.{Answers}
 use Rattle.bl_index.specs.Runs.{IsDone}
 use Rattle.bl_index.proofs.Calls.{since_end, since_said, end_seen}

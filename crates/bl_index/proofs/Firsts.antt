@@ -11,13 +11,13 @@ use Rattle.bl_page.specs.Words.{words_of}
 use Rattle.bl_store.specs.Opening.{first_pages, IsDealt}
 use Rattle.bl_store.specs.declared.view.View.{View}
 use Rattle.bl_store.specs.Frames.{share}
-use Rattle.bl_passes.specs.Fitting.{beginner, newcomer, Fits}
-use Rattle.bl_passes.proofs.Bounds.{first_anchor}
-use Rattle.bl_passes.proofs.Starts.{first_leaf, starts}
+use Rattle.bl_index_rule.specs.Fitting.{beginner, newcomer, Fits}
+use Rattle.bl_index_rule.proofs.Bounds.{first_anchor}
+use Rattle.bl_index_rule.proofs.Starts.{first_leaf, starts}
 use Rattle.bl_store.specs.declared.store.Hand.{Hand}
-use Rattle.bl_passes.specs.declared.known.Mine.{Mine}
-use Rattle.bl_passes.specs.Noting.{trail_of}
-use Rattle.bl_passes.specs.Seeing.{IsSeen}
+use Rattle.bl_index_rule.specs.declared.known.Mine.{Mine}
+use Rattle.bl_index_rule.specs.Noting.{trail_of}
+use Rattle.bl_claims.specs.Seeing.{IsSeen}
 use Rattle.bl_index.specs.declared.index.Index.{Index}
 use Rattle.bl_index.specs.declared.index.Pass.{Pass}
 use Rattle.bl_index.specs.Calls.{first_of}

@@ -5,9 +5,9 @@ use Rattle.std.proofs.lemmas.List.{length-append}
 use mathlib.Core.Option.{some, some-injective}
 use lib.ListN.{get_elem?}
 use Rattle.atomic_table.proofs.Lists.{at_longer, at_last}
-use Rattle.bl_passes.proofs.Shown.{at_below}
+use Rattle.bl_index_rule.proofs.Shown.{at_below}
 use Rattle.bl_store.specs.declared.store.Hand.{Hand}
-use Rattle.bl_passes.specs.declared.known.Mine.{Mine}
+use Rattle.bl_index_rule.specs.declared.known.Mine.{Mine}
 use Rattle.bl_index.specs.declared.index.Pass.{Pass}
 use Rattle.bl_index.specs.Calls.{number_of}
 use Rattle.bl_index.specs.Closed.{HasPass, IsHandOf, IsAmong}

@@ -2,15 +2,15 @@
 use Rattle.std.proofs.Common.{ℕ, ◌≡◌, ◌⊎◌, None, Some, List, [], refl, inl, inr, subst}
 use Rattle.bl_page.specs.Machine.{Phase}
 use Rattle.bl_page.specs.declared.page.Page.{Page}
-use Rattle.bl_steps.specs.Worlds.{Hold, Stage, Know, HoldsPage, IsStage}
-use Rattle.bl_ways.specs.declared.approaching.Approach.{Approach}
-use Rattle.bl_ways.specs.declared.approaching.Approach.TheVariants as approach
-use Rattle.bl_ways.specs.declared.changing.Change.{Change}
-use Rattle.bl_ways.specs.declared.changing.Change.TheVariants as change
-use Rattle.bl_ways.specs.declared.growing.Growth.{Growth}
-use Rattle.bl_ways.specs.declared.growing.Growth.TheVariants as growth
-use Rattle.bl_compress.specs.declared.squeezing.CompressStage.{CompressStage}
-use Rattle.bl_compress.specs.declared.squeezing.CompressStage.TheVariants as compress
+use Rattle.bl_core.specs.Worlds.{Hold, Stage, Know, HoldsPage, IsStage}
+use Rattle.bl_proc_base.specs.declared.approaching.Approach.{Approach}
+use Rattle.bl_proc_base.specs.declared.approaching.Approach.TheVariants as approach
+use Rattle.bl_proc_base.specs.declared.changing.Change.{Change}
+use Rattle.bl_proc_base.specs.declared.changing.Change.TheVariants as change
+use Rattle.bl_proc_base.specs.declared.growing.Growth.{Growth}
+use Rattle.bl_proc_base.specs.declared.growing.Growth.TheVariants as growth
+use Rattle.bl_proc_compress.specs.declared.squeezing.CompressStage.{CompressStage}
+use Rattle.bl_proc_compress.specs.declared.squeezing.CompressStage.TheVariants as compress
 use Rattle.bl_proc.specs.declared.searching.FindStage.{FindStage}
 use Rattle.bl_proc.specs.declared.searching.FindStage.TheVariants as find
 use Rattle.bl_proc.specs.declared.inserting.InsertStage.{InsertStage}
@@ -25,11 +25,11 @@ use Rattle.bl_proc.specs.declared.reclaiming.ReclaimStage.{ReclaimStage}
 use Rattle.bl_proc.specs.declared.reclaiming.ReclaimStage.TheVariants as reclaim
 use Rattle.bl_proc.specs.declared.kinds.Proc.{Proc}
 use Rattle.bl_proc.specs.declared.kinds.Proc.TheVariants as proc
-use Rattle.bl_tables.specs.Tables.{Aim, know_approach, know_change}
-use Rattle.bl_tables.specs.Compressing.{know_squeeze}
-use Rattle.bl_tables.specs.Knowing.{Run, know, know_of, know_find, know_part, know_insert, know_delete, know_growth, know_post, know_compress, know_reclaim}
-use Rattle.bl_compress.specs.declared.compressing.Compression.{Compression}
-use Rattle.bl_compress.specs.declared.compressing.Compression.TheVariants as compression
+use Rattle.bl_proc_invariant.specs.Tables.{Aim, know_approach, know_change}
+use Rattle.bl_proc_invariant.specs.Compressing.{know_squeeze}
+use Rattle.bl_proc_invariant.specs.Knowing.{Run, know, know_of, know_find, know_part, know_insert, know_delete, know_growth, know_post, know_compress, know_reclaim}
+use Rattle.bl_proc_compress.specs.declared.compressing.Compression.{Compression}
+use Rattle.bl_proc_compress.specs.declared.compressing.Compression.TheVariants as compression
 
 -- it runs, or holds nothing
 abbrev MayHold : Know → Type 0

@@ -3,19 +3,19 @@ use Rattle.std.proofs.Common.{ℕ, Bool, true, false, ◌≡◌, ◌<◌, ◌≤
 use Rattle.bl_page.specs.declared.page.Page.{Page}
 use Rattle.bl_page.specs.declared.page.Page.TheVariants as page
 use Rattle.bl_page.specs.Words.{head, layout, entries_of, words_of}
-use Rattle.bl_laws.specs.Pages.{node_of}
+use Rattle.bl_claims.specs.Pages.{node_of}
 use Rattle.bl_rearrange.specs.Entered.{entered}
 use Rattle.bl_rearrange.specs.Rearranged.{pairs_of, KeepsFrame}
 use Rattle.bl_rearrange.proofs.EnteredLemmas.{RisesFrom-entered, map_of-entered}
-use Rattle.bl_ways.specs.declared.acts.Seen.TheVariants as seen
-use Rattle.bl_ways.specs.declared.approaching.Approach.TheVariants as approach
-use Rattle.bl_ways.specs.declared.onwards.Step.TheVariants.{Here}
-use Rattle.bl_ways.specs.declared.changing.Change.TheVariants as change
-use Rattle.bl_ways.specs.declared.changing.Full.{Full}
-use Rattle.bl_ways.specs.declared.changing.Outcome.{Outcome}
-use Rattle.bl_ways.specs.declared.changing.Outcome.TheVariants as outcome
-use Rattle.bl_ways.specs.Onwards.{Leads}
-use Rattle.bl_ways.specs.Respelled.{words_by}
+use Rattle.bl_proc_base.specs.declared.acts.Seen.TheVariants as seen
+use Rattle.bl_proc_base.specs.declared.approaching.Approach.TheVariants as approach
+use Rattle.bl_proc_base.specs.declared.onwards.Step.TheVariants.{Here}
+use Rattle.bl_proc_base.specs.declared.changing.Change.TheVariants as change
+use Rattle.bl_proc_base.specs.declared.changing.Full.{Full}
+use Rattle.bl_proc_base.specs.declared.changing.Outcome.{Outcome}
+use Rattle.bl_proc_base.specs.declared.changing.Outcome.TheVariants as outcome
+use Rattle.bl_proc_base.specs.Onwards.{Leads}
+use Rattle.bl_proc_base.specs.Respelled.{words_by}
 use Rattle.bl_proc.specs.declared.inserting.Insert.{Insert}
 use Rattle.bl_proc.specs.declared.inserting.InsertStage.{InsertStage}
 use Rattle.bl_proc.specs.declared.inserting.InsertStage.TheVariants as insert
@@ -25,16 +25,16 @@ use Rattle.bl_proc.specs.declared.kinds.Proc.{Proc}
 use Rattle.bl_proc.specs.declared.kinds.Proc.TheVariants as proc
 use Rattle.bl_proc.specs.Inserts.{insert_reply, inserted_answer, InsertGoes}
 use Rattle.bl_proc.specs.Processes.{Takes}
-use Rattle.bl_courses.specs.Courses.{GoesOn}
-use Rattle.bl_courses.proofs.Rows.{rows_one}
-use Rattle.bl_courses.proofs.Pages.{fits_some, rising}
-use Rattle.bl_courses.proofs.Leaves.{leaf_covers, leaf_lists, leaf_holds}
-use Rattle.bl_courses.proofs.Insertions.{insert_goes}
+use Rattle.bl_proc_unique.specs.Courses.{GoesOn}
+use Rattle.bl_proc_unique.proofs.Rows.{rows_one}
+use Rattle.bl_proc_unique.proofs.Pages.{fits_some, rising}
+use Rattle.bl_proc_unique.proofs.Leaves.{leaf_covers, leaf_lists, leaf_holds}
+use Rattle.bl_proc_unique.proofs.Insertions.{insert_goes}
 use Rattle.bl_model.specs.declared.operation.Reply.{Reply}
-use Rattle.bl_ways.specs.declared.answers.Hint.{Hint}
-use Rattle.bl_ways.specs.declared.answers.Answer.TheVariants.{Op}
-use Rattle.bl_passes.specs.declared.known.Mine.{Mine}
-use Rattle.bl_passes.specs.Told.{Goes}
+use Rattle.bl_proc_base.specs.declared.answers.Hint.{Hint}
+use Rattle.bl_proc_base.specs.declared.answers.Answer.TheVariants.{Op}
+use Rattle.bl_index_rule.specs.declared.known.Mine.{Mine}
+use Rattle.bl_index_rule.specs.Told.{Goes}
 use Rattle.bl_index.specs.Runs.{IsDone}
 use Rattle.bl_index.specs.Events.{OpensLast, HasInserted}
 use Rattle.bl_index.proofs.Standing.{put_gave, goes_to, course_at}

@@ -8,26 +8,26 @@ use Rattle.std.proofs.Math.ListN.{length-set}
 use Rattle.atomic_table.proofs.Lists.{at_set, set_else}
 use Rattle.bl_page.specs.declared.page.Page.{Page}
 use Rattle.bl_page.specs.Machine.{Name}
-use Rattle.bl_trails.specs.Trails.{Mark, Trail, marks_of}
-use Rattle.bl_steps.specs.Worlds.{World}
-use Rattle.bl_laws.specs.Walks.{Each}
-use Rattle.bl_steps.proofs.Frames.{Each-map}
+use Rattle.bl_claims.specs.Trails.{Mark, Trail, marks_of}
+use Rattle.bl_core.specs.Worlds.{World}
+use Rattle.bl_claims.specs.Walks.{Each}
+use Rattle.bl_core.proofs.Frames.{Each-map}
 use Rattle.bl_proc.specs.declared.kinds.Proc.{Proc}
-use Rattle.bl_tables.specs.Knowing.{Run}
-use Rattle.bl_tables.specs.Logs.{proc_log}
-use Rattle.bl_tables.proofs.Middles.{KeepsLogs}
+use Rattle.bl_proc_invariant.specs.Knowing.{Run}
+use Rattle.bl_proc_invariant.specs.Logs.{proc_log}
+use Rattle.bl_proc_invariant.proofs.Middles.{KeepsLogs}
 use Rattle.bl_layout.specs.declared.layout.Layout.{Layout}
 use Rattle.bl_store.specs.Pages.{Stage, Idle, Running, Pages, Stands, told, Meets}
-use Rattle.bl_passes.specs.declared.known.Mine.{Mine}
-use Rattle.bl_passes.specs.Noting.{trail_of, all_noted}
-use Rattle.bl_passes.specs.Seeing.{IsSeen, AreWithin, AreElse, own, GoesOnFrom}
-use Rattle.bl_passes.specs.Fitting.{name, AreUpTo, IsAtStage, IsHand, IsRun, Fits}
-use Rattle.bl_passes.proofs.Notings.{trail_back}
-use Rattle.bl_passes.proofs.Entries.{own-other}
-use Rattle.bl_passes.proofs.Marks.{each_append}
-use Rattle.bl_passes.proofs.Sights.{world_seen}
-use Rattle.bl_passes.proofs.Shown.{same_owner, set_there}
-use Rattle.bl_passes.proofs.Runners.{one_hand}
+use Rattle.bl_index_rule.specs.declared.known.Mine.{Mine}
+use Rattle.bl_index_rule.specs.Noting.{trail_of, all_noted}
+use Rattle.bl_claims.specs.Seeing.{IsSeen, AreWithin, AreElse, own, GoesOnFrom, name}
+use Rattle.bl_index_rule.specs.Fitting.{AreUpTo, IsAtStage, IsHand, IsRun, Fits}
+use Rattle.bl_index_rule.proofs.Notings.{trail_back}
+use Rattle.bl_index_rule.proofs.Entries.{own-other}
+use Rattle.bl_index_rule.proofs.Marks.{each_append}
+use Rattle.bl_index_rule.proofs.Sights.{world_seen}
+use Rattle.bl_index_rule.proofs.Shown.{same_owner, set_there}
+use Rattle.bl_index_rule.proofs.Runners.{one_hand}
 use Rattle.bl_index.specs.Meetings.{learned, heard}
 
 -- ---- events of other passes

@@ -6,30 +6,31 @@ use Rattle.bl_model.specs.declared.operation.Op.TheVariants as op
 use Rattle.bl_model.specs.declared.operation.Reply.TheVariants.{Rows}
 use Rattle.bl_page.specs.declared.page.Page.{Page}
 use Rattle.bl_page.specs.Words.{words_of}
-use Rattle.bl_laws.specs.Pages.{roots_of}
-use Rattle.bl_ways.specs.declared.acts.Seen.TheVariants as seen
-use Rattle.bl_ways.specs.declared.onwards.Step.{Step}
-use Rattle.bl_ways.specs.declared.onwards.Step.TheVariants.{Again, Right, Down, Here}
-use Rattle.bl_ways.specs.Onwards.{Leads, top_of}
+use Rattle.bl_claims.specs.Pages.{roots_of}
+use Rattle.bl_proc_base.specs.declared.acts.Seen.TheVariants as seen
+use Rattle.bl_proc_base.specs.declared.onwards.Step.{Step}
+use Rattle.bl_proc_base.specs.declared.onwards.Step.TheVariants.{Again, Right, Down, Here}
+use Rattle.bl_proc_base.specs.Onwards.{Leads, top_of}
 use Rattle.bl_proc.specs.declared.kinds.Proc.{Proc}
 use Rattle.bl_proc.specs.declared.parts.PartRows.{PartRows}
 use Rattle.bl_proc.specs.declared.parts.PartStage.{PartStage}
 use Rattle.bl_proc.specs.declared.parts.PartStage.TheVariants.{AtAnchor, At, Ending, Over}
 use Rattle.bl_proc.specs.Processes.{Takes}
-use Rattle.bl_bounds.specs.Latches.{OnlyLooks, IsTidy}
-use Rattle.bl_bounds.specs.Searches.{IsSearch, IsUnderWay}
-use Rattle.bl_tables.specs.Knowing.{end_of_proc}
-use Rattle.bl_courses.specs.Courses.{GoesOn}
-use Rattle.bl_courses.proofs.Parts.{part_goes}
-use Rattle.bl_courses.proofs.Listings.{part_some}
-use Rattle.bl_trails.specs.Trails.{marks_of}
+use Rattle.bl_claims.specs.Latches.{OnlyLooks}
+use Rattle.bl_proc_bounds.specs.Latches.{IsTidy}
+use Rattle.bl_proc_bounds.specs.Searches.{IsSearch, IsUnderWay}
+use Rattle.bl_proc_invariant.specs.Knowing.{end_of_proc}
+use Rattle.bl_proc_unique.specs.Courses.{GoesOn}
+use Rattle.bl_proc_unique.proofs.Parts.{part_goes}
+use Rattle.bl_proc_unique.proofs.Listings.{part_some}
+use Rattle.bl_claims.specs.Trails.{marks_of}
 use Rattle.bl_store.specs.declared.store.Glance.{Glance}
 use Rattle.bl_store.specs.declared.view.View.{View}
 use Rattle.bl_store.specs.Hands.{known, read_words, ReadsFrom}
-use Rattle.bl_passes.specs.declared.known.Mine.{Mine}
-use Rattle.bl_passes.specs.Noting.{trail_of}
-use Rattle.bl_passes.specs.Fitting.{name}
-use Rattle.bl_passes.specs.Told.{Finishes, Goes, MayGiveUp, ends}
+use Rattle.bl_index_rule.specs.declared.known.Mine.{Mine}
+use Rattle.bl_index_rule.specs.Noting.{trail_of}
+use Rattle.bl_claims.specs.Seeing.{name}
+use Rattle.bl_index_rule.specs.Told.{Finishes, Goes, MayGiveUp, ends}
 use Rattle.bl_index.specs.declared.listing.Ahead.{Ahead}
 use Rattle.bl_index.specs.declared.listing.Ahead.TheVariants as ahead
 use Rattle.bl_index.specs.declared.listing.Reached.{Reached}

@@ -5,21 +5,20 @@ use Rattle.bl_model.specs.declared.operation.Reply.{Reply}
 use Rattle.bl_page.specs.declared.page.Page.{Page}
 use Rattle.bl_page.specs.Machine.{Name, Act}
 use Rattle.bl_page.specs.Machine.Act.{Begin, End, Get}
-use Rattle.bl_trails.specs.Trails.{Mark, Trail, DoesAt}
-use Rattle.bl_trails.proofs.Pushes.{DoesAt-last}
-use Rattle.bl_laws.specs.Walks.{Each}
-use Rattle.bl_steps.proofs.Frames.{Each-map}
+use Rattle.bl_claims.specs.Trails.{Mark, Trail, DoesAt}
+use Rattle.bl_core.proofs.Pushes.{DoesAt-last}
+use Rattle.bl_claims.specs.Walks.{Each}
+use Rattle.bl_core.proofs.Frames.{Each-map}
 use Rattle.bl_proc.specs.declared.kinds.Proc.{Proc}
-use Rattle.bl_bounds.specs.Bounds.{gets_in, gets_by, gets_of, IsWithinBound, IsBelowBound}
-use Rattle.bl_bounds.specs.Searches.{IsSearch, IsUnderWay}
-use Rattle.bl_bounds.proofs.Counts.{since_first, own_gets, own_gets_own, gets_on}
-use Rattle.bl_bounds.proofs.Others.{others_get, Quiet, quiet, quiet_below}
-use Rattle.bl_passes.specs.declared.known.Mine.{Mine}
-use Rattle.bl_passes.specs.Noting.{trail_of}
-use Rattle.bl_passes.specs.Seeing.{AreElse}
-use Rattle.bl_passes.specs.Fitting.{name}
-use Rattle.bl_passes.specs.Told.{Notes, Steps, Begins, Finishes}
-use Rattle.bl_passes.proofs.Marks.{each_append}
+use Rattle.bl_claims.specs.Bounds.{gets_in, gets_by, gets_of, IsWithinBound, IsBelowBound}
+use Rattle.bl_proc_bounds.specs.Searches.{IsSearch, IsUnderWay}
+use Rattle.bl_proc_bounds.proofs.Counts.{since_first, own_gets, own_gets_own, gets_on}
+use Rattle.bl_proc_bounds.proofs.Others.{others_get, Quiet, quiet, quiet_below}
+use Rattle.bl_index_rule.specs.declared.known.Mine.{Mine}
+use Rattle.bl_index_rule.specs.Noting.{trail_of}
+use Rattle.bl_claims.specs.Seeing.{AreElse, name}
+use Rattle.bl_index_rule.specs.Told.{Notes, Steps, Begins, Finishes}
+use Rattle.bl_index_rule.proofs.Marks.{each_append}
 use Rattle.bl_index.specs.Runs.{IsAtTurn, IsAtLast}
 use Rattle.bl_index.proofs.Calls.{does_on}
 

@@ -3,21 +3,21 @@ use Rattle.std.proofs.Common.{ℕ, zero, suc, List, ◌≡◌, ◌≢◌, ◌-�
 use Rattle.bl_page.specs.declared.page.Page.{Page}
 use Rattle.bl_page.specs.declared.page.Page.TheVariants as page
 use Rattle.bl_page.specs.Words.{words_of}
-use Rattle.bl_laws.specs.Pages.{node_of}
+use Rattle.bl_claims.specs.Pages.{node_of}
 use Rattle.bl_rearrange.specs.Entered.{entered}
 use Rattle.bl_rearrange.specs.Rearranged.{pairs_of}
 use Rattle.bl_rearrange.proofs.EnteredLemmas.{RisesFrom-entered, map_of-entered}
-use Rattle.bl_ways.specs.declared.acts.Seen.TheVariants as seen
-use Rattle.bl_ways.specs.declared.approaching.Approach.TheVariants as approach
-use Rattle.bl_ways.specs.declared.changing.Change.{Change}
-use Rattle.bl_ways.specs.declared.changing.Change.TheVariants as change
-use Rattle.bl_ways.specs.declared.changing.Full.{Full}
-use Rattle.bl_ways.specs.declared.changing.Outcome.{Outcome}
-use Rattle.bl_ways.specs.declared.changing.Outcome.TheVariants as outcome
-use Rattle.bl_ways.specs.declared.onwards.Step.{Step}
-use Rattle.bl_ways.specs.declared.onwards.Step.TheVariants.{Right, Down, Here}
-use Rattle.bl_ways.specs.Onwards.{Leads}
-use Rattle.bl_ways.specs.Respelled.{words_by}
+use Rattle.bl_proc_base.specs.declared.acts.Seen.TheVariants as seen
+use Rattle.bl_proc_base.specs.declared.approaching.Approach.TheVariants as approach
+use Rattle.bl_proc_base.specs.declared.changing.Change.{Change}
+use Rattle.bl_proc_base.specs.declared.changing.Change.TheVariants as change
+use Rattle.bl_proc_base.specs.declared.changing.Full.{Full}
+use Rattle.bl_proc_base.specs.declared.changing.Outcome.{Outcome}
+use Rattle.bl_proc_base.specs.declared.changing.Outcome.TheVariants as outcome
+use Rattle.bl_proc_base.specs.declared.onwards.Step.{Step}
+use Rattle.bl_proc_base.specs.declared.onwards.Step.TheVariants.{Right, Down, Here}
+use Rattle.bl_proc_base.specs.Onwards.{Leads}
+use Rattle.bl_proc_base.specs.Respelled.{words_by}
 use Rattle.bl_proc.specs.declared.kinds.Proc.{Proc}
 use Rattle.bl_proc.specs.declared.posting.PostStage.{PostStage}
 use Rattle.bl_proc.specs.declared.posting.PostStage.TheVariants as post
@@ -28,20 +28,20 @@ use Rattle.bl_proc.specs.Levels.{IsBelowTop, IsBelowTop-prop, MayReply}
 use Rattle.bl_proc.specs.Posts.{post_reply, IsLost, PostGoes, PostWalks}
 use Rattle.bl_proc.specs.Processes.{Takes}
 use Rattle.bl_proc.proofs.Named.{listed-child}
-use Rattle.bl_courses.specs.Frames.{work_of}
-use Rattle.bl_courses.proofs.Changes.{enter_one}
-use Rattle.bl_courses.proofs.Onwards.{leads_one, child_of, right_small}
-use Rattle.bl_courses.proofs.Pages.{fits_some, rising}
-use Rattle.bl_courses.proofs.Posts.{post_goes}
-use Rattle.bl_courses.proofs.Rows.{rows_one}
+use Rattle.bl_proc_unique.specs.Frames.{work_of}
+use Rattle.bl_proc_unique.proofs.Changes.{enter_one}
+use Rattle.bl_proc_unique.proofs.Onwards.{leads_one, child_of, right_small}
+use Rattle.bl_proc_unique.proofs.Pages.{fits_some, rising}
+use Rattle.bl_proc_unique.proofs.Posts.{post_goes}
+use Rattle.bl_proc_unique.proofs.Rows.{rows_one}
 use Rattle.bl_index.specs.declared.errands.Posting.{Posting}
 use Rattle.atomic_table.specs.declared.shared.Seat.{Seat}
 use Rattle.bl_layout.specs.declared.layout.Layout.{Layout}
 use Rattle.bl_store.specs.declared.view.View.{View}
 use Rattle.bl_store.specs.Hands.{known}
-use Rattle.bl_ways.specs.declared.answers.Hint.{Hint}
-use Rattle.bl_ways.specs.declared.answers.Posted.{Posted}
-use Rattle.bl_passes.specs.declared.known.Mine.{Mine}
+use Rattle.bl_proc_base.specs.declared.answers.Hint.{Hint}
+use Rattle.bl_proc_base.specs.declared.answers.Posted.{Posted}
+use Rattle.bl_index_rule.specs.declared.known.Mine.{Mine}
 use Rattle.bl_index.specs.Events.{posting, IsSameProcess, IsToEnter, IsWalking, HasPosted, IsPostOver, OpensLast}
 use Rattle.bl_index.proofs.Standing.{same_all}
 use Rattle.bl_index.proofs.Inserted.{spelled_by}

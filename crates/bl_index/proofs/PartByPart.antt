@@ -12,9 +12,9 @@ use Rattle.bl_model.specs.declared.operation.Reply.{Reply}
 use Rattle.bl_model.specs.declared.operation.Reply.TheVariants.{Rows}
 use Rattle.bl_model.specs.Map.{Map, MayAnswer}
 use Rattle.bl_model.specs.Rows.{HasRisingKeys}
-use Rattle.bl_trails.specs.Trails.{Trail, history_of, entries_at}
+use Rattle.bl_claims.specs.Trails.{Trail, history_of, entries_at}
 use Rattle.bl_page.specs.declared.page.Page.{Page}
-use Rattle.bl_passes.specs.Seeing.{first_map, own}
+use Rattle.bl_claims.specs.Seeing.{first_map, own}
 use Rattle.bl_index.specs.declared.scanning.ScanFault.{ScanFault}
 use Rattle.bl_index.specs.Calls.{Finds}
 use Rattle.bl_index.specs.Scans.{IsBelow, is_below, rows_below, AreParts, AreCalls, Scans, IsOver, EndsScan, MayScan, AppendsPart, left_from}

@@ -11,18 +11,18 @@ use Rattle.bl_page.specs.Pairs.{RisesFrom, AllWithin, IsWithin, IsChild, end_of,
 use Rattle.bl_page.specs.Words.{head, layout, entries_of, words_of}
 use Rattle.bl_page.specs.Faults.{pairs_of as pairs_in_words}
 use Rattle.bl_page.proofs.Once.{rows_again, children_again}
-use Rattle.bl_laws.specs.Pages.{IsTreePage}
+use Rattle.bl_claims.specs.Pages.{IsTreePage}
 use Rattle.bl_rearrange.specs.Entered.{entered, AreHalves}
 use Rattle.bl_rearrange.specs.declared.fitted.Fitted.TheVariants.{Split}
 use Rattle.bl_rearrange.specs.Rearranged.{pairs_of, MayHold, IsFitted}
 use Rattle.bl_rearrange.proofs.EnteredLemmas.{length-entered}
 use Rattle.bl_rearrange.proofs.Parts.{halves_are}
-use Rattle.bl_ways.specs.declared.acts.Seen.TheVariants as seen
-use Rattle.bl_ways.specs.declared.changing.Full.{Full}
-use Rattle.bl_ways.specs.declared.changing.Change.TheVariants as change
-use Rattle.bl_ways.specs.declared.changing.Changed.TheVariants as changed
-use Rattle.bl_ways.specs.Changes.{Changes}
-use Rattle.bl_ways.proofs.Shifts.{padded, length-entries, entered-below, entered-key, entered-word, entered-above}
+use Rattle.bl_proc_base.specs.declared.acts.Seen.TheVariants as seen
+use Rattle.bl_proc_base.specs.declared.changing.Full.{Full}
+use Rattle.bl_proc_base.specs.declared.changing.Change.TheVariants as change
+use Rattle.bl_proc_base.specs.declared.changing.Changed.TheVariants as changed
+use Rattle.bl_proc_base.specs.Changes.{Changes}
+use Rattle.bl_proc_base.proofs.Shifts.{padded, length-entries, entered-below, entered-key, entered-word, entered-above}
 use Rattle.bl_index.specs.Halves.{AreSpread, AreParts}
 
 -- a page without entries

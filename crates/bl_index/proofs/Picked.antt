@@ -14,12 +14,12 @@ use Rattle.bl_page.specs.Faults.{pairs_of, count_in, HasPairs}
 use Rattle.bl_page.proofs.Halving.{pairs-at, pairs-length}
 use Rattle.bl_page.specs.Pairs.{RisesFrom}
 use Rattle.bl_page.specs.Words.{words_of}
-use Rattle.bl_laws.specs.Pages.{IsTreePage, node_of}
-use Rattle.bl_ways.proofs.Spellings.{tree_pairs, tree_lists}
+use Rattle.bl_claims.specs.Pages.{IsTreePage, node_of}
+use Rattle.bl_proc_base.proofs.Spellings.{tree_pairs, tree_lists}
 use Rattle.bl_proc.specs.declared.parts.PartRows.{PartRows}
 use Rattle.bl_proc.specs.Parts.{IsPartOf}
 use Rattle.bl_proc.proofs.Rising.{first_from, lists_from, rising_keys}
-use Rattle.bl_courses.proofs.Listings.{lists_one}
+use Rattle.bl_proc_unique.proofs.Listings.{lists_one}
 use Rattle.bl_index.specs.Scans.{is_below}
 use Rattle.bl_index.specs.LeafRows.{rows_from, rows_between, EndsBefore, AppendsBetween}
 use Rattle.bl_index.proofs.Ranges.{first_rows, none_fails, filter_keeps, filter_has, rising_filter}

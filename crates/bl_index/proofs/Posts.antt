@@ -1,16 +1,16 @@
 -- What a post tells its caller.
 use Rattle.std.proofs.Common.{ℕ, ◌≡◌, ◌≢◌, ◌+◌, Option, Some, None, List, refl, sym, ap, ◌∙◌, subst}
 use Rattle.bl_page.specs.declared.page.Page.{Page}
-use Rattle.bl_trails.specs.Trails.{Trail, marks_of}
-use Rattle.bl_ways.specs.declared.acts.Action.TheVariants as act
-use Rattle.bl_ways.specs.declared.acts.Seen.TheVariants as seen
-use Rattle.bl_ways.specs.declared.answers.Hint.{Hint}
-use Rattle.bl_ways.specs.declared.answers.Posted.{Posted}
-use Rattle.bl_ways.specs.declared.answers.Answer.{Answer}
-use Rattle.bl_ways.specs.declared.answers.Answer.TheVariants as answer
-use Rattle.bl_ways.specs.declared.growing.Growth.{Growth}
-use Rattle.bl_ways.specs.declared.growing.Growth.TheVariants as growth
-use Rattle.bl_ways.specs.Growths.{growth_next}
+use Rattle.bl_claims.specs.Trails.{Trail, marks_of}
+use Rattle.bl_proc_base.specs.declared.acts.Action.TheVariants as act
+use Rattle.bl_proc_base.specs.declared.acts.Seen.TheVariants as seen
+use Rattle.bl_proc_base.specs.declared.answers.Hint.{Hint}
+use Rattle.bl_proc_base.specs.declared.answers.Posted.{Posted}
+use Rattle.bl_proc_base.specs.declared.answers.Answer.{Answer}
+use Rattle.bl_proc_base.specs.declared.answers.Answer.TheVariants as answer
+use Rattle.bl_proc_base.specs.declared.growing.Growth.{Growth}
+use Rattle.bl_proc_base.specs.declared.growing.Growth.TheVariants as growth
+use Rattle.bl_proc_base.specs.Growths.{growth_next}
 use Rattle.bl_proc.specs.declared.posting.Post.{Post}
 use Rattle.bl_proc.specs.declared.posting.PostReply.TheVariants as reply
 use Rattle.bl_proc.specs.declared.posting.PostStage.{PostStage}
@@ -19,13 +19,13 @@ use Rattle.bl_proc.specs.declared.kinds.Proc.{Proc}
 use Rattle.bl_proc.specs.declared.kinds.Proc.TheVariants as proc
 use Rattle.bl_proc.specs.Posts.{post_next_in, post_answer_in, post_answer, PostGoes}
 use Rattle.bl_proc.specs.Processes.{next_of, Takes}
-use Rattle.bl_tables.specs.Answers.{MeansPosted, MeansHint}
-use Rattle.bl_tables.specs.Knowing.{know_of, know_post}
-use Rattle.bl_tables.proofs.Answered.{stage_means, stage_hints}
-use Rattle.bl_courses.specs.Frames.{work_of}
-use Rattle.bl_passes.specs.declared.known.Mine.{Mine}
-use Rattle.bl_passes.specs.Noting.{trail_of}
-use Rattle.bl_passes.specs.Fitting.{name}
+use Rattle.bl_proc_meanings.specs.Answers.{MeansPosted, MeansHint}
+use Rattle.bl_proc_invariant.specs.Knowing.{know_of, know_post}
+use Rattle.bl_proc_invariant.proofs.Answered.{stage_means, stage_hints}
+use Rattle.bl_proc_unique.specs.Frames.{work_of}
+use Rattle.bl_index_rule.specs.declared.known.Mine.{Mine}
+use Rattle.bl_index_rule.specs.Noting.{trail_of}
+use Rattle.bl_claims.specs.Seeing.{name}
 use Rattle.bl_index.specs.Calls.{Posts}
 use Rattle.bl_index.specs.Runs.{IsDone}
 use Rattle.bl_index.specs.Searching.{IsPostAnswer}

@@ -1,35 +1,35 @@
 -- What a compression tells its caller.
 use Rattle.std.proofs.Common.{ℕ, ◌≡◌, ◌≢◌, ◌+◌, Option, Some, None, List, refl, sym, ap, ◌∙◌, subst}
 use Rattle.bl_page.specs.declared.page.Page.{Page}
-use Rattle.bl_trails.specs.Trails.{Trail, marks_of}
-use Rattle.bl_ways.specs.declared.acts.Action.{Action}
-use Rattle.bl_ways.specs.declared.acts.Action.TheVariants as act
-use Rattle.bl_ways.specs.declared.acts.Seen.TheVariants as seen
-use Rattle.bl_ways.specs.declared.answers.Hint.{Hint}
-use Rattle.bl_ways.specs.declared.answers.Squeezed.{Squeezed}
-use Rattle.bl_ways.specs.declared.answers.Answer.{Answer}
-use Rattle.bl_ways.specs.declared.answers.Answer.TheVariants as answer
-use Rattle.bl_compress.specs.declared.compressing.Compression.{Compression}
-use Rattle.bl_compress.specs.declared.compressing.Compression.TheVariants.{LatchingLeft, LatchedLeft, LatchingRight, LatchedRight, PuttingFirst, PuttingParent, PuttingLast, Retiring, OpeningRight, OpeningLeft, OpeningParent}
-use Rattle.bl_compress.specs.declared.squeezing.Compress.{Compress}
-use Rattle.bl_compress.specs.declared.squeezing.CompressReply.TheVariants as reply
-use Rattle.bl_compress.specs.declared.squeezing.CompressStage.{CompressStage}
-use Rattle.bl_compress.specs.declared.squeezing.CompressStage.TheVariants as compress
-use Rattle.bl_compress.specs.Compressions.{put_of, other, compression_next}
-use Rattle.bl_compress.specs.Compresses.{compress_next_in, compress_answer_in, compress_answer, CompressGoes}
+use Rattle.bl_claims.specs.Trails.{Trail, marks_of}
+use Rattle.bl_proc_base.specs.declared.acts.Action.{Action}
+use Rattle.bl_proc_base.specs.declared.acts.Action.TheVariants as act
+use Rattle.bl_proc_base.specs.declared.acts.Seen.TheVariants as seen
+use Rattle.bl_proc_base.specs.declared.answers.Hint.{Hint}
+use Rattle.bl_proc_base.specs.declared.answers.Squeezed.{Squeezed}
+use Rattle.bl_proc_base.specs.declared.answers.Answer.{Answer}
+use Rattle.bl_proc_base.specs.declared.answers.Answer.TheVariants as answer
+use Rattle.bl_proc_compress.specs.declared.compressing.Compression.{Compression}
+use Rattle.bl_proc_compress.specs.declared.compressing.Compression.TheVariants.{LatchingLeft, LatchedLeft, LatchingRight, LatchedRight, PuttingFirst, PuttingParent, PuttingLast, Retiring, OpeningRight, OpeningLeft, OpeningParent}
+use Rattle.bl_proc_compress.specs.declared.squeezing.Compress.{Compress}
+use Rattle.bl_proc_compress.specs.declared.squeezing.CompressReply.TheVariants as reply
+use Rattle.bl_proc_compress.specs.declared.squeezing.CompressStage.{CompressStage}
+use Rattle.bl_proc_compress.specs.declared.squeezing.CompressStage.TheVariants as compress
+use Rattle.bl_proc_compress.specs.Compressions.{put_of, other, compression_next}
+use Rattle.bl_proc_compress.specs.Compresses.{compress_next_in, compress_answer_in, compress_answer, CompressGoes}
 use Rattle.bl_proc.specs.declared.kinds.Proc.{Proc}
 use Rattle.bl_proc.specs.declared.kinds.Proc.TheVariants as proc
 use Rattle.bl_proc.specs.Processes.{next_of, Takes}
-use Rattle.bl_tables.specs.Squeezed.{MeansSqueezed}
-use Rattle.bl_tables.specs.Knowing.{know_of, know_compress}
-use Rattle.bl_tables.proofs.Pressed.{stage_means}
-use Rattle.bl_bounds.specs.Latches.{LatchesBeside}
-use Rattle.bl_courses.specs.Frames.{work_of}
-use Rattle.bl_courses.specs.Retirements.{IsPutDone}
-use Rattle.bl_courses.proofs.Retirements.{put_done}
-use Rattle.bl_passes.specs.declared.known.Mine.{Mine}
-use Rattle.bl_passes.specs.Noting.{trail_of}
-use Rattle.bl_passes.specs.Fitting.{name}
+use Rattle.bl_proc_meanings.specs.Squeezed.{MeansSqueezed}
+use Rattle.bl_proc_invariant.specs.Knowing.{know_of, know_compress}
+use Rattle.bl_proc_invariant.proofs.Pressed.{stage_means}
+use Rattle.bl_proc_meanings.specs.Families.{LatchesBeside}
+use Rattle.bl_proc_unique.specs.Frames.{work_of}
+use Rattle.bl_proc_unique.specs.Retirements.{IsPutDone}
+use Rattle.bl_proc_unique.proofs.Retirements.{put_done}
+use Rattle.bl_index_rule.specs.declared.known.Mine.{Mine}
+use Rattle.bl_index_rule.specs.Noting.{trail_of}
+use Rattle.bl_claims.specs.Seeing.{name}
 use Rattle.bl_index.specs.Calls.{Compresses}
 use Rattle.bl_index.specs.Runs.{IsDone}
 use Rattle.bl_index.specs.Searching.{IsCompressAnswer}

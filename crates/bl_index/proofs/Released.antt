@@ -2,13 +2,12 @@
 use Rattle.std.proofs.Common.{false, ℕ, ◌≡◌, ◌≢◌, ◌+◌, ◌≤◌, Option, List, [], ◌∷◌, inl, inr, refl, sym, ap, ◌∙◌, subst, arith, append-nil, le_refl}
 use Rattle.bl_page.specs.declared.page.Page.{Page}
 use Rattle.bl_page.specs.Machine.{Name}
-use Rattle.bl_trails.specs.Trails.{Mark, Trail}
-use Rattle.bl_laws.specs.Walks.{Each}
-use Rattle.bl_passes.specs.declared.known.Mine.{Mine}
-use Rattle.bl_passes.specs.Noting.{trail_of}
-use Rattle.bl_passes.specs.Seeing.{IsSeen, own}
-use Rattle.bl_passes.specs.Fitting.{name}
-use Rattle.bl_passes.specs.Told.{sweeps}
+use Rattle.bl_claims.specs.Trails.{Mark, Trail}
+use Rattle.bl_claims.specs.Walks.{Each}
+use Rattle.bl_index_rule.specs.declared.known.Mine.{Mine}
+use Rattle.bl_index_rule.specs.Noting.{trail_of}
+use Rattle.bl_claims.specs.Seeing.{IsSeen, own, name}
+use Rattle.bl_index_rule.specs.Told.{sweeps}
 use Rattle.bl_index.specs.Calls.{Sweeps}
 
 -- the same of what it began with and of what the pass has seen; it runs no process

@@ -3,9 +3,9 @@ use Rattle.std.proofs.Common.{◌≡◌, ℕ, List, length, refl, subst}
 use Rattle.bl_image.specs.Images.{IsImage, image_bytes}
 use Rattle.bl_image.specs.declared.image.Image.{Image}
 use Rattle.bl_check.specs.Rules.{AreSound}
-use Rattle.bl_quiet.proofs.Beginnings.{AllFit}
-use Rattle.bl_quiet.proofs.Opened.{one_list}
-use Rattle.bl_passes.proofs.Reopened.{rows_map}
+use Rattle.bl_check_tree.proofs.Beginnings.{AllFit}
+use Rattle.bl_check_tree.proofs.Opened.{one_list}
+use Rattle.bl_index_rule.proofs.Reopened.{rows_map}
 use Rattle.bl_index.specs.declared.index.Index.{Index}
 use Rattle.bl_index.specs.declared.index.Pass.{Pass}
 use Rattle.bl_index.specs.Opened.{IsBegun, IsReopened}

@@ -1,24 +1,24 @@
 -- What a hand was refused that found no room, from one event of its process to the next.
 use Rattle.std.proofs.Common.{ℕ, ◌≡◌, ◌≢◌, None, Some, inl, inr, refl, sym, subst, ◌∙◌}
 use Rattle.atomic_table.specs.declared.shared.Seat.{Seat}
-use Rattle.bl_ways.specs.declared.acts.Action.TheVariants as act
-use Rattle.bl_ways.specs.declared.acts.Seen.{Seen}
-use Rattle.bl_ways.specs.declared.acts.Seen.TheVariants as seen
+use Rattle.bl_proc_base.specs.declared.acts.Action.TheVariants as act
+use Rattle.bl_proc_base.specs.declared.acts.Seen.{Seen}
+use Rattle.bl_proc_base.specs.declared.acts.Seen.TheVariants as seen
 use Rattle.bl_page.specs.declared.page.Page.{Page}
 use Rattle.bl_proc.specs.declared.kinds.Proc.{Proc}
 use Rattle.bl_proc.specs.Processes.{next_of, needs_of, Takes}
-use Rattle.bl_courses.specs.Refusals.{IsRefused, PutsRefused}
-use Rattle.bl_courses.proofs.RefusedTurns.{takes_refused, takes_puts}
-use Rattle.bl_courses.proofs.RefusedNexts.{refused_opens, may_ask, may_ask_on}
+use Rattle.bl_proc_unique.specs.Refusals.{IsRefused, PutsRefused}
+use Rattle.bl_proc_unique.proofs.RefusedTurns.{takes_refused, takes_puts}
+use Rattle.bl_proc_unique.proofs.RefusedNexts.{refused_opens, may_ask, may_ask_on}
 use Rattle.bl_store.specs.declared.view.View.{View}
 use Rattle.bl_store.specs.Hands.{WasRefused, IsSameRefusal}
-use Rattle.bl_passes.specs.declared.known.Mine.{Mine}
-use Rattle.bl_ways.specs.declared.changing.Outcome.{Outcome}
-use Rattle.bl_ways.specs.declared.changing.Outcome.TheVariants as outcome
+use Rattle.bl_index_rule.specs.declared.known.Mine.{Mine}
+use Rattle.bl_proc_base.specs.declared.changing.Outcome.{Outcome}
+use Rattle.bl_proc_base.specs.declared.changing.Outcome.TheVariants as outcome
 use Rattle.bl_proc.specs.declared.posting.PostReply.TheVariants as reply
 use Rattle.bl_proc.specs.declared.posting.Post.{Post}
 use Rattle.bl_proc.specs.declared.kinds.Proc.TheVariants as proc
-use Rattle.bl_compress.specs.declared.squeezing.Compress.{Compress}
+use Rattle.bl_proc_compress.specs.declared.squeezing.Compress.{Compress}
 use Rattle.bl_proc.specs.declared.inserting.InsertReply.TheVariants as inserted
 use Rattle.bl_proc.specs.Inserts.{insert_reply}
 use Rattle.bl_proc.specs.Posts.{post_reply}

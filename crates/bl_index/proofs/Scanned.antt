@@ -14,7 +14,7 @@ use Rattle.bl_model.specs.declared.operation.Op.TheVariants.{Part}
 use Rattle.bl_model.specs.declared.operation.Reply.{Reply}
 use Rattle.bl_model.specs.declared.operation.Reply.TheVariants.{Found, Absent, Inserted, Present, Deleted, Rows, NoRoom}
 use Rattle.bl_page.specs.declared.page.Page.{Page}
-use Rattle.bl_passes.specs.Seeing.{first_map}
+use Rattle.bl_claims.specs.Seeing.{first_map}
 use Rattle.bl_index.specs.Scans.{IsBelow, is_below, rows_below, AreParts, IsRight}
 use Rattle.bl_model.specs.Parts.{rows_of, ended_at}
 use Rattle.bl_index.proofs.Ranges.{below_true, filter_keeps, filter_has, rising_filter, rising_behind}

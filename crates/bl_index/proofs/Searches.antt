@@ -4,21 +4,20 @@ use Rattle.bl_model.specs.declared.operation.Op.TheVariants as op
 use Rattle.bl_model.specs.declared.operation.Reply.{Reply}
 use Rattle.bl_page.specs.declared.page.Page.{Page}
 use Rattle.bl_page.specs.Machine.{Name}
-use Rattle.bl_steps.specs.Worlds.{Know}
-use Rattle.bl_ways.specs.declared.acts.Seen.TheVariants as seen
+use Rattle.bl_core.specs.Worlds.{Know}
+use Rattle.bl_proc_base.specs.declared.acts.Seen.TheVariants as seen
 use Rattle.bl_proc.specs.declared.kinds.Proc.{Proc}
 use Rattle.bl_proc.specs.declared.kinds.Proc.TheVariants.{Find}
 use Rattle.bl_proc.specs.declared.searching.Find.{Find as FindState}
 use Rattle.bl_proc.specs.declared.searching.FindStage.{FindStage}
 use Rattle.bl_proc.specs.declared.searching.FindStage.TheVariants.{New, AtAnchor, At, Ending, Over}
 use Rattle.bl_proc.specs.Searches.{FindGoes}
-use Rattle.bl_bounds.specs.Searches.{IsSearch, IsUnderWay}
-use Rattle.bl_tables.specs.Knowing.{Run, bare as know, know_of, know_find, found, found_reply, end_of_proc}
-use Rattle.bl_passes.specs.declared.known.Mine.{Mine}
-use Rattle.bl_passes.specs.Noting.{trail_of}
-use Rattle.bl_passes.specs.Seeing.{own, Holds}
-use Rattle.bl_passes.specs.Fitting.{name}
-use Rattle.bl_passes.specs.Told.{Finishes, MayGiveUp}
+use Rattle.bl_proc_bounds.specs.Searches.{IsSearch, IsUnderWay}
+use Rattle.bl_proc_invariant.specs.Knowing.{Run, bare as know, know_of, know_find, found, found_reply, end_of_proc}
+use Rattle.bl_index_rule.specs.declared.known.Mine.{Mine}
+use Rattle.bl_index_rule.specs.Noting.{trail_of}
+use Rattle.bl_claims.specs.Seeing.{own, Holds, name}
+use Rattle.bl_index_rule.specs.Told.{Finishes, MayGiveUp}
 use Rattle.bl_index.specs.Calls.{Answers}
 use Rattle.bl_index.specs.Runs.{IsSince}
 use Rattle.bl_index.specs.Searching.{IsSearching}

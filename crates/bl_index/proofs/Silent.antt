@@ -1,14 +1,14 @@
 -- What is known of a process that gives up.
 use Rattle.std.proofs.Common.{ℕ, ◌≡◌, ◌+◌, Option, None, List, [], sym, ◌∙◌, subst, append-nil}
 use Rattle.bl_page.specs.declared.page.Page.{Page}
-use Rattle.bl_steps.specs.Worlds.{Know, Stage}
+use Rattle.bl_core.specs.Worlds.{Know, Stage}
 use Rattle.bl_proc.specs.declared.kinds.Proc.{Proc}
-use Rattle.bl_tables.specs.Knowing.{Run, know_of}
-use Rattle.bl_bounds.specs.Searches.{IsSearch}
-use Rattle.bl_passes.specs.declared.known.Mine.{Mine}
-use Rattle.bl_passes.specs.Noting.{trail_of}
-use Rattle.bl_passes.specs.Seeing.{own}
-use Rattle.bl_passes.specs.Told.{Finishes, MayGiveUp}
+use Rattle.bl_proc_invariant.specs.Knowing.{Run, know_of}
+use Rattle.bl_proc_bounds.specs.Searches.{IsSearch}
+use Rattle.bl_index_rule.specs.declared.known.Mine.{Mine}
+use Rattle.bl_index_rule.specs.Noting.{trail_of}
+use Rattle.bl_claims.specs.Seeing.{own}
+use Rattle.bl_index_rule.specs.Told.{Finishes, MayGiveUp}
 use Rattle.bl_index.specs.Calls.{Adds}
 use Rattle.bl_index.specs.Runs.{IsSince}
 use Rattle.bl_index.proofs.Calls.{since_end, since_said, end_seen}

@@ -8,12 +8,12 @@ use Rattle.bl_page.specs.Words.{head, layout, entries_of, words_of}
 use Rattle.bl_page.specs.Pairs.{place}
 use Rattle.bl_page.specs.Faults.{pairs_of as pairs_in_words}
 use Rattle.bl_page.proofs.Once.{rows_again, children_again}
-use Rattle.bl_laws.specs.Pages.{IsTreePage}
+use Rattle.bl_claims.specs.Pages.{IsTreePage}
 use Rattle.bl_rearrange.specs.Entered.{entered}
 use Rattle.bl_rearrange.specs.Rearranged.{pairs_of}
 use Rattle.bl_rearrange.proofs.EnteredLemmas.{length-entered}
-use Rattle.bl_ways.specs.Respelled.{words_by}
-use Rattle.bl_ways.proofs.Shifts.{padded, length-entries, entered-below, entered-key, entered-word, entered-above}
+use Rattle.bl_proc_base.specs.Respelled.{words_by}
+use Rattle.bl_proc_base.proofs.Shifts.{padded, length-entries, entered-below, entered-key, entered-word, entered-above}
 use Rattle.bl_store.specs.Drafts.{IsSpread}
 
 -- the words of a layout with a pair more

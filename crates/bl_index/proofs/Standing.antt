@@ -3,26 +3,26 @@ use Rattle.std.proofs.Common.{ℕ, Bool, true, false, ◌≡◌, Option, Some, N
 use Rattle.bl_layout.specs.declared.layout.Layout.{Layout}
 use Rattle.bl_page.specs.declared.page.Page.{Page}
 use Rattle.bl_page.specs.Machine.{Name}
-use Rattle.bl_trails.specs.Trails.{marks_of}
-use Rattle.bl_ways.specs.declared.acts.Seen.{Seen}
-use Rattle.bl_ways.specs.declared.acts.Seen.TheVariants as seen
-use Rattle.bl_ways.specs.declared.approaching.Approach.{Approach}
-use Rattle.bl_ways.specs.declared.approaching.Approach.TheVariants.{Start, At, Latching, Latched, Leaving}
-use Rattle.bl_ways.specs.declared.approaching.Approached.TheVariants as came
-use Rattle.bl_ways.specs.declared.onwards.Step.{Step}
-use Rattle.bl_ways.specs.declared.onwards.Step.TheVariants.{Again, Right, Down, Here}
-use Rattle.bl_ways.specs.Approaches.{IsToLook, Turns, Approaches}
+use Rattle.bl_claims.specs.Trails.{marks_of}
+use Rattle.bl_proc_base.specs.declared.acts.Seen.{Seen}
+use Rattle.bl_proc_base.specs.declared.acts.Seen.TheVariants as seen
+use Rattle.bl_proc_base.specs.declared.approaching.Approach.{Approach}
+use Rattle.bl_proc_base.specs.declared.approaching.Approach.TheVariants.{Start, At, Latching, Latched, Leaving}
+use Rattle.bl_proc_base.specs.declared.approaching.Approached.TheVariants as came
+use Rattle.bl_proc_base.specs.declared.onwards.Step.{Step}
+use Rattle.bl_proc_base.specs.declared.onwards.Step.TheVariants.{Again, Right, Down, Here}
+use Rattle.bl_proc_base.specs.Approaches.{IsToLook, Turns, Approaches}
 use Rattle.bl_proc.specs.declared.kinds.Proc.{Proc}
 use Rattle.bl_proc.specs.Processes.{Takes}
-use Rattle.bl_courses.specs.Courses.{GoesOn}
-use Rattle.bl_courses.specs.Frames.{op_of, work_of}
-use Rattle.bl_bounds.specs.Latches.{IsTidy}
-use Rattle.bl_tables.specs.Knowing.{end_of_proc}
-use Rattle.bl_tables.specs.Logs.{proc_log}
-use Rattle.bl_passes.specs.declared.known.Mine.{Mine}
-use Rattle.bl_passes.specs.Noting.{trail_of}
-use Rattle.bl_passes.specs.Fitting.{name}
-use Rattle.bl_passes.specs.Told.{Goes, Finishes, ends}
+use Rattle.bl_proc_unique.specs.Courses.{GoesOn}
+use Rattle.bl_proc_unique.specs.Frames.{op_of, work_of}
+use Rattle.bl_proc_bounds.specs.Latches.{IsTidy}
+use Rattle.bl_proc_invariant.specs.Knowing.{end_of_proc}
+use Rattle.bl_proc_invariant.specs.Logs.{proc_log}
+use Rattle.bl_index_rule.specs.declared.known.Mine.{Mine}
+use Rattle.bl_index_rule.specs.Noting.{trail_of}
+use Rattle.bl_claims.specs.Seeing.{name}
+use Rattle.bl_index_rule.specs.Told.{Goes, Finishes, ends}
 use Rattle.bl_index.specs.Runs.{IsOn, IsSince, IsDone}
 use Rattle.bl_index.specs.Events.{IsSameProcess, HoldsNone, OpensLast}
 use Rattle.bl_index.proofs.Calls.{since_step}

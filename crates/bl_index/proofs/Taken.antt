@@ -8,10 +8,10 @@ use Rattle.atomic_table.proofs.Lists.{at_last, at_longer}
 use Rattle.bl_model.specs.declared.operation.Op.{Op}
 use Rattle.bl_model.specs.declared.operation.Reply.{Reply}
 use Rattle.bl_page.specs.declared.page.Page.{Page}
-use Rattle.bl_trails.specs.Trails.{Trail}
+use Rattle.bl_claims.specs.Trails.{Trail}
 use Rattle.bl_store.specs.declared.store.Hand.{Hand}
 use Rattle.bl_store.specs.Hands.{known, IsSameHand}
-use Rattle.bl_passes.specs.declared.known.Mine.{Mine}
+use Rattle.bl_index_rule.specs.declared.known.Mine.{Mine}
 use Rattle.bl_index.specs.declared.config.OutOfTurns.{OutOfTurns}
 use Rattle.bl_index.specs.declared.config.Config.{Config}
 use Rattle.bl_index.specs.declared.index.Index.{Index}

@@ -5,10 +5,10 @@ use Rattle.bl_layout.specs.declared.layout.Layout.{Layout}
 use Rattle.bl_model.specs.declared.operation.Reply.{Reply}
 use Rattle.bl_store.specs.declared.view.View.{View}
 use Rattle.bl_store.specs.Hands.{known}
-use Rattle.bl_passes.specs.declared.known.Mine.{Mine}
-use Rattle.bl_passes.specs.Noting.{trail_of}
-use Rattle.bl_passes.specs.Seeing.{AreWithin}
-use Rattle.bl_passes.specs.Told.{Finishes, sweeps}
+use Rattle.bl_index_rule.specs.declared.known.Mine.{Mine}
+use Rattle.bl_index_rule.specs.Noting.{trail_of}
+use Rattle.bl_claims.specs.Seeing.{AreWithin}
+use Rattle.bl_index_rule.specs.Told.{Finishes, sweeps}
 use Rattle.bl_index.specs.Runs.{IsWithin}
 
 pub ends_within : (l : Layout) (h h' : Seat (Unit {0}) (View Mine)) (answer : Option Reply) → h.me.0.layout ≡ l → h'.me.0.layout ≡ h.me.0.layout → (known h).passes ≡ l.passes → Finishes answer (known h) (known h') → IsWithin h'

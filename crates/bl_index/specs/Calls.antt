@@ -6,21 +6,21 @@ use Rattle.bl_model.specs.declared.operation.Op.{Op}
 use Rattle.bl_model.specs.declared.operation.Op.TheVariants as op
 use Rattle.bl_model.specs.declared.operation.Reply.{Reply}
 use Rattle.bl_page.specs.declared.page.Page.{Page}
-use Rattle.bl_trails.specs.Trails.{Mark, Trail, history_of, marks_of}
-use Rattle.bl_laws.specs.Walks.{Each}
-use Rattle.bl_bounds.specs.Bounds.{gets_of, IsWithinBound, IsBelowBound}
-use Rattle.bl_bounds.specs.Latches.{LatchesAlone, LatchesBeside, OnlyLooks}
-use Rattle.bl_ways.specs.declared.answers.Hint.{Hint}
-use Rattle.bl_ways.specs.declared.answers.Posted.{Posted}
-use Rattle.bl_ways.specs.declared.answers.Squeezed.{Squeezed}
-use Rattle.bl_tables.specs.Answers.{MeansPosted, MeansHint}
-use Rattle.bl_tables.specs.Hinted.{MeansInserted, MeansDeleted}
-use Rattle.bl_tables.specs.Squeezed.{MeansSqueezed}
-use Rattle.bl_store.specs.Hands.{known, WasRefused}
-use Rattle.bl_passes.specs.Noting.{trail_of}
-use Rattle.bl_passes.specs.Seeing.{first_map, IsSeen, own, Holds}
-use Rattle.bl_passes.specs.Fitting.{name}
-use Rattle.bl_passes.specs.Told.{IsRelease}
+use Rattle.bl_claims.specs.Trails.{Mark, Trail, history_of, marks_of}
+use Rattle.bl_claims.specs.Walks.{Each}
+use Rattle.bl_claims.specs.Bounds.{gets_of, IsWithinBound, IsBelowBound}
+use Rattle.bl_claims.specs.Latches.{LatchesAlone, OnlyLooks}
+use Rattle.bl_proc_meanings.specs.Families.{LatchesBeside}
+use Rattle.bl_proc_base.specs.declared.answers.Hint.{Hint}
+use Rattle.bl_proc_base.specs.declared.answers.Posted.{Posted}
+use Rattle.bl_proc_base.specs.declared.answers.Squeezed.{Squeezed}
+use Rattle.bl_proc_meanings.specs.Answers.{MeansPosted, MeansHint}
+use Rattle.bl_proc_meanings.specs.Hinted.{MeansInserted, MeansDeleted}
+use Rattle.bl_proc_meanings.specs.Squeezed.{MeansSqueezed}
+use Rattle.bl_store.specs.Hands.{WasRefused}
+use Rattle.bl_index_rule.specs.Noting.{trail_of}
+use Rattle.bl_claims.specs.Seeing.{first_map, IsSeen, own, Holds, name}
+use Rattle.bl_index_rule.specs.Told.{IsRelease}
 use Rattle.bl_index.specs.declared.config.OutOfTurns.{OutOfTurns}
 use Rattle.bl_index.specs.declared.index.Index.{Index}
 use Rattle.bl_index.specs.declared.index.Pass.{Pass}
@@ -37,14 +37,14 @@ first_of index = index.store.table.shared.key.known.value.first
 
 -- the pass is of this index, and knows what it began with
 abbrev pub IsPassOf : Index → Pass → Type 0
-IsPassOf index pass = (pass.hand.seat.table_id ≡ index.store.table.shared.table_id) × (pass.hand.seat.me.0.layout ≡ index.store.layout) × ((known pass.hand.seat).first ≡ first_of index)
+IsPassOf index pass = (pass.hand.seat.table_id ≡ index.store.table.shared.table_id) × (pass.hand.seat.me.0.layout ≡ index.store.layout) × (pass.hand.seat.me.0.known.first ≡ first_of index)
 
 abbrev pub number_of : Pass → ℕ
 number_of pass = pass.hand.number
 
 -- all that has happened in the index, up to the pass's own last event
 abbrev pub trail : Pass → Trail
-trail pass = trail_of (known pass.hand.seat).trail
+trail pass = trail_of pass.hand.seat.me.0.known.trail
 
 -- the map after all that a trail tells, of an index that began so
 abbrev pub map_after : List (Option Page) → Trail → Map
@@ -61,7 +61,7 @@ MetNoRoom pass pages frames = WasRefused pass.hand.seat pages frames
 
 -- The same pass of the same index
 abbrev pub IsSamePass : Pass → Pass → Type 0
-IsSamePass old new = (new.hand.seat.table_id ≡ old.hand.seat.table_id) × (new.hand.seat.me.0.layout ≡ old.hand.seat.me.0.layout) × (new.hand.number ≡ old.hand.number) × ((known new.hand.seat).first ≡ (known old.hand.seat).first)
+IsSamePass old new = (new.hand.seat.table_id ≡ old.hand.seat.table_id) × (new.hand.seat.me.0.layout ≡ old.hand.seat.me.0.layout) × (new.hand.number ≡ old.hand.number) × (new.hand.seat.me.0.known.first ≡ old.hand.seat.me.0.known.first)
 
 -- A call of the pass is answered: it is one process, begun and ended after all that the pass had seen, and the pass has done
 -- nothing else since. What the pass has seen then is a trail that an index may have, and its only new entry of this pass is

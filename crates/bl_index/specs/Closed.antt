@@ -6,11 +6,11 @@ use Rattle.bl_model.specs.Map.{SameMap}
 use Rattle.bl_model.specs.Rows.{map_of}
 use Rattle.bl_page.specs.declared.page.Page.{Page}
 use Rattle.bl_check.specs.Rows.{AreRowsOf}
-use Rattle.bl_trails.specs.Trails.{Trail}
-use Rattle.bl_quiet.specs.Begins.{AreLeft}
+use Rattle.bl_claims.specs.Trails.{Trail}
+use Rattle.bl_check_tree.specs.Begins.{AreLeft}
 use Rattle.bl_store.specs.declared.store.Hand.{Hand}
-use Rattle.bl_passes.specs.declared.known.Mine.{Mine}
-use Rattle.bl_passes.specs.Seeing.{IsSeen, AreWithin, own, GoesOnFrom}
+use Rattle.bl_index_rule.specs.declared.known.Mine.{Mine}
+use Rattle.bl_claims.specs.Seeing.{IsSeen, AreWithin, own, GoesOnFrom}
 use Rattle.bl_index.specs.declared.closing.Room.{Room}
 use Rattle.bl_index.specs.declared.config.CloseFault.{CloseFault}
 use Rattle.bl_index.specs.declared.config.CloseFault.TheVariants as fault

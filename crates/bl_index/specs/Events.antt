@@ -5,7 +5,7 @@ use Rattle.bl_model.specs.Rows.{map_of}
 use Rattle.bl_page.specs.declared.page.Page.{Page}
 use Rattle.bl_page.specs.declared.page.Page.TheVariants.{Inner}
 use Rattle.bl_page.specs.Pages.{Covers}
-use Rattle.bl_laws.specs.Pages.{IsTreePage}
+use Rattle.bl_claims.specs.Pages.{IsTreePage}
 use Rattle.bl_rearrange.specs.Rearranged.{pairs_of, MayHold}
 use Rattle.bl_page.specs.Words.{words_of}
 use Rattle.bl_layout.specs.declared.layout.Layout.{Layout}
@@ -13,18 +13,18 @@ use Rattle.bl_model.specs.declared.operation.Reply.{Reply}
 use Rattle.bl_store.specs.declared.view.View.{View}
 use Rattle.bl_store.specs.declared.store.Glance.{Glance}
 use Rattle.bl_store.specs.Hands.{known, read_words, IsIdle, IsRunning, HasNoStock, ReadsFrom}
-use Rattle.bl_ways.specs.declared.acts.Action.TheVariants as act
-use Rattle.bl_ways.specs.declared.acts.Seen.TheVariants as seen
-use Rattle.bl_ways.specs.declared.answers.Answer.TheVariants.{Op}
-use Rattle.bl_ways.specs.declared.answers.Answer.TheVariants as answer
-use Rattle.bl_ways.specs.declared.answers.Hint.{Hint}
-use Rattle.bl_ways.specs.declared.answers.Posted.{Posted}
-use Rattle.bl_ways.specs.declared.approaching.Approach.{Approach}
-use Rattle.bl_ways.specs.declared.approaching.Approach.TheVariants.{Start, At, Latching, Latched, Leaving}
-use Rattle.bl_ways.specs.declared.changing.Change.{Change}
-use Rattle.bl_ways.specs.declared.onwards.Step.TheVariants.{Here}
-use Rattle.bl_ways.specs.Changes.{EntersPair}
-use Rattle.bl_ways.specs.Onwards.{Leads}
+use Rattle.bl_proc_base.specs.declared.acts.Action.TheVariants as act
+use Rattle.bl_proc_base.specs.declared.acts.Seen.TheVariants as seen
+use Rattle.bl_proc_base.specs.declared.answers.Answer.TheVariants.{Op}
+use Rattle.bl_proc_base.specs.declared.answers.Answer.TheVariants as answer
+use Rattle.bl_proc_base.specs.declared.answers.Hint.{Hint}
+use Rattle.bl_proc_base.specs.declared.answers.Posted.{Posted}
+use Rattle.bl_proc_base.specs.declared.approaching.Approach.{Approach}
+use Rattle.bl_proc_base.specs.declared.approaching.Approach.TheVariants.{Start, At, Latching, Latched, Leaving}
+use Rattle.bl_proc_base.specs.declared.changing.Change.{Change}
+use Rattle.bl_proc_base.specs.declared.onwards.Step.TheVariants.{Here}
+use Rattle.bl_proc_base.specs.Changes.{EntersPair}
+use Rattle.bl_proc_base.specs.Onwards.{Leads}
 use Rattle.bl_proc.specs.declared.inserting.Insert.{Insert}
 use Rattle.bl_proc.specs.declared.inserting.InsertReply.{InsertReply}
 use Rattle.bl_proc.specs.declared.deleting.DeleteReply.{DeleteReply}
@@ -40,8 +40,8 @@ use Rattle.bl_proc.specs.Levels.{IsBelowTop}
 use Rattle.bl_proc.specs.declared.kinds.Proc.{Proc}
 use Rattle.bl_proc.specs.declared.kinds.Proc.TheVariants as proc
 use Rattle.bl_proc.specs.Processes.{next_of, answer_of, Takes}
-use Rattle.bl_courses.specs.Courses.{GoesOn}
-use Rattle.bl_passes.specs.declared.known.Mine.{Mine}
+use Rattle.bl_proc_unique.specs.Courses.{GoesOn}
+use Rattle.bl_index_rule.specs.declared.known.Mine.{Mine}
 use Rattle.bl_index.specs.declared.coming.Arrived.{Arrived}
 use Rattle.bl_index.specs.declared.coming.Arrived.TheVariants.{There, Away}
 use Rattle.bl_index.specs.declared.errands.Posting.{Posting}
@@ -49,7 +49,7 @@ use Rattle.bl_index.specs.declared.posting.Walked.{Walked}
 use Rattle.bl_index.specs.declared.posting.Walked.TheVariants.{On, Found, Stale, Lost}
 use Rattle.bl_index.specs.Runs.{IsOn, IsSince, IsWithin, IsDone}
 use Rattle.bl_index.specs.Rooms.{LacksRoom}
-use Rattle.bl_ways.specs.declared.answers.Posted.TheVariants as posted
+use Rattle.bl_proc_base.specs.declared.answers.Posted.TheVariants as posted
 
 -- what the pass knows then is of the same process
 abbrev pub IsSameProcess : Mine → Mine → Type 0

@@ -1,10 +1,10 @@
 -- What passes learn of each other. It is no event.
 use Rattle.std.specs.Prelude.{◌≡◌, ℕ, List, Option}
 use Rattle.bl_page.specs.declared.page.Page.{Page}
-use Rattle.bl_trails.specs.Trails.{Trail}
-use Rattle.bl_passes.specs.declared.known.Mine.{Mine}
-use Rattle.bl_passes.specs.Noting.{trail_of}
-use Rattle.bl_passes.specs.Seeing.{IsSeen, AreWithin, own, GoesOnFrom}
+use Rattle.bl_claims.specs.Trails.{Trail}
+use Rattle.bl_index_rule.specs.declared.known.Mine.{Mine}
+use Rattle.bl_index_rule.specs.Noting.{trail_of}
+use Rattle.bl_claims.specs.Seeing.{IsSeen, AreWithin, own, GoesOnFrom}
 
 -- What the pass has seen begins with what both had seen, and has the entries of these two passes that they knew, and no
 -- others of theirs.

@@ -11,10 +11,10 @@ use Rattle.bl_page.specs.declared.page.Page.TheVariants.{Anchor, Leaf, Inner, De
 use Rattle.bl_page.specs.Words.{words_of}
 use Rattle.bl_store.specs.Frames.{share}
 use Rattle.bl_store.specs.declared.store.Hand.{Hand}
-use Rattle.bl_passes.specs.declared.known.Mine.{Mine}
+use Rattle.bl_index_rule.specs.declared.known.Mine.{Mine}
 use Rattle.bl_check.specs.Rows.{AreRowsOf}
-use Rattle.bl_passes.specs.Seeing.{first_map, IsSeen}
-use Rattle.bl_passes.specs.Fitting.{beginner}
+use Rattle.bl_claims.specs.Seeing.{first_map, IsSeen}
+use Rattle.bl_index_rule.specs.Fitting.{beginner}
 use Rattle.bl_index.specs.declared.config.Config.{Config}
 use Rattle.bl_index.specs.declared.config.OpenFault.{OpenFault}
 use Rattle.bl_index.specs.declared.config.OpenFault.TheVariants.{Pages, Passes, Memory}

@@ -1,15 +1,15 @@
 -- What a hand was refused that found no room.
 use Rattle.std.specs.Prelude.{◌≡◌, ◌⊎◌, ℕ, Some}
 use Rattle.atomic_table.specs.declared.shared.Seat.{Seat}
-use Rattle.bl_ways.specs.declared.acts.Action.TheVariants as act
-use Rattle.bl_ways.specs.declared.acts.Seen.{Seen}
-use Rattle.bl_ways.specs.declared.acts.Seen.TheVariants as seen
+use Rattle.bl_proc_base.specs.declared.acts.Action.TheVariants as act
+use Rattle.bl_proc_base.specs.declared.acts.Seen.{Seen}
+use Rattle.bl_proc_base.specs.declared.acts.Seen.TheVariants as seen
 use Rattle.bl_proc.specs.declared.kinds.Proc.{Proc}
 use Rattle.bl_proc.specs.Processes.{next_of, needs_of}
-use Rattle.bl_courses.specs.Refusals.{MayAsk}
+use Rattle.bl_proc_unique.specs.Refusals.{MayAsk}
 use Rattle.bl_store.specs.declared.view.View.{View}
 use Rattle.bl_store.specs.Hands.{WasRefused, IsSameRefusal}
-use Rattle.bl_passes.specs.declared.known.Mine.{Mine}
+use Rattle.bl_index_rule.specs.declared.known.Mine.{Mine}
 
 abbrev H : Type 0
 H = Seat (Unit {0}) (View Mine)

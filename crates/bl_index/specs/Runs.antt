@@ -4,28 +4,26 @@ use Rattle.atomic_table.specs.declared.shared.Seat.{Seat}
 use Rattle.bl_layout.specs.declared.layout.Layout.{Layout}
 use Rattle.bl_store.specs.declared.view.View.{View}
 use Rattle.bl_store.specs.declared.stock.Stock.{Stock}
-use Rattle.bl_store.specs.Hands.{HasNoStock, IsStockOf, MayRetire, IsSameRefusal}
-use Rattle.bl_ways.specs.declared.acts.Action.TheVariants as act
-use Rattle.bl_ways.specs.declared.acts.Seen.TheVariants as seen
-use Rattle.bl_tables.specs.Knowing.{end_of_proc}
-use Rattle.bl_tables.specs.Logs.{proc_log}
-use Rattle.bl_courses.specs.Frames.{op_of, work_of, frames_of, Follows}
-use Rattle.bl_store.specs.Hands.{known}
-use Rattle.bl_ways.specs.declared.acts.Seen.{Seen}
+use Rattle.bl_store.specs.Hands.{HasNoStock, IsStockOf, MayRetire, IsSameRefusal, known}
+use Rattle.bl_proc_base.specs.declared.acts.Action.TheVariants as act
+use Rattle.bl_proc_base.specs.declared.acts.Seen.TheVariants as seen
+use Rattle.bl_proc_invariant.specs.Knowing.{end_of_proc}
+use Rattle.bl_proc_invariant.specs.Logs.{proc_log}
+use Rattle.bl_proc_unique.specs.Frames.{op_of, work_of, frames_of, Follows}
+use Rattle.bl_proc_base.specs.declared.acts.Seen.{Seen}
 use Rattle.bl_index.specs.declared.stepping.Stepped.{Stepped}
 use Rattle.bl_index.specs.declared.stepping.Stepped.TheVariants.{On, AtEnd}
 use Rattle.bl_page.specs.Machine.{Act}
 use Rattle.bl_page.specs.Machine.Act.{Begin}
-use Rattle.bl_trails.specs.Trails.{Mark, Trail, DoesAt, marks_of}
-use Rattle.bl_bounds.specs.Bounds.{gets_of, IsWithinBound, IsBelowBound}
-use Rattle.bl_bounds.specs.Latches.{IsTidy}
+use Rattle.bl_claims.specs.Trails.{Mark, Trail, DoesAt, marks_of}
+use Rattle.bl_claims.specs.Bounds.{gets_of, IsWithinBound, IsBelowBound}
+use Rattle.bl_proc_bounds.specs.Latches.{IsTidy}
 use Rattle.bl_proc.specs.declared.kinds.Proc.{Proc}
 use Rattle.bl_proc.specs.Processes.{next_of, Takes}
-use Rattle.bl_passes.specs.declared.known.Mine.{Mine}
-use Rattle.bl_passes.specs.Noting.{trail_of}
-use Rattle.bl_passes.specs.Seeing.{own, AreWithin, AreElse, AreOnlyOf}
-use Rattle.bl_passes.specs.Fitting.{name}
-use Rattle.bl_passes.specs.Told.{IsNear, HasOwn, Steps, Finishes}
+use Rattle.bl_index_rule.specs.declared.known.Mine.{Mine}
+use Rattle.bl_index_rule.specs.Noting.{trail_of}
+use Rattle.bl_claims.specs.Seeing.{own, AreWithin, AreElse, AreOnlyOf, name}
+use Rattle.bl_index_rule.specs.Told.{IsNear, HasOwn, Steps, Finishes}
 use Rattle.bl_index.specs.Rooms.{TellsRoom}
 
 -- the pass runs this process, in an index of that layout

@@ -1,7 +1,7 @@
 -- A search that goes on, and the answers of a post and of a compression.
 use Rattle.std.specs.Prelude.{Option, None, Some}
-use Rattle.bl_ways.specs.declared.answers.Answer.{Answer}
-use Rattle.bl_ways.specs.declared.answers.Answer.TheVariants.{Op, Post, Compress, Reclaim}
+use Rattle.bl_proc_base.specs.declared.answers.Answer.{Answer}
+use Rattle.bl_proc_base.specs.declared.answers.Answer.TheVariants.{Op, Post, Compress, Reclaim}
 use Rattle.bl_proc.specs.declared.searching.FindStage.{FindStage}
 use Rattle.bl_proc.specs.declared.searching.FindStage.TheVariants.{New, AtAnchor, At, Ending, Over}
 

@@ -7,15 +7,15 @@ use crate::errands::{Inserting, Posting};
 /// Who changes a page that it holds and has got. There is a process that does so, of which there is no value.
 pub(crate) trait Changer {
     ghost use Rattle.std.specs.Prelude.{◌≡◌, ℕ};
-    ghost use Rattle.bl_ways.specs.declared.acts.Seen.{Seen};
-    ghost use Rattle.bl_ways.specs.declared.changing.Change.{Change};
-    ghost use Rattle.bl_ways.specs.declared.changing.Change.TheVariants as change;
-    ghost use Rattle.bl_ways.specs.declared.changing.Changed.TheVariants as changed;
-    ghost use Rattle.bl_ways.specs.Changes.{change_next, change_needs, Changes};
-    ghost use Rattle.bl_ways.specs.Given.{Gives};
+    ghost use Rattle.bl_proc_base.specs.declared.acts.Seen.{Seen};
+    ghost use Rattle.bl_proc_base.specs.declared.changing.Change.{Change};
+    ghost use Rattle.bl_proc_base.specs.declared.changing.Change.TheVariants as change;
+    ghost use Rattle.bl_proc_base.specs.declared.changing.Changed.TheVariants as changed;
+    ghost use Rattle.bl_proc_base.specs.Changes.{change_next, change_needs, Changes};
+    ghost use Rattle.bl_proc_base.specs.Given.{Gives};
     ghost use Rattle.bl_proc.specs.declared.kinds.Proc.{Proc};
     ghost use Rattle.bl_proc.specs.Processes.{next_of, Takes};
-    ghost use Rattle.bl_courses.specs.Courses.{GoesOn};
+    ghost use Rattle.bl_proc_unique.specs.Courses.{GoesOn};
 
     // The process that has come so far with its change.
     ghost changing: { Self → Change → Proc };
@@ -31,7 +31,7 @@ impl Changer for Inserting {
     ghost use Rattle.std.specs.Prelude.{refl};
     ghost use Rattle.bl_proc.specs.declared.kinds.Proc.TheVariants as proc;
     ghost use Rattle.bl_proc.specs.declared.inserting.InsertStage.TheVariants as insert;
-    ghost use Rattle.bl_courses.proofs.Insertions.{insert_goes};
+    ghost use Rattle.bl_proc_unique.proofs.Insertions.{insert_goes};
 
     ghost changing = { λ j c. proc.Insert (record { key = j.key; value = j.value; stage = insert.Changing c }) };
 
@@ -52,7 +52,7 @@ pub(crate) struct Listing {
 impl Changer for Listing {
     ghost use Rattle.std.specs.Prelude.{refl};
     ghost use Rattle.bl_proc.specs.declared.posting.PostStage.TheVariants as post;
-    ghost use Rattle.bl_courses.proofs.Posts.{post_goes};
+    ghost use Rattle.bl_proc_unique.proofs.Posts.{post_goes};
     ghost use Rattle.bl_index.specs.Events.{posting};
 
     ghost changing = { λ j c. posting j.posting (post.Changing c) j.below };

@@ -1,15 +1,15 @@
 //! Insertions and deletions.
 
 ghost use Rattle.std.specs.Prelude.{◌≡◌, ◌≢◌, ◌⊎◌, ℕ, None, Some, false};
-ghost use Rattle.bl_ways.specs.declared.acts.Action.TheVariants as act;
+ghost use Rattle.bl_proc_base.specs.declared.acts.Action.TheVariants as act;
 ghost use Rattle.bl_model.specs.declared.operation.Op.TheVariants as op;
 ghost use Rattle.bl_index.specs.declared.reply.KeyReply.TheVariants as replies;
 ghost use Rattle.bl_index.specs.Replies.{reply_of};
-ghost use Rattle.bl_ways.specs.declared.answers.Answer.{Answer as AnswerIs};
-ghost use Rattle.bl_courses.specs.Refusals.{IsNoRoom, IsRefused, PutsRefused};
+ghost use Rattle.bl_proc_base.specs.declared.answers.Answer.{Answer as AnswerIs};
+ghost use Rattle.bl_proc_unique.specs.Refusals.{IsNoRoom, IsRefused, PutsRefused};
 ghost use Rattle.bl_store.specs.Hands.{known, IsOf, IsIdle, IsRunning, IsSameHand, HasNoStock};
-ghost use Rattle.bl_passes.specs.Told.{IsUnborn};
-ghost use Rattle.bl_passes.specs.declared.known.Mine.{Mine as Knows};
+ghost use Rattle.bl_index_rule.specs.Told.{IsUnborn};
+ghost use Rattle.bl_index_rule.specs.declared.known.Mine.{Mine as Knows};
 ghost use Rattle.bl_index.specs.Runs.{IsOn, IsSince, IsDone, IsWithin, HasReserved};
 ghost use Rattle.bl_index.specs.Rooms.{LacksRoom, LacksAsked};
 
@@ -17,7 +17,7 @@ use crate::index::{Index, Pass};
 use crate::kinds::Kind;
 use crate::reply::KeyReply;
 use crate::stepping::Stepped;
-use bl_passes::Mine;
+use bl_index_rule::Mine;
 use bl_proc::Hint;
 use bl_store::{Hand, Stock};
 use crossbeam_utils::Backoff;

@@ -7,8 +7,8 @@ use crate::config::CloseFault;
 use crate::index::{Index, Pass};
 use bl_check::Quiet;
 use bl_image::Image;
+use bl_index_rule::Mine;
 use bl_page::Page;
-use bl_passes::Mine;
 use bl_store::Hand;
 use std::alloc::{AllocError, Global};
 

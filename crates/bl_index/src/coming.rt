@@ -2,22 +2,22 @@
 
 ghost use Rattle.std.specs.Prelude.{◌≡◌, true, false, MatchOption};
 ghost use Rattle.bl_page.specs.declared.page.Page.{Page};
-ghost use Rattle.bl_ways.specs.declared.acts.Action.TheVariants as act;
-ghost use Rattle.bl_ways.specs.declared.approaching.Approach.TheVariants as approach;
+ghost use Rattle.bl_proc_base.specs.declared.acts.Action.TheVariants as act;
+ghost use Rattle.bl_proc_base.specs.declared.approaching.Approach.TheVariants as approach;
 ghost use Rattle.bl_store.specs.Hands.{known, read_words, IsOf, IsIdle, IsRunning, IsSameHand, IsSameStage, IsSameStock, ReadsFrom};
-ghost use Rattle.bl_ways.specs.declared.acts.Seen.TheVariants as seen;
+ghost use Rattle.bl_proc_base.specs.declared.acts.Seen.TheVariants as seen;
 ghost use Rattle.bl_proc.specs.Processes.{next_of};
-ghost use Rattle.bl_courses.specs.Courses.{GoesOn};
-ghost use Rattle.bl_passes.specs.Told.{Begins, IsUnborn};
+ghost use Rattle.bl_proc_unique.specs.Courses.{GoesOn};
+ghost use Rattle.bl_index_rule.specs.Told.{Begins, IsUnborn};
 ghost use Rattle.bl_index.specs.Runs.{IsOn, IsSince};
 ghost use Rattle.bl_index.specs.Events.{IsSameProcess, HoldsNone, IsThere, HasArrived, HasCome};
 
 use crate::errands::Errand;
 use crate::index::Index;
 use crate::shown::Shown;
-use bl_passes::{Began, Launch, Mine};
+use bl_index_rule::{Began, Launch, Mine};
+use bl_proc_base::{Approach, Step, step_in};
 use bl_store::{Glance, Hand};
-use bl_ways::{Approach, Step, step_in};
 use crossbeam_utils::Backoff;
 use std::marker::Brand;
 use std::sync::Wait;

@@ -1,10 +1,10 @@
 //! Compressions.
 
 ghost use Rattle.std.specs.Prelude.{◌≡◌, Some};
-ghost use Rattle.bl_ways.specs.declared.answers.Answer.TheVariants as answers;
-ghost use Rattle.bl_ways.specs.declared.answers.Squeezed.TheVariants as answer;
+ghost use Rattle.bl_proc_base.specs.declared.answers.Answer.TheVariants as answers;
+ghost use Rattle.bl_proc_base.specs.declared.answers.Squeezed.TheVariants as answer;
 ghost use Rattle.bl_index.specs.Searching.{IsCompressAnswer};
-ghost use Rattle.bl_ways.specs.Hints.{level_of, key_of};
+ghost use Rattle.bl_proc_base.specs.Hints.{level_of, key_of};
 
 use crate::index::{Index, Pass};
 use bl_proc::{Answer, Compress, Hint, Process, Squeezed};

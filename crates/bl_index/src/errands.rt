@@ -5,19 +5,19 @@ ghost use Rattle.std.specs.Prelude.{◌<◌, ◌≤◌};
 /// What a writer comes to a page for. There is a process with this errand, of which there is no value.
 pub(crate) trait Errand {
     ghost use Rattle.std.specs.Prelude.{◌≡◌, ℕ, None};
-    ghost use Rattle.bl_ways.specs.declared.acts.Action.TheVariants as act;
-    ghost use Rattle.bl_ways.specs.declared.acts.Seen.{Seen};
-    ghost use Rattle.bl_ways.specs.declared.acts.Seen.TheVariants as seen;
-    ghost use Rattle.bl_ways.specs.declared.approaching.Approach.{Approach};
-    ghost use Rattle.bl_ways.specs.declared.approaching.Approach.TheVariants as way;
-    ghost use Rattle.bl_ways.specs.declared.approaching.Approached.TheVariants as came;
+    ghost use Rattle.bl_proc_base.specs.declared.acts.Action.TheVariants as act;
+    ghost use Rattle.bl_proc_base.specs.declared.acts.Seen.{Seen};
+    ghost use Rattle.bl_proc_base.specs.declared.acts.Seen.TheVariants as seen;
+    ghost use Rattle.bl_proc_base.specs.declared.approaching.Approach.{Approach};
+    ghost use Rattle.bl_proc_base.specs.declared.approaching.Approach.TheVariants as way;
+    ghost use Rattle.bl_proc_base.specs.declared.approaching.Approached.TheVariants as came;
     ghost use Rattle.bl_page.specs.declared.page.Page.{Page};
-    ghost use Rattle.bl_ways.specs.Approaches.{approach_next, Approaches};
+    ghost use Rattle.bl_proc_base.specs.Approaches.{approach_next, Approaches};
     ghost use Rattle.bl_index.specs.Ways.{IsPast};
-    ghost use Rattle.bl_ways.specs.Given.{Gives};
+    ghost use Rattle.bl_proc_base.specs.Given.{Gives};
     ghost use Rattle.bl_proc.specs.declared.kinds.Proc.{Proc};
     ghost use Rattle.bl_proc.specs.Processes.{next_of, Takes};
-    ghost use Rattle.bl_courses.specs.Courses.{GoesOn};
+    ghost use Rattle.bl_proc_unique.specs.Courses.{GoesOn};
 
     // The process that is to begin, and as it is when it has come so far.
     ghost unborn: { Self → Proc };
@@ -64,8 +64,8 @@ impl Errand for Inserting {
     ghost use Rattle.std.specs.Prelude.{refl};
     ghost use Rattle.bl_proc.specs.declared.kinds.Proc.TheVariants as proc;
     ghost use Rattle.bl_proc.specs.declared.inserting.InsertStage.TheVariants as insert;
-    ghost use Rattle.bl_ways.specs.declared.acts.Seen.TheVariants as seen;
-    ghost use Rattle.bl_courses.proofs.Insertions.{insert_goes};
+    ghost use Rattle.bl_proc_base.specs.declared.acts.Seen.TheVariants as seen;
+    ghost use Rattle.bl_proc_unique.proofs.Insertions.{insert_goes};
 
     ghost unborn = { λ j. proc.Insert (record { key = j.key; value = j.value; stage = insert.New }) };
 
@@ -112,8 +112,8 @@ impl Errand for Deleting {
     ghost use Rattle.std.specs.Prelude.{refl};
     ghost use Rattle.bl_proc.specs.declared.kinds.Proc.TheVariants as proc;
     ghost use Rattle.bl_proc.specs.declared.deleting.DeleteStage.TheVariants as delete;
-    ghost use Rattle.bl_ways.specs.declared.acts.Seen.TheVariants as seen;
-    ghost use Rattle.bl_courses.proofs.Deletions.{delete_goes};
+    ghost use Rattle.bl_proc_base.specs.declared.acts.Seen.TheVariants as seen;
+    ghost use Rattle.bl_proc_unique.proofs.Deletions.{delete_goes};
 
     ghost unborn = { λ j. proc.Delete (record { key = j.key; stage = delete.New }) };
 
@@ -162,11 +162,11 @@ pub(crate) struct Posting {
 
 impl Errand for Posting {
     ghost use Rattle.std.specs.Prelude.{refl, ◌<◌};
-    ghost use Rattle.bl_laws.specs.Pages.{roots_of};
+    ghost use Rattle.bl_claims.specs.Pages.{roots_of};
     ghost use Rattle.bl_proc.specs.declared.kinds.Proc.TheVariants as proc;
     ghost use Rattle.bl_proc.specs.declared.posting.PostStage.TheVariants as post;
-    ghost use Rattle.bl_ways.specs.declared.acts.Seen.TheVariants as seen;
-    ghost use Rattle.bl_courses.proofs.Posts.{post_goes};
+    ghost use Rattle.bl_proc_base.specs.declared.acts.Seen.TheVariants as seen;
+    ghost use Rattle.bl_proc_unique.proofs.Posts.{post_goes};
     ghost use Rattle.bl_index.specs.Ways.{nears};
 
     ghost unborn = { λ j. proc.Post (record { level = j.level; key = j.key; stage = post.New; least = j.least; most = j.most; below = tt }) };

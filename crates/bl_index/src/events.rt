@@ -4,21 +4,21 @@ ghost use Rattle.std.specs.Prelude.{◌≡◌, ◌<◌, ◌+◌, ℕ, true, fals
 ghost use Rattle.bl_page.specs.declared.page.Page.{Page};
 ghost use Rattle.bl_page.specs.Pairs.{IsChild};
 ghost use Rattle.bl_page.specs.Words.{words_of};
-ghost use Rattle.bl_ways.specs.declared.acts.Action.TheVariants as act;
-ghost use Rattle.bl_ways.specs.declared.acts.Seen.TheVariants as seen;
+ghost use Rattle.bl_proc_base.specs.declared.acts.Action.TheVariants as act;
+ghost use Rattle.bl_proc_base.specs.declared.acts.Seen.TheVariants as seen;
 ghost use Rattle.bl_proc.specs.declared.kinds.Proc.{Proc};
 ghost use Rattle.bl_proc.specs.Processes.{next_of};
-ghost use Rattle.bl_courses.specs.Courses.{GoesOn};
-ghost use Rattle.bl_courses.specs.Frames.{op_of, work_of};
+ghost use Rattle.bl_proc_unique.specs.Courses.{GoesOn};
+ghost use Rattle.bl_proc_unique.specs.Frames.{op_of, work_of};
 ghost use Rattle.bl_store.specs.Drafts.{IsSpread};
 ghost use Rattle.bl_store.specs.Hands.{known, read_words, IsOf, IsIdle, IsRunning, IsSameHand, IsSameStage, IsSameStock, HasNoStock, IsStockOf, ReadsFrom, WasRefused, IsSameRefusal};
-ghost use Rattle.bl_passes.specs.declared.known.Mine.{Mine as Knows};
-ghost use Rattle.bl_passes.specs.Told.{Goes};
+ghost use Rattle.bl_index_rule.specs.declared.known.Mine.{Mine as Knows};
+ghost use Rattle.bl_index_rule.specs.Told.{Goes};
 ghost use Rattle.bl_index.specs.Runs.{IsOn, IsSince, IsWithin, IsDone};
 ghost use Rattle.bl_index.specs.Events.{OpensLast};
 
 use crate::index::Index;
-use bl_passes::{Ended, Got, Mine, Opened, Put, Refused, Took, Tried};
+use bl_index_rule::{Ended, Got, Mine, Opened, Put, Refused, Took, Tried};
 use bl_store::{Glance, Hand, Spread, Stock};
 
 impl Index {

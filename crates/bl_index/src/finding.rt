@@ -2,11 +2,11 @@
 
 ghost use Rattle.std.specs.Prelude.{◌≡◌, None, false, IfOk};
 ghost use Rattle.bl_model.specs.declared.operation.Op.TheVariants as op;
-ghost use Rattle.bl_tables.specs.Knowing.{found_reply};
+ghost use Rattle.bl_proc_invariant.specs.Knowing.{found_reply};
 ghost use Rattle.bl_store.specs.Hands.{known, IsOf, IsIdle, IsSameHand, IsSameStock};
-ghost use Rattle.bl_passes.specs.Noting.{trail_of};
-ghost use Rattle.bl_passes.specs.Seeing.{IsSeen};
-ghost use Rattle.bl_ways.specs.declared.acts.Action.TheVariants as act;
+ghost use Rattle.bl_index_rule.specs.Noting.{trail_of};
+ghost use Rattle.bl_claims.specs.Seeing.{IsSeen};
+ghost use Rattle.bl_proc_base.specs.declared.acts.Action.TheVariants as act;
 ghost use Rattle.bl_proc.specs.Searches.{find_next_in};
 ghost use Rattle.bl_index.specs.Runs.{IsWithin};
 ghost use Rattle.bl_index.specs.Replies.{reply_of, found_of};
@@ -15,7 +15,7 @@ ghost use Rattle.bl_index.specs.Searching.{IsSearching};
 use crate::config::OutOfTurns;
 use crate::index::{Index, Pass};
 use crate::reply::KeyReply;
-use bl_passes::Mine;
+use bl_index_rule::Mine;
 use bl_proc::{Find, FindStage};
 use bl_store::Hand;
 

@@ -6,13 +6,13 @@ use bl_proc::{Compress, Find, Post, Process, Reader};
 /// in one way.
 pub(crate) trait Kind: Process + Reader {
     ghost use Rattle.std.specs.Prelude.{◌≡◌, None};
-    ghost use Rattle.bl_ways.specs.declared.acts.Seen.{Seen};
-    ghost use Rattle.bl_ways.specs.Given.{Gives};
+    ghost use Rattle.bl_proc_base.specs.declared.acts.Seen.{Seen};
+    ghost use Rattle.bl_proc_base.specs.Given.{Gives};
     ghost use Rattle.bl_proc.specs.declared.kinds.Proc.{Proc};
     ghost use Rattle.bl_proc.specs.Processes.{next_of as next_in, needs_of as needs_in, answer_of as answer_in, Takes as TakesIn};
-    ghost use Rattle.bl_courses.specs.Courses.{GoesOn};
-    ghost use Rattle.bl_courses.specs.Frames.{frames_of, Wants, Follows};
-    ghost use Rattle.bl_courses.specs.Retirements.{RetiresAfter};
+    ghost use Rattle.bl_proc_unique.specs.Courses.{GoesOn};
+    ghost use Rattle.bl_proc_unique.specs.Frames.{frames_of, Wants, Follows};
+    ghost use Rattle.bl_proc_unique.specs.Retirements.{RetiresAfter};
 
     // The same process as one of any kind.
     ghost proc_of: { Self → Proc };
@@ -37,9 +37,9 @@ pub(crate) trait Kind: Process + Reader {
 impl Kind for Find {
     ghost use Rattle.std.specs.Prelude.{refl};
     ghost use Rattle.bl_proc.specs.declared.kinds.Proc.TheVariants as proc;
-    ghost use Rattle.bl_courses.proofs.Searches.{find_goes};
-    ghost use Rattle.bl_courses.proofs.Following.{find_wants, find_follows};
-    ghost use Rattle.bl_courses.proofs.Retirements.{find_retires};
+    ghost use Rattle.bl_proc_unique.proofs.Searches.{find_goes};
+    ghost use Rattle.bl_proc_unique.proofs.Following.{find_wants, find_follows};
+    ghost use Rattle.bl_proc_unique.proofs.Retirements.{find_retires};
 
     ghost proc_of = { λ p. proc.Find p };
 
@@ -63,9 +63,9 @@ impl Kind for Find {
 impl Kind for Post {
     ghost use Rattle.std.specs.Prelude.{refl};
     ghost use Rattle.bl_proc.specs.declared.kinds.Proc.TheVariants as proc;
-    ghost use Rattle.bl_courses.proofs.Posts.{post_goes};
-    ghost use Rattle.bl_courses.proofs.PostsFollowing.{post_wants, post_follows};
-    ghost use Rattle.bl_courses.proofs.Retirements.{post_retires};
+    ghost use Rattle.bl_proc_unique.proofs.Posts.{post_goes};
+    ghost use Rattle.bl_proc_unique.proofs.PostsFollowing.{post_wants, post_follows};
+    ghost use Rattle.bl_proc_unique.proofs.Retirements.{post_retires};
 
     ghost proc_of = { λ p. proc.Post p };
 
@@ -89,9 +89,9 @@ impl Kind for Post {
 impl Kind for Compress {
     ghost use Rattle.std.specs.Prelude.{refl};
     ghost use Rattle.bl_proc.specs.declared.kinds.Proc.TheVariants as proc;
-    ghost use Rattle.bl_courses.proofs.Compressions.{compress_goes};
-    ghost use Rattle.bl_courses.proofs.CompressionsFollowing.{compress_wants, compress_follows};
-    ghost use Rattle.bl_courses.proofs.Retirements.{compress_retires};
+    ghost use Rattle.bl_proc_unique.proofs.Compressions.{compress_goes};
+    ghost use Rattle.bl_proc_unique.proofs.CompressionsFollowing.{compress_wants, compress_follows};
+    ghost use Rattle.bl_proc_unique.proofs.Retirements.{compress_retires};
 
     ghost proc_of = { λ p. proc.Compress p };
 

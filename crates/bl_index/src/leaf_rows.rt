@@ -7,7 +7,7 @@ ghost use Rattle.bl_page.specs.declared.page.Page.{Page};
 ghost use Rattle.bl_page.specs.Faults.{HasPairs, count_in, pairs_of};
 ghost use Rattle.bl_page.specs.Pairs.{end_of};
 ghost use Rattle.bl_page.specs.Words.{words_of};
-ghost use Rattle.bl_laws.specs.Pages.{node_of, IsTreePage};
+ghost use Rattle.bl_claims.specs.Pages.{node_of, IsTreePage};
 ghost use Rattle.bl_proc.specs.Parts.{GoesOnAt};
 ghost use Rattle.bl_index.specs.LeafRows.{rows_from, EndsBefore, AppendsBetween};
 

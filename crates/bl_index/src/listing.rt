@@ -3,15 +3,15 @@
 ghost use Rattle.std.specs.Prelude.{◌≡◌, ℕ, List, false, IfOk, MatchOption};
 ghost use Rattle.bl_model.specs.declared.operation.Op.TheVariants as op;
 ghost use Rattle.bl_page.specs.Machine.Act.{Get};
-ghost use Rattle.bl_ways.specs.declared.acts.Action.TheVariants as act;
-ghost use Rattle.bl_ways.specs.declared.acts.Seen.TheVariants as seen;
+ghost use Rattle.bl_proc_base.specs.declared.acts.Action.TheVariants as act;
+ghost use Rattle.bl_proc_base.specs.declared.acts.Seen.TheVariants as seen;
 ghost use Rattle.bl_proc.specs.declared.parts.PartStage.TheVariants as part_stage;
 ghost use Rattle.bl_proc.specs.Processes.{next_of};
-ghost use Rattle.bl_courses.specs.Courses.{GoesOn};
+ghost use Rattle.bl_proc_unique.specs.Courses.{GoesOn};
 ghost use Rattle.bl_store.specs.Hands.{known, IsOf, IsIdle, IsRunning, IsSameHand, IsSameStage, IsSameStock};
-ghost use Rattle.bl_passes.specs.Noting.{trail_of};
-ghost use Rattle.bl_passes.specs.Seeing.{IsSeen};
-ghost use Rattle.bl_passes.specs.Told.{Begins, Steps, ends, IsUnborn};
+ghost use Rattle.bl_index_rule.specs.Noting.{trail_of};
+ghost use Rattle.bl_claims.specs.Seeing.{IsSeen};
+ghost use Rattle.bl_index_rule.specs.Told.{Begins, Steps, ends, IsUnborn};
 ghost use Rattle.bl_index.specs.declared.listing.Ahead.TheVariants as ahead;
 ghost use Rattle.bl_index.specs.Runs.{IsOn, IsSince, IsWithin};
 ghost use Rattle.bl_index.specs.Parts.{listing, part_at, IsAtLeaf, HasReached, HasLeaf, HasGivenUp};
@@ -20,10 +20,10 @@ use crate::config::OutOfTurns;
 use crate::index::{Index, Pass};
 use crate::leaf_rows::{next_in, rows_in};
 use crate::shown::Shown;
+use bl_index_rule::{Began, Ended, Launch, Mine};
 use bl_model::Reply;
-use bl_passes::{Began, Ended, Launch, Mine};
+use bl_proc_base::{Step, step_in, top_in};
 use bl_store::{Glance, Hand};
-use bl_ways::{Step, step_in, top_in};
 use std::marker::Brand;
 
 /// The page that a part is to get next.

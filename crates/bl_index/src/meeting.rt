@@ -2,13 +2,13 @@
 
 ghost use Rattle.std.specs.Prelude.{◌≡◌, ℕ, false};
 ghost use Rattle.bl_store.specs.Hands.{known, IsOf, IsIdle, HasNoStock, IsSameHand, IsSameStage, IsSameStock};
-ghost use Rattle.bl_passes.specs.Noting.{trail_of};
-ghost use Rattle.bl_passes.specs.Seeing.{GoesOnFrom};
+ghost use Rattle.bl_index_rule.specs.Noting.{trail_of};
+ghost use Rattle.bl_claims.specs.Seeing.{GoesOnFrom};
 ghost use Rattle.bl_index.specs.Runs.{IsWithin};
 ghost use Rattle.bl_index.specs.Meetings.{learned, heard};
 
 use crate::index::{Index, Pass};
-use bl_passes::Mine;
+use bl_index_rule::Mine;
 use bl_store::{Hand, MeetPlay};
 use std::marker::{Brand, PhantomData};
 
@@ -49,7 +49,7 @@ impl<J: Meeting> MeetPlay<Mine> for Heard<J> {
 
 impl Index {
     ghost use Rattle.bl_index.specs.Calls.{first_of, IsPassOf, IsSamePass, number_of, trail};
-    ghost use Rattle.bl_passes.specs.Seeing.{IsSeen};
+    ghost use Rattle.bl_claims.specs.Seeing.{IsSeen};
     ghost use Rattle.bl_index.specs.Meetings.{Learns, Hears, Meet};
 
     /// The two passes meet: each then knows all that has happened in the index, and so all that the other one knew.

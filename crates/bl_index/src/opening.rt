@@ -2,16 +2,16 @@
 
 ghost use Rattle.std.specs.Prelude.{◌≡◌, ◌≤◌, [], length, IfOk, IfErr};
 ghost use Rattle.bl_store.specs.Opening.{first_pages as store_pages};
-ghost use Rattle.bl_passes.specs.Seeing.{IsSeen};
-ghost use Rattle.bl_passes.specs.Fitting.{beginner as unborn_pass, Fits};
+ghost use Rattle.bl_claims.specs.Seeing.{IsSeen};
+ghost use Rattle.bl_index_rule.specs.Fitting.{beginner as unborn_pass, Fits};
 ghost use Rattle.bl_index.specs.Opened.{IsRefusal, IsFirstAnchor, IsFirstLeaf, IsFirst, AreFirst, AreNew, ArePasses, IsBegun, IsOpened, IsReopened, IsImageRefusal};
 
 use crate::config::{Config, OpenFault};
 use crate::index::{Index, Pass};
 use arrayvec::ArrayVec;
 use bl_check::Quiet;
+use bl_index_rule::{Beginning, Mine, Passes};
 use bl_page::{Anchor, Leaf, Page};
-use bl_passes::{Beginning, Mine, Passes};
 use bl_proc::{Find, FindStage, Proc};
 use bl_store::{Hand, Store};
 use std::alloc::{AllocError, Global};

@@ -4,23 +4,23 @@
 ghost use Rattle.std.specs.Prelude.{◌≡◌, ◌≤◌, slice_index};
 ghost use Rattle.bl_page.specs.declared.page.Page.{Page};
 ghost use Rattle.bl_page.specs.Words.{words_of};
-ghost use Rattle.bl_ways.specs.declared.changing.Full.{Full};
-ghost use Rattle.bl_ways.specs.declared.changing.Change.{Change};
-ghost use Rattle.bl_ways.specs.declared.changing.Change.TheVariants as change;
+ghost use Rattle.bl_proc_base.specs.declared.changing.Full.{Full};
+ghost use Rattle.bl_proc_base.specs.declared.changing.Change.{Change};
+ghost use Rattle.bl_proc_base.specs.declared.changing.Change.TheVariants as change;
 ghost use Rattle.bl_store.specs.Hands.{known, IsOf, IsRunning, IsSameHand, IsSameStage, IsStockOf, HasNoStock, WasRefused};
 ghost use Rattle.bl_index.specs.Runs.{IsOn};
 ghost use Rattle.bl_index.specs.Events.{IsSameProcess, IsToEnter};
 ghost use Rattle.bl_index.specs.Halves.{AreParts};
-ghost use Rattle.bl_ways.specs.declared.changing.Outcome.TheVariants as outcomes;
+ghost use Rattle.bl_proc_base.specs.declared.changing.Outcome.TheVariants as outcomes;
 ghost use Rattle.bl_index.specs.Rooms.{LacksRoom};
 
 use crate::changers::Changer;
 use crate::halves::{entries_with, laid_out};
 use crate::index::Index;
+use bl_index_rule::Mine;
 use bl_page::LEVEL_UNIT;
-use bl_passes::Mine;
+use bl_proc_base::{Outcome, words_with};
 use bl_store::{Hand, Stock};
-use bl_ways::{Outcome, words_with};
 
 impl Index {
     /// Puts the two parts of the page with these words, whose entries with a pair more are those, and opens the new one.

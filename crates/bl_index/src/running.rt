@@ -1,26 +1,27 @@
 //! A process is carried out over the store, one event at a time.
 
 ghost use Rattle.std.specs.Prelude.{◌≡◌, ◌+◌, ◌<◌, None};
-ghost use Rattle.bl_ways.specs.declared.acts.Action.TheVariants as act;
-ghost use Rattle.bl_ways.specs.declared.acts.Seen.TheVariants as seen;
+ghost use Rattle.bl_proc_base.specs.declared.acts.Action.TheVariants as act;
+ghost use Rattle.bl_proc_base.specs.declared.acts.Seen.TheVariants as seen;
 ghost use Rattle.bl_page.specs.declared.page.Page.{Page as PageIs};
 ghost use Rattle.bl_page.specs.Machine.Act.{Get};
 ghost use Rattle.bl_proc.specs.Processes.{next_of};
-ghost use Rattle.bl_courses.specs.Courses.{GoesOn};
-ghost use Rattle.bl_tables.specs.Knowing.{end_of_proc};
-ghost use Rattle.bl_tables.specs.Logs.{proc_log};
-ghost use Rattle.bl_bounds.specs.Latches.{OnlyLooks, IsTidy};
-ghost use Rattle.bl_trails.specs.Trails.{marks_of};
-ghost use Rattle.bl_passes.specs.Noting.{trail_of};
-ghost use Rattle.bl_passes.specs.Fitting.{name};
+ghost use Rattle.bl_proc_unique.specs.Courses.{GoesOn};
+ghost use Rattle.bl_proc_invariant.specs.Knowing.{end_of_proc};
+ghost use Rattle.bl_proc_invariant.specs.Logs.{proc_log};
+ghost use Rattle.bl_claims.specs.Latches.{OnlyLooks};
+ghost use Rattle.bl_proc_bounds.specs.Latches.{IsTidy};
+ghost use Rattle.bl_claims.specs.Trails.{marks_of};
+ghost use Rattle.bl_index_rule.specs.Noting.{trail_of};
+ghost use Rattle.bl_claims.specs.Seeing.{name};
 ghost use Rattle.bl_store.specs.Hands.{known, IsOf, IsIdle, IsRunning, IsSameHand, IsSameStage, IsSameStock, IsSameRefusal};
-ghost use Rattle.bl_passes.specs.Told.{Begins, Steps, Finishes, IsUnborn, MayGiveUp};
+ghost use Rattle.bl_index_rule.specs.Told.{Begins, Steps, Finishes, IsUnborn, MayGiveUp};
 ghost use Rattle.bl_index.specs.Runs.{IsOn, IsSince, IsWithin, Moves};
 
 use crate::index::Index;
 use crate::kinds::Kind;
 use crate::shown::Shown;
-use bl_passes::{Began, Ended, GaveUp, Got, Launch, Mine};
+use bl_index_rule::{Began, Ended, GaveUp, Got, Launch, Mine};
 use bl_proc::Seen;
 use bl_store::Hand;
 use std::marker::Brand;

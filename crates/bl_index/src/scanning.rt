@@ -3,16 +3,16 @@
 ghost use Rattle.std.specs.Prelude.{◌≡◌, ◌-◌, Some, false, vec_len};
 ghost use Rattle.std.specs.Vec.{vec_capacity};
 ghost use Rattle.bl_store.specs.Hands.{known, IsOf, IsIdle, IsSameHand, IsSameStock};
-ghost use Rattle.bl_passes.specs.Noting.{trail_of};
-ghost use Rattle.bl_passes.specs.Seeing.{IsSeen};
+ghost use Rattle.bl_index_rule.specs.Noting.{trail_of};
+ghost use Rattle.bl_claims.specs.Seeing.{IsSeen};
 ghost use Rattle.bl_index.specs.Runs.{IsWithin};
 ghost use Rattle.bl_index.specs.Scans.{is_below as below, IsOver, MayAppend, MayScan};
 
 use crate::index::{Index, Pass};
 use crate::leaf_rows::{append_rows, next_in};
 use crate::shown::Shown;
+use bl_index_rule::Mine;
 use bl_model::Next;
-use bl_passes::Mine;
 use bl_store::Hand;
 
 /// Why a scan stopped, with the key from which it goes on.

@@ -2,8 +2,8 @@
 
 ghost use Rattle.std.specs.Prelude.{◌≡◌};
 
+use bl_index_rule::{Mine, Passes};
 use bl_page::Words;
-use bl_passes::{Mine, Passes};
 use bl_store::{Glance, Hand, Store};
 
 /// A page that a hand of the store has looked at.

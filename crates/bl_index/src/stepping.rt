@@ -1,17 +1,17 @@
 //! Steps of a writer: it latches, puts, takes, opens and retires pages.
 
 ghost use Rattle.std.specs.Prelude.{◌≡◌, ◌≢◌, ◌+◌, ◌<◌, ◌≤◌, None, Some};
-ghost use Rattle.bl_ways.specs.declared.acts.Action.TheVariants as act;
-ghost use Rattle.bl_ways.specs.declared.acts.Seen.{Seen as SeenIs};
-ghost use Rattle.bl_ways.specs.declared.acts.Seen.TheVariants as seen;
+ghost use Rattle.bl_proc_base.specs.declared.acts.Action.TheVariants as act;
+ghost use Rattle.bl_proc_base.specs.declared.acts.Seen.{Seen as SeenIs};
+ghost use Rattle.bl_proc_base.specs.declared.acts.Seen.TheVariants as seen;
 ghost use Rattle.bl_store.specs.Hands.{known, IsOf, IsRunning, IsSameHand, IsSameStage, IsSameStock, HasNoStock, IsStockOf, MayRetire};
 ghost use Rattle.bl_index.specs.Runs.{IsOn, Moves, HasReserved, IsAfter};
 ghost use Rattle.bl_index.specs.Rooms.{TellsRoom};
 
 use crate::index::Index;
 use crate::kinds::Kind;
+use bl_index_rule::{Mine, Opened, Put, Refused, Retired, Took, Tried};
 use bl_page::Page;
-use bl_passes::{Mine, Opened, Put, Refused, Retired, Took, Tried};
 use bl_proc::{Action, Process, Seen};
 use bl_store::{Hand, Stock};
 use crossbeam_utils::Backoff;

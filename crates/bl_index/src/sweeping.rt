@@ -2,16 +2,16 @@
 
 ghost use Rattle.std.specs.Prelude.{◌≡◌, ℕ, ◌+◌, ◌≤◌, false};
 ghost use Rattle.bl_store.specs.Hands.{known, IsOf, IsSameHand, IsSameStage, IsSameStock};
-ghost use Rattle.bl_passes.specs.Told.{sweeps};
+ghost use Rattle.bl_index_rule.specs.Told.{sweeps};
 ghost use Rattle.bl_index.specs.Runs.{IsWithin};
 
 use crate::index::{Index, Pass};
-use bl_passes::{Mine, Sweeper, Swept};
+use bl_index_rule::{Mine, Sweeper, Swept};
 use bl_store::Hand;
 use std::marker::Brand;
 
 impl Index {
-    ghost use Rattle.bl_passes.specs.Seeing.{IsSeen};
+    ghost use Rattle.bl_claims.specs.Seeing.{IsSeen};
     ghost use Rattle.bl_index.specs.Calls.{first_of, IsPassOf, IsSamePass, number_of, trail, released_by, Sweeps};
 
     /// Releases pages and frames that no process can read any more: each was retired before every process began that still

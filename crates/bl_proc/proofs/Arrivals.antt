@@ -1,16 +1,16 @@
 -- A process that is at its page goes on as it does there.
 use Rattle.std.specs.Prelude.{ℕ}
 use Rattle.bl_page.specs.declared.page.Page.{Page}
-use Rattle.bl_ways.specs.declared.acts.Seen.{Seen}
-use Rattle.bl_ways.specs.declared.approaching.Approach.{Approach}
-use Rattle.bl_ways.specs.declared.approaching.Approached.TheVariants as came
+use Rattle.bl_proc_base.specs.declared.acts.Seen.{Seen}
+use Rattle.bl_proc_base.specs.declared.approaching.Approach.{Approach}
+use Rattle.bl_proc_base.specs.declared.approaching.Approached.TheVariants as came
 use Rattle.bl_proc.specs.declared.inserting.InsertStage.{InsertStage}
 use Rattle.bl_proc.specs.declared.inserting.InsertStage.TheVariants as insert
 use Rattle.bl_proc.specs.declared.deleting.DeleteStage.{DeleteStage}
 use Rattle.bl_proc.specs.declared.deleting.DeleteStage.TheVariants as delete
 use Rattle.bl_proc.specs.declared.posting.PostStage.{PostStage}
 use Rattle.bl_proc.specs.declared.posting.PostStage.TheVariants as post
-use Rattle.bl_ways.specs.Approaches.{Approaches}
+use Rattle.bl_proc_base.specs.Approaches.{Approaches}
 use Rattle.bl_proc.specs.Inserts.{InsertArrives, InsertGoes}
 use Rattle.bl_proc.specs.Deletes.{DeleteArrives, DeleteGoes}
 use Rattle.bl_proc.specs.Posts.{PostArrives, PostNears}

@@ -3,34 +3,34 @@
 use Rattle.std.proofs.Common.{◌≡◌, Some, None, [], ◌∷◌, arith, refl, inl, inr}
 use Rattle.bl_page.specs.declared.page.Page.{Page}
 use Rattle.bl_page.specs.declared.page.Page.TheVariants as page
-use Rattle.bl_ways.specs.declared.acts.Action.TheVariants as act
-use Rattle.bl_ways.specs.declared.acts.Seen.TheVariants as seen
-use Rattle.bl_ways.specs.declared.answers.Answer.TheVariants as answer
-use Rattle.bl_ways.specs.declared.answers.Posted.TheVariants as posted
-use Rattle.bl_ways.specs.declared.answers.Hint.TheVariants as hint
+use Rattle.bl_proc_base.specs.declared.acts.Action.TheVariants as act
+use Rattle.bl_proc_base.specs.declared.acts.Seen.TheVariants as seen
+use Rattle.bl_proc_base.specs.declared.answers.Answer.TheVariants as answer
+use Rattle.bl_proc_base.specs.declared.answers.Posted.TheVariants as posted
+use Rattle.bl_proc_base.specs.declared.answers.Hint.TheVariants as hint
 use Rattle.bl_model.specs.declared.operation.Reply.TheVariants as reply
-use Rattle.bl_ways.specs.declared.onwards.Step.TheVariants as onward
+use Rattle.bl_proc_base.specs.declared.onwards.Step.TheVariants as onward
 use Rattle.bl_proc.specs.declared.searching.FindStage.TheVariants as find
-use Rattle.bl_ways.specs.declared.approaching.Approach.TheVariants as approach
-use Rattle.bl_ways.specs.declared.approaching.Approached.TheVariants as came
-use Rattle.bl_ways.specs.declared.changing.Outcome.TheVariants as outcome
-use Rattle.bl_ways.specs.declared.changing.Change.TheVariants as change
-use Rattle.bl_ways.specs.declared.changing.Changed.TheVariants as changed
+use Rattle.bl_proc_base.specs.declared.approaching.Approach.TheVariants as approach
+use Rattle.bl_proc_base.specs.declared.approaching.Approached.TheVariants as came
+use Rattle.bl_proc_base.specs.declared.changing.Outcome.TheVariants as outcome
+use Rattle.bl_proc_base.specs.declared.changing.Change.TheVariants as change
+use Rattle.bl_proc_base.specs.declared.changing.Changed.TheVariants as changed
 use Rattle.bl_proc.specs.declared.inserting.InsertStage.TheVariants as insert
 use Rattle.bl_proc.specs.declared.inserting.InsertReply.TheVariants as inserted
 use Rattle.bl_proc.specs.declared.deleting.DeleteStage.TheVariants as delete
-use Rattle.bl_ways.specs.declared.growing.Growth.TheVariants as growth
-use Rattle.bl_ways.specs.declared.growing.Grew.TheVariants as grew
+use Rattle.bl_proc_base.specs.declared.growing.Growth.TheVariants as growth
+use Rattle.bl_proc_base.specs.declared.growing.Grew.TheVariants as grew
 use Rattle.bl_proc.specs.declared.posting.PostStage.TheVariants as post
 use Rattle.bl_proc.specs.declared.posting.PostReply.TheVariants as listed
-use Rattle.bl_ways.specs.Given.{Gives}
-use Rattle.bl_ways.specs.Onwards.{Leads}
+use Rattle.bl_proc_base.specs.Given.{Gives}
+use Rattle.bl_proc_base.specs.Onwards.{Leads}
 use Rattle.bl_proc.specs.Searches.{FindGoes, found_answer}
-use Rattle.bl_ways.specs.Approaches.{Approaches}
-use Rattle.bl_ways.specs.Changes.{Changes, change_needs}
+use Rattle.bl_proc_base.specs.Approaches.{Approaches}
+use Rattle.bl_proc_base.specs.Changes.{Changes, change_needs}
 use Rattle.bl_proc.specs.Inserts.{InsertGoes, inserted_answer}
 use Rattle.bl_proc.specs.Deletes.{DeleteGoes}
-use Rattle.bl_ways.specs.Growths.{Grows, Raises}
+use Rattle.bl_proc_base.specs.Growths.{Grows, Raises}
 use Rattle.bl_proc.specs.Posts.{PostGoes, posted_answer}
 
 abbrev left_leaf : Page

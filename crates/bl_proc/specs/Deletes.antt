@@ -2,29 +2,29 @@
 use Rattle.std.specs.Prelude.{◌≡◌, ℕ, Option, None, Some}
 use Rattle.bl_model.specs.declared.operation.Reply.TheVariants as reply
 use Rattle.bl_page.specs.declared.page.Page.{Page}
-use Rattle.bl_laws.specs.Pages.{node_of}
-use Rattle.bl_ways.specs.declared.acts.Action.{Action}
-use Rattle.bl_ways.specs.declared.acts.Action.TheVariants as act
-use Rattle.bl_ways.specs.declared.acts.Seen.{Seen}
-use Rattle.bl_ways.specs.declared.acts.Seen.TheVariants as seen
-use Rattle.bl_ways.specs.declared.answers.Answer.{Answer}
-use Rattle.bl_ways.specs.declared.answers.Answer.TheVariants.{Op}
-use Rattle.bl_ways.specs.declared.approaching.Approach.TheVariants.{Start}
-use Rattle.bl_ways.specs.declared.approaching.Approached.TheVariants as came
-use Rattle.bl_ways.specs.declared.changing.Outcome.{Outcome}
-use Rattle.bl_ways.specs.declared.changing.Outcome.TheVariants as outcome
-use Rattle.bl_ways.specs.declared.changing.Change.{Change}
-use Rattle.bl_ways.specs.declared.changing.Change.TheVariants as change
-use Rattle.bl_ways.specs.declared.changing.Changed.TheVariants as changed
+use Rattle.bl_claims.specs.Pages.{node_of}
+use Rattle.bl_proc_base.specs.declared.acts.Action.{Action}
+use Rattle.bl_proc_base.specs.declared.acts.Action.TheVariants as act
+use Rattle.bl_proc_base.specs.declared.acts.Seen.{Seen}
+use Rattle.bl_proc_base.specs.declared.acts.Seen.TheVariants as seen
+use Rattle.bl_proc_base.specs.declared.answers.Answer.{Answer}
+use Rattle.bl_proc_base.specs.declared.answers.Answer.TheVariants.{Op}
+use Rattle.bl_proc_base.specs.declared.approaching.Approach.TheVariants.{Start}
+use Rattle.bl_proc_base.specs.declared.approaching.Approached.TheVariants as came
+use Rattle.bl_proc_base.specs.declared.changing.Outcome.{Outcome}
+use Rattle.bl_proc_base.specs.declared.changing.Outcome.TheVariants as outcome
+use Rattle.bl_proc_base.specs.declared.changing.Change.{Change}
+use Rattle.bl_proc_base.specs.declared.changing.Change.TheVariants as change
+use Rattle.bl_proc_base.specs.declared.changing.Changed.TheVariants as changed
 use Rattle.bl_proc.specs.declared.deleting.Removed.{Removed}
 use Rattle.bl_proc.specs.declared.deleting.Delete.{Delete}
 use Rattle.bl_proc.specs.declared.deleting.DeleteStage.{DeleteStage}
 use Rattle.bl_proc.specs.declared.deleting.DeleteStage.TheVariants.{New, Coming, Absent, Changing, Ending, Over}
 use Rattle.bl_proc.specs.declared.deleting.DeleteReply.{DeleteReply}
 use Rattle.bl_proc.specs.declared.deleting.DeleteReply.TheVariants as deleted
-use Rattle.bl_ways.specs.Thin.{thin_low, thin_hint}
-use Rattle.bl_ways.specs.Approaches.{approach_next, Approaches}
-use Rattle.bl_ways.specs.Changes.{change_next, change_needs, DropsPair, Changes}
+use Rattle.bl_proc_base.specs.Thin.{thin_low, thin_hint}
+use Rattle.bl_proc_base.specs.Approaches.{approach_next, Approaches}
+use Rattle.bl_proc_base.specs.Changes.{change_next, change_needs, DropsPair, Changes}
 
 -- what a deletion answers when its leaf is open again. (A page that loses a pair is never parted.)
 abbrev pub delete_reply : Removed → Outcome → DeleteReply

@@ -2,27 +2,27 @@
 use Rattle.std.specs.Prelude.{◌≡◌, ℕ, Option, None, Some}
 use Rattle.bl_model.specs.declared.operation.Reply.TheVariants as reply
 use Rattle.bl_page.specs.declared.page.Page.{Page}
-use Rattle.bl_laws.specs.Pages.{node_of}
-use Rattle.bl_ways.specs.declared.acts.Action.{Action}
-use Rattle.bl_ways.specs.declared.acts.Action.TheVariants as act
-use Rattle.bl_ways.specs.declared.acts.Seen.{Seen}
-use Rattle.bl_ways.specs.declared.acts.Seen.TheVariants as seen
-use Rattle.bl_ways.specs.declared.answers.Answer.{Answer}
-use Rattle.bl_ways.specs.declared.answers.Answer.TheVariants.{Op}
-use Rattle.bl_ways.specs.declared.answers.Hint.{Hint}
-use Rattle.bl_ways.specs.declared.answers.Hint.TheVariants as hint
-use Rattle.bl_ways.specs.declared.approaching.Approach.TheVariants.{Start}
-use Rattle.bl_ways.specs.declared.approaching.Approached.TheVariants as came
-use Rattle.bl_ways.specs.declared.changing.Outcome.{Outcome}
-use Rattle.bl_ways.specs.declared.changing.Outcome.TheVariants as outcome
-use Rattle.bl_ways.specs.declared.changing.Changed.TheVariants as change
+use Rattle.bl_claims.specs.Pages.{node_of}
+use Rattle.bl_proc_base.specs.declared.acts.Action.{Action}
+use Rattle.bl_proc_base.specs.declared.acts.Action.TheVariants as act
+use Rattle.bl_proc_base.specs.declared.acts.Seen.{Seen}
+use Rattle.bl_proc_base.specs.declared.acts.Seen.TheVariants as seen
+use Rattle.bl_proc_base.specs.declared.answers.Answer.{Answer}
+use Rattle.bl_proc_base.specs.declared.answers.Answer.TheVariants.{Op}
+use Rattle.bl_proc_base.specs.declared.answers.Hint.{Hint}
+use Rattle.bl_proc_base.specs.declared.answers.Hint.TheVariants as hint
+use Rattle.bl_proc_base.specs.declared.approaching.Approach.TheVariants.{Start}
+use Rattle.bl_proc_base.specs.declared.approaching.Approached.TheVariants as came
+use Rattle.bl_proc_base.specs.declared.changing.Outcome.{Outcome}
+use Rattle.bl_proc_base.specs.declared.changing.Outcome.TheVariants as outcome
+use Rattle.bl_proc_base.specs.declared.changing.Changed.TheVariants as change
 use Rattle.bl_proc.specs.declared.inserting.Insert.{Insert}
 use Rattle.bl_proc.specs.declared.inserting.InsertStage.{InsertStage}
 use Rattle.bl_proc.specs.declared.inserting.InsertStage.TheVariants.{New, Coming, Present, Changing, Ending, Over}
 use Rattle.bl_proc.specs.declared.inserting.InsertReply.{InsertReply}
 use Rattle.bl_proc.specs.declared.inserting.InsertReply.TheVariants as inserted
-use Rattle.bl_ways.specs.Approaches.{approach_next, Approaches}
-use Rattle.bl_ways.specs.Changes.{change_next, change_needs, EntersPair, Changes}
+use Rattle.bl_proc_base.specs.Approaches.{approach_next, Approaches}
+use Rattle.bl_proc_base.specs.Changes.{change_next, change_needs, EntersPair, Changes}
 
 -- the hint to list a page one level above its own
 abbrev pub post_hint : ℕ → Option ℕ → Option Hint

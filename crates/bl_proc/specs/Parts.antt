@@ -5,21 +5,21 @@ use Rattle.bl_model.specs.declared.operation.Next.TheVariants.{More, End}
 use Rattle.bl_model.specs.declared.operation.Reply.TheVariants as reply
 use Rattle.bl_model.specs.Map.{ListsPairs}
 use Rattle.bl_page.specs.declared.page.Page.{Page}
-use Rattle.bl_tree.specs.Nodes.{unbounded}
-use Rattle.bl_laws.specs.Pages.{node_of}
-use Rattle.bl_ways.specs.declared.acts.Action.{Action}
-use Rattle.bl_ways.specs.declared.acts.Action.TheVariants as act
-use Rattle.bl_ways.specs.declared.acts.Seen.{Seen}
-use Rattle.bl_ways.specs.declared.acts.Seen.TheVariants as seen
-use Rattle.bl_ways.specs.declared.answers.Answer.{Answer}
-use Rattle.bl_ways.specs.declared.answers.Answer.TheVariants.{Op}
-use Rattle.bl_ways.specs.declared.onwards.Step.TheVariants.{Here}
+use Rattle.bl_claims.specs.Nodes.{unbounded}
+use Rattle.bl_claims.specs.Pages.{node_of}
+use Rattle.bl_proc_base.specs.declared.acts.Action.{Action}
+use Rattle.bl_proc_base.specs.declared.acts.Action.TheVariants as act
+use Rattle.bl_proc_base.specs.declared.acts.Seen.{Seen}
+use Rattle.bl_proc_base.specs.declared.acts.Seen.TheVariants as seen
+use Rattle.bl_proc_base.specs.declared.answers.Answer.{Answer}
+use Rattle.bl_proc_base.specs.declared.answers.Answer.TheVariants.{Op}
+use Rattle.bl_proc_base.specs.declared.onwards.Step.TheVariants.{Here}
 use Rattle.bl_proc.specs.declared.searching.FindStage.TheVariants as find
 use Rattle.bl_proc.specs.declared.parts.Part.{Part}
 use Rattle.bl_proc.specs.declared.parts.PartRows.{PartRows}
 use Rattle.bl_proc.specs.declared.parts.PartStage.{PartStage}
 use Rattle.bl_proc.specs.declared.parts.PartStage.TheVariants.{New, AtAnchor, At, Ending, Over}
-use Rattle.bl_ways.specs.Onwards.{Leads}
+use Rattle.bl_proc_base.specs.Onwards.{Leads}
 use Rattle.bl_proc.specs.Searches.{FindGoes}
 
 -- The next part begins where the page ends. Past a page without a bound there is none.

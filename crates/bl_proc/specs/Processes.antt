@@ -1,8 +1,8 @@
 -- A process of any kind does what its kind does.
 use Rattle.std.specs.Prelude.{◌≡◌, ℕ, Option}
-use Rattle.bl_ways.specs.declared.acts.Action.{Action}
-use Rattle.bl_ways.specs.declared.acts.Seen.{Seen}
-use Rattle.bl_ways.specs.declared.answers.Answer.{Answer}
+use Rattle.bl_proc_base.specs.declared.acts.Action.{Action}
+use Rattle.bl_proc_base.specs.declared.acts.Seen.{Seen}
+use Rattle.bl_proc_base.specs.declared.answers.Answer.{Answer}
 use Rattle.bl_proc.specs.declared.kinds.Proc.{Proc}
 use Rattle.bl_proc.specs.declared.kinds.Proc.TheVariants.{Find, Insert, Delete, Post, Part, Compress, Reclaim}
 use Rattle.bl_proc.specs.declared.searching.FindStage.TheVariants as find
@@ -15,8 +15,8 @@ use Rattle.bl_proc.specs.Searches.{find_next, find_needs, find_answer, FindTakes
 use Rattle.bl_proc.specs.Inserts.{insert_next, insert_needs, insert_answer, InsertTakes}
 use Rattle.bl_proc.specs.Deletes.{delete_next, delete_needs, delete_answer, DeleteTakes}
 use Rattle.bl_proc.specs.Posts.{post_next, post_needs, post_answer, PostTakes}
-use Rattle.bl_compress.specs.declared.squeezing.CompressStage.TheVariants as compress
-use Rattle.bl_compress.specs.Compresses.{compress_next, compress_needs, compress_answer, CompressTakes}
+use Rattle.bl_proc_compress.specs.declared.squeezing.CompressStage.TheVariants as compress
+use Rattle.bl_proc_compress.specs.Compresses.{compress_next, compress_needs, compress_answer, CompressTakes}
 use Rattle.bl_proc.specs.Parts.{part_next, part_needs, part_answer, PartTakes}
 use Rattle.bl_proc.specs.Reclaims.{reclaim_next, reclaim_needs, reclaim_answer, ReclaimTakes}
 

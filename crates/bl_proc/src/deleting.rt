@@ -1,18 +1,18 @@
 //! The deletion of a key.
 
 ghost use Rattle.std.specs.Prelude.{◌≡◌, None, Some};
-ghost use Rattle.bl_laws.specs.Pages.{node_of};
-ghost use Rattle.bl_ways.specs.declared.changing.Change.{Change};
+ghost use Rattle.bl_claims.specs.Pages.{node_of};
+ghost use Rattle.bl_proc_base.specs.declared.changing.Change.{Change};
 ghost use Rattle.bl_proc.specs.declared.deleting.Removed.{Removed};
 ghost use Rattle.bl_proc.specs.declared.deleting.DeleteStage.TheVariants as delete_stage;
-ghost use Rattle.bl_ways.specs.declared.onwards.Step.TheVariants as onward;
-ghost use Rattle.bl_ways.specs.Given.{Gives};
-ghost use Rattle.bl_ways.specs.Onwards.{Leads};
+ghost use Rattle.bl_proc_base.specs.declared.onwards.Step.TheVariants as onward;
+ghost use Rattle.bl_proc_base.specs.Given.{Gives};
+ghost use Rattle.bl_proc_base.specs.Onwards.{Leads};
 ghost use Rattle.bl_proc.specs.Deletes.{delete_reply, thin_after, deleted_answer, delete_next_in, delete_needs_in, delete_answer_in, DeleteArrives, DeleteGoes, delete_next, delete_needs, delete_answer, DeleteTakes};
 
 use bl_model::Reply;
 use bl_page::{Page, Words};
-use bl_ways::{
+use bl_proc_base::{
     Action, Answer, Approach, Approached, Change, Changed, Level, Outcome, Process, Reader, Seen,
     dropping, hint_of_thin, listed, thin_low, took_page,
 };

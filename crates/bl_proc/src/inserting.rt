@@ -1,21 +1,21 @@
 //! The insertion of a pair.
 
 ghost use Rattle.std.specs.Prelude.{◌≡◌, None, Some};
-ghost use Rattle.bl_laws.specs.Pages.{node_of};
-ghost use Rattle.bl_ways.specs.declared.approaching.Approach.{Approach};
-ghost use Rattle.bl_ways.specs.declared.approaching.Approached.TheVariants as approached;
-ghost use Rattle.bl_ways.specs.declared.changing.Change.{Change};
+ghost use Rattle.bl_claims.specs.Pages.{node_of};
+ghost use Rattle.bl_proc_base.specs.declared.approaching.Approach.{Approach};
+ghost use Rattle.bl_proc_base.specs.declared.approaching.Approached.TheVariants as approached;
+ghost use Rattle.bl_proc_base.specs.declared.changing.Change.{Change};
 ghost use Rattle.bl_proc.specs.declared.inserting.InsertStage.TheVariants as insert_stage;
-ghost use Rattle.bl_ways.specs.Given.{Gives};
-ghost use Rattle.bl_ways.specs.Approaches.{Approaches};
-ghost use Rattle.bl_ways.specs.Changes.{Changes};
+ghost use Rattle.bl_proc_base.specs.Given.{Gives};
+ghost use Rattle.bl_proc_base.specs.Approaches.{Approaches};
+ghost use Rattle.bl_proc_base.specs.Changes.{Changes};
 ghost use Rattle.bl_proc.specs.Inserts.{post_hint, insert_reply, inserted_answer, insert_next_in, insert_needs_in, insert_answer_in, InsertArrives, InsertGoes, insert_next, insert_needs, insert_answer, InsertTakes};
-ghost use Rattle.bl_ways.specs.Onwards.{Leads};
-ghost use Rattle.bl_ways.specs.declared.onwards.Step.TheVariants as onward;
+ghost use Rattle.bl_proc_base.specs.Onwards.{Leads};
+ghost use Rattle.bl_proc_base.specs.declared.onwards.Step.TheVariants as onward;
 
 use bl_model::Reply;
 use bl_page::{Page, Words};
-use bl_ways::{
+use bl_proc_base::{
     Action, Answer, Approach, Approached, Change, Changed, Hint, Level, Outcome, Process, Reader,
     Seen, entering, listed, took_page,
 };

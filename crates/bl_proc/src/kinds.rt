@@ -1,7 +1,7 @@
 //! The sum of all kinds of processes.
 
 ghost use Rattle.std.specs.Prelude.{◌≡◌, ◌<◌, ◌≤◌};
-ghost use Rattle.bl_ways.specs.declared.acts.Action.TheVariants as act;
+ghost use Rattle.bl_proc_base.specs.declared.acts.Action.TheVariants as act;
 ghost use Rattle.bl_proc.specs.Processes.{next_of, needs_of, answer_of, Takes, IsFind, IsInsert, IsDelete, IsPost, IsPart, IsCompress, IsReclaim};
 
 use crate::deleting::Delete;
@@ -10,8 +10,8 @@ use crate::parts::Part;
 use crate::posting::Post;
 use crate::reclaiming::Reclaim;
 use crate::searching::Find;
-use bl_compress::Compress;
-use bl_ways::{Action, Answer, Process, Seen};
+use bl_proc_base::{Action, Answer, Process, Seen};
+use bl_proc_compress::Compress;
 
 /// A process of any kind.
 #[derive(Drop)]

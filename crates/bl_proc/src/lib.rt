@@ -17,12 +17,12 @@ mod reclaiming;
 mod searching;
 mod walking;
 
-pub use bl_compress::{Compress, CompressReply, CompressStage};
 pub use bl_page::Words;
-pub use bl_ways::{
+pub use bl_proc_base::{
     Action, Answer, Hint, Level, Posted, Process, Reader, Reclaimed, Seen, Squeezed, Step, row_in,
     step_in,
 };
+pub use bl_proc_compress::{Compress, CompressReply, CompressStage};
 pub use deleting::{Delete, DeleteReply, DeleteStage, Removed};
 pub use inserting::{Insert, InsertReply, InsertStage};
 pub use kinds::Proc;

@@ -5,17 +5,17 @@ ghost use Rattle.bl_model.specs.Map.{ListsPairs};
 ghost use Rattle.bl_model.specs.Rows.{map_of};
 ghost use Rattle.bl_model.proofs.Parts.{IsPlaceOf};
 ghost use Rattle.bl_page.specs.Pairs.{RisesFrom, end_of};
-ghost use Rattle.bl_ways.specs.declared.acts.Seen.TheVariants as seen;
-ghost use Rattle.bl_ways.specs.declared.onwards.Step.TheVariants as onward;
+ghost use Rattle.bl_proc_base.specs.declared.acts.Seen.TheVariants as seen;
+ghost use Rattle.bl_proc_base.specs.declared.onwards.Step.TheVariants as onward;
 ghost use Rattle.bl_proc.specs.declared.parts.PartStage.TheVariants as part_stage;
-ghost use Rattle.bl_ways.specs.Given.{Gives};
-ghost use Rattle.bl_ways.specs.Onwards.{Leads};
+ghost use Rattle.bl_proc_base.specs.Given.{Gives};
+ghost use Rattle.bl_proc_base.specs.Onwards.{Leads};
 ghost use Rattle.bl_proc.specs.Parts.{GoesOnAt, IsPartOf, part_next_in, part_answer_in, PartGoes, part_next, part_needs, part_answer, PartTakes};
 
 use arrayvec::ArrayVec;
 use bl_model::{Next, Reply};
 use bl_page::{Page, Pairs, Words};
-use bl_ways::{
+use bl_proc_base::{
     Action, Answer, Process, Reader, Seen, Step, step_in, took_page, top_in, top_page, way_from,
 };
 use std::mem;

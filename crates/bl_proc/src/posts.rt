@@ -3,11 +3,11 @@
 ghost use Rattle.std.specs.Prelude.{◌≡◌, ◌<◌, ◌≤◌, ◌-◌, None};
 ghost use Rattle.bl_page.specs.Pairs.{IsWithin};
 ghost use Rattle.bl_page.specs.declared.page.Page.TheVariants as page;
-ghost use Rattle.bl_ways.specs.declared.approaching.Approach.TheVariants as approach;
-ghost use Rattle.bl_ways.specs.declared.onwards.Step.TheVariants as onward;
+ghost use Rattle.bl_proc_base.specs.declared.approaching.Approach.TheVariants as approach;
+ghost use Rattle.bl_proc_base.specs.declared.onwards.Step.TheVariants as onward;
 ghost use Rattle.bl_proc.specs.declared.posting.PostStage.TheVariants as post_stage;
-ghost use Rattle.bl_ways.specs.Given.{Gives};
-ghost use Rattle.bl_ways.specs.Onwards.{Leads};
+ghost use Rattle.bl_proc_base.specs.Given.{Gives};
+ghost use Rattle.bl_proc_base.specs.Onwards.{Leads};
 ghost use Rattle.bl_proc.specs.Levels.{MayReply};
 ghost use Rattle.bl_proc.specs.Posts.{post_reply, posted_answer, post_next_in, post_needs_in, post_answer_in, PostStarts, PostArrives, PostWalks, PostNears, PostComes, PostGoes, post_next, post_needs, post_answer, PostTakes};
 
@@ -15,7 +15,7 @@ use crate::inserting::hint_to_post;
 use crate::posting::{Post, PostReply, PostStage};
 use crate::walking::Walk;
 use bl_page::{Inner, Page, Words, listed_with};
-use bl_ways::{
+use bl_proc_base::{
     Action, Answer, Approach, Approached, Change, Changed, Grew, Growth, Level, Outcome, Posted,
     Process, Reader, Seen, Step, entered, entering, levels_of, low_of, took_page, way_from,
 };

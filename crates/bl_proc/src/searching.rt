@@ -1,16 +1,16 @@
 //! The search for a key's value.
 
 ghost use Rattle.std.specs.Prelude.{◌≡◌, None};
-ghost use Rattle.bl_ways.specs.declared.acts.Seen.TheVariants as seen;
+ghost use Rattle.bl_proc_base.specs.declared.acts.Seen.TheVariants as seen;
 ghost use Rattle.bl_proc.specs.declared.searching.FindStage.TheVariants as find_stage;
 ghost use Rattle.bl_page.specs.declared.page.Page.{Page as PageIs};
 ghost use Rattle.bl_page.specs.Words.{words_of};
-ghost use Rattle.bl_ways.specs.Given.{Gives};
+ghost use Rattle.bl_proc_base.specs.Given.{Gives};
 ghost use Rattle.bl_proc.specs.Searches.{find_next_in, find_answer_in, find_next, find_needs, find_answer, FindGoes, FindTakes};
 
 use bl_model::Reply;
 use bl_page::{Page, Words};
-use bl_ways::{
+use bl_proc_base::{
     Action, Answer, Process, Reader, Seen, Step, listed, row_in, step_in, top_in, top_page,
     way_from,
 };

@@ -1,9 +1,9 @@
 -- Commands, one after the other.
 use Rattle.std.proofs.Common.{ℕ, ◌≡◌, ◌⊎◌, ◌<◌, ◌≤◌, ◌+◌, ◌++◌, zero, suc, Some, None, Option, List, [], ◌∷◌, length, take, drop, slice_get, arith, ap, sym, ◌∙◌, refl, subst, inl, inr, append_assoc, append-nil}
-use Rattle.bl_script.specs.declared.command.Command.{Command}
-use Rattle.bl_script.specs.declared.command.Kinds.{Kinds}
-use Rattle.bl_script.specs.Commands.{MayStand, starts, started_by}
-use Rattle.bl_script.specs.Scripts.{AllStand}
+use Rattle.bl_replay_script.specs.declared.command.Command.{Command}
+use Rattle.bl_replay_script.specs.declared.command.Kinds.{Kinds}
+use Rattle.bl_replay_script.specs.Commands.{MayStand, starts, started_by}
+use Rattle.bl_replay_script.specs.Scripts.{AllStand}
 use Rattle.bl_world.specs.declared.turns.Turn.{Turn}
 use Rattle.bl_world.specs.declared.turns.Turn.TheVariants as turn
 use Rattle.bl_world.specs.Views.{View, number_in}

@@ -1,8 +1,8 @@
 -- Text that goes out by way of a buffer. Private functions cite this, and no public clause does.
 use Rattle.std.specs.Prelude.{◌≡◌, ◌⊎◌, ℕ, ◌≤◌, Option, List, [], ◌++◌}
 use Rattle.std.specs.Io.KnownBytes.{Appends}
-use Rattle.bl_script.specs.declared.command.Command.{Command}
-use Rattle.bl_script.specs.declared.command.Command.TheVariants as command
+use Rattle.bl_replay_script.specs.declared.command.Command.{Command}
+use Rattle.bl_replay_script.specs.declared.command.Command.TheVariants as command
 use Rattle.bl_world.specs.Views.{View}
 use Rattle.bl_replay.specs.Plays.{Does, PrintsTurns}
 

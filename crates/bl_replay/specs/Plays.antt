@@ -1,14 +1,14 @@
 -- What a script prints: the text of its commands, one after the other, on what stands in a world.
 use Rattle.std.specs.Prelude.{◌≡◌, ◌⊎◌, ℕ, ◌+◌, ◌≤◌, Option, Some, None, List, [], ◌∷◌, ◌++◌, true, slice_get}
 use Rattle.bl_model.specs.declared.operation.Op.TheVariants as op
-use Rattle.bl_script.specs.declared.command.Start.{Start}
-use Rattle.bl_script.specs.declared.command.Start.TheVariants as start
-use Rattle.bl_script.specs.declared.command.Command.{Command}
-use Rattle.bl_script.specs.declared.command.Command.TheVariants as command
-use Rattle.bl_script.specs.declared.command.Kinds.{Kinds}
-use Rattle.bl_script.specs.Commands.{IsPageCount}
-use Rattle.bl_script.specs.Scripts.{AllStand}
-use Rattle.bl_ways.specs.declared.answers.Answer.{Answer}
+use Rattle.bl_replay_script.specs.declared.command.Start.{Start}
+use Rattle.bl_replay_script.specs.declared.command.Start.TheVariants as start
+use Rattle.bl_replay_script.specs.declared.command.Command.{Command}
+use Rattle.bl_replay_script.specs.declared.command.Command.TheVariants as command
+use Rattle.bl_replay_script.specs.declared.command.Kinds.{Kinds}
+use Rattle.bl_replay_script.specs.Commands.{IsPageCount}
+use Rattle.bl_replay_script.specs.Scripts.{AllStand}
+use Rattle.bl_proc_base.specs.declared.answers.Answer.{Answer}
 use Rattle.bl_proc.specs.declared.kinds.Proc.{Proc}
 use Rattle.bl_proc.specs.Processes.{answer_of, IsFind, IsInsert, IsDelete, IsPost, IsPart, IsCompress, IsReclaim}
 use Rattle.bl_world.specs.declared.turns.Event.{Event}

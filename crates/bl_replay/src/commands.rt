@@ -2,8 +2,8 @@
 
 ghost use Rattle.std.specs.Prelude.{◌≡◌, ◌⊎◌, ◌≤◌, ◌+◌, ◌++◌, ◌∷◌, [], true, ℕ, List, Err, length, OnOk, OnErr, IfErr};
 ghost use Rattle.bl_model.specs.Stream.{StartsOut};
-ghost use Rattle.bl_script.specs.Commands.{MayStart, MayStand, starts};
-ghost use Rattle.bl_script.specs.declared.command.Command.TheVariants as command;
+ghost use Rattle.bl_replay_script.specs.Commands.{MayStart, MayStand, starts};
+ghost use Rattle.bl_replay_script.specs.declared.command.Command.TheVariants as command;
 ghost use Rattle.bl_world.specs.Views.{View, view_of, number_in};
 ghost use Rattle.bl_world.specs.Turns.{IsStarted};
 ghost use Rattle.bl_world.specs.Deeds.{MayStart as MayBegin};
@@ -16,7 +16,7 @@ use crate::output::write_much;
 use crate::turning::{answer_of, print_turn};
 use bl_model::{Op, Watched};
 use bl_proc::Proc;
-use bl_script::{Command, Start};
+use bl_replay_script::{Command, Start};
 use bl_world::{Turn, World, WorldFault};
 use std::io::Write;
 

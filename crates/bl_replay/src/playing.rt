@@ -3,7 +3,7 @@
 ghost use Rattle.std.specs.Prelude.{◌≡◌, ◌++◌, true, ℕ, List, Err, length, OnOk, OnErr};
 ghost use Rattle.std.specs.Io.KnownBytes.{Appends};
 ghost use Rattle.bl_model.specs.Stream.{StartsOut};
-ghost use Rattle.bl_script.specs.Scripts.{AllStand};
+ghost use Rattle.bl_replay_script.specs.Scripts.{AllStand};
 ghost use Rattle.bl_world.specs.Views.{view_of};
 ghost use Rattle.bl_world.specs.Accounts.{Account};
 ghost use Rattle.bl_replay.specs.declared.fault.ReplayFault.TheVariants as fault;
@@ -14,7 +14,7 @@ use crate::commands::play_command;
 use crate::fault::ReplayFault;
 use crate::output::write_last;
 use bl_model::Watched;
-use bl_script::{Command, Kinds, Script};
+use bl_replay_script::{Command, Kinds, Script};
 use bl_world::World;
 use std::alloc::Global;
 use std::io::Write;

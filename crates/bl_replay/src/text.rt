@@ -3,8 +3,8 @@
 ghost use Rattle.std.specs.Prelude.{◌≡◌, ◌++◌, OnOk, Some};
 ghost use Rattle.bl_replay.specs.Texts.{act_text, event_line, hint_text, posted_text, squeezed_text, reclaimed_text, answer_text, answer_line};
 
-use bl_lines::print::{push_number, push_reply};
 use bl_proc::{Answer, Hint, Posted, Reclaimed, Squeezed};
+use bl_serve_lines::print::{push_number, push_reply};
 use bl_world::{Act, Event};
 use std::alloc::AllocError;
 

@@ -6,26 +6,26 @@ use Rattle.std.proofs.lemmas.List.Sums.{sum_by-append}
 use Rattle.std.proofs.lemmas.List.Concat.{flat_map-cons, flat_map-append}
 use Rattle.std.proofs.lemmas.List.Elements.{All-nil, All-cons, All-append}
 use Rattle.bl_model.specs.declared.operation.Entry.{Entry}
-use Rattle.bl_lines.specs.declared.request.Request.{Request}
-use Rattle.bl_lines.specs.declared.serving.ServeFault.{ServeFault}
-use Rattle.bl_lines.specs.declared.serving.ServeFault.TheVariants.{Read, Write}
-use Rattle.bl_lines.specs.declared.serving.Totals.{Totals}
+use Rattle.bl_serve_lines.specs.declared.request.Request.{Request}
+use Rattle.bl_serve_lines.specs.declared.serving.ServeFault.{ServeFault}
+use Rattle.bl_serve_lines.specs.declared.serving.ServeFault.TheVariants.{Read, Write}
+use Rattle.bl_serve_lines.specs.declared.serving.Totals.{Totals}
 use Rattle.bl_serve.specs.declared.reading.SectionEnd.{SectionEnd}
 use Rattle.bl_serve.specs.declared.reading.SectionEnd.TheVariants as section_end
 use Rattle.bl_model.specs.History.{IsLegalFrom, final_map}
 use Rattle.bl_model.proofs.Histories.{legal_append, legal_rest}
-use Rattle.bl_lines.specs.Lines.{Line, IsLine, Answer, Synced, entries, input_of, output_of, rest_text, HasNoLf}
-use Rattle.bl_lines.specs.Served.{Section, IsSection, IsFinished, HasNoSync, HasNoSyncInside, Interleaves, lines_of, malformed_of, one_if_any, whole_history, Served, Stopped, Stops, Leaves, ComesFrom}
-use Rattle.bl_lines.specs.Served as served
+use Rattle.bl_serve_lines.specs.Lines.{Line, IsLine, Answer, Synced, entries, input_of, output_of, rest_text, HasNoLf}
+use Rattle.bl_serve_lines.specs.Served.{Section, IsSection, IsFinished, HasNoSync, HasNoSyncInside, Interleaves, lines_of, malformed_of, one_if_any, whole_history, Served, Stopped, Stops, Leaves, ComesFrom}
+use Rattle.bl_serve_lines.specs.Served as served
 use Rattle.bl_serve.specs.Reading.{AsksNoSync, AsksSyncLast, ReadsLines}
 use Rattle.bl_serve.specs.Sections.{rests, syncs, end_text, CountsSection, Held}
 use Rattle.bl_serve.specs.Serving.{ServedBy}
 use Rattle.bl_page.specs.declared.page.Page.{Page}
-use Rattle.bl_trails.specs.Trails.{Trail, history_of}
-use Rattle.bl_passes.specs.Seeing.{first_map, IsSeen}
+use Rattle.bl_claims.specs.Trails.{Trail, history_of}
+use Rattle.bl_claims.specs.Seeing.{first_map, IsSeen}
 use Rattle.bl_index.specs.Calls.{map_after}
 use Rattle.bl_serve.proofs.Sections.{history_append}
-use Rattle.bl_lines.proofs.Sections.{output_append, no_sync_inside, no_sync_any}
+use Rattle.bl_serve_lines.proofs.Sections.{output_append, no_sync_inside, no_sync_any}
 use Rattle.bl_serve.proofs.Spelled.{lines_with, AreLines, are_lines, no_sync_lines, sync_lines, lawful}
 
 -- a section that was answered: its lines and its part of the history
@@ -187,8 +187,8 @@ serves_end first old now before totals input output unread left text rest asked 
 -- ---- faults
 
 -- in the open section: nothing of it is written
-pub stops_inside : (first : List (Option Page)) (old now : Trail) (before : Totals) (input output ahead : List ℕ) (fault : ServeFault) (ReaderFailed WriterFailed : Type 0) → Progress old now before input output → IsSeen first now
-    → Leaves fault [] ahead [] → ComesFrom fault ReaderFailed WriterFailed → Stops (map_after first old) (input ++ ahead) output fault ReaderFailed WriterFailed
+pub stops_inside : (first : List (Option Page)) (old now : Trail) (before : Totals) (input output ahead : List ℕ) (fault : ServeFault) (ReaderFailed WriterFailed : Type 0) → (p : Progress old now before input output) → IsSeen first now
+    → Leaves fault (length (lines_of p.sections)) [] ahead [] → ComesFrom fault ReaderFailed WriterFailed → Stops (map_after first old) (input ++ ahead) output fault ReaderFailed WriterFailed
 stops_inside first old now before input output ahead fault ReaderFailed WriterFailed p seen leaves comes = (
   record {
     sections = p.sections;
@@ -227,7 +227,7 @@ interleaves_all (answer ∷ answers) = interleaves_front (entries answer) (map e
 -- the lines behind the finished sections were read, and a beginning of what would be their output is out
 stopped : (first : List (Option Page)) (old now : Trail) (before : Totals) (input output unread left rest begun unwritten : List ℕ) (fault : ServeFault) (p : Progress old now before input output) (last : Section) → IsSection last → HasNoSyncInside last.lines → HasNoLf rest
     → IsLegalFrom (map_after first old) (served.history_of p.sections ++ last.history) → unread ≡ input_of last.lines ++ rest ++ left
-    → output_of (suc (length (lines_of p.sections))) last.lines ++ rest_text (length (lines_of p.sections ++ last.lines) + 1) rest ≡ begun ++ unwritten → Leaves fault begun left last.lines
+    → output_of (suc (length (lines_of p.sections))) last.lines ++ rest_text (length (lines_of p.sections ++ last.lines) + 1) rest ≡ begun ++ unwritten → Leaves fault (length (lines_of p.sections)) begun left last.lines
     → Stopped (map_after first old) (input ++ unread) (output ++ begun) fault
 stopped first old now before input output unread left rest begun unwritten fault p last whole inside cut legal read is leaves = let s = p.sections in let lines : List Line = last.lines in record {
   sections = s;

@@ -5,12 +5,12 @@ use lib.ListN.{get_elem?}
 use Rattle.bl_model.specs.Map.{Map}
 use Rattle.bl_model.specs.Rows.{map_of}
 use Rattle.bl_check.specs.declared.quiet.Quiet.{Quiet}
-use Rattle.bl_lines.specs.declared.serving.Totals.{Totals}
-use Rattle.bl_lines.specs.declared.serving.ServeFault.{ServeFault}
-use Rattle.bl_lines.specs.Served.{Served, Stops}
+use Rattle.bl_serve_lines.specs.declared.serving.Totals.{Totals}
+use Rattle.bl_serve_lines.specs.declared.serving.ServeFault.{ServeFault}
+use Rattle.bl_serve_lines.specs.Served.{Served, Stops}
 use Rattle.bl_page.specs.declared.page.Page.{Page}
-use Rattle.bl_trails.specs.Trails.{Trail}
-use Rattle.bl_passes.specs.Seeing.{first_map}
+use Rattle.bl_claims.specs.Trails.{Trail}
+use Rattle.bl_claims.specs.Seeing.{first_map}
 use Rattle.bl_index.specs.declared.index.Index.{Index}
 use Rattle.bl_index.specs.declared.index.Pass.{Pass}
 use Rattle.bl_index.specs.Calls.{first_of, IsPassOf, number_of, trail, map_after}

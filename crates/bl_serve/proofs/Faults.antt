@@ -1,26 +1,29 @@
 -- What is known of a section that was read, at its end, and where it stopped.
 use Rattle.std.proofs.Common.{◌≡◌, ◌≢◌, ℕ, ◌+◌, ◌-◌, ◌<◌, ◌≤◌, ◌^◌, ◌⊎◌, List, [], ◌∷◌, ◌++◌, length, refl, sym, ap, ◌∙◌, subst, append-nil, arith, length-append, inl, inr}
 use Rattle.std.specs.Prelude.{Option, Some, Ok, Err, is_none}
-use Rattle.std.proofs.lemmas.List.Sums.{count_by-le-length}
+use Rattle.std.specs.Prelude.{◌==◌, cond}
+use Rattle.std.specs.List.{AllZip}
+use Rattle.std.proofs.lemmas.List.Sums.{count_by-le-length, sum_by-append}
+use Rattle.std.proofs.lemmas.List.Concat.{flat_map-cons}
 use Rattle.std.proofs.lemmas.List.Elements.{All-nil}
 use Rattle.bl_model.specs.declared.operation.Entry.{Entry}
-use Rattle.bl_lines.specs.declared.request.Request.TheVariants.{Sync}
-use Rattle.bl_lines.specs.declared.request.Request.{Request}
-use Rattle.bl_lines.specs.declared.serving.ServeFault.{ServeFault}
-use Rattle.bl_lines.specs.declared.serving.ServeFault.TheVariants.{Read, Write, Memory, Lost}
-use Rattle.bl_lines.specs.declared.serving.Totals.{Totals}
-use Rattle.bl_lines.specs.Lines.{rest_text}
-use Rattle.bl_lines.specs.Served.{Stops, HasNoSyncInside}
-use Rattle.bl_lines.specs.Streams.{EndsRead}
+use Rattle.bl_serve_lines.specs.declared.request.Request.TheVariants.{Sync}
+use Rattle.bl_serve_lines.specs.declared.request.Request.{Request}
+use Rattle.bl_serve_lines.specs.declared.serving.ServeFault.{ServeFault}
+use Rattle.bl_serve_lines.specs.declared.serving.ServeFault.TheVariants.{Read, Write, Memory, Lost}
+use Rattle.bl_serve_lines.specs.declared.serving.Totals.{Totals}
+use Rattle.bl_serve_lines.specs.Lines.{rest_text}
+use Rattle.bl_serve_lines.specs.Served.{Stops, HasNoSyncInside, whole_lines}
+use Rattle.bl_serve_lines.specs.Streams.{EndsRead}
 use Rattle.bl_page.specs.declared.page.Page.{Page}
-use Rattle.bl_trails.specs.Trails.{Trail}
-use Rattle.bl_passes.specs.Seeing.{IsSeen}
+use Rattle.bl_claims.specs.Trails.{Trail}
+use Rattle.bl_claims.specs.Seeing.{IsSeen}
 use Rattle.bl_index.specs.declared.index.Index.{Index}
 use Rattle.bl_index.specs.declared.index.Pass.{Pass}
 use Rattle.bl_index.specs.Calls.{first_of, map_after}
 use Rattle.bl_serve.specs.declared.reading.SectionEnd.{SectionEnd}
 use Rattle.bl_serve.specs.declared.reading.SectionEnd.TheVariants as section_end
-use Rattle.bl_serve.specs.Reading.{ReadsLines, AsksSyncLast, EndsReading}
+use Rattle.bl_serve.specs.Reading.{ReadsLines, AsksSyncLast, EndsReading, IsReadAs, bytes_of}
 use Rattle.bl_serve.specs.Sections.{Held, CountsSection, end_text, rests, syncs}
 use Rattle.bl_serve.specs.Serving.{AreTogether, ServesSection, ServedBy, IsInside}
 use Rattle.bl_serve.proofs.Spelled.{lines_with}
@@ -51,12 +54,31 @@ stops_at_read first Write old now before input output unread left rest asked mos
 stops_at_read first Memory old now before input output unread left rest asked most AtEnd ReaderFailed WriterFailed p seen e = stops_inside first old now before input output unread Memory ReaderFailed WriterFailed p seen refl tt
 stops_at_read first (Lost number) old now before input output unread left rest asked most AtEnd ReaderFailed WriterFailed p seen e = absurd e
 
+-- each line that was read has its LF
+whole_texts : (asked : List (Option Request)) (texts : List (List ℕ)) → AllZip IsReadAs asked texts → length asked ≤ whole_lines (bytes_of texts)
+whole_texts [] [] each = omega arith
+whole_texts (a ∷ asked) (bytes ∷ texts) each =
+    let lf : List ℕ = 10 ∷ [] in let cons = ap whole_lines (flat_map-cons (λ (t : List ℕ). t ++ 10 ∷ []) bytes texts) in let front = sum_by-append (λ (b : ℕ). cond (b == 10) 1 0) (bytes ++ lf) (bytes_of texts) in
+    let line = sum_by-append (λ (b : ℕ). cond (b == 10) 1 0) bytes lf in let one : whole_lines lf ≡ 1 = refl in let rest = whole_texts asked texts each.1 in omega (arith, cons, front, line, one, rest)
+whole_texts asked texts each = absurd each
+
+read_whole : (asked : List (Option Request)) (unread left rest : List ℕ) → ReadsLines unread left asked rest → length asked ≤ whole_lines unread
+read_whole asked unread left rest r = let a = whole_texts asked r.texts r.each in let b = ap whole_lines r.read in let c = sum_by-append (λ (b : ℕ). cond (b == 10) 1 0) (bytes_of r.texts ++ rest) left in
+    let d = sum_by-append (λ (b : ℕ). cond (b == 10) 1 0) (bytes_of r.texts) rest in omega (arith, a, b, c, d)
+
+pub reads_of : (end : SectionEnd) (most : ℕ) (asked : List (Option Request)) (rest unread left : List ℕ) (AtEnd Failed : Type 0) → EndsReading (Ok end) most asked rest unread left AtEnd Failed → ReadsLines unread left asked rest
+reads_of section_end.Synced most asked rest unread left AtEnd Failed e = e.0
+reads_of section_end.Rest most asked rest unread left AtEnd Failed e = e.0
+reads_of section_end.Finished most asked rest unread left AtEnd Failed e = e.0
+
 -- it could not be answered
-pub stops_at_answers : (first : List (Option Page)) (fault : ServeFault) (old now : Trail) (before : Totals) (input output ahead : List ℕ) (ReaderFailed WriterFailed : Type 0) → Progress old now before input output → IsSeen first now → IsInside fault → Stops (map_after first old) (input ++ ahead) output fault ReaderFailed WriterFailed
-stops_at_answers first Read old now before input output ahead ReaderFailed WriterFailed p seen inside = absurd inside
-stops_at_answers first Write old now before input output ahead ReaderFailed WriterFailed p seen inside = absurd inside
-stops_at_answers first Memory old now before input output ahead ReaderFailed WriterFailed p seen inside = stops_inside first old now before input output ahead Memory ReaderFailed WriterFailed p seen refl tt
-stops_at_answers first (Lost number) old now before input output ahead ReaderFailed WriterFailed p seen inside = stops_inside first old now before input output ahead (Lost number) ReaderFailed WriterFailed p seen refl tt
+pub stops_at_answers : (first : List (Option Page)) (fault : ServeFault) (old now : Trail) (before : Totals) (input output unread left rest : List ℕ) (asked : List (Option Request)) (ReaderFailed WriterFailed : Type 0) → Progress old now before input output → IsSeen first now
+    → ReadsLines unread left asked rest → IsInside before.requests (length asked) fault → Stops (map_after first old) (input ++ unread) output fault ReaderFailed WriterFailed
+stops_at_answers first Memory old now before input output unread left rest asked ReaderFailed WriterFailed p seen r inside = stops_inside first old now before input output unread Memory ReaderFailed WriterFailed p seen refl tt
+stops_at_answers first (Lost number) old now before input output unread left rest asked ReaderFailed WriterFailed p seen r inside =
+    let whole = read_whole asked unread left rest r in let done = p.requests in let low = inside.0 in let high = inside.1 in
+    stops_inside first old now before input output unread (Lost number) ReaderFailed WriterFailed p seen (refl, omega (arith, done, low), omega (arith, done, high, whole)) tt
+stops_at_answers first fault old now before input output unread left rest asked ReaderFailed WriterFailed p seen r inside = absurd inside
 
 -- ---- a section that was answered
 

@@ -13,10 +13,10 @@ use Rattle.bl_model.specs.History.{final_map, entries_of_pass}
 use Rattle.bl_model.proofs.Histories.{entries_of_pass-append, entries_of_pass-own}
 use Rattle.bl_page.specs.declared.page.Page.{Page}
 use Rattle.bl_check.specs.declared.quiet.Quiet.{Quiet}
-use Rattle.bl_lines.specs.declared.serving.Totals.{Totals}
-use Rattle.bl_lines.specs.Served.{Served, whole_history}
-use Rattle.bl_trails.specs.Trails.{Trail, history_of}
-use Rattle.bl_passes.specs.Seeing.{first_map, AreWithin, GoesOnFrom, own}
+use Rattle.bl_serve_lines.specs.declared.serving.Totals.{Totals}
+use Rattle.bl_serve_lines.specs.Served.{Served, whole_history}
+use Rattle.bl_claims.specs.Trails.{Trail, history_of}
+use Rattle.bl_claims.specs.Seeing.{first_map, AreWithin, GoesOnFrom, own}
 use Rattle.bl_index.specs.declared.index.Index.{Index}
 use Rattle.bl_index.specs.declared.index.Pass.{Pass}
 use Rattle.bl_index.specs.Calls.{first_of, number_of, trail, pages_of, passes_of}

@@ -8,14 +8,14 @@ use Rattle.std.proofs.lemmas.List.Elements.{All-nil, All-cons, All-append}
 use Rattle.bl_model.specs.declared.operation.Entry.{Entry}
 use Rattle.bl_model.specs.declared.operation.Op.{Op}
 use Rattle.bl_model.specs.declared.operation.Reply.{Reply}
-use Rattle.bl_lines.specs.declared.request.Request.{Request}
-use Rattle.bl_lines.specs.declared.request.Request.TheVariants.{Ask, Scan, Sync}
-use Rattle.bl_lines.specs.Lines.{Answer, Replied, Scanned, Synced, Malformed, rows_below, entries, answer_text}
+use Rattle.bl_serve_lines.specs.declared.request.Request.{Request}
+use Rattle.bl_serve_lines.specs.declared.request.Request.TheVariants.{Ask, Scan, Sync}
+use Rattle.bl_serve_lines.specs.Lines.{Answer, Replied, Scanned, Synced, Malformed, rows_below, entries, answer_text}
 use Rattle.bl_model.specs.Parts.{rows_of}
-use Rattle.bl_lines.specs.Text.{numbered, reply_text, row_text}
+use Rattle.bl_serve_lines.specs.Text.{numbered, reply_text, row_text}
 use Rattle.bl_page.specs.declared.page.Page.{Page}
-use Rattle.bl_trails.specs.Trails.{Trail}
-use Rattle.bl_passes.specs.Seeing.{own, GoesOnFrom}
+use Rattle.bl_claims.specs.Trails.{Trail}
+use Rattle.bl_claims.specs.Seeing.{own, GoesOnFrom}
 use Rattle.bl_serve.specs.Works.{Works, Adds}
 use Rattle.bl_serve.specs.declared.working.Written.{Written}
 use Rattle.bl_serve.specs.Joining.{Chains, text_of}

@@ -4,7 +4,7 @@ use Rattle.bl_model.specs.declared.operation.Op.{Op}
 use Rattle.bl_model.specs.declared.operation.Reply.{Reply}
 use Rattle.bl_model.specs.declared.operation.Entry.{Entry}
 use Rattle.bl_page.specs.declared.page.Page.{Page}
-use Rattle.bl_trails.specs.Trails.{Trail}
+use Rattle.bl_claims.specs.Trails.{Trail}
 use Rattle.bl_index.specs.Calls.{Answers, Sweeps, Adds as AddsIn}
 use Rattle.bl_serve.specs.Works.{Works, Adds}
 

@@ -9,12 +9,12 @@ use Rattle.bl_model.specs.declared.operation.Next.TheVariants.{More, End}
 use Rattle.bl_model.specs.declared.operation.Op.TheVariants.{Part}
 use Rattle.bl_model.specs.declared.operation.Reply.{Reply}
 use Rattle.bl_model.specs.declared.operation.Reply.TheVariants.{Found, Absent, Inserted, Present, Deleted, Rows, NoRoom}
-use Rattle.bl_lines.specs.Lines.{AreParts, rows_below}
+use Rattle.bl_serve_lines.specs.Lines.{AreParts, rows_below}
 use Rattle.bl_model.specs.Parts.{rows_of, ended_at}
-use Rattle.bl_lines.specs.Text.{row_text}
+use Rattle.bl_serve_lines.specs.Text.{row_text}
 use Rattle.bl_page.specs.declared.page.Page.{Page}
-use Rattle.bl_trails.specs.Trails.{Trail, history_of}
-use Rattle.bl_passes.specs.Seeing.{first_map, IsSeen, own, GoesOnFrom}
+use Rattle.bl_claims.specs.Trails.{Trail, history_of}
+use Rattle.bl_claims.specs.Seeing.{first_map, IsSeen, own, GoesOnFrom}
 use Rattle.bl_index.proofs.Scanned.{Answered, IsBehind, answered, part_is, only_rows}
 use Rattle.bl_serve.specs.Works.{Works}
 use Rattle.bl_serve.specs.Answering.{WritesPart, WritesRows}

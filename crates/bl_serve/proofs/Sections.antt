@@ -6,13 +6,13 @@ use Rattle.std.proofs.lemmas.List.Elements.{All-nil, All-cons, All-head, All-tai
 use Rattle.bl_model.specs.declared.operation.Entry.{Entry}
 use Rattle.bl_model.specs.History.{IsLegalFrom, entries_of_pass}
 use Rattle.bl_model.proofs.Histories.{entries_of_pass-append}
-use Rattle.bl_lines.specs.declared.request.Request.{Request}
-use Rattle.bl_lines.specs.Lines.{Answer, entries}
-use Rattle.bl_lines.specs.Served.{Interleaves}
+use Rattle.bl_serve_lines.specs.declared.request.Request.{Request}
+use Rattle.bl_serve_lines.specs.Lines.{Answer, entries}
+use Rattle.bl_serve_lines.specs.Served.{Interleaves}
 use Rattle.bl_page.specs.declared.page.Page.{Page}
 use Rattle.bl_page.specs.Machine.{Name}
-use Rattle.bl_trails.specs.Trails.{Said, Trail, entries_at, history_of}
-use Rattle.bl_passes.specs.Seeing.{first_map, IsSeen, own, AreWithin, GoesOnFrom}
+use Rattle.bl_claims.specs.Trails.{Said, Trail, entries_at, history_of}
+use Rattle.bl_claims.specs.Seeing.{first_map, IsSeen, own, AreWithin, GoesOnFrom}
 use Rattle.bl_index.specs.Calls.{number_of, trail}
 use Rattle.bl_serve.specs.Rounds.{Taken, IsTaken, IsRound}
 use Rattle.bl_serve.proofs.Weaving.{joined, all_of, parts, by_part, one_by_one}

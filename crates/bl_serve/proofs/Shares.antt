@@ -8,11 +8,11 @@ use Rattle.std.proofs.lemmas.List.Concat.{flat_map-append}
 use Rattle.std.proofs.lemmas.List.Elements.{All-nil, All-cons, All-head, All-tail, All-append, All-map, All-weaker}
 use Rattle.std.proofs.lemmas.List.Sorted.{All-permutation, IsPermutation-map}
 use Rattle.bl_model.specs.declared.operation.Entry.{Entry}
-use Rattle.bl_lines.specs.declared.request.Request.{Request}
-use Rattle.bl_lines.specs.Lines.{Answer, entries}
-use Rattle.bl_lines.specs.Served.{Interleaves}
+use Rattle.bl_serve_lines.specs.declared.request.Request.{Request}
+use Rattle.bl_serve_lines.specs.Lines.{Answer, entries}
+use Rattle.bl_serve_lines.specs.Served.{Interleaves}
 use Rattle.bl_page.specs.declared.page.Page.{Page}
-use Rattle.bl_passes.specs.Seeing.{own}
+use Rattle.bl_claims.specs.Seeing.{own}
 use Rattle.bl_index.specs.declared.index.Index.{Index}
 use Rattle.bl_index.specs.declared.index.Pass.{Pass}
 use Rattle.bl_index.specs.Calls.{IsPassOf, IsSamePass, number_of, trail}

@@ -12,15 +12,15 @@ use Rattle.bl_model.specs.declared.operation.Op.TheVariants.{Find, Insert, Delet
 use Rattle.bl_model.specs.declared.operation.Reply.{Reply}
 use Rattle.bl_model.specs.declared.operation.Next.TheVariants.{More}
 use Rattle.bl_model.specs.declared.operation.Reply.TheVariants.{Found, Absent, Present, Rows, NoRoom}
-use Rattle.bl_lines.specs.declared.request.Request.{Request}
-use Rattle.bl_lines.specs.declared.request.Request.TheVariants.{Ask, Scan, Sync}
+use Rattle.bl_serve_lines.specs.declared.request.Request.{Request}
+use Rattle.bl_serve_lines.specs.declared.request.Request.TheVariants.{Ask, Scan, Sync}
 use Rattle.bl_model.specs.Map.{Map, MayAnswer, map_step}
 use Rattle.bl_model.specs.History.{IsLegalFrom, final_map}
 use Rattle.bl_model.specs.Rows.{HasRisingKeys}
 use Rattle.bl_model.proofs.Histories.{legal_append}
-use Rattle.bl_lines.specs.Lines.{Line, IsLine, AreParts, Fits, Answer, Replied, Scanned, Synced, Malformed, entries, answer_text, input_of, output_of}
-use Rattle.bl_lines.specs.Text.{Means, Spells, numbered}
-use Rattle.bl_lines.specs.Served.{HasNoSync, malformed_of}
+use Rattle.bl_serve_lines.specs.Lines.{Line, IsLine, AreParts, Fits, Answer, Replied, Scanned, Synced, Malformed, entries, answer_text, input_of, output_of}
+use Rattle.bl_serve_lines.specs.Text.{Means, Spells, numbered}
+use Rattle.bl_serve_lines.specs.Served.{HasNoSync, malformed_of}
 use Rattle.bl_serve.specs.Answering.{IsFor, answers_text}
 use Rattle.bl_serve.specs.Reading.{IsReadAs, bytes_of, AsksNoSync, AsksSyncLast}
 

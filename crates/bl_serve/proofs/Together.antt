@@ -6,8 +6,8 @@ use Rattle.std.proofs.lemmas.List.Elements.{All-nil, All-head, All-tail, All-pus
 use Rattle.std.proofs.lemmas.List.{take_more, take_all}
 use Rattle.bl_page.specs.declared.page.Page.{Page}
 use Rattle.bl_index.specs.declared.index.Pass.{Pass}
-use Rattle.bl_trails.specs.Trails.{Trail}
-use Rattle.bl_passes.specs.Seeing.{IsSeen, own, GoesOnFrom}
+use Rattle.bl_claims.specs.Trails.{Trail}
+use Rattle.bl_claims.specs.Seeing.{IsSeen, own, GoesOnFrom}
 use Rattle.bl_index.specs.declared.index.Index.{Index}
 use Rattle.bl_index.specs.Calls.{IsPassOf, IsSamePass, number_of, trail}
 use Rattle.bl_index.specs.Meetings.{Learns, Hears}

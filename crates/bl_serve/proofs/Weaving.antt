@@ -11,7 +11,7 @@ use Rattle.std.proofs.lemmas.List.Concat.{flat_map-append}
 use Rattle.std.proofs.lemmas.List.{map-append}
 use Rattle.bl_model.specs.declared.operation.Entry.{Entry}
 use Rattle.bl_model.specs.History.{entries_of_pass}
-use Rattle.bl_lines.specs.Served.{Interleaves}
+use Rattle.bl_serve_lines.specs.Served.{Interleaves}
 
 -- ---- lists
 

@@ -5,14 +5,14 @@ use Rattle.bl_model.specs.declared.operation.Entry.{Entry}
 use Rattle.bl_model.specs.declared.operation.Next.{Next}
 use Rattle.bl_model.specs.declared.operation.Op.TheVariants.{Part}
 use Rattle.bl_model.specs.declared.operation.Reply.{Reply}
-use Rattle.bl_lines.specs.declared.request.Request.{Request}
-use Rattle.bl_lines.specs.declared.request.Request.TheVariants.{Ask, Scan, Sync}
-use Rattle.bl_lines.specs.Lines.{Answer, Replied, Scanned, Synced, Malformed, AreParts, rows_below, entries, answer_text}
+use Rattle.bl_serve_lines.specs.declared.request.Request.{Request}
+use Rattle.bl_serve_lines.specs.declared.request.Request.TheVariants.{Ask, Scan, Sync}
+use Rattle.bl_serve_lines.specs.Lines.{Answer, Replied, Scanned, Synced, Malformed, AreParts, rows_below, entries, answer_text}
 use Rattle.bl_model.specs.Parts.{rows_of, next_key, ended_at}
-use Rattle.bl_lines.specs.Text.{numbered, row_text}
+use Rattle.bl_serve_lines.specs.Text.{numbered, row_text}
 use Rattle.bl_page.specs.declared.page.Page.{Page}
-use Rattle.bl_trails.specs.Trails.{Trail}
-use Rattle.bl_passes.specs.Seeing.{IsSeen, own, GoesOnFrom}
+use Rattle.bl_claims.specs.Trails.{Trail}
+use Rattle.bl_claims.specs.Seeing.{IsSeen, own, GoesOnFrom}
 use Rattle.bl_serve.specs.Works.{Works}
 
 -- the answer is one to what was asked

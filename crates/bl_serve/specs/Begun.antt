@@ -1,7 +1,7 @@
 -- An index that a server has opened.
 use Rattle.std.specs.Prelude.{◌≡◌, ℕ, List, [], length}
 use Rattle.bl_model.specs.Rows.{map_of}
-use Rattle.bl_passes.specs.Seeing.{first_map}
+use Rattle.bl_claims.specs.Seeing.{first_map}
 use Rattle.bl_index.specs.declared.index.Index.{Index}
 use Rattle.bl_index.specs.declared.index.Pass.{Pass}
 use Rattle.bl_index.specs.Calls.{first_of, pages_of}

@@ -1,7 +1,7 @@
 -- The output of batches that follow each other.
 use Rattle.std.specs.Prelude.{◌≡◌, ◌≢◌, ℕ, ◌+◌, ◌<◌, ◌≤◌, ◌&&◌, Bool, leb, ltb, List, [], ◌∷◌, flat_map, count_by}
-use Rattle.bl_lines.specs.declared.serving.ServeFault.{ServeFault}
-use Rattle.bl_lines.specs.declared.serving.ServeFault.TheVariants.{Read, Write, Memory, Lost}
+use Rattle.bl_serve_lines.specs.declared.serving.ServeFault.{ServeFault}
+use Rattle.bl_serve_lines.specs.declared.serving.ServeFault.TheVariants.{Read, Write, Memory, Lost}
 use Rattle.bl_serve.specs.declared.working.Written.{Written}
 
 -- each begins where the one before it ends, the first at from, and the last ends at upto; none is empty

@@ -3,8 +3,8 @@ use Rattle.std.specs.Prelude.{◌≡◌, List, Option, All}
 use Rattle.std.specs.List.{AllZip}
 use Rattle.bl_page.specs.declared.page.Page.{Page}
 use Rattle.bl_index.specs.declared.index.Pass.{Pass}
-use Rattle.bl_trails.specs.Trails.{Trail}
-use Rattle.bl_passes.specs.Seeing.{IsSeen, own, GoesOnFrom}
+use Rattle.bl_claims.specs.Trails.{Trail}
+use Rattle.bl_claims.specs.Seeing.{IsSeen, own, GoesOnFrom}
 use Rattle.bl_index.specs.Calls.{IsSamePass, number_of, trail}
 
 -- the pass has seen what it had seen, and no more

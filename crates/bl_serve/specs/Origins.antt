@@ -2,10 +2,10 @@
 use Rattle.std.specs.Prelude.{◌≡◌, ◌≤◌, ℕ, List, [], length}
 use Rattle.bl_model.specs.Rows.{map_of}
 use Rattle.bl_check.specs.Rows.{AreRowsOf}
-use Rattle.bl_lines.specs.declared.serving.Totals.{Totals}
-use Rattle.bl_lines.specs.declared.serving.ServeFault.{ServeFault}
-use Rattle.bl_lines.specs.declared.serving.ServeFault.TheVariants.{Memory}
-use Rattle.bl_lines.specs.Served.{Served, Stops}
+use Rattle.bl_serve_lines.specs.declared.serving.Totals.{Totals}
+use Rattle.bl_serve_lines.specs.declared.serving.ServeFault.{ServeFault}
+use Rattle.bl_serve_lines.specs.declared.serving.ServeFault.TheVariants.{Memory}
+use Rattle.bl_serve_lines.specs.Served.{Served, Stops}
 use Rattle.bl_serve.specs.declared.origin.Origin.{Origin}
 use Rattle.bl_serve.specs.declared.origin.Origin.TheVariants.{Empty, Image}
 

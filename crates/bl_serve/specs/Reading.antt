@@ -1,17 +1,17 @@
 -- The lines of a section, as they are read.
 use Rattle.std.specs.Prelude.{◌≡◌, ◌≢◌, ℕ, ◌<◌, ◌≤◌, ◌⊎◌, List, [], ◌∷◌, ◌++◌, All, Option, Some, Result, Ok, Err, flat_map, length}
 use Rattle.std.specs.List.{AllZip}
-use Rattle.bl_lines.specs.declared.request.Request.{Request}
-use Rattle.bl_lines.specs.declared.request.Request.TheVariants.{Sync}
-use Rattle.bl_lines.specs.declared.serving.ServeFault.{ServeFault}
-use Rattle.bl_lines.specs.declared.serving.ServeFault.TheVariants.{Read, Write, Memory, Lost}
+use Rattle.bl_serve_lines.specs.declared.request.Request.{Request}
+use Rattle.bl_serve_lines.specs.declared.request.Request.TheVariants.{Sync}
+use Rattle.bl_serve_lines.specs.declared.serving.ServeFault.{ServeFault}
+use Rattle.bl_serve_lines.specs.declared.serving.ServeFault.TheVariants.{Read, Write, Memory, Lost}
 use Rattle.bl_serve.specs.declared.reading.Reading.{Reading}
 use Rattle.bl_serve.specs.declared.reading.Reading.TheVariants as reading
 use Rattle.bl_serve.specs.declared.reading.SectionEnd.{SectionEnd}
 use Rattle.bl_serve.specs.declared.reading.SectionEnd.TheVariants.{Synced, Rest, Finished}
-use Rattle.bl_lines.specs.Text.{Means}
-use Rattle.bl_lines.specs.Lines.{HasNoLf}
-use Rattle.bl_lines.specs.Streams.{EndsRead}
+use Rattle.bl_serve_lines.specs.Text.{Means}
+use Rattle.bl_serve_lines.specs.Lines.{HasNoLf}
+use Rattle.bl_serve_lines.specs.Streams.{EndsRead}
 
 -- the bytes are a line that asks for this, or for nothing
 pub record IsReadAs (asked : Option Request) (bytes : List ℕ) : Type 0 where

@@ -1,14 +1,14 @@
 -- Sections that are answered and counted.
 use Rattle.std.specs.Prelude.{◌≡◌, ℕ, suc, ◌+◌, map, List, [], Option, length, is_none, count_by, codes}
 use Rattle.std.specs.List.{AllZip}
-use Rattle.bl_lines.specs.declared.request.Request.{Request}
-use Rattle.bl_lines.specs.declared.serving.Totals.{Totals}
+use Rattle.bl_serve_lines.specs.declared.request.Request.{Request}
+use Rattle.bl_serve_lines.specs.declared.serving.Totals.{Totals}
 use Rattle.bl_serve.specs.declared.reading.SectionEnd.{SectionEnd}
 use Rattle.bl_serve.specs.declared.reading.SectionEnd.TheVariants.{Synced, Rest, Finished}
-use Rattle.bl_lines.specs.Text.{numbered}
-use Rattle.bl_lines.specs.Lines.{Answer, entries}
-use Rattle.bl_lines.specs.Served.{Interleaves}
-use Rattle.bl_trails.specs.Trails.{Trail, history_of}
+use Rattle.bl_serve_lines.specs.Text.{numbered}
+use Rattle.bl_serve_lines.specs.Lines.{Answer, entries}
+use Rattle.bl_serve_lines.specs.Served.{Interleaves}
+use Rattle.bl_claims.specs.Trails.{Trail, history_of}
 use Rattle.bl_serve.specs.Answering.{IsFor, answers_text}
 
 -- one for bytes behind the last LF

@@ -1,13 +1,13 @@
 -- What the server promises.
-use Rattle.std.specs.Prelude.{◌≡◌, ℕ, suc, ◌+◌, List, [], ◌∷◌, ◌++◌, Option, length}
-use Rattle.bl_lines.specs.declared.request.Request.{Request}
-use Rattle.bl_lines.specs.declared.serving.Totals.{Totals}
-use Rattle.bl_lines.specs.declared.serving.ServeFault.{ServeFault}
-use Rattle.bl_lines.specs.declared.serving.ServeFault.TheVariants.{Read, Write, Memory, Lost}
-use Rattle.bl_lines.specs.Served.{Served, whole_history}
+use Rattle.std.specs.Prelude.{◌≡◌, ℕ, suc, ◌+◌, ◌<◌, ◌≤◌, List, [], ◌∷◌, ◌++◌, Option, length}
+use Rattle.bl_serve_lines.specs.declared.request.Request.{Request}
+use Rattle.bl_serve_lines.specs.declared.serving.Totals.{Totals}
+use Rattle.bl_serve_lines.specs.declared.serving.ServeFault.{ServeFault}
+use Rattle.bl_serve_lines.specs.declared.serving.ServeFault.TheVariants.{Read, Write, Memory, Lost}
+use Rattle.bl_serve_lines.specs.Served.{Served, whole_history}
 use Rattle.bl_page.specs.declared.page.Page.{Page}
-use Rattle.bl_trails.specs.Trails.{Trail, history_of}
-use Rattle.bl_passes.specs.Seeing.{IsSeen}
+use Rattle.bl_claims.specs.Trails.{Trail, history_of}
+use Rattle.bl_claims.specs.Seeing.{IsSeen}
 use Rattle.bl_index.specs.declared.index.Index.{Index}
 use Rattle.bl_index.specs.declared.index.Pass.{Pass}
 use Rattle.bl_index.specs.Calls.{first_of, IsPassOf, number_of, trail, passes_of, map_after}
@@ -42,12 +42,12 @@ pub record ServesSection (index : Index) (done : ℕ) (asked : List (Option Requ
   pub holds : HoldsSection index done asked answers olds news
   pub ends : text ≡ answers ++ end_text end (done + length asked + 1)
 
--- a section may end by it: there was no memory, or a line's answer was lost
-abbrev pub IsInside : ServeFault → Type 0
-IsInside Read = ⊥
-IsInside Write = ⊥
-IsInside Memory = Unit {0}
-IsInside (Lost number) = Unit {0}
+-- a section of so many lines behind so many others may end by it: there was no memory, or the answer of one of its lines was lost
+abbrev pub IsInside : ℕ → ℕ → ServeFault → Type 0
+IsInside done count Read = ⊥
+IsInside done count Write = ⊥
+IsInside done count Memory = Unit {0}
+IsInside done count (Lost number) = (done < number) × (number ≤ done + count)
 
 -- The input is served from the map after old on, and the trail now is old with the entries of what was served, in the order of
 -- its history, and with no others.

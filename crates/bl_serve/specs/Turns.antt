@@ -1,11 +1,11 @@
 -- What a thread of a section gives back.
 use Rattle.std.specs.Prelude.{◌≡◌, ℕ, ◌+◌, ◌-◌, ◌<◌, ◌≤◌, ◌++◌, List, [], All, Option, flat_map, map, length, take, drop}
 use Rattle.std.specs.List.{AllZip}
-use Rattle.bl_lines.specs.declared.request.Request.{Request}
-use Rattle.bl_lines.specs.Lines.{Answer, entries}
+use Rattle.bl_serve_lines.specs.declared.request.Request.{Request}
+use Rattle.bl_serve_lines.specs.Lines.{Answer, entries}
 use Rattle.bl_page.specs.declared.page.Page.{Page}
-use Rattle.bl_trails.specs.Trails.{Trail}
-use Rattle.bl_passes.specs.Seeing.{IsSeen, own, GoesOnFrom}
+use Rattle.bl_claims.specs.Trails.{Trail}
+use Rattle.bl_claims.specs.Seeing.{IsSeen, own, GoesOnFrom}
 use Rattle.bl_index.specs.declared.index.Pass.{Pass}
 use Rattle.bl_index.specs.Calls.{IsSamePass, number_of, trail}
 use Rattle.bl_serve.specs.declared.working.Written.{Written}

@@ -3,8 +3,8 @@ use Rattle.std.specs.Prelude.{◌≡◌, ℕ, ◌++◌, List, [], ◌∷◌, Opt
 use Rattle.bl_model.specs.declared.operation.Op.{Op}
 use Rattle.bl_model.specs.declared.operation.Reply.{Reply}
 use Rattle.bl_page.specs.declared.page.Page.{Page}
-use Rattle.bl_trails.specs.Trails.{Trail}
-use Rattle.bl_passes.specs.Seeing.{IsSeen, own, GoesOnFrom}
+use Rattle.bl_claims.specs.Trails.{Trail}
+use Rattle.bl_claims.specs.Seeing.{IsSeen, own, GoesOnFrom}
 
 -- What the pass has seen begins with what it had seen and is a trail that an index may have, and its only new entry of this
 -- pass is this operation with this reply.

@@ -6,7 +6,7 @@ ghost use Rattle.bl_serve.specs.Works.{Adds};
 
 use bl_hints::Hints;
 use bl_index::{Index, Pass};
-use bl_ways::{Hint, Posted};
+use bl_proc_base::{Hint, Posted};
 use std::sync::Wait;
 use std::sync::atomic::{AtomicU64, Ordering};
 

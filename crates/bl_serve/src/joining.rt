@@ -6,7 +6,7 @@ ghost use Rattle.bl_serve.specs.Joining.{Chains, IsWithin, NamesLost, text_of};
 ghost use Rattle.bl_serve.specs.Serving.{IsInside};
 
 use crate::working::Written;
-use bl_lines::ServeFault;
+use bl_serve_lines::ServeFault;
 use std::alloc::Global;
 
 /// The texts of batches that follow each other from place 0 up to the count, put together. Else the number of the least
@@ -21,7 +21,7 @@ fn joined(
     requires sorted { IsNonDecreasingBy (λ w. w.from) written.now }
     requires room { done + count < 2 ^ 64 }
     ensures text { IfOk result (λ text. Chains 0 count written.now × (text.items ≡ text_of written.now)) }
-    ensures fault { IfErr result IsInside }
+    ensures fault { IfErr result (IsInside done count) }
     ensures lost { IfErr result (NamesLost written.now done count) }
 {
     let mut text = Vec::new(alloc);
@@ -49,7 +49,7 @@ pub fn collect(
     requires within { All (IsWithin count) written.items }
     requires room { done + count < 2 ^ 64 }
     ensures text { IfOk result (λ text. (sorted : List _) × IsPermutation written.items sorted × Chains 0 count sorted × (text.items ≡ text_of sorted)) }
-    ensures fault { IfErr result IsInside }
+    ensures fault { IfErr result (IsInside done count) }
     ensures lost { IfErr result (NamesLost written.items done count) }
 {
     let mut written = written;

@@ -20,7 +20,7 @@ mod serving;
 mod starting;
 mod working;
 
-pub use bl_lines::{ServeFault, Totals};
+pub use bl_serve_lines::{ServeFault, Totals};
 pub use compressing::follow_hint;
 pub use dumping::dump_index;
 pub use gate::{Gate, OpenGate};

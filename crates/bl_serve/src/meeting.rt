@@ -2,7 +2,7 @@
 
 ghost use Rattle.std.specs.Prelude.{◌≡◌, ◌<◌, length, All};
 ghost use Rattle.std.specs.List.{AllZip};
-ghost use Rattle.bl_passes.specs.Seeing.{GoesOnFrom};
+ghost use Rattle.bl_claims.specs.Seeing.{GoesOnFrom};
 ghost use Rattle.bl_index.specs.Calls.{first_of, IsPassOf, trail};
 ghost use Rattle.bl_serve.specs.Meetings.{Keeps, Comes, LearnsAll, AllMeet};
 

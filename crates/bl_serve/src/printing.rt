@@ -2,10 +2,10 @@
 
 ghost use Rattle.std.specs.Prelude.{◌≡◌, ◌++◌, OnOk};
 ghost use Rattle.bl_index.specs.Replies.{reply_of};
-ghost use Rattle.bl_lines.specs.Text.{reply_text, numbered};
+ghost use Rattle.bl_serve_lines.specs.Text.{reply_text, numbered};
 
 use bl_index::KeyReply;
-use bl_lines::print::push_number;
+use bl_serve_lines::print::push_number;
 use std::alloc::AllocError;
 
 /// Appends the reply's text.

@@ -5,10 +5,10 @@ ghost use Rattle.std.specs.Io.KnownBytes.{Consumes, IsAtEnd};
 ghost use Rattle.bl_serve.specs.Reading.{EndsReading, ReadsLine};
 
 use arrayvec::ArrayVec;
-use bl_lines::ServeFault;
-use bl_lines::request::{Request, parse};
-use bl_lines::source::{Cut, KEPT, Source};
 use bl_model::{Failed, Watched};
+use bl_serve_lines::ServeFault;
+use bl_serve_lines::request::{Request, parse};
+use bl_serve_lines::source::{Cut, KEPT, Source};
 use std::alloc::AllocError;
 use std::io::Read;
 

@@ -13,9 +13,9 @@ use crate::meeting::meet_all;
 use crate::working::{Batch, Turn, Worked, Written, take_turn};
 use bl_hints::Hints;
 use bl_index::{Index, Pass};
-use bl_lines::ServeFault;
-use bl_lines::request::Request;
 use bl_model::Op;
+use bl_serve_lines::ServeFault;
+use bl_serve_lines::request::Request;
 use crossbeam_channel::{Receiver, unbounded};
 use std::alloc::{AllocError, Global};
 use std::sync::Wait;
@@ -236,7 +236,7 @@ pub fn answer_section<R: Threads + Wait + Sync, G: Gate + Sync>(
     requires own { All (IsPassOf index.now) passes.items }
     requires room { done + length lines.now < 2 ^ 64 }
     ensures own { IfOk result (λ t. All (IsPassOf index.now) t.0.items) }
-    ensures fault { IfErr result IsInside }
+    ensures fault { IfErr result (IsInside done (length lines.now)) }
     ensures round { IfOk result (λ t. IsRound (first_of index.now) (suc done) lines.now t.1.items passes.items t.0.items) }
 {
     let batches = batches(rt, alloc, lines.len(), workers)?;
@@ -267,7 +267,7 @@ pub fn hold_section<R: Threads + Wait + Sync, G: Gate + Sync>(
     requires some { 0 < vec_len passes }
     requires room { done + length lines.now < 2 ^ 64 }
     ensures held { IfOk result (λ t. HoldsSection index.now done lines.now t.1.items passes.items t.0.items) }
-    ensures fault { IfErr result IsInside }
+    ensures fault { IfErr result (IsInside done (length lines.now)) }
 {
     let (back, text) = answer_section(rt, alloc, index, hints, gate, workers, passes, done, lines)?;
     let mut passes = back;

@@ -2,8 +2,8 @@
 
 ghost use Rattle.std.specs.Prelude.{◌≡◌, ℕ, ◌+◌, ◌<◌, ◌≤◌, ◌^◌, List, ◌++◌, length, true, count_by, is_none, vec_len, IfOk, IfErr, OnOk, MatchResult};
 ghost use Rattle.std.specs.Io.KnownBytes.{Appends, Consumes, IsAtEnd};
-ghost use Rattle.bl_lines.specs.Served.{Stops};
-ghost use Rattle.bl_lines.specs.Streams.{EndsRead};
+ghost use Rattle.bl_serve_lines.specs.Served.{Stops};
+ghost use Rattle.bl_serve_lines.specs.Streams.{EndsRead};
 ghost use Rattle.bl_index.specs.Calls.{first_of, map_after};
 ghost use Rattle.bl_serve.specs.Sections.{CountsSection, rests, syncs};
 ghost use Rattle.bl_serve.specs.Serving.{AreTogether, IsInside, Serves, ServesSection, seen_by};
@@ -13,11 +13,11 @@ use crate::reading::{SectionEnd, read_section};
 use crate::rounds::hold_section;
 use bl_hints::Hints;
 use bl_index::{Index, Pass};
-use bl_lines::print::{Response, push_line};
-use bl_lines::request::Request;
-use bl_lines::source::Source;
-use bl_lines::{ServeFault, Totals};
 use bl_model::{Watched, write_out};
+use bl_serve_lines::print::{Response, push_line};
+use bl_serve_lines::request::Request;
+use bl_serve_lines::source::Source;
+use bl_serve_lines::{ServeFault, Totals};
 use std::alloc::Global;
 use std::io::{Read, Write};
 use std::sync::Wait;
@@ -69,7 +69,7 @@ fn serve_section<T: Threads + Wait + Sync, G: Gate + Sync>(
     requires sections { totals.old.sections + syncs end < 2 ^ 64 }
     ensures counts { OnOk result (CountsSection totals.old totals.new lines.now end) }
     ensures serves { IfOk result (λ t. ServesSection index.now totals.old.requests lines.now end t.1.items passes.items t.0.items) }
-    ensures fault { IfErr result IsInside }
+    ensures fault { IfErr result (IsInside totals.old.requests (length lines.now)) }
 {
     let (passes, text) = hold_section(
         rt,

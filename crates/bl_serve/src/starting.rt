@@ -2,7 +2,7 @@
 
 ghost use Rattle.std.specs.Prelude.{◌≡◌, ◌+◌, ◌≤◌, ℕ, List, [], ◌++◌, true, IfOk, MatchResult};
 ghost use Rattle.std.specs.Io.KnownBytes.{Appends, Consumes, IsAtEnd};
-ghost use Rattle.bl_lines.specs.Streams.{EndsRead};
+ghost use Rattle.bl_serve_lines.specs.Streams.{EndsRead};
 ghost use Rattle.bl_index.specs.Opened.{IsBegun, IsReopened};
 ghost use Rattle.bl_serve.specs.Begun.{IsBegunFrom};
 ghost use Rattle.bl_serve.specs.Origins.{HasPages, ServedFrom, StopsFrom};
@@ -12,8 +12,8 @@ use crate::origin::Origin;
 use crate::serving::serve;
 use bl_check::Quiet;
 use bl_index::{Config, Index, OpenFault, Pass};
-use bl_lines::{ServeFault, Totals};
 use bl_model::Watched;
+use bl_serve_lines::{ServeFault, Totals};
 use std::alloc::{AllocError, Global};
 use std::io::{Read, Write};
 use std::sync::Wait;

@@ -9,7 +9,7 @@ use crate::compressing::{Shift, follow_hints};
 use crate::gate::Gate;
 use bl_hints::Hints;
 use bl_index::{Index, Pass};
-use bl_lines::request::Request;
+use bl_serve_lines::request::Request;
 use crossbeam_channel::Receiver;
 use std::alloc::{AllocError, Global};
 use std::sync::Wait;

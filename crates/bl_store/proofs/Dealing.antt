@@ -6,7 +6,7 @@ use native.Mathlib.Decide.{ℕ_discrete}
 use lib.ListN.{get_elem?}
 use Rattle.std.proofs.lemmas.Grind.{get_or-set_at}
 use Rattle.std.proofs.lemmas.List.{get_or_append_left, get_or-append_right, length-append}
-use Rattle.atomic_table.specs.Table.{State}
+use Rattle.atomic_table.specs.Table.{State, opening, Splits}
 use Rattle.atomic_table.proofs.Lists.{at_set, set_else}
 use Rattle.bl_layout.specs.declared.layout.Layout.{Layout}
 use Rattle.bl_layout.specs.Words.{frame_count, word_count}
@@ -21,7 +21,6 @@ use Rattle.std.proofs.Common.{map, take, take_all, length-take-le, true, false, 
 use Rattle.std.proofs.lemmas.Bool.{eqb-true}
 use Rattle.std.proofs.lemmas.List.{take_more, length-map, length-replicate}
 use mathlib.Core.Option.{some-ne-none}
-use Rattle.atomic_table.specs.Table.{opening, Splits}
 use Rattle.atomic_table.proofs.Lists.{at_snoc, at_map, at_longer, at_last}
 use Rattle.atomic_table.specs.Seated.{TableId}
 use Rattle.bl_store.specs.declared.store.Hand.{Hand}

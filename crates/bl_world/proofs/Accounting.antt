@@ -6,37 +6,37 @@ use Rattle.bl_model.specs.History.{IsLegalFrom}
 use Rattle.bl_page.specs.Machine.{Name}
 use Rattle.bl_page.specs.Machine.Act.{End}
 use Rattle.bl_page.specs.Machine.Phase.{Waiting, Ended}
-use Rattle.bl_trails.specs.Trails.{Said, marks_of, history_of, SaysAt, DoesAt, HasSaid}
-use Rattle.bl_trails.specs.Moments.{HasLaws}
-use Rattle.bl_steps.specs.Worlds.{IsStage, World as ModelWorld, IsSure, IsGood}
-use Rattle.bl_ways.specs.declared.answers.Answer.{Answer}
-use Rattle.bl_ways.specs.declared.answers.Answer.TheVariants as answer
-use Rattle.bl_ways.specs.declared.answers.Hint.{Hint}
-use Rattle.bl_ways.specs.declared.answers.Posted.{Posted}
+use Rattle.bl_claims.specs.Trails.{Said, marks_of, history_of, SaysAt, DoesAt, HasSaid}
+use Rattle.bl_claims.specs.Moments.{HasLaws}
+use Rattle.bl_core.specs.Worlds.{IsStage, World as ModelWorld, IsSure, IsGood}
+use Rattle.bl_proc_base.specs.declared.answers.Answer.{Answer}
+use Rattle.bl_proc_base.specs.declared.answers.Answer.TheVariants as answer
+use Rattle.bl_proc_base.specs.declared.answers.Hint.{Hint}
+use Rattle.bl_proc_base.specs.declared.answers.Posted.{Posted}
 use Rattle.bl_proc.specs.declared.posting.Post.{Post}
-use Rattle.bl_ways.specs.declared.answers.Squeezed.{Squeezed}
-use Rattle.bl_compress.specs.declared.squeezing.Compress.{Compress}
-use Rattle.bl_ways.specs.declared.answers.Reclaimed.{Reclaimed}
+use Rattle.bl_proc_base.specs.declared.answers.Squeezed.{Squeezed}
+use Rattle.bl_proc_compress.specs.declared.squeezing.Compress.{Compress}
+use Rattle.bl_proc_base.specs.declared.answers.Reclaimed.{Reclaimed}
 use Rattle.bl_proc.specs.declared.reclaiming.ReclaimStage.{ReclaimStage}
 use Rattle.bl_proc.specs.declared.reclaiming.ReclaimStage.TheVariants as reclaim
 use Rattle.bl_proc.specs.Reclaims.{reclaim_answer_in}
 use Rattle.bl_proc.specs.declared.kinds.Proc.TheVariants as proc
 use Rattle.bl_proc.specs.declared.kinds.Proc.{Proc}
 use Rattle.bl_proc.specs.Processes.{answer_of}
-use Rattle.bl_tables.specs.Knowing.{Run, know_of, know}
-use Rattle.bl_tables.specs.Answers.{MeansPosted, MeansHint}
-use Rattle.bl_tables.specs.Squeezed.{MeansSqueezed}
-use Rattle.bl_tables.proofs.Logged.{bare_good}
-use Rattle.bl_tables.proofs.Answered.{post_means, post_hints}
-use Rattle.bl_tables.proofs.Beside.{beside_means}
-use Rattle.bl_tables.specs.Hinted.{MeansBeside}
-use Rattle.bl_tables.specs.Logs.{proc_log}
-use Rattle.bl_tables.proofs.Pressed.{compress_means}
-use Rattle.bl_tables.proofs.Starting.{run_laws}
-use Rattle.bl_bounds.specs.Bounds.{IsWithinBound}
-use Rattle.bl_bounds.specs.Searches.{IsSearch}
-use Rattle.bl_bounds.specs.Latches.{IsTidy}
-use Rattle.bl_bounds.proofs.Bounded.{search_within}
+use Rattle.bl_proc_invariant.specs.Knowing.{Run, know_of, know}
+use Rattle.bl_proc_meanings.specs.Answers.{MeansPosted, MeansHint}
+use Rattle.bl_proc_meanings.specs.Squeezed.{MeansSqueezed}
+use Rattle.bl_proc_invariant.proofs.Logged.{bare_good}
+use Rattle.bl_proc_invariant.proofs.Answered.{post_means, post_hints}
+use Rattle.bl_proc_invariant.proofs.Beside.{beside_means}
+use Rattle.bl_proc_invariant.specs.Beside.{MeansBeside}
+use Rattle.bl_proc_invariant.specs.Logs.{proc_log}
+use Rattle.bl_proc_invariant.proofs.Pressed.{compress_means}
+use Rattle.bl_proc_invariant.proofs.Starting.{run_laws}
+use Rattle.bl_claims.specs.Bounds.{IsWithinBound}
+use Rattle.bl_proc_bounds.specs.Searches.{IsSearch}
+use Rattle.bl_proc_bounds.specs.Latches.{IsTidy}
+use Rattle.bl_proc_bounds.proofs.Bounded.{search_within}
 use Rattle.bl_world.specs.Views.{View, name_of}
 use Rattle.bl_world.specs.Deeds.{Way}
 use Rattle.bl_world.specs.Retirements.{MeansReclaimed}
@@ -49,7 +49,7 @@ use Rattle.bl_world.proofs.ReclaimArms.{named}
 use Rattle.bl_world.proofs.Moments.{world_map}
 use Rattle.bl_world.proofs.Orders.{ordered, ended_in, none_released}
 use Rattle.bl_world.proofs.Entries.{said_op, answered_said, answered_late}
-use Rattle.bl_courses.proofs.RefusedAnswers.{answers_refused}
+use Rattle.bl_proc_unique.proofs.RefusedAnswers.{answers_refused}
 use Rattle.bl_world.proofs.Ways.{events_count, first_refused}
 use Rattle.bl_world.proofs.Keeping.{Has, GrowsTo}
 

@@ -4,22 +4,21 @@ use Rattle.std.proofs.lemmas.Bool.{cases_eq}
 use Rattle.std.proofs.lemmas.Option.{slice_get_within, get_or_from_slice_get}
 use Rattle.std.proofs.lemmas.List.{length-set}
 use Rattle.bl_page.specs.declared.page.Page.{Page}
-use Rattle.bl_page.specs.Machine.{State, Act as MachineAct}
+use Rattle.bl_page.specs.Machine.{State, Act as MachineAct, Owner as MachineOwner}
 use Rattle.bl_page.specs.Machine.Owner.{Held as MachineHeld, Retired as MachineRetired}
-use Rattle.bl_page.specs.Machine.{Owner as MachineOwner}
 use Rattle.bl_page.specs.Machine.Phase.{Running, Ended}
-use Rattle.bl_steps.proofs.After.{put_at, is_put_at, put_name, is_put_name}
-use Rattle.bl_ways.specs.declared.acts.Action.{Action}
-use Rattle.bl_ways.specs.declared.acts.Action.TheVariants as act
-use Rattle.bl_ways.specs.declared.acts.Seen.{Seen}
-use Rattle.bl_ways.specs.declared.acts.Seen.TheVariants as seen
+use Rattle.bl_core.proofs.After.{put_at, is_put_at, put_name, is_put_name}
+use Rattle.bl_proc_base.specs.declared.acts.Action.{Action}
+use Rattle.bl_proc_base.specs.declared.acts.Action.TheVariants as act
+use Rattle.bl_proc_base.specs.declared.acts.Seen.{Seen}
+use Rattle.bl_proc_base.specs.declared.acts.Seen.TheVariants as seen
 use Rattle.bl_proc.specs.declared.reclaiming.Reclaim.{Reclaim}
 use Rattle.bl_proc.specs.declared.kinds.Proc.{Proc}
 use Rattle.bl_proc.specs.declared.kinds.Proc.TheVariants as proc
 use Rattle.bl_proc.specs.Processes.{next_of, Takes}
-use Rattle.bl_tables.specs.Turns.{event_of, IsTold, IsShown, Does}
-use Rattle.bl_tables.specs.Knowing.{end_of_proc, run_next}
-use Rattle.bl_bounds.proofs.Turns.{Paced, paced_turn, paced_idle}
+use Rattle.bl_proc_invariant.specs.Turns.{event_of, IsTold, IsShown, Does}
+use Rattle.bl_proc_invariant.specs.Knowing.{end_of_proc, run_next}
+use Rattle.bl_proc_bounds.proofs.Turns.{Paced, paced_turn, paced_idle}
 use Rattle.bl_world.specs.declared.turns.Act.{Act}
 use Rattle.bl_world.specs.declared.turns.Act.TheVariants as shown
 use Rattle.bl_world.specs.declared.turns.Event.{Event}

@@ -1,21 +1,21 @@
 -- A change, a growth or a compression of two children is never to begin: the process that carries it out has begun.
 use Rattle.std.proofs.Common.{◌≡◌}
-use Rattle.bl_ways.specs.declared.acts.Action.TheVariants as act
-use Rattle.bl_ways.specs.declared.approaching.Approach.{Approach}
-use Rattle.bl_ways.specs.declared.approaching.Approach.TheVariants as way
-use Rattle.bl_ways.specs.declared.changing.Change.{Change}
-use Rattle.bl_ways.specs.declared.changing.Change.TheVariants as change
-use Rattle.bl_ways.specs.declared.growing.Growth.{Growth}
-use Rattle.bl_ways.specs.declared.growing.Growth.TheVariants as growth
+use Rattle.bl_proc_base.specs.declared.acts.Action.TheVariants as act
+use Rattle.bl_proc_base.specs.declared.approaching.Approach.{Approach}
+use Rattle.bl_proc_base.specs.declared.approaching.Approach.TheVariants as way
+use Rattle.bl_proc_base.specs.declared.changing.Change.{Change}
+use Rattle.bl_proc_base.specs.declared.changing.Change.TheVariants as change
+use Rattle.bl_proc_base.specs.declared.growing.Growth.{Growth}
+use Rattle.bl_proc_base.specs.declared.growing.Growth.TheVariants as growth
 use Rattle.bl_rearrange.specs.declared.sides.Side.{Side}
 use Rattle.bl_rearrange.specs.declared.sides.Side.TheVariants as side
-use Rattle.bl_compress.specs.declared.compressing.Puts.{Puts}
-use Rattle.bl_compress.specs.declared.compressing.Compression.{Compression}
-use Rattle.bl_compress.specs.declared.compressing.Compression.TheVariants.{LatchingLeft, LatchedLeft, LatchingRight, LatchedRight, PuttingFirst, PuttingParent, PuttingLast, Retiring, OpeningRight, OpeningLeft, OpeningParent}
-use Rattle.bl_ways.specs.Approaches.{approach_next}
-use Rattle.bl_ways.specs.Changes.{change_next}
-use Rattle.bl_ways.specs.Growths.{growth_next}
-use Rattle.bl_compress.specs.Compressions.{put_of, other, compression_next}
+use Rattle.bl_proc_compress.specs.declared.compressing.Puts.{Puts}
+use Rattle.bl_proc_compress.specs.declared.compressing.Compression.{Compression}
+use Rattle.bl_proc_compress.specs.declared.compressing.Compression.TheVariants.{LatchingLeft, LatchedLeft, LatchingRight, LatchedRight, PuttingFirst, PuttingParent, PuttingLast, Retiring, OpeningRight, OpeningLeft, OpeningParent}
+use Rattle.bl_proc_base.specs.Approaches.{approach_next}
+use Rattle.bl_proc_base.specs.Changes.{change_next}
+use Rattle.bl_proc_base.specs.Growths.{growth_next}
+use Rattle.bl_proc_compress.specs.Compressions.{put_of, other, compression_next}
 
 pub approach_begins : {X : Type 0} (a : Approach) → approach_next a ≡ act.Begin → X
 approach_begins way.Start e = absurd cc

@@ -3,9 +3,9 @@ use Rattle.std.proofs.Common.{ℕ, ◌≡◌, ◌≢◌, ◌⊎◌, ◌^◌, ◌
 use Rattle.std.proofs.lemmas.Option.{slice_get_within}
 use Rattle.bl_page.specs.declared.page.Page.{Page}
 use Rattle.bl_page.specs.Machine.{Name}
-use Rattle.bl_steps.proofs.After.{put_name, is_put_name}
-use Rattle.bl_starts.specs.Blank.{IsBlank}
-use Rattle.bl_ways.specs.declared.acts.Action.TheVariants as act
+use Rattle.bl_core.proofs.After.{put_name, is_put_name}
+use Rattle.bl_core.specs.Blank.{IsBlank}
+use Rattle.bl_proc_base.specs.declared.acts.Action.TheVariants as act
 use Rattle.bl_proc.specs.declared.searching.FindStage.{FindStage}
 use Rattle.bl_proc.specs.declared.searching.FindStage.TheVariants as find
 use Rattle.bl_proc.specs.declared.parts.PartStage.{PartStage}
@@ -16,8 +16,8 @@ use Rattle.bl_proc.specs.declared.deleting.DeleteStage.{DeleteStage}
 use Rattle.bl_proc.specs.declared.deleting.DeleteStage.TheVariants as delete
 use Rattle.bl_proc.specs.declared.posting.PostStage.{PostStage}
 use Rattle.bl_proc.specs.declared.posting.PostStage.TheVariants as post
-use Rattle.bl_compress.specs.declared.squeezing.CompressStage.{CompressStage}
-use Rattle.bl_compress.specs.declared.squeezing.CompressStage.TheVariants as compress
+use Rattle.bl_proc_compress.specs.declared.squeezing.CompressStage.{CompressStage}
+use Rattle.bl_proc_compress.specs.declared.squeezing.CompressStage.TheVariants as compress
 use Rattle.bl_proc.specs.declared.reclaiming.Reclaim.{Reclaim}
 use Rattle.bl_proc.specs.declared.reclaiming.ReclaimStage.{ReclaimStage}
 use Rattle.bl_proc.specs.declared.reclaiming.ReclaimStage.TheVariants as reclaim
@@ -29,12 +29,12 @@ use Rattle.bl_proc.specs.Parts.{part_next_in}
 use Rattle.bl_proc.specs.Inserts.{insert_next_in}
 use Rattle.bl_proc.specs.Deletes.{delete_next_in}
 use Rattle.bl_proc.specs.Posts.{post_next_in}
-use Rattle.bl_compress.specs.Compresses.{compress_next_in}
+use Rattle.bl_proc_compress.specs.Compresses.{compress_next_in}
 use Rattle.bl_proc.specs.Reclaims.{reclaim_next_in}
-use Rattle.bl_tables.specs.Knowing.{Run, know_of, know_find, know_part, know_insert, know_delete, know_post, know_compress, know_reclaim}
-use Rattle.bl_tables.proofs.Logged.{full_blank}
-use Rattle.bl_tables.proofs.Starting.{with_proc, enters_good}
-use Rattle.bl_bounds.proofs.Kept.{enter_kept}
+use Rattle.bl_proc_invariant.specs.Knowing.{Run, know_of, know_find, know_part, know_insert, know_delete, know_post, know_compress, know_reclaim}
+use Rattle.bl_proc_invariant.proofs.Logged.{full_blank}
+use Rattle.bl_proc_invariant.proofs.Starting.{with_proc, enters_good}
+use Rattle.bl_proc_bounds.proofs.Kept.{enter_kept}
 use Rattle.bl_world.specs.declared.turns.Event.{Event}
 use Rattle.bl_world.specs.declared.owners.Owner.{Owner}
 use Rattle.bl_world.specs.Views.{name_of}

@@ -2,12 +2,12 @@
 use Rattle.std.proofs.Common.{◌≡◌, ap, ◌∙◌, subst}
 use Rattle.bl_model.specs.Map.{empty}
 use Rattle.bl_model.specs.History.{final_map}
-use Rattle.bl_trails.specs.Trails.{history_of}
-use Rattle.bl_trails.specs.Moments.{HasLaws}
-use Rattle.bl_trails.specs.States.{Moment}
-use Rattle.bl_steps.specs.Worlds.{World as ModelWorld, IsGood}
-use Rattle.bl_tables.specs.Knowing.{Run, know}
-use Rattle.bl_tables.proofs.Starting.{run_laws}
+use Rattle.bl_claims.specs.Trails.{history_of}
+use Rattle.bl_claims.specs.Moments.{HasLaws}
+use Rattle.bl_claims.specs.States.{Moment}
+use Rattle.bl_core.specs.Worlds.{World as ModelWorld, IsGood}
+use Rattle.bl_proc_invariant.specs.Knowing.{Run, know}
+use Rattle.bl_proc_invariant.proofs.Starting.{run_laws}
 
 -- the map of a good world is the one after its history
 pub world_map : (w : ModelWorld Run) → IsGood know w → w.first ≡ empty → w.map 0 ≡ final_map empty (history_of w.trail)

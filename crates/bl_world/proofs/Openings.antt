@@ -8,17 +8,17 @@ use Rattle.bl_page.specs.declared.page.Page.TheVariants.{Anchor, Leaf, Inner, De
 use Rattle.bl_page.specs.Machine.{State}
 use Rattle.bl_page.specs.Machine.Owner.{Released, Open, Retired}
 use Rattle.bl_page.specs.Machine.Phase.{Waiting, Running}
-use Rattle.bl_laws.specs.Pages.{node_of, roots_of}
-use Rattle.bl_trails.proofs.States.{moments_first}
-use Rattle.bl_starts.specs.Opening.{Opening}
-use Rattle.bl_starts.specs.Blank.{IsBlank}
-use Rattle.bl_starts.proofs.Starts.{opening_world, opening_good}
-use Rattle.bl_ways.specs.Growths.{IsAnchor}
+use Rattle.bl_claims.specs.Pages.{node_of, roots_of}
+use Rattle.bl_core.proofs.States.{moments_first}
+use Rattle.bl_claims.specs.Opening.{Opening}
+use Rattle.bl_core.specs.Blank.{IsBlank}
+use Rattle.bl_core.proofs.Starts.{opening_world, opening_good}
+use Rattle.bl_proc_base.specs.Growths.{IsAnchor}
 use Rattle.bl_proc.specs.declared.kinds.Proc.{Proc}
 use Rattle.bl_proc.specs.declared.kinds.Proc.TheVariants as proc
 use Rattle.bl_proc.specs.declared.searching.FindStage.TheVariants as find
-use Rattle.bl_bounds.proofs.Kept.{first_kept}
-use Rattle.bl_tables.specs.Knowing.{Run, know}
+use Rattle.bl_proc_bounds.proofs.Kept.{first_kept}
+use Rattle.bl_proc_invariant.specs.Knowing.{Run, know}
 use Rattle.bl_world.specs.declared.turns.Act.{Act}
 use Rattle.bl_world.specs.declared.turns.Event.{Event}
 use Rattle.bl_world.specs.declared.owners.Owner.TheVariants as own

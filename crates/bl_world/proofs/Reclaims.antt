@@ -3,14 +3,14 @@ use Rattle.std.proofs.Common.{ℕ, ◌≡◌, ◌⊎◌, ◌≤◌, ◌++◌, Bo
 use Rattle.std.proofs.lemmas.Option.{slice_get_within}
 use Rattle.bl_page.specs.declared.page.Page.{Page}
 use Rattle.bl_page.specs.Machine.{State}
-use Rattle.bl_ways.specs.declared.acts.Action.TheVariants as act
-use Rattle.bl_ways.specs.declared.acts.Seen.TheVariants as seen
-use Rattle.bl_ways.specs.declared.answers.Reclaimed.{Reclaimed}
-use Rattle.bl_ways.specs.declared.answers.Reclaimed.TheVariants as reclaimed
+use Rattle.bl_proc_base.specs.declared.acts.Action.TheVariants as act
+use Rattle.bl_proc_base.specs.declared.acts.Seen.TheVariants as seen
+use Rattle.bl_proc_base.specs.declared.answers.Reclaimed.{Reclaimed}
+use Rattle.bl_proc_base.specs.declared.answers.Reclaimed.TheVariants as reclaimed
 use Rattle.bl_proc.specs.declared.reclaiming.ReclaimStage.{ReclaimStage}
 use Rattle.bl_proc.specs.declared.reclaiming.ReclaimStage.TheVariants.{Seeing, Looking, Releasing, Over}
 use Rattle.bl_proc.specs.Reclaims.{reclaim_next_in, ReclaimGoes}
-use Rattle.bl_tables.specs.Knowing.{reclaim_time}
+use Rattle.bl_proc_invariant.specs.Knowing.{reclaim_time}
 use Rattle.bl_world.specs.declared.turns.Act.{Act}
 use Rattle.bl_world.specs.declared.turns.Act.TheVariants as shown
 use Rattle.bl_world.specs.declared.turns.Event.{Event}

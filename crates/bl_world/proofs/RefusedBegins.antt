@@ -1,22 +1,22 @@
 -- A process that is to begin does not go on without room.
 use Rattle.std.proofs.Common.{ℕ, ◌≡◌}
-use Rattle.bl_ways.specs.declared.acts.Action.TheVariants as act
+use Rattle.bl_proc_base.specs.declared.acts.Action.TheVariants as act
 use Rattle.bl_proc.specs.declared.inserting.InsertStage.{InsertStage}
 use Rattle.bl_proc.specs.declared.inserting.InsertStage.TheVariants as insert
 use Rattle.bl_proc.specs.declared.deleting.DeleteStage.{DeleteStage}
 use Rattle.bl_proc.specs.declared.deleting.DeleteStage.TheVariants as delete
 use Rattle.bl_proc.specs.declared.posting.PostStage.{PostStage}
 use Rattle.bl_proc.specs.declared.posting.PostStage.TheVariants as post
-use Rattle.bl_compress.specs.declared.squeezing.CompressStage.{CompressStage}
-use Rattle.bl_compress.specs.declared.squeezing.CompressStage.TheVariants as compress
+use Rattle.bl_proc_compress.specs.declared.squeezing.CompressStage.{CompressStage}
+use Rattle.bl_proc_compress.specs.declared.squeezing.CompressStage.TheVariants as compress
 use Rattle.bl_proc.specs.declared.kinds.Proc.{Proc}
 use Rattle.bl_proc.specs.declared.kinds.Proc.TheVariants as proc
 use Rattle.bl_proc.specs.Processes.{next_of, IsReclaim}
 use Rattle.bl_proc.specs.Inserts.{insert_next_in}
 use Rattle.bl_proc.specs.Deletes.{delete_next_in}
 use Rattle.bl_proc.specs.Posts.{post_next_in}
-use Rattle.bl_compress.specs.Compresses.{compress_next_in}
-use Rattle.bl_courses.specs.Refusals.{InsertRefused, DeleteRefused, PostRefused, CompressRefused, IsRefused}
+use Rattle.bl_proc_compress.specs.Compresses.{compress_next_in}
+use Rattle.bl_proc_unique.specs.Refusals.{InsertRefused, DeleteRefused, PostRefused, CompressRefused, IsRefused}
 use Rattle.bl_world.proofs.Begins.{change_begins, growth_begins, squeeze_begins}
 
 -- A process that is to begin was not refused.

@@ -6,14 +6,14 @@ use Rattle.bl_model.specs.declared.operation.Reply.{Reply}
 use Rattle.bl_page.specs.declared.page.Page.{Page}
 use Rattle.bl_page.specs.Machine.{Name, State, Act as MachineAct, Changes}
 use Rattle.bl_page.specs.Machine.Act.{Begin, End, Get, Put, Take, Latch, Retire, Look, Release, Miss}
-use Rattle.bl_trails.specs.Trails.{Mark, Trail, events_of, marks_of}
-use Rattle.bl_trails.proofs.Pushes.{marks_of-other}
-use Rattle.bl_trails.proofs.States.{moments_on}
+use Rattle.bl_claims.specs.Trails.{Mark, Trail, events_of, marks_of}
+use Rattle.bl_core.proofs.Pushes.{marks_of-other}
+use Rattle.bl_core.proofs.States.{moments_on}
 use Rattle.bl_proc.specs.declared.reclaiming.Reclaim.{Reclaim}
 use Rattle.bl_proc.specs.declared.kinds.Proc.{Proc}
 use Rattle.bl_proc.specs.declared.kinds.Proc.TheVariants as proc
-use Rattle.bl_tables.specs.Knowing.{Run}
-use Rattle.bl_bounds.proofs.Turns.{Paced}
+use Rattle.bl_proc_invariant.specs.Knowing.{Run}
+use Rattle.bl_proc_bounds.proofs.Turns.{Paced}
 use Rattle.bl_world.specs.declared.turns.Act.{Act}
 use Rattle.bl_world.specs.declared.turns.Act.TheVariants as shown
 use Rattle.bl_world.specs.declared.turns.Event.{Event}

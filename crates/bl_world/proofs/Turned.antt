@@ -1,8 +1,8 @@
 -- One turn, told by what stood before it, from what was found of the process.
 use Rattle.std.proofs.Common.{ℕ, ◌≡◌, ◌≢◌, ◌-◌, ◌<◌, ◌≤◌, Option, Some, None, slice_get, length, arith, ap, sym, ◌∙◌, subst, inl, inr}
-use Rattle.bl_ways.specs.declared.acts.Action.{Action}
-use Rattle.bl_ways.specs.declared.acts.Action.TheVariants as act
-use Rattle.bl_ways.specs.declared.answers.Answer.{Answer}
+use Rattle.bl_proc_base.specs.declared.acts.Action.{Action}
+use Rattle.bl_proc_base.specs.declared.acts.Action.TheVariants as act
+use Rattle.bl_proc_base.specs.declared.answers.Answer.{Answer}
 use Rattle.bl_proc.specs.declared.kinds.Proc.{Proc}
 use Rattle.bl_proc.specs.Processes.{next_of, answer_of}
 use Rattle.bl_world.specs.declared.turns.Turn.TheVariants as turn

@@ -4,22 +4,22 @@ use Rattle.std.specs.Coded.{le_prop}
 use Rattle.std.proofs.Math.Logic.{∥∥₁_elim}
 use mathlib.Core.Logic.{∥∥₁_map}
 use Rattle.bl_page.specs.declared.page.Page.{Page}
-use Rattle.bl_tree.specs.Nodes.{unbounded}
-use Rattle.bl_laws.specs.Pages.{node_of, roots_of, IsTreePage}
-use Rattle.bl_laws.specs.Walks.{IsWalk, Each, HasLoneWalk}
-use Rattle.bl_laws.specs.Walks.IsWalk.{Ends, Right, Down}
-use Rattle.bl_laws.proofs.WalksEnd.{walk_is_short}
-use Rattle.bl_trails.specs.Moments.{IsLivePage}
-use Rattle.bl_starts.proofs.WorldLaws.{live_status}
-use Rattle.bl_tree.specs.Trees.{is_live}
-use Rattle.bl_tree.proofs.Statuses.{free_dead}
+use Rattle.bl_claims.specs.Nodes.{unbounded}
+use Rattle.bl_claims.specs.Pages.{node_of, roots_of, IsTreePage}
+use Rattle.bl_claims.specs.Walks.{IsWalk, Each, HasLoneWalk}
+use Rattle.bl_claims.specs.Walks.IsWalk.{Ends, Right, Down}
+use Rattle.bl_core_tree.proofs.WalksEnd.{walk_is_short}
+use Rattle.bl_claims.specs.Moments.{IsLivePage}
+use Rattle.bl_core.proofs.WorldLaws.{live_status}
+use Rattle.bl_core_tree.specs.Trees.{is_live}
+use Rattle.bl_core_tree.proofs.Statuses.{free_dead}
 use Rattle.std.proofs.lemmas.Bool.{false≢true}
-use Rattle.bl_ways.specs.declared.onwards.Step.{Step}
-use Rattle.bl_ways.specs.declared.onwards.Step.TheVariants as onward
-use Rattle.bl_ways.specs.Onwards.{top_of, Leads}
-use Rattle.bl_courses.proofs.Onwards.{leads_one}
-use Rattle.bl_tables.specs.Knowing.{know}
-use Rattle.bl_tables.proofs.Starting.{run_laws}
+use Rattle.bl_proc_base.specs.declared.onwards.Step.{Step}
+use Rattle.bl_proc_base.specs.declared.onwards.Step.TheVariants as onward
+use Rattle.bl_proc_base.specs.Onwards.{top_of, Leads}
+use Rattle.bl_proc_unique.proofs.Onwards.{leads_one}
+use Rattle.bl_proc_invariant.specs.Knowing.{know}
+use Rattle.bl_proc_invariant.proofs.Starting.{run_laws}
 use Rattle.bl_world.specs.Views.{View}
 use Rattle.bl_world.specs.Worlds.{HasWorld, IsWorld}
 use Rattle.bl_world.specs.Lone.{HasWalk}

@@ -9,32 +9,32 @@ use Rattle.bl_page.specs.declared.page.Page.{Page}
 use Rattle.bl_page.specs.Machine.{Name, State}
 use Rattle.bl_page.specs.Machine.Act.{Begin, End, Get}
 use Rattle.bl_page.specs.Machine.Owner.{Released}
-use Rattle.bl_trails.specs.Trails.{Said, Mark, Trail, marks_of, events_of, history_of, DoesAt, SaysAt, IsMarked, LeadsOn}
-use Rattle.bl_trails.specs.Moments.{HasLaws}
-use Rattle.bl_trails.specs.States.{HasMoments}
-use Rattle.bl_starts.specs.Opening.{Opening}
-use Rattle.bl_ways.specs.declared.answers.Answer.{Answer}
-use Rattle.bl_ways.specs.declared.answers.Answer.TheVariants as answer
-use Rattle.bl_ways.specs.declared.answers.Hint.{Hint}
-use Rattle.bl_ways.specs.declared.answers.Posted.{Posted}
+use Rattle.bl_claims.specs.Trails.{Said, Mark, Trail, marks_of, events_of, history_of, DoesAt, SaysAt, IsMarked, LeadsOn}
+use Rattle.bl_claims.specs.Moments.{HasLaws}
+use Rattle.bl_claims.specs.States.{HasMoments}
+use Rattle.bl_claims.specs.Opening.{Opening}
+use Rattle.bl_proc_base.specs.declared.answers.Answer.{Answer}
+use Rattle.bl_proc_base.specs.declared.answers.Answer.TheVariants as answer
+use Rattle.bl_proc_base.specs.declared.answers.Hint.{Hint}
+use Rattle.bl_proc_base.specs.declared.answers.Posted.{Posted}
 use Rattle.bl_proc.specs.declared.posting.Post.{Post}
-use Rattle.bl_ways.specs.declared.answers.Squeezed.{Squeezed}
-use Rattle.bl_compress.specs.declared.squeezing.Compress.{Compress}
-use Rattle.bl_tables.specs.Squeezed.{MeansSqueezed}
-use Rattle.bl_ways.specs.declared.answers.Reclaimed.{Reclaimed}
+use Rattle.bl_proc_base.specs.declared.answers.Squeezed.{Squeezed}
+use Rattle.bl_proc_compress.specs.declared.squeezing.Compress.{Compress}
+use Rattle.bl_proc_meanings.specs.Squeezed.{MeansSqueezed}
+use Rattle.bl_proc_base.specs.declared.answers.Reclaimed.{Reclaimed}
 use Rattle.bl_proc.specs.declared.reclaiming.Reclaim.{Reclaim}
 use Rattle.bl_proc.specs.declared.kinds.Proc.{Proc}
 use Rattle.bl_proc.specs.declared.kinds.Proc.TheVariants as proc
 use Rattle.bl_proc.specs.Processes.{answer_of}
-use Rattle.bl_tables.specs.Answers.{MeansPosted, MeansHint}
-use Rattle.bl_tables.specs.Hinted.{MeansBeside}
-use Rattle.bl_bounds.specs.Bounds.{IsWithinBound}
-use Rattle.bl_bounds.specs.Searches.{IsSearch}
-use Rattle.bl_bounds.specs.Latches.{IsTidy}
+use Rattle.bl_proc_meanings.specs.Answers.{MeansPosted, MeansHint}
+use Rattle.bl_proc_invariant.specs.Beside.{MeansBeside}
+use Rattle.bl_claims.specs.Bounds.{IsWithinBound}
+use Rattle.bl_proc_bounds.specs.Searches.{IsSearch}
+use Rattle.bl_proc_bounds.specs.Latches.{IsTidy}
 use Rattle.bl_world.specs.declared.owners.Owner.{Owner}
 use Rattle.bl_world.specs.Views.{View, name_of, owner_of, events_shown}
 use Rattle.bl_world.specs.Retirements.{MeansReclaimed, ReleasesSeen}
-use Rattle.bl_courses.specs.Refusals.{IsNoRoom}
+use Rattle.bl_proc_unique.specs.Refusals.{IsNoRoom}
 use Rattle.bl_world.specs.Deeds.{Way, turns_in, WasRefused}
 
 -- no released page is got: before each get its page is not released

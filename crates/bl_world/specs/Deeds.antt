@@ -1,10 +1,10 @@
 -- What the user of a world does with it, and where that leads.
 use Rattle.std.specs.Prelude.{◌≡◌, ◌⊎◌, ℕ, ◌<◌, ◌+◌, ◌++◌, Some, None, List, [], ◌∷◌, length, slice_get}
 use Rattle.bl_page.specs.declared.page.Page.{Page}
-use Rattle.bl_tree.specs.Nodes.{unbounded}
-use Rattle.bl_laws.specs.Pages.{node_of}
-use Rattle.bl_ways.specs.declared.acts.Action.TheVariants as act
-use Rattle.bl_ways.specs.Growths.{IsAnchor}
+use Rattle.bl_claims.specs.Nodes.{unbounded}
+use Rattle.bl_claims.specs.Pages.{node_of}
+use Rattle.bl_proc_base.specs.declared.acts.Action.TheVariants as act
+use Rattle.bl_proc_base.specs.Growths.{IsAnchor}
 use Rattle.bl_proc.specs.declared.kinds.Proc.{Proc}
 use Rattle.bl_proc.specs.Processes.{next_of, IsReclaim}
 use Rattle.bl_world.specs.declared.turns.Turn.{Turn}

@@ -1,8 +1,8 @@
 -- The lone walk of a key: what a search for it would meet if nothing changed meanwhile.
 use Rattle.std.specs.Prelude.{◌≡◌, ℕ, suc, length}
-use Rattle.bl_laws.specs.Pages.{node_of, roots_of}
-use Rattle.bl_laws.specs.Walks.{HasLoneWalk}
-use Rattle.bl_trails.specs.Moments.{IsLivePage}
+use Rattle.bl_claims.specs.Pages.{node_of, roots_of}
+use Rattle.bl_claims.specs.Walks.{HasLoneWalk}
+use Rattle.bl_claims.specs.Moments.{IsLivePage}
 use Rattle.bl_world.specs.Views.{View}
 use Rattle.bl_world.specs.Worlds.{HasWorld}
 use Rattle.bl_world.specs.Accounts.{Account}

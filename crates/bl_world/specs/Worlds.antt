@@ -5,18 +5,18 @@ use Rattle.bl_page.specs.declared.page.Page.{Page}
 use Rattle.bl_page.specs.Machine.{Name}
 use Rattle.bl_page.specs.Machine.Owner.{Retired}
 use Rattle.bl_page.specs.Machine.Phase.{Waiting, Running, Ended}
-use Rattle.bl_trails.specs.Trails.{events_of, marks_of}
-use Rattle.bl_trails.specs.States.{HasMoments}
-use Rattle.bl_steps.specs.Worlds.{World as ModelWorld, IsGood}
-use Rattle.bl_starts.specs.Blank.{IsBlank}
-use Rattle.bl_starts.specs.Opening.{Opening}
+use Rattle.bl_claims.specs.Trails.{events_of, marks_of}
+use Rattle.bl_claims.specs.States.{HasMoments}
+use Rattle.bl_core.specs.Worlds.{World as ModelWorld, IsGood}
+use Rattle.bl_core.specs.Blank.{IsBlank}
+use Rattle.bl_claims.specs.Opening.{Opening}
 use Rattle.bl_proc.specs.declared.reclaiming.Reclaim.{Reclaim}
 use Rattle.bl_proc.specs.declared.reclaiming.ReclaimStage.{ReclaimStage}
 use Rattle.bl_proc.specs.declared.reclaiming.ReclaimStage.TheVariants as reclaim
 use Rattle.bl_proc.specs.declared.kinds.Proc.{Proc}
 use Rattle.bl_proc.specs.declared.kinds.Proc.TheVariants as proc
-use Rattle.bl_tables.specs.Knowing.{Run, know}
-use Rattle.bl_bounds.specs.Paces.{AllKept}
+use Rattle.bl_proc_invariant.specs.Knowing.{Run, know}
+use Rattle.bl_proc_bounds.specs.Paces.{AllKept}
 use Rattle.bl_world.specs.declared.turns.Act.TheVariants as shown
 use Rattle.bl_world.specs.declared.turns.Event.{Event}
 use Rattle.bl_world.specs.declared.owners.Owner.{Owner}

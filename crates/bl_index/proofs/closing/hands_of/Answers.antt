@@ -3,8 +3,8 @@ use mathlib.Core.Option.{some-ne-none}
 use lib.ListN.{get_elem?}
 use Rattle.std.proofs.lemmas.List.{length_push}
 use Rattle.bl_store.specs.declared.store.Hand.{Hand}
-use Rattle.bl_passes.proofs.Shown.{at_below}
-use Rattle.bl_passes.specs.declared.known.Mine.{Mine}
+use Rattle.bl_index_rule.proofs.Shown.{at_below}
+use Rattle.bl_index_rule.specs.declared.known.Mine.{Mine}
 use Rattle.bl_index.proofs.Gathered.{rest_there, last_there, taken_more, only_more}
 use Rattle.bl_index.proofs.closing.hands_of.Goals as goal
 

@@ -1,9 +1,9 @@
 use Rattle.std.proofs.Common.{◌≤◌, length, sym, subst, ◌∙◌}
 use Rattle.bl_page.specs.declared.page.Page.{Page}
 use Rattle.bl_page.proofs.Once.{once}
-use Rattle.bl_laws.specs.Pages.{IsTreePage}
+use Rattle.bl_claims.specs.Pages.{IsTreePage}
 use Rattle.bl_rearrange.specs.Rearranged.{pairs_of}
-use Rattle.bl_ways.proofs.Spellings.{tree_pairs}
+use Rattle.bl_proc_base.proofs.Spellings.{tree_pairs}
 use Rattle.bl_index.proofs.Parted.{spread_full}
 use Rattle.bl_index.proofs.halves.entries_with.Goals as goal
 

@@ -1,11 +1,11 @@
 use Rattle.std.proofs.Common.{◌+◌, ap, sym, subst, arith}
 use Rattle.bl_store.specs.declared.view.View.{View}
-use Rattle.bl_passes.specs.declared.known.Mine.{Mine}
-use Rattle.bl_passes.specs.Noting.{trail_of}
-use Rattle.bl_passes.specs.Seeing.{IsSeen, AreWithin}
+use Rattle.bl_index_rule.specs.declared.known.Mine.{Mine}
+use Rattle.bl_index_rule.specs.Noting.{trail_of}
+use Rattle.bl_claims.specs.Seeing.{IsSeen, AreWithin}
 use Rattle.bl_index.specs.Opened.{AreNew}
 use Rattle.bl_index.proofs.Hands.{rest_new, first_new, passes_push}
-use Rattle.bl_passes.proofs.Within.{none_within}
+use Rattle.bl_index_rule.proofs.Within.{none_within}
 use Rattle.bl_index.proofs.opening.passes_of.Goals as goal
 
 pub remove-requires : goal.remove-requires

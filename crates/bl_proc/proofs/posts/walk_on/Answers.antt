@@ -1,5 +1,5 @@
 use Rattle.std.proofs.Common.{refl, sym, subst}
-use Rattle.bl_ways.specs.declared.onwards.Step.TheVariants.{Right}
+use Rattle.bl_proc_base.specs.declared.onwards.Step.TheVariants.{Right}
 use Rattle.bl_proc.specs.Posts.{PostWalks}
 use Rattle.bl_proc.proofs.posts.walk_on.Goals as goal
 

@@ -1,6 +1,6 @@
 use Rattle.std.proofs.Common.{[]}
 use Rattle.bl_world.specs.Views.{view_of}
-use Rattle.bl_script.specs.declared.command.Command.TheVariants as command
+use Rattle.bl_replay_script.specs.declared.command.Command.TheVariants as command
 use Rattle.bl_replay.proofs.Emitting.{emits_start, ok_map, err_map}
 use Rattle.bl_replay.proofs.Following.{partly_one}
 use Rattle.bl_replay.proofs.commands.play_command.Goals as goal

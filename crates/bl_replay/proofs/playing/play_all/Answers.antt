@@ -1,8 +1,8 @@
 use Rattle.std.proofs.Common.{◌++◌, ◌+◌, [], length, refl, sym, ◌∙◌, arith, subst}
 use Rattle.std.proofs.lemmas.Option.{slice_get-get_or}
 use Rattle.bl_model.specs.declared.operation.Op.TheVariants as op
-use Rattle.bl_script.specs.declared.command.Start.TheVariants as start
-use Rattle.bl_script.specs.declared.command.Command.TheVariants as command
+use Rattle.bl_replay_script.specs.declared.command.Start.TheVariants as start
+use Rattle.bl_replay_script.specs.declared.command.Command.TheVariants as command
 use Rattle.bl_world.specs.Views.{view_of}
 use Rattle.bl_replay.specs.Plays.{all_kinds}
 use Rattle.bl_replay.specs.Plays.Plays.{Nothing}

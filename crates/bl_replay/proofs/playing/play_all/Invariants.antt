@@ -1,5 +1,5 @@
 use Rattle.std.proofs.Common.{◌≡◌, ◌+◌, ℕ, List, length, take}
-use Rattle.bl_script.specs.Commands.{started_by}
+use Rattle.bl_replay_script.specs.Commands.{started_by}
 use Rattle.bl_world.specs.Views.{view_of}
 use Rattle.bl_replay.specs.Plays.{Plays}
 use Rattle.bl_replay.specs.Emits.{Emits}

@@ -1,8 +1,8 @@
 use Rattle.std.proofs.Common.{◌≡◌, ◌<◌, [], ◌++◌, refl, subst, true, arith, length}
 use Rattle.std.proofs.lemmas.Result.{err_from_is_err_and}
-use Rattle.bl_lines.proofs.Known.{consumes_start, appends_start}
-use Rattle.bl_trails.specs.Trails.{Trail, history_of}
-use Rattle.bl_passes.specs.Seeing.{first_map}
+use Rattle.bl_serve_lines.proofs.Known.{consumes_start, appends_start}
+use Rattle.bl_claims.specs.Trails.{Trail, history_of}
+use Rattle.bl_claims.specs.Seeing.{first_map}
 use Rattle.bl_index.specs.Calls.{first_of, pages_of}
 use Rattle.bl_serve.specs.Origins.{Unopened}
 use Rattle.bl_serve.proofs.Beginning.{stops_from}

@@ -22,3 +22,11 @@ returns-then-piece-next-clause-lost c = let w = subst (IsWithin c.args.count) (s
 pub returns-then-next-count-clause-lost : goal.returns-then-next-count-clause-lost
 returns-then-next-count-clause-lost c =
     lost_behind c.loop-piece.next c.args.written.now (subst (λ (z : List Written). Chains 0 c.loop-piece.next z) (take_all _ c.args.written.now (omega (arith, c.loop-piece-test.false))) c.loop-piece.invariant.chains) c.args.done c.args.count _ (omega (arith, c.loop-piece.invariant.low, c.if-next-count.true)) (omega arith)
+
+-- a line that was lost is one of them
+pub returns-then-piece-next-clause-fault : goal.returns-then-piece-next-clause-fault
+returns-then-piece-next-clause-fault c = let w = subst (IsWithin c.args.count) (sym c.piece-item.is) (c.requires.within _ c.piece-item.result c.loop-piece-test.true) in let order = w.order in let within = w.within in
+    (omega (arith, c.min.ensures), omega (arith, c.min.ensures, order, within))
+
+pub returns-then-next-count-clause-fault : goal.returns-then-next-count-clause-fault
+returns-then-next-count-clause-fault c = (omega arith, omega (arith, c.loop-piece.invariant.low, c.if-next-count.true))

@@ -1,7 +1,7 @@
 use Rattle.std.proofs.Common.{◌≡◌, ◌∙◌, subst, arith}
 use Rattle.std.proofs.lemmas.List.{take_all}
-use Rattle.bl_lines.specs.Text.{Means}
-use Rattle.bl_lines.proofs.Long.{long_line}
+use Rattle.bl_serve_lines.specs.Text.{Means}
+use Rattle.bl_serve_lines.proofs.Long.{long_line}
 use Rattle.bl_serve.proofs.reading.read_line.Goals as goal
 
 -- the whole line was kept

@@ -1,8 +1,8 @@
 use Rattle.std.proofs.Common.{◌≡◌, ◌≢◌, ◌++◌, ◌∷◌, [], refl, ap, sym, subst, length, arith, inl, inr, length-append}
 use Rattle.std.specs.Prelude.{Some}
 use Rattle.std.proofs.lemmas.Result.{err_from_is_err_and}
-use Rattle.bl_lines.specs.declared.request.Request.TheVariants.{Sync}
-use Rattle.bl_lines.proofs.Known.{consumes_more, consumes_start}
+use Rattle.bl_serve_lines.specs.declared.request.Request.TheVariants.{Sync}
+use Rattle.bl_serve_lines.proofs.Known.{consumes_more, consumes_start}
 use Rattle.bl_serve.specs.Reading.{AsksNoSync}
 use Rattle.bl_serve.proofs.Cutting.{asks_none, asks_more, asks_sync, reads_none, reads_more, reads_rest, reads_end, reads_failed}
 use Rattle.bl_serve.proofs.reading.read_section.Goals as goal

@@ -2,17 +2,17 @@ use Rattle.std.proofs.Common.{◌≡◌, ◌≢◌, ◌+◌, ◌-◌, ◌<◌, �
 use Rattle.std.specs.Prelude.{Option, Ok}
 use Rattle.std.specs.Io.KnownBytes.{Consumes, Appends, IsAtEnd}
 use Rattle.std.proofs.lemmas.Result.{err_from_is_err_and}
-use Rattle.bl_lines.specs.declared.request.Request.{Request}
-use Rattle.bl_lines.specs.declared.serving.ServeFault.TheVariants.{Memory}
-use Rattle.bl_lines.proofs.Known.{consumes_start, consumes_next, consumes_rest, appends_start, appends_more, appends_text}
+use Rattle.bl_serve_lines.specs.declared.request.Request.{Request}
+use Rattle.bl_serve_lines.specs.declared.serving.ServeFault.TheVariants.{Memory}
+use Rattle.bl_serve_lines.proofs.Known.{consumes_start, consumes_next, consumes_rest, appends_start, appends_more, appends_text}
 use Rattle.bl_index.specs.Calls.{first_of}
 use Rattle.bl_serve.specs.declared.reading.SectionEnd.TheVariants as section_end
 use Rattle.bl_serve.specs.Reading.{EndsReading}
 use Rattle.bl_serve.specs.Sections.{rests}
-use Rattle.bl_serve.specs.Serving.{seen_by}
+use Rattle.bl_serve.specs.Serving.{seen_by, IsInside}
 use Rattle.bl_serve.proofs.Advance.{no_progress, stops_inside}
 use Rattle.bl_serve.proofs.Holding.{together_by_first}
-use Rattle.bl_serve.proofs.Faults.{room, stops_at_read, stops_at_answers, now_seen, together_now, some_now, stops_at_write, goes_on_at_sync, serves_at_end, serves_no_more}
+use Rattle.bl_serve.proofs.Faults.{room, stops_at_read, reads_of, stops_at_answers, now_seen, together_now, some_now, stops_at_write, goes_on_at_sync, serves_at_end, serves_no_more}
 use Rattle.bl_serve.proofs.serving.serve.Goals as goal
 
 -- no memory at the start
@@ -70,7 +70,9 @@ returns-in_err-back g c = let i = c.loop-section.invariant in let e = c.in_ok-en
       i.output,
       consumes_next _ _ _ i.input c.loop-section.source e.1 _ i.consumed e.2 refl,
       i.wrote,
-      stops_at_answers (first_of c.args.index.now) c.in_err-back.field-0.0 (seen_by c.args.passes.items) i.seen c.loop-section.totals i.input i.output (c.loop-section.source ++ e.1) (c.read_section.new.reader.failed ≡ true) (c.loop-section.writer.failed ≡ true) i.progress i.together.may_be c.in_err-back.ensures.fault,
+      stops_at_answers (first_of c.args.index.now) c.in_err-back.field-0.0 (seen_by c.args.passes.items) i.seen c.loop-section.totals i.input i.output (c.loop-section.source ++ e.1) c.read_section.new.source e.0 c.read_section.new.lines.items (c.read_section.new.reader.failed ≡ true) (c.loop-section.writer.failed ≡ true) i.progress i.together.may_be
+          (reads_of c.in_ok-end.end (18446744073709551615 - c.loop-section.totals.requests) c.read_section.new.lines.items e.0 (c.loop-section.source ++ e.1) c.read_section.new.source (IsAtEnd (g.R.Read.remaining c.read_section.new.reader.inner)) (c.read_section.new.reader.failed ≡ true) e.3)
+          (subst (λ (z : List (Option Request)). IsInside c.loop-section.totals.requests (length z) c.in_err-back.field-0.0) c.as_slice.ensures.value c.in_err-back.ensures.fault),
     )
 
 -- its output was not written whole

@@ -1,6 +1,6 @@
 use Rattle.std.proofs.Common.{◌<◌, ◌≤◌, ◌^◌, ℕ, List, ◌++◌, length}
 use Rattle.std.specs.Io.KnownBytes.{Consumes, Appends}
-use Rattle.bl_trails.specs.Trails.{Trail}
+use Rattle.bl_claims.specs.Trails.{Trail}
 use Rattle.bl_serve.specs.Serving.{AreTogether, seen_by}
 use Rattle.bl_serve.proofs.Advance.{Progress}
 use Rattle.bl_serve.proofs.serving.serve.Given as goal

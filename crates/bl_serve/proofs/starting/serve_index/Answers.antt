@@ -1,6 +1,6 @@
 use Rattle.std.proofs.Common.{◌≡◌, [], ◌++◌, refl, true}
 use Rattle.std.proofs.lemmas.Result.{err_from_is_err_and}
-use Rattle.bl_lines.proofs.Known.{consumes_start, appends_start}
+use Rattle.bl_serve_lines.proofs.Known.{consumes_start, appends_start}
 use Rattle.bl_serve.specs.Origins.{Unopened}
 use Rattle.bl_serve.proofs.Beginning.{served_from, stops_from}
 use Rattle.bl_serve.proofs.starting.serve_index.Goals as goal

@@ -4,8 +4,8 @@ use Rattle.std.specs.Vec.{vec_capacity}
 use Rattle.bl_page.specs.Faults.{HasPairs, pairs_of}
 use Rattle.bl_store.specs.Hands.{known, read_words}
 use Rattle.bl_store.specs.declared.store.Hand.{Hand}
-use Rattle.bl_passes.specs.declared.known.Mine.{Mine}
-use Rattle.bl_passes.specs.Told.{ends}
+use Rattle.bl_index_rule.specs.declared.known.Mine.{Mine}
+use Rattle.bl_index_rule.specs.Told.{ends}
 use Rattle.bl_index.specs.LeafRows.{rows_between}
 use Rattle.bl_index.proofs.Appended.{leaf_pairs, part_appends, part_leaves}
 use Rattle.bl_index.proofs.index.Index.append_part_by.Goals as goal

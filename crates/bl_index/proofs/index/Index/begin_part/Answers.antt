@@ -1,7 +1,7 @@
 use Rattle.std.proofs.Common.{refl, sym, ◌∙◌}
-use Rattle.bl_ways.specs.declared.acts.Seen.TheVariants as seen
+use Rattle.bl_proc_base.specs.declared.acts.Seen.TheVariants as seen
 use Rattle.bl_proc.specs.declared.parts.PartStage.TheVariants.{New, AtAnchor}
-use Rattle.bl_courses.proofs.Parts.{part_goes}
+use Rattle.bl_proc_unique.proofs.Parts.{part_goes}
 use Rattle.bl_index.specs.Parts.{listing}
 use Rattle.bl_index.proofs.Calls.{since_begin}
 use Rattle.bl_index.proofs.index.Index.begin_part.Goals as goal

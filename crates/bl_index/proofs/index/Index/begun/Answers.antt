@@ -1,9 +1,9 @@
 use Rattle.std.proofs.Common.{List, Option, [], sym, ap, subst, ◌∙◌}
 use Rattle.bl_page.specs.declared.page.Page.{Page}
 use Rattle.bl_store.specs.Opening.{first_pages}
-use Rattle.bl_passes.specs.declared.known.Mine.{Mine}
-use Rattle.bl_passes.specs.Seeing.{IsSeen}
-use Rattle.bl_passes.specs.Fitting.{beginner, Fits}
+use Rattle.bl_index_rule.specs.declared.known.Mine.{Mine}
+use Rattle.bl_claims.specs.Seeing.{IsSeen}
+use Rattle.bl_index_rule.specs.Fitting.{beginner, Fits}
 use Rattle.bl_index.proofs.Firsts.{new_hands, is_begun}
 use Rattle.bl_index.proofs.index.Index.begun.Goals as goal
 

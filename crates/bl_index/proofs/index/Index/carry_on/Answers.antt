@@ -1,16 +1,16 @@
 use Rattle.std.proofs.Common.{ℕ, rules, sym, ap, ◌∙◌, subst}
-use Rattle.bl_trails.specs.Trails.{marks_of}
-use Rattle.bl_bounds.specs.Latches.{IsTidy}
-use Rattle.bl_tables.specs.Logs.{proc_log}
+use Rattle.bl_claims.specs.Trails.{marks_of}
+use Rattle.bl_proc_bounds.specs.Latches.{IsTidy}
+use Rattle.bl_proc_invariant.specs.Logs.{proc_log}
 use Rattle.bl_proc.specs.Processes.{next_of}
-use Rattle.bl_courses.specs.Frames.{op_of, work_of}
+use Rattle.bl_proc_unique.specs.Frames.{op_of, work_of}
 use Rattle.bl_store.specs.Hands.{known}
-use Rattle.bl_passes.specs.declared.known.Mine.{Mine}
-use Rattle.bl_passes.specs.Noting.{trail_of}
-use Rattle.bl_passes.specs.Fitting.{name}
+use Rattle.bl_index_rule.specs.declared.known.Mine.{Mine}
+use Rattle.bl_index_rule.specs.Noting.{trail_of}
+use Rattle.bl_claims.specs.Seeing.{name}
 use Rattle.bl_index.specs.Runs.{IsSince}
 use Rattle.bl_index.proofs.Calls.{since_step}
-use Rattle.bl_courses.proofs.RefusedAnswers.{answers_refused}
+use Rattle.bl_proc_unique.proofs.RefusedAnswers.{answers_refused}
 use Rattle.bl_index.proofs.Rooms.{keeps_room, stays_room, ends_room}
 use Rattle.bl_index.proofs.index.Index.carry_on.Goals as goal
 

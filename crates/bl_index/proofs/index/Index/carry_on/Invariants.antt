@@ -1,7 +1,7 @@
 use Rattle.std.proofs.Common.{◌≡◌, ◌≢◌, None}
-use Rattle.bl_ways.specs.declared.acts.Action.TheVariants as act
+use Rattle.bl_proc_base.specs.declared.acts.Action.TheVariants as act
 use Rattle.bl_store.specs.Hands.{known, IsRunning, IsSameHand}
-use Rattle.bl_courses.specs.Frames.{op_of, work_of}
+use Rattle.bl_proc_unique.specs.Frames.{op_of, work_of}
 use Rattle.bl_index.specs.Runs.{IsOn, HasReserved}
 use Rattle.bl_index.specs.Events.{IsSameProcess}
 use Rattle.bl_index.proofs.Rooms.{KeepsRoom}

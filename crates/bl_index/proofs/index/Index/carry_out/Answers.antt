@@ -1,6 +1,6 @@
-use Rattle.bl_ways.specs.declared.acts.Seen.TheVariants as seen
+use Rattle.bl_proc_base.specs.declared.acts.Seen.TheVariants as seen
 use Rattle.std.proofs.Common.{inl, inr}
-use Rattle.bl_courses.proofs.RefusedTurns.{takes_refused, takes_puts}
+use Rattle.bl_proc_unique.proofs.RefusedTurns.{takes_refused, takes_puts}
 use Rattle.bl_index.proofs.Rooms.{done_not_refused}
 use Rattle.bl_index.proofs.Standing.{done_from}
 use Rattle.bl_index.proofs.index.Index.carry_out.Goals as goal

@@ -1,4 +1,4 @@
-use Rattle.bl_ways.specs.declared.approaching.Approach.TheVariants as approach
+use Rattle.bl_proc_base.specs.declared.approaching.Approach.TheVariants as approach
 use Rattle.bl_store.specs.Hands.{known, IsSameHand, IsSameStage, IsSameStock}
 use Rattle.bl_index.specs.Runs.{IsOn}
 use Rattle.bl_index.specs.Events.{IsSameProcess}

@@ -1,6 +1,6 @@
 use Rattle.std.proofs.Common.{◌+◌}
 use Rattle.bl_store.specs.Hands.{known, IsRunning, IsSameHand, IsSameStock}
-use Rattle.bl_passes.specs.Noting.{trail_of}
+use Rattle.bl_index_rule.specs.Noting.{trail_of}
 use Rattle.bl_index.specs.Runs.{IsOn, IsSince, IsAtTurn}
 use Rattle.bl_index.specs.Parts.{part_at}
 use Rattle.bl_index.proofs.index.Index.come_to_leaf.Given as goal

@@ -1,7 +1,7 @@
 use Rattle.std.proofs.Common.{◌∙◌, sym, subst, Some}
-use Rattle.bl_ways.specs.declared.answers.Answer.TheVariants as answer
-use Rattle.bl_ways.specs.declared.answers.Squeezed.{Squeezed}
-use Rattle.bl_courses.specs.Refusals.{IsNoRoom, CompressRefused, CompressPuts}
+use Rattle.bl_proc_base.specs.declared.answers.Answer.TheVariants as answer
+use Rattle.bl_proc_base.specs.declared.answers.Squeezed.{Squeezed}
+use Rattle.bl_proc_unique.specs.Refusals.{IsNoRoom, CompressRefused, CompressPuts}
 use Rattle.bl_index.proofs.Taken.{same_pass}
 use Rattle.bl_index.proofs.Ends.{done_first}
 use Rattle.bl_index.proofs.Rooms.{lacks_three}

@@ -1,8 +1,8 @@
 use Rattle.std.proofs.Common.{refl, ap, ◌∙◌}
-use Rattle.bl_ways.specs.declared.acts.Seen.TheVariants as seen
+use Rattle.bl_proc_base.specs.declared.acts.Seen.TheVariants as seen
 use Rattle.bl_proc.specs.Processes.{next_of}
 use Rattle.bl_store.specs.Hands.{known}
-use Rattle.bl_passes.proofs.Bounds.{ends_process}
+use Rattle.bl_index_rule.proofs.Bounds.{ends_process}
 use Rattle.bl_index.proofs.Withins.{ends_within}
 use Rattle.bl_index.proofs.Standing.{goes_to, course_at, concluded}
 use Rattle.bl_index.proofs.index.Index.conclude.Goals as goal

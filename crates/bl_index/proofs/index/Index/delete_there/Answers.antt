@@ -2,16 +2,16 @@ use Rattle.std.proofs.Common.{◌≡◌, Some, sym, subst}
 use Rattle.bl_model.specs.Rows.{map_of}
 use Rattle.bl_page.specs.declared.page.Page.{Page}
 use Rattle.bl_page.specs.Words.{words_of}
-use Rattle.bl_laws.specs.Pages.{IsTreePage}
+use Rattle.bl_claims.specs.Pages.{IsTreePage}
 use Rattle.bl_rearrange.specs.Entered.{dropped}
 use Rattle.bl_rearrange.specs.Rearranged.{pairs_of}
-use Rattle.bl_ways.specs.declared.changing.Change.TheVariants as change
-use Rattle.bl_ways.specs.Respelled.{words_by}
-use Rattle.bl_ways.specs.Thin.{thin_low}
+use Rattle.bl_proc_base.specs.declared.changing.Change.TheVariants as change
+use Rattle.bl_proc_base.specs.Respelled.{words_by}
+use Rattle.bl_proc_base.specs.Thin.{thin_low}
 use Rattle.bl_proc.specs.declared.deleting.DeleteStage.TheVariants as delete
 use Rattle.bl_store.specs.Hands.{known, read_words}
 use Rattle.bl_store.specs.declared.store.Hand.{Hand}
-use Rattle.bl_passes.specs.declared.known.Mine.{Mine}
+use Rattle.bl_index_rule.specs.declared.known.Mine.{Mine}
 use Rattle.bl_index.specs.Runs.{IsOn}
 use Rattle.bl_index.proofs.Standing.{on_as}
 use Rattle.bl_index.proofs.Deleted.{deleting, stands_absent, stands_removing}

@@ -1,7 +1,7 @@
 use Rattle.std.proofs.Common.{ap}
 use Rattle.bl_proc.specs.Processes.{next_of}
 use Rattle.bl_store.specs.Hands.{known}
-use Rattle.bl_passes.proofs.Bounds.{ends_process}
+use Rattle.bl_index_rule.proofs.Bounds.{ends_process}
 use Rattle.bl_index.proofs.Listings.{leaf_course}
 use Rattle.bl_index.proofs.Withins.{ends_within}
 use Rattle.bl_index.proofs.index.Index.end_part.Goals as goal

@@ -1,10 +1,10 @@
 use Rattle.std.proofs.Common.{◌<◌, ◌≤◌, length, inl, inr, refl, sym, ap, subst, ◌∙◌, arith}
 use Rattle.bl_rearrange.specs.Rearranged.{pairs_of}
-use Rattle.bl_ways.specs.declared.acts.Seen.TheVariants as seen
-use Rattle.bl_ways.specs.declared.changing.Change.{Change}
-use Rattle.bl_ways.specs.declared.changing.Change.TheVariants as change
-use Rattle.bl_ways.specs.declared.changing.Outcome.TheVariants as outcome
-use Rattle.bl_ways.proofs.Spellings.{pairs_counted}
+use Rattle.bl_proc_base.specs.declared.acts.Seen.TheVariants as seen
+use Rattle.bl_proc_base.specs.declared.changing.Change.{Change}
+use Rattle.bl_proc_base.specs.declared.changing.Change.TheVariants as change
+use Rattle.bl_proc_base.specs.declared.changing.Outcome.TheVariants as outcome
+use Rattle.bl_proc_base.proofs.Spellings.{pairs_counted}
 use Rattle.bl_proc.specs.Processes.{next_of}
 use Rattle.bl_store.specs.Hands.{known}
 use Rattle.bl_index.specs.Runs.{IsOn}

@@ -1,7 +1,7 @@
 use Rattle.std.proofs.Common.{◌≡◌, ◌+◌}
 use Rattle.bl_store.specs.Hands.{known, IsRunning, IsSameHand, IsSameStock}
 use Rattle.bl_proc.specs.declared.kinds.Proc.TheVariants as proc
-use Rattle.bl_passes.specs.Noting.{trail_of}
+use Rattle.bl_index_rule.specs.Noting.{trail_of}
 use Rattle.bl_index.specs.Runs.{IsOn, IsSince, IsAtTurn}
 use Rattle.bl_index.specs.Searching.{IsSearching}
 use Rattle.bl_index.proofs.index.Index.find_by.Given as goal

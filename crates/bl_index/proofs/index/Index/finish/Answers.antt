@@ -1,14 +1,14 @@
 use Rattle.std.proofs.Common.{ap, sym, ◌∙◌, subst}
-use Rattle.bl_ways.specs.declared.acts.Seen.TheVariants as seen
+use Rattle.bl_proc_base.specs.declared.acts.Seen.TheVariants as seen
 use Rattle.bl_proc.specs.declared.kinds.Proc.{Proc}
 use Rattle.bl_proc.specs.Processes.{next_of, Takes}
-use Rattle.bl_trails.specs.Trails.{marks_of}
-use Rattle.bl_bounds.specs.Latches.{IsTidy}
-use Rattle.bl_courses.specs.Courses.{GoesOn}
+use Rattle.bl_claims.specs.Trails.{marks_of}
+use Rattle.bl_proc_bounds.specs.Latches.{IsTidy}
+use Rattle.bl_proc_unique.specs.Courses.{GoesOn}
 use Rattle.bl_store.specs.Hands.{known}
-use Rattle.bl_passes.specs.Noting.{trail_of}
-use Rattle.bl_passes.specs.Fitting.{name}
-use Rattle.bl_passes.proofs.Bounds.{ends_process}
+use Rattle.bl_index_rule.specs.Noting.{trail_of}
+use Rattle.bl_claims.specs.Seeing.{name}
+use Rattle.bl_index_rule.proofs.Bounds.{ends_process}
 use Rattle.bl_index.proofs.Withins.{ends_within}
 use Rattle.bl_index.proofs.index.Index.finish.Goals as goal
 

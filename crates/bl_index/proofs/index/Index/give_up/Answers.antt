@@ -1,4 +1,4 @@
-use Rattle.bl_passes.proofs.Bounds.{gives_up_process}
+use Rattle.bl_index_rule.proofs.Bounds.{gives_up_process}
 use Rattle.bl_index.proofs.Withins.{ends_within}
 use Rattle.bl_index.proofs.index.Index.give_up.Goals as goal
 

@@ -1,19 +1,19 @@
 use Rattle.std.proofs.Common.{◌≡◌, ℕ, ◌+◌, ◌<◌, ◌≤◌, List, Option, Some, length, sym, ap, subst, ◌∙◌, get_or, arith}
 use Rattle.bl_model.specs.Rows.{map_of}
-use Rattle.bl_laws.specs.Pages.{node_of}
+use Rattle.bl_claims.specs.Pages.{node_of}
 use Rattle.bl_page.specs.declared.page.Page.{Page}
 use Rattle.bl_page.specs.Faults.{HasPairs, pairs_of as pairs_in_words}
 use Rattle.bl_page.specs.Pairs.{place}
 use Rattle.bl_page.specs.Words.{words_of}
 use Rattle.bl_rearrange.specs.Rearranged.{pairs_of}
-use Rattle.bl_ways.specs.declared.changing.Change.TheVariants as change
-use Rattle.bl_ways.specs.declared.changing.Full.{Full}
-use Rattle.bl_ways.proofs.Spellings.{tree_pairs, tree_lists, pairs_counted}
+use Rattle.bl_proc_base.specs.declared.changing.Change.TheVariants as change
+use Rattle.bl_proc_base.specs.declared.changing.Full.{Full}
+use Rattle.bl_proc_base.proofs.Spellings.{tree_pairs, tree_lists, pairs_counted}
 use Rattle.bl_proc.specs.declared.inserting.InsertStage.TheVariants as insert
 use Rattle.bl_store.specs.Drafts.{IsSpread}
 use Rattle.bl_store.specs.Hands.{known, read_words}
 use Rattle.bl_store.specs.declared.store.Hand.{Hand}
-use Rattle.bl_passes.specs.declared.known.Mine.{Mine}
+use Rattle.bl_index_rule.specs.declared.known.Mine.{Mine}
 use Rattle.bl_index.specs.Runs.{IsOn}
 use Rattle.bl_index.proofs.Standing.{on_as, none_of}
 use Rattle.bl_index.proofs.Inserted.{inserting, stands_putting, stands_present, stands_taking}

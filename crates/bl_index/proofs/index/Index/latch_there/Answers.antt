@@ -1,6 +1,6 @@
 use Rattle.std.proofs.Common.{refl}
-use Rattle.bl_ways.specs.declared.acts.Seen.TheVariants as seen
-use Rattle.bl_ways.specs.declared.approaching.Approach.TheVariants as approach
+use Rattle.bl_proc_base.specs.declared.acts.Seen.TheVariants as seen
+use Rattle.bl_proc_base.specs.declared.approaching.Approach.TheVariants as approach
 use Rattle.bl_store.specs.Hands.{known}
 use Rattle.bl_index.proofs.Standing.{on_goes, same_latch}
 use Rattle.bl_index.proofs.index.Index.latch_there.Goals as goal

@@ -1,9 +1,9 @@
 use Rattle.std.proofs.Common.{ℕ, subst}
 use Rattle.bl_store.specs.Hands.{known}
 use Rattle.bl_store.specs.Pages.{Begins as BeginsIn}
-use Rattle.bl_passes.specs.Fitting.{Fits}
-use Rattle.bl_passes.specs.Told.{begins}
-use Rattle.bl_passes.proofs.Bounds.{begins_process}
+use Rattle.bl_index_rule.specs.Fitting.{Fits}
+use Rattle.bl_index_rule.specs.Told.{begins}
+use Rattle.bl_index_rule.proofs.Bounds.{begins_process}
 use Rattle.bl_index.proofs.index.Index.launch_part.Goals as goal
 
 pub begin-requires-clause-rule : goal.begin-requires-clause-rule

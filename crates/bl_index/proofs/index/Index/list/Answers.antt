@@ -2,7 +2,7 @@ use Rattle.std.proofs.Common.{Some, refl, sym, ap, subst, ◌∙◌}
 use Rattle.bl_proc.specs.declared.posting.PostReply.{PostReply}
 use Rattle.bl_proc.specs.declared.posting.PostStage.TheVariants as post
 use Rattle.bl_proc.specs.Posts.{post_reply, posted_answer}
-use Rattle.bl_ways.specs.declared.changing.Change.TheVariants as change
+use Rattle.bl_proc_base.specs.declared.changing.Change.TheVariants as change
 use Rattle.bl_proc.specs.declared.kinds.Proc.{Proc}
 use Rattle.bl_store.specs.Hands.{known}
 use Rattle.bl_index.specs.Runs.{IsOn}

@@ -1,9 +1,9 @@
 use Rattle.std.proofs.Common.{ap, sym, subst}
-use Rattle.bl_ways.specs.declared.onwards.Step.TheVariants.{Here}
+use Rattle.bl_proc_base.specs.declared.onwards.Step.TheVariants.{Here}
 use Rattle.bl_proc.specs.Processes.{next_of}
 use Rattle.bl_store.specs.Hands.{known}
 use Rattle.bl_store.specs.declared.store.Hand.{Hand}
-use Rattle.bl_passes.specs.declared.known.Mine.{Mine}
+use Rattle.bl_index_rule.specs.declared.known.Mine.{Mine}
 use Rattle.bl_index.specs.declared.listing.Reached.TheVariants as reached
 use Rattle.bl_index.specs.Parts.{HasReached}
 use Rattle.bl_index.proofs.Listings.{page_course, page_reached}

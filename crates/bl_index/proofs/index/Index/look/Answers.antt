@@ -1,6 +1,6 @@
 use Rattle.std.proofs.Common.{sym, ◌∙◌}
 use Rattle.bl_store.specs.Hands.{known}
-use Rattle.bl_passes.proofs.Pages.{gets_page}
+use Rattle.bl_index_rule.proofs.Pages.{gets_page}
 use Rattle.bl_index.proofs.index.Index.look.Goals as goal
 
 pub glance-requires-clause-rule : goal.glance-requires-clause-rule

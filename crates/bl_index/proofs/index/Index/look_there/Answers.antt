@@ -1,13 +1,13 @@
 use Rattle.std.proofs.Common.{ℕ, Some, None, refl, sym, subst}
-use Rattle.bl_ways.specs.declared.acts.Seen.TheVariants as seen
-use Rattle.bl_ways.specs.declared.approaching.Approach.TheVariants as approach
-use Rattle.bl_ways.specs.declared.onwards.Step.TheVariants.{Again, Right, Down, Here}
-use Rattle.bl_ways.specs.Onwards.{Leads}
+use Rattle.bl_proc_base.specs.declared.acts.Seen.TheVariants as seen
+use Rattle.bl_proc_base.specs.declared.approaching.Approach.TheVariants as approach
+use Rattle.bl_proc_base.specs.declared.onwards.Step.TheVariants.{Again, Right, Down, Here}
+use Rattle.bl_proc_base.specs.Onwards.{Leads}
 use Rattle.bl_proc.specs.declared.kinds.Proc.{Proc}
 use Rattle.bl_proc.specs.Processes.{Takes}
 use Rattle.bl_store.specs.Hands.{known}
 use Rattle.bl_store.specs.declared.store.Hand.{Hand}
-use Rattle.bl_passes.specs.declared.known.Mine.{Mine}
+use Rattle.bl_index_rule.specs.declared.known.Mine.{Mine}
 use Rattle.bl_index.specs.declared.coming.Arrived.TheVariants.{There}
 use Rattle.bl_index.specs.Runs.{IsOn}
 use Rattle.bl_index.specs.Events.{IsSameProcess, HasArrived}

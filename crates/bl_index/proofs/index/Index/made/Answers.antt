@@ -1,9 +1,9 @@
 use Rattle.std.proofs.Common.{ℕ, ◌∙◌, sym, ap, subst, List, Option, [], length, arith}
 use Rattle.bl_page.specs.declared.page.Page.{Page}
 use Rattle.bl_store.specs.Opening.{first_pages}
-use Rattle.bl_passes.specs.Seeing.{IsSeen}
-use Rattle.bl_passes.specs.Fitting.{beginner, Fits}
-use Rattle.bl_passes.proofs.Starts.{newcomer_seen}
+use Rattle.bl_claims.specs.Seeing.{IsSeen}
+use Rattle.bl_index_rule.specs.Fitting.{beginner, Fits}
+use Rattle.bl_index_rule.proofs.Starts.{newcomer_seen}
 use Rattle.bl_index.proofs.Firsts.{opens, if_ok, begun_as}
 use Rattle.bl_index.proofs.index.Index.made.Goals as goal
 

@@ -1,6 +1,6 @@
 use Rattle.std.proofs.Common.{sym, subst}
-use Rattle.bl_trails.specs.Trails.{Trail}
-use Rattle.bl_passes.specs.Seeing.{GoesOnFrom}
+use Rattle.bl_claims.specs.Trails.{Trail}
+use Rattle.bl_claims.specs.Seeing.{GoesOnFrom}
 use Rattle.bl_index.specs.Calls.{trail}
 use Rattle.bl_index.proofs.Encounters.{met}
 use Rattle.bl_index.proofs.index.Index.meet.Goals as goal

@@ -1,8 +1,8 @@
 use Rattle.std.proofs.Common.{ℕ, List, ap, sym, subst, refl, ◌∙◌}
 use Rattle.bl_store.specs.Hands.{known, read_words}
 use Rattle.bl_store.specs.declared.store.Hand.{Hand}
-use Rattle.bl_passes.specs.declared.known.Mine.{Mine}
-use Rattle.bl_passes.specs.Told.{ends}
+use Rattle.bl_index_rule.specs.declared.known.Mine.{Mine}
+use Rattle.bl_index_rule.specs.Told.{ends}
 use Rattle.bl_index.specs.Parts.{IsAtLeaf}
 use Rattle.bl_index.proofs.Appended.{GoesOnBehind, leaf_pairs, part_answers}
 use Rattle.bl_index.proofs.index.Index.part_by.Goals as goal

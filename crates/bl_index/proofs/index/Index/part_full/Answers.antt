@@ -1,11 +1,11 @@
 use Rattle.std.proofs.Common.{refl, sym, ap, ◌∙◌, get_or}
-use Rattle.bl_ways.specs.declared.acts.Seen.TheVariants as seen
-use Rattle.bl_ways.specs.declared.changing.Change.TheVariants as change
-use Rattle.bl_ways.specs.declared.changing.Outcome.TheVariants as outcome
+use Rattle.bl_proc_base.specs.declared.acts.Seen.TheVariants as seen
+use Rattle.bl_proc_base.specs.declared.changing.Change.TheVariants as change
+use Rattle.bl_proc_base.specs.declared.changing.Outcome.TheVariants as outcome
 use Rattle.bl_proc.specs.Processes.{next_of}
 use Rattle.bl_index.proofs.Standing.{on_itself, on_goes, same_goes, same_all, course_at}
 use Rattle.bl_index.proofs.Parted.{parted_by, full_tree, full_head}
-use Rattle.bl_ways.specs.declared.changing.Parting.{Parting}
+use Rattle.bl_proc_base.specs.declared.changing.Parting.{Parting}
 use Rattle.bl_index.proofs.index.Index.part_full.Goals as goal
 
 pub take_page-requires-clause-process : goal.take_page-requires-clause-process

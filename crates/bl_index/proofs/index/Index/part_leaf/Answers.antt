@@ -1,10 +1,10 @@
 use Rattle.std.proofs.Common.{inr, refl, sym, ap, subst, ◌∙◌}
-use Rattle.bl_ways.specs.declared.changing.Change.TheVariants as change
+use Rattle.bl_proc_base.specs.declared.changing.Change.TheVariants as change
 use Rattle.bl_proc.specs.declared.inserting.InsertStage.TheVariants as insert
 use Rattle.bl_proc.specs.Inserts.{insert_reply, inserted_answer}
 use Rattle.bl_store.specs.Hands.{known}
 use Rattle.bl_store.specs.declared.store.Hand.{Hand}
-use Rattle.bl_passes.specs.declared.known.Mine.{Mine}
+use Rattle.bl_index_rule.specs.declared.known.Mine.{Mine}
 use Rattle.bl_index.specs.Runs.{IsOn, IsSince}
 use Rattle.bl_index.proofs.Standing.{on_itself, opens_at}
 use Rattle.bl_index.proofs.Inserted.{inserting, opens_changed, has_inserted}

@@ -1,20 +1,20 @@
 use Rattle.std.proofs.Common.{inl, inr, Some, refl, sym, subst, ◌∙◌}
-use Rattle.bl_ways.specs.declared.acts.Seen.TheVariants as seen
-use Rattle.bl_ways.specs.declared.approaching.Approach.TheVariants as approach
+use Rattle.bl_proc_base.specs.declared.acts.Seen.TheVariants as seen
+use Rattle.bl_proc_base.specs.declared.approaching.Approach.TheVariants as approach
 use Rattle.bl_proc.specs.declared.posting.PostStage.TheVariants as post
 use Rattle.bl_proc.specs.declared.kinds.Proc.TheVariants as proc
 use Rattle.bl_store.specs.Hands.{known}
 use Rattle.bl_store.specs.declared.store.Hand.{Hand}
-use Rattle.bl_passes.specs.declared.known.Mine.{Mine}
-use Rattle.bl_courses.proofs.Posts.{post_goes}
+use Rattle.bl_index_rule.specs.declared.known.Mine.{Mine}
+use Rattle.bl_proc_unique.proofs.Posts.{post_goes}
 use Rattle.bl_index.specs.Runs.{IsOn, IsSince}
 use Rattle.bl_index.specs.Events.{posting}
 use Rattle.bl_index.proofs.Posts.{post_has_answer}
 use Rattle.bl_index.proofs.Standing.{on_as, done_from}
-use Rattle.bl_ways.specs.declared.answers.Answer.TheVariants as answer
-use Rattle.bl_ways.specs.declared.answers.Posted.{Posted}
-use Rattle.bl_courses.specs.Refusals.{IsNoRoom}
-use Rattle.bl_courses.proofs.RefusedTurns.{takes_refused, takes_puts}
+use Rattle.bl_proc_base.specs.declared.answers.Answer.TheVariants as answer
+use Rattle.bl_proc_base.specs.declared.answers.Posted.{Posted}
+use Rattle.bl_proc_unique.specs.Refusals.{IsNoRoom}
+use Rattle.bl_proc_unique.proofs.RefusedTurns.{takes_refused, takes_puts}
 use Rattle.bl_index.proofs.Rooms.{lacks_asked, words_not_refused}
 use Rattle.bl_index.proofs.index.Index.post_above.Goals as goal
 

@@ -1,14 +1,14 @@
 use Rattle.std.proofs.Common.{◌≡◌, ◌<◌, Some, refl, sym, ap, subst, ◌∙◌, arith}
-use Rattle.bl_laws.specs.Pages.{roots_of}
+use Rattle.bl_claims.specs.Pages.{roots_of}
 use Rattle.bl_proc.specs.declared.kinds.Proc.{Proc}
 use Rattle.bl_proc.specs.Processes.{Takes}
-use Rattle.bl_ways.specs.declared.acts.Seen.TheVariants as seen
-use Rattle.bl_ways.specs.declared.approaching.Approach.TheVariants as approach
+use Rattle.bl_proc_base.specs.declared.acts.Seen.TheVariants as seen
+use Rattle.bl_proc_base.specs.declared.approaching.Approach.TheVariants as approach
 use Rattle.bl_proc.specs.declared.posting.PostStage.TheVariants as post
 use Rattle.bl_store.specs.Hands.{known, read_words, IsSameStage}
 use Rattle.bl_store.specs.declared.store.Hand.{Hand}
-use Rattle.bl_passes.specs.declared.known.Mine.{Mine}
-use Rattle.bl_courses.proofs.Posts.{post_goes}
+use Rattle.bl_index_rule.specs.declared.known.Mine.{Mine}
+use Rattle.bl_proc_unique.proofs.Posts.{post_goes}
 use Rattle.bl_index.specs.Runs.{IsOn, IsSince}
 use Rattle.bl_index.specs.Events.{posting, IsSameProcess}
 use Rattle.bl_index.proofs.Standing.{on_goes, goes_takes, same_goes, same_all, course_at}

@@ -1,4 +1,4 @@
-use Rattle.bl_ways.specs.declared.approaching.Approach.TheVariants as approach
+use Rattle.bl_proc_base.specs.declared.approaching.Approach.TheVariants as approach
 use Rattle.bl_proc.specs.declared.posting.PostStage.TheVariants as post
 use Rattle.bl_store.specs.Hands.{known, IsRunning, IsSameHand, HasNoStock}
 use Rattle.bl_index.specs.Runs.{IsOn}

@@ -1,5 +1,5 @@
 use Rattle.bl_store.specs.Hands.{known}
-use Rattle.bl_passes.proofs.Pages.{puts_page}
+use Rattle.bl_index_rule.proofs.Pages.{puts_page}
 use Rattle.bl_index.proofs.index.Index.put_reserved.Goals as goal
 
 pub put-requires-clause-rule : goal.put-requires-clause-rule

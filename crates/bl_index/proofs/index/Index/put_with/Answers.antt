@@ -1,10 +1,10 @@
 use Rattle.std.proofs.Common.{ap, sym, ◌∙◌, subst}
-use Rattle.bl_ways.specs.declared.acts.Seen.TheVariants as seen
+use Rattle.bl_proc_base.specs.declared.acts.Seen.TheVariants as seen
 use Rattle.bl_proc.specs.declared.kinds.Proc.{Proc}
 use Rattle.bl_proc.specs.Processes.{next_of}
-use Rattle.bl_courses.specs.Courses.{GoesOn}
+use Rattle.bl_proc_unique.specs.Courses.{GoesOn}
 use Rattle.bl_store.specs.Hands.{known}
-use Rattle.bl_passes.proofs.Pages.{puts_page}
+use Rattle.bl_index_rule.proofs.Pages.{puts_page}
 use Rattle.bl_index.proofs.index.Index.put_with.Goals as goal
 
 pub put-requires-clause-rule : goal.put-requires-clause-rule

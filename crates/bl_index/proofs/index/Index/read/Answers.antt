@@ -1,18 +1,18 @@
 use Rattle.std.proofs.Common.{◌≡◌, ap, sym, ◌∙◌, subst}
 use Rattle.bl_page.specs.Machine.Act.{Get}
-use Rattle.bl_ways.specs.declared.acts.Action.{Action}
-use Rattle.bl_ways.specs.declared.acts.Action.TheVariants as act
-use Rattle.bl_ways.specs.declared.acts.Seen.TheVariants as seen
+use Rattle.bl_proc_base.specs.declared.acts.Action.{Action}
+use Rattle.bl_proc_base.specs.declared.acts.Action.TheVariants as act
+use Rattle.bl_proc_base.specs.declared.acts.Seen.TheVariants as seen
 use Rattle.bl_proc.specs.declared.kinds.Proc.{Proc}
 use Rattle.bl_proc.specs.Processes.{next_of}
-use Rattle.bl_courses.specs.Courses.{GoesOn}
+use Rattle.bl_proc_unique.specs.Courses.{GoesOn}
 use Rattle.bl_store.specs.Hands.{known}
 use Rattle.bl_store.specs.declared.store.Hand.{Hand}
-use Rattle.bl_tables.specs.Turns.{event_of}
-use Rattle.bl_tables.specs.Knowing.{end_of_proc}
-use Rattle.bl_passes.specs.declared.known.Mine.{Mine}
-use Rattle.bl_passes.specs.Told.{Steps}
-use Rattle.bl_passes.proofs.Pages.{gets_page}
+use Rattle.bl_proc_invariant.specs.Turns.{event_of}
+use Rattle.bl_proc_invariant.specs.Knowing.{end_of_proc}
+use Rattle.bl_index_rule.specs.declared.known.Mine.{Mine}
+use Rattle.bl_index_rule.specs.Told.{Steps}
+use Rattle.bl_index_rule.proofs.Pages.{gets_page}
 use Rattle.bl_index.proofs.index.Index.read.Goals as goal
 
 pub glance-requires-clause-rule : goal.glance-requires-clause-rule

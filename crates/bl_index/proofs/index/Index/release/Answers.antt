@@ -1,9 +1,9 @@
 use Rattle.std.proofs.Common.{ℕ, subst}
 use Rattle.bl_store.specs.Hands.{known}
 use Rattle.bl_store.specs.Pages.{ReleasesMany}
-use Rattle.bl_passes.specs.Fitting.{Fits}
-use Rattle.bl_passes.specs.Told.{sweeps}
-use Rattle.bl_passes.proofs.Releasing.{sweeps_pages}
+use Rattle.bl_index_rule.specs.Fitting.{Fits}
+use Rattle.bl_index_rule.specs.Told.{sweeps}
+use Rattle.bl_index_rule.proofs.Releasing.{sweeps_pages}
 use Rattle.bl_index.proofs.Withins.{sweep_within}
 use Rattle.bl_index.proofs.index.Index.release.Goals as goal
 

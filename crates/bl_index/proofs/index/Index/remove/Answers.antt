@@ -1,15 +1,15 @@
 use Rattle.std.proofs.Common.{ℕ, Bool, Option, refl, sym, ap, subst, ◌∙◌}
 use Rattle.bl_model.specs.declared.operation.Reply.TheVariants as answered
-use Rattle.bl_ways.specs.declared.answers.Answer.TheVariants.{Op}
-use Rattle.bl_ways.specs.declared.changing.Change.TheVariants as change
-use Rattle.bl_ways.specs.Thin.{thin_low, thin_hint}
+use Rattle.bl_proc_base.specs.declared.answers.Answer.TheVariants.{Op}
+use Rattle.bl_proc_base.specs.declared.changing.Change.TheVariants as change
+use Rattle.bl_proc_base.specs.Thin.{thin_low, thin_hint}
 use Rattle.bl_proc.specs.declared.deleting.Removed.{Removed}
 use Rattle.bl_proc.specs.declared.deleting.DeleteStage.TheVariants as delete
 use Rattle.bl_proc.specs.Deletes.{delete_reply, deleted_answer}
 use Rattle.bl_proc.specs.Processes.{next_of}
 use Rattle.bl_store.specs.Hands.{known}
 use Rattle.bl_store.specs.declared.store.Hand.{Hand}
-use Rattle.bl_passes.specs.declared.known.Mine.{Mine}
+use Rattle.bl_index_rule.specs.declared.known.Mine.{Mine}
 use Rattle.bl_index.specs.Runs.{IsOn, IsSince}
 use Rattle.bl_index.proofs.Standing.{goes_put, same_goes, on_itself, on_after, opens_at}
 use Rattle.bl_index.proofs.Inserted.{outcome_by}

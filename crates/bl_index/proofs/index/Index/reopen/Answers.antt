@@ -1,5 +1,5 @@
 use Rattle.bl_store.specs.Hands.{known}
-use Rattle.bl_passes.proofs.Pages.{opens_page}
+use Rattle.bl_index_rule.proofs.Pages.{opens_page}
 use Rattle.bl_index.proofs.index.Index.reopen.Goals as goal
 
 pub open-requires-clause-rule : goal.open-requires-clause-rule

@@ -1,10 +1,10 @@
 use Rattle.std.proofs.Common.{◌≡◌, refl, ap, subst, ◌∙◌}
-use Rattle.bl_ways.specs.declared.acts.Seen.TheVariants as seen
+use Rattle.bl_proc_base.specs.declared.acts.Seen.TheVariants as seen
 use Rattle.bl_proc.specs.Processes.{next_of}
 use Rattle.bl_store.specs.Hands.{known}
-use Rattle.bl_passes.specs.declared.known.Mine.{Mine}
-use Rattle.bl_passes.specs.Told.{Goes}
-use Rattle.bl_passes.proofs.Pages.{puts_page, refuses_put}
+use Rattle.bl_index_rule.specs.declared.known.Mine.{Mine}
+use Rattle.bl_index_rule.specs.Told.{Goes}
+use Rattle.bl_index_rule.proofs.Pages.{puts_page, refuses_put}
 use Rattle.bl_index.proofs.Standing.{course_at}
 use Rattle.bl_index.proofs.index.Index.replace.Goals as goal
 

@@ -1,14 +1,14 @@
 use Rattle.std.proofs.Common.{◌≡◌, refl, sym, ap, subst, ◌∙◌}
 use Rattle.bl_layout.specs.declared.layout.Layout.{Layout}
 use Rattle.bl_page.specs.Words.{words_of}
-use Rattle.bl_ways.specs.declared.acts.Seen.TheVariants as seen
+use Rattle.bl_proc_base.specs.declared.acts.Seen.TheVariants as seen
 use Rattle.bl_proc.specs.Processes.{next_of}
 use Rattle.bl_store.specs.Drafts.{IsSpread}
 use Rattle.bl_store.specs.Hands.{known, words_in, BeginsAt}
 use Rattle.bl_store.specs.declared.view.Reading.{Reading}
-use Rattle.bl_passes.specs.declared.known.Mine.{Mine}
-use Rattle.bl_passes.specs.Told.{Goes}
-use Rattle.bl_passes.proofs.Pages.{puts_page, refuses_put}
+use Rattle.bl_index_rule.specs.declared.known.Mine.{Mine}
+use Rattle.bl_index_rule.specs.Told.{Goes}
+use Rattle.bl_index_rule.proofs.Pages.{puts_page, refuses_put}
 use Rattle.bl_index.proofs.Standing.{course_at}
 use Rattle.bl_index.proofs.index.Index.replace_spread.Goals as goal
 

@@ -1,8 +1,8 @@
 use Rattle.std.proofs.Common.{List, Option, refl, subst, ◌∙◌}
 use Rattle.bl_page.specs.declared.page.Page.{Page}
 use Rattle.bl_store.specs.Hands.{known}
-use Rattle.bl_passes.specs.Noting.{trail_of}
-use Rattle.bl_passes.specs.Seeing.{IsSeen}
+use Rattle.bl_index_rule.specs.Noting.{trail_of}
+use Rattle.bl_claims.specs.Seeing.{IsSeen}
 use Rattle.bl_index.proofs.Taken.{same_pass}
 use Rattle.bl_index.proofs.Released.{sweep_tells, swept_seen}
 use Rattle.bl_index.proofs.index.Index.sweep.Goals as goal

@@ -1,10 +1,10 @@
 use Rattle.std.proofs.Common.{refl, ap, sym, ◌∙◌, subst}
-use Rattle.bl_ways.specs.declared.acts.Seen.TheVariants as seen
+use Rattle.bl_proc_base.specs.declared.acts.Seen.TheVariants as seen
 use Rattle.bl_proc.specs.declared.kinds.Proc.{Proc}
 use Rattle.bl_proc.specs.Processes.{next_of}
-use Rattle.bl_courses.specs.Courses.{GoesOn}
+use Rattle.bl_proc_unique.specs.Courses.{GoesOn}
 use Rattle.bl_store.specs.Hands.{known}
-use Rattle.bl_passes.proofs.Pages.{takes_page, refuses_take}
+use Rattle.bl_index_rule.proofs.Pages.{takes_page, refuses_take}
 use Rattle.bl_index.proofs.Rooms.{tells_took, tells_refused, take_opens_not}
 use Rattle.bl_index.proofs.index.Index.take.Goals as goal
 

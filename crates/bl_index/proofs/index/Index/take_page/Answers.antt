@@ -1,9 +1,9 @@
 use Rattle.std.proofs.Common.{ℕ, ◌≡◌, ◌<◌, refl, sym, ◌∙◌, subst, arith}
-use Rattle.bl_ways.specs.declared.acts.Seen.TheVariants as seen
-use Rattle.bl_passes.specs.Told.{Goes}
+use Rattle.bl_proc_base.specs.declared.acts.Seen.TheVariants as seen
+use Rattle.bl_index_rule.specs.Told.{Goes}
 use Rattle.bl_index.proofs.Standing.{same_number}
 use Rattle.bl_store.specs.Hands.{known}
-use Rattle.bl_passes.proofs.Pages.{takes_page, refuses_take}
+use Rattle.bl_index_rule.proofs.Pages.{takes_page, refuses_take}
 use Rattle.bl_index.proofs.index.Index.take_page.Goals as goal
 
 pub reserve-requires-clause-takes : goal.reserve-requires-clause-takes

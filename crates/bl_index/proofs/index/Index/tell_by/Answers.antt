@@ -1,7 +1,7 @@
 use Rattle.std.proofs.Common.{ℕ, subst}
 use Rattle.bl_store.specs.Hands.{known}
 use Rattle.bl_store.specs.Pages.{Meets}
-use Rattle.bl_passes.specs.Fitting.{Fits}
+use Rattle.bl_index_rule.specs.Fitting.{Fits}
 use Rattle.bl_index.specs.Meetings.{heard}
 use Rattle.bl_index.proofs.Learning.{hears_all}
 use Rattle.bl_index.proofs.index.Index.tell_by.Goals as goal

@@ -1,7 +1,7 @@
 use Rattle.std.proofs.Common.{sym, ◌∙◌}
 use Rattle.std.proofs.lemmas.Bool.{false≢true}
 use Rattle.bl_store.specs.Hands.{known}
-use Rattle.bl_passes.proofs.Pages.{latches_page, misses_page}
+use Rattle.bl_index_rule.proofs.Pages.{latches_page, misses_page}
 use Rattle.bl_index.proofs.index.Index.try_latch.Goals as goal
 
 pub try_latch-requires-clause-latches : goal.try_latch-requires-clause-latches

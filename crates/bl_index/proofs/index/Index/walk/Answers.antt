@@ -1,9 +1,9 @@
 use Rattle.std.proofs.Common.{Some, None, refl, ◌∙◌, rules}
-use Rattle.bl_ways.specs.declared.acts.Seen.TheVariants as seen
-use Rattle.bl_ways.specs.declared.approaching.Approach.TheVariants as approach
+use Rattle.bl_proc_base.specs.declared.acts.Seen.TheVariants as seen
+use Rattle.bl_proc_base.specs.declared.approaching.Approach.TheVariants as approach
 use Rattle.bl_proc.specs.declared.posting.PostStage.TheVariants as post
 use Rattle.bl_store.specs.Hands.{known}
-use Rattle.bl_courses.proofs.Posts.{post_goes}
+use Rattle.bl_proc_unique.proofs.Posts.{post_goes}
 use Rattle.bl_index.proofs.Standing.{same_all, same_goes, on_goes, course_at}
 use Rattle.bl_index.proofs.Parents.{over_since, lost_again}
 use Rattle.bl_index.proofs.index.Index.walk.Goals as goal

@@ -1,11 +1,11 @@
 use Rattle.std.proofs.Common.{refl, sym, ap, subst, ◌∙◌}
-use Rattle.bl_ways.specs.declared.acts.Seen.TheVariants as seen
-use Rattle.bl_ways.specs.declared.onwards.Step.TheVariants.{Again, Right, Down}
+use Rattle.bl_proc_base.specs.declared.acts.Seen.TheVariants as seen
+use Rattle.bl_proc_base.specs.declared.onwards.Step.TheVariants.{Again, Right, Down}
 use Rattle.bl_proc.specs.declared.posting.PostStage.TheVariants as post
 use Rattle.bl_store.specs.Hands.{known, read_words}
 use Rattle.bl_store.specs.declared.store.Hand.{Hand}
-use Rattle.bl_passes.specs.declared.known.Mine.{Mine}
-use Rattle.bl_courses.proofs.Posts.{post_goes}
+use Rattle.bl_index_rule.specs.declared.known.Mine.{Mine}
+use Rattle.bl_proc_unique.proofs.Posts.{post_goes}
 use Rattle.bl_index.specs.declared.posting.Walked.TheVariants.{On, Found, Stale, Lost}
 use Rattle.bl_index.specs.Events.{IsSameProcess, HasWalked}
 use Rattle.bl_index.proofs.Standing.{on_as, on_after, goes_takes, same_goes, course_at}

@@ -1,5 +1,5 @@
 use Rattle.std.proofs.Common.{sym, refl}
-use Rattle.bl_ways.specs.declared.acts.Action.TheVariants as act
+use Rattle.bl_proc_base.specs.declared.acts.Action.TheVariants as act
 use Rattle.bl_world.specs.Views.{view_of}
 use Rattle.bl_world.proofs.Arms.{stood_is, none_left}
 use Rattle.bl_world.proofs.Outcomes.{ok_map}

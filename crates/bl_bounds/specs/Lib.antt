@@ -1,4 +1,0 @@
-pub mod Bounds
-pub mod Searches
-pub mod Latches
-pub mod Paces

@@ -1,0 +1,3 @@
+mod LawExamples
+mod TrailExamples
+mod PostExamples

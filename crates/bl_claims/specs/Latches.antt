@@ -1,0 +1,35 @@
+-- What a process holds when it latches, told of its own marks.
+use Rattle.std.specs.Prelude.{ℕ, ◌≡◌, ◌≢◌, ◌==◌, Bool, true, false, if◌then◌else◌, Some, [], ◌∷◌, take, slice_get}
+use Rattle.bl_model.specs.declared.operation.Reply.{Reply}
+use Rattle.bl_page.specs.declared.page.Page.{Page}
+use Rattle.bl_page.specs.Machine.{Act}
+use Rattle.bl_page.specs.Machine.Act.{Put, Take, Latch, Retire}
+use Rattle.bl_claims.specs.Trails.{Mark, Trail}
+
+-- whether it holds page y after an act, where it did or did not before
+abbrev pub holds_after : ℕ → Bool → Act Page Reply → Bool
+holds_after y held (Take x) = if x == y then true else held
+holds_after y held (Latch x) = if x == y then true else held
+holds_after y held (Act.Open x) = if x == y then false else held
+holds_after y held (Retire x) = if x == y then false else held
+holds_after y held act = held
+
+abbrev pub holds_on : ℕ → Bool → Trail → Bool
+holds_on y held [] = held
+holds_on y held (m ∷ ms) = holds_on y (holds_after y held m.event.act) ms
+
+-- It has latched or taken the page, and has neither opened nor retired it since.
+abbrev pub Keeps : Trail → ℕ → Type 0
+Keeps marks y = holds_on y false marks ≡ true
+
+-- It holds no page when it latches one.
+abbrev pub LatchesAlone : Trail → Type 0
+LatchesAlone marks = (i : ℕ) (m : Mark) (x y : ℕ) → slice_get marks i ≡ Some m → m.event.act ≡ Latch x → Keeps (take i marks) y → ⊥
+
+-- an act that latches, takes and puts nothing
+abbrev pub IsLook : Act Page Reply → Type 0
+IsLook a = (x : ℕ) → (a ≢ Latch x) × (a ≢ Take x) × ((c : Page) → a ≢ Put x c)
+
+-- It latches, takes and puts nothing.
+abbrev pub OnlyLooks : Trail → Type 0
+OnlyLooks marks = (i : ℕ) (m : Mark) → slice_get marks i ≡ Some m → IsLook m.event.act

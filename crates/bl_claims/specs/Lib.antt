@@ -1,0 +1,13 @@
+pub mod Nodes
+pub mod Laws
+pub mod Walks
+pub mod Starts
+pub mod Pages
+pub mod Trails
+pub mod Moments
+pub mod Meanings
+pub mod States
+pub mod Opening
+pub mod Bounds
+pub mod Seeing
+pub mod Latches

@@ -1,0 +1,160 @@
+-- What the answers of a post mean, told of what its process has done: what it latched, what it got, and what it put.
+use Rattle.std.specs.Prelude.{◌≡◌, ◌≢◌, ◌⊎◌, ℕ, suc, ◌<◌, ◌++◌, Option, None, Some, List, [], ◌∷◌, Contains}
+use Rattle.bl_model.specs.declared.operation.Reply.{Reply}
+use Rattle.bl_page.specs.declared.page.Page.{Page}
+use Rattle.bl_page.specs.Machine.{Act}
+use Rattle.bl_page.specs.Machine.Act.{Begin, Get, Put, Latch, Retire, Release, Miss}
+use Rattle.bl_claims.specs.Nodes.{Covers}
+use Rattle.bl_claims.specs.Pages.{node_of, roots_of}
+use Rattle.bl_claims.specs.Trails.{Mark, Trail}
+
+-- one of these is a get of page x, which then was c
+pub record HasGot (marks : Trail) (x : ℕ) (c : Page) : Type 0 where
+  pub mark : Mark
+  pub is : Contains marks mark
+  pub act : mark.event.act ≡ Get x
+  pub saw : mark.saw ≡ Some c
+
+abbrev pub put_in : Act Page Reply → List Page
+put_in (Put x c) = c ∷ []
+put_in act = []
+
+-- the pages that were put, in their order
+abbrev pub puts_of : Trail → List Page
+puts_of [] = []
+puts_of (m ∷ ms) = put_in m.event.act ++ puts_of ms
+
+-- what of this writes: puts, retirements and releases
+abbrev pub writes_in : Act Page Reply → List (Act Page Reply)
+writes_in (Put x c) = Put x c ∷ []
+writes_in (Retire x) = Retire x ∷ []
+writes_in (Release x) = Release x ∷ []
+writes_in act = []
+
+abbrev pub writes_of : Trail → List (Act Page Reply)
+writes_of [] = []
+writes_of (m ∷ ms) = writes_in m.event.act ++ writes_of ms
+
+-- the process has begun, and what it has written since is so
+pub record Wrote (marks : Trail) (Is : List (Act Page Reply) → Type 0) : Type 0 where
+  pub earlier : Trail
+  pub begin : Mark
+  pub since : Trail
+  pub split : marks ≡ earlier ++ begin ∷ since
+  pub begun : begin.event.act ≡ Begin
+  pub is : Is (writes_of since)
+
+-- These are puts of new top levels alone: of a page of that level and then of the anchor, once or more often or not at all.
+pub data RaisesOnly (level : ℕ) : List (Act Page Reply) → Type 0 where
+  Never : RaisesOnly level []
+  Again : {acts : List (Act Page Reply)} (x : ℕ) (top anchor : Page) → RaisesOnly level acts → (node_of top).shape.level ≡ level → RaisesOnly level (acts ++ Put x top ∷ Put 0 anchor ∷ [])
+
+-- it has begun, and has written nothing since but new top levels
+abbrev pub HasRaised : ℕ → Trail → Type 0
+HasRaised level marks = Wrote marks (RaisesOnly level)
+
+-- these acts put these pages, in their order, and are no others
+abbrev pub ArePuts : List (Act Page Reply) → List Page → Type 0
+ArePuts [] [] = Unit {0}
+ArePuts [] (c ∷ cs) = ⊥
+ArePuts (a ∷ more) [] = ⊥
+ArePuts (a ∷ more) (c ∷ cs) = ((x : ℕ) × (a ≡ Put x c)) × ArePuts more cs
+
+-- The time during which the process held page x for its work: it latched the page, when it had written nothing but new top
+-- levels, and has not opened it in what it did then; it put these pages then; and it has written nothing since.
+pub record UnderLatch (level : ℕ) (marks : Trail) (x : ℕ) : Type 0 where
+  pub before : Trail
+  pub latch : Mark
+  pub during : Trail
+  pub after : Trail
+  pub split : marks ≡ before ++ latch ∷ (during ++ after)
+  pub first : HasRaised level before
+  pub latched : latch.event.act ≡ Latch x
+  pub kept : (mark : Mark) → Contains during mark → mark.event.act ≢ Act.Open x
+  pub wrote : List Page
+  pub puts_are : ArePuts (writes_of during) wrote
+  pub no_more : writes_of after ≡ []
+
+-- The process held a page of that level that covers the key, and got it then.
+pub record AtParent (level key : ℕ) (marks : Trail) : Type 0 where
+  pub at : ℕ
+  pub under : UnderLatch level marks at
+  pub parent : Page
+  pub got : HasGot under.during at parent
+  pub level_is : (node_of parent).shape.level ≡ level
+  pub covers : Covers (node_of parent).shape key
+
+-- While it held the parent, it got a page one level lower that covers the key.
+pub record AtChild (level key : ℕ) (during : Trail) : Type 0 where
+  pub at : ℕ
+  pub child : Page
+  pub got : HasGot during at child
+  pub level_is : suc (node_of child).shape.level ≡ level
+  pub covers : Covers (node_of child).shape key
+
+-- Together these pages list what the old one listed, and the child by the key, and nothing else.
+pub record ListTogether (pages : List Page) (old : Page) (key child : ℕ) : Type 0 where
+  pub no_other : (j c : ℕ) (page : Page) → Contains pages page → (node_of page).look j ≡ Some c → ((node_of old).look j ≡ Some c) ⊎ ((j ≡ key) × (c ≡ child))
+  pub kept : (j c : ℕ) → (node_of old).look j ≡ Some c → (page : Page) × Contains pages page × ((node_of page).look j ≡ Some c)
+  pub listed : (page : Page) × Contains pages page × ((node_of page).look key ≡ Some child)
+
+-- Done: the page below has the key as its low, and all that the process put, but for new top levels, lists it, with all that
+-- the parent listed.
+pub record MeansDone (level key : ℕ) (marks : Trail) : Type 0 where
+  pub parent : AtParent level key marks
+  pub child : AtChild level key parent.under.during
+  pub low : (node_of child.child).shape.low ≡ key
+  pub puts : ListTogether parent.under.wrote parent.parent key child.at
+
+-- The parent was put whole, or in two parts, the upper one first; the separator is the low of the upper part.
+abbrev pub ArePartedAt : Option ℕ → List Page → Type 0
+ArePartedAt None puts = (whole : Page) × (puts ≡ whole ∷ [])
+ArePartedAt (Some separator) puts = (upper : Page) × (lower : Page) × (puts ≡ upper ∷ lower ∷ []) × ((node_of upper).shape.low ≡ separator)
+
+-- Done, and whether the parent was parted, and where.
+pub record MeansParted (level key : ℕ) (parted : Option ℕ) (marks : Trail) : Type 0 where
+  pub done : MeansDone level key marks
+  pub puts : ArePartedAt parted done.parent.under.wrote
+
+-- Already: the parent listed the key, and nothing was put.
+pub record MeansAlready (level key : ℕ) (marks : Trail) : Type 0 where
+  pub parent : AtParent level key marks
+  pub none : parent.under.wrote ≡ []
+  pub child : ℕ
+  pub listed : (node_of parent.parent).look key ≡ Some child
+
+-- the tree had too few levels
+pub record HasTooFewLevels (level : ℕ) (marks : Trail) : Type 0 where
+  pub first : HasRaised level marks
+  pub anchor : Page
+  pub got : HasGot marks 0 anchor
+  pub few : (roots_of anchor).levels < level
+
+-- the page below has another low
+pub record HasOtherLow (level key : ℕ) (marks : Trail) : Type 0 where
+  pub parent : AtParent level key marks
+  pub none : parent.under.wrote ≡ []
+  pub child : AtChild level key parent.under.during
+  pub low : (node_of child.child).shape.low ≢ key
+
+-- Stale: nothing was put, and the tree had too few levels, or the page below the parent has another low.
+abbrev pub MeansStale : ℕ → ℕ → Trail → Type 0
+MeansStale level key marks = HasTooFewLevels level marks ⊎ HasOtherLow level key marks
+
+-- TooTall: the tree had all 12 levels, and was to have one more.
+pub record MeansTooTall (level : ℕ) (marks : Trail) : Type 0 where
+  pub last : level ≡ 12
+  pub first : HasRaised level marks
+  pub anchor : Page
+  pub got : HasGot marks 0 anchor
+  pub full : (roots_of anchor).levels ≡ 12
+
+-- NoRoom: the process missed something while it held a page, and put nothing then. It latches no other page then, so what it
+-- missed is what it was to reserve, or a turn that was not fit.
+pub record MeansNoRoom (level : ℕ) (marks : Trail) : Type 0 where
+  pub at : ℕ
+  pub under : UnderLatch level marks at
+  pub none : under.wrote ≡ []
+  pub mark : Mark
+  pub is : Contains under.during mark
+  pub miss : mark.event.act ≡ Miss

@@ -1,0 +1,79 @@
+-- What a pass has seen: all events up to its own last one, as a trail.
+use Rattle.std.specs.Prelude.{◌≡◌, ◌≢◌, ℕ, ◌<◌, ◌++◌, Option, List, [], ◌∷◌, Contains}
+use Rattle.bl_model.specs.Map.{Map, empty}
+use Rattle.bl_model.specs.History.{IsLegalFrom, final_map, entries_of_pass}
+use Rattle.bl_model.specs.declared.operation.Entry.{Entry}
+use Rattle.bl_model.specs.declared.operation.Reply.{Reply}
+use Rattle.bl_page.specs.declared.page.Page.{Page}
+use Rattle.bl_page.specs.Machine.{Name, State}
+use Rattle.bl_page.specs.Machine.Act.{Begin, End}
+use Rattle.bl_claims.specs.Trails.{Mark, Trail, history_of, IsMarked, LeadsOn}
+use Rattle.bl_claims.specs.Moments.{HasLaws}
+use Rattle.bl_claims.specs.States.{HasMoments}
+use Rattle.bl_claims.specs.Walks.{Each}
+use Rattle.bl_claims.specs.Starts.{start_map}
+use Rattle.bl_page.specs.Pages.{page_at}
+use Rattle.bl_claims.specs.Opening.{Opening, node_in, roots_in, IsOpened}
+
+-- the map that an index begins with: of an image what its leaves say, else the empty map
+abbrev pub first_map : List (Option Page) → Map
+first_map [] = empty
+first_map (page ∷ pages) = start_map (λ x. node_in (page_at (page ∷ pages) x)) (roots_in (page_at (page ∷ pages) 0)) 0
+
+-- the state that it begins with: it holds the pages of the image, or is the opening index
+abbrev pub BeginsFrom : List (Option Page) → State Page → Type 0
+BeginsFrom [] start = Opening start
+BeginsFrom (page ∷ pages) start = IsOpened (page ∷ pages) start
+
+-- The trail is linearizable: its events are legal and lead from the state that the index began with to some state, and its
+-- history is one of them, legal from the map that it began with.
+pub record IsLinearizable (first : List (Option Page)) (trail : Trail) : Type 0 where
+  pub start : State Page
+  pub now : State Page
+  pub opening : BeginsFrom first start
+  pub leads : LeadsOn start trail now
+  pub marked : IsMarked trail
+  pub legal : IsLegalFrom (first_map first) (history_of trail)
+
+-- The trail is one that an index may have: it is linearizable; and, apart from that, the laws of the tree hold in each state
+-- on its way and in its last one, with the map after the history so far.
+pub record IsSeen (first : List (Option Page)) (trail : Trail) : Type 0 where
+  pub linear : IsLinearizable first trail
+  pub moments : HasMoments (first_map first) linear.start trail
+
+-- the entries of one pass
+abbrev pub own : ℕ → Trail → List Entry
+own pass trail = entries_of_pass pass (history_of trail)
+
+-- the process of that pass that has that number
+abbrev pub name : ℕ → ℕ → Name
+name pass number = record { pass = pass; number = number }
+
+-- its events are of the first so many passes
+abbrev pub AreWithin : ℕ → Trail → Type 0
+AreWithin passes trail = (m : Mark) → Contains trail m → m.event.process.pass < passes
+
+-- new begins with old
+abbrev pub GoesOnFrom : Trail → Trail → Type 0
+GoesOnFrom old new = (more : Trail) × (new ≡ old ++ more)
+
+-- none of these events is of that pass
+abbrev pub AreElse : ℕ → Trail → Type 0
+AreElse pass marks = Each (λ (m : Mark). m.event.process.pass ≢ pass) marks
+
+-- of the pass of p there are none but those of p
+abbrev pub AreOnlyOf : Name → Trail → Type 0
+AreOnlyOf p marks = Each (λ (m : Mark). m.event.process.pass ≡ p.pass → m.event.process ≡ p) marks
+
+-- The new part of the trail has of the pass of p the events of p alone: its begin is the first of them, and its end, with that
+-- answer, is the last event of all.
+pub record Holds (p : Name) (answer : Option Reply) (old new : Trail) : Type 0 where
+  pub before : Trail
+  pub first : Mark
+  pub between : Trail
+  pub last : Mark
+  pub begins : new ≡ old ++ (before ++ first ∷ (between ++ last ∷ []))
+  pub begun : first.event ≡ record { process = p; act = Begin }
+  pub ended : last.event ≡ record { process = p; act = End answer }
+  pub none : AreElse p.pass before
+  pub only : AreOnlyOf p between

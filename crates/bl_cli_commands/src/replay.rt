@@ -1,0 +1,51 @@
+//! The command `replay`.
+
+ghost use Rattle.std.specs.Prelude.{◌≡◌, ℕ, List, true, MatchResult};
+ghost use Rattle.std.specs.Io.KnownBytes.{Consumes, IsAtEnd};
+ghost use Rattle.bl_cli_commands.specs.Replays.{Replays, StopsReplay};
+
+use crate::fault::CommandFault;
+use bl_model::Watched;
+use bl_replay::{PLAYED, replay};
+use bl_replay_script::read_script;
+use std::alloc::Global;
+use std::fs;
+use std::io::{Read, Write};
+use std::rt::Files;
+
+/// Reads a whole script, carries it out, and prints each event. Nothing is written where the script is bad or the reader
+/// fails. Lend a reader and a writer on which no call has failed.
+pub fn replay_script<R: Read, W: Write>(
+    alloc: Global,
+    reader: &mut Watched<R>,
+    writer: &mut Watched<W>,
+) -> Result<(), CommandFault>
+    ensures { (bytes : List ℕ)
+        × Consumes (R.remaining reader.old.inner) (R.remaining reader.new.inner) bytes
+        × MatchResult result
+        (λ done. Replays bytes (IsAtEnd (R.remaining reader.new.inner))
+        (W.contents writer.old.inner) (W.contents writer.new.inner))
+        (λ fault. StopsReplay fault bytes (IsAtEnd (R.remaining reader.new.inner)) (reader.new.failed ≡ true)
+        (writer.new.failed ≡ true) (W.contents writer.old.inner) (W.contents writer.new.inner)) }
+{
+    let script = match read_script(alloc, reader, PLAYED) {
+        Ok(script) => script,
+        Err(fault) => return Err(CommandFault::from(fault)),
+    };
+    match replay(alloc, &script, writer) {
+        Ok(()) => Ok(()),
+        Err(fault) => Err(CommandFault::from(fault)),
+    }
+}
+
+/// Carries out the script in a file. A missing file and a folder are failed reads.
+pub fn replay_file<R: Files + AllocGlobal, W: Write>(
+    rt: &R,
+    path: &str,
+    writer: &mut Watched<W>,
+) -> Result<(), CommandFault> {
+    let Ok(file) = fs::open(rt, path) else {
+        return Err(CommandFault::Read);
+    };
+    replay_script(rt.alloc(), &mut Watched::new(file), writer)
+}

@@ -1,0 +1,11 @@
+//! The command line of `blink`: its options and their limits, its commands, and its texts.
+//!
+//! Promised to `bl_cli`: what the command line gives is within the limits. It stands apart from what the commands do, since
+//! whatever loads clap takes long to prove.
+#![tactic(auto)]
+
+mod command;
+mod texts;
+
+pub use bl_serve_lines::ServeOptions;
+pub use command::{Invocation, Server, read_words};

@@ -1,2 +1,0 @@
-pub mod Descents
-pub mod Children

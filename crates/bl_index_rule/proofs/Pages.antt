@@ -1,0 +1,196 @@
+-- Each event of a running process, on pages: it keeps the rule, and the pass knows it.
+use Rattle.std.proofs.Common.{ℕ, ◌≡◌, ◌≢◌, ◌⊎◌, ◌+◌, ◌<◌, ◌≤◌, true, List, length, refl, sym, ap, ◌∙◌, subst, ⊎_elim, inl, inr, arith, zero, suc}
+use Rattle.std.proofs.Math.ListN.{length-set}
+use mathlib.Core.Option.{some}
+use lib.ListN.{get_elem?}
+use Rattle.atomic_table.proofs.Lists.{at_set}
+use Rattle.bl_page.specs.declared.page.Page.{Page}
+use Rattle.bl_page.specs.Words.{words_of}
+use Rattle.bl_page.specs.Pairs.{IsChild}
+use Rattle.bl_page.specs.Machine.{Name, State, Act, IsAt}
+use Rattle.bl_page.specs.Machine as machine
+use Rattle.bl_core.specs.Worlds.{MayGet}
+use Rattle.bl_core.proofs.After.{put_at, is_put_at}
+use Rattle.bl_core.proofs.Descents.{anchor_not_released}
+use Rattle.bl_proc_base.specs.declared.acts.Action.{Action}
+use Rattle.bl_proc_base.specs.declared.acts.Action.TheVariants as act
+use Rattle.bl_proc_base.specs.declared.acts.Seen.{Seen}
+use Rattle.bl_proc_base.specs.declared.acts.Seen.TheVariants as seen
+use Rattle.bl_proc.specs.Processes.{next_of}
+use Rattle.bl_proc_invariant.specs.Turns.{event_of, IsTold, IsShown, Does}
+use Rattle.bl_proc_invariant.specs.Knowing.{bare as know, end_of_proc}
+use Rattle.bl_proc_invariant.proofs.Gets.{IsGot, got_next_is}
+use Rattle.bl_proc_unique.specs.Courses.{GoesOn}
+use Rattle.bl_layout.specs.declared.layout.Layout.{Layout}
+use Rattle.bl_store.specs.Pages.{Owner, Released, Open, Held, Retired, Stage, Running, Pages, Stands, later, told, owned, written, Gets, Puts, Takes, Latches, Misses, Opens, Retires, Refuses}
+use Rattle.bl_index_rule.specs.declared.known.Mine.{Mine}
+use Rattle.bl_claims.specs.Seeing.{name}
+use Rattle.bl_index_rule.specs.Fitting.{Shows, owner_in, Fits}
+use Rattle.bl_index_rule.specs.Told.{Goes, gets, puts, opens, retires, takes, tries, refuses}
+use Rattle.bl_index_rule.proofs.Shown.{at_below, shows_words, got_words, is_held, is_released, held_by}
+use Rattle.bl_index_rule.proofs.Turns.{standing, turned, then_known, then_goes, then_fits, runs_on}
+
+-- an event that leaves all pages and owners as they are
+unmoved : (s : Pages Mine) (f : Fits s) (n since : ℕ) (d : Mine) → Stands s n (Running since) d → (what : Seen) → GoesOn d.state what → (a : Action) → next_of d.state ≡ a → IsTold f.world.now f.world.size a what → IsShown f.world.now (name n d.number) (f.world.proc (name n d.number)).time a what → Does f.world.now (name n d.number) (event_of (end_of_proc d.state) a what) f.world.now → (e : Mine) × Fits (told s n (Running since) e) × Goes what d e
+unmoved s f n since d at what c a next said shown does = (
+  then_known s f n since d at what c a next f.world.now said shown does,
+  then_fits s f n since d at what c a next f.world.now said shown does s refl refl f.clock (λ q. refl) (λ x q ne e. e) f.pages f.owners,
+  then_goes s f n since d at what c a next f.world.now said shown does,
+)
+
+-- an event by which a page gets another owner, and the time may pass
+moved_by : (s : Pages Mine) (f : Fits s) (n since : ℕ) (d : Mine) → Stands s n (Running since) d → (what : Seen) → GoesOn d.state what → (a : Action) → next_of d.state ≡ a → (x : ℕ) (was o : Owner) → get_elem? s.owners x ≡ some was → (o' : machine.Owner) → o' ≡ owner_in s.hands o → ((q : Name) → q ≢ name n d.number → o' ≢ machine.Held q) → (time then : ℕ) → time ≤ then → IsTold f.world.now f.world.size a what → IsShown f.world.now (name n d.number) (f.world.proc (name n d.number)).time a what
+    → Does f.world.now (name n d.number) (event_of (end_of_proc d.state) a what) (record f.world.now { owner = put_at x o' f.world.now.owner; clock = time })
+    → (e : Mine) × Fits (told (record (owned s x o) { clock = then }) n (Running since) e) × Goes what d e
+moved_by s f n since d at what c a next x was o here o' is else time then le said shown does =
+    let s1 : State Page = record f.world.now { owner = put_at x o' f.world.now.owner; clock = time } in
+    let put = is_put_at x o' f.world.now.owner in (
+      then_known s f n since d at what c a next s1 said shown does,
+      then_fits s f n since d at what c a next s1 said shown does (record (owned s x o) { clock = then }) refl refl le (λ q. refl)
+          (λ y q ne e. ⊎_elim
+          (λ (z : y ≡ x). absurd (else q ne (sym put.at ∙ (ap (put_at x o' f.world.now.owner) (sym z) ∙ e))))
+          (λ (z : y ≢ x). sym (put.others y z) ∙ e)
+          (either_page y x))
+          f.pages
+          (λ y p e. ⊎_elim
+          (λ (z : (y ≡ x) × (o ≡ p)). ap (put_at x o' f.world.now.owner) z.0 ∙ (put.at ∙ (is ∙ ap (owner_in s.hands) z.1)))
+          (λ (z : (y ≢ x) × (get_elem? s.owners y ≡ some p)). put.others y z.0 ∙ f.owners y p z.1)
+          (at_set s.owners x y o p e)),
+      then_goes s f n since d at what c a next s1 said shown does,
+    )
+  where
+    either_page : (y x : ℕ) → (y ≡ x) ⊎ (y ≢ x)
+    either_page zero zero = inl refl
+    either_page zero (suc x) = inr (λ e. omega arith)
+    either_page (suc y) zero = inr (λ e. omega arith)
+    either_page (suc y) (suc x) = ⊎_elim (λ e. inl (ap suc e)) (λ ne. inr (λ e. ne (omega arith))) (either_page y x)
+
+moved : (s : Pages Mine) (f : Fits s) (n since : ℕ) (d : Mine) → Stands s n (Running since) d → (what : Seen) → GoesOn d.state what → (a : Action) → next_of d.state ≡ a → (x : ℕ) (was o : Owner) → get_elem? s.owners x ≡ some was → (o' : machine.Owner) → o' ≡ owner_in s.hands o → ((q : Name) → q ≢ name n d.number → o' ≢ machine.Held q) → IsTold f.world.now f.world.size a what → IsShown f.world.now (name n d.number) (f.world.proc (name n d.number)).time a what
+    → Does f.world.now (name n d.number) (event_of (end_of_proc d.state) a what) (record f.world.now { owner = put_at x o' f.world.now.owner })
+    → (e : Mine) × Fits (told (owned s x o) n (Running since) e) × Goes what d e
+moved s f n since d at what c a next x was o here o' is else said shown does = moved_by s f n since d at what c a next x was o here o' is else f.world.now.clock s.clock f.clock said shown does
+
+-- where the hand runs its process
+running : (R : Stage → Type 0) (s : Pages Mine) (f : Fits s) (n : ℕ) (st : Stage) (d : Mine) → d.runs ≡ true → Stands s n st d → ((since : ℕ) → Stands s n (Running since) d → R (Running since)) → R st
+running R s f n st d runs at go =
+    let r = runs_on s f n st d at runs in
+    subst R (sym r.1) (go r.0 (subst (λ (z : Stage). Stands s n z d) r.1 at))
+
+module _ (l : Layout) (n : ℕ) (d : Mine) (runs : d.runs ≡ true) where
+  pub gets_page : (x : ℕ) → next_of d.state ≡ act.Get x → ((c : Page) → GoesOn d.state (seen.Words c)) → Gets Fits l n d x gets
+  gets_page x next course s since words owner f o at page =
+      let w = f.world in
+      let p = name n d.number in
+      let is = standing s f n since d at in
+      let c = w.now.contents x in
+      let next_is : next_of (w.proc p).state ≡ act.Get x = ap next_of is.3 ∙ next in
+      let may : (x ≡ 0) ⊎ MayGet w p x = subst (IsGot w p) next_is (got_next_is w p f.good) in
+      let words_are : words ≡ words_of c = got_words w p x words f.good may (f.pages x words page.0) in
+      let does : Does w.now p (Act.Get x) w.now = record { changes = (λ z. refl, λ z. refl, λ q. refl); on = omega arith } in
+      let t = turned s f n since d at (seen.Words c) (course c) (act.Get x) next w.now refl tt does in
+      let can : ((b : ℕ) × (w.now.phase p ≡ machine.Running b)) × (w.now.owner x ≢ machine.Released) = t.extends.steps.enabled in
+      let u = unmoved s f n since d at (seen.Words c) (course c) (act.Get x) next refl tt does in
+      (λ e. can.1 (f.owners x owner page.1 ∙ is_released s.hands owner e), u.0, u.1, (c, words_are, u.2))
+
+  pub puts_page : (x : ℕ) (new : List ℕ) (c : Page) → next_of d.state ≡ act.Put x c → new ≡ words_of c → GoesOn d.state seen.Done → Puts Fits l n d x new puts
+  puts_page x new c next is course s st words owner f o at page =
+      running (λ sg. (owner ≡ Held n) × (e : Mine) × Fits (told (written s x new) n sg e) × puts d x owner words e) s f n st d runs at (λ since at'.
+      let w = f.world in
+      let p = name n d.number in
+      let s1 : State Page = record w.now { contents = put_at x c w.now.contents } in
+      let put = is_put_at x c w.now.contents in
+      let does : Does w.now p (Act.Put x c) s1 = record { changes = (put, λ z. refl, λ q. refl); on = omega arith } in
+      let t = turned s f n since d at' seen.Done course (act.Put x c) next s1 tt tt does in
+      let can : w.now.owner x ≡ machine.Held p = t.extends.steps.enabled in (
+        is_held s.hands n d.number owner (sym (f.owners x owner page.1) ∙ can),
+        then_known s f n since d at' seen.Done course (act.Put x c) next s1 tt tt does,
+        then_fits s f n since d at' seen.Done course (act.Put x c) next s1 tt tt does (written s x new) refl (length-set s.contents x new) f.clock (λ q. refl) (λ y q ne e. e)
+            (λ y ws e. ⊎_elim
+            (λ (z : (y ≡ x) × (new ≡ ws)). subst (λ (v : ℕ × List ℕ). Shows v.0 v.1 (s1.contents v.0)) (λ i. (sym z.0 i, z.1 i)) (subst (Shows x new) (sym put.at) (shows_words x new c is)))
+            (λ (z : (y ≢ x) × (get_elem? s.contents y ≡ some ws)). subst (Shows y ws) (sym (put.others y z.0)) (f.pages y ws z.1))
+            (at_set s.contents x y new ws e))
+            f.owners,
+        then_goes s f n since d at' seen.Done course (act.Put x c) next s1 tt tt does,
+      ))
+
+  pub opens_page : (x : ℕ) → next_of d.state ≡ act.Open x → GoesOn d.state seen.Done → Opens Fits l n d x opens
+  opens_page x next course s st words owner f o at page =
+      running (λ sg. (owner ≡ Held n) × (e : Mine) × Fits (told (owned s x Open) n sg e) × opens d x owner words e) s f n st d runs at (λ since at'.
+      let w = f.world in
+      let p = name n d.number in
+      let does : Does w.now p (Act.Open x) (record w.now { owner = put_at x machine.Owner.Open w.now.owner }) = record { changes = (λ z. refl, is_put_at x machine.Owner.Open w.now.owner, λ q. refl); on = omega arith } in
+      let t = turned s f n since d at' seen.Done course (act.Open x) next (record w.now { owner = put_at x machine.Owner.Open w.now.owner }) tt tt does in
+      let can : w.now.owner x ≡ machine.Held p = t.extends.steps.enabled in
+      let u = moved s f n since d at' seen.Done course (act.Open x) next x owner Open page.1 machine.Owner.Open refl (λ q ne e. let z : machine.Owner.Open ≡ machine.Held q = e in cc) tt tt does in
+      (is_held s.hands n d.number owner (sym (f.owners x owner page.1) ∙ can), u.0, u.1, u.2))
+
+  -- it is retired at the time of the store's clock, which the world's has not passed
+  pub retires_page : (x : ℕ) → next_of d.state ≡ act.Retire x → GoesOn d.state seen.Done → Retires Fits l n d x retires
+  retires_page x next course s st words owner f o at page =
+      running (λ sg. (owner ≡ Held n) × (e : Mine) × Fits (told (later (owned s x (Retired s.clock))) n sg e) × retires d s.clock e) s f n st d runs at (λ since at'.
+      let w = f.world in
+      let p = name n d.number in
+      let s1 : State Page = record w.now { owner = put_at x (machine.Retired s.clock) w.now.owner; clock = s.clock + 1 } in
+      let low : w.now.clock ≤ s.clock = f.clock in
+      let does : Does w.now p (Act.Retire x) s1 = record {
+        changes = (s.clock, low, omega arith, (λ z. refl, is_put_at x (machine.Retired s.clock) w.now.owner, λ q. refl));
+        on = omega arith;
+      } in
+      let t = turned s f n since d at' seen.Done course (act.Retire x) next s1 tt tt does in
+      let can : w.now.owner x ≡ machine.Held p = t.extends.steps.enabled in
+      let u = moved_by s f n since d at' seen.Done course (act.Retire x) next x owner (Retired s.clock) page.1 (machine.Retired s.clock) refl (λ q ne e. let z : machine.Retired s.clock ≡ machine.Held q = e in cc) (s.clock + 1) (s.clock + 1) (omega arith) tt tt does in
+      (is_held s.hands n d.number owner (sym (f.owners x owner page.1) ∙ can), u.0, u.1, u.2))
+
+  pub latches_page : (x : ℕ) → next_of d.state ≡ act.Latch x → GoesOn d.state seen.Done → Latches Fits l n d x tries
+  latches_page x next course s st words f o at page =
+      running (λ sg. (e : Mine) × Fits (told (owned s x (Held n)) n sg e) × tries d x Open words e) s f n st d runs at (λ since at'.
+      let w = f.world in
+      let p = name n d.number in
+      let free : w.now.owner x ≡ machine.Owner.Open = f.owners x Open page.1 in
+      let does : Does w.now p (Act.Latch x) (record w.now { owner = put_at x (machine.Held p) w.now.owner }) = record { changes = (λ z. refl, is_put_at x (machine.Held p) w.now.owner, λ q. refl); on = omega arith } in
+      let u = moved s f n since d at' seen.Done course (act.Latch x) next x Open (Held n) page.1 (machine.Held p) (sym (held_by s.hands n (Running since, d) at')) (λ q ne e. let z : p ≡ q = cc in ne (sym z)) free tt does in
+      (u.0, u.1, ((λ e. u.2), λ ne. absurd (ne refl))))
+
+  pub misses_page : (x : ℕ) → next_of d.state ≡ act.Latch x → GoesOn d.state seen.Missed → Misses Fits l n d x tries
+  misses_page x next course s st words owner f o at page shut =
+      running (λ sg. (e : Mine) × Fits (told s n sg e) × tries d x owner words e) s f n st d runs at (λ since at'.
+      let w = f.world in
+      let does : Does w.now (name n d.number) Act.Miss w.now = record { changes = (λ z. refl, λ z. refl, λ q. refl); on = omega arith } in
+      let u = unmoved s f n since d at' seen.Missed course (act.Latch x) next tt tt does in
+      (u.0, u.1, ((λ e. absurd (shut e)), λ ne. u.2)))
+
+  pub takes_page : (x : ℕ) → next_of d.state ≡ act.Take → ((y : ℕ) → IsChild y → GoesOn d.state (seen.Took y)) → Takes Fits l n d x takes
+  takes_page x next course s st words f o at page =
+      running (λ sg. (e : Mine) × Fits (told (owned s x (Held n)) n sg e) × takes d x Released words e) s f n st d runs at (λ since at'.
+      let w = f.world in
+      let p = name n d.number in
+      let free : w.now.owner x ≡ machine.Released = f.owners x Released page.1 in
+      let low : 0 < x = above x free in
+      let within : x < length s.contents = at_below s.contents x words page.0 in
+      let wide = l.pages_within in
+      let all = o.contents in
+      let child : IsChild x = (low, omega arith) in
+      let sized : x < w.size = rw f.size within in
+      let does : Does w.now p (Act.Take x) (record w.now { owner = put_at x (machine.Held p) w.now.owner }) = record { changes = (λ z. refl, is_put_at x (machine.Held p) w.now.owner, λ q. refl); on = omega arith } in
+      let u = moved s f n since d at' (seen.Took x) (course x child) act.Take next x Released (Held n) page.1 (machine.Held p) (sym (held_by s.hands n (Running since, d) at')) (λ q ne e. let z : p ≡ q = cc in ne (sym z)) (free, sized) tt does in
+      (u.0, u.1, u.2))
+    where
+      above : (x : ℕ) → f.world.now.owner x ≡ machine.Released → 0 < x
+      above zero e = absurd (anchor_not_released know f.world f.good e)
+      above (suc x) e = omega arith
+
+  pub refuses_take : next_of d.state ≡ act.Take → GoesOn d.state seen.Refused → Refuses Fits l n d refuses
+  refuses_take next course s st f o at =
+      running (λ sg. (e : Mine) × Fits (told s n sg e) × refuses d s.clock e) s f n st d runs at (λ since at'.
+      let w = f.world in
+      let does : Does w.now (name n d.number) Act.Miss w.now = record { changes = (λ z. refl, λ z. refl, λ q. refl); on = omega arith } in
+      let u = unmoved s f n since d at' seen.Refused course act.Take next tt tt does in
+      (u.0, u.1, u.2))
+
+  pub refuses_put : (x : ℕ) (c : Page) → next_of d.state ≡ act.Put x c → GoesOn d.state seen.Refused → Refuses Fits l n d refuses
+  refuses_put x c next course s st f o at =
+      running (λ sg. (e : Mine) × Fits (told s n sg e) × refuses d s.clock e) s f n st d runs at (λ since at'.
+      let w = f.world in
+      let does : Does w.now (name n d.number) Act.Miss w.now = record { changes = (λ z. refl, λ z. refl, λ q. refl); on = omega arith } in
+      let u = unmoved s f n since d at' seen.Refused course (act.Put x c) next tt tt does in
+      (u.0, u.1, u.2))

@@ -1,0 +1,185 @@
+-- An index begins from a sound image: the words of its pages show the image's, and no pass has begun a process.
+use Rattle.std.proofs.Common.{ℕ, zero, suc, ◌≡◌, ◌≢◌, ◌<◌, ◌≤◌, ◌&&◌, Bool, eqb, true, false, Option, Some, None, List, [], ◌∷◌, length, map, replicate, refl, sym, ap, ◌∙◌, subst, inl, inr, arith}
+use Rattle.std.proofs.lemmas.Bool.{false≢true, eqb-true}
+use mathlib.Core.Option.{some, some-injective, some-ne-none}
+use lib.ListN.{get_elem?}
+use Rattle.bl_model.specs.Map.{Map, SameMap}
+use Rattle.bl_model.specs.Rows.{map_of}
+use Rattle.bl_page.specs.declared.page.Page.{Page}
+use Rattle.bl_page.specs.Words.{words_of}
+use Rattle.bl_page.specs.Machine.{Name, State}
+use Rattle.bl_page.specs.Machine as machine
+use Rattle.bl_image.specs.Images.{IsImage, page_words}
+use Rattle.bl_image.proofs.Chunks.{no_kind, length-page_words}
+use Rattle.bl_check.specs.Rules.{AreSound, is_anchor}
+use Rattle.bl_check.specs.Rows.{AreRowsOf}
+use Rattle.bl_page.specs.Pages.{page_at}
+use Rattle.bl_claims.specs.Pages.{node_of, roots_of}
+use Rattle.bl_claims.specs.Starts.{start_map}
+use Rattle.bl_core_tree.proofs.SoundStarts.{bool_cases}
+use Rattle.bl_claims.specs.States.{HasMoments}
+use Rattle.bl_core.proofs.States.{moments_first}
+use Rattle.bl_core.specs.Worlds.{World, IsGood}
+use Rattle.bl_core.proofs.Starts.{sound_world, sound_good}
+use Rattle.bl_claims.specs.Opening.{node_in, roots_in, IsStored, IsOpened}
+use Rattle.bl_check_tree.specs.Begins.{live_in}
+use Rattle.bl_check_tree.proofs.Opened.{anchor_at, opened_sound, opened_begins}
+use Rattle.bl_proc_invariant.specs.Knowing.{Run, bare as know}
+use Rattle.bl_proc_invariant.proofs.Middles.{KeepsLogs}
+use Rattle.bl_proc_bounds.proofs.Kept.{first_kept}
+use Rattle.bl_store.specs.Pages.{Owner, Stage, Idle}
+use Rattle.bl_store.specs.Opening.{is_blank, first_owner, first_pages}
+use Rattle.bl_index_rule.specs.declared.known.Mine.{Mine}
+use Rattle.bl_claims.specs.Seeing.{first_map, BeginsFrom, IsSeen, name}
+use Rattle.bl_index_rule.specs.Fitting.{unborn, beginner, Shows, owner_in, IsHand, Fits}
+use Rattle.bl_index_rule.proofs.Within.{none_within}
+use Rattle.bl_index_rule.proofs.Sights.{world_moment, world_seen}
+use Rattle.bl_index_rule.proofs.Bounds.{first_anchor, fresh_run}
+use Rattle.bl_index_rule.proofs.Starts.{blank_is, of_all, of_map}
+
+-- what the machine holds of a page, and who owns it
+abbrev contents_in : Option Page → Page
+contents_in None = first_anchor
+contents_in (Some page) = page
+
+abbrev owner_of : Option Page → machine.Owner
+owner_of None = machine.Released
+owner_of (Some page) = machine.Owner.Open
+
+none_held : (page : Option Page) (p : Name) → owner_of page ≢ machine.Held p
+none_held None p e = (let z : machine.Released ≡ machine.Held p = e in cc)
+none_held (Some page) p e = (let z : machine.Owner.Open ≡ machine.Held p = e in cc)
+
+same_node : (page : Option Page) → node_of (contents_in page) ≡ node_in page
+same_node None = refl
+same_node (Some page) = refl
+
+same_roots : (page : Option Page) → is_anchor page ≡ true → roots_of (contents_in page) ≡ roots_in page
+same_roots None anchor = absurd (false≢true anchor)
+same_roots (Some page) anchor = refl
+
+-- an image has pages
+map_is : (pages : List (Option Page)) → 0 < length pages → first_map pages ≡ start_map (λ x. node_in (page_at pages x)) (roots_in (page_at pages 0)) 0
+map_is [] many = absurd (omega arith)
+map_is (page ∷ pages) many = refl
+
+begins_so : (pages : List (Option Page)) (s : State Page) → 0 < length pages → IsOpened pages s → BeginsFrom pages s
+begins_so [] s many is = absurd (omega arith)
+begins_so (page ∷ pages) s many is = is
+
+page_there : (pages : List (Option Page)) (x : ℕ) (page : Option Page) → get_elem? pages x ≡ some page → page_at pages x ≡ page
+page_there [] x page e = absurd (some-ne-none page (sym e))
+page_there (q ∷ pages) zero page e = some-injective q page e
+page_there (q ∷ pages) (suc x) page e = page_there pages x page e
+
+-- what the words of a page show
+shows_page : (x : ℕ) (page : Option Page) → (x ≡ 0 → is_anchor page ≡ true) → Shows x (page_words page) (contents_in page)
+shows_page zero None anchor = absurd (false≢true (anchor refl))
+shows_page zero (Some page) anchor = refl
+shows_page (suc x) None anchor = inr (refl, tt)
+shows_page (suc x) (Some page) anchor = inl refl
+
+pub map_length : (pages : List (Option Page)) → length (map page_words pages) ≡ length pages
+map_length [] = refl
+map_length (page ∷ pages) = ap suc (map_length pages)
+
+blank_words : (words : List ℕ) (n : ℕ) → length words ≡ n → is_blank words ≡ true → words ≡ replicate n 0
+blank_words [] zero size e = refl
+blank_words [] (suc n) size e = absurd (omega arith)
+blank_words (w ∷ words) zero size e = absurd (omega arith)
+blank_words (w ∷ words) (suc n) size e = elim (eqb w 0) as (λ b. eqb w 0 ≡ b → (b && is_blank words) ≡ true → w ∷ words ≡ replicate (suc n) 0) [
+  | true ↦ λ here rest. let first : w ≡ 0 = eqb-true w 0 here in let others = blank_words words n (omega arith) rest in λ k. first k ∷ others k
+  | false ↦ λ here rest. cc
+] refl e
+
+not_blank : (page : Page) → is_blank (words_of page) ≡ false
+not_blank page = elim (bool_cases (is_blank (words_of page))) [
+  | inl blank ↦ absurd (no_kind page (blank_words (words_of page) 32 (length-page_words (Some page)) blank))
+  | inr is ↦ is
+]
+
+owns_page : (hands : List (Stage × Mine)) (page : Option Page) → owner_of page ≡ owner_in hands (first_owner (page_words page))
+owns_page hands None = refl
+owns_page hands (Some page) = rw (not_blank page) refl
+
+module _ (pages : List (Option Page)) (bytes : List ℕ) (image : IsImage pages bytes) (sound : AreSound pages) where
+  abbrev start : State Page
+  start = record { contents = λ x. contents_in (page_at pages x); owner = λ x. owner_of (page_at pages x); phase = λ p. machine.Waiting; clock = 0 }
+
+  stored : (x : ℕ) (page : Option Page) → page_at pages x ≡ page → IsStored start x page
+  stored x None e = ap owner_of e
+  stored x (Some page) e = (ap owner_of e, ap contents_in e)
+
+  opened : IsOpened pages start
+  opened = record { pages_are = λ x. stored x (page_at pages x) refl; waiting = λ p. refl }
+
+  abbrev world : World Run
+  world = sound_world (live_in pages) start (length pages) (λ p. fresh_run unborn)
+
+  good : IsGood know world
+  good = sound_good know (live_in pages) start (length pages) (λ p. fresh_run unborn) (opened_sound pages bytes start image sound opened) (λ p. blank_is)
+
+  logs : KeepsLogs world
+  logs p since runs = absurd (let both : machine.Waiting ≡ machine.Running since = runs in cc)
+
+  has_pages : 0 < length pages
+  has_pages = let many = image.count.0 in omega arith
+
+  first : world.first ≡ first_map pages
+  first = (let roots = same_roots (page_at pages 0) (anchor_at pages bytes image sound) in λ i. start_map (λ x. same_node (page_at pages x) i) (roots i) 0) ∙ sym (map_is pages has_pages)
+
+  moments : HasMoments (first_map pages) start []
+  moments = moments_first (first_map pages) start (world_moment world pages good logs first)
+
+  -- the map that it begins with is that of the rows
+  pub rows_map : (rows : List (ℕ × ℕ)) → AreRowsOf pages rows → SameMap (first_map pages) (map_of rows)
+  rows_map rows are = λ key. sym ((opened_begins pages bytes rows start image sound are opened).map key) ∙ ap (λ (z : Map). z key) first
+
+  -- a pass that has done nothing has seen the image
+  pub beginner_seen : IsSeen pages []
+  beginner_seen = world_seen world pages good (begins_so pages start has_pages opened) first moments
+
+  anchor_there : (x : ℕ) (page : Option Page) → page_at pages x ≡ page → x ≡ 0 → is_anchor page ≡ true
+  anchor_there x page at zero_is = ap is_anchor (sym at) ∙ (ap (λ (z : ℕ). is_anchor (page_at pages z)) zero_is ∙ anchor_at pages bytes image sound)
+
+  words_at : (x : ℕ) (words : List ℕ) → get_elem? (map page_words pages) x ≡ some words → Shows x words (contents_in (page_at pages x))
+  words_at x words e =
+      let is = of_map page_words pages x words e in
+      let at : page_at pages x ≡ is.0 = page_there pages x is.0 is.1 in
+      subst (λ (z : List ℕ × Option Page). Shows x z.0 (contents_in z.1)) (λ i. (is.2 i, sym at i)) (shows_page x is.0 (anchor_there x is.0 at))
+
+  owner_at : (hands : List (Stage × Mine)) (x : ℕ) (own : Owner) → get_elem? (map first_owner (map page_words pages)) x ≡ some own → owner_of (page_at pages x) ≡ owner_in hands own
+  owner_at hands x own e =
+      let outer = of_map first_owner (map page_words pages) x own e in
+      let inner = of_map page_words pages x outer.0 outer.1 in
+      ap owner_of (page_there pages x inner.0 inner.1) ∙ (owns_page hands inner.0 ∙ ap (owner_in hands) (ap first_owner inner.2 ∙ outer.2))
+
+  hand_at : (n : ℕ) → IsHand world n Idle (beginner pages)
+  hand_at n = record {
+    named = λ begun. absurd (begun refl);
+    stage = (refl, λ x. none_held (page_at pages x) (name n 0));
+    later = λ m l. (refl, blank_is);
+    begins = ([], refl, tt);
+    counted = tt;
+    mine = refl;
+  }
+
+  pub reopens : (passes : ℕ) → Fits (first_pages (map page_words pages) passes (beginner pages))
+  reopens passes = record {
+    world = world;
+    good = good;
+    kept = first_kept world refl (λ p. blank_is.stage);
+    image = pages;
+    opening = begins_so pages start has_pages opened;
+    first = first;
+    moments = moments;
+    size = sym (map_length pages);
+    clock = omega arith;
+    pages = words_at;
+    owners = owner_at (replicate passes (Idle, beginner pages));
+    hands = λ n st d e. subst (λ (z : Stage × Mine). IsHand world n z.0 z.1) (of_all passes (Idle, beginner pages) n (st, d) e) (hand_at n);
+    within = none_within (length (replicate passes (Idle, beginner pages)));
+    counts = λ n st d e begun. absurd (begun (ap (λ (z : Stage × Mine). z.1.number) (sym (of_all passes (Idle, beginner pages) n (st, d) e))));
+    firsts = λ n st d e. ap (λ (z : Stage × Mine). z.1.first) (sym (of_all passes (Idle, beginner pages) n (st, d) e));
+    busy = λ p since e. absurd (let both : machine.Waiting ≡ machine.Running since = e in cc);
+  }

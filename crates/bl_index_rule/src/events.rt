@@ -1,0 +1,131 @@
+//! What each event tells the pass that makes it.
+
+ghost use Rattle.std.specs.Prelude.{ℕ};
+ghost use Rattle.bl_index_rule.specs.Told.{begins, ends, gives_up, gets, puts, takes, tries, opens, retires, refuses, sweeps};
+
+use crate::known::Mine;
+use bl_store::{PagePlay, SweepPlay, TimePlay};
+use std::marker::{Brand, PhantomData};
+
+/// Which pass begins a process, in a store of how many pages and passes, and which process.
+pub trait Launch {
+    ghost use Rattle.bl_proc.specs.declared.kinds.Proc.{Proc as Process};
+
+    ghost pass: { ℕ };
+
+    ghost pages: { ℕ };
+
+    ghost passes: { ℕ };
+
+    ghost process: { Process };
+}
+
+impl Launch for Brand {
+    ghost use Rattle.bl_index_rule.specs.Fitting.{unborn};
+
+    ghost pass = { 0 };
+
+    ghost pages = { 0 };
+
+    ghost passes = { 0 };
+
+    ghost process = { unborn };
+}
+
+/// A process begins.
+pub struct Began<J> {
+    launch: PhantomData<J>,
+}
+
+impl<J: Launch> TimePlay<Mine> for Began<J> {
+    ghost then = { begins J.pass J.pages J.passes J.process };
+}
+
+/// The process ends, and has answered.
+pub struct Ended;
+
+impl TimePlay<Mine> for Ended {
+    ghost then = { ends };
+}
+
+/// A search ends and has answered nothing.
+pub struct GaveUp;
+
+impl TimePlay<Mine> for GaveUp {
+    ghost then = { gives_up };
+}
+
+/// A page was read.
+pub struct Got;
+
+impl PagePlay<Mine> for Got {
+    ghost then = { gets };
+}
+
+/// A page was put.
+pub struct Put;
+
+impl PagePlay<Mine> for Put {
+    ghost then = { puts };
+}
+
+/// A page was taken.
+pub struct Took;
+
+impl PagePlay<Mine> for Took {
+    ghost then = { takes };
+}
+
+/// A page was latched, or missed.
+pub struct Tried;
+
+impl PagePlay<Mine> for Tried {
+    ghost then = { tries };
+}
+
+/// A page was opened.
+pub struct Opened;
+
+impl PagePlay<Mine> for Opened {
+    ghost then = { opens };
+}
+
+/// A page was retired.
+pub struct Retired;
+
+impl TimePlay<Mine> for Retired {
+    ghost then = { retires };
+}
+
+/// A reservation was refused.
+pub struct Refused;
+
+impl TimePlay<Mine> for Refused {
+    ghost then = { refuses };
+}
+
+/// Which pass sweeps, by its process of which number, and how many passes there are.
+pub trait Sweeper {
+    ghost pass: { ℕ };
+
+    ghost number: { ℕ };
+
+    ghost passes: { ℕ };
+}
+
+impl Sweeper for Brand {
+    ghost pass = { 0 };
+
+    ghost number = { 0 };
+
+    ghost passes = { 0 };
+}
+
+/// Pages were released.
+pub struct Swept<J> {
+    sweeper: PhantomData<J>,
+}
+
+impl<J: Sweeper> SweepPlay<Mine> for Swept<J> {
+    ghost then = { sweeps J.pass J.number J.passes };
+}

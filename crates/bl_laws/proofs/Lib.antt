@@ -1,6 +1,0 @@
-pub mod LawsHold
-pub mod WalksEnd
-pub mod SoundStarts
-pub mod Opening
-pub mod SoundPages
-mod Examples

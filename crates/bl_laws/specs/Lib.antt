@@ -1,4 +1,0 @@
-pub mod Laws
-pub mod Walks
-pub mod Starts
-pub mod Pages

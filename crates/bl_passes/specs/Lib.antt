@@ -1,4 +1,0 @@
-pub mod Noting
-pub mod Seeing
-pub mod Fitting
-pub mod Told

@@ -1,0 +1,158 @@
+//! The way of a writer to the page of its level that covers its key.
+
+ghost use Rattle.std.specs.Prelude.{◌≡◌, ℕ, None};
+ghost use Rattle.bl_claims.specs.Pages.{roots_of};
+ghost use Rattle.bl_proc_base.specs.declared.acts.Seen.TheVariants as seen;
+ghost use Rattle.bl_proc_base.specs.declared.approaching.Approach.TheVariants as approach;
+ghost use Rattle.bl_proc_base.specs.declared.approaching.Approached.TheVariants as approached;
+ghost use Rattle.bl_proc_base.specs.Given.{Gives};
+ghost use Rattle.bl_proc_base.specs.Onwards.{Leads};
+ghost use Rattle.bl_proc_base.specs.Approaches.{approach_next, Enters, Turns, Quits, Approaches};
+
+use crate::acts::{Action, Seen};
+use crate::onwards::{Step, way_from};
+use crate::reading::level_of;
+use bl_page::Page;
+
+/// How far a writer has come on its way. It holds a page only where it says so.
+#[derive(Clone, Copy)]
+pub enum Approach {
+    /// It is to get the anchor.
+    Start,
+    /// It is to get that page, without a latch: the page is above its level, or was latched by another.
+    At(u32),
+    /// It is to latch that page of its level.
+    Latching(u32),
+    /// It holds that page, and is to get it.
+    Latched(u32),
+    /// It holds that page, which does not cover its key, and is to open it. Then it latches the other page, or starts
+    /// again where there is none.
+    Leaving(u32, Option<u32>),
+}
+
+/// What became of an approach.
+#[derive(Drop)]
+pub enum Approached {
+    /// It goes on.
+    On(Approach),
+    /// It is there: it holds the page with that number, which is as it got it and covers the key.
+    Here(u32, Page),
+}
+
+/// From the anchor.
+pub fn entered(level: u32, anchor: &Page) -> Approach
+    ensures { Enters level (roots_of anchor.now) result }
+{
+    match anchor {
+        Page::Anchor(anchor) => {
+            let level = level as usize;
+            let leftmost = anchor.leftmost.as_slice();
+            let top = leftmost.len() - 1;
+            if top < level {
+                Approach::Start
+            } else if top == level {
+                Approach::Latching(leftmost[level])
+            } else {
+                Approach::At(leftmost[top])
+            }
+        }
+        _ => Approach::Start,
+    }
+}
+
+/// From a page that was got without a latch.
+fn turned(level: u32, at: u32, page: &Page, key: u64, way: Step) -> Approach
+    requires { Leads page.now key level way }
+    ensures { Turns level at page.now way result }
+{
+    match way {
+        Step::Again => Approach::Start,
+        Step::Right(next) if level_of(page) == level => Approach::Latching(next),
+        Step::Right(next) => Approach::At(next),
+        Step::Down(next) if level_of(page) - 1 == level => Approach::Latching(next),
+        Step::Down(next) => Approach::At(next),
+        Step::Here => Approach::Latching(at),
+    }
+}
+
+fn turned_by(level: u32, key: u64, at: u32, page: &Page) -> Approach
+    ensures { Approaches level key (approach.At at) (seen.Words page.now) (approached.On result) }
+{
+    let way = way_from(page, key, level);
+    turned(level, at, page, key, way)
+}
+
+/// From a page that is held.
+fn looked(level: u32, key: u64, at: u32, page: Page) -> Approached
+    ensures { Approaches level key (approach.Latched at) (seen.Words page) result }
+{
+    match way_from(&page, key, level) {
+        Step::Here => Approached::Here(at, page),
+        Step::Right(next) => Approached::On(Approach::Leaving(at, Some(next))),
+        Step::Again | Step::Down(_) => Approached::On(Approach::Leaving(at, None)),
+    }
+}
+
+/// By the page that was got.
+fn got(approach: Approach, level: u32, key: u64, page: Page) -> Approached
+    requires { Gives (approach_next approach) None (seen.Words page) }
+    ensures { Approaches level key approach (seen.Words page) result }
+{
+    match approach {
+        Approach::Start => Approached::On(entered(level, &page)),
+        Approach::At(at) => Approached::On(turned_by(level, key, at, &page)),
+        Approach::Latched(at) => looked(level, key, at, page),
+        Approach::Latching(_) | Approach::Leaving(_, _) => unreachable!(),
+    }
+}
+
+/// After a latch, or an opening.
+fn done(approach: Approach) -> Approach
+    requires { Gives (approach_next approach) None seen.Done }
+    ensures { (level : ℕ) → (key : ℕ) → Approaches level key approach seen.Done (approached.On result) }
+{
+    match approach {
+        Approach::Latching(at) => Approach::Latched(at),
+        Approach::Leaving(_, Some(next)) => Approach::Latching(next),
+        Approach::Leaving(_, None) => Approach::Start,
+        _ => unreachable!(),
+    }
+}
+
+/// After a latch that was missed.
+fn missed(approach: Approach) -> Approach
+    requires { Gives (approach_next approach) None seen.Missed }
+    ensures { (level : ℕ) → (key : ℕ) → Approaches level key approach seen.Missed (approached.On result) }
+{
+    match approach {
+        Approach::Latching(at) => Approach::At(at),
+        _ => unreachable!(),
+    }
+}
+
+impl Approach {
+    /// The next action.
+    pub fn next(self) -> Action
+        ensures { result ≡ approach_next self }
+    {
+        match self {
+            Approach::Start => Action::Get(0),
+            Approach::At(page) | Approach::Latched(page) => Action::Get(page),
+            Approach::Latching(page) => Action::Latch(page),
+            Approach::Leaving(page, _) => Action::Open(page),
+        }
+    }
+
+    /// What becomes of the approach to the page of that level that covers the key, by what its action gave.
+    pub fn took(self, level: u32, key: u64, seen: Seen) -> Approached
+        requires { Gives (approach_next self) None seen }
+        ensures { Approaches level key self seen result }
+    {
+        match seen {
+            Seen::Words(page) => got(self, level, key, page),
+            Seen::Done => Approached::On(done(self)),
+            Seen::Missed => Approached::On(missed(self)),
+            _ => unreachable!(),
+        }
+    }
+}

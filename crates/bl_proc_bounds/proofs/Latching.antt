@@ -1,0 +1,327 @@
+-- What a process holds at its latches, by its kind.
+use Rattle.std.proofs.Common.{ℕ, ◌≡◌, ◌≢◌, ◌⊎◌, ◌<◌, ◌++◌, Option, Some, zero, suc, [], ◌∷◌, length, take, slice_get, arith, ap, sym, ◌∙◌, refl, inl, inr, subst}
+use Rattle.bl_model.specs.declared.operation.Reply.{Reply}
+use Rattle.bl_page.specs.declared.page.Page.{Page}
+use Rattle.bl_page.specs.Machine.{Name}
+use Rattle.bl_page.specs.Machine.Act.{Put, Take, Latch}
+use Rattle.bl_claims.specs.Trails.{Mark, Trail, marks_of}
+use Rattle.bl_core.proofs.Pushes.{name_cases, marks_of-own, marks_of-other}
+use Rattle.bl_core.specs.Worlds.{Know, World, HoldsPage, IsGood, Extends}
+use Rattle.bl_proc_base.specs.declared.acts.Action.{Action}
+use Rattle.bl_proc_base.specs.declared.acts.Action.TheVariants as act
+use Rattle.bl_proc_base.specs.declared.acts.Seen.{Seen}
+use Rattle.bl_proc_base.specs.declared.acts.Seen.TheVariants as seen
+use Rattle.bl_proc_base.specs.declared.approaching.Approach.{Approach}
+use Rattle.bl_proc_base.specs.declared.approaching.Approach.TheVariants as way
+use Rattle.bl_proc_base.specs.declared.changing.Change.{Change}
+use Rattle.bl_proc_base.specs.declared.changing.Change.TheVariants as change
+use Rattle.bl_proc_base.specs.declared.growing.Growth.{Growth}
+use Rattle.bl_proc_base.specs.declared.growing.Growth.TheVariants as growth
+use Rattle.bl_proc_base.specs.Approaches.{approach_next}
+use Rattle.bl_proc_base.specs.Changes.{change_next}
+use Rattle.bl_proc_base.specs.Growths.{growth_next}
+use Rattle.bl_rearrange.specs.declared.sides.Side.{Side}
+use Rattle.bl_rearrange.specs.declared.sides.Side.TheVariants as side
+use Rattle.bl_proc_compress.specs.declared.compressing.Puts.{Puts}
+use Rattle.bl_proc_compress.specs.declared.compressing.Compression.{Compression}
+use Rattle.bl_proc_compress.specs.declared.compressing.Compression.TheVariants.{LatchingLeft, LatchedLeft, LatchingRight, LatchedRight, PuttingFirst, PuttingParent, PuttingLast, Retiring, OpeningRight, OpeningLeft, OpeningParent}
+use Rattle.bl_proc_compress.specs.declared.squeezing.CompressStage.{CompressStage}
+use Rattle.bl_proc_compress.specs.declared.squeezing.CompressStage.TheVariants as compress
+use Rattle.bl_proc_compress.specs.Compressions.{put_of, other, compression_next}
+use Rattle.bl_proc_compress.specs.Compresses.{compress_next_in}
+use Rattle.bl_proc.specs.declared.searching.FindStage.{FindStage}
+use Rattle.bl_proc.specs.declared.searching.FindStage.TheVariants as find
+use Rattle.bl_proc.specs.declared.parts.PartStage.{PartStage}
+use Rattle.bl_proc.specs.declared.parts.PartStage.TheVariants as part
+use Rattle.bl_proc.specs.declared.inserting.InsertStage.{InsertStage}
+use Rattle.bl_proc.specs.declared.inserting.InsertStage.TheVariants as insert
+use Rattle.bl_proc.specs.declared.deleting.DeleteStage.{DeleteStage}
+use Rattle.bl_proc.specs.declared.deleting.DeleteStage.TheVariants as delete
+use Rattle.bl_proc.specs.declared.posting.Post.{Post}
+use Rattle.bl_proc.specs.declared.posting.PostStage.{PostStage}
+use Rattle.bl_proc.specs.declared.posting.PostStage.TheVariants as post
+use Rattle.bl_proc.specs.declared.kinds.Proc.{Proc}
+use Rattle.bl_proc.specs.declared.kinds.Proc.TheVariants as proc
+use Rattle.bl_proc.specs.Searches.{find_next_in}
+use Rattle.bl_proc.specs.Parts.{part_next_in}
+use Rattle.bl_proc.specs.Inserts.{insert_next_in}
+use Rattle.bl_proc.specs.Deletes.{delete_next_in}
+use Rattle.bl_proc.specs.Posts.{post_next_in}
+use Rattle.bl_proc.specs.Processes.{next_of, Takes}
+use Rattle.bl_proc_invariant.specs.Turns.{event_of}
+use Rattle.bl_proc_invariant.specs.Tables.{know_approach}
+use Rattle.bl_proc_invariant.specs.Logs.{squeeze_log, compress_log, proc_log}
+use Rattle.bl_proc_invariant.specs.Compressing.{know_squeeze}
+use Rattle.bl_proc_invariant.specs.Knowing.{Run, know_growth, know_insert, know_delete, know_post, know_compress, know_of, bare, end_of_proc}
+use Rattle.bl_core.proofs.After.{is_put_name}
+use Rattle.bl_proc_invariant.proofs.Starting.{with_proc}
+use Rattle.bl_proc_bounds.specs.Searches.{IsSearch}
+use Rattle.bl_claims.specs.Latches.{Keeps, LatchesAlone, IsLook, OnlyLooks}
+use Rattle.bl_proc_meanings.specs.Families.{HoldsFamily, LatchesBeside}
+use Rattle.bl_proc_bounds.specs.Latches.{IsTidy, AllOwned, AllTidy}
+use Rattle.bl_proc_bounds.proofs.Counts.{take_front}
+
+-- A list goes on by one mark
+
+push_cases : (xs : Trail) (m : Mark) (i : ℕ) (n : Mark) → slice_get (xs ++ m ∷ []) i ≡ Some n → (slice_get xs i ≡ Some n × (i < length xs)) ⊎ ((i ≡ length xs) × (m ≡ n))
+push_cases [] m zero n h = inr (refl, (let f = h in cc))
+push_cases [] m (suc i) n h = cc (h)
+push_cases (d ∷ xs) m zero n h = inl (h, omega arith)
+push_cases (d ∷ xs) m (suc i) n h = elim (push_cases xs m i n h) [
+  | inl e ↦ inl (e.0, omega (arith, e.1))
+  | inr e ↦ inr (ap suc e.0, e.1)
+]
+
+take_now : (xs : Trail) (m : Mark) (i : ℕ) → i ≡ length xs → take i (xs ++ m ∷ []) ≡ xs
+take_now xs m i e = ap (λ n. take n (xs ++ m ∷ [])) e ∙ (take_front xs m (length xs) (omega arith) ∙ whole xs)
+  where
+    whole : (ys : Trail) → take (length ys) ys ≡ ys
+    whole [] = refl
+    whole (y ∷ ys) = ap (λ z. y ∷ z) (whole ys)
+
+-- no page, or the parent and the left child at most
+abbrev HoldsFew : ℕ → ℕ → Trail → Type 0
+HoldsFew level key marks = ((y : ℕ) → Keeps marks y → ⊥) ⊎ HoldsFamily level key marks
+
+module _ (marks : Trail) (m : Mark) where
+  alone_on : LatchesAlone marks → ((x y : ℕ) → m.event.act ≡ Latch x → Keeps marks y → ⊥) → LatchesAlone (marks ++ m ∷ [])
+  alone_on h now i n x y is does keeps = elim (push_cases marks m i n is) [
+    | inl e ↦ h i n x y e.0 does (subst (λ t. Keeps t y) (take_front marks m i (omega (arith, e.1))) keeps)
+    | inr e ↦ now x y (ap (λ (v : Mark). v.event.act) e.1 ∙ does) (subst (λ t. Keeps t y) (take_now marks m i e.0) keeps)
+  ]
+
+  beside_on : (level key : ℕ) → LatchesBeside level key marks → ((x : ℕ) → m.event.act ≡ Latch x → HoldsFew level key marks) → LatchesBeside level key (marks ++ m ∷ [])
+  beside_on level key h now i n x is does = elim (push_cases marks m i n is) [
+    | inl e ↦ subst (HoldsFew level key) (sym (take_front marks m i (omega (arith, e.1)))) (h i n x e.0 does)
+    | inr e ↦ subst (HoldsFew level key) (sym (take_now marks m i e.0)) (now x (ap (λ (v : Mark). v.event.act) e.1 ∙ does))
+  ]
+
+  looks_on : OnlyLooks marks → IsLook m.event.act → OnlyLooks (marks ++ m ∷ [])
+  looks_on h now i n is = elim (push_cases marks m i n is) [
+    | inl e ↦ h i n e.0
+    | inr e ↦ subst IsLook (ap (λ (v : Mark). v.event.act) e.1) now
+  ]
+
+-- An event latches where the action does
+
+latch_next : (reply : Option Reply) (a : Action) (what : Seen) (x : ℕ) → event_of reply a what ≡ Latch x → a ≡ act.Latch x
+latch_next reply act.Begin seen.Done x e = absurd (let f = e in cc)
+latch_next reply act.End seen.Done x e = absurd (let f = e in cc)
+latch_next reply (act.Get y) (seen.Words c') x e = absurd (let f = e in cc)
+latch_next reply (act.Put y d) seen.Done x e = absurd (let f = e in cc)
+latch_next reply (act.Latch y) seen.Done x e = ap act.Latch (let f = e in cc)
+latch_next reply act.Take (seen.Took y) x e = absurd (let f = e in cc)
+latch_next reply (act.Open y) seen.Done x e = absurd (let f = e in cc)
+latch_next reply (act.Retire y) seen.Done x e = absurd (let f = e in cc)
+latch_next reply (act.Look y) (seen.Blocks it) x e = absurd (let f = e in cc)
+latch_next reply (act.See y) (seen.Owner retired started own) x e = absurd (let f = e in cc)
+latch_next reply (act.Release y) seen.Done x e = absurd (let f = e in cc)
+latch_next reply a what x e = absurd (let f = e in cc)
+
+take_next : (reply : Option Reply) (a : Action) (what : Seen) (x : ℕ) → event_of reply a what ≡ Take x → a ≡ act.Take
+take_next reply act.Begin seen.Done x e = absurd (let f = e in cc)
+take_next reply act.End seen.Done x e = absurd (let f = e in cc)
+take_next reply (act.Get y) (seen.Words c') x e = absurd (let f = e in cc)
+take_next reply (act.Put y d) seen.Done x e = absurd (let f = e in cc)
+take_next reply (act.Latch y) seen.Done x e = absurd (let f = e in cc)
+take_next reply act.Take (seen.Took y) x e = refl
+take_next reply (act.Open y) seen.Done x e = absurd (let f = e in cc)
+take_next reply (act.Retire y) seen.Done x e = absurd (let f = e in cc)
+take_next reply (act.Look y) (seen.Blocks it) x e = absurd (let f = e in cc)
+take_next reply (act.See y) (seen.Owner retired started own) x e = absurd (let f = e in cc)
+take_next reply (act.Release y) seen.Done x e = absurd (let f = e in cc)
+take_next reply a what x e = absurd (let f = e in cc)
+
+put_next : (reply : Option Reply) (a : Action) (what : Seen) (x : ℕ) (c : Page) → event_of reply a what ≡ Put x c → a ≡ act.Put x c
+put_next reply act.Begin seen.Done x c e = absurd (let f = e in cc)
+put_next reply act.End seen.Done x c e = absurd (let f = e in cc)
+put_next reply (act.Get y) (seen.Words c') x c e = absurd (let f = e in cc)
+put_next reply (act.Put y d) seen.Done x c e = (let f : y ≡ x = (let g = e in cc) in let h : d ≡ c = (let g = e in cc) in λ i. act.Put (f i) (h i))
+put_next reply (act.Latch y) seen.Done x c e = absurd (let f = e in cc)
+put_next reply act.Take (seen.Took y) x c e = absurd (let f = e in cc)
+put_next reply (act.Open y) seen.Done x c e = absurd (let f = e in cc)
+put_next reply (act.Retire y) seen.Done x c e = absurd (let f = e in cc)
+put_next reply (act.Look y) (seen.Blocks it) x c e = absurd (let f = e in cc)
+put_next reply (act.See y) (seen.Owner retired started own) x c e = absurd (let f = e in cc)
+put_next reply (act.Release y) seen.Done x c e = absurd (let f = e in cc)
+put_next reply a what x c e = absurd (let f = e in cc)
+
+-- What it holds then
+
+approach_alone : (level key : ℕ) (a : Approach) (x : ℕ) → approach_next a ≡ act.Latch x → (know_approach level key a).holds ≡ []
+approach_alone level key way.Start x e = cc (e)
+approach_alone level key (way.At y) x e = cc (e)
+approach_alone level key (way.Latching y) x e = refl
+approach_alone level key (way.Latched y) x e = absurd (cc e)
+approach_alone level key (way.Leaving y to) x e = absurd (cc e)
+
+change_never : (c : Change) (x : ℕ) → change_next c ≢ act.Latch x
+change_never (change.Putting y page) x e = cc
+change_never (change.Taking full) x e = cc
+change_never (change.PuttingNew p) x e = cc
+change_never (change.PuttingOld p) x e = cc
+change_never (change.OpeningNew y new separator) x e = cc
+change_never (change.Opening y what) x e = cc
+
+growth_alone : (level key : ℕ) (got : ℕ → Page) (g : Growth) (x : ℕ) → growth_next g ≡ act.Latch x → (know_growth level key got g).holds ≡ []
+growth_alone level key got growth.Latching x e = refl
+growth_alone level key got old x e = absurd (cc e)
+
+insert_alone : (key value : ℕ) (got : ℕ → Page) (a : InsertStage) (x : ℕ) → insert_next_in a ≡ act.Latch x → (know_insert key value got a).holds ≡ []
+insert_alone key value got insert.New x e = refl
+insert_alone key value got (insert.Coming a) x e = approach_alone 0 key a x e
+insert_alone key value got (insert.Present y v) x e = absurd (cc e)
+insert_alone key value got (insert.Changing c) x e = absurd (change_never c x e)
+insert_alone key value got (insert.Ending r) x e = refl
+insert_alone key value got (insert.Over r) x e = refl
+
+delete_alone : (key : ℕ) (got : ℕ → Page) (a : DeleteStage) (x : ℕ) → delete_next_in a ≡ act.Latch x → (know_delete key got a).holds ≡ []
+delete_alone key got delete.New x e = refl
+delete_alone key got (delete.Coming a) x e = approach_alone 0 key a x e
+delete_alone key got (delete.Absent y) x e = absurd (cc e)
+delete_alone key got (delete.Changing v c) x e = absurd (change_never c x e)
+delete_alone key got (delete.Ending r) x e = refl
+delete_alone key got (delete.Over r) x e = refl
+
+post_alone : (level key : ℕ) (got : ℕ → Page) (child : ℕ) (a : PostStage) (x : ℕ) → post_next_in a ≡ act.Latch x → (know_post level key got child a).holds ≡ []
+post_alone level key got child post.New x e = refl
+post_alone level key got child (post.Coming a) x e = approach_alone level key a x e
+post_alone level key got child (post.Growing g) x e = growth_alone level key got g x e
+post_alone level key got child (post.Walking w) x e = absurd (cc e)
+post_alone level key got child (post.Changing c) x e = absurd (change_never c x e)
+post_alone level key got child (post.Staying y r) x e = absurd (cc e)
+post_alone level key got child (post.Ending r) x e = refl
+post_alone level key got child (post.Over r) x e = refl
+
+put_never : (sd : Side) (p : Puts) (x : ℕ) → put_of sd p ≢ act.Latch x
+put_never side.Left p x e = cc
+put_never side.Right p x e = cc
+
+squeeze_few : (level key : ℕ) (got : ℕ → Page) (c : Compression) (x : ℕ) (marks : Trail) → compression_next c ≡ act.Latch x → squeeze_log level key c marks → ((y : ℕ) → Keeps marks y → HoldsPage (know_squeeze level key got c).holds y) → HoldsFew level key marks
+squeeze_few level key got (LatchingLeft f) x marks e log h = inr (record { family = f; acts = _; at = log; no_more = λ y keeps. elim (h y keeps) [ inl i ↦ inl (sym i) | inr n ↦ absurd n ] })
+squeeze_few level key got (LatchingRight f c) x marks e log h = inr (record { family = f; acts = _; at = log.family; no_more = λ y keeps. elim (h y keeps) [ inl i ↦ inl (sym i) | inr n ↦ elim n [ inl j ↦ inr (sym j) | inr o ↦ absurd o ] ] })
+squeeze_few level key got (PuttingFirst p) x marks e log h = absurd (put_never p.gains p x e)
+squeeze_few level key got (PuttingLast p) x marks e log h = absurd (put_never (other p.gains) p x e)
+squeeze_few level key got old x marks e log h = absurd (cc e)
+
+compress_few : (level key : ℕ) (got : ℕ → Page) (a : CompressStage) (x : ℕ) (marks : Trail) → compress_next_in a ≡ act.Latch x → compress_log level key a marks → ((y : ℕ) → Keeps marks y → HoldsPage (know_compress level key got a).holds y) → HoldsFew level key marks
+compress_few level key got (compress.Coming a) x marks e log h = inl (λ y keeps. subst (λ hs. HoldsPage hs y) (approach_alone level key a x e) (h y keeps))
+compress_few level key got (compress.Compressing c) x marks e log h = squeeze_few level key got c x marks e log h
+compress_few level key got old x marks e log h = absurd (cc e)
+
+find_looks : (a : FindStage) → ((x : ℕ) → find_next_in a ≢ act.Latch x) × (find_next_in a ≢ act.Take) × ((x : ℕ) (c : Page) → find_next_in a ≢ act.Put x c)
+find_looks find.New = (λ x e. cc, λ e. cc, λ x c e. cc)
+find_looks find.AtAnchor = (λ x e. cc, λ e. cc, λ x c e. cc)
+find_looks (find.At y) = (λ x e. cc, λ e. cc, λ x c e. cc)
+find_looks (find.Ending v) = (λ x e. cc, λ e. cc, λ x c e. cc)
+find_looks (find.Over v) = (λ x e. cc, λ e. cc, λ x c e. cc)
+
+part_looks : (a : PartStage) → ((x : ℕ) → part_next_in a ≢ act.Latch x) × (part_next_in a ≢ act.Take) × ((x : ℕ) (c : Page) → part_next_in a ≢ act.Put x c)
+part_looks part.New = (λ x e. cc, λ e. cc, λ x c e. cc)
+part_looks part.AtAnchor = (λ x e. cc, λ e. cc, λ x c e. cc)
+part_looks (part.At y) = (λ x e. cc, λ e. cc, λ x c e. cc)
+part_looks (part.Ending r) = (λ x e. cc, λ e. cc, λ x c e. cc)
+part_looks (part.Over r) = (λ x e. cc, λ e. cc, λ x c e. cc)
+
+-- One turn
+
+-- what the process holds is what it knows to hold
+module _ (w : World Run) (p : Name) (g : IsGood bare w) (owned : AllOwned w) where
+  alone_turn : (m : Mark) → LatchesAlone (marks_of p w.trail) → ((x : ℕ) → m.event.act ≡ Latch x → (bare (w.proc p)).holds ≡ []) → LatchesAlone (marks_of p w.trail ++ m ∷ [])
+  alone_turn m h none = alone_on (marks_of p w.trail) m h (λ x y e keeps. subst (λ hs. HoldsPage hs y) (none x e) (g.owned.held y p (owned p y keeps)))
+
+  holds_kept : (k : Know) → bare (w.proc p) ≡ k → (y : ℕ) → Keeps (marks_of p w.trail) y → HoldsPage k.holds y
+  holds_kept k is y keeps = subst (λ (z : Know). HoldsPage z.holds y) is (g.owned.held y p (owned p y keeps))
+
+  looks_turn : (m : Mark) → OnlyLooks (marks_of p w.trail) → IsLook m.event.act → OnlyLooks (marks_of p w.trail ++ m ∷ [])
+  looks_turn m h none = looks_on (marks_of p w.trail) m h none
+
+  -- of a process of that state, which is told something of its next action
+  state_turn : (m : Mark) (got : ℕ → Page) (child time : ℕ) (old new : Proc) (what : Seen) → bare (w.proc p) ≡ know_of got child time old → proc_log old (marks_of p w.trail) → Takes old what new → m.event.act ≡ event_of (end_of_proc old) (next_of old) what → IsTidy old (marks_of p w.trail) → IsTidy new (marks_of p w.trail ++ m ∷ [])
+  state_turn m got child time (proc.Find a) (proc.Find c) what is log t e h = looks_turn m h (λ x. (let l = find_looks a.stage in (λ f. l.0 x (latch_next _ _ what x (sym e ∙ f)), λ f. l.1 (take_next _ _ what x (sym e ∙ f)), λ d f. l.2 x d (put_next _ _ what x d (sym e ∙ f)))))
+  state_turn m got child time (proc.Part a) (proc.Part c) what is log t e h = looks_turn m h (λ x. (let l = part_looks a.stage in (λ f. l.0 x (latch_next _ _ what x (sym e ∙ f)), λ f. l.1 (take_next _ _ what x (sym e ∙ f)), λ d f. l.2 x d (put_next _ _ what x d (sym e ∙ f)))))
+  state_turn m got child time (proc.Insert a) (proc.Insert c) what is log t e h = alone_turn m h (λ x f. ap (λ k. k.holds) is ∙ insert_alone a.key a.value got a.stage x (latch_next _ _ what x (sym e ∙ f)))
+  state_turn m got child time (proc.Delete a) (proc.Delete c) what is log t e h = alone_turn m h (λ x f. ap (λ k. k.holds) is ∙ delete_alone a.key got a.stage x (latch_next _ _ what x (sym e ∙ f)))
+  state_turn m got child time (proc.Post a) (proc.Post c) what is log t e h = alone_turn m h (λ x f. ap (λ k. k.holds) is ∙ post_alone a.level a.key got child a.stage x (latch_next _ _ what x (sym e ∙ f)))
+  state_turn m got child time (proc.Compress a) (proc.Compress c) what is log t e h =
+      let old : LatchesBeside a.level a.key (marks_of p w.trail ++ m ∷ []) = beside_on (marks_of p w.trail) m a.level a.key h (λ x f. compress_few a.level a.key got a.stage x (marks_of p w.trail) (latch_next _ _ what x (sym e ∙ f)) log (holds_kept (know_compress a.level a.key got a.stage) is)) in
+      subst (λ (z : ℕ × ℕ). LatchesBeside z.0 z.1 (marks_of p w.trail ++ m ∷ [])) (λ i. (sym t.0 i, sym t.1 i)) old
+  state_turn m got child time (proc.Reclaim a) (proc.Reclaim c) what is log t e h = tt
+  state_turn m got child time old new what is log t e h = absurd t
+
+  -- an act by which nothing is latched, taken or put leaves any process as it may be
+  still_turn : (m : Mark) (a : Proc) → IsLook m.event.act → IsTidy a (marks_of p w.trail) → IsTidy a (marks_of p w.trail ++ m ∷ [])
+  still_turn m (proc.Find a) looks h = looks_turn m h looks
+  still_turn m (proc.Part a) looks h = looks_turn m h looks
+  still_turn m (proc.Insert a) looks h = alone_turn m h (λ x f. absurd ((looks x).0 f))
+  still_turn m (proc.Delete a) looks h = alone_turn m h (λ x f. absurd ((looks x).0 f))
+  still_turn m (proc.Post a) looks h = alone_turn m h (λ x f. absurd ((looks x).0 f))
+  still_turn m (proc.Compress a) looks h = beside_on (marks_of p w.trail) m a.level a.key h (λ x f. absurd ((looks x).0 f))
+  still_turn m (proc.Reclaim a) looks h = tt
+
+-- what the others have done stays
+tidy_on : (w w' : World Run) (m : Mark) (b : Run) → Extends w w' m b → ((p : Name) → p ≡ m.event.process → IsTidy b.state (marks_of p w.trail ++ m ∷ [])) → AllTidy w → AllTidy w'
+tidy_on w w' m b e own all p = elim (name_cases m.event.process p) [
+  | inl i ↦
+      let marks : marks_of p w'.trail ≡ marks_of p w.trail ++ m ∷ [] = ap (marks_of p) e.trail ∙ marks_of-own p w.trail m i in
+      let proc : w'.proc p ≡ b = ap w'.proc (sym i) ∙ e.proc.at in
+      subst (λ (r : Run). IsTidy r.state (marks_of p w'.trail)) (sym proc) (subst (IsTidy b.state) (sym marks) (own p (sym i)))
+  | inr n ↦
+      let marks : marks_of p w'.trail ≡ marks_of p w.trail = ap (marks_of p) e.trail ∙ marks_of-other p w.trail m n in
+      let proc : w'.proc p ≡ w.proc p = e.proc.others p (λ i. n (sym i)) in
+      subst (λ (r : Run). IsTidy r.state (marks_of p w'.trail)) (sym proc) (subst (IsTidy (w.proc p).state) (sym marks) (all p))
+]
+
+-- A turn of a process that is told something of its next action.
+pub tidy_turn : (w w' : World Run) (m : Mark) (b : Run) (what : Seen) → Extends w w' m b → IsGood bare w → AllOwned w → proc_log (w.proc m.event.process).state (marks_of m.event.process w.trail) → Takes (w.proc m.event.process).state what b.state → m.event.act ≡ event_of (end_of_proc (w.proc m.event.process).state) (next_of (w.proc m.event.process).state) what → AllTidy w → AllTidy w'
+tidy_turn w w' m b what e g owned log t does all =
+    let r = w.proc m.event.process in
+    tidy_on w w' m b e (λ p i. subst (λ q. IsTidy b.state (marks_of q w.trail ++ m ∷ [])) (sym i) (state_turn w m.event.process g owned m r.got r.child r.time r.state b.state what refl log t does (all m.event.process))) all
+
+-- A turn at which the process stays as it is, and latches, takes and puts nothing.
+pub tidy_still : (w w' : World Run) (m : Mark) → Extends w w' m (w.proc m.event.process) → IsGood bare w → AllOwned w → IsLook m.event.act → AllTidy w → AllTidy w'
+tidy_still w w' m e g owned looks all = tidy_on w w' m (w.proc m.event.process) e (λ p i. subst (λ q. IsTidy (w.proc m.event.process).state (marks_of q w.trail ++ m ∷ [])) (sym i) (still_turn w m.event.process g owned m (w.proc m.event.process).state looks (all m.event.process))) all
+
+-- Who only looks latches alone.
+looks_alone : (marks : Trail) → OnlyLooks marks → LatchesAlone marks
+looks_alone marks h i m x y is does keeps = (h i m is x).0 does
+
+only_looks : (a : Proc) (marks : Trail) → IsSearch a → IsTidy a marks → OnlyLooks marks
+only_looks (proc.Find a) marks s h = h
+only_looks (proc.Part a) marks s h = h
+only_looks old marks s h = absurd s
+
+-- A search that gives up has only looked, and is then a post that is over.
+pub looks_up : (w : World Run) (p : Name) (state : Proc) (m : Mark) → AllTidy w → (w.proc p).state ≡ state → IsSearch state → IsLook m.event.act → OnlyLooks (marks_of p w.trail ++ m ∷ [])
+looks_up w p state m all is search looks = looks_on (marks_of p w.trail) m (only_looks state (marks_of p w.trail) search (subst (λ z. IsTidy z (marks_of p w.trail)) is (all p))) looks
+
+pub tidy_left : (w w' : World Run) (m : Mark) (b : Run) (post : Post) → Extends w w' m b → b.state ≡ proc.Post post → IsSearch (w.proc m.event.process).state → IsLook m.event.act → AllTidy w → AllTidy w'
+tidy_left w w' m b post e is search looks all =
+    let marks : Trail = marks_of m.event.process w.trail ++ m ∷ [] in
+    let alone : LatchesAlone marks = looks_alone marks (looks_up w m.event.process (w.proc m.event.process).state m all refl search looks) in
+    tidy_on w w' m b e (λ p i. subst (λ q. IsTidy b.state (marks_of q w.trail ++ m ∷ [])) (sym i) (subst (λ z. IsTidy z marks) (sym is) alone)) all
+
+-- A process that has done nothing yet
+
+none_at : {X : Type 0} (i : ℕ) (m : Mark) → slice_get {X = Mark} [] i ≡ Some m → X
+none_at i m e = absurd (cc e)
+
+nothing_done : (a : Proc) (marks : Trail) → marks ≡ [] → IsTidy a marks
+nothing_done (proc.Find a) marks e = λ i m is. none_at i m (sym (ap (λ (t : Trail). slice_get t i) e) ∙ is)
+nothing_done (proc.Part a) marks e = λ i m is. none_at i m (sym (ap (λ (t : Trail). slice_get t i) e) ∙ is)
+nothing_done (proc.Insert a) marks e = λ i m x y is does keeps. none_at i m (sym (ap (λ (t : Trail). slice_get t i) e) ∙ is)
+nothing_done (proc.Delete a) marks e = λ i m x y is does keeps. none_at i m (sym (ap (λ (t : Trail). slice_get t i) e) ∙ is)
+nothing_done (proc.Post a) marks e = λ i m x y is does keeps. none_at i m (sym (ap (λ (t : Trail). slice_get t i) e) ∙ is)
+nothing_done (proc.Compress a) marks e = λ i m x is does. none_at i m (sym (ap (λ (t : Trail). slice_get t i) e) ∙ is)
+nothing_done (proc.Reclaim a) marks e = tt
+
+-- enters a world
+pub tidy_enter : (w : World Run) (p : Name) (b : Run) → marks_of p w.trail ≡ [] → AllTidy w → AllTidy (with_proc w p b)
+tidy_enter w p b none all q = elim (name_cases q p) [
+  | inl i ↦ subst (λ (r : Run). IsTidy r.state (marks_of q w.trail)) (sym (ap (with_proc w p b).proc i ∙ (is_put_name p b w.proc).at)) (nothing_done b.state (marks_of q w.trail) (ap (λ n. marks_of n w.trail) i ∙ none))
+  | inr n ↦ subst (λ (r : Run). IsTidy r.state (marks_of q w.trail)) (sym ((is_put_name p b w.proc).others q n)) (all q)
+]
+
+-- A world in which nothing has happened.
+pub tidy_first : (w : World Run) → w.trail ≡ [] → AllTidy w
+tidy_first w e p = nothing_done (w.proc p).state (marks_of p w.trail) (ap (marks_of p) e)

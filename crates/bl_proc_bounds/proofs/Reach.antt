@@ -1,0 +1,232 @@
+-- In every good world a search has few gets ahead, wherever it may go next: few more than there are pages from a live page or
+-- from the anchor, and at most twice as many from a dead one.
+use Rattle.std.proofs.Common.{ℕ, ◌≡◌, ◌≢◌, ◌⊎◌, ◌≤◌, ◌<◌, ◌+◌, ◌*◌, ◌-◌, true, zero, suc, List, [], ◌∷◌, length, arith, ap, sym, ◌∙◌, refl, inl, inr, subst}
+use Rattle.std.proofs.lemmas.Bool.{cases_lt, false≢true}
+use Rattle.bl_page.specs.declared.page.Page.{Page}
+use Rattle.bl_page.specs.declared.page.Page.TheVariants.{Anchor, Leaf, Inner, Dead}
+use Rattle.bl_page.specs.Machine.{Name, Owner}
+use Rattle.bl_page.specs.Machine.Owner.{Released, Held, Retired}
+use Rattle.bl_claims.specs.Nodes.{Node, unbounded}
+use Rattle.bl_core_tree.specs.Trees.{Status, is_live, IsLive}
+use Rattle.bl_core_tree.specs.Trees.Status.{Free, Fresh, Live, Left, Right, Gone, Anchored}
+use Rattle.bl_core_tree.proofs.Statuses.{live_live, left_live, right_live, free_dead, not_anchor}
+use Rattle.bl_claims.specs.Pages.{node_of, roots_of, IsTreePage}
+use Rattle.bl_claims.specs.Walks.{Each, IsNoneOf, NoneTwice}
+use Rattle.bl_core_tree.proofs.LawsHold.{live}
+use Rattle.bl_core_tree.proofs.WalksEnd.{After, Walked, walk_from, at_most}
+use Rattle.bl_core.specs.Worlds.{Know, World, nodes, tree_of, was_in, MayGet, IsGood}
+use Rattle.bl_core.proofs.Steady.{free_not, fresh_not, anchored_not}
+use Rattle.bl_core.proofs.WorldLaws.{tree_page, all_sound}
+use Rattle.bl_proc_base.specs.declared.onwards.Step.TheVariants as onward
+use Rattle.bl_proc_base.specs.Onwards.{top_of, Leads}
+use Rattle.bl_proc_bounds.specs.Paces.{IsAhead}
+use Rattle.bl_proc_bounds.specs.Paces.IsAhead.{On, Again}
+use Rattle.bl_proc_bounds.proofs.Ahead.{walk_ahead}
+
+-- a page that was in the tree is live or dead
+live_or_gone : (s : Status) → was_in s ≡ true → IsLive s ⊎ (s ≡ Gone)
+live_or_gone Free h = absurd (false≢true (sym free_not ∙ h))
+live_or_gone Fresh h = absurd (false≢true (sym fresh_not ∙ h))
+live_or_gone Live h = inl live_live
+live_or_gone (Left y) h = inl (left_live y)
+live_or_gone (Right y) h = inl (right_live y)
+live_or_gone Gone h = inr refl
+live_or_gone Anchored h = absurd (false≢true (sym anchored_not ∙ h))
+
+After-not : (node : ℕ → Node) (x y : ℕ) → After node x y → x ≢ y
+After-not node x y a i = elim a [
+  | inl p ↦ absurd (let e : (node x).shape.level ≡ (node y).shape.level = ap (λ v. (node v).shape.level) i in omega arith)
+  | inr p ↦ absurd (let e : (node x).shape.end ≡ (node y).shape.end = ap (λ v. (node v).shape.end) i in omega (arith, p.1))
+]
+
+none_of : (node : ℕ → Node) (x : ℕ) (ys : List ℕ) → Each (After node x) ys → IsNoneOf x ys
+none_of node x [] h = tt
+none_of node x (y ∷ ys) h = (After-not node x y h.0, none_of node x ys h.1)
+
+each_map : (P Q : ℕ → Type 0) (xs : List ℕ) → ((x : ℕ) → P x → Q x) → Each P xs → Each Q xs
+each_map P Q [] f h = tt
+each_map P Q (x ∷ xs) f h = (f x h.0, each_map P Q xs f h.1)
+
+none_each : (P : ℕ → Type 0) (x : ℕ) (ys : List ℕ) → ((y : ℕ) → P y → x ≢ y) → Each P ys → IsNoneOf x ys
+none_each P x [] f h = tt
+none_each P x (y ∷ ys) f h = (f y h.0, none_each P x ys f h.1)
+
+-- page 0 names levels
+names_levels : (c : Page) (k : ℕ) → 0 < (roots_of c).levels → Leads c k 0 onward.Again
+names_levels (Anchor a) k h = (λ d. d, λ t. absurd t)
+names_levels old k h = absurd (omega arith)
+
+-- what covers no key leads to its right, or to the anchor
+gone_leads : (c : Page) (k : ℕ) → (node_of c).shape.end ≡ 0 → Leads c k 0 (onward.Right (node_of c).shape.right) ⊎ Leads c k 0 onward.Again
+gone_leads (Anchor a) k h = inr (λ d. d, λ t. absurd t)
+gone_leads (Leaf l) k h = inl (refl, inr (tt, omega arith))
+gone_leads (Inner i) k h = inl (refl, inr (tt, omega arith))
+gone_leads (Dead d) k h = inl (refl, inl tt)
+
+-- retired after that time, if it is
+abbrev IsLater : (ℕ → Owner) → ℕ → ℕ → Type 0
+IsLater owner time y = (t : ℕ) → owner y ≡ Retired t → time < t
+
+-- From the dead page x on a search meets these dead pages, each retired later than the one before; the last leads to a page of
+-- the tree, or to the anchor. So it meets none twice.
+record Buried (contents : ℕ → Page) (owner : ℕ → Owner) (status : ℕ → Status) (size k x : ℕ) : Type 0 where
+  pub rest : List ℕ
+  pub gets : ℕ
+  pub more : ℕ
+  pub ahead : IsAhead contents k x gets
+  pub count : gets ≡ suc (length rest) + more
+  pub few : more ≤ suc size
+  pub dead : Each (λ y. status y ≡ Gone) rest
+  pub later : (time : ℕ) → owner x ≡ Retired time → Each (IsLater owner time) rest
+  pub alone : (q : Name) → owner x ≡ Held q → rest ≡ []
+  pub once : NoneTwice (x ∷ rest)
+
+-- so many gets are ahead of a search that is to get page x, at most so many
+pub record Near (contents : ℕ → Page) (k x most : ℕ) : Type 0 where
+  pub gets : ℕ
+  pub ahead : IsAhead contents k x gets
+  pub few : gets ≤ most
+
+module _ {P : Type 0} (know : P → Know) (w : World P) (g : IsGood know w) (k : ℕ) (b : k < unbounded) where
+  live_small : (x : ℕ) → live (tree_of w) x → x < w.size
+  live_small x h = g.owned.small x (λ e. false≢true (sym free_dead ∙ (ap is_live (sym e) ∙ h)))
+
+  live_other : (x : ℕ) → live (tree_of w) x → 0 ≢ x
+  live_other x h = not_anchor w.status x h g.tree.anchored
+
+  anchor_small : 0 < w.size
+  anchor_small = g.owned.small 0 (λ e. (let a = g.tree.anchored in cc))
+
+  -- the walk from a live page on meets each page once, and not the anchor
+  walk_short : (x : ℕ) → (v : Walked (tree_of w) k x) → suc (suc (length v.rest)) ≤ w.size
+  walk_short x v =
+      at_most w.size (0 ∷ x ∷ v.rest)
+      ((live_other x v.begins, none_each (live (tree_of w)) 0 v.rest live_other v.lives), (none_of (nodes w.now) x v.rest v.after, v.once))
+      (anchor_small, (live_small x v.begins, each_map (live (tree_of w)) (λ y. y < w.size) v.rest live_small v.lives))
+
+  walked : (x : ℕ) → (v : Walked (tree_of w) k x) → IsAhead w.now.contents k x (suc (length v.rest))
+  walked x v = walk_ahead w.now.contents k x v.leaf (x ∷ v.rest) (tree_page know w x g v.begins, each_map (live (tree_of w)) (λ y. IsTreePage (w.now.contents y)) v.rest (λ y h. tree_page know w y g h) v.lives) v.walk
+
+  -- from the leftmost page of the top level
+  pub top_near : Near w.now.contents k (top_of (roots_of (w.now.contents 0))) (w.size - 1)
+  top_near =
+      let some = g.tree.some_level in
+      let x = top_of (roots_of (w.now.contents 0)) in
+      let o = g.tree.leftmost ((roots_of (w.now.contents 0)).levels - 1) (omega arith) in
+      let low = g.tree.side.sep_low x o.alive in
+      let v : Walked (tree_of w) k x = walk_from k ((roots_of (w.now.contents 0)).levels - 1) x g.tree (all_sound know w g) b o.alive o.level_is (omega (arith, o.sep_is)) in
+      record { gets = suc (length v.rest); ahead = walked x v; few = (let s = walk_short x v in omega arith) }
+
+  -- from a live page
+  live_near : (x : ℕ) → live (tree_of w) x → Near w.now.contents k x (suc w.size)
+  live_near x h = elim (cases_lt k (nodes w.now x).shape.low) [
+    | inl below ↦
+        let t = top_near in
+        let few = t.few in
+        let some = anchor_small in
+        let page = tree_page know w x g h in
+        let not_dead_page : Leads (w.now.contents x) k 0 onward.Again = again (w.now.contents x) page below in
+        record { gets = suc (suc t.gets); ahead = Again not_dead_page t.ahead; few = omega arith }
+    | inr from ↦
+        let v : Walked (tree_of w) k x = walk_from k (nodes w.now x).shape.level x g.tree (all_sound know w g) b h refl from in
+        record { gets = suc (length v.rest); ahead = walked x v; few = (let s = walk_short x v in omega arith) }
+  ]
+    where
+      again : (c : Page) → IsTreePage c → k < (node_of c).shape.low → Leads c k 0 onward.Again
+      again (Anchor a) t l = absurd t
+      again (Leaf a) t l = (λ d. d, λ u. inl l)
+      again (Inner a) t l = (λ d. d, λ u. inl l)
+      again (Dead a) t l = absurd t
+
+  -- who owns a dead page
+  dead_owner : (x : ℕ) → w.status x ≡ Gone → ((q : Name) × (w.now.owner x ≡ Held q)) ⊎ ((t : ℕ) × (w.now.owner x ≡ Retired t))
+  dead_owner x h = by_owner (w.now.owner x) refl
+    where
+      by_owner : (o : Owner) → w.now.owner x ≡ o → ((q : Name) × (w.now.owner x ≡ Held q)) ⊎ ((t : ℕ) × (w.now.owner x ≡ Retired t))
+      by_owner Released e = let f = g.owned.released x e in cc
+      by_owner Owner.Open e = elim (g.owned.opened x e) [ inl o ↦ cc | inr o ↦ cc ]
+      by_owner (Held q) e = inl (q, e)
+      by_owner (Retired t) e = inr (t, e)
+
+  -- a dead page from which the way begins again, or that leads to a page of the tree
+  buried_again : (x : ℕ) → Leads (w.now.contents x) k 0 onward.Again → Buried w.now.contents w.now.owner w.status w.size k x
+  buried_again x h =
+      let t = top_near in
+      let few = t.few in
+      record { rest = []; gets = suc (suc t.gets); more = suc t.gets; ahead = Again h t.ahead; count = omega arith; few = omega arith; dead = tt; later = λ time o. tt; alone = λ q o. refl; once = (tt, tt) }
+
+  buried_last : (x y : ℕ) → Leads (w.now.contents x) k 0 (onward.Right y) → live (tree_of w) y → Buried w.now.contents w.now.owner w.status w.size k x
+  buried_last x y h l =
+      let n = live_near y l in
+      record { rest = []; gets = suc n.gets; more = n.gets; ahead = On (inl h) n.ahead; count = omega arith; few = n.few; dead = tt; later = λ time o. tt; alone = λ q o. refl; once = (tt, tt) }
+
+  -- a dead page that leads to a dead page
+  buried_more : (x y time : ℕ) → w.now.owner x ≡ Retired time → IsLater w.now.owner time y → w.status y ≡ Gone → Leads (w.now.contents x) k 0 (onward.Right y) → Buried w.now.contents w.now.owner w.status w.size k y → Buried w.now.contents w.now.owner w.status w.size k x
+  buried_more x y time o after gone h r =
+      let all : Each (IsLater w.now.owner time) (y ∷ r.rest) = (
+        after,
+        elim (dead_owner y gone) [
+          | inl held ↦ rw (r.alone held.0 held.1) tt
+          | inr retired ↦
+              let less = after retired.0 retired.1 in
+              each_map (IsLater w.now.owner retired.0) (IsLater w.now.owner time) r.rest (λ z f t e. (let l = f t e in omega arith)) (r.later retired.0 retired.1)
+        ],
+      ) in
+      record {
+        rest = y ∷ r.rest;
+        gets = suc r.gets;
+        more = r.more;
+        ahead = On (inl h) r.ahead;
+        count = (let c = r.count in omega arith);
+        few = r.few;
+        dead = (gone, r.dead);
+        later = λ t e. (let v : Retired t ≡ Retired time = sym e ∙ o in let i : t ≡ time = cc in subst (λ s. Each (IsLater w.now.owner s) (y ∷ r.rest)) (sym i) all);
+        alone = λ q e. (let v : Held q ≡ Retired time = sym e ∙ o in absurd (cc v));
+        once = (none_each (IsLater w.now.owner time) x (y ∷ r.rest) (λ z f i. (let l = f time (ap w.now.owner (sym i) ∙ o) in omega arith)) all, r.once);
+      }
+
+  -- The clock bounds how many dead pages there are behind one that is retired.
+  buried : (n : ℕ) (p : Name) (x : ℕ) → MayGet w p x → w.status x ≡ Gone → ((t : ℕ) → w.now.owner x ≡ Retired t → w.now.clock ≤ t + n) → Buried w.now.contents w.now.owner w.status w.size k x
+  buried zero p x may gone late = elim (dead_owner x gone) [
+    | inl held ↦ elim (gone_leads (w.now.contents x) k (g.gone x gone).end) [
+      | inl h ↦ buried_last x (nodes w.now x).shape.right h ((g.gone x gone).not_yet held.0 held.1).1
+      | inr h ↦ buried_again x h
+    ]
+    | inr retired ↦ absurd (let before = (g.owned.retired x retired.0 retired.1).1 in let after = late retired.0 retired.1 in omega arith)
+  ]
+  buried (suc n) p x may gone late = elim (gone_leads (w.now.contents x) k (g.gone x gone).end) [
+    | inr h ↦ buried_again x h
+    | inl h ↦ elim (dead_owner x gone) [
+      | inl held ↦ buried_last x (nodes w.now x).shape.right h ((g.gone x gone).not_yet held.0 held.1).1
+      | inr retired ↦
+          let on = (g.gone x gone).leads p may in
+          elim (live_or_gone (w.status (nodes w.now x).shape.right) on.0.was) [
+            | inl l ↦ buried_last x (nodes w.now x).shape.right h l
+            | inr dead ↦
+                let after : IsLater w.now.owner retired.0 (nodes w.now x).shape.right = λ t e. (g.gone x gone).later p retired.0 t may retired.1 e in
+                buried_more x (nodes w.now x).shape.right retired.0 retired.1 after dead h
+                (buried n p (nodes w.now x).shape.right on.0 dead (λ t e. (let less = after t e in let l = late retired.0 retired.1 in omega arith)))
+          ]
+    ]
+  ]
+
+  gone_small : (x : ℕ) → w.status x ≡ Gone → x < w.size
+  gone_small x h = g.owned.small x (λ e. cc)
+
+  gone_other : (x : ℕ) → w.status x ≡ Gone → 0 ≢ x
+  gone_other x h i = (let a = g.tree.anchored in let e : w.status x ≡ Anchored = ap w.status (sym i) ∙ a in cc)
+
+  -- from any page that it may get
+  pub page_near : (p : Name) (x : ℕ) → MayGet w p x → Near w.now.contents k x (2 * w.size)
+  page_near p x may = elim (live_or_gone (w.status x) may.was) [
+    | inl l ↦ (let n = live_near x l in let few = n.few in let some = anchor_small in record { gets = n.gets; ahead = n.ahead; few = omega arith })
+    | inr gone ↦
+        let r = buried w.now.clock p x may gone (λ t e. omega arith) in
+        let short : suc (suc (length r.rest)) ≤ w.size =
+        at_most w.size (0 ∷ x ∷ r.rest)
+        ((gone_other x gone, none_each (λ y. w.status y ≡ Gone) 0 r.rest gone_other r.dead), r.once)
+        (anchor_small, (gone_small x gone, each_map (λ y. w.status y ≡ Gone) (λ y. y < w.size) r.rest gone_small r.dead)) in
+        let count = r.count in
+        let few = r.few in
+        record { gets = r.gets; ahead = r.ahead; few = omega arith }
+  ]

@@ -1,0 +1,197 @@
+//! The steps of a compression.
+
+ghost use Rattle.std.specs.Prelude.{◌≡◌, ◌<◌, ◌≤◌, None};
+ghost use Rattle.bl_page.specs.declared.page.Page.TheVariants as page;
+ghost use Rattle.bl_page.specs.Pairs.{IsWithin};
+ghost use Rattle.bl_proc_base.specs.declared.onwards.Step.TheVariants as onward;
+ghost use Rattle.bl_proc_compress.specs.declared.squeezing.CompressStage.TheVariants as compress_stage;
+ghost use Rattle.bl_proc_base.specs.Given.{Gives};
+ghost use Rattle.bl_proc_base.specs.Onwards.{Leads};
+ghost use Rattle.bl_proc_compress.specs.Compresses.{compress_reply, compressed_answer, compress_next_in, compress_needs_in, compress_answer_in, CompressStarts, CompressArrives, CompressNears, CompressComes, CompressGoes, compress_next, compress_needs, compress_answer, CompressTakes};
+
+use crate::compressing::{Compressed, Compression, Fate};
+use crate::families::siblings;
+use crate::squeezing::{Compress, CompressReply, CompressStage};
+use bl_page::{Inner, Page};
+use bl_proc_base::{
+    Action, Answer, Approach, Approached, Process, Reader, Seen, Squeezed, entered, levels_of,
+};
+use std::mem;
+
+/// What a compression answers by what became of the children, if it does not begin again.
+fn reply_of(fate: Fate) -> Option<CompressReply>
+    ensures { result ≡ compress_reply fate }
+{
+    match fate {
+        Fate::Merged(hint) => Some(CompressReply::Merged(hint)),
+        Fate::Evened => Some(CompressReply::Evened),
+        Fate::Enough => Some(CompressReply::Enough),
+        Fate::Unposted(hint) => Some(CompressReply::Unposted(hint)),
+        Fate::Refused => Some(CompressReply::NoRoom),
+        Fate::Lost => None,
+    }
+}
+
+/// At the anchor.
+fn started(level: u32, key: u64, anchor: Page) -> CompressStage
+    ensures { CompressStarts level key anchor result }
+{
+    if levels_of(&anchor) <= level {
+        CompressStage::Ending(CompressReply::Alone)
+    } else {
+        CompressStage::Coming(entered(level, &anchor))
+    }
+}
+
+/// At a parent that is an inner page.
+fn arrived_at_inner(key: u64, at: u32, parent: Inner) -> CompressStage
+    requires { IsWithin parent.low parent.high key }
+    ensures { CompressArrives key at (page.Inner parent) result }
+{
+    match siblings(at, parent, key) {
+        Some(family) => CompressStage::Compressing(Compression::LatchingLeft(family)),
+        None => CompressStage::Staying(at),
+    }
+}
+
+/// At the parent.
+fn arrived(level: u32, key: u64, at: u32, page: Page) -> CompressStage
+    requires above_leaves { 0 < level }
+    requires here { Leads page key level onward.Here }
+    ensures { CompressArrives key at page result }
+{
+    match page {
+        Page::Inner(parent) => arrived_at_inner(key, at, parent),
+        _ => unreachable!(),
+    }
+}
+
+/// On the way to the parent, past the anchor.
+fn neared(level: u32, key: u64, approach: Approach, seen: Seen) -> CompressStage
+    requires above_leaves { 0 < level }
+    requires given { Gives (compress_next_in (compress_stage.Coming approach)) None seen }
+    ensures { CompressNears level key approach seen result }
+{
+    match approach.took(level, key, seen) {
+        Approached::On(approach) => CompressStage::Coming(approach),
+        Approached::Here(at, page) => arrived(level, key, at, page),
+    }
+}
+
+/// On the way to the parent.
+fn came(level: u32, key: u64, approach: Approach, seen: Seen) -> CompressStage
+    requires above_leaves { 0 < level }
+    requires given { Gives (compress_next_in (compress_stage.Coming approach)) None seen }
+    ensures { CompressComes level key approach seen result }
+{
+    match approach {
+        Approach::Start => match seen {
+            Seen::Words(anchor) => started(level, key, anchor),
+            _ => unreachable!(),
+        },
+        Approach::At(_) | Approach::Latching(_) | Approach::Latched(_) | Approach::Leaving(_, _) =>
+            neared(level, key, approach, seen),
+    }
+}
+
+/// On with the children.
+fn squeezed(level: u32, key: u64, compression: Compression, seen: Seen) -> CompressStage
+    requires { Gives (compress_next_in (compress_stage.Compressing compression)) (compress_needs_in (compress_stage.Compressing compression)) seen }
+    ensures { CompressGoes level key (compress_stage.Compressing compression) seen result }
+{
+    match compression.took(seen) {
+        Compressed::On(compression) => CompressStage::Compressing(compression),
+        Compressed::Over(fate) => match reply_of(fate) {
+            Some(reply) => CompressStage::Ending(reply),
+            None => CompressStage::Coming(Approach::Start),
+        },
+    }
+}
+
+fn went(level: u32, key: u64, stage: CompressStage, seen: Seen) -> CompressStage
+    requires above_leaves { 0 < level }
+    requires running { compress_answer_in stage ≡ None }
+    requires given { Gives (compress_next_in stage) (compress_needs_in stage) seen }
+    ensures { CompressGoes level key stage seen result }
+{
+    match stage {
+        CompressStage::New => CompressStage::Coming(Approach::Start),
+        CompressStage::Coming(approach) => came(level, key, approach, seen),
+        CompressStage::Compressing(compression) => squeezed(level, key, compression, seen),
+        CompressStage::Staying(_) => CompressStage::Ending(CompressReply::Alone),
+        CompressStage::Ending(reply) => CompressStage::Over(reply),
+        CompressStage::Over(_) => unreachable!(),
+    }
+}
+
+/// The answer of a compression.
+fn answer_of(reply: &CompressReply) -> Answer
+    ensures { result ≡ compressed_answer reply.now }
+{
+    match reply {
+        CompressReply::Merged(hint) => Answer::Compress(Squeezed::Merged, *hint),
+        CompressReply::Evened => Answer::Compress(Squeezed::Evened, None),
+        CompressReply::Enough => Answer::Compress(Squeezed::Enough, None),
+        CompressReply::Alone => Answer::Compress(Squeezed::Alone, None),
+        CompressReply::Unposted(hint) => Answer::Compress(Squeezed::Unposted, Some(*hint)),
+        CompressReply::NoRoom => Answer::Compress(Squeezed::NoRoom, None),
+    }
+}
+
+impl Compress {
+    /// A compression that is to begin.
+    pub fn new(level: u32, key: u64) -> Compress
+        requires least { 0 < level }
+        requires most { level ≤ 12 }
+        ensures level { result.level ≡ level }
+        ensures key { result.key ≡ key }
+        ensures stage { result.stage ≡ compress_stage.New }
+    {
+        Compress {
+            level,
+            key,
+            stage: CompressStage::New,
+        }
+    }
+}
+
+impl Process for Compress {
+    ghost next_of = { compress_next };
+
+    ghost needs_of = { compress_needs };
+
+    ghost answer_of = { compress_answer };
+
+    ghost Takes = { CompressTakes };
+
+    fn next(&self) -> Action {
+        match &self.stage {
+            CompressStage::New => Action::Begin,
+            CompressStage::Coming(approach) => approach.next(),
+            CompressStage::Compressing(compression) => compression.next(),
+            CompressStage::Staying(at) => Action::Open(*at),
+            CompressStage::Ending(_) | CompressStage::Over(_) => Action::End,
+        }
+    }
+
+    fn needs(&self) -> Option<(u32, u32)> {
+        match &self.stage {
+            CompressStage::Compressing(compression) => compression.needs(),
+            _ => None,
+        }
+    }
+
+    fn answer(&self) -> Option<Answer> {
+        match &self.stage {
+            CompressStage::Over(reply) => Some(answer_of(reply)),
+            _ => None,
+        }
+    }
+
+    fn took(&mut self, seen: Seen) {
+        let stage = mem::replace(&mut self.stage, CompressStage::New);
+        self.stage = went(self.level, self.key, stage, seen);
+    }
+}
+
+impl Reader for Compress {}

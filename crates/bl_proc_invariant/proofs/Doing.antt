@@ -1,0 +1,328 @@
+-- What a compression has done, and one mark more.
+use Rattle.std.proofs.Common.{ℕ, ◌≡◌, ◌⊎◌, ◌<◌, ◌++◌, List, [], ◌∷◌, Option, None, Some, ap, sym, ◌∙◌, refl, subst, inl, inr, append_assoc, append-nil}
+use Rattle.bl_model.specs.declared.operation.Reply.{Reply}
+use Rattle.bl_page.specs.declared.page.Page.{Page}
+use Rattle.bl_page.specs.declared.page.Page.TheVariants.{Inner as InnerPage}
+use Rattle.bl_page.specs.Machine.{Act}
+use Rattle.bl_page.specs.Machine.Act.{Get, Put, Latch, Retire, Miss}
+use Rattle.bl_claims.specs.Pages.{node_of}
+use Rattle.bl_rearrange.specs.declared.sides.Side.{Side}
+use Rattle.bl_rearrange.specs.declared.sides.Side.TheVariants as side
+use Rattle.bl_claims.specs.Trails.{Mark, Trail}
+use Rattle.bl_claims.specs.Meanings.{writes_in, writes_of}
+use Rattle.bl_core.proofs.Meant.{writes_of-append, begun_now, wrote_still, got_on, got_last}
+use Rattle.bl_proc_base.specs.declared.acts.Seen.{Seen}
+use Rattle.bl_proc_base.specs.declared.acts.Seen.TheVariants as seen
+use Rattle.bl_proc_base.specs.declared.answers.Hint.{Hint}
+use Rattle.bl_proc_base.specs.declared.onwards.Step.TheVariants.{Here}
+use Rattle.bl_proc_base.specs.declared.approaching.Approach.{Approach}
+use Rattle.bl_proc_base.specs.declared.approaching.Approach.TheVariants as way
+use Rattle.bl_proc_base.specs.declared.approaching.Approached.TheVariants as came
+use Rattle.bl_proc_compress.specs.declared.compressing.Trio.{Trio}
+use Rattle.bl_proc_compress.specs.declared.compressing.Family.{Family}
+use Rattle.bl_proc_compress.specs.declared.compressing.Puts.{Puts}
+use Rattle.bl_proc_compress.specs.declared.compressing.Fate.{Fate}
+use Rattle.bl_proc_compress.specs.declared.compressing.Fate.TheVariants as fate
+use Rattle.bl_proc_compress.specs.declared.compressing.Compression.{Compression}
+use Rattle.bl_proc_compress.specs.declared.compressing.Compression.TheVariants.{LatchingLeft, LatchedLeft, LatchingRight, LatchedRight, PuttingFirst, PuttingParent, PuttingLast, Retiring, OpeningRight, OpeningLeft, OpeningParent}
+use Rattle.bl_proc_compress.specs.declared.compressing.Compressed.TheVariants as step
+use Rattle.bl_proc_base.specs.Onwards.{Leads}
+use Rattle.bl_proc_base.specs.Approaches.{approach_next, Approaches}
+use Rattle.bl_proc_compress.specs.Compressions.{put_of, other, after_puts, AreSiblings, Links, Decides, compression_next}
+use Rattle.bl_proc_compress.specs.declared.squeezing.CompressReply.{CompressReply}
+use Rattle.bl_proc_compress.specs.declared.squeezing.CompressReply.TheVariants as reply
+use Rattle.bl_proc_compress.specs.declared.squeezing.CompressStage.{CompressStage}
+use Rattle.bl_proc_compress.specs.declared.squeezing.CompressStage.TheVariants as compress
+use Rattle.bl_proc_compress.specs.Compresses.{compress_reply, compress_next_in, CompressArrives}
+use Rattle.bl_proc_invariant.specs.Turns.{event_of}
+use Rattle.bl_proc_meanings.specs.Squeezed.{acts_in, acts_of, Unwritten, Since, AtFamily, AtLeft, AtBoth, to_right, put_act, to_last, Once, IsToSqueeze}
+use Rattle.bl_proc_invariant.specs.Logs.{way_log, fate_log, squeeze_log, pressed_log, compress_log}
+use Rattle.bl_proc_invariant.proofs.Logging.{latched_on, approach_writes}
+use Rattle.bl_proc_unique.proofs.WayCases.{approach_case, SqueezeCase, squeeze_case}
+use Rattle.bl_proc_unique.proofs.KindCases.{CompressCase}
+
+acts_of-push : (ms : Trail) (m : Mark) → acts_of (ms ++ m ∷ []) ≡ acts_of ms ++ acts_in m.event.act
+acts_of-push [] m = append-nil (acts_in m.event.act)
+acts_of-push (n ∷ ms) m = ap (λ z. acts_in n.event.act ++ z) (acts_of-push ms m) ∙ sym (append_assoc (acts_in n.event.act) (acts_of ms) (acts_in m.event.act))
+
+acts_of-append : (xs ys : Trail) → acts_of (xs ++ ys) ≡ acts_of xs ++ acts_of ys
+acts_of-append [] ys = refl
+acts_of-append (m ∷ ms) ys = ap (λ z. acts_in m.event.act ++ z) (acts_of-append ms ys) ∙ sym (append_assoc (acts_in m.event.act) (acts_of ms) (acts_of ys))
+
+-- what of a list of acts writes
+abbrev writes_among : List (Act Page Reply) → List (Act Page Reply)
+writes_among [] = []
+writes_among (a ∷ more) = writes_in a ++ writes_among more
+
+among_done : (a : Act Page Reply) (rest : List (Act Page Reply)) → writes_among (acts_in a ++ rest) ≡ writes_in a ++ writes_among rest
+among_done Act.Begin rest = refl
+among_done (Act.End answer) rest = refl
+among_done (Get x) rest = refl
+among_done (Put x c) rest = refl
+among_done (Act.Take x) rest = refl
+among_done (Latch x) rest = refl
+among_done (Act.Open x) rest = refl
+among_done (Retire x) rest = refl
+among_done (Act.Look what) rest = refl
+among_done (Act.Release x) rest = refl
+among_done Miss rest = refl
+
+writes_of-acts : (ms : Trail) → writes_of ms ≡ writes_among (acts_of ms)
+writes_of-acts [] = refl
+writes_of-acts (m ∷ ms) = ap (λ z. writes_in m.event.act ++ z) (writes_of-acts ms) ∙ sym (among_done m.event.act (acts_of ms))
+
+-- since the latch nothing was written
+since_unwritten : {ms : Trail} {x : ℕ} {acts : List (Act Page Reply)} → writes_among acts ≡ [] → Since ms x acts → Unwritten ms
+since_unwritten none h = record {
+  earlier = h.first.earlier;
+  begin = h.first.begin;
+  since = h.first.since ++ h.latch ∷ h.during;
+  split = h.split ∙ (ap (λ z. z ++ h.latch ∷ h.during) h.first.split ∙ append_assoc h.first.earlier (h.first.begin ∷ h.first.since) (h.latch ∷ h.during));
+  begun = h.first.begun;
+  is = writes_of-append h.first.since (h.latch ∷ h.during)
+      ∙ (ap (λ z. z ++ writes_of (h.latch ∷ h.during)) h.first.is ∙ (ap (λ z. writes_in z ++ writes_of h.during) h.latched ∙ (writes_of-acts h.during ∙ (ap writes_among h.acts_are ∙ none))));
+}
+
+-- which of the two children a put is of
+put_event : (sd : Side) (u : Puts) → event_of None (put_of sd u) seen.Done ≡ put_act sd u
+put_event side.Left u = refl
+put_event side.Right u = refl
+
+refused_event : (sd : Side) (u : Puts) → event_of None (put_of sd u) seen.Refused ≡ Miss
+refused_event side.Left u = refl
+refused_event side.Right u = refl
+
+act_put : (sd : Side) (u : Puts) → acts_in (put_act sd u) ≡ put_act sd u ∷ []
+act_put side.Left u = refl
+act_put side.Right u = refl
+
+-- what is decided is a merge or an evening
+decided_fate : (f : Family) (c d : Page) (u : Puts) → Decides f c d (PuttingFirst u) → ((hint : Option Hint) × (u.fate ≡ fate.Merged hint)) ⊎ (u.fate ≡ fate.Evened)
+decided_fate f c d u h = elim h [ inl m ↦ inl (_, m.1.fate) | inr v ↦ inr v.fate ]
+
+decided_at : (f : Family) (c d : Page) (u : Puts) → Decides f c d (PuttingFirst u) → u.at ≡ f.at
+decided_at f c d u h = elim h [ inl m ↦ m.1.at | inr v ↦ v.at ]
+
+module _ (ms : Trail) (m : Mark) where
+  abbrev more : Trail
+  more = ms ++ m ∷ []
+
+  unwritten_on : writes_in m.event.act ≡ [] → Unwritten ms → Unwritten more
+  unwritten_on quiet h = wrote_still ms m (λ acts. acts ≡ []) quiet h
+
+  since_now : (x : ℕ) → m.event.act ≡ Latch x → Unwritten ms → Since more x []
+  since_now x e first = record { before = ms; first = first; latch = m; during = []; split = refl; latched = e; acts_are = refl }
+
+  abbrev since_on : {x : ℕ} {acts : List (Act Page Reply)} (new : List (Act Page Reply)) → acts_in m.event.act ≡ new → Since ms x acts → Since more x (acts ++ new)
+  since_on {x} {acts} new did h = record {
+    before = h.before;
+    first = h.first;
+    latch = h.latch;
+    during = h.during ++ m ∷ [];
+    split = ap (λ z. z ++ m ∷ []) h.split ∙ append_assoc h.before (h.latch ∷ h.during) (m ∷ []);
+    latched = h.latched;
+    acts_are = acts_of-push h.during m ∙ (ap (λ z. z ++ acts_in m.event.act) h.acts_are ∙ ap (λ z. acts ++ z) did);
+  }
+
+  abbrev family_on : {level key : ℕ} {f : Family} {acts : List (Act Page Reply)} (new : List (Act Page Reply)) → acts_in m.event.act ≡ new → AtFamily level key ms f acts → AtFamily level key more f (acts ++ new)
+  family_on new did h = record { since = since_on new did h.since; got = got_on h.since.during m h.got; level_is = h.level_is; covers = h.covers; siblings = h.siblings }
+
+  abbrev left_on : {level key : ℕ} {f : Family} {c : Page} {acts : List (Act Page Reply)} (new : List (Act Page Reply)) → acts_in m.event.act ≡ new → AtLeft level key ms f c acts → AtLeft level key more f c (acts ++ new)
+  left_on new did h = record { family = family_on new did h.family; got = got_on h.family.since.during m h.got }
+
+  abbrev both_on : {level key : ℕ} {f : Family} {c d : Page} {acts : List (Act Page Reply)} (new : List (Act Page Reply)) → acts_in m.event.act ≡ new → AtBoth level key ms f c d acts → AtBoth level key more f c d (acts ++ new)
+  both_on new did h = record { left = left_on new did h.left; got = got_on h.left.family.since.during m h.got }
+
+  puts_on : {level key : ℕ} {u : Puts} {acts : List (Act Page Reply)} (new : List (Act Page Reply)) → acts_in m.event.act ≡ new → IsToSqueeze level key ms u acts → IsToSqueeze level key more u (acts ++ new)
+  puts_on new did h = record { family = h.family; left = h.left; right = h.right; at = h.at; both = both_on new did h.both; decided = h.decided }
+
+  -- the left child was got just now, and the right one
+  left_got : {level key : ℕ} {f : Family} {acts : List (Act Page Reply)} (c : Page) → m.event.act ≡ Get f.at.left → m.saw ≡ Some c → AtFamily level key ms f acts → AtLeft level key more f c (acts ++ Get f.at.left ∷ [])
+  left_got {level} {key} {f} c did saw h = record { family = family_on (Get f.at.left ∷ []) (ap acts_in did) h; got = got_last h.since.during m did saw }
+
+  right_got : {level key : ℕ} {f : Family} {c : Page} {acts : List (Act Page Reply)} (d : Page) → m.event.act ≡ Get f.at.right → m.saw ≡ Some d → AtLeft level key ms f c acts → AtBoth level key more f c d (acts ++ Get f.at.right ∷ [])
+  right_got {level} {key} {f} d did saw h = record { left = left_on (Get f.at.right ∷ []) (ap acts_in did) h; got = got_last h.family.since.during m did saw }
+
+  -- it was done once, and stays done; or was done just now
+  abbrev once_on : {Then : Trail → Type 0} → writes_in m.event.act ≡ [] → Once ms Then → Once more Then
+  once_on put h = record {
+    until = h.until;
+    after = h.after ++ m ∷ [];
+    split = ap (λ z. z ++ m ∷ []) h.split ∙ append_assoc h.until h.after (m ∷ []);
+    no_more = writes_of-append h.after (m ∷ []) ∙ (ap (λ z. z ++ writes_of (m ∷ [])) h.no_more ∙ ap (λ z. z ++ []) put);
+    is = h.is;
+  }
+
+  abbrev once_now : {Then : Trail → Type 0} → Then more → Once more Then
+  once_now h = record { until = more; after = []; split = sym (append-nil more); no_more = refl; is = h }
+
+  module _ (level key : ℕ) where
+    fate_on : (ended : Fate) → writes_in m.event.act ≡ [] → fate_log level key ended ms → fate_log level key ended more
+    fate_on (fate.Merged hint) put h = once_on put h
+    fate_on fate.Evened put h = once_on put h
+    fate_on fate.Enough put h = once_on put h
+    fate_on (fate.Unposted hint) put h = once_on put h
+    fate_on fate.Refused put h = once_on put h
+    fate_on fate.Lost put h = unwritten_on put h
+
+    pressed_on : (r : CompressReply) → writes_in m.event.act ≡ [] → pressed_log level key r ms → pressed_log level key r more
+    pressed_on (reply.Merged hint) put h = once_on put h
+    pressed_on reply.Evened put h = once_on put h
+    pressed_on reply.Enough put h = once_on put h
+    pressed_on reply.Alone put h = once_on put h
+    pressed_on (reply.Unposted hint) put h = once_on put h
+    pressed_on reply.NoRoom put h = once_on put h
+
+    same_reply : (r r' : CompressReply) → Some r ≡ Some r' → r ≡ r'
+    same_reply r r' e = cc
+
+    fate_pressed : (ended : Fate) (r : CompressReply) → compress_reply ended ≡ Some r → fate_log level key ended more → pressed_log level key r more
+    fate_pressed (fate.Merged hint) r e h = subst (λ z. pressed_log level key z more) (same_reply _ _ e) h
+    fate_pressed fate.Evened r e h = subst (λ z. pressed_log level key z more) (same_reply _ _ e) h
+    fate_pressed fate.Enough r e h = subst (λ z. pressed_log level key z more) (same_reply _ _ e) h
+    fate_pressed (fate.Unposted hint) r e h = subst (λ z. pressed_log level key z more) (same_reply _ _ e) h
+    fate_pressed fate.Refused r e h = subst (λ z. pressed_log level key z more) (same_reply _ _ e) h
+    fate_pressed fate.Lost r e h = absurd (let z : None ≡ Some r = e in cc)
+
+    lost_unwritten : (ended : Fate) → compress_reply ended ≡ None → fate_log level key ended more → Unwritten more
+    lost_unwritten fate.Lost e h = h
+    lost_unwritten (fate.Merged hint) e h = absurd (let z : Some (reply.Merged hint) ≡ None = e in cc)
+    lost_unwritten fate.Evened e h = absurd (let z : Some reply.Evened ≡ None = e in cc)
+    lost_unwritten fate.Enough e h = absurd (let z : Some reply.Enough ≡ None = e in cc)
+    lost_unwritten (fate.Unposted hint) e h = absurd (let z : Some (reply.Unposted hint) ≡ None = e in cc)
+    lost_unwritten fate.Refused e h = absurd (let z : Some reply.NoRoom ≡ None = e in cc)
+
+    -- all three pages were put
+    last_on : (u : Puts) → IsToSqueeze level key more u (to_last u) → squeeze_log level key (after_puts u.at u.fate) more
+    last_on u h = elim (decided_fate h.family h.left h.right u h.decided) [
+      | inl e ↦ subst (λ z. squeeze_log level key (after_puts u.at z) more) (sym e.1) (u, refl, h, e.1, (e.0, refl))
+      | inr e ↦ subst (λ z. squeeze_log level key (after_puts u.at z) more) (sym e) (once_now (u, h, e))
+    ]
+
+    -- the right one was retired
+    retired_on : (at : Trio) (ended : Fate) → m.event.act ≡ Retire at.right → squeeze_log level key (Retiring at ended) ms → fate_log level key ended more
+    retired_on at ended did (u, same, h, is, one) =
+        let e : acts_in m.event.act ≡ Retire u.at.right ∷ [] = ap acts_in did ∙ ap (λ (t : Trio). Retire t.right ∷ []) (sym same) in
+        subst (λ z. fate_log level key z more) (sym one.1) (once_now (u, puts_on (Retire u.at.right ∷ []) e h, is ∙ one.1))
+
+    links_on : (f : Family) (c : Page) (d : Compression) → Links f c d → m.event.act ≡ Get f.at.left → m.saw ≡ Some c → AtFamily level key ms f (Get f.at.parent ∷ Latch f.at.left ∷ []) → squeeze_log level key d more
+    links_on f c (LatchingRight h page) t did saw log = rw (← t.0, ← t.1) at (left_got c did saw log)
+    links_on f c (OpeningLeft at ended) t did saw log = subst (λ z. fate_log level key z more) (sym t.2) (once_now (f, c, left_got c did saw log, (refl, t.1, refl)))
+    links_on f c old t did saw log = absurd t
+
+    decides_on : (f : Family) (c d : Page) (new : Compression) → Decides f c d new → m.event.act ≡ Get f.at.right → m.saw ≡ Some d → AtLeft level key ms f c (Get f.at.parent ∷ Latch f.at.left ∷ Get f.at.left ∷ Latch f.at.right ∷ []) → squeeze_log level key new more
+    decides_on f c d (PuttingFirst u) t did saw log =
+        let same = decided_at f c d u t in
+        record { family = f; left = c; right = d; at = same; both = subst (λ (z : Trio). AtBoth level key more f c d (to_right z)) (sym same) (right_got d did saw log); decided = t }
+    decides_on f c d (OpeningRight at fate.Enough) t did saw log = once_now (f, c, d, right_got d did saw log, (refl, t.1, t.2, t.3, t.4))
+    decides_on f c d (OpeningRight at fate.Lost) t did saw log = unwritten_on (ap writes_in did) (since_unwritten refl log.family.since)
+    decides_on f c d old t did saw log = absurd t
+
+    squeeze_on : {c d : Compression} {what : Seen} → SqueezeCase c what (step.On d) → m.event.act ≡ event_of None (compression_next c) what → ((x : ℕ) (e : Page) → m.event.act ≡ Get x → what ≡ seen.Words e → m.saw ≡ Some e) → squeeze_log level key c ms → squeeze_log level key d more
+    squeeze_on (SqueezeCase.LatchLeft f d t) did saw h = subst (λ z. squeeze_log level key z more) (sym t) (family_on (Latch f.at.left ∷ []) (ap acts_in did) h)
+    squeeze_on (SqueezeCase.MissLeft f d t) did saw h = subst (λ z. squeeze_log level key z more) (sym t) (family_on [] (ap acts_in did) h)
+    squeeze_on (SqueezeCase.GotLeft f c d t) did saw h = links_on f c d t did (saw f.at.left c did refl) h
+    squeeze_on (SqueezeCase.LatchRight f c d t) did saw h = subst (λ z. squeeze_log level key z more) (sym t) (left_on (Latch f.at.right ∷ []) (ap acts_in did) h)
+    squeeze_on (SqueezeCase.MissRight f c d t) did saw h = subst (λ z. squeeze_log level key z more) (sym t) (left_on [] (ap acts_in did) h)
+    squeeze_on (SqueezeCase.GotRight f c e d t) did saw h = decides_on f c e d t did (saw f.at.right e did refl) h
+    squeeze_on (SqueezeCase.PutFirst u d t) did saw h = subst (λ z. squeeze_log level key z more) (sym t) (puts_on (put_act u.gains u ∷ []) (ap acts_in (did ∙ put_event u.gains u) ∙ act_put u.gains u) h)
+    squeeze_on (SqueezeCase.FirstRefused u d t) did saw h = subst (λ z. squeeze_log level key z more) (sym t) (once_now (record { until = ms; mark = m; split = refl; miss = did ∙ refused_event u.gains u; puts = u; is = h }))
+    squeeze_on (SqueezeCase.PutParent u d t) did saw h = subst (λ z. squeeze_log level key z more) (sym t) (puts_on (Put u.at.parent u.parent ∷ []) (ap acts_in did) h)
+    squeeze_on (SqueezeCase.PutLast u d t) did saw h = subst (λ z. squeeze_log level key z more) (sym t) (last_on u (puts_on (put_act (other u.gains) u ∷ []) (ap acts_in (did ∙ put_event (other u.gains) u) ∙ act_put (other u.gains) u) h))
+    squeeze_on (SqueezeCase.Retired at ended d t) did saw h = subst (λ z. squeeze_log level key z more) (sym t) (retired_on at ended did h)
+    squeeze_on (SqueezeCase.OpenedRight at ended d t) did saw h = subst (λ z. squeeze_log level key z more) (sym t) (fate_on ended (ap writes_in did) h)
+    squeeze_on (SqueezeCase.OpenedLeft at ended d t) did saw h = subst (λ z. squeeze_log level key z more) (sym t) (fate_on ended (ap writes_in did) h)
+
+    over_on : {c : Compression} {what : Seen} {ended : Fate} → SqueezeCase c what (step.Over ended) → m.event.act ≡ event_of None (compression_next c) what → squeeze_log level key c ms → fate_log level key ended more
+    over_on (SqueezeCase.OpenedParent x ended _ t) did h = subst (λ z. fate_log level key z more) (sym t) (fate_on ended (ap writes_in did) h)
+
+    -- at the parent
+    met_on : (x : ℕ) (c : Page) (f : Family) → CompressArrives key x c (compress.Compressing (LatchingLeft f)) → Leads c key level Here → m.event.act ≡ Get x → m.saw ≡ Some c → Since ms x [] → compress_log level key (compress.Compressing (LatchingLeft f)) more
+    met_on x c f (parent, page, siblings) l did saw h =
+        let family = siblings.1 in
+        let here : c ≡ InnerPage f.parent = page ∙ ap InnerPage (sym family.parent_is) in
+        let e : x ≡ f.at.parent = sym family.parent_at in
+        let now : Since ms f.at.parent [] = subst (λ z. Since ms z []) e h in
+        let get : m.event.act ≡ Get f.at.parent = did ∙ ap Get e in
+        record {
+          since = since_on (Get f.at.parent ∷ []) (ap acts_in get) now;
+          got = got_last now.during m get (saw ∙ ap Some here);
+          level_is = ap (λ v. (node_of v).shape.level) (sym here) ∙ l.2;
+          covers = rw here at l.1;
+          siblings = subst (λ z. AreSiblings z key f.parent (Some f)) e (subst (λ z. AreSiblings x key z (Some f)) (sym family.parent_is) siblings);
+        }
+
+    single_on : (x : ℕ) (c : Page) (y : ℕ) → CompressArrives key x c (compress.Staying y) → Leads c key level Here → m.event.act ≡ Get x → m.saw ≡ Some c → Since ms x [] → compress_log level key (compress.Staying y) more
+    single_on x c y t l did saw h = once_now (inr (record {
+      at = x;
+      parent = t.1.0;
+      since = since_on (Get x ∷ []) (ap acts_in did) h;
+      got = got_last h.during m did (saw ∙ ap Some t.1.1);
+      level_is = ap (λ v. (node_of v).shape.level) (sym t.1.1) ∙ l.2;
+      covers = rw t.1.1 at l.1;
+      siblings = t.1.2;
+    }))
+
+    module _ (least : 0 < level) where
+      way_unwritten : (a : Approach) → way_log a ms → Unwritten ms
+      way_unwritten way.Start log = log
+      way_unwritten (way.At x) log = log
+      way_unwritten (way.Latching x) log = log
+      way_unwritten (way.Latched x) log = since_unwritten refl log
+      way_unwritten (way.Leaving x to) log = log
+
+      way_on : (a b : Approach) (what : Seen) → Approaches level key a what (came.On b) → m.event.act ≡ event_of None (approach_next a) what → way_log a ms → way_log b more
+      way_on a b what t did log = on b t
+        where
+          first : Unwritten more
+          first = unwritten_on (ap writes_in did ∙ approach_writes a what) (way_unwritten a log)
+
+          on : (b : Approach) → Approaches level key a what (came.On b) → way_log b more
+          on way.Start t = first
+          on (way.At x) t = first
+          on (way.Latching x) t = first
+          on (way.Latched x) t = since_now x (latched_on m level key (approach_case level key a what _ t) did) (way_unwritten a log)
+          on (way.Leaving x to) t = first
+
+      -- any step of a compression
+      pub compress_on : {a a' : CompressStage} {what : Seen} → CompressCase level key a what a' → m.event.act ≡ event_of None (compress_next_in a) what → ((x : ℕ) (e : Page) → m.event.act ≡ Get x → what ≡ seen.Words e → m.saw ≡ Some e) → compress_log level key a ms → compress_log level key a' more
+      compress_on (CompressCase.Began a t) did saw h = subst (λ z. way_log z more) (sym t) (begun_now ms m (λ acts. acts ≡ []) did refl)
+      compress_on (CompressCase.NoLevel c t) did saw h = once_now (inl (record { first = unwritten_on (ap writes_in did) h; anchor = c; got = got_last ms m did (saw 0 c did refl); few = t }))
+      compress_on (CompressCase.Came a what b t) did saw h = way_on a b what t did h
+      compress_on (CompressCase.Met x c f l t) did saw h = met_on x c f t l did (saw x c did refl) h
+      compress_on (CompressCase.Single x c y l t) did saw h = single_on x c y t l did (saw x c did refl) h
+      compress_on (CompressCase.Squeezed c what d t) did saw h = squeeze_on (squeeze_case c what _ t) did saw h
+      compress_on (CompressCase.Lost c what a (ended, t, none, start)) did saw h = subst (λ z. way_log z more) (sym start) (lost_unwritten ended none (over_on (squeeze_case c what _ t) did h))
+      compress_on (CompressCase.Finished c what r (ended, t, some)) did saw h = fate_pressed ended r some (over_on (squeeze_case c what _ t) did h)
+      compress_on (CompressCase.Opened x r t) did saw h = subst (λ z. pressed_log level key z more) (sym t) (once_on (ap writes_in did) h)
+      compress_on (CompressCase.Ended r last t) did saw h = subst (λ z. pressed_log level key z more) (sym t) (pressed_on r (ap writes_in did) h)
+
+  -- a miss that is of no turn of its own changes nothing
+  module _ (level key : ℕ) (did : m.event.act ≡ Miss) where
+    squeeze_stays : (c : Compression) → squeeze_log level key c ms → squeeze_log level key c more
+    squeeze_stays (LatchingLeft f) h = family_on [] (ap acts_in did) h
+    squeeze_stays (LatchedLeft f) h = family_on [] (ap acts_in did) h
+    squeeze_stays (LatchingRight f c) h = left_on [] (ap acts_in did) h
+    squeeze_stays (LatchedRight f c) h = left_on [] (ap acts_in did) h
+    squeeze_stays (PuttingFirst u) h = puts_on [] (ap acts_in did) h
+    squeeze_stays (PuttingParent u) h = puts_on [] (ap acts_in did) h
+    squeeze_stays (PuttingLast u) h = puts_on [] (ap acts_in did) h
+    squeeze_stays (Retiring at ended) (u, same, h, is, one) = (u, same, puts_on [] (ap acts_in did) h, is, one)
+    squeeze_stays (OpeningRight at ended) h = fate_on level key ended (ap writes_in did) h
+    squeeze_stays (OpeningLeft at ended) h = fate_on level key ended (ap writes_in did) h
+    squeeze_stays (OpeningParent x ended) h = fate_on level key ended (ap writes_in did) h
+
+    way_stays : (a : Approach) → way_log a ms → way_log a more
+    way_stays way.Start h = unwritten_on (ap writes_in did) h
+    way_stays (way.At x) h = unwritten_on (ap writes_in did) h
+    way_stays (way.Latching x) h = unwritten_on (ap writes_in did) h
+    way_stays (way.Latched x) h = since_on [] (ap acts_in did) h
+    way_stays (way.Leaving x to) h = unwritten_on (ap writes_in did) h
+
+    pub compress_stays : (a : CompressStage) → compress_log level key a ms → compress_log level key a more
+    compress_stays compress.New h = tt
+    compress_stays (compress.Coming a) h = way_stays a h
+    compress_stays (compress.Compressing c) h = squeeze_stays c h
+    compress_stays (compress.Staying x) h = once_on (ap writes_in did) h
+    compress_stays (compress.Ending r) h = pressed_on level key r (ap writes_in did) h
+    compress_stays (compress.Over r) h = pressed_on level key r (ap writes_in did) h

@@ -1,0 +1,53 @@
+-- A process begins, and ends, by what it knows.
+use Rattle.std.proofs.Common.{ℕ, ◌≡◌, ◌<◌, Option, Some, None, refl}
+use Rattle.bl_model.specs.declared.operation.Reply.{Reply}
+use Rattle.bl_page.specs.Machine.{Name, State}
+use Rattle.bl_page.specs.Machine.Act.{Begin, End}
+use Rattle.bl_claims.specs.Nodes.{unbounded}
+use Rattle.bl_claims.specs.Trails.{Said, Answered, HasSaid}
+use Rattle.bl_core.proofs.Pushes.{HasSaid-silent}
+use Rattle.bl_core.specs.Worlds.{Stage, Know, World, IsSure, IsGood, silent}
+use Rattle.bl_proc_invariant.specs.Turns.{Does, Turned}
+use Rattle.bl_proc_invariant.specs.Tables.{idle}
+use Rattle.bl_proc_invariant.specs.Knowing.{early, ending, late}
+use Rattle.bl_proc_invariant.proofs.Acts.{began, finished}
+
+-- what was said at the point is what is answered at the end
+abbrev pub reply_said : Option Said → Option Reply
+reply_said (Some said) = Some said.reply
+reply_said None = None
+
+pub told_said : {P : Type 0} (w : World P) (p : Name) (said : Option Said) → HasSaid w.trail p said → Answered w.trail p (reply_said said)
+told_said w p (Some said) h = (h.0, said, h.1, refl)
+told_said w p None h = h
+
+module _ {P : Type 0} (know : P → Know) (w : World P) (g : IsGood know w) (p : Name) (b : P) where
+  pub begin_turn : (key : ℕ) (s : State _) → know (w.proc p) ≡ early key → know b ≡ record (idle Stage.Busy) { sound = key < unbounded } → Does w.now p Begin s → Turned know w p Begin s b
+  begin_turn key s before then does =
+      let is : IsSure w p (early key) = rw before at (g.sure p) in
+      began know w g p b _ _ before then s is.stage does refl (λ x h. h)
+      (record {
+        stage = (does.changes.2.0, does.changes.2.3.at);
+        said = HasSaid-silent w.trail (silent p Begin) p None refl is.said;
+        holds = tt;
+        goes = tt;
+        children = tt;
+        passed = tt;
+        sound = is.sound;
+        log = tt;
+      })
+
+  pub end_turn : (said : Option Said) (s : State _) → know (w.proc p) ≡ ending said → know b ≡ late said → Does w.now p (End (reply_said said)) s → Turned know w p (End (reply_said said)) s b
+  end_turn said s before then does =
+      let is : IsSure w p (ending said) = rw before at (g.sure p) in
+      finished know w g p b _ _ before then (reply_said said) s (is.stage, λ x o. rw before at (g.owned.held x p o)) does (told_said w p said is.said) refl (λ x h. h)
+      (record {
+        stage = does.changes.2.at;
+        said = HasSaid-silent w.trail (silent p (End (reply_said said))) p said refl is.said;
+        holds = tt;
+        goes = tt;
+        children = tt;
+        passed = tt;
+        sound = tt;
+        log = tt;
+      })

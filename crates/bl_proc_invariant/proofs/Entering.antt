@@ -1,0 +1,87 @@
+-- At the page of its level that covers its key, under its latch: what a process knows when it begins to change the page.
+use Rattle.std.proofs.Common.{ℕ, ◌≡◌, Option, Some, None, ap, sym, ◌∙◌, refl, subst, inl}
+use Rattle.bl_page.specs.declared.page.Page.{Page}
+use Rattle.bl_page.specs.Machine.{Name, Act}
+use Rattle.bl_page.specs.Machine.Owner.{Held}
+use Rattle.bl_core_tree.specs.Trees.Status.{Live}
+use Rattle.bl_claims.specs.Trails.{HasSaid}
+use Rattle.bl_core.proofs.Pushes.{HasSaid-silent}
+use Rattle.bl_core.specs.Worlds.{Stage, World, IsStage, IsRelied, HoldsPage}
+use Rattle.bl_claims.specs.Walks.{Each}
+use Rattle.bl_core.proofs.Watches.{Learns}
+use Rattle.bl_core.proofs.Fitted.{fits_row, without_row}
+use Rattle.bl_proc_base.specs.declared.changing.Change.{Change}
+use Rattle.bl_proc_base.specs.declared.changing.Change.TheVariants.{Putting, Taking, PuttingNew, PuttingOld, OpeningNew, Opening}
+use Rattle.bl_proc_base.specs.Changes.{EntersPair, DropsPair}
+use Rattle.bl_proc_invariant.specs.Tables.{Aim, IsDue, know_change}
+
+-- What it has of page x, which is c, when a change of it begins.
+pub record Begun {P : Type 0} (w w' : World P) (p : Name) (aim : Aim) (x : ℕ) (c : Page) : Type 0 where
+  pub stage : IsStage Stage.Busy (w.now.phase p)
+  pub said : HasSaid w.trail p None
+  pub held : w'.now.owner x ≡ Held p
+  pub live : w.status x ≡ Live
+  pub is : w.now.contents x ≡ c
+  pub due : IsDue aim c
+  pub children : Each (λ k. (w'.now.owner k.parent ≡ Held p) × IsRelied w p k) (aim.children x)
+
+pub enters_learns : {P : Type 0} (w w' : World P) (p : Name) (a : Act Page _) (saw : Option Page) (aim : Aim) (x word : ℕ) (c : Page) (change : Change) → Begun w w' p aim x c → aim.word ≡ Some word → EntersPair x c aim.key word change → Learns w w' (record { event = record { process = p; act = a }; saw = saw; said = None }) (know_change aim (λ z. c) change)
+enters_learns w w' p a saw aim x word c (Putting y page) h is e = record {
+  stage = h.stage;
+  said = HasSaid-silent w.trail (record { event = record { process = p; act = a }; saw = saw; said = None }) p None refl h.said;
+  holds = ((ap w'.now.owner e.0 ∙ h.held, ap w.status e.0 ∙ h.live, tt, ap w.now.contents e.0 ∙ h.is), tt);
+  goes = tt;
+  children = subst (λ z. Each (λ k. (w'.now.owner k.parent ≡ Held p) × IsRelied w p k) (aim.children z)) (sym e.0) h.children;
+  passed = tt;
+  sound = (h.due, rw is (fits_row c page aim.key word 0 e.1 h.due.covers));
+  log = tt;
+}
+enters_learns w w' p a saw aim x word c (Taking full) h is e = record {
+  stage = h.stage;
+  said = HasSaid-silent w.trail (record { event = record { process = p; act = a }; saw = saw; said = None }) p None refl h.said;
+  holds = ((ap w'.now.owner e.0 ∙ h.held, ap w.status e.0 ∙ h.live, tt, ap w.now.contents e.0 ∙ (h.is ∙ sym e.3)), tt);
+  goes = tt;
+  children = subst (λ z. Each (λ k. (w'.now.owner k.parent ≡ Held p) × IsRelied w p k) (aim.children z)) (sym e.0) h.children;
+  passed = tt;
+  sound = (rw e.3 h.due, e.1, ap Some e.2 ∙ sym is, sym e.3);
+  log = tt;
+}
+enters_learns w w' p a saw aim x word c (PuttingNew t) h is e = absurd e
+enters_learns w w' p a saw aim x word c (PuttingOld t) h is e = absurd e
+enters_learns w w' p a saw aim x word c (OpeningNew y z s) h is e = absurd e
+enters_learns w w' p a saw aim x word c (Opening y o) h is e = absurd e
+
+pub drops_learns : {P : Type 0} (w w' : World P) (p : Name) (a : Act Page _) (saw : Option Page) (aim : Aim) (x : ℕ) (c : Page) (change : Change) → Begun w w' p aim x c → aim.word ≡ None → DropsPair x c aim.key change → Learns w w' (record { event = record { process = p; act = a }; saw = saw; said = None }) (know_change aim (λ z. c) change)
+drops_learns w w' p a saw aim x c (Putting y page) h is e = record {
+  stage = h.stage;
+  said = HasSaid-silent w.trail (record { event = record { process = p; act = a }; saw = saw; said = None }) p None refl h.said;
+  holds = ((ap w'.now.owner e.0 ∙ h.held, ap w.status e.0 ∙ h.live, tt, ap w.now.contents e.0 ∙ h.is), tt);
+  goes = tt;
+  children = subst (λ z. Each (λ k. (w'.now.owner k.parent ≡ Held p) × IsRelied w p k) (aim.children z)) (sym e.0) h.children;
+  passed = tt;
+  sound = (h.due, rw is (without_row c page aim.key e.1 h.due.covers));
+  log = tt;
+}
+drops_learns w w' p a saw aim x c (Taking full) h is e = absurd e
+drops_learns w w' p a saw aim x c (PuttingNew t) h is e = absurd e
+drops_learns w w' p a saw aim x c (PuttingOld t) h is e = absurd e
+drops_learns w w' p a saw aim x c (OpeningNew y z s) h is e = absurd e
+drops_learns w w' p a saw aim x c (Opening y o) h is e = absurd e
+
+-- a change begins with the page that it holds, and with no other
+pub enters_places : (aim : Aim) (x word key : ℕ) (c : Page) (change : Change) → EntersPair x c key word change → HoldsPage (know_change aim (λ z. c) change).holds x
+enters_places aim x word key c (Putting y page) e = inl e.0
+enters_places aim x word key c (Taking full) e = inl e.0
+enters_places aim x word key c old e = absurd e
+
+pub drops_places : (aim : Aim) (x key : ℕ) (c : Page) (change : Change) → DropsPair x c key change → HoldsPage (know_change aim (λ z. c) change).holds x
+drops_places aim x key c (Putting y page) e = inl e.0
+drops_places aim x key c old e = absurd e
+
+pub change_middle : (aim : Aim) (got : ℕ → Page) (change : Change) → (know_change aim got change).middle ≡ None
+change_middle aim got (Putting y page) = refl
+change_middle aim got (Taking full) = refl
+change_middle aim got (PuttingNew t) = refl
+change_middle aim got (PuttingOld t) = refl
+change_middle aim got (OpeningNew y z s) = refl
+change_middle aim got (Opening y o) = refl

@@ -1,0 +1,165 @@
+-- What a process gets next is page 0, or a page that is or was of the tree and that it may still get. So it is no page that
+-- was never put.
+use Rattle.std.proofs.Common.{ℕ, ◌≡◌, ◌⊎◌, None, Some, inl, inr, refl}
+use Rattle.bl_page.specs.declared.page.Page.{Page}
+use Rattle.bl_page.specs.Machine.{Name}
+use Rattle.bl_core.specs.Worlds.{World, MayGet, IsSure, IsGood}
+use Rattle.bl_proc_base.specs.declared.acts.Action.{Action}
+use Rattle.bl_proc_base.specs.declared.acts.Action.TheVariants as act
+use Rattle.bl_proc_base.specs.declared.approaching.Approach.{Approach}
+use Rattle.bl_proc_base.specs.declared.approaching.Approach.TheVariants as way
+use Rattle.bl_proc_base.specs.declared.changing.Change.{Change}
+use Rattle.bl_proc_base.specs.declared.changing.Change.TheVariants as change
+use Rattle.bl_proc_base.specs.declared.growing.Growth.{Growth}
+use Rattle.bl_proc_base.specs.declared.growing.Growth.TheVariants as growth
+use Rattle.bl_proc.specs.declared.searching.FindStage.{FindStage}
+use Rattle.bl_proc.specs.declared.searching.FindStage.TheVariants as find
+use Rattle.bl_proc.specs.declared.parts.PartStage.{PartStage}
+use Rattle.bl_proc.specs.declared.parts.PartStage.TheVariants as part
+use Rattle.bl_proc.specs.declared.inserting.InsertStage.{InsertStage}
+use Rattle.bl_proc.specs.declared.inserting.InsertStage.TheVariants as insert
+use Rattle.bl_proc.specs.declared.deleting.DeleteStage.{DeleteStage}
+use Rattle.bl_proc.specs.declared.deleting.DeleteStage.TheVariants as delete
+use Rattle.bl_proc.specs.declared.posting.PostStage.{PostStage}
+use Rattle.bl_proc.specs.declared.posting.PostStage.TheVariants as post
+use Rattle.bl_proc.specs.declared.reclaiming.ReclaimStage.{ReclaimStage}
+use Rattle.bl_proc.specs.declared.reclaiming.ReclaimStage.TheVariants as reclaim
+use Rattle.bl_proc_compress.specs.declared.compressing.Compression.{Compression}
+use Rattle.bl_proc_compress.specs.declared.compressing.Compression.TheVariants.{LatchingLeft, LatchedLeft, LatchingRight, LatchedRight, PuttingFirst, PuttingParent, PuttingLast, Retiring, OpeningRight, OpeningLeft, OpeningParent}
+use Rattle.bl_proc_compress.specs.declared.squeezing.CompressStage.{CompressStage}
+use Rattle.bl_proc_compress.specs.declared.squeezing.CompressStage.TheVariants as compress
+use Rattle.bl_proc.specs.declared.kinds.Proc.{Proc}
+use Rattle.bl_proc.specs.declared.kinds.Proc.TheVariants.{Find, Insert, Delete, Post, Part, Compress, Reclaim}
+use Rattle.bl_proc_base.specs.Approaches.{approach_next}
+use Rattle.bl_proc_base.specs.Changes.{change_next}
+use Rattle.bl_proc_compress.specs.Compressions.{put_of, other, compression_next}
+use Rattle.bl_rearrange.specs.declared.sides.Side.{Side}
+use Rattle.bl_rearrange.specs.declared.sides.Side.TheVariants as side
+use Rattle.bl_proc_compress.specs.declared.compressing.Puts.{Puts}
+use Rattle.bl_proc_base.specs.Growths.{growth_next}
+use Rattle.bl_proc.specs.Searches.{find_next_in}
+use Rattle.bl_proc.specs.Parts.{part_next_in}
+use Rattle.bl_proc.specs.Inserts.{insert_next_in}
+use Rattle.bl_proc.specs.Deletes.{delete_next_in}
+use Rattle.bl_proc.specs.Posts.{post_next_in}
+use Rattle.bl_proc_compress.specs.Compresses.{compress_next_in}
+use Rattle.bl_proc.specs.Reclaims.{reclaim_next_in}
+use Rattle.bl_proc.specs.Processes.{next_of}
+use Rattle.bl_proc_invariant.specs.Compressing.{know_squeeze}
+use Rattle.bl_proc_invariant.specs.Tables.{Aim, know_approach, know_change}
+use Rattle.bl_proc_invariant.specs.Knowing.{know_growth, know_find, know_part, know_insert, know_delete, know_post, know_compress, know_reclaim, know_of, Run, bare}
+
+-- page 0, or one that it may get
+abbrev pub IsGot : {P : Type 0} → World P → Name → Action → Type 0
+IsGot w p (act.Get x) = (x ≡ 0) ⊎ MayGet w p x
+IsGot w p action = Unit {0}
+
+module _ {P : Type 0} (w : World P) (p : Name) where
+  approach_got : (level key : ℕ) (a : Approach) → IsSure w p (know_approach level key a) → IsGot w p (approach_next a)
+  approach_got level key way.Start is = inl refl
+  approach_got level key (way.At x) is = inr is.goes.0.may
+  approach_got level key (way.Latching x) is = tt
+  approach_got level key (way.Latched x) is = inr is.goes.0.may
+  approach_got level key (way.Leaving x None) is = tt
+  approach_got level key (way.Leaving x (Some y)) is = tt
+
+  change_got : (aim : Aim) (got : ℕ → Page) (c : Change) → IsSure w p (know_change aim got c) → IsGot w p (change_next c)
+  change_got aim got (change.Putting x page) is = tt
+  change_got aim got (change.Taking full) is = tt
+  change_got aim got (change.PuttingNew t) is = tt
+  change_got aim got (change.PuttingOld t) is = tt
+  change_got aim got (change.OpeningNew x y s) is = tt
+  change_got aim got (change.Opening x o) is = tt
+
+  growth_got : (level key : ℕ) (got : ℕ → Page) (a : Growth) → IsSure w p (know_growth level key got a) → IsGot w p (growth_next a)
+  growth_got level key got growth.Latching is = tt
+  growth_got level key got growth.Latched is = inl refl
+  growth_got level key got (growth.Taking r) is = tt
+  growth_got level key got (growth.PuttingTop r) is = tt
+  growth_got level key got (growth.PuttingAnchor r) is = tt
+  growth_got level key got (growth.OpeningTop x) is = tt
+  growth_got level key got growth.OpeningGrown is = tt
+  growth_got level key got growth.OpeningRefused is = tt
+
+  find_got : (key : ℕ) (a : FindStage) → IsSure w p (know_find key a) → IsGot w p (find_next_in a)
+  find_got key find.New is = tt
+  find_got key find.AtAnchor is = inl refl
+  find_got key (find.At x) is = inr is.goes.0.may
+  find_got key (find.Ending v) is = tt
+  find_got key (find.Over v) is = tt
+
+  part_got : (from : ℕ) (a : PartStage) → IsSure w p (know_part from a) → IsGot w p (part_next_in a)
+  part_got from part.New is = find_got from find.New is
+  part_got from part.AtAnchor is = find_got from find.AtAnchor is
+  part_got from (part.At x) is = find_got from (find.At x) is
+  part_got from (part.Ending r) is = tt
+  part_got from (part.Over r) is = tt
+
+  insert_got : (key value : ℕ) (got : ℕ → Page) (a : InsertStage) → IsSure w p (know_insert key value got a) → IsGot w p (insert_next_in a)
+  insert_got key value got insert.New is = tt
+  insert_got key value got (insert.Coming a) is = approach_got 0 key a is
+  insert_got key value got (insert.Present x v) is = tt
+  insert_got key value got (insert.Changing c) is = change_got _ got c is
+  insert_got key value got (insert.Ending r) is = tt
+  insert_got key value got (insert.Over r) is = tt
+
+  delete_got : (key : ℕ) (got : ℕ → Page) (a : DeleteStage) → IsSure w p (know_delete key got a) → IsGot w p (delete_next_in a)
+  delete_got key got delete.New is = tt
+  delete_got key got (delete.Coming a) is = approach_got 0 key a is
+  delete_got key got (delete.Absent x) is = tt
+  delete_got key got (delete.Changing v c) is = change_got _ got c is
+  delete_got key got (delete.Ending r) is = tt
+  delete_got key got (delete.Over r) is = tt
+
+  post_got : (level key : ℕ) (got : ℕ → Page) (child : ℕ) (a : PostStage) → IsSure w p (know_post level key got child a) → IsGot w p (post_next_in a)
+  post_got level key got child post.New is = tt
+  post_got level key got child (post.Coming a) is = approach_got level key a is
+  post_got level key got child (post.Growing h) is = growth_got level key got h is
+  post_got level key got child (post.Walking v) is = inr is.goes.0.may
+  post_got level key got child (post.Changing c) is = change_got _ got c is
+  post_got level key got child (post.Staying x r) is = tt
+  post_got level key got child (post.Ending r) is = tt
+  post_got level key got child (post.Over r) is = tt
+
+  put_got : (u : Puts) (sd : Side) → IsGot w p (put_of sd u)
+  put_got u side.Left = tt
+  put_got u side.Right = tt
+
+  squeeze_got : (level key : ℕ) (got : ℕ → Page) (c : Compression) → IsSure w p (know_squeeze level key got c) → IsGot w p (compression_next c)
+  squeeze_got level key got (LatchingLeft f) is = tt
+  squeeze_got level key got (LatchedLeft f) is = inr is.goes.0.may
+  squeeze_got level key got (LatchingRight f c) is = tt
+  squeeze_got level key got (LatchedRight f c) is = inr is.goes.0.may
+  squeeze_got level key got (PuttingFirst u) is = put_got u u.gains
+  squeeze_got level key got (PuttingParent u) is = tt
+  squeeze_got level key got (PuttingLast u) is = put_got u (other u.gains)
+  squeeze_got level key got (Retiring t f) is = tt
+  squeeze_got level key got (OpeningRight t f) is = tt
+  squeeze_got level key got (OpeningLeft t f) is = tt
+  squeeze_got level key got (OpeningParent x f) is = tt
+
+  compress_got : (level key : ℕ) (got : ℕ → Page) (a : CompressStage) → IsSure w p (know_compress level key got a) → IsGot w p (compress_next_in a)
+  compress_got level key got compress.New is = tt
+  compress_got level key got (compress.Coming a) is = approach_got level key a is
+  compress_got level key got (compress.Compressing c) is = squeeze_got level key got c is
+  compress_got level key got (compress.Staying x) is = tt
+  compress_got level key got (compress.Ending r) is = tt
+  compress_got level key got (compress.Over r) is = tt
+
+  reclaim_got : (page time : ℕ) (a : ReclaimStage) → IsSure w p (know_reclaim time a) → IsGot w p (reclaim_next_in page a)
+  reclaim_got page time reclaim.Seeing is = tt
+  reclaim_got page time (reclaim.Looking r) is = tt
+  reclaim_got page time reclaim.Releasing is = tt
+  reclaim_got page time (reclaim.Over what) is = tt
+
+  of_got : (got : ℕ → Page) (child time : ℕ) (state : Proc) → IsSure w p (know_of got child time state) → IsGot w p (next_of state)
+  of_got got child time (Find a) is = find_got a.key a.stage is
+  of_got got child time (Insert a) is = insert_got a.key a.value got a.stage is
+  of_got got child time (Delete a) is = delete_got a.key got a.stage is
+  of_got got child time (Post a) is = post_got a.level a.key got child a.stage is
+  of_got got child time (Part a) is = part_got a.from a.stage is
+  of_got got child time (Compress a) is = compress_got a.level a.key got a.stage is
+  of_got got child time (Reclaim a) is = reclaim_got a.page time a.stage is
+
+pub got_next_is : (w : World Run) (p : Name) → IsGood bare w → IsGot w p (next_of (w.proc p).state)
+got_next_is w p g = of_got w p (w.proc p).got (w.proc p).child (w.proc p).time (w.proc p).state (g.sure p)

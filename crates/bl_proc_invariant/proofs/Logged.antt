@@ -1,0 +1,274 @@
+-- The step lemma with what each process has done: a world that is good by the states of its processes is good also by their
+-- logs, which every turn keeps.
+use Rattle.std.proofs.Common.{ℕ, ◌≡◌, ◌++◌, Option, Some, None, [], ◌∷◌, ap, sym, ◌∙◌, refl, subst, inl, inr}
+use Rattle.bl_model.specs.declared.operation.Reply.{Reply}
+use Rattle.bl_page.specs.declared.page.Page.{Page}
+use Rattle.bl_page.specs.Machine.{Name, State, Act}
+use Rattle.bl_page.specs.Machine.Act.{Get, Miss}
+use Rattle.bl_claims.specs.Trails.{Mark, Trail, Saw, marks_of}
+use Rattle.bl_claims.specs.Meanings.{put_in, writes_in}
+use Rattle.bl_core.proofs.Pushes.{name_cases, marks_of-own, marks_of-other}
+use Rattle.bl_core.specs.Worlds.{Stage, World, IsGood}
+use Rattle.bl_core.specs.Blank.{IsBlank}
+use Rattle.bl_proc_base.specs.declared.acts.Action.{Action}
+use Rattle.bl_proc_base.specs.declared.acts.Action.TheVariants as act
+use Rattle.bl_proc_base.specs.declared.acts.Seen.{Seen}
+use Rattle.bl_proc_base.specs.declared.acts.Seen.TheVariants as seen
+use Rattle.bl_proc_base.specs.declared.approaching.Approach.TheVariants as way
+use Rattle.bl_proc_base.specs.declared.changing.Change.TheVariants as change
+use Rattle.bl_proc_base.specs.declared.growing.Growth.TheVariants as growth
+use Rattle.bl_proc.specs.declared.inserting.InsertStage.{InsertStage}
+use Rattle.bl_proc.specs.declared.inserting.InsertStage.TheVariants as insert
+use Rattle.bl_proc.specs.declared.deleting.DeleteStage.{DeleteStage}
+use Rattle.bl_proc.specs.declared.deleting.DeleteStage.TheVariants as delete
+use Rattle.bl_proc.specs.declared.posting.PostStage.{PostStage}
+use Rattle.bl_proc.specs.declared.posting.PostStage.TheVariants as post
+use Rattle.bl_proc_compress.specs.declared.compressing.Compression.TheVariants.{LatchingLeft}
+use Rattle.bl_proc_compress.specs.declared.squeezing.CompressStage.{CompressStage}
+use Rattle.bl_proc_compress.specs.declared.squeezing.CompressStage.TheVariants as compress
+use Rattle.bl_proc.specs.declared.kinds.Proc.{Proc}
+use Rattle.bl_proc.specs.declared.kinds.Proc.TheVariants.{Find, Insert, Delete, Post, Part, Compress, Reclaim}
+use Rattle.bl_proc.specs.Processes.{next_of, Takes}
+use Rattle.bl_proc_invariant.specs.Turns.{event_of, IsTold, Turned}
+use Rattle.bl_proc_invariant.specs.Logs.{proc_log, insert_log, delete_log, post_log, compress_log}
+use Rattle.bl_proc_invariant.specs.Knowing.{Run, know_of, bare, know, know_insert, know_delete, know_post, know_compress, end_of_proc, run_next}
+use Rattle.bl_proc_invariant.proofs.Plain.{plain}
+use Rattle.bl_proc_invariant.proofs.Logging.{post_on, post_stays}
+use Rattle.bl_proc_invariant.proofs.Doing.{compress_on, compress_stays}
+use Rattle.bl_proc_invariant.proofs.Putting.{insert_on, insert_stays, delete_on, delete_stays}
+use Rattle.bl_proc_unique.proofs.KindCases.{insert_case, delete_case, post_case, compress_case}
+
+pub bare_good : (w : World Run) → IsGood know w → IsGood bare w
+bare_good w g = record {
+  tree = g.tree;
+  owned = record {
+    released = g.owned.released;
+    free = g.owned.free;
+    opened = g.owned.opened;
+    retired = g.owned.retired;
+    held = g.owned.held;
+    small = g.owned.small;
+    one_anchor = g.owned.one_anchor;
+  };
+  recorded = g.recorded;
+  bounded = g.bounded;
+  names = g.names;
+  gone = g.gone;
+  middles = λ x y e. let m = g.middles x y e in record {
+    by = m.by;
+    parent = m.parent;
+    is = m.is;
+    held = m.held;
+    parent_held = m.parent_held;
+    parent_live = m.parent_live;
+    parent_level = m.parent_level;
+    parent_covers = m.parent_covers;
+  };
+  sure = λ p. let is = g.sure p in record {
+    stage = is.stage;
+    said = is.said;
+    holds = is.holds;
+    goes = is.goes;
+    children = is.children;
+    passed = is.passed;
+    sound = is.sound;
+    log = (plain (w.proc p)).log (marks_of p w.trail);
+  };
+}
+
+pub full_good : (w : World Run) → IsGood bare w → ((p : Name) → proc_log (w.proc p).state (marks_of p w.trail)) → IsGood know w
+full_good w g logs = record {
+  tree = g.tree;
+  owned = record {
+    released = g.owned.released;
+    free = g.owned.free;
+    opened = g.owned.opened;
+    retired = g.owned.retired;
+    held = g.owned.held;
+    small = g.owned.small;
+    one_anchor = g.owned.one_anchor;
+  };
+  recorded = g.recorded;
+  bounded = g.bounded;
+  names = g.names;
+  gone = g.gone;
+  middles = λ x y e. let m = g.middles x y e in record {
+    by = m.by;
+    parent = m.parent;
+    is = m.is;
+    held = m.held;
+    parent_held = m.parent_held;
+    parent_live = m.parent_live;
+    parent_level = m.parent_level;
+    parent_covers = m.parent_covers;
+  };
+  sure = λ p. let is = g.sure p in record {
+    stage = is.stage;
+    said = is.said;
+    holds = is.holds;
+    goes = is.goes;
+    children = is.children;
+    passed = is.passed;
+    sound = is.sound;
+    log = logs p;
+  };
+}
+
+-- a process that has not begun has nothing to tell
+early_post : (level key : ℕ) (got : ℕ → Page) (child : ℕ) (a : PostStage) → (know_post level key got child a).stage ≡ Stage.Early → (marks : Trail) → post_log level key a marks
+early_post level key got child post.New e marks = tt
+early_post level key got child (post.Coming way.Start) e marks = absurd (let f = e in cc)
+early_post level key got child (post.Coming (way.Leaving x None)) e marks = absurd (let f = e in cc)
+early_post level key got child (post.Growing growth.Latching) e marks = absurd (let f = e in cc)
+early_post level key got child (post.Changing (change.Putting x page)) e marks = absurd (let f = e in cc)
+early_post level key got child old e marks = absurd (let f = e in cc)
+
+early_press : (level key : ℕ) (got : ℕ → Page) (a : CompressStage) → (know_compress level key got a).stage ≡ Stage.Early → (marks : Trail) → compress_log level key a marks
+early_press level key got compress.New e marks = tt
+early_press level key got (compress.Coming way.Start) e marks = absurd (let f = e in cc)
+early_press level key got (compress.Coming (way.Leaving x None)) e marks = absurd (let f = e in cc)
+early_press level key got (compress.Compressing (LatchingLeft h)) e marks = absurd (let f = e in cc)
+early_press level key got old e marks = absurd (let f = e in cc)
+
+early_insert : (key value : ℕ) (got : ℕ → Page) (a : InsertStage) → (know_insert key value got a).stage ≡ Stage.Early → (marks : Trail) → insert_log a marks
+early_insert key value got insert.New e marks = tt
+early_insert key value got (insert.Present x there) e marks = tt
+early_insert key value got (insert.Coming way.Start) e marks = tt
+early_insert key value got (insert.Coming (way.At x)) e marks = tt
+early_insert key value got (insert.Coming (way.Latching x)) e marks = tt
+early_insert key value got (insert.Coming (way.Leaving x to)) e marks = tt
+early_insert key value got (insert.Changing (change.Putting x page)) e marks = absurd (let f = e in cc)
+early_insert key value got old e marks = absurd (let f = e in cc)
+
+early_delete : (key : ℕ) (got : ℕ → Page) (a : DeleteStage) → (know_delete key got a).stage ≡ Stage.Early → (marks : Trail) → delete_log a marks
+early_delete key got delete.New e marks = tt
+early_delete key got (delete.Absent x) e marks = tt
+early_delete key got (delete.Coming way.Start) e marks = tt
+early_delete key got (delete.Coming (way.At x)) e marks = tt
+early_delete key got (delete.Coming (way.Latching x)) e marks = tt
+early_delete key got (delete.Coming (way.Leaving x to)) e marks = tt
+early_delete key got (delete.Changing v (change.Putting x page)) e marks = absurd (let f = e in cc)
+early_delete key got old e marks = absurd (let f = e in cc)
+
+early_state : (got : ℕ → Page) (child time : ℕ) (a : Proc) → (know_of got child time a).stage ≡ Stage.Early → (marks : Trail) → proc_log a marks
+early_state got child time (Find a) e marks = tt
+early_state got child time (Insert a) e marks = early_insert a.key a.value got a.stage e marks
+early_state got child time (Delete a) e marks = early_delete a.key got a.stage e marks
+early_state got child time (Post a) e marks = early_post a.level a.key got child a.stage e marks
+early_state got child time (Part a) e marks = tt
+early_state got child time (Compress a) e marks = early_press a.level a.key got a.stage e marks
+early_state got child time (Reclaim a) e marks = tt
+
+pub early_log : (b : Run) → (know b).stage ≡ Stage.Early → (marks : Trail) → proc_log b.state marks
+early_log b e marks = early_state b.got b.child b.time b.state e marks
+
+pub full_blank : (b : Run) → IsBlank (bare b) → IsBlank (know b)
+full_blank b is = record {
+  stage = is.stage;
+  said = is.said;
+  holds = is.holds;
+  goes = is.goes;
+  children = is.children;
+  passed = is.passed;
+  sound = is.sound;
+  log = early_log b is.stage [];
+}
+
+pub bare_blank : (b : Run) → IsBlank (know b) → IsBlank (bare b)
+bare_blank b is = record {
+  stage = is.stage;
+  said = is.said;
+  holds = is.holds;
+  goes = is.goes;
+  children = is.children;
+  passed = is.passed;
+  sound = is.sound;
+  log = (plain b).log [];
+}
+
+same_words : (c d : Page) → seen.Words c ≡ seen.Words d → c ≡ d
+same_words c d e = cc
+
+-- what a process was told of a page is what the event saw
+pub saw_words : (reply : Option Reply) (s : State Page) (size : ℕ) (saw : Option Page) (action : Action) (what : Seen) → IsTold s size action what → Saw s (event_of reply action what) saw → (y : ℕ) (d : Page) → event_of reply action what ≡ Get y → what ≡ seen.Words d → saw ≡ Some d
+saw_words reply s size saw act.Begin (seen.Words c) told is y d e f = absurd (let g = e in cc)
+saw_words reply s size saw act.End (seen.Words c) told is y d e f = absurd (let g = e in cc)
+saw_words reply s size saw (act.Get x) (seen.Words c) told is y d e f = is ∙ ap Some (sym told ∙ same_words c d f)
+saw_words reply s size saw (act.Put x page) (seen.Words c) told is y d e f = absurd (let g = e in cc)
+saw_words reply s size saw (act.Latch x) (seen.Words c) told is y d e f = absurd (let g = e in cc)
+saw_words reply s size saw act.Take (seen.Words c) told is y d e f = absurd (let g = e in cc)
+saw_words reply s size saw (act.Open x) (seen.Words c) told is y d e f = absurd (let g = e in cc)
+saw_words reply s size saw (act.Retire x) (seen.Words c) told is y d e f = absurd (let g = e in cc)
+saw_words reply s size saw (act.Look n) (seen.Words c) told is y d e f = absurd (let g = e in cc)
+saw_words reply s size saw (act.See x) (seen.Words c) told is y d e f = absurd (let g = e in cc)
+saw_words reply s size saw (act.Release x) (seen.Words c) told is y d e f = absurd (let g = e in cc)
+saw_words reply s size saw old what told is y d e f = absurd (let g = f in cc)
+
+pub log_turn : (old new : Proc) (what : Seen) (marks : Trail) (m : Mark) → Takes old what new → m.event.act ≡ event_of (end_of_proc old) (next_of old) what → ((x : ℕ) (c : Page) → m.event.act ≡ Get x → what ≡ seen.Words c → m.saw ≡ Some c) → proc_log old marks → proc_log new (marks ++ m ∷ [])
+log_turn (Post a) (Post c) what marks m t did saw h =
+    subst (λ l. post_log l c.key c.stage (marks ++ m ∷ [])) (sym t.0) (subst (λ k. post_log a.level k c.stage (marks ++ m ∷ [])) (sym t.1) (post_on marks m a.level a.key a.least (post_case a.level a.key a.stage what c.stage t.2) did saw h))
+log_turn (Find a) (Find c) what marks m t did saw h = tt
+log_turn (Insert a) (Find c) what marks m t did saw h = tt
+log_turn (Insert a) (Insert c) what marks m t did saw h = insert_on marks m (insert_case a.key a.value a.stage what c.stage t.2) did h
+log_turn (Delete a) (Find c) what marks m t did saw h = tt
+log_turn (Delete a) (Delete c) what marks m t did saw h = delete_on marks m (delete_case a.key a.stage what c.stage t.1) did h
+log_turn (Post a) (Find c) what marks m t did saw h = tt
+log_turn (Find a) (Part c) what marks m t did saw h = tt
+log_turn (Insert a) (Part c) what marks m t did saw h = tt
+log_turn (Delete a) (Part c) what marks m t did saw h = tt
+log_turn (Post a) (Part c) what marks m t did saw h = tt
+log_turn (Part a) (Find c) what marks m t did saw h = tt
+log_turn (Part a) (Part c) what marks m t did saw h = tt
+log_turn (Find a) (Reclaim c) what marks m t did saw h = tt
+log_turn (Insert a) (Reclaim c) what marks m t did saw h = tt
+log_turn (Delete a) (Reclaim c) what marks m t did saw h = tt
+log_turn (Post a) (Reclaim c) what marks m t did saw h = tt
+log_turn (Part a) (Reclaim c) what marks m t did saw h = tt
+log_turn (Reclaim a) (Reclaim c) what marks m t did saw h = tt
+log_turn (Reclaim a) (Find c) what marks m t did saw h = tt
+log_turn (Reclaim a) (Part c) what marks m t did saw h = tt
+log_turn (Compress a) (Compress c) what marks m t did saw h =
+    subst (λ l. compress_log l c.key c.stage (marks ++ m ∷ [])) (sym t.0) (subst (λ k. compress_log a.level k c.stage (marks ++ m ∷ [])) (sym t.1) (compress_on marks m a.level a.key a.least (compress_case a.level a.key a.stage what c.stage t.2) did saw h))
+log_turn (Compress a) (Find c) what marks m t did saw h = tt
+log_turn (Compress a) (Part c) what marks m t did saw h = tt
+log_turn (Compress a) (Reclaim c) what marks m t did saw h = tt
+log_turn old new what marks m t did saw h = absurd t
+
+log_stays : (old : Proc) (marks : Trail) (m : Mark) → m.event.act ≡ Miss → proc_log old marks → proc_log old (marks ++ m ∷ [])
+log_stays (Find a) marks m did h = tt
+log_stays (Insert a) marks m did h = insert_stays marks m (λ x l. (let e = sym did ∙ l in cc)) (ap put_in did) a.stage h
+log_stays (Delete a) marks m did h = delete_stays marks m (λ x l. (let e = sym did ∙ l in cc)) (ap put_in did) a.stage h
+log_stays (Part a) marks m did h = tt
+log_stays (Compress a) marks m did h = compress_stays marks m a.level a.key did a.stage h
+log_stays (Reclaim a) marks m did h = tt
+log_stays (Post a) marks m did h = post_stays marks m a.level a.key a.least (ap writes_in did) (λ x o. (let e = sym did ∙ o in cc)) a.stage h
+
+-- the logs of all processes after a turn of p
+logs_after : (w : World Run) (p : Name) (a : Act Page Reply) (s : State Page) (b : Run) (t : Turned bare w p a s b) → IsGood know w → ((marks : Trail) (m : Mark) → marks ≡ marks_of p w.trail → m ≡ record { event = record { process = p; act = a }; saw = t.saw; said = t.said } → proc_log b.state (marks ++ m ∷ [])) → (q : Name) → proc_log (t.next.proc q).state (marks_of q t.next.trail)
+logs_after w p a s b t g mine q =
+    let m : Mark = record { event = record { process = p; act = a }; saw = t.saw; said = t.said } in
+    elim (name_cases q p) [
+      | inl e ↦
+          let state : t.next.proc q ≡ b = ap t.next.proc e ∙ t.extends.proc.at in
+          let trail : marks_of q t.next.trail ≡ marks_of p w.trail ++ m ∷ [] = ap (λ n. marks_of n t.next.trail) e ∙ (ap (marks_of p) t.extends.trail ∙ marks_of-own p w.trail m refl) in
+          subst (λ r. proc_log r.state (marks_of q t.next.trail)) (sym state) (subst (proc_log b.state) (sym trail) (mine (marks_of p w.trail) m refl refl))
+      | inr n ↦
+          let trail : marks_of q t.next.trail ≡ marks_of q w.trail = ap (marks_of q) t.extends.trail ∙ marks_of-other q w.trail m (λ e. n (sym e)) in
+          subst (λ r. proc_log r.state (marks_of q t.next.trail)) (sym (t.extends.proc.others q n)) (subst (proc_log (w.proc q).state) (sym trail) (g.sure q).log)
+    ]
+
+full_turned : (w : World Run) (p : Name) (a : Act Page Reply) (s : State Page) (b : Run) (t : Turned bare w p a s b) → ((q : Name) → proc_log (t.next.proc q).state (marks_of q t.next.trail)) → Turned know w p a s b
+full_turned w p a s b t logs = record { next = t.next; saw = t.saw; said = t.said; extends = t.extends; now = t.now; good = full_good t.next t.good logs }
+
+pub with_logs : (w : World Run) (p : Name) (a : Run) (new : Proc) (what : Seen) (s : State Page) (did : Act Page Reply) → w.proc p ≡ a → IsGood know w → Takes a.state what new → IsTold w.now w.size (next_of a.state) what → did ≡ event_of (end_of_proc a.state) (next_of a.state) what → Turned bare w p did s (run_next w.now a what new) → Turned know w p did s (run_next w.now a what new)
+with_logs w p a new what s did is g t told same turned =
+    full_turned w p did s (run_next w.now a what new) turned (logs_after w p did s (run_next w.now a what new) turned g (λ marks m here mark.
+    let seen_it = subst (λ e. Saw w.now e turned.saw) same turned.extends.saw in
+    log_turn a.state new what marks m t (ap (λ z. z.event.act) mark ∙ same)
+    (λ x c e f. ap (λ z. z.saw) mark ∙ saw_words (end_of_proc a.state) w.now w.size turned.saw (next_of a.state) what told seen_it x c (sym (ap (λ z. z.event.act) mark ∙ same) ∙ e) f)
+    (subst (λ r. proc_log r.state marks) is (subst (proc_log (w.proc p).state) (sym here) (g.sure p).log))))
+
+pub with_miss : (w : World Run) (p : Name) (s : State Page) → IsGood know w → Turned bare w p Miss s (w.proc p) → Turned know w p Miss s (w.proc p)
+with_miss w p s g turned =
+    full_turned w p Miss s (w.proc p) turned (logs_after w p Miss s (w.proc p) turned g (λ marks m here mark.
+    log_stays (w.proc p).state marks m (ap (λ z. z.event.act) mark) (subst (proc_log (w.proc p).state) (sym here) (g.sure p).log)))

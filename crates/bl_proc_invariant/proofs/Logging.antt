@@ -1,0 +1,305 @@
+-- What a post has done, and one event more: what is told of it in the next state.
+use Rattle.std.proofs.Common.{ℕ, ◌≡◌, ◌≢◌, ◌<◌, ◌-◌, ◌++◌, List, [], ◌∷◌, None, Some, arith, ap, sym, ◌∙◌, refl, subst, inl, inr, append_assoc, append-nil}
+use Rattle.bl_model.specs.declared.operation.Reply.{Reply}
+use Rattle.bl_page.specs.declared.page.Page.{Page}
+use Rattle.bl_page.specs.declared.page.Page.TheVariants.{Inner}
+use Rattle.bl_page.specs.Machine.{Act}
+use Rattle.bl_page.specs.Machine.Act.{Get, Put, Latch}
+use Rattle.bl_claims.specs.Pages.{node_of, roots_of}
+use Rattle.bl_claims.specs.Trails.{Mark, Trail}
+use Rattle.bl_claims.specs.Meanings.{writes_in, RaisesOnly, HasRaised, ArePuts}
+use Rattle.bl_core.proofs.Meant.{begun_now, wrote_on, wrote_still, got_on, got_last, parted_on, already_on, stale_on, tall_on, no_room_on}
+use Rattle.bl_core.proofs.Fitted.{fits_row, split_cut}
+use Rattle.bl_rearrange.specs.declared.fitted.Fitted.TheVariants.{Split}
+use Rattle.bl_rearrange.specs.Rearranged.{IsFitted}
+use Rattle.bl_proc_base.specs.declared.acts.Action.TheVariants as act
+use Rattle.bl_proc_base.specs.declared.acts.Seen.{Seen}
+use Rattle.bl_proc_base.specs.declared.acts.Seen.TheVariants as seen
+use Rattle.bl_proc_base.specs.declared.onwards.Step.{Step}
+use Rattle.bl_proc_base.specs.declared.onwards.Step.TheVariants.{Again, Right, Down, Here}
+use Rattle.bl_proc_base.specs.declared.approaching.Approach.{Approach}
+use Rattle.bl_proc_base.specs.declared.approaching.Approach.TheVariants as way
+use Rattle.bl_proc_base.specs.declared.approaching.Approached.TheVariants as came
+use Rattle.bl_proc_base.specs.declared.changing.Outcome.{Outcome}
+use Rattle.bl_proc_base.specs.declared.changing.Outcome.TheVariants as outcome
+use Rattle.bl_proc_base.specs.declared.changing.Change.{Change}
+use Rattle.bl_proc_base.specs.declared.changing.Change.TheVariants as change
+use Rattle.bl_proc_base.specs.declared.changing.Changed.TheVariants as changed
+use Rattle.bl_proc_base.specs.declared.growing.Growth.{Growth}
+use Rattle.bl_proc_base.specs.declared.growing.Growth.TheVariants as growth
+use Rattle.bl_proc_base.specs.declared.growing.Grew.TheVariants as grew
+use Rattle.bl_proc.specs.declared.walking.Walk.{Walk}
+use Rattle.bl_proc.specs.declared.posting.PostReply.{PostReply}
+use Rattle.bl_proc.specs.declared.posting.PostReply.TheVariants as reply
+use Rattle.bl_proc.specs.declared.posting.PostStage.{PostStage}
+use Rattle.bl_proc.specs.declared.posting.PostStage.TheVariants as post
+use Rattle.bl_proc_base.specs.Onwards.{Leads}
+use Rattle.bl_proc_base.specs.Approaches.{approach_next, Turns, Approaches}
+use Rattle.bl_proc_base.specs.Changes.{change_next, EntersPair}
+use Rattle.bl_proc_base.specs.Growths.{growth_next, IsTop}
+use Rattle.bl_proc.specs.Posts.{post_reply, post_next_in, PostArrives}
+use Rattle.bl_proc_invariant.specs.Turns.{event_of}
+use Rattle.bl_proc_invariant.specs.Logs.{Holding, HoldsParent, HoldsBoth, IsToPut, approach_log, outcome_log, change_log, growth_log, reply_log, post_log}
+use Rattle.bl_proc_invariant.proofs.Holdings.{held_raised, held_now, held_on, parent_held_on, both_held_on, child_got, parent_got, refused_while, under, is_parted, cut_low, row_together, cut_together}
+use Rattle.bl_proc_unique.proofs.WayCases.{ApproachCase, approach_case, ChangeCase, change_case, GrowthCase, growth_case}
+use Rattle.bl_proc_unique.proofs.KindCases.{PostCase}
+
+no_latched : (level x : ℕ) (c : Page) (o : Step) (y : ℕ) → Turns level x c o (way.Latched y) → ⊥
+no_latched level x c Again y h = h
+no_latched level x c (Right z) y h = h
+no_latched level x c (Down z) y h = h
+no_latched level x c Here y h = h
+
+same_latched : (x y : ℕ) → way.Latched y ≡ way.Latched x → x ≡ y
+same_latched x y e = cc
+
+pub gets_nothing : (x : ℕ) (what : Seen) → writes_in (event_of None (act.Get x) what) ≡ []
+gets_nothing x seen.Done = refl
+gets_nothing x (seen.Words c) = refl
+gets_nothing x (seen.Took n) = refl
+gets_nothing x (seen.Owner retired started own) = refl
+gets_nothing x (seen.Blocks it) = refl
+gets_nothing x seen.Missed = refl
+gets_nothing x seen.Refused = refl
+
+-- on its way to a page a process writes nothing
+pub approach_writes : (a : Approach) (what : Seen) → writes_in (event_of None (approach_next a) what) ≡ []
+approach_writes way.Start what = gets_nothing 0 what
+approach_writes (way.At x) what = gets_nothing x what
+approach_writes (way.Latching x) seen.Done = refl
+approach_writes (way.Latching x) (seen.Words c) = refl
+approach_writes (way.Latching x) (seen.Took n) = refl
+approach_writes (way.Latching x) (seen.Owner retired started own) = refl
+approach_writes (way.Latching x) (seen.Blocks it) = refl
+approach_writes (way.Latching x) seen.Missed = refl
+approach_writes (way.Latching x) seen.Refused = refl
+approach_writes (way.Latched x) what = gets_nothing x what
+approach_writes (way.Leaving x to) seen.Done = refl
+approach_writes (way.Leaving x to) (seen.Words c) = refl
+approach_writes (way.Leaving x to) (seen.Took n) = refl
+approach_writes (way.Leaving x to) (seen.Owner retired started own) = refl
+approach_writes (way.Leaving x to) (seen.Blocks it) = refl
+approach_writes (way.Leaving x to) seen.Missed = refl
+approach_writes (way.Leaving x to) seen.Refused = refl
+
+module _ (m : Mark) (level key : ℕ) where
+  -- on the way a page is held from its latch on
+  pub latched_on : {a : Approach} {y : ℕ} {what : Seen} → ApproachCase level key a what (came.On (way.Latched y)) → m.event.act ≡ event_of None (approach_next a) what → m.event.act ≡ Latch y
+  latched_on (ApproachCase.Entered c _ t) did = absurd t
+  latched_on (ApproachCase.Turned x c _ o l u) did = absurd (no_latched level x c o _ u)
+  latched_on (ApproachCase.LatchedPage x _ t) did = did ∙ ap Latch (same_latched x _ t)
+  latched_on (ApproachCase.MissedPage x _ t) did = absurd (let e = t in cc)
+  latched_on (ApproachCase.OpenedFor x z _ t) did = absurd (let e = t in cc)
+  latched_on (ApproachCase.OpenedLost x _ t) did = absurd (let e = t in cc)
+
+module _ (marks : Trail) (m : Mark) (level key : ℕ) (least : 0 < level) where
+  abbrev more : Trail
+  more = marks ++ m ∷ []
+
+  -- new top levels alone were written, and still are
+  raised_on : writes_in m.event.act ≡ [] → HasRaised level marks → HasRaised level more
+  raised_on quiet h = wrote_still marks m (RaisesOnly level) quiet h
+
+  -- an answer goes on meaning what it meant
+  pub reply_on : (r : PostReply) → writes_in m.event.act ≡ [] → reply_log level key r marks → reply_log level key r more
+  reply_on (reply.Done s) quiet h = parted_on marks m quiet h
+  reply_on reply.Already quiet h = already_on marks m quiet h
+  reply_on reply.Stale quiet h = stale_on marks m quiet h
+  reply_on reply.NoRoom quiet h = no_room_on marks m quiet h
+  reply_on reply.TooTall quiet h = tall_on marks m quiet h
+
+  outcome_on : (o : Outcome) → writes_in m.event.act ≡ [] → outcome_log level key o marks → outcome_log level key o more
+  outcome_on outcome.Changed quiet h = parted_on marks m quiet h
+  outcome_on (outcome.Parted s) quiet h = parted_on marks m quiet h
+  outcome_on outcome.Refused quiet h = no_room_on marks m quiet h
+
+  outcome_reply : (o : Outcome) → outcome_log level key o more → reply_log level key (post_reply o) more
+  outcome_reply outcome.Changed h = h
+  outcome_reply (outcome.Parted s) h = h
+  outcome_reply outcome.Refused h = h
+
+  approach_raised : (a : Approach) → approach_log level a marks → HasRaised level marks
+  approach_raised way.Start h = h
+  approach_raised (way.At x) h = h
+  approach_raised (way.Latching x) h = h
+  approach_raised (way.Latched x) h = held_raised h
+  approach_raised (way.Leaving x to) h = h
+
+  -- wherever it goes on its way
+  off_on : (b : Approach) → (y : ℕ) → HasRaised level more → ((x : ℕ) → b ≡ way.Latched x → Holding level more x []) → approach_log level b more
+  off_on way.Start y first latched = first
+  off_on (way.At x) y first latched = first
+  off_on (way.Latching x) y first latched = first
+  off_on (way.Latched x) y first latched = latched x refl
+  off_on (way.Leaving x to) y first latched = first
+
+  approach_on : (a b : Approach) (what : Seen) → Approaches level key a what (came.On b) → m.event.act ≡ event_of None (approach_next a) what → approach_log level a marks → approach_log level b more
+  approach_on a b what t did h = off_on b 0 (raised_on (ap writes_in did ∙ approach_writes a what) (approach_raised a h))
+      (λ x e. held_now marks m x (latched_on m level key (approach_case level key a what _ (subst (λ z. Approaches level key a what (came.On z)) e t)) did) (approach_raised a h))
+
+  -- at the parent
+  to_walk_on : (x : ℕ) (c : Page) (v : Walk) → Leads c key level Here → PostArrives key x c (post.Walking v) → m.event.act ≡ Get x → m.saw ≡ Some c → Holding level marks x [] → post_log level key (post.Walking v) more
+  to_walk_on x c v l t did saw h =
+      let unlisted : (node_of c).look key ≡ None = subst (λ z. (node_of z).look key ≡ None) (sym t.2) (subst (λ z. (node_of (Inner v.parent)).look z ≡ None) t.1 v.unlisted) in
+      let here : HoldsParent level key more x c [] = parent_got marks m c did saw h l.2 l.1 unlisted in
+      (subst (λ z. HoldsParent level key more z (Inner v.parent) []) (sym t.0) (subst (λ z. HoldsParent level key more x z []) t.2 here), t.1)
+
+  listed_on : (x : ℕ) (c : Page) (y : ℕ) → Leads c key level Here → PostArrives key x c (post.Staying y reply.Already) → m.event.act ≡ Get x → m.saw ≡ Some c → Holding level marks x [] → post_log level key (post.Staying y reply.Already) more
+  listed_on x c y l t did saw h = record {
+    parent = record {
+      at = x;
+      under = under (held_on marks m [] (λ o. (let e = sym did ∙ o in cc)) (subst (λ a. ArePuts (writes_in a) []) (sym did) tt) h);
+      parent = c;
+      got = got_last h.during m did saw;
+      level_is = l.2;
+      covers = l.1;
+    };
+    none = refl;
+    child = t.1.0;
+    listed = t.1.1;
+  }
+
+  -- the anchor was put, and with it a new top level
+  raised_more : (x : ℕ) (top anchor : Page) (acts : List (Act Page Reply)) → ((before : List (Act Page Reply)) × RaisesOnly level before × (acts ≡ before ++ Put x top ∷ [])) → (node_of top).shape.level ≡ level → m.event.act ≡ Put 0 anchor → RaisesOnly level (acts ++ writes_in m.event.act)
+  raised_more x top anchor acts (before, raises, same) above did =
+      subst (RaisesOnly level) (sym (ap (λ z. acts ++ writes_in z) did ∙ (ap (λ z. z ++ Put 0 anchor ∷ []) same ∙ append_assoc before (Put x top ∷ []) (Put 0 anchor ∷ [])))) (RaisesOnly.Again x top anchor raises above)
+
+  top_level : (above below : ℕ) (c : Page) → IsTop above below c → (node_of c).shape.level ≡ above
+  top_level above below (Inner i) t = t.0
+  top_level above below old t = absurd t
+
+  grow_on : {g h : Growth} {what : Seen} → GrowthCase level g what (grew.On h) → m.event.act ≡ event_of None (growth_next g) what → growth_log level g marks → growth_log level h more
+  grow_on (GrowthCase.LatchedAnchor h t) did log = subst (λ z. growth_log level z more) (sym t) (held_now marks m 0 did log)
+  grow_on (GrowthCase.Missed h t) did log = subst (λ z. growth_log level z more) (sym t) (raised_on (ap writes_in did) log)
+  grow_on (GrowthCase.Rises c q t) did log = (held_on marks m [] (λ o. (let e = sym did ∙ o in cc)) (subst (λ a. ArePuts (writes_in a) []) (sym did) tt) log, ap (λ z. (roots_of z).levels) (sym t.0) ∙ t.1)
+  grow_on (GrowthCase.Stands c t) did log = raised_on (ap writes_in did) (held_raised log)
+  grow_on (GrowthCase.TookTop rise n q t) did log = (raised_on (ap writes_in did) (held_raised log.0), top_level _ _ q.top t.1.0 ∙ log.1)
+  grow_on (GrowthCase.TopRefused rise h t) did log = subst (λ z. growth_log level z more) (sym t) (refused_while marks m did log.0)
+  grow_on (GrowthCase.PutTop r h t) did log = subst (λ z. growth_log level z more) (sym t) (wrote_on marks m (λ acts is. (acts, is, ap (λ z. acts ++ writes_in z) did)) log.0, log.1)
+  grow_on (GrowthCase.PutAnchor r h t) did log = subst (λ z. growth_log level z more) (sym t) (wrote_on marks m (λ acts is. raised_more r.new r.top r.anchor acts is log.1 did) log.0)
+  grow_on (GrowthCase.OpenedTop x h t) did log = subst (λ z. growth_log level z more) (sym t) (raised_on (ap writes_in did) log)
+
+  grow_end : {g : Growth} {what : Seen} → GrowthCase level g what grew.Refused → m.event.act ≡ event_of None (growth_next g) what → growth_log level g marks → reply_log level key reply.NoRoom more
+  grow_end GrowthCase.OpenedRefused did h = no_room_on marks m (ap writes_in did) h
+
+  grown_on : {g : Growth} {what : Seen} → GrowthCase level g what grew.Grown → m.event.act ≡ event_of None (growth_next g) what → growth_log level g marks → HasRaised level more
+  grown_on GrowthCase.OpenedGrown did h = raised_on (ap writes_in did) h
+
+  -- a pair is to enter the parent
+  enter_on : (x : ℕ) (c : Page) (word : ℕ) (d : Change) → EntersPair x c key word d → HoldsBoth level key more x c word [] → change_log level key d more
+  enter_on x c word (change.Putting y page) t h =
+      let put : IsToPut level key more x [] (page ∷ []) = record { parent = c; child = word; both = h; together = row_together c page key word (fits_row c page key word 0 t.1 h.above.covers) h.above.unlisted } in
+      subst (λ z. IsToPut level key more z [] (page ∷ [])) (sym t.0) put
+  enter_on x c word (change.Taking full) t h =
+      (subst (λ z. HoldsBoth level key more full.at z full.word []) (sym t.3) (subst (λ z. HoldsBoth level key more full.at c z []) (sym t.2) (subst (λ z. HoldsBoth level key more z c word []) (sym t.0) h)), t.1)
+  enter_on x c word old t h = absurd t
+
+  -- on with the change of the parent
+  change_on : {c d : Change} {what : Seen} → ChangeCase c what (changed.On d) → m.event.act ≡ event_of None (change_next c) what → change_log level key c marks → change_log level key d more
+  change_on (ChangeCase.Put x page d t) did h =
+      let both : HoldsBoth level key more x h.parent h.child (page ∷ []) = both_held_on marks m (page ∷ []) (λ o. (let e = sym did ∙ o in cc)) (subst (λ a. ArePuts (writes_in a) (page ∷ [])) (sym did) ((_, refl), tt)) h.both in
+      let put : IsToPut level key more x (page ∷ []) (page ∷ []) = record { parent = h.parent; child = h.child; both = both; together = h.together } in
+      subst (λ z. change_log level key z more) (sym t) (is_parted None (page ∷ []) put (page, refl))
+  change_on (ChangeCase.PutRefused x page d t) did h =
+      subst (λ z. change_log level key z more) (sym t) (refused_while marks m did h.both.above.holding)
+  change_on (ChangeCase.Took full n q t) did h =
+      let both : HoldsBoth level key more full.at full.page full.word [] = both_held_on marks m [] (λ o. (let e = sym did ∙ o in cc)) (subst (λ a. ArePuts (writes_in a) []) (sym did) tt) h.0 in
+      let cut = split_cut full.page q.left q.right key full.word n q.separator (subst (λ z. IsFitted full.page z full.word n (Split q.left q.right q.separator)) h.1 t.2) both.above.covers in
+      let put = subst (λ z. IsToPut level key more z [] (q.right ∷ q.left ∷ [])) (sym t.0) (record { parent = full.page; child = full.word; both = both; together = cut_together full.page q.left q.right n key full.word cut both.above.unlisted }) in
+      (put, cut_low full.page q.left q.right full.key full.word n q.separator t.2)
+  change_on (ChangeCase.TakeRefused full d t) did h =
+      subst (λ z. change_log level key z more) (sym t) (refused_while marks m did h.0.above.holding)
+  change_on (ChangeCase.PutNew p d t) did h =
+      let put = h.0 in
+      let both : HoldsBoth level key more p.at put.parent put.child (p.right ∷ []) = both_held_on marks m (p.right ∷ []) (λ o. (let e = sym did ∙ o in cc)) (subst (λ a. ArePuts (writes_in a) (p.right ∷ [])) (sym did) ((_, refl), tt)) put.both in
+      subst (λ z. change_log level key z more) (sym t) (record { parent = put.parent; child = put.child; both = both; together = put.together }, h.1)
+  change_on (ChangeCase.PutOld p d t) did h =
+      let was = h.0 in
+      let both : HoldsBoth level key more p.at was.parent was.child (p.right ∷ p.left ∷ []) = both_held_on marks m (p.left ∷ []) (λ o. (let e = sym did ∙ o in cc)) (subst (λ a. ArePuts (writes_in a) (p.left ∷ [])) (sym did) ((_, refl), tt)) was.both in
+      let put : IsToPut level key more p.at (p.right ∷ p.left ∷ []) (p.right ∷ p.left ∷ []) = record { parent = was.parent; child = was.child; both = both; together = was.together } in
+      subst (λ z. change_log level key z more) (sym t) (is_parted (Some p.separator) (p.right ∷ p.left ∷ []) put (p.right, p.left, refl, h.1))
+  change_on (ChangeCase.OpenedNew x new separator d t) did h =
+      subst (λ z. change_log level key z more) (sym t) (parted_on marks m (ap writes_in did) h)
+
+  change_end : {c : Change} {what : Seen} {o : Outcome} → ChangeCase c what (changed.Over o) → m.event.act ≡ event_of None (change_next c) what → change_log level key c marks → reply_log level key (post_reply o) more
+  change_end (ChangeCase.Opened x o last t) did h = outcome_reply last (outcome_on last (ap writes_in did) (subst (λ z. outcome_log level key z marks) (sym t) h))
+
+  -- any step of a post
+  pub post_on : {old new : PostStage} {what : Seen} → PostCase level key old what new → m.event.act ≡ event_of None (post_next_in old) what → ((x : ℕ) (c : Page) → m.event.act ≡ Get x → what ≡ seen.Words c → m.saw ≡ Some c) → post_log level key old marks → post_log level key new more
+  post_on (PostCase.Began a t) did saw h = subst (λ z. approach_log level z more) (sym t) (begun_now marks m (RaisesOnly level) did RaisesOnly.Never)
+  post_on (PostCase.NoLevel c t) did saw h = inl (record { first = raised_on (ap writes_in did) h; anchor = c; got = got_last marks m did (saw 0 c did refl); few = t })
+  post_on (PostCase.Tallest c t) did saw h = record { last = t.1; first = raised_on (ap writes_in did) h; anchor = c; got = got_last marks m did (saw 0 c did refl); full = t.0 ∙ t.1 }
+  post_on (PostCase.ToGrow c t) did saw h = raised_on (ap writes_in did) h
+  post_on (PostCase.Came a what b t) did saw h = approach_on a b what t did h
+  post_on (PostCase.Listed x c y l t) did saw h = listed_on x c y l t did (saw x c did refl) h
+  post_on (PostCase.ToWalk x c v l t) did saw h = to_walk_on x c v l t did (saw x c did refl) h
+  post_on (PostCase.Grew g what k t) did saw h = grow_on (growth_case level g what _ t) did h
+  post_on (PostCase.Grown g what b t) did saw h = subst (λ z. approach_log level z more) (sym t.1) (grown_on (growth_case level g what _ t.0) did h)
+  post_on (PostCase.NoRoom g what last t) did saw h = subst (λ z. reply_log level key z more) (sym t.1) (grow_end (growth_case level g what _ t.0) did h)
+  post_on (PostCase.Walked v c u t) did saw (h, same) =
+      let on : HoldsParent level key more v.at (Inner v.parent) [] = parent_held_on marks m [] (λ o. (let e = sym did ∙ o in cc)) (subst (λ a. ArePuts (writes_in a) []) (sym did) tt) h in
+      (subst (λ z. HoldsParent level key more z (Inner u.parent) []) (sym t.0) (subst (λ z. HoldsParent level key more v.at (Inner z) []) (sym t.2) on), t.1 ∙ same)
+  post_on (PostCase.Entered v c d t) did saw (h, same) =
+      let l : Leads c key (level - 1) Here = subst (λ z. Leads c z (level - 1) Here) same t.0 in
+      let both : HoldsBoth level key more v.at (Inner v.parent) v.child [] = child_got marks m v.child c did (saw v.child c did refl) h (let e = l.2 in omega (arith, least)) l.1 (t.1 ∙ same) in
+      enter_on v.at (Inner v.parent) v.child d (subst (λ z. EntersPair v.at (Inner v.parent) z v.child d) same t.2) both
+  post_on (PostCase.Stale v c x t) did saw (h, same) =
+      let l : Leads c key (level - 1) Here = subst (λ z. Leads c z (level - 1) Here) same t.1 in
+      let on = held_on marks m [] (λ o. (let e = sym did ∙ o in cc)) (subst (λ a. ArePuts (writes_in a) []) (sym did) tt) h.holding in
+      inr (record {
+        parent = record { at = v.at; under = under on; parent = Inner v.parent; got = got_on h.holding.during m h.got; level_is = h.level_is; covers = h.covers };
+        child = record { at = v.child; child = c; got = got_last h.holding.during m did (saw v.child c did refl); level_is = (let e = l.2 in omega (arith, least)); covers = l.1 };
+        none = refl;
+        low = subst (λ z. (node_of c).shape.low ≢ z) same t.2;
+      })
+  post_on (PostCase.Lost v c a t) did saw (h, same) = subst (λ z. approach_log level z more) (sym t.0) (raised_on (ap writes_in did) (held_raised h.holding))
+  post_on (PostCase.Changed c what d t) did saw h = change_on (change_case c what _ t) did h
+  post_on (PostCase.Finished c what last t) did saw h = subst (λ z. reply_log level key z more) (sym t.2) (change_end (change_case c what _ t.1) did h)
+  post_on (PostCase.Opened x r last t) did saw h = subst (λ z. reply_log level key z more) (sym t) (reply_on r (ap writes_in did) h)
+  post_on (PostCase.Ended r last t) did saw h = subst (λ z. reply_log level key z more) (sym t) (reply_on r (ap writes_in did) h)
+
+  -- a mark that neither writes nor opens a page
+  module _ (quiet : writes_in m.event.act ≡ []) (shut : (x : ℕ) → m.event.act ≢ Act.Open x) where
+    put : ArePuts (writes_in m.event.act) []
+    put = subst (λ z. ArePuts z []) (sym quiet) tt
+
+    both_stay : {x y : ℕ} {c : Page} (puts : _) → HoldsBoth level key marks x c y puts → HoldsBoth level key more x c y puts
+    both_stay {x} {y} {c} puts h = subst (λ z. HoldsBoth level key more x c y z) (append-nil puts) (both_held_on marks m [] (shut x) put h)
+
+    to_put_stays : {x : ℕ} (puts pages : _) → IsToPut level key marks x puts pages → IsToPut level key more x puts pages
+    to_put_stays puts pages h = record { parent = h.parent; child = h.child; both = both_stay puts h.both; together = h.together }
+
+    approach_stays : (a : Approach) → approach_log level a marks → approach_log level a more
+    approach_stays way.Start h = raised_on quiet h
+    approach_stays (way.At x) h = raised_on quiet h
+    approach_stays (way.Latching x) h = raised_on quiet h
+    approach_stays (way.Latched x) h = held_on marks m [] (shut x) put h
+    approach_stays (way.Leaving x to) h = raised_on quiet h
+
+    growth_stays : (g : Growth) → growth_log level g marks → growth_log level g more
+    growth_stays growth.Latching h = raised_on quiet h
+    growth_stays growth.Latched h = held_on marks m [] (shut 0) put h
+    growth_stays (growth.Taking r) h = (held_on marks m [] (shut 0) put h.0, h.1)
+    growth_stays (growth.PuttingTop r) h = (raised_on quiet h.0, h.1)
+    growth_stays (growth.PuttingAnchor r) h = (wrote_still marks m _ quiet h.0, h.1)
+    growth_stays (growth.OpeningTop x) h = raised_on quiet h
+    growth_stays growth.OpeningGrown h = raised_on quiet h
+    growth_stays growth.OpeningRefused h = no_room_on marks m quiet h
+
+    change_stays : (c : Change) → change_log level key c marks → change_log level key c more
+    change_stays (change.Putting x page) h = to_put_stays [] (page ∷ []) h
+    change_stays (change.Taking full) h = (both_stay [] h.0, h.1)
+    change_stays (change.PuttingNew p) h = (to_put_stays [] (p.right ∷ p.left ∷ []) h.0, h.1)
+    change_stays (change.PuttingOld p) h = (to_put_stays (p.right ∷ []) (p.right ∷ p.left ∷ []) h.0, h.1)
+    change_stays (change.OpeningNew x new separator) h = parted_on marks m quiet h
+    change_stays (change.Opening x o) h = outcome_on o quiet h
+
+    pub post_stays : (old : PostStage) → post_log level key old marks → post_log level key old more
+    post_stays post.New h = tt
+    post_stays (post.Coming a) h = approach_stays a h
+    post_stays (post.Growing g) h = growth_stays g h
+    post_stays (post.Walking v) h = (parent_held_on marks m [] (shut v.at) put h.0, h.1)
+    post_stays (post.Changing c) h = change_stays c h
+    post_stays (post.Staying x r) h = reply_on r quiet h
+    post_stays (post.Ending r) h = reply_on r quiet h
+    post_stays (post.Over r) h = reply_on r quiet h

@@ -1,0 +1,183 @@
+-- What a process does next is possible: the pages that it gets are not released, and those that it puts, opens or retires are
+-- its own.
+use Rattle.std.proofs.Common.{ℕ, ◌≡◌, ◌≢◌, None, Some, ap, sym, ◌∙◌}
+use Rattle.std.proofs.lemmas.Bool.{false≢true}
+use Rattle.bl_page.specs.declared.page.Page.{Page}
+use Rattle.bl_page.specs.Machine.{Name}
+use Rattle.bl_page.specs.Machine.Owner.{Released, Held}
+use Rattle.bl_core_tree.specs.Trees.Status.{Free}
+use Rattle.bl_core.specs.Worlds.{Know, World, was_in, MayGet, IsSure, IsGood}
+use Rattle.bl_core.proofs.Steady.{free_not}
+use Rattle.bl_core.proofs.Descents.{not_released, anchor_not_released}
+use Rattle.bl_proc_base.specs.declared.acts.Action.{Action}
+use Rattle.bl_proc_base.specs.declared.acts.Action.TheVariants as act
+use Rattle.bl_proc_base.specs.declared.approaching.Approach.{Approach}
+use Rattle.bl_proc_base.specs.declared.approaching.Approach.TheVariants as way
+use Rattle.bl_proc_base.specs.declared.changing.Change.{Change}
+use Rattle.bl_proc_base.specs.declared.changing.Change.TheVariants as change
+use Rattle.bl_proc_base.specs.declared.growing.Growth.{Growth}
+use Rattle.bl_proc_base.specs.declared.growing.Growth.TheVariants as growth
+use Rattle.bl_proc.specs.declared.searching.FindStage.{FindStage}
+use Rattle.bl_proc.specs.declared.searching.FindStage.TheVariants as find
+use Rattle.bl_proc.specs.declared.parts.PartStage.{PartStage}
+use Rattle.bl_proc.specs.declared.parts.PartStage.TheVariants as part
+use Rattle.bl_proc.specs.declared.inserting.InsertStage.{InsertStage}
+use Rattle.bl_proc.specs.declared.inserting.InsertStage.TheVariants as insert
+use Rattle.bl_proc.specs.declared.deleting.DeleteStage.{DeleteStage}
+use Rattle.bl_proc.specs.declared.deleting.DeleteStage.TheVariants as delete
+use Rattle.bl_proc.specs.declared.posting.PostStage.{PostStage}
+use Rattle.bl_proc.specs.declared.posting.PostStage.TheVariants as post
+use Rattle.bl_proc.specs.declared.reclaiming.ReclaimStage.{ReclaimStage}
+use Rattle.bl_proc.specs.declared.reclaiming.ReclaimStage.TheVariants as reclaim
+use Rattle.bl_proc_compress.specs.declared.compressing.Compression.{Compression}
+use Rattle.bl_proc_compress.specs.declared.compressing.Compression.TheVariants.{LatchingLeft, LatchedLeft, LatchingRight, LatchedRight, PuttingFirst, PuttingParent, PuttingLast, Retiring, OpeningRight, OpeningLeft, OpeningParent}
+use Rattle.bl_proc_compress.specs.declared.squeezing.CompressStage.{CompressStage}
+use Rattle.bl_proc_compress.specs.declared.squeezing.CompressStage.TheVariants as compress
+use Rattle.bl_proc.specs.declared.kinds.Proc.{Proc}
+use Rattle.bl_proc.specs.declared.kinds.Proc.TheVariants.{Find, Insert, Delete, Post, Part, Compress, Reclaim}
+use Rattle.bl_proc_base.specs.Approaches.{approach_next}
+use Rattle.bl_proc_base.specs.Changes.{change_next}
+use Rattle.bl_proc_compress.specs.Compressions.{put_of, other, compression_next}
+use Rattle.bl_rearrange.specs.declared.sides.Side.{Side}
+use Rattle.bl_rearrange.specs.declared.sides.Side.TheVariants as side
+use Rattle.bl_proc_compress.specs.declared.compressing.Puts.{Puts}
+use Rattle.bl_proc_base.specs.Growths.{growth_next}
+use Rattle.bl_proc.specs.Searches.{find_next_in}
+use Rattle.bl_proc.specs.Parts.{part_next_in}
+use Rattle.bl_proc.specs.Inserts.{insert_next_in}
+use Rattle.bl_proc.specs.Deletes.{delete_next_in}
+use Rattle.bl_proc.specs.Posts.{post_next_in}
+use Rattle.bl_proc_compress.specs.Compresses.{compress_next_in}
+use Rattle.bl_proc.specs.Reclaims.{reclaim_next_in}
+use Rattle.bl_proc.specs.Processes.{next_of}
+use Rattle.bl_proc_invariant.specs.Compressing.{know_squeeze}
+use Rattle.bl_proc_invariant.specs.Tables.{Aim, know_approach, know_change}
+use Rattle.bl_proc_invariant.specs.Knowing.{know_growth, know_find, know_part, know_insert, know_delete, know_post, know_compress, know_reclaim, know_of, Run, bare, know}
+use Rattle.bl_proc_invariant.proofs.Logged.{bare_good}
+
+abbrev pub IsNear : {P : Type 0} → World P → Name → Action → Type 0
+IsNear w p (act.Get x) = w.now.owner x ≢ Released
+IsNear w p (act.Put x c) = w.now.owner x ≡ Held p
+IsNear w p (act.Latch x) = w.status x ≢ Free
+IsNear w p (act.Open x) = w.now.owner x ≡ Held p
+IsNear w p (act.Retire x) = w.now.owner x ≡ Held p
+IsNear w p action = Unit {0}
+
+module _ {P : Type 0} (know : P → Know) (w : World P) (g : IsGood know w) (p : Name) where
+  not_free : (x : ℕ) → MayGet w p x → w.status x ≢ Free
+  not_free x may e = false≢true (sym free_not ∙ (ap was_in (sym e) ∙ may.was))
+
+  anchor_not_free : w.status 0 ≢ Free
+  anchor_not_free e = (let a = g.tree.anchored in cc)
+
+  approach_near : (level key : ℕ) (a : Approach) → IsSure w p (know_approach level key a) → IsNear w p (approach_next a)
+  approach_near level key way.Start is = anchor_not_released know w g
+  approach_near level key (way.At x) is = not_released know w g p x is.goes.0.may
+  approach_near level key (way.Latching x) is = not_free x is.goes.0.may
+  approach_near level key (way.Latched x) is = not_released know w g p x is.goes.0.may
+  approach_near level key (way.Leaving x None) is = is.holds.0.owner
+  approach_near level key (way.Leaving x (Some y)) is = is.holds.0.owner
+
+  change_near : (aim : Aim) (got : ℕ → Page) (c : Change) → IsSure w p (know_change aim got c) → IsNear w p (change_next c)
+  change_near aim got (change.Putting x page) is = is.holds.0.owner
+  change_near aim got (change.Taking full) is = tt
+  change_near aim got (change.PuttingNew t) is = is.holds.1.0.owner
+  change_near aim got (change.PuttingOld t) is = is.holds.0.owner
+  change_near aim got (change.OpeningNew x y s) is = is.holds.1.0.owner
+  change_near aim got (change.Opening x o) is = is.holds.0.owner
+
+  growth_near : (level key : ℕ) (got : ℕ → Page) (a : Growth) → IsSure w p (know_growth level key got a) → IsNear w p (growth_next a)
+  growth_near level key got growth.Latching is = anchor_not_free
+  growth_near level key got growth.Latched is = anchor_not_released know w g
+  growth_near level key got (growth.Taking r) is = tt
+  growth_near level key got (growth.PuttingTop r) is = is.holds.1.0.owner
+  growth_near level key got (growth.PuttingAnchor r) is = is.holds.0.owner
+  growth_near level key got (growth.OpeningTop x) is = is.holds.1.0.owner
+  growth_near level key got growth.OpeningGrown is = is.holds.0.owner
+  growth_near level key got growth.OpeningRefused is = is.holds.0.owner
+
+  find_near : (key : ℕ) (a : FindStage) → IsSure w p (know_find key a) → IsNear w p (find_next_in a)
+  find_near key find.New is = tt
+  find_near key find.AtAnchor is = anchor_not_released know w g
+  find_near key (find.At x) is = not_released know w g p x is.goes.0.may
+  find_near key (find.Ending v) is = tt
+  find_near key (find.Over v) is = tt
+
+  part_near : (from : ℕ) (a : PartStage) → IsSure w p (know_part from a) → IsNear w p (part_next_in a)
+  part_near from part.New is = find_near from find.New is
+  part_near from part.AtAnchor is = find_near from find.AtAnchor is
+  part_near from (part.At x) is = find_near from (find.At x) is
+  part_near from (part.Ending r) is = tt
+  part_near from (part.Over r) is = tt
+
+  insert_near : (key value : ℕ) (got : ℕ → Page) (a : InsertStage) → IsSure w p (know_insert key value got a) → IsNear w p (insert_next_in a)
+  insert_near key value got insert.New is = tt
+  insert_near key value got (insert.Coming a) is = approach_near 0 key a is
+  insert_near key value got (insert.Present x v) is = is.holds.0.owner
+  insert_near key value got (insert.Changing c) is = change_near _ got c is
+  insert_near key value got (insert.Ending r) is = tt
+  insert_near key value got (insert.Over r) is = tt
+
+  delete_near : (key : ℕ) (got : ℕ → Page) (a : DeleteStage) → IsSure w p (know_delete key got a) → IsNear w p (delete_next_in a)
+  delete_near key got delete.New is = tt
+  delete_near key got (delete.Coming a) is = approach_near 0 key a is
+  delete_near key got (delete.Absent x) is = is.holds.0.owner
+  delete_near key got (delete.Changing v c) is = change_near _ got c is
+  delete_near key got (delete.Ending r) is = tt
+  delete_near key got (delete.Over r) is = tt
+
+  post_near : (level key : ℕ) (got : ℕ → Page) (child : ℕ) (a : PostStage) → IsSure w p (know_post level key got child a) → IsNear w p (post_next_in a)
+  post_near level key got child post.New is = tt
+  post_near level key got child (post.Coming a) is = approach_near level key a is
+  post_near level key got child (post.Growing h) is = growth_near level key got h is
+  post_near level key got child (post.Walking v) is = not_released know w g p v.child is.goes.0.may
+  post_near level key got child (post.Changing c) is = change_near _ got c is
+  post_near level key got child (post.Staying x r) is = is.holds.0.owner
+  post_near level key got child (post.Ending r) is = tt
+  post_near level key got child (post.Over r) is = tt
+
+  put_near : (u : Puts) (sd : Side) → w.now.owner u.at.left ≡ Held p → w.now.owner u.at.right ≡ Held p → IsNear w p (put_of sd u)
+  put_near u side.Left left right = left
+  put_near u side.Right left right = right
+
+  squeeze_near : (level key : ℕ) (got : ℕ → Page) (c : Compression) → IsSure w p (know_squeeze level key got c) → IsNear w p (compression_next c)
+  squeeze_near level key got (LatchingLeft f) is = not_free f.at.left is.goes.0.may
+  squeeze_near level key got (LatchedLeft f) is = not_released know w g p f.at.left is.goes.0.may
+  squeeze_near level key got (LatchingRight f c) is = not_free f.at.right is.goes.0.may
+  squeeze_near level key got (LatchedRight f c) is = not_released know w g p f.at.right is.goes.0.may
+  squeeze_near level key got (PuttingFirst u) is = put_near u u.gains is.holds.1.0.owner is.holds.1.1.0.owner
+  squeeze_near level key got (PuttingParent u) is = is.holds.0.owner
+  squeeze_near level key got (PuttingLast u) is = put_near u (other u.gains) is.holds.1.0.owner is.holds.1.1.0.owner
+  squeeze_near level key got (Retiring t f) is = is.holds.1.1.0.owner
+  squeeze_near level key got (OpeningRight t f) is = is.holds.1.1.0.owner
+  squeeze_near level key got (OpeningLeft t f) is = is.holds.1.0.owner
+  squeeze_near level key got (OpeningParent x f) is = is.holds.0.owner
+
+  compress_near : (level key : ℕ) (got : ℕ → Page) (a : CompressStage) → IsSure w p (know_compress level key got a) → IsNear w p (compress_next_in a)
+  compress_near level key got compress.New is = tt
+  compress_near level key got (compress.Coming a) is = approach_near level key a is
+  compress_near level key got (compress.Compressing c) is = squeeze_near level key got c is
+  compress_near level key got (compress.Staying x) is = is.holds.0.owner
+  compress_near level key got (compress.Ending r) is = tt
+  compress_near level key got (compress.Over r) is = tt
+
+  reclaim_near : (page time : ℕ) (a : ReclaimStage) → IsSure w p (know_reclaim time a) → IsNear w p (reclaim_next_in page a)
+  reclaim_near page time reclaim.Seeing is = tt
+  reclaim_near page time (reclaim.Looking r) is = tt
+  reclaim_near page time reclaim.Releasing is = tt
+  reclaim_near page time (reclaim.Over what) is = tt
+
+  of_near : (got : ℕ → Page) (child time : ℕ) (state : Proc) → IsSure w p (know_of got child time state) → IsNear w p (next_of state)
+  of_near got child time (Find a) is = find_near a.key a.stage is
+  of_near got child time (Insert a) is = insert_near a.key a.value got a.stage is
+  of_near got child time (Delete a) is = delete_near a.key got a.stage is
+  of_near got child time (Post a) is = post_near a.level a.key got child a.stage is
+  of_near got child time (Part a) is = part_near a.from a.stage is
+  of_near got child time (Compress a) is = compress_near a.level a.key got a.stage is
+  of_near got child time (Reclaim a) is = reclaim_near a.page time a.stage is
+
+pub bare_near : (w : World Run) (p : Name) → IsGood bare w → IsNear w p (next_of (w.proc p).state)
+bare_near w p g = of_near bare w g p (w.proc p).got (w.proc p).child (w.proc p).time (w.proc p).state (g.sure p)
+
+pub near : (w : World Run) (p : Name) → IsGood know w → IsNear w p (next_of (w.proc p).state)
+near w p g = bare_near w p (bare_good w g)

@@ -1,0 +1,156 @@
+-- By its state alone no process keeps a log.
+use Rattle.std.proofs.Common.{ℕ, ◌≡◌, ◌⊎◌, None, Some, refl, inl, inr}
+use Rattle.bl_page.specs.declared.page.Page.{Page}
+use Rattle.bl_claims.specs.Trails.{Trail}
+use Rattle.bl_core.specs.Worlds.{Know}
+use Rattle.bl_proc_base.specs.declared.approaching.Approach.{Approach}
+use Rattle.bl_proc_base.specs.declared.approaching.Approach.TheVariants as way
+use Rattle.bl_proc_base.specs.declared.changing.Change.{Change}
+use Rattle.bl_proc_base.specs.declared.changing.Change.TheVariants as change
+use Rattle.bl_proc_base.specs.declared.growing.Growth.{Growth}
+use Rattle.bl_proc_base.specs.declared.growing.Growth.TheVariants as growth
+use Rattle.bl_proc.specs.declared.searching.FindStage.{FindStage}
+use Rattle.bl_proc.specs.declared.searching.FindStage.TheVariants as find
+use Rattle.bl_proc.specs.declared.parts.PartStage.{PartStage}
+use Rattle.bl_proc.specs.declared.parts.PartStage.TheVariants as part
+use Rattle.bl_proc.specs.declared.inserting.InsertStage.{InsertStage}
+use Rattle.bl_proc.specs.declared.inserting.InsertStage.TheVariants as insert
+use Rattle.bl_proc.specs.declared.deleting.DeleteStage.{DeleteStage}
+use Rattle.bl_proc.specs.declared.deleting.DeleteStage.TheVariants as delete
+use Rattle.bl_proc.specs.declared.posting.PostStage.{PostStage}
+use Rattle.bl_proc.specs.declared.posting.PostStage.TheVariants as post
+use Rattle.bl_proc.specs.declared.reclaiming.ReclaimStage.{ReclaimStage}
+use Rattle.bl_proc.specs.declared.reclaiming.ReclaimStage.TheVariants as reclaim
+use Rattle.bl_proc_compress.specs.declared.compressing.Compression.{Compression}
+use Rattle.bl_proc_compress.specs.declared.compressing.Compression.TheVariants.{LatchingLeft, LatchedLeft, LatchingRight, LatchedRight, PuttingFirst, PuttingParent, PuttingLast, Retiring, OpeningRight, OpeningLeft, OpeningParent}
+use Rattle.bl_proc_compress.specs.declared.squeezing.CompressStage.{CompressStage}
+use Rattle.bl_proc_compress.specs.declared.squeezing.CompressStage.TheVariants as compress
+use Rattle.bl_proc_compress.specs.declared.squeezing.Compress.{Compress as Press}
+use Rattle.bl_proc.specs.declared.kinds.Proc.{Proc}
+use Rattle.bl_proc.specs.declared.kinds.Proc.TheVariants.{Find, Insert, Delete, Post, Part, Compress, Reclaim}
+use Rattle.bl_proc_invariant.specs.Compressing.{know_squeeze}
+use Rattle.bl_proc_invariant.specs.Tables.{Aim, know_approach, know_change}
+use Rattle.bl_proc_invariant.specs.Knowing.{know_growth, know_find, know_part, know_insert, know_delete, know_post, know_compress, know_reclaim, know_of, Run, bare}
+
+pub record HasNoLog (k : Know) : Type 1 where
+  pub log : (marks : Trail) → k.log marks
+
+-- nor is in the middle of a compression, but one that compresses
+record IsPlain (k : Know) : Type 1 where
+  pub middle : k.middle ≡ None
+  pub log : (marks : Trail) → k.log marks
+
+approach_plain : (level key : ℕ) (a : Approach) → IsPlain (know_approach level key a)
+approach_plain level key way.Start = record { middle = refl; log = λ marks. tt }
+approach_plain level key (way.At x) = record { middle = refl; log = λ marks. tt }
+approach_plain level key (way.Latching x) = record { middle = refl; log = λ marks. tt }
+approach_plain level key (way.Latched x) = record { middle = refl; log = λ marks. tt }
+approach_plain level key (way.Leaving x None) = record { middle = refl; log = λ marks. tt }
+approach_plain level key (way.Leaving x (Some y)) = record { middle = refl; log = λ marks. tt }
+
+change_plain : (aim : Aim) (got : ℕ → Page) (c : Change) → IsPlain (know_change aim got c)
+change_plain aim got (change.Putting x page) = record { middle = refl; log = λ marks. tt }
+change_plain aim got (change.Taking full) = record { middle = refl; log = λ marks. tt }
+change_plain aim got (change.PuttingNew t) = record { middle = refl; log = λ marks. tt }
+change_plain aim got (change.PuttingOld t) = record { middle = refl; log = λ marks. tt }
+change_plain aim got (change.OpeningNew x y s) = record { middle = refl; log = λ marks. tt }
+change_plain aim got (change.Opening x o) = record { middle = refl; log = λ marks. tt }
+
+growth_plain : (level key : ℕ) (got : ℕ → Page) (a : Growth) → IsPlain (know_growth level key got a)
+growth_plain level key got growth.Latching = record { middle = refl; log = λ marks. tt }
+growth_plain level key got growth.Latched = record { middle = refl; log = λ marks. tt }
+growth_plain level key got (growth.Taking r) = record { middle = refl; log = λ marks. tt }
+growth_plain level key got (growth.PuttingTop r) = record { middle = refl; log = λ marks. tt }
+growth_plain level key got (growth.PuttingAnchor r) = record { middle = refl; log = λ marks. tt }
+growth_plain level key got (growth.OpeningTop x) = record { middle = refl; log = λ marks. tt }
+growth_plain level key got growth.OpeningGrown = record { middle = refl; log = λ marks. tt }
+growth_plain level key got growth.OpeningRefused = record { middle = refl; log = λ marks. tt }
+
+find_plain : (key : ℕ) (a : FindStage) → IsPlain (know_find key a)
+find_plain key find.New = record { middle = refl; log = λ marks. tt }
+find_plain key find.AtAnchor = record { middle = refl; log = λ marks. tt }
+find_plain key (find.At x) = record { middle = refl; log = λ marks. tt }
+find_plain key (find.Ending v) = record { middle = refl; log = λ marks. tt }
+find_plain key (find.Over v) = record { middle = refl; log = λ marks. tt }
+
+part_plain : (from : ℕ) (a : PartStage) → IsPlain (know_part from a)
+part_plain from part.New = find_plain from find.New
+part_plain from part.AtAnchor = find_plain from find.AtAnchor
+part_plain from (part.At x) = find_plain from (find.At x)
+part_plain from (part.Ending r) = record { middle = refl; log = λ marks. tt }
+part_plain from (part.Over r) = record { middle = refl; log = λ marks. tt }
+
+insert_plain : (key value : ℕ) (got : ℕ → Page) (a : InsertStage) → IsPlain (know_insert key value got a)
+insert_plain key value got insert.New = record { middle = refl; log = λ marks. tt }
+insert_plain key value got (insert.Present x v) = record { middle = refl; log = λ marks. tt }
+insert_plain key value got (insert.Ending r) = record { middle = refl; log = λ marks. tt }
+insert_plain key value got (insert.Over r) = record { middle = refl; log = λ marks. tt }
+insert_plain key value got (insert.Coming a) = approach_plain 0 key a
+insert_plain key value got (insert.Changing c) = change_plain _ got c
+
+delete_plain : (key : ℕ) (got : ℕ → Page) (a : DeleteStage) → IsPlain (know_delete key got a)
+delete_plain key got delete.New = record { middle = refl; log = λ marks. tt }
+delete_plain key got (delete.Absent x) = record { middle = refl; log = λ marks. tt }
+delete_plain key got (delete.Ending r) = record { middle = refl; log = λ marks. tt }
+delete_plain key got (delete.Over r) = record { middle = refl; log = λ marks. tt }
+delete_plain key got (delete.Coming a) = approach_plain 0 key a
+delete_plain key got (delete.Changing v c) = change_plain _ got c
+
+post_plain : (level key : ℕ) (got : ℕ → Page) (child : ℕ) (a : PostStage) → IsPlain (know_post level key got child a)
+post_plain level key got child post.New = record { middle = refl; log = λ marks. tt }
+post_plain level key got child (post.Walking v) = record { middle = refl; log = λ marks. tt }
+post_plain level key got child (post.Staying x r) = record { middle = refl; log = λ marks. tt }
+post_plain level key got child (post.Ending r) = record { middle = refl; log = λ marks. tt }
+post_plain level key got child (post.Over r) = record { middle = refl; log = λ marks. tt }
+post_plain level key got child (post.Coming a) = approach_plain level key a
+post_plain level key got child (post.Growing h) = growth_plain level key got h
+post_plain level key got child (post.Changing c) = change_plain _ got c
+
+squeeze_plain : (level key : ℕ) (got : ℕ → Page) (c : Compression) → HasNoLog (know_squeeze level key got c)
+squeeze_plain level key got (LatchingLeft f) = record { log = λ marks. tt }
+squeeze_plain level key got (LatchedLeft f) = record { log = λ marks. tt }
+squeeze_plain level key got (LatchingRight f c) = record { log = λ marks. tt }
+squeeze_plain level key got (LatchedRight f c) = record { log = λ marks. tt }
+squeeze_plain level key got (PuttingFirst u) = record { log = λ marks. tt }
+squeeze_plain level key got (PuttingParent u) = record { log = λ marks. tt }
+squeeze_plain level key got (PuttingLast u) = record { log = λ marks. tt }
+squeeze_plain level key got (Retiring t f) = record { log = λ marks. tt }
+squeeze_plain level key got (OpeningRight t f) = record { log = λ marks. tt }
+squeeze_plain level key got (OpeningLeft t f) = record { log = λ marks. tt }
+squeeze_plain level key got (OpeningParent x f) = record { log = λ marks. tt }
+
+compress_plain : (level key : ℕ) (got : ℕ → Page) (a : CompressStage) → HasNoLog (know_compress level key got a)
+compress_plain level key got compress.New = record { log = λ marks. tt }
+compress_plain level key got (compress.Coming a) = record { log = (approach_plain level key a).log }
+compress_plain level key got (compress.Compressing c) = squeeze_plain level key got c
+compress_plain level key got (compress.Staying x) = record { log = λ marks. tt }
+compress_plain level key got (compress.Ending r) = record { log = λ marks. tt }
+compress_plain level key got (compress.Over r) = record { log = λ marks. tt }
+
+reclaim_plain : (time : ℕ) (a : ReclaimStage) → IsPlain (know_reclaim time a)
+reclaim_plain time reclaim.Seeing = record { middle = refl; log = λ marks. tt }
+reclaim_plain time (reclaim.Looking r) = record { middle = refl; log = λ marks. tt }
+reclaim_plain time reclaim.Releasing = record { middle = refl; log = λ marks. tt }
+reclaim_plain time (reclaim.Over what) = record { middle = refl; log = λ marks. tt }
+
+of_plain : (got : ℕ → Page) (child time : ℕ) (state : Proc) → HasNoLog (know_of got child time state)
+of_plain got child time (Find p) = record { log = (find_plain p.key p.stage).log }
+of_plain got child time (Insert p) = record { log = (insert_plain p.key p.value got p.stage).log }
+of_plain got child time (Delete p) = record { log = (delete_plain p.key got p.stage).log }
+of_plain got child time (Post p) = record { log = (post_plain p.level p.key got child p.stage).log }
+of_plain got child time (Part p) = record { log = (part_plain p.from p.stage).log }
+of_plain got child time (Compress p) = compress_plain p.level p.key got p.stage
+of_plain got child time (Reclaim p) = record { log = (reclaim_plain time p.stage).log }
+
+pub plain : (r : Run) → HasNoLog (bare r)
+plain r = of_plain r.got r.child r.time r.state
+
+-- whoever is in the middle of a compression compresses
+pub of_middle : (got : ℕ → Page) (child time : ℕ) (state : Proc) → ((know_of got child time state).middle ≡ None) ⊎ ((p : Press) × (state ≡ Compress p))
+of_middle got child time (Find p) = inl (find_plain p.key p.stage).middle
+of_middle got child time (Insert p) = inl (insert_plain p.key p.value got p.stage).middle
+of_middle got child time (Delete p) = inl (delete_plain p.key got p.stage).middle
+of_middle got child time (Post p) = inl (post_plain p.level p.key got child p.stage).middle
+of_middle got child time (Part p) = inl (part_plain p.from p.stage).middle
+of_middle got child time (Compress p) = inr (p, refl)
+of_middle got child time (Reclaim p) = inl (reclaim_plain time p.stage).middle

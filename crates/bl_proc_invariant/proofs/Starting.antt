@@ -1,0 +1,126 @@
+-- Where worlds of processes begin, how a process enters one, and the laws of each.
+use Rattle.std.proofs.Common.{ℕ, ◌≡◌, None, Some, ap, sym, ◌∙◌, subst, inl, inr}
+use Rattle.bl_page.specs.Machine.{Name}
+use Rattle.bl_page.specs.Machine.Phase.{Waiting}
+use Rattle.bl_claims.specs.Moments.{HasLaws}
+use Rattle.bl_claims.specs.Trails.{marks_of, HasSaid}
+use Rattle.bl_core.proofs.Pushes.{name_cases}
+use Rattle.bl_core.specs.Worlds.{Know, World, HoldsPage, IsHeld, IsGoes, IsRelied, IsSure, IsGood, IsPassed, MayGet}
+use Rattle.bl_core.proofs.Frames.{Each-map}
+use Rattle.bl_core.proofs.After.{put_name, is_put_name}
+use Rattle.bl_core.specs.Blank.{IsBlank}
+use Rattle.bl_core.proofs.WorldLaws.{laws}
+use Rattle.bl_proc_invariant.specs.Logs.{proc_log}
+use Rattle.bl_proc_invariant.specs.Knowing.{Run, bare, know}
+use Rattle.bl_proc_invariant.proofs.Plain.{plain}
+use Rattle.bl_proc_invariant.proofs.Middles.{KeepsLogs, tells_middles}
+use Rattle.bl_proc_invariant.proofs.Logged.{bare_good, full_good, bare_blank, early_log}
+
+-- The laws of the tree hold in every good world of these processes.
+pub bare_laws : (w : World Run) → IsGood bare w → KeepsLogs w → HasLaws w.now w.trail (w.map 0)
+bare_laws w g logs = laws bare w (tells_middles w g logs) g
+
+pub run_laws : (w : World Run) → IsGood know w → HasLaws w.now w.trail (w.map 0)
+run_laws w g = bare_laws w (bare_good w g) (λ p since runs. (g.sure p).log)
+
+-- the same world with another process at one name
+abbrev pub with_proc : World Run → Name → Run → World Run
+with_proc w p b = record w { proc = put_name p b w.proc }
+
+same_sure : (w : World Run) (p q : Name) (b : Run) (k : Know) → IsSure w q k → IsSure (with_proc w p b) q k
+same_sure w p q b k is = record {
+  stage = is.stage;
+  said = is.said;
+  holds = Each-map (IsHeld w q) (IsHeld (with_proc w p b) q) k.holds (λ h i. record { owner = i.owner; status = i.status; sep = i.sep; page = i.page }) is.holds;
+  goes = Each-map (IsGoes w q) (IsGoes (with_proc w p b) q) k.goes (λ h i. record { may = same_may w p q b h.page i.may; least = i.least; most = i.most }) is.goes;
+  children = Each-map (IsRelied w q) (IsRelied (with_proc w p b) q) k.children (λ c i. record { owner = i.owner; status = i.status; covers = i.covers; level = i.level; alive = i.alive; sep = i.sep }) is.children;
+  passed = passed k.passed is.passed;
+  sound = is.sound;
+  log = is.log;
+}
+  where
+    same_may : (w : World Run) (p q : Name) (b : Run) (x : ℕ) → MayGet w q x → MayGet (with_proc w p b) q x
+    same_may w p q b x m = record { since = m.since; runs = m.runs; was = m.was; kept = m.kept }
+
+    passed : (s : _) → IsPassed w s → IsPassed (with_proc w p b) s
+    passed None h = h
+    passed (Some s) h = h
+
+-- A process that has done nothing enters where none has begun.
+pub bare_enters_good : (w : World Run) (p : Name) (b : Run) → IsGood bare w → w.now.phase p ≡ Waiting → IsBlank (bare (w.proc p)) → IsBlank (bare b) → IsGood bare (with_proc w p b)
+bare_enters_good w p b g waiting old new =
+    let put = is_put_name p b w.proc in
+    record {
+      tree = g.tree;
+      owned = record {
+        released = g.owned.released;
+        free = g.owned.free;
+        opened = g.owned.opened;
+        retired = g.owned.retired;
+        held = λ x q o. elim (name_cases q p) [
+          | inl e ↦ absurd (subst (λ hs. HoldsPage hs x) (ap (λ n. (bare (w.proc n)).holds) e ∙ old.holds) (g.owned.held x q o))
+          | inr n ↦ rw (put.others q n) (g.owned.held x q o)
+        ];
+        small = g.owned.small;
+        one_anchor = g.owned.one_anchor;
+      };
+      recorded = record {
+        leads = g.recorded.leads;
+        marked = g.recorded.marked;
+        phases = g.recorded.phases;
+        legal = g.recorded.legal;
+        map = g.recorded.map;
+        since = g.recorded.since;
+      };
+      bounded = g.bounded;
+      names = record { fresh = g.names.fresh; named = g.names.named };
+      gone = λ x h. let o = g.gone x h in record {
+        end = o.end;
+        leads = λ q m. (
+            let l = o.leads q (record { since = m.since; runs = m.runs; was = m.was; kept = m.kept }) in
+            (record { since = l.0.since; runs = l.0.runs; was = l.0.was; kept = l.0.kept }, l.1));
+        not_yet = o.not_yet;
+        later = λ q time next m. o.later q time next (record { since = m.since; runs = m.runs; was = m.was; kept = m.kept });
+      };
+      middles = λ x y e.
+          let m = g.middles x y e in
+          let is : (bare (put_name p b w.proc m.by)).middle ≡ Some (record { parent = m.parent; left = x; right = y }) = elim (name_cases m.by p) [
+            | inl i ↦ absurd (subst (λ hs. HoldsPage hs y) (ap (λ n. (bare (w.proc n)).holds) i ∙ old.holds) (g.owned.held y m.by m.held))
+            | inr n ↦ ap (λ r. (bare r).middle) (put.others m.by n) ∙ m.is
+          ] in
+          record {
+            by = m.by;
+            parent = m.parent;
+            is = is;
+            held = m.held;
+            parent_held = m.parent_held;
+            parent_live = m.parent_live;
+            parent_level = m.parent_level;
+            parent_covers = m.parent_covers;
+          };
+      sure = λ q. elim (name_cases q p) [
+        | inl e ↦
+            let is : IsSure w q (bare (w.proc q)) = g.sure q in
+            let said : HasSaid w.trail q None = subst (HasSaid w.trail q) (ap (λ n. (bare (w.proc n)).said) e ∙ old.said) is.said in
+            let at : put_name p b w.proc q ≡ b = ap (put_name p b w.proc) e ∙ put.at in
+            rw at (record {
+              stage = rw (new.stage, e) waiting;
+              said = rw new.said said;
+              holds = rw new.holds tt;
+              goes = rw new.goes tt;
+              children = rw new.children tt;
+              passed = rw new.passed tt;
+              sound = new.sound;
+              log = (plain b).log (marks_of q w.trail);
+            })
+        | inr n ↦ rw (put.others q n) (same_sure w p q b (bare (w.proc q)) (g.sure q))
+      ];
+    }
+
+pub enters_good : (w : World Run) (p : Name) (b : Run) → IsGood know w → w.now.phase p ≡ Waiting → IsBlank (know (w.proc p)) → IsBlank (know b) → IsGood know (with_proc w p b)
+enters_good w p b g waiting old new =
+    let put = is_put_name p b w.proc in
+    full_good (with_proc w p b) (bare_enters_good w p b (bare_good w g) waiting (bare_blank (w.proc p) old) (bare_blank b new)) (λ q. elim (name_cases q p) [
+      | inl e ↦ subst (λ r. proc_log r.state (marks_of q w.trail)) (sym (ap (put_name p b w.proc) e ∙ put.at)) (early_log b new.stage (marks_of q w.trail))
+      | inr n ↦ subst (λ r. proc_log r.state (marks_of q w.trail)) (sym (put.others q n)) (g.sure q).log
+    ])

@@ -1,0 +1,322 @@
+-- What each kind of process knows.
+use Rattle.std.specs.Prelude.{◌≡◌, ◌≢◌, ℕ, ◌-◌, ◌<◌, Option, Some, None, List, [], ◌∷◌, length}
+use Rattle.bl_model.specs.declared.operation.Op.TheVariants as op
+use Rattle.bl_model.specs.declared.operation.Reply.{Reply}
+use Rattle.bl_model.specs.declared.operation.Reply.TheVariants as reply
+use Rattle.bl_page.specs.declared.page.Page.{Page}
+use Rattle.bl_page.specs.declared.page.Page.TheVariants.{Anchor, Inner}
+use Rattle.bl_page.specs.Machine.{Owner, State}
+use Rattle.bl_page.specs.Machine.Owner.{Released, Held, Retired}
+use Rattle.bl_claims.specs.Nodes.{unbounded}
+use Rattle.bl_core_tree.specs.Trees.Status.{Fresh, Anchored}
+use Rattle.bl_claims.specs.Trails.{Said}
+use Rattle.bl_core.specs.Worlds.{Hold, Passed, Stage, Know}
+use Rattle.bl_proc_base.specs.declared.acts.Seen.{Seen}
+use Rattle.bl_proc_base.specs.declared.acts.Seen.TheVariants as seen
+use Rattle.bl_proc.specs.declared.searching.FindStage.TheVariants as find
+use Rattle.bl_proc.specs.declared.searching.FindStage.{FindStage}
+use Rattle.bl_proc.specs.declared.inserting.InsertStage.{InsertStage}
+use Rattle.bl_proc.specs.declared.inserting.InsertStage.TheVariants as insert
+use Rattle.bl_proc.specs.declared.inserting.InsertReply.{InsertReply}
+use Rattle.bl_proc.specs.declared.inserting.InsertReply.TheVariants as inserted
+use Rattle.bl_proc.specs.declared.deleting.Removed.{Removed}
+use Rattle.bl_proc.specs.declared.deleting.DeleteStage.{DeleteStage}
+use Rattle.bl_proc.specs.declared.deleting.DeleteStage.TheVariants as delete
+use Rattle.bl_proc.specs.declared.deleting.DeleteReply.{DeleteReply}
+use Rattle.bl_proc.specs.declared.deleting.DeleteReply.TheVariants as deleted
+use Rattle.bl_proc.specs.declared.parts.PartRows.{PartRows}
+use Rattle.bl_proc.specs.declared.parts.PartStage.{PartStage}
+use Rattle.bl_proc.specs.declared.parts.PartStage.TheVariants as part
+use Rattle.bl_proc_base.specs.declared.growing.Growth.{Growth}
+use Rattle.bl_proc_base.specs.declared.growing.Growth.TheVariants as growth
+use Rattle.bl_proc.specs.declared.posting.PostStage.{PostStage}
+use Rattle.bl_proc.specs.declared.posting.PostStage.TheVariants as post
+use Rattle.bl_proc.specs.declared.reclaiming.Round.{Round}
+use Rattle.bl_proc.specs.declared.reclaiming.ReclaimStage.{ReclaimStage}
+use Rattle.bl_proc.specs.declared.reclaiming.ReclaimStage.TheVariants as reclaim
+use Rattle.bl_proc_compress.specs.declared.squeezing.CompressStage.{CompressStage}
+use Rattle.bl_proc_compress.specs.declared.squeezing.CompressStage.TheVariants as compress
+use Rattle.bl_proc.specs.declared.kinds.Proc.{Proc}
+use Rattle.bl_proc.specs.declared.kinds.Proc.TheVariants as proc
+use Rattle.bl_proc.specs.Inserts.{insert_reply}
+use Rattle.bl_proc.specs.Deletes.{delete_reply}
+use Rattle.bl_proc_base.specs.Growths.{Raises, IsAnchor}
+use Rattle.bl_proc_invariant.specs.Logs.{proc_log}
+use Rattle.bl_proc_invariant.specs.Compressing.{know_squeeze, compression_got}
+use Rattle.bl_proc_invariant.specs.Tables.{idle, holds_live, holds_known, goes_to, know_approach, Aim, IsDue, know_change}
+
+-- it is to begin; it is to end, or has ended, with what it said
+abbrev pub early : ℕ → Know
+early key = record (idle Stage.Early) { sound = key < unbounded }
+
+abbrev pub ending : Option Said → Know
+ending said = record (idle Stage.Busy) { said = said }
+
+abbrev pub late : Option Said → Know
+late said = record (idle Stage.Late) { said = said }
+
+-- Searches
+
+abbrev pub found_reply : Option ℕ → Reply
+found_reply (Some value) = reply.Found value
+found_reply None = reply.Absent
+
+abbrev pub found : ℕ → Option ℕ → Option Said
+found key value = Some (record { op = op.Find key; reply = found_reply value })
+
+abbrev pub know_find : ℕ → FindStage → Know
+know_find key find.New = early key
+know_find key find.AtAnchor = record (idle Stage.Busy) { sound = key < unbounded }
+know_find key (find.At x) = record (idle Stage.Busy) { goes = goes_to x 0 12 ∷ []; sound = key < unbounded }
+know_find key (find.Ending value) = ending (found key value)
+know_find key (find.Over value) = late (found key value)
+
+-- Parts: on its way down a part knows what a search for its first key knows
+
+abbrev pub listed : ℕ → PartRows → Option Said
+listed from r = Some (record { op = op.Part from; reply = reply.Rows r.rows r.next })
+
+abbrev pub know_part : ℕ → PartStage → Know
+know_part from part.New = know_find from find.New
+know_part from part.AtAnchor = know_find from find.AtAnchor
+know_part from (part.At x) = know_find from (find.At x)
+know_part from (part.Ending r) = ending (listed from r)
+know_part from (part.Over r) = late (listed from r)
+
+-- Insertions
+
+abbrev pub inserted_reply : InsertReply → Reply
+inserted_reply (inserted.Inserted separator) = reply.Inserted
+inserted_reply (inserted.Present there) = reply.Present there
+inserted_reply inserted.NoRoom = reply.NoRoom
+
+abbrev pub inserts : ℕ → ℕ → InsertReply → Option Said
+inserts key value r = Some (record { op = op.Insert key value; reply = inserted_reply r })
+
+abbrev pub insert_aim : ℕ → ℕ → Aim
+insert_aim key value = record { level = 0; key = key; was = None; word = Some value; said = λ o. inserts key value (insert_reply o); children = λ x. [] }
+
+abbrev pub know_insert : ℕ → ℕ → (ℕ → Page) → InsertStage → Know
+know_insert key value got insert.New = early key
+know_insert key value got (insert.Coming a) = know_approach 0 key a
+know_insert key value got (insert.Present x there) = record (ending (inserts key value (inserted.Present there))) { holds = holds_live x ∷ [] }
+know_insert key value got (insert.Changing c) = know_change (insert_aim key value) got c
+know_insert key value got (insert.Ending r) = ending (inserts key value r)
+know_insert key value got (insert.Over r) = late (inserts key value r)
+
+-- Deletions
+
+abbrev pub deleted_reply : DeleteReply → Reply
+deleted_reply (deleted.Deleted removed) = reply.Deleted removed.value
+deleted_reply deleted.Absent = reply.Absent
+deleted_reply deleted.NoRoom = reply.NoRoom
+
+abbrev pub deletes : ℕ → DeleteReply → Option Said
+deletes key r = Some (record { op = op.Delete key; reply = deleted_reply r })
+
+abbrev pub delete_aim : ℕ → Removed → Aim
+delete_aim key removed = record { level = 0; key = key; was = Some removed.value; word = None; said = λ o. deletes key (delete_reply removed o); children = λ x. [] }
+
+abbrev pub know_delete : ℕ → (ℕ → Page) → DeleteStage → Know
+know_delete key got delete.New = early key
+know_delete key got (delete.Coming a) = know_approach 0 key a
+know_delete key got (delete.Absent x) = record (ending (deletes key deleted.Absent)) { holds = holds_live x ∷ [] }
+know_delete key got (delete.Changing removed c) = know_change (delete_aim key removed) got c
+know_delete key got (delete.Ending r) = ending (deletes key r)
+know_delete key got (delete.Over r) = late (deletes key r)
+
+-- Growths: page 0 is held, and as the process got it
+
+abbrev pub anchor_known : Option Page → Hold
+anchor_known c = record { at = 0; status = Anchored; sep = None; page = c }
+
+-- these leftmost pages, of a tree of that many levels that may have one more
+pub record MayRise (level : ℕ) (c : Page) (leftmost : List ℕ) : Type 0 where
+  pub anchor : IsAnchor leftmost c
+  pub levels : length leftmost ≡ level
+  pub room : level < 12
+
+abbrev pub know_growth : ℕ → ℕ → (ℕ → Page) → Growth → Know
+know_growth level key got growth.Latching = record (idle Stage.Busy) { sound = key < unbounded }
+know_growth level key got growth.Latched = record (idle Stage.Busy) { holds = anchor_known None ∷ []; sound = key < unbounded }
+know_growth level key got (growth.Taking rise) = record (idle Stage.Busy) { holds = anchor_known (Some (Anchor rise.anchor)) ∷ []; sound = (key < unbounded) × MayRise level (Anchor rise.anchor) rise.anchor.leftmost.items × (got 0 ≡ Anchor rise.anchor) }
+know_growth level key got (growth.PuttingTop r) = record (idle Stage.Busy) { holds = anchor_known (Some (got 0)) ∷ record { at = r.new; status = Fresh; sep = None; page = None } ∷ []; sound = (key < unbounded) × ((leftmost : List ℕ) × MayRise level (got 0) leftmost × Raises leftmost r.new r.top r.anchor) }
+know_growth level key got (growth.PuttingAnchor r) = record (idle Stage.Busy) { holds = anchor_known (Some (got 0)) ∷ record { at = r.new; status = Fresh; sep = Some 0; page = Some r.top } ∷ []; sound = (key < unbounded) × ((leftmost : List ℕ) × MayRise level (got 0) leftmost × Raises leftmost r.new r.top r.anchor) }
+know_growth level key got (growth.OpeningTop x) = record (idle Stage.Busy) { holds = anchor_known None ∷ holds_live x ∷ []; sound = (key < unbounded) × (0 ≢ x) }
+know_growth level key got growth.OpeningGrown = record (idle Stage.Busy) { holds = anchor_known None ∷ []; sound = key < unbounded }
+know_growth level key got growth.OpeningRefused = record (idle Stage.Busy) { holds = anchor_known None ∷ [] }
+
+-- Posts: they answer no operation of the map. While a parent is held, it is known that it does not list the key.
+
+abbrev pub post_aim : ℕ → ℕ → ℕ → Aim
+post_aim level key child = record { level = level; key = key; was = None; word = Some child; said = λ o. None; children = λ x. record { parent = x; at = child; key = key } ∷ [] }
+
+abbrev pub know_post : ℕ → ℕ → (ℕ → Page) → ℕ → PostStage → Know
+know_post level key got child post.New = early key
+know_post level key got child (post.Coming a) = know_approach level key a
+know_post level key got child (post.Growing g) = know_growth level key got g
+know_post level key got child (post.Walking w) = record (idle Stage.Busy) { holds = holds_known w.at (Inner w.parent) ∷ []; goes = goes_to w.child (level - 1) (level - 1) ∷ []; sound = (key < unbounded) × IsDue (post_aim level key 0) (Inner w.parent) × (w.key ≡ key) }
+know_post level key got child (post.Changing c) = know_change (post_aim level key child) got c
+know_post level key got child (post.Staying x r) = record (idle Stage.Busy) { holds = holds_live x ∷ [] }
+know_post level key got child (post.Ending r) = ending None
+know_post level key got child (post.Over r) = late None
+
+-- Compressions: they answer no operation of the map
+
+abbrev pub know_compress : ℕ → ℕ → (ℕ → Page) → CompressStage → Know
+know_compress level key got compress.New = early key
+know_compress level key got (compress.Coming a) = know_approach level key a
+know_compress level key got (compress.Compressing c) = know_squeeze level key got c
+know_compress level key got (compress.Staying x) = record (idle Stage.Busy) { holds = holds_live x ∷ [] }
+know_compress level key got (compress.Ending r) = ending None
+know_compress level key got (compress.Over r) = late None
+
+-- Releases: they answer no operation of the map, and never begin. While a process looks at the others, it knows of all but
+-- those that are still ahead of it that they began after the page was retired, if they run.
+
+abbrev pub looks : Passed → Know
+looks passed = record (idle Stage.Early) { passed = Some passed }
+
+abbrev pub round : ℕ → Round → Passed
+round time r = record { time = time; next = r.next; last = r.started; own = r.own }
+
+-- none is ahead
+abbrev pub all : ℕ → Passed
+all time = record { time = time; next = 1; last = 0; own = 0 }
+
+abbrev pub know_reclaim : ℕ → ReclaimStage → Know
+know_reclaim time reclaim.Seeing = idle Stage.Early
+know_reclaim time (reclaim.Looking r) = looks (round time r)
+know_reclaim time reclaim.Releasing = looks (all time)
+know_reclaim time (reclaim.Over what) = idle Stage.Early
+
+-- Any process: its state, what it got of the pages that it holds, the child that it is to list, and since when the page that
+-- it is to release is retired.
+pub record Run : Type 0 where
+  pub state : Proc
+  pub got : ℕ → Page
+  pub child : ℕ
+  pub time : ℕ
+
+abbrev pub know_of : (ℕ → Page) → ℕ → ℕ → Proc → Know
+know_of got child time (proc.Find p) = know_find p.key p.stage
+know_of got child time (proc.Insert p) = know_insert p.key p.value got p.stage
+know_of got child time (proc.Delete p) = know_delete p.key got p.stage
+know_of got child time (proc.Post p) = know_post p.level p.key got child p.stage
+know_of got child time (proc.Part p) = know_part p.from p.stage
+know_of got child time (proc.Compress p) = know_compress p.level p.key got p.stage
+know_of got child time (proc.Reclaim p) = know_reclaim time p.stage
+
+-- by its state alone
+abbrev pub bare : Run → Know
+bare r = know_of r.got r.child r.time r.state
+
+-- and by what it has done
+abbrev pub know : Run → Know
+know r = record (bare r) { log = proc_log r.state }
+
+-- what is answered at an end
+abbrev pub find_end : FindStage → Option Reply
+find_end find.New = None
+find_end find.AtAnchor = None
+find_end (find.At x) = None
+find_end (find.Ending value) = Some (found_reply value)
+find_end (find.Over value) = None
+
+abbrev pub part_end : PartStage → Option Reply
+part_end part.New = None
+part_end part.AtAnchor = None
+part_end (part.At x) = None
+part_end (part.Ending r) = Some (reply.Rows r.rows r.next)
+part_end (part.Over r) = None
+
+abbrev pub insert_end : InsertStage → Option Reply
+insert_end insert.New = None
+insert_end (insert.Coming a) = None
+insert_end (insert.Present x there) = None
+insert_end (insert.Changing c) = None
+insert_end (insert.Ending r) = Some (inserted_reply r)
+insert_end (insert.Over r) = None
+
+abbrev pub delete_end : DeleteStage → Option Reply
+delete_end delete.New = None
+delete_end (delete.Coming a) = None
+delete_end (delete.Absent x) = None
+delete_end (delete.Changing removed c) = None
+delete_end (delete.Ending r) = Some (deleted_reply r)
+delete_end (delete.Over r) = None
+
+abbrev pub end_of_proc : Proc → Option Reply
+end_of_proc (proc.Find p) = find_end p.stage
+end_of_proc (proc.Insert p) = insert_end p.stage
+end_of_proc (proc.Delete p) = delete_end p.stage
+end_of_proc (proc.Post p) = None
+end_of_proc (proc.Part p) = part_end p.stage
+end_of_proc (proc.Compress p) = None
+end_of_proc (proc.Reclaim p) = None
+
+-- what a process has got of the pages that it holds, after it was told this
+abbrev pub insert_got : (ℕ → Page) → InsertStage → Seen → ℕ → Page
+insert_got got (insert.Coming a) (seen.Words c) = λ x. c
+insert_got got stage what = got
+
+abbrev pub delete_got : (ℕ → Page) → DeleteStage → Seen → ℕ → Page
+delete_got got (delete.Coming a) (seen.Words c) = λ x. c
+delete_got got stage what = got
+
+abbrev pub post_got : (ℕ → Page) → PostStage → Seen → ℕ → Page
+post_got got (post.Growing g) (seen.Words c) = λ x. c
+post_got got (post.Walking w) what = λ x. Inner w.parent
+post_got got stage what = got
+
+abbrev pub compress_got : (ℕ → Page) → CompressStage → Seen → ℕ → Page
+compress_got got (compress.Compressing c) what = compression_got got c what
+compress_got got stage what = got
+
+abbrev pub post_child : ℕ → PostStage → ℕ
+post_child child (post.Walking w) = w.child
+post_child child stage = child
+
+abbrev pub got_next : (ℕ → Page) → Proc → Seen → ℕ → Page
+got_next got (proc.Find p) what = got
+got_next got (proc.Insert p) what = insert_got got p.stage what
+got_next got (proc.Delete p) what = delete_got got p.stage what
+got_next got (proc.Post p) what = post_got got p.stage what
+got_next got (proc.Part p) what = got
+got_next got (proc.Compress p) what = compress_got got p.stage what
+got_next got (proc.Reclaim p) what = got
+
+abbrev pub child_next : ℕ → Proc → ℕ
+child_next child (proc.Find p) = child
+child_next child (proc.Insert p) = child
+child_next child (proc.Delete p) = child
+child_next child (proc.Post p) = post_child child p.stage
+child_next child (proc.Part p) = child
+child_next child (proc.Compress p) = child
+child_next child (proc.Reclaim p) = child
+
+-- since when the page is retired, if it is, at which a release looks
+abbrev pub retired_since : Owner → ℕ → ℕ
+retired_since (Retired time) old = time
+retired_since Released old = old
+retired_since Owner.Open old = old
+retired_since (Held p) old = old
+
+abbrev pub reclaim_time : State Page → ℕ → ℕ → ReclaimStage → ℕ
+reclaim_time now time page reclaim.Seeing = retired_since (now.owner page) time
+reclaim_time now time page (reclaim.Looking r) = time
+reclaim_time now time page reclaim.Releasing = time
+reclaim_time now time page (reclaim.Over what) = time
+
+abbrev pub time_next : State Page → ℕ → Proc → ℕ
+time_next now time (proc.Find p) = time
+time_next now time (proc.Insert p) = time
+time_next now time (proc.Delete p) = time
+time_next now time (proc.Post p) = time
+time_next now time (proc.Part p) = time
+time_next now time (proc.Compress p) = time
+time_next now time (proc.Reclaim p) = reclaim_time now time p.page p.stage
+
+-- the process after it was told this of these pages, in that state
+abbrev pub run_next : State Page → Run → Seen → Proc → Run
+run_next now r what state = record { state = state; got = got_next r.got r.state what; child = child_next r.child r.state; time = time_next now r.time r.state }

@@ -1,0 +1,6 @@
+pub mod Turns
+pub mod Logs
+pub mod Tables
+pub mod Compressing
+pub mod Knowing
+pub mod Beside

@@ -1,0 +1,245 @@
+-- What a process has done so far, in each of its states: enough to tell in the end what its answer and its hint mean.
+use Rattle.std.specs.Prelude.{◌≡◌, ◌≢◌, ℕ, suc, Option, None, Some, ◌++◌, List, [], ◌∷◌, length, Contains}
+use Rattle.bl_model.specs.declared.operation.Reply.{Reply}
+use Rattle.bl_page.specs.declared.page.Page.{Page}
+use Rattle.bl_page.specs.declared.page.Page.TheVariants.{Inner}
+use Rattle.bl_page.specs.Machine.{Act}
+use Rattle.bl_page.specs.Machine.Act.{Get, Latch}
+use Rattle.bl_claims.specs.Nodes.{Covers}
+use Rattle.bl_claims.specs.Pages.{node_of}
+use Rattle.bl_claims.specs.Trails.{Mark, Trail}
+use Rattle.bl_claims.specs.Meanings.{HasGot, writes_of, Wrote, RaisesOnly, HasRaised, ArePuts, ListTogether, MeansParted, MeansAlready, MeansStale, MeansTooTall, MeansNoRoom}
+use Rattle.bl_proc_base.specs.declared.approaching.Approach.{Approach}
+use Rattle.bl_proc_base.specs.declared.approaching.Approach.TheVariants as way
+use Rattle.bl_proc_base.specs.declared.changing.Outcome.{Outcome}
+use Rattle.bl_proc_base.specs.declared.changing.Outcome.TheVariants as outcome
+use Rattle.bl_proc_base.specs.declared.changing.Change.{Change}
+use Rattle.bl_proc_base.specs.declared.changing.Change.TheVariants as change
+use Rattle.bl_proc_base.specs.declared.growing.Growth.{Growth}
+use Rattle.bl_proc_base.specs.declared.growing.Growth.TheVariants as growth
+use Rattle.bl_proc.specs.declared.posting.PostReply.{PostReply}
+use Rattle.bl_proc.specs.declared.posting.PostReply.TheVariants as reply
+use Rattle.bl_proc.specs.declared.posting.PostStage.{PostStage}
+use Rattle.bl_proc.specs.declared.posting.PostStage.TheVariants as post
+use Rattle.bl_proc_compress.specs.declared.compressing.Puts.{Puts}
+use Rattle.bl_proc_base.specs.declared.answers.Hint.{Hint}
+use Rattle.bl_proc_compress.specs.declared.compressing.Fate.{Fate}
+use Rattle.bl_proc_compress.specs.declared.compressing.Fate.TheVariants as fate
+use Rattle.bl_proc_compress.specs.declared.compressing.Compression.{Compression}
+use Rattle.bl_proc_compress.specs.declared.compressing.Compression.TheVariants.{LatchingLeft, LatchedLeft, LatchingRight, LatchedRight, PuttingFirst, PuttingParent, PuttingLast, Retiring, OpeningRight, OpeningLeft, OpeningParent}
+use Rattle.bl_rearrange.specs.Rearranged.{right_of}
+use Rattle.bl_proc_compress.specs.declared.squeezing.CompressReply.{CompressReply}
+use Rattle.bl_proc_compress.specs.declared.squeezing.CompressReply.TheVariants as pressed
+use Rattle.bl_proc_compress.specs.declared.squeezing.CompressStage.{CompressStage}
+use Rattle.bl_proc_compress.specs.declared.squeezing.CompressStage.TheVariants as compress
+use Rattle.bl_proc_meanings.specs.Squeezed.{Unwritten, Since, AtFamily, AtLeft, to_left, to_right, to_first, to_second, to_last, IsToSqueeze, MeansMerged, MeansEvened, MeansEnough, MeansUnposted, MeansAlone, MeansNoPlace}
+use Rattle.bl_proc.specs.declared.inserting.InsertReply.{InsertReply}
+use Rattle.bl_proc.specs.declared.inserting.InsertReply.TheVariants as inserted
+use Rattle.bl_proc.specs.declared.inserting.InsertStage.{InsertStage}
+use Rattle.bl_proc.specs.declared.inserting.InsertStage.TheVariants as insert
+use Rattle.bl_proc.specs.declared.deleting.Removed.{Removed}
+use Rattle.bl_proc.specs.declared.deleting.DeleteReply.{DeleteReply}
+use Rattle.bl_proc.specs.declared.deleting.DeleteReply.TheVariants as deleted
+use Rattle.bl_proc.specs.declared.deleting.DeleteStage.{DeleteStage}
+use Rattle.bl_proc.specs.declared.deleting.DeleteStage.TheVariants as delete
+use Rattle.bl_proc_base.specs.Thin.{thin_low}
+use Rattle.bl_proc_meanings.specs.Hinted.{PutSince, HasParted}
+use Rattle.bl_proc.specs.declared.kinds.Proc.{Proc}
+use Rattle.bl_proc.specs.declared.kinds.Proc.TheVariants as proc
+
+-- page x is held since it was latched, when nothing was written but new top levels; these pages were put since
+pub record Holding (level : ℕ) (marks : Trail) (x : ℕ) (puts : List Page) : Type 0 where
+  pub before : Trail
+  pub first : HasRaised level before
+  pub latch : Mark
+  pub during : Trail
+  pub split : marks ≡ before ++ latch ∷ during
+  pub latched : latch.event.act ≡ Latch x
+  pub kept : (mark : Mark) → Contains during mark → mark.event.act ≢ Act.Open x
+  pub puts_are : ArePuts (writes_of during) puts
+
+-- the page is a parent of the key, as the process got it since
+pub record HoldsParent (level key : ℕ) (marks : Trail) (x : ℕ) (parent : Page) (puts : List Page) : Type 0 where
+  pub holding : Holding level marks x puts
+  pub got : HasGot holding.during x parent
+  pub level_is : (node_of parent).shape.level ≡ level
+  pub covers : Covers (node_of parent).shape key
+  pub unlisted : (node_of parent).look key ≡ None
+
+-- and so is its child, whose low is the key
+pub record HoldsBoth (level key : ℕ) (marks : Trail) (x : ℕ) (parent : Page) (y : ℕ) (puts : List Page) : Type 0 where
+  pub above : HoldsParent level key marks x parent puts
+  pub child : Page
+  pub got : HasGot above.holding.during y child
+  pub below : suc (node_of child).shape.level ≡ level
+  pub child_covers : Covers (node_of child).shape key
+  pub low : (node_of child).shape.low ≡ key
+
+abbrev pub approach_log : ℕ → Approach → Trail → Type 0
+approach_log level way.Start marks = HasRaised level marks
+approach_log level (way.At x) marks = HasRaised level marks
+approach_log level (way.Latching x) marks = HasRaised level marks
+approach_log level (way.Latched x) marks = Holding level marks x []
+approach_log level (way.Leaving x to) marks = HasRaised level marks
+
+-- What a change is to put, when it has put these pages: all that lists together what it is to list.
+pub record IsToPut (level key : ℕ) (marks : Trail) (x : ℕ) (puts pages : List Page) : Type 0 where
+  pub parent : Page
+  pub child : ℕ
+  pub both : HoldsBoth level key marks x parent child puts
+  pub together : ListTogether pages parent key child
+
+abbrev pub outcome_log : ℕ → ℕ → Outcome → Trail → Type 0
+outcome_log level key outcome.Changed marks = MeansParted level key None marks
+outcome_log level key (outcome.Parted separator) marks = MeansParted level key (Some separator) marks
+outcome_log level key outcome.Refused marks = MeansNoRoom level marks
+
+abbrev pub change_log : ℕ → ℕ → Change → Trail → Type 0
+change_log level key (change.Putting x page) marks = IsToPut level key marks x [] (page ∷ [])
+change_log level key (change.Taking full) marks = HoldsBoth level key marks full.at full.page full.word [] × (full.key ≡ key)
+change_log level key (change.PuttingNew p) marks = IsToPut level key marks p.at [] (p.right ∷ p.left ∷ []) × ((node_of p.right).shape.low ≡ p.separator)
+change_log level key (change.PuttingOld p) marks = IsToPut level key marks p.at (p.right ∷ []) (p.right ∷ p.left ∷ []) × ((node_of p.right).shape.low ≡ p.separator)
+change_log level key (change.OpeningNew x new separator) marks = MeansParted level key (Some separator) marks
+change_log level key (change.Opening x o) marks = outcome_log level key o marks
+
+-- of a new top level the top page was put, and the anchor not yet
+abbrev pub HasHalfRaised : ℕ → ℕ → Page → Trail → Type 0
+HasHalfRaised level x top marks = Wrote marks (λ acts. (before : List (Act Page Reply)) × RaisesOnly level before × (acts ≡ before ++ Act.Put x top ∷ []))
+
+abbrev pub growth_log : ℕ → Growth → Trail → Type 0
+growth_log level growth.Latching marks = HasRaised level marks
+growth_log level growth.Latched marks = Holding level marks 0 []
+growth_log level (growth.Taking rise) marks = Holding level marks 0 [] × (length rise.anchor.leftmost.items ≡ level)
+growth_log level (growth.PuttingTop r) marks = HasRaised level marks × ((node_of r.top).shape.level ≡ level)
+growth_log level (growth.PuttingAnchor r) marks = HasHalfRaised level r.new r.top marks × ((node_of r.top).shape.level ≡ level)
+growth_log level (growth.OpeningTop x) marks = HasRaised level marks
+growth_log level growth.OpeningGrown marks = HasRaised level marks
+growth_log level growth.OpeningRefused marks = MeansNoRoom level marks
+
+-- What the answer of a post means.
+abbrev pub reply_log : ℕ → ℕ → PostReply → Trail → Type 0
+reply_log level key (reply.Done separator) marks = MeansParted level key separator marks
+reply_log level key reply.Already marks = MeansAlready level key marks
+reply_log level key reply.Stale marks = MeansStale level key marks
+reply_log level key reply.NoRoom marks = MeansNoRoom level marks
+reply_log level key reply.TooTall marks = MeansTooTall level marks
+
+abbrev pub post_log : ℕ → ℕ → PostStage → Trail → Type 0
+post_log level key post.New marks = Unit {0}
+post_log level key (post.Coming a) marks = approach_log level a marks
+post_log level key (post.Growing g) marks = growth_log level g marks
+post_log level key (post.Walking w) marks = HoldsParent level key marks w.at (Inner w.parent) [] × (w.key ≡ key)
+post_log level key (post.Changing c) marks = change_log level key c marks
+post_log level key (post.Staying x r) marks = reply_log level key r marks
+post_log level key (post.Ending r) marks = reply_log level key r marks
+post_log level key (post.Over r) marks = reply_log level key r marks
+
+-- Insertions and deletions: what was put is whole, and so, or it is in parts, if it may be.
+
+abbrev pub put_log : (Page → Type 0) → Type 0 → Outcome → Trail → Type 0
+put_log Whole Parts outcome.Changed marks = (page : Page) × PutSince marks (page ∷ []) × Whole page
+put_log Whole Parts (outcome.Parted separator) marks = HasParted (Some separator) marks × Parts
+put_log Whole Parts outcome.Refused marks = Unit {0}
+
+abbrev pub entry_log : (Page → Type 0) → Type 0 → Change → Trail → Type 0
+entry_log Whole Parts (change.Putting x page) marks = PutSince marks [] × Whole page
+entry_log Whole Parts (change.Taking full) marks = PutSince marks [] × Parts
+entry_log Whole Parts (change.PuttingNew p) marks = PutSince marks [] × ((node_of p.right).shape.low ≡ p.separator) × Parts
+entry_log Whole Parts (change.PuttingOld p) marks = PutSince marks (p.right ∷ []) × ((node_of p.right).shape.low ≡ p.separator) × Parts
+entry_log Whole Parts (change.OpeningNew x new separator) marks = put_log Whole Parts (outcome.Parted separator) marks
+entry_log Whole Parts (change.Opening x o) marks = put_log Whole Parts o marks
+
+abbrev pub coming_log : Approach → Trail → Type 0
+coming_log way.Start marks = Unit {0}
+coming_log (way.At x) marks = Unit {0}
+coming_log (way.Latching x) marks = Unit {0}
+coming_log (way.Latched x) marks = PutSince marks []
+coming_log (way.Leaving x to) marks = Unit {0}
+
+abbrev pub AnyPage : Page → Type 0
+AnyPage page = Unit {0}
+
+abbrev pub inserted_log : InsertReply → Trail → Type 0
+inserted_log (inserted.Inserted separator) marks = HasParted separator marks
+inserted_log (inserted.Present there) marks = Unit {0}
+inserted_log inserted.NoRoom marks = Unit {0}
+
+abbrev pub insert_log : InsertStage → Trail → Type 0
+insert_log insert.New marks = Unit {0}
+insert_log (insert.Coming a) marks = coming_log a marks
+insert_log (insert.Present x there) marks = Unit {0}
+insert_log (insert.Changing c) marks = entry_log AnyPage (Unit {0}) c marks
+insert_log (insert.Ending r) marks = inserted_log r marks
+insert_log (insert.Over r) marks = inserted_log r marks
+
+-- the page is thin as the deletion says
+abbrev pub IsThinAs : Removed → Page → Type 0
+IsThinAs removed page = removed.thin ≡ thin_low page
+
+abbrev pub deleted_log : DeleteReply → Trail → Type 0
+deleted_log (deleted.Deleted removed) marks = (page : Page) × PutSince marks (page ∷ []) × IsThinAs removed page
+deleted_log deleted.Absent marks = Unit {0}
+deleted_log deleted.NoRoom marks = Unit {0}
+
+abbrev pub delete_log : DeleteStage → Trail → Type 0
+delete_log delete.New marks = Unit {0}
+delete_log (delete.Coming a) marks = coming_log a marks
+delete_log (delete.Absent x) marks = Unit {0}
+delete_log (delete.Changing removed c) marks = entry_log (IsThinAs removed) ⊥ c marks
+delete_log (delete.Ending r) marks = deleted_log r marks
+delete_log (delete.Over r) marks = deleted_log r marks
+
+-- Compressions
+
+abbrev pub way_log : Approach → Trail → Type 0
+way_log way.Start marks = Unwritten marks
+way_log (way.At x) marks = Unwritten marks
+way_log (way.Latching x) marks = Unwritten marks
+way_log (way.Latched x) marks = Since marks x []
+way_log (way.Leaving x to) marks = Unwritten marks
+
+abbrev pub fate_log : ℕ → ℕ → Fate → Trail → Type 0
+fate_log level key (fate.Merged hint) marks = MeansMerged level key hint marks
+fate_log level key fate.Evened marks = MeansEvened level key marks
+fate_log level key fate.Enough marks = MeansEnough level key marks
+fate_log level key (fate.Unposted hint) marks = MeansUnposted level key hint marks
+fate_log level key fate.Refused marks = MeansNoPlace level key marks
+fate_log level key fate.Lost marks = Unwritten marks
+
+abbrev pub squeeze_log : ℕ → ℕ → Compression → Trail → Type 0
+squeeze_log level key (LatchingLeft f) marks = AtFamily level key marks f (Get f.at.parent ∷ [])
+squeeze_log level key (LatchedLeft f) marks = AtFamily level key marks f (Get f.at.parent ∷ Latch f.at.left ∷ [])
+squeeze_log level key (LatchingRight f c) marks = AtLeft level key marks f c (to_left f.at)
+squeeze_log level key (LatchedRight f c) marks = AtLeft level key marks f c (Get f.at.parent ∷ Latch f.at.left ∷ Get f.at.left ∷ Latch f.at.right ∷ [])
+squeeze_log level key (PuttingFirst p) marks = IsToSqueeze level key marks p (to_right p.at)
+squeeze_log level key (PuttingParent p) marks = IsToSqueeze level key marks p (to_first p)
+squeeze_log level key (PuttingLast p) marks = IsToSqueeze level key marks p (to_second p)
+squeeze_log level key (Retiring at last) marks = (p : Puts) × (p.at ≡ at) × IsToSqueeze level key marks p (to_last p) × (p.fate ≡ last) × ((hint : Option Hint) × (last ≡ fate.Merged hint))
+squeeze_log level key (OpeningRight at last) marks = fate_log level key last marks
+squeeze_log level key (OpeningLeft at last) marks = fate_log level key last marks
+squeeze_log level key (OpeningParent x last) marks = fate_log level key last marks
+
+abbrev pub pressed_log : ℕ → ℕ → CompressReply → Trail → Type 0
+pressed_log level key (pressed.Merged hint) marks = MeansMerged level key hint marks
+pressed_log level key pressed.Evened marks = MeansEvened level key marks
+pressed_log level key pressed.Enough marks = MeansEnough level key marks
+pressed_log level key pressed.Alone marks = MeansAlone level key marks
+pressed_log level key (pressed.Unposted hint) marks = MeansUnposted level key hint marks
+pressed_log level key pressed.NoRoom marks = MeansNoPlace level key marks
+
+abbrev pub compress_log : ℕ → ℕ → CompressStage → Trail → Type 0
+compress_log level key compress.New marks = Unit {0}
+compress_log level key (compress.Coming a) marks = way_log a marks
+compress_log level key (compress.Compressing c) marks = squeeze_log level key c marks
+compress_log level key (compress.Staying x) marks = MeansAlone level key marks
+compress_log level key (compress.Ending r) marks = pressed_log level key r marks
+compress_log level key (compress.Over r) marks = pressed_log level key r marks
+
+abbrev pub proc_log : Proc → Trail → Type 0
+proc_log (proc.Find p) marks = Unit {0}
+proc_log (proc.Insert p) marks = insert_log p.stage marks
+proc_log (proc.Delete p) marks = delete_log p.stage marks
+proc_log (proc.Post p) marks = post_log p.level p.key p.stage marks
+proc_log (proc.Part p) marks = Unit {0}
+proc_log (proc.Compress p) marks = compress_log p.level p.key p.stage marks
+proc_log (proc.Reclaim p) marks = Unit {0}

@@ -1,0 +1,74 @@
+-- What a process knows in each of its states.
+use Rattle.std.specs.Prelude.{◌≡◌, ◌≢◌, ℕ, ◌<◌, Option, Some, None, List, [], ◌∷◌}
+use Rattle.bl_page.specs.declared.page.Page.{Page}
+use Rattle.bl_claims.specs.Nodes.{Covers, unbounded}
+use Rattle.bl_core_tree.specs.Trees.Status.{Fresh, Live}
+use Rattle.bl_core_tree.specs.Moves.{IsRow, IsCut, MayList}
+use Rattle.bl_claims.specs.Pages.{node_of}
+use Rattle.bl_claims.specs.Trails.{Said}
+use Rattle.bl_model.specs.Map.{Map}
+use Rattle.bl_page.specs.Machine.{Name}
+use Rattle.bl_core.specs.Worlds.{Hold, Goes, Child, Stage, Know, World, IsRelied, MapsTo, nodes, tree_of}
+use Rattle.bl_claims.specs.Walks.{Each}
+use Rattle.bl_proc_base.specs.declared.approaching.Approach.{Approach}
+use Rattle.bl_proc_base.specs.declared.approaching.Approach.TheVariants.{Start, At, Latching, Latched, Leaving}
+use Rattle.bl_proc_base.specs.declared.changing.Outcome.{Outcome}
+use Rattle.bl_proc_base.specs.declared.changing.Outcome.TheVariants as outcome
+use Rattle.bl_proc_base.specs.declared.changing.Change.{Change}
+use Rattle.bl_proc_base.specs.declared.changing.Change.TheVariants.{Putting, Taking, PuttingNew, PuttingOld, OpeningNew, Opening}
+
+-- nothing but where it stands
+abbrev pub idle : Stage → Know
+idle stage = record { stage = stage; said = None; holds = []; goes = []; children = []; middle = None; passed = None; sound = Unit {0}; log = λ marks. Unit {0} }
+
+-- a page of the tree that it holds, and one of which it knows what it got
+abbrev pub holds_live : ℕ → Hold
+holds_live x = record { at = x; status = Live; sep = None; page = None }
+
+abbrev pub holds_known : ℕ → Page → Hold
+holds_known x c = record { at = x; status = Live; sep = None; page = Some c }
+
+-- it may go to the page, of a level within these bounds
+abbrev pub goes_to : ℕ → ℕ → ℕ → Goes
+goes_to x least most = record { page = x; least = least; most = most }
+
+-- A writer on its way. Every page that it may get is of its level or above; those that it latches are of its level.
+abbrev pub know_approach : ℕ → ℕ → Approach → Know
+know_approach level key Start = record (idle Stage.Busy) { sound = key < unbounded }
+know_approach level key (At x) = record (idle Stage.Busy) { goes = goes_to x level 12 ∷ []; sound = key < unbounded }
+know_approach level key (Latching x) = record (idle Stage.Busy) { goes = goes_to x level level ∷ []; sound = key < unbounded }
+know_approach level key (Latched x) = record (idle Stage.Busy) { holds = holds_live x ∷ []; goes = goes_to x level level ∷ []; sound = key < unbounded }
+know_approach level key (Leaving x None) = record (idle Stage.Busy) { holds = holds_live x ∷ []; sound = key < unbounded }
+know_approach level key (Leaving x (Some y)) = record (idle Stage.Busy) { holds = holds_live x ∷ []; goes = goes_to y level level ∷ []; sound = key < unbounded }
+
+-- What a change is to do: on that level the key had this listed with it, and is to have that. What the process has said by
+-- the end, and the children that it relies on until then.
+pub record Aim : Type 0 where
+  pub level : ℕ
+  pub key : ℕ
+  pub was : Option ℕ
+  pub word : Option ℕ
+  pub said : Outcome → Option Said
+  pub children : ℕ → List Child
+
+-- What is said fits what is done, to the map on level 0, and to nothing that the map knows above it.
+pub record IsAim (aim : Aim) : Type 1 where
+  pub changed : (o : Outcome) → o ≢ outcome.Refused → (m m' : Map) → (aim.level ≡ 0 → (m aim.key ≡ aim.was) × (m' aim.key ≡ aim.word)) → (aim.level ≢ 0 → m' aim.key ≡ m aim.key) → ((j : ℕ) → j ≢ aim.key → m' j ≡ m j) → MapsTo m m' (aim.said o)
+  pub refused : (m : Map) → (aim.level ≡ 0 → m aim.key ≡ aim.was) → MapsTo m m (aim.said outcome.Refused)
+  -- what is to be listed on a level above 0 is a child that the process relies on
+  pub lists : {P : Type 0} (w : World P) (p : Name) (x : ℕ) → (nodes w.now x).shape.level ≡ aim.level → Each (IsRelied w p) (aim.children x) → MayList (tree_of w) aim.level aim.key aim.word
+
+-- a page that is to be changed
+pub record IsDue (aim : Aim) (c : Page) : Type 0 where
+  pub level : (node_of c).shape.level ≡ aim.level
+  pub covers : Covers (node_of c).shape aim.key
+  pub was : (node_of c).look aim.key ≡ aim.was
+
+-- got is what the process got of the page under its latch.
+abbrev pub know_change : Aim → (ℕ → Page) → Change → Know
+know_change aim got (Putting x page) = record (idle Stage.Busy) { holds = holds_known x (got x) ∷ []; children = aim.children x; sound = IsDue aim (got x) × IsRow aim.key aim.word (node_of (got x)) (node_of page) }
+know_change aim got (Taking full) = record (idle Stage.Busy) { holds = holds_known full.at full.page ∷ []; children = aim.children full.at; sound = IsDue aim full.page × (full.key ≡ aim.key) × (Some full.word ≡ aim.word) × (got full.at ≡ full.page) }
+know_change aim got (PuttingNew p) = record (idle Stage.Busy) { holds = holds_known p.at (got p.at) ∷ record { at = p.new; status = Fresh; sep = None; page = None } ∷ []; children = aim.children p.at; sound = IsDue aim (got p.at) × IsCut p.new aim.key aim.word (node_of (got p.at)) (node_of p.left) (node_of p.right) }
+know_change aim got (PuttingOld p) = record (idle Stage.Busy) { holds = holds_known p.at (got p.at) ∷ record { at = p.new; status = Fresh; sep = Some (node_of p.right).shape.low; page = Some p.right } ∷ []; children = aim.children p.at; sound = IsDue aim (got p.at) × IsCut p.new aim.key aim.word (node_of (got p.at)) (node_of p.left) (node_of p.right) }
+know_change aim got (OpeningNew x new separator) = record (idle Stage.Busy) { said = aim.said (outcome.Parted separator); holds = holds_live x ∷ holds_live new ∷ []; sound = x ≢ new }
+know_change aim got (Opening x o) = record (idle Stage.Busy) { said = aim.said o; holds = holds_live x ∷ [] }

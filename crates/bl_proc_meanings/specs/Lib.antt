@@ -1,0 +1,4 @@
+pub mod Hinted
+pub mod Answers
+pub mod Squeezed
+pub mod Families

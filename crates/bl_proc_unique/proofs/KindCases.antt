@@ -1,0 +1,271 @@
+-- Which turns a process of each kind can take, each with what it gives. Whoever takes a turn of a process apart has one
+-- clause for each of them, and none for what cannot be.
+use Rattle.std.proofs.Common.{ℕ, ◌≡◌, ◌≢◌, ◌⊎◌, ◌-◌, ◌<◌, ◌≤◌, true, false, Option, Some, None, subst}
+use Rattle.bl_page.specs.declared.page.Page.{Page}
+use Rattle.bl_page.specs.declared.page.Page.TheVariants.{Inner as InnerPage}
+use Rattle.bl_page.specs.declared.page.Inner.{Inner}
+use Rattle.bl_claims.specs.Pages.{node_of, roots_of}
+use Rattle.bl_proc_base.specs.declared.acts.Seen.{Seen}
+use Rattle.bl_proc_base.specs.declared.acts.Seen.TheVariants as seen
+use Rattle.bl_proc_base.specs.declared.answers.Reclaimed.{Reclaimed}
+use Rattle.bl_proc_base.specs.declared.answers.Reclaimed.TheVariants.{Released, Kept}
+use Rattle.bl_proc_base.specs.declared.onwards.Step.{Step}
+use Rattle.bl_proc_base.specs.declared.onwards.Step.TheVariants.{Again, Right, Down, Here}
+use Rattle.bl_proc_base.specs.declared.approaching.Approach.{Approach}
+use Rattle.bl_proc_base.specs.declared.approaching.Approach.TheVariants as way
+use Rattle.bl_proc_base.specs.declared.approaching.Approached.TheVariants as came
+use Rattle.bl_proc_base.specs.declared.changing.Outcome.{Outcome}
+use Rattle.bl_proc_base.specs.declared.changing.Change.{Change}
+use Rattle.bl_proc_base.specs.declared.changing.Changed.TheVariants as changed
+use Rattle.bl_proc_base.specs.declared.growing.Growth.{Growth}
+use Rattle.bl_proc_base.specs.declared.growing.Growth.TheVariants as growth
+use Rattle.bl_proc_base.specs.declared.growing.Grew.TheVariants as grew
+use Rattle.bl_proc_compress.specs.declared.compressing.Family.{Family}
+use Rattle.bl_proc_compress.specs.declared.compressing.Fate.{Fate}
+use Rattle.bl_proc_compress.specs.declared.compressing.Compression.{Compression}
+use Rattle.bl_proc_compress.specs.declared.compressing.Compression.TheVariants.{LatchingLeft}
+use Rattle.bl_proc_compress.specs.declared.compressing.Compressed.TheVariants as step
+use Rattle.bl_proc_compress.specs.declared.squeezing.CompressStage.{CompressStage}
+use Rattle.bl_proc_compress.specs.declared.squeezing.CompressStage.TheVariants as compress
+use Rattle.bl_proc_compress.specs.declared.squeezing.CompressReply.{CompressReply}
+use Rattle.bl_proc_compress.specs.declared.squeezing.CompressReply.TheVariants as pressed
+use Rattle.bl_proc_compress.specs.Compressions.{AreSiblings, Compresses}
+use Rattle.bl_proc_compress.specs.Compresses.{compress_reply, CompressArrives, CompressNears, CompressGoes}
+use Rattle.bl_proc.specs.declared.inserting.InsertStage.{InsertStage}
+use Rattle.bl_proc.specs.declared.inserting.InsertStage.TheVariants as insert
+use Rattle.bl_proc.specs.declared.inserting.InsertReply.{InsertReply}
+use Rattle.bl_proc.specs.declared.inserting.InsertReply.TheVariants as inserted
+use Rattle.bl_proc.specs.declared.deleting.Removed.{Removed}
+use Rattle.bl_proc.specs.declared.deleting.DeleteStage.{DeleteStage}
+use Rattle.bl_proc.specs.declared.deleting.DeleteStage.TheVariants as delete
+use Rattle.bl_proc.specs.declared.deleting.DeleteReply.{DeleteReply}
+use Rattle.bl_proc.specs.declared.deleting.DeleteReply.TheVariants as deleted
+use Rattle.bl_proc.specs.declared.walking.Walk.{Walk}
+use Rattle.bl_proc.specs.declared.posting.PostStage.{PostStage}
+use Rattle.bl_proc.specs.declared.posting.PostStage.TheVariants as post
+use Rattle.bl_proc.specs.declared.posting.PostReply.{PostReply}
+use Rattle.bl_proc.specs.declared.posting.PostReply.TheVariants as listed
+use Rattle.bl_proc.specs.declared.reclaiming.Round.{Round}
+use Rattle.bl_proc.specs.declared.reclaiming.ReclaimStage.{ReclaimStage}
+use Rattle.bl_proc.specs.declared.reclaiming.ReclaimStage.TheVariants as reclaim
+use Rattle.bl_proc.specs.declared.searching.FindStage.{FindStage}
+use Rattle.bl_proc.specs.declared.searching.FindStage.TheVariants as find
+use Rattle.bl_proc.specs.declared.parts.PartRows.{PartRows}
+use Rattle.bl_proc.specs.declared.parts.PartStage.{PartStage}
+use Rattle.bl_proc.specs.declared.parts.PartStage.TheVariants as part
+use Rattle.bl_proc_base.specs.Onwards.{top_of, Leads}
+use Rattle.bl_proc_base.specs.Approaches.{Approaches}
+use Rattle.bl_proc_base.specs.Changes.{EntersPair, DropsPair, Changes}
+use Rattle.bl_proc_base.specs.Growths.{Grows}
+use Rattle.bl_proc.specs.Searches.{FindGoes}
+use Rattle.bl_proc.specs.Parts.{IsPartOf, PartGoes}
+use Rattle.bl_proc.specs.Inserts.{insert_reply, InsertArrives, InsertGoes}
+use Rattle.bl_proc.specs.Deletes.{thin_after, delete_reply, DeleteArrives, DeleteGoes}
+use Rattle.bl_proc.specs.Posts.{post_reply, IsLost, PostArrives, PostNears, PostGoes}
+use Rattle.bl_proc.specs.Reclaims.{GoesPast, ReclaimGoes}
+use Rattle.bl_proc_unique.proofs.WayCases.{ApproachCase, approach_case}
+use Rattle.bl_proc_unique.proofs.WayCases.ApproachCase.{Arrived}
+
+-- A writer that is there got a page under its latch, and what is said of where it is is said of that page.
+at_page : {level key y : ℕ} {a : Approach} {what : Seen} {d : Page} (P : ℕ → Page → Type 0) (Q : Approach → Seen → Type 0) → Approaches level key a what (came.Here y d) → P y d → ((x : ℕ) (c : Page) → Leads c key level Here → P x c → Q (way.Latched x) (seen.Words c)) → Q a what
+at_page {level = level} {key = key} {y = y} {a = a} {what = what} {d = d} P Q h t then = by (approach_case level key a what (came.Here y d) h) t
+  where
+    by : {b : Approach} {w : Seen} {z : ℕ} {c : Page} → ApproachCase level key b w (came.Here z c) → P z c → Q b w
+    by (Arrived x c z e is) at = then x c is.2 (subst (λ u. P u c) is.0 (subst (λ u. P z u) is.1 at))
+
+pub data FindCase (key : ℕ) : FindStage → Seen → FindStage → Type 0 where
+  Began : FindCase key find.New seen.Done find.AtAnchor
+  Entered : (c : Page) (x : ℕ) → x ≡ top_of (roots_of c) → FindCase key find.AtAnchor (seen.Words c) (find.At x)
+  Back : (x : ℕ) (c : Page) → Leads c key 0 Again → FindCase key (find.At x) (seen.Words c) find.AtAnchor
+  Moved : (x : ℕ) (c : Page) (y : ℕ) → (Leads c key 0 (Right y)) ⊎ (Leads c key 0 (Down y)) → FindCase key (find.At x) (seen.Words c) (find.At y)
+  Found : (x : ℕ) (c : Page) (value : Option ℕ) → Leads c key 0 Here × (value ≡ (node_of c).look key) → FindCase key (find.At x) (seen.Words c) (find.Ending value)
+  Ended : (value last : Option ℕ) → last ≡ value → FindCase key (find.Ending value) seen.Done (find.Over last)
+
+pub find_case : (key : ℕ) (a : FindStage) (what : Seen) (b : FindStage) → FindGoes key a what b → FindCase key a what b
+find_case key find.New seen.Done find.AtAnchor t = Began
+find_case key find.AtAnchor (seen.Words c) (find.At x) t = Entered c x t
+find_case key (find.At x) (seen.Words c) find.AtAnchor t = Back x c t
+find_case key (find.At x) (seen.Words c) (find.At y) t = Moved x c y t
+find_case key (find.At x) (seen.Words c) (find.Ending value) t = Found x c value t
+find_case key (find.Ending value) seen.Done (find.Over last) t = Ended value last t
+find_case key a what b t = absurd t
+
+-- on its way as a search is
+pub data PartCase (from : ℕ) : PartStage → Seen → PartStage → Type 0 where
+  Began : PartCase from part.New seen.Done part.AtAnchor
+  Entered : (c : Page) (x : ℕ) → x ≡ top_of (roots_of c) → PartCase from part.AtAnchor (seen.Words c) (part.At x)
+  Back : (x : ℕ) (c : Page) → Leads c from 0 Again → PartCase from (part.At x) (seen.Words c) part.AtAnchor
+  Moved : (x : ℕ) (c : Page) (y : ℕ) → (Leads c from 0 (Right y)) ⊎ (Leads c from 0 (Down y)) → PartCase from (part.At x) (seen.Words c) (part.At y)
+  Listed : (x : ℕ) (c : Page) (r : PartRows) → Leads c from 0 Here × IsPartOf c from r → PartCase from (part.At x) (seen.Words c) (part.Ending r)
+  Ended : (r last : PartRows) → last ≡ r → PartCase from (part.Ending r) seen.Done (part.Over last)
+
+pub part_case : (from : ℕ) (a : PartStage) (what : Seen) (b : PartStage) → PartGoes from a what b → PartCase from a what b
+part_case from part.New seen.Done part.AtAnchor t = Began
+part_case from part.AtAnchor (seen.Words c) (part.At x) t = Entered c x t
+part_case from (part.At x) (seen.Words c) part.AtAnchor t = Back x c t
+part_case from (part.At x) (seen.Words c) (part.At y) t = Moved x c y t
+part_case from (part.At x) (seen.Words c) (part.Ending r) t = Listed x c r t
+part_case from (part.Ending r) seen.Done (part.Over last) t = Ended r last t
+part_case from a what b t = absurd t
+
+-- At its leaf an insertion has found the key, or the pair enters.
+pub data InsertCase (key value : ℕ) : InsertStage → Seen → InsertStage → Type 0 where
+  Began : (a : Approach) → a ≡ way.Start → InsertCase key value insert.New seen.Done (insert.Coming a)
+  Came : (a : Approach) (what : Seen) (b : Approach) → Approaches 0 key a what (came.On b) → InsertCase key value (insert.Coming a) what (insert.Coming b)
+  Found : (x : ℕ) (c : Page) (y there : ℕ) → Leads c key 0 Here → (y ≡ x) × ((node_of c).look key ≡ Some there) → InsertCase key value (insert.Coming (way.Latched x)) (seen.Words c) (insert.Present y there)
+  Entered : (x : ℕ) (c : Page) (d : Change) → Leads c key 0 Here → ((node_of c).look key ≡ None) × EntersPair x c key value d → InsertCase key value (insert.Coming (way.Latched x)) (seen.Words c) (insert.Changing d)
+  Opened : (x there : ℕ) (r : InsertReply) → r ≡ inserted.Present there → InsertCase key value (insert.Present x there) seen.Done (insert.Ending r)
+  Changed : (c : Change) (what : Seen) (d : Change) → Changes c what (changed.On d) → InsertCase key value (insert.Changing c) what (insert.Changing d)
+  Finished : (c : Change) (what : Seen) (r : InsertReply) → (o : Outcome) × Changes c what (changed.Over o) × (r ≡ insert_reply o) → InsertCase key value (insert.Changing c) what (insert.Ending r)
+  Ended : (r last : InsertReply) → last ≡ r → InsertCase key value (insert.Ending r) seen.Done (insert.Over last)
+
+pub insert_case : (key value : ℕ) (a : InsertStage) (what : Seen) (b : InsertStage) → InsertGoes key value a what b → InsertCase key value a what b
+insert_case key value insert.New seen.Done (insert.Coming a) t = Began a t
+insert_case key value (insert.Coming a) what (insert.Coming b) t = Came a what b t
+insert_case key value (insert.Coming a) what (insert.Present y there) (x, c, h, t) =
+    at_page (λ z d. InsertArrives key value z d (insert.Present y there)) (λ b w. InsertCase key value (insert.Coming b) w (insert.Present y there)) h t (λ z d l u. Found z d y there l u)
+insert_case key value (insert.Coming a) what (insert.Changing e) (x, c, h, t) =
+    at_page (λ z d. InsertArrives key value z d (insert.Changing e)) (λ b w. InsertCase key value (insert.Coming b) w (insert.Changing e)) h t (λ z d l u. Entered z d e l u)
+insert_case key value (insert.Coming a) what b t = absurd t.3
+insert_case key value (insert.Present x there) seen.Done (insert.Ending r) t = Opened x there r t
+insert_case key value (insert.Changing c) what (insert.Changing d) t = Changed c what d t
+insert_case key value (insert.Changing c) what (insert.Ending r) t = Finished c what r t
+insert_case key value (insert.Ending r) seen.Done (insert.Over last) t = Ended r last t
+insert_case key value a what b t = absurd t
+
+-- At its leaf a deletion misses the key, or the pair leaves.
+pub data DeleteCase (key : ℕ) : DeleteStage → Seen → DeleteStage → Type 0 where
+  Began : (a : Approach) → a ≡ way.Start → DeleteCase key delete.New seen.Done (delete.Coming a)
+  Came : (a : Approach) (what : Seen) (b : Approach) → Approaches 0 key a what (came.On b) → DeleteCase key (delete.Coming a) what (delete.Coming b)
+  Missing : (x : ℕ) (c : Page) (y : ℕ) → Leads c key 0 Here → (y ≡ x) × ((node_of c).look key ≡ None) → DeleteCase key (delete.Coming (way.Latched x)) (seen.Words c) (delete.Absent y)
+  Dropped : (x : ℕ) (c : Page) (v : Removed) (d : Change) → Leads c key 0 Here → ((node_of c).look key ≡ Some v.value) × DropsPair x c key d × (v.thin ≡ thin_after d) → DeleteCase key (delete.Coming (way.Latched x)) (seen.Words c) (delete.Changing v d)
+  Opened : (x : ℕ) (r : DeleteReply) → r ≡ deleted.Absent → DeleteCase key (delete.Absent x) seen.Done (delete.Ending r)
+  Changed : (v : Removed) (c : Change) (what : Seen) (u : Removed) (d : Change) → (u ≡ v) × Changes c what (changed.On d) → DeleteCase key (delete.Changing v c) what (delete.Changing u d)
+  Finished : (v : Removed) (c : Change) (what : Seen) (r : DeleteReply) → (o : Outcome) × Changes c what (changed.Over o) × (r ≡ delete_reply v o) → DeleteCase key (delete.Changing v c) what (delete.Ending r)
+  Ended : (r last : DeleteReply) → last ≡ r → DeleteCase key (delete.Ending r) seen.Done (delete.Over last)
+
+pub delete_case : (key : ℕ) (a : DeleteStage) (what : Seen) (b : DeleteStage) → DeleteGoes key a what b → DeleteCase key a what b
+delete_case key delete.New seen.Done (delete.Coming a) t = Began a t
+delete_case key (delete.Coming a) what (delete.Coming b) t = Came a what b t
+delete_case key (delete.Coming a) what (delete.Absent y) (x, c, h, t) =
+    at_page (λ z d. DeleteArrives key z d (delete.Absent y)) (λ b w. DeleteCase key (delete.Coming b) w (delete.Absent y)) h t (λ z d l u. Missing z d y l u)
+delete_case key (delete.Coming a) what (delete.Changing v e) (x, c, h, t) =
+    at_page (λ z d. DeleteArrives key z d (delete.Changing v e)) (λ b w. DeleteCase key (delete.Coming b) w (delete.Changing v e)) h t (λ z d l u. Dropped z d v e l u)
+delete_case key (delete.Coming a) what b t = absurd t.3
+delete_case key (delete.Absent x) seen.Done (delete.Ending r) t = Opened x r t
+delete_case key (delete.Changing v c) what (delete.Changing u d) t = Changed v c what u d t
+delete_case key (delete.Changing v c) what (delete.Ending r) t = Finished v c what r t
+delete_case key (delete.Ending r) seen.Done (delete.Over last) t = Ended r last t
+delete_case key a what b t = absurd t
+
+-- At the anchor the level may be missing, or is to be made; at the parent the key is listed, or the walk to the child begins.
+pub data PostCase (level key : ℕ) : PostStage → Seen → PostStage → Type 0 where
+  Began : (a : Approach) → a ≡ way.Start → PostCase level key post.New seen.Done (post.Coming a)
+  NoLevel : (c : Page) → (roots_of c).levels < level → PostCase level key (post.Coming way.Start) (seen.Words c) (post.Ending listed.Stale)
+  Tallest : (c : Page) → ((roots_of c).levels ≡ level) × (level ≡ 12) → PostCase level key (post.Coming way.Start) (seen.Words c) (post.Ending listed.TooTall)
+  ToGrow : (c : Page) → ((roots_of c).levels ≡ level) × (level ≢ 12) → PostCase level key (post.Coming way.Start) (seen.Words c) (post.Growing growth.Latching)
+  Came : (a : Approach) (what : Seen) (b : Approach) → Approaches level key a what (came.On b) → PostCase level key (post.Coming a) what (post.Coming b)
+  Listed : (x : ℕ) (c : Page) (y : ℕ) → Leads c key level Here → PostArrives key x c (post.Staying y listed.Already) → PostCase level key (post.Coming (way.Latched x)) (seen.Words c) (post.Staying y listed.Already)
+  ToWalk : (x : ℕ) (c : Page) (v : Walk) → Leads c key level Here → PostArrives key x c (post.Walking v) → PostCase level key (post.Coming (way.Latched x)) (seen.Words c) (post.Walking v)
+  Grew : (g : Growth) (what : Seen) (h : Growth) → Grows level g what (grew.On h) → PostCase level key (post.Growing g) what (post.Growing h)
+  Grown : (g : Growth) (what : Seen) (a : Approach) → Grows level g what grew.Grown × (a ≡ way.Start) → PostCase level key (post.Growing g) what (post.Coming a)
+  NoRoom : (g : Growth) (what : Seen) (r : PostReply) → Grows level g what grew.Refused × (r ≡ listed.NoRoom) → PostCase level key (post.Growing g) what (post.Ending r)
+  Walked : (w : Walk) (c : Page) (v : Walk) → (v.at ≡ w.at) × (v.key ≡ w.key) × (v.parent ≡ w.parent) × Leads c w.key (level - 1) (Right v.child) → PostCase level key (post.Walking w) (seen.Words c) (post.Walking v)
+  Entered : (w : Walk) (c : Page) (d : Change) → Leads c w.key (level - 1) Here × ((node_of c).shape.low ≡ w.key) × EntersPair w.at (InnerPage w.parent) w.key w.child d → PostCase level key (post.Walking w) (seen.Words c) (post.Changing d)
+  Stale : (w : Walk) (c : Page) (x : ℕ) → (x ≡ w.at) × Leads c w.key (level - 1) Here × ((node_of c).shape.low ≢ w.key) → PostCase level key (post.Walking w) (seen.Words c) (post.Staying x listed.Stale)
+  Lost : (w : Walk) (c : Page) (a : Approach) → (a ≡ way.Leaving w.at None) × ((o : Step) × Leads c w.key (level - 1) o × IsLost o) → PostCase level key (post.Walking w) (seen.Words c) (post.Coming a)
+  Changed : (c : Change) (what : Seen) (d : Change) → Changes c what (changed.On d) → PostCase level key (post.Changing c) what (post.Changing d)
+  Finished : (c : Change) (what : Seen) (r : PostReply) → (o : Outcome) × Changes c what (changed.Over o) × (r ≡ post_reply o) → PostCase level key (post.Changing c) what (post.Ending r)
+  Opened : (x : ℕ) (r last : PostReply) → last ≡ r → PostCase level key (post.Staying x r) seen.Done (post.Ending last)
+  Ended : (r last : PostReply) → last ≡ r → PostCase level key (post.Ending r) seen.Done (post.Over last)
+
+-- past the anchor
+post_near : (level key : ℕ) (a : Approach) (what : Seen) (b : PostStage) → PostNears level key a what b → PostCase level key (post.Coming a) what b
+post_near level key a what (post.Coming b) t = Came a what b t
+post_near level key a what (post.Staying y listed.Already) (x, c, h, t) =
+    at_page (λ z d. PostArrives key z d (post.Staying y listed.Already)) (λ b w. PostCase level key (post.Coming b) w (post.Staying y listed.Already)) h t (λ z d l u. Listed z d y l u)
+post_near level key a what (post.Walking v) (x, c, h, t) =
+    at_page (λ z d. PostArrives key z d (post.Walking v)) (λ b w. PostCase level key (post.Coming b) w (post.Walking v)) h t (λ z d l u. ToWalk z d v l u)
+post_near level key a what b t = absurd t.3
+
+pub post_case : (level key : ℕ) (a : PostStage) (what : Seen) (b : PostStage) → PostGoes level key a what b → PostCase level key a what b
+post_case level key post.New seen.Done (post.Coming a) t = Began a t
+post_case level key (post.Coming way.Start) (seen.Words c) (post.Ending listed.Stale) t = NoLevel c t
+post_case level key (post.Coming way.Start) (seen.Words c) (post.Ending listed.TooTall) t = Tallest c t
+post_case level key (post.Coming way.Start) (seen.Words c) (post.Growing growth.Latching) t = ToGrow c t
+post_case level key (post.Coming way.Start) (seen.Words c) (post.Coming b) t = Came way.Start (seen.Words c) b t.1
+post_case level key (post.Coming (way.At x)) what b t = post_near level key (way.At x) what b t
+post_case level key (post.Coming (way.Latching x)) what b t = post_near level key (way.Latching x) what b t
+post_case level key (post.Coming (way.Latched x)) what b t = post_near level key (way.Latched x) what b t
+post_case level key (post.Coming (way.Leaving x to)) what b t = post_near level key (way.Leaving x to) what b t
+post_case level key (post.Growing g) what (post.Growing h) t = Grew g what h t
+post_case level key (post.Growing g) what (post.Coming a) t = Grown g what a t
+post_case level key (post.Growing g) what (post.Ending r) t = NoRoom g what r t
+post_case level key (post.Walking w) (seen.Words c) (post.Walking v) t = Walked w c v t
+post_case level key (post.Walking w) (seen.Words c) (post.Changing d) t = Entered w c d t
+post_case level key (post.Walking w) (seen.Words c) (post.Staying x listed.Stale) t = Stale w c x t
+post_case level key (post.Walking w) (seen.Words c) (post.Coming a) t = Lost w c a t
+post_case level key (post.Changing c) what (post.Changing d) t = Changed c what d t
+post_case level key (post.Changing c) what (post.Ending r) t = Finished c what r t
+post_case level key (post.Staying x r) seen.Done (post.Ending last) t = Opened x r last t
+post_case level key (post.Ending r) seen.Done (post.Over last) t = Ended r last t
+post_case level key a what b t = absurd t
+
+-- At the parent there are two children, or one.
+pub data CompressCase (level key : ℕ) : CompressStage → Seen → CompressStage → Type 0 where
+  Began : (a : Approach) → a ≡ way.Start → CompressCase level key compress.New seen.Done (compress.Coming a)
+  NoLevel : (c : Page) → (roots_of c).levels ≤ level → CompressCase level key (compress.Coming way.Start) (seen.Words c) (compress.Ending pressed.Alone)
+  Came : (a : Approach) (what : Seen) (b : Approach) → Approaches level key a what (came.On b) → CompressCase level key (compress.Coming a) what (compress.Coming b)
+  Met : (x : ℕ) (c : Page) (f : Family) → Leads c key level Here → (parent : Inner) × (c ≡ InnerPage parent) × AreSiblings x key parent (Some f) → CompressCase level key (compress.Coming (way.Latched x)) (seen.Words c) (compress.Compressing (LatchingLeft f))
+  Single : (x : ℕ) (c : Page) (y : ℕ) → Leads c key level Here → (y ≡ x) × ((parent : Inner) × (c ≡ InnerPage parent) × AreSiblings x key parent None) → CompressCase level key (compress.Coming (way.Latched x)) (seen.Words c) (compress.Staying y)
+  Squeezed : (c : Compression) (what : Seen) (d : Compression) → Compresses c what (step.On d) → CompressCase level key (compress.Compressing c) what (compress.Compressing d)
+  Lost : (c : Compression) (what : Seen) (a : Approach) → (last : Fate) × Compresses c what (step.Over last) × (compress_reply last ≡ None) × (a ≡ way.Start) → CompressCase level key (compress.Compressing c) what (compress.Coming a)
+  Finished : (c : Compression) (what : Seen) (r : CompressReply) → (last : Fate) × Compresses c what (step.Over last) × (compress_reply last ≡ Some r) → CompressCase level key (compress.Compressing c) what (compress.Ending r)
+  Opened : (x : ℕ) (r : CompressReply) → r ≡ pressed.Alone → CompressCase level key (compress.Staying x) seen.Done (compress.Ending r)
+  Ended : (r last : CompressReply) → last ≡ r → CompressCase level key (compress.Ending r) seen.Done (compress.Over last)
+
+-- past the anchor
+compress_near : (level key : ℕ) (a : Approach) (what : Seen) (b : CompressStage) → CompressNears level key a what b → CompressCase level key (compress.Coming a) what b
+compress_near level key a what (compress.Coming b) t = Came a what b t
+compress_near level key a what (compress.Compressing (LatchingLeft f)) (x, c, h, t) =
+    at_page (λ z d. CompressArrives key z d (compress.Compressing (LatchingLeft f))) (λ b w. CompressCase level key (compress.Coming b) w (compress.Compressing (LatchingLeft f))) h t (λ z d l u. Met z d f l u)
+compress_near level key a what (compress.Staying y) (x, c, h, t) =
+    at_page (λ z d. CompressArrives key z d (compress.Staying y)) (λ b w. CompressCase level key (compress.Coming b) w (compress.Staying y)) h t (λ z d l u. Single z d y l u)
+compress_near level key a what b t = absurd t.3
+
+pub compress_case : (level key : ℕ) (a : CompressStage) (what : Seen) (b : CompressStage) → CompressGoes level key a what b → CompressCase level key a what b
+compress_case level key compress.New seen.Done (compress.Coming a) t = Began a t
+compress_case level key (compress.Coming way.Start) (seen.Words c) (compress.Ending pressed.Alone) t = NoLevel c t
+compress_case level key (compress.Coming way.Start) (seen.Words c) (compress.Coming b) t = Came way.Start (seen.Words c) b t.1
+compress_case level key (compress.Coming (way.At x)) what b t = compress_near level key (way.At x) what b t
+compress_case level key (compress.Coming (way.Latching x)) what b t = compress_near level key (way.Latching x) what b t
+compress_case level key (compress.Coming (way.Latched x)) what b t = compress_near level key (way.Latched x) what b t
+compress_case level key (compress.Coming (way.Leaving x to)) what b t = compress_near level key (way.Leaving x to) what b t
+compress_case level key (compress.Compressing c) what (compress.Compressing d) t = Squeezed c what d t
+compress_case level key (compress.Compressing c) what (compress.Coming a) t = Lost c what a t
+compress_case level key (compress.Compressing c) what (compress.Ending r) t = Finished c what r t
+compress_case level key (compress.Staying x) seen.Done (compress.Ending r) t = Opened x r t
+compress_case level key (compress.Ending r) seen.Done (compress.Over last) t = Ended r last t
+compress_case level key a what b t = absurd t
+
+-- It looks at one process after another, and releases the page where none blocks it.
+pub data ReclaimCase : ReclaimStage → Seen → ReclaimStage → Type 0 where
+  First : (started own : ℕ) (r : Round) → GoesPast 0 started own (reclaim.Looking r) → ReclaimCase reclaim.Seeing (seen.Owner true started own) (reclaim.Looking r)
+  NoneThere : (started own : ℕ) → GoesPast 0 started own reclaim.Releasing → ReclaimCase reclaim.Seeing (seen.Owner true started own) reclaim.Releasing
+  NotRetired : (started own : ℕ) (what : Reclaimed) → what ≡ Kept → ReclaimCase reclaim.Seeing (seen.Owner false started own) (reclaim.Over what)
+  Further : (r n : Round) → GoesPast r.next r.started r.own (reclaim.Looking n) → ReclaimCase (reclaim.Looking r) (seen.Blocks false) (reclaim.Looking n)
+  NoMore : (r : Round) → GoesPast r.next r.started r.own reclaim.Releasing → ReclaimCase (reclaim.Looking r) (seen.Blocks false) reclaim.Releasing
+  Blocked : (r : Round) (what : Reclaimed) → what ≡ Kept → ReclaimCase (reclaim.Looking r) (seen.Blocks true) (reclaim.Over what)
+  Done : (what : Reclaimed) → what ≡ Released → ReclaimCase reclaim.Releasing seen.Done (reclaim.Over what)
+  Missed : (what : Reclaimed) → what ≡ Kept → ReclaimCase reclaim.Releasing seen.Missed (reclaim.Over what)
+
+pub reclaim_case : (a : ReclaimStage) (what : Seen) (b : ReclaimStage) → ReclaimGoes a what b → ReclaimCase a what b
+reclaim_case reclaim.Seeing (seen.Owner true started own) (reclaim.Looking r) t = First started own r t
+reclaim_case reclaim.Seeing (seen.Owner true started own) reclaim.Releasing t = NoneThere started own t
+reclaim_case reclaim.Seeing (seen.Owner false started own) (reclaim.Over what) t = NotRetired started own what t
+reclaim_case (reclaim.Looking r) (seen.Blocks false) (reclaim.Looking n) t = Further r n t
+reclaim_case (reclaim.Looking r) (seen.Blocks false) reclaim.Releasing t = NoMore r t
+reclaim_case (reclaim.Looking r) (seen.Blocks true) (reclaim.Over what) t = Blocked r what t
+reclaim_case reclaim.Releasing seen.Done (reclaim.Over what) t = Done what t
+reclaim_case reclaim.Releasing seen.Missed (reclaim.Over what) t = Missed what t
+reclaim_case a what b t = absurd t

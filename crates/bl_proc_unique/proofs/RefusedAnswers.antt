@@ -1,0 +1,117 @@
+-- A process that answers that there was no room goes on without room.
+use Rattle.std.proofs.Common.{ℕ, ◌≡◌, Some, None, subst}
+use Rattle.bl_proc_base.specs.declared.answers.Answer.{Answer}
+use Rattle.bl_proc.specs.declared.searching.FindStage.{FindStage}
+use Rattle.bl_proc.specs.declared.searching.FindStage.TheVariants as find
+use Rattle.bl_proc.specs.declared.parts.PartStage.{PartStage}
+use Rattle.bl_proc.specs.declared.parts.PartStage.TheVariants as part
+use Rattle.bl_proc.specs.declared.inserting.InsertStage.{InsertStage}
+use Rattle.bl_proc.specs.declared.inserting.InsertStage.TheVariants as insert
+use Rattle.bl_proc.specs.declared.inserting.InsertReply.TheVariants as inserted
+use Rattle.bl_proc.specs.declared.deleting.DeleteStage.{DeleteStage}
+use Rattle.bl_proc.specs.declared.deleting.DeleteStage.TheVariants as delete
+use Rattle.bl_proc.specs.declared.deleting.DeleteReply.TheVariants as deleted
+use Rattle.bl_proc.specs.declared.posting.PostStage.{PostStage}
+use Rattle.bl_proc.specs.declared.posting.PostStage.TheVariants as post
+use Rattle.bl_proc.specs.declared.posting.PostReply.TheVariants as listed
+use Rattle.bl_proc_compress.specs.declared.squeezing.CompressReply.TheVariants as pressed
+use Rattle.bl_proc_compress.specs.declared.squeezing.CompressStage.{CompressStage}
+use Rattle.bl_proc_compress.specs.declared.squeezing.CompressStage.TheVariants as compress
+use Rattle.bl_proc.specs.declared.reclaiming.ReclaimStage.{ReclaimStage}
+use Rattle.bl_proc.specs.declared.reclaiming.ReclaimStage.TheVariants as reclaim
+use Rattle.bl_proc.specs.declared.kinds.Proc.{Proc}
+use Rattle.bl_proc.specs.declared.kinds.Proc.TheVariants as proc
+use Rattle.bl_proc.specs.Processes.{answer_of}
+use Rattle.bl_proc.specs.Searches.{find_answer_in}
+use Rattle.bl_proc.specs.Parts.{part_answer_in}
+use Rattle.bl_proc.specs.Inserts.{insert_answer_in}
+use Rattle.bl_proc.specs.Deletes.{delete_answer_in}
+use Rattle.bl_proc.specs.Posts.{post_answer_in}
+use Rattle.bl_proc_compress.specs.Compresses.{compress_answer_in}
+use Rattle.bl_proc.specs.Reclaims.{reclaim_answer_in}
+use Rattle.bl_proc_unique.specs.Refusals.{IsNoRoom, InsertRefused, DeleteRefused, PostRefused, CompressRefused, IsRefused}
+
+-- An answer
+
+none_answer : {X : Type 0} (a : Answer) → None ≡ Some a → X
+none_answer a e = absurd (let f : None ≡ Some a = e in cc)
+
+no_room : (a b : Answer) → Some a ≡ Some b → IsNoRoom b → IsNoRoom a
+no_room a b e r = (let f : b ≡ a = cc in subst IsNoRoom f r)
+
+find_answers : (a : FindStage) (b : Answer) → find_answer_in a ≡ Some b → IsNoRoom b → ⊥
+find_answers find.New b e r = none_answer b e
+find_answers find.AtAnchor b e r = none_answer b e
+find_answers (find.At x) b e r = none_answer b e
+find_answers (find.Ending v) b e r = none_answer b e
+find_answers (find.Over None) b e r = no_room _ b e r
+find_answers (find.Over (Some v)) b e r = no_room _ b e r
+
+part_answers : (a : PartStage) (b : Answer) → part_answer_in a ≡ Some b → IsNoRoom b → ⊥
+part_answers part.New b e r = none_answer b e
+part_answers part.AtAnchor b e r = none_answer b e
+part_answers (part.At x) b e r = none_answer b e
+part_answers (part.Ending q) b e r = none_answer b e
+part_answers (part.Over q) b e r = no_room _ b e r
+
+insert_answers : (a : InsertStage) (b : Answer) → insert_answer_in a ≡ Some b → IsNoRoom b → InsertRefused a
+insert_answers insert.New b e r = none_answer b e
+insert_answers (insert.Coming a) b e r = none_answer b e
+insert_answers (insert.Present x v) b e r = none_answer b e
+insert_answers (insert.Changing c) b e r = none_answer b e
+insert_answers (insert.Ending x) b e r = none_answer b e
+insert_answers (insert.Over (inserted.Inserted s)) b e r = no_room _ b e r
+insert_answers (insert.Over (inserted.Present v)) b e r = no_room _ b e r
+insert_answers (insert.Over inserted.NoRoom) b e r = tt
+
+delete_answers : (a : DeleteStage) (b : Answer) → delete_answer_in a ≡ Some b → IsNoRoom b → DeleteRefused a
+delete_answers delete.New b e r = none_answer b e
+delete_answers (delete.Coming a) b e r = none_answer b e
+delete_answers (delete.Absent x) b e r = none_answer b e
+delete_answers (delete.Changing v c) b e r = none_answer b e
+delete_answers (delete.Ending x) b e r = none_answer b e
+delete_answers (delete.Over (deleted.Deleted v)) b e r = no_room _ b e r
+delete_answers (delete.Over deleted.Absent) b e r = no_room _ b e r
+delete_answers (delete.Over deleted.NoRoom) b e r = tt
+
+post_answers : (level : ℕ) (a : PostStage) (b : Answer) → post_answer_in level a ≡ Some b → IsNoRoom b → PostRefused a
+post_answers level post.New b e r = none_answer b e
+post_answers level (post.Coming a) b e r = none_answer b e
+post_answers level (post.Growing g) b e r = none_answer b e
+post_answers level (post.Walking w) b e r = none_answer b e
+post_answers level (post.Changing c) b e r = none_answer b e
+post_answers level (post.Staying x s) b e r = none_answer b e
+post_answers level (post.Ending x) b e r = none_answer b e
+post_answers level (post.Over (listed.Done s)) b e r = no_room _ b e r
+post_answers level (post.Over listed.Already) b e r = no_room _ b e r
+post_answers level (post.Over listed.Stale) b e r = no_room _ b e r
+post_answers level (post.Over listed.NoRoom) b e r = tt
+post_answers level (post.Over listed.TooTall) b e r = no_room _ b e r
+
+compress_answers : (a : CompressStage) (b : Answer) → compress_answer_in a ≡ Some b → IsNoRoom b → CompressRefused a
+compress_answers compress.New b e r = none_answer b e
+compress_answers (compress.Coming a) b e r = none_answer b e
+compress_answers (compress.Compressing c) b e r = none_answer b e
+compress_answers (compress.Staying x) b e r = none_answer b e
+compress_answers (compress.Ending s) b e r = none_answer b e
+compress_answers (compress.Over (pressed.Merged h)) b e r = no_room _ b e r
+compress_answers (compress.Over pressed.Evened) b e r = no_room _ b e r
+compress_answers (compress.Over pressed.Enough) b e r = no_room _ b e r
+compress_answers (compress.Over pressed.Alone) b e r = no_room _ b e r
+compress_answers (compress.Over (pressed.Unposted h)) b e r = no_room _ b e r
+compress_answers (compress.Over pressed.NoRoom) b e r = tt
+
+reclaim_answers : (a : ReclaimStage) (b : Answer) → reclaim_answer_in a ≡ Some b → IsNoRoom b → ⊥
+reclaim_answers reclaim.Seeing b e r = none_answer b e
+reclaim_answers (reclaim.Looking q) b e r = none_answer b e
+reclaim_answers reclaim.Releasing b e r = none_answer b e
+reclaim_answers (reclaim.Over q) b e r = no_room _ b e r
+
+pub answers_refused : (p : Proc) (a : Answer) → answer_of p ≡ Some a → IsNoRoom a → IsRefused p
+answers_refused (proc.Find p) a e r = find_answers p.stage a e r
+answers_refused (proc.Insert p) a e r = insert_answers p.stage a e r
+answers_refused (proc.Delete p) a e r = delete_answers p.stage a e r
+answers_refused (proc.Post p) a e r = post_answers p.level p.stage a e r
+answers_refused (proc.Part p) a e r = part_answers p.stage a e r
+answers_refused (proc.Compress p) a e r = compress_answers p.stage a e r
+answers_refused (proc.Reclaim p) a e r = reclaim_answers p.stage a e r

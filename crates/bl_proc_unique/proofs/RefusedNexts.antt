@@ -1,0 +1,178 @@
+-- What a process does that goes on without room, and what it had asked for.
+use Rattle.std.proofs.Common.{ℕ, ◌≡◌, ◌⊎◌, None, Some, refl, inl, inr}
+use Rattle.bl_proc_base.specs.declared.acts.Seen.{Seen}
+use Rattle.bl_proc_base.specs.declared.acts.Action.{Action}
+use Rattle.bl_proc_base.specs.declared.acts.Action.TheVariants as act
+use Rattle.bl_proc_base.specs.declared.changing.Change.{Change}
+use Rattle.bl_proc_base.specs.declared.changing.Change.TheVariants as change
+use Rattle.bl_proc_base.specs.declared.growing.Growth.{Growth}
+use Rattle.bl_proc_base.specs.declared.growing.Growth.TheVariants as growth
+use Rattle.bl_proc_base.specs.Changes.{change_next, change_needs}
+use Rattle.bl_proc_base.specs.Growths.{growth_next, growth_needs}
+use Rattle.bl_proc_compress.specs.declared.compressing.Compression.{Compression}
+use Rattle.bl_proc_compress.specs.declared.compressing.Compression.TheVariants.{LatchingLeft, LatchedLeft, LatchingRight, LatchedRight, PuttingFirst, PuttingParent, PuttingLast, Retiring, OpeningRight, OpeningLeft, OpeningParent}
+use Rattle.bl_proc_compress.specs.Compressions.{compression_next, compression_needs}
+use Rattle.bl_proc_compress.specs.declared.squeezing.CompressStage.{CompressStage}
+use Rattle.bl_proc_compress.specs.declared.squeezing.CompressStage.TheVariants as compress
+use Rattle.bl_proc_compress.specs.Compresses.{compress_next_in, compress_needs_in}
+use Rattle.bl_proc.specs.declared.inserting.InsertStage.{InsertStage}
+use Rattle.bl_proc.specs.declared.inserting.InsertStage.TheVariants as insert
+use Rattle.bl_proc.specs.declared.deleting.DeleteStage.{DeleteStage}
+use Rattle.bl_proc.specs.declared.deleting.DeleteStage.TheVariants as delete
+use Rattle.bl_proc.specs.declared.posting.PostStage.{PostStage}
+use Rattle.bl_proc.specs.declared.posting.PostStage.TheVariants as post
+use Rattle.bl_proc.specs.declared.kinds.Proc.{Proc}
+use Rattle.bl_proc.specs.declared.kinds.Proc.TheVariants as proc
+use Rattle.bl_proc.specs.Inserts.{insert_next_in, insert_needs_in}
+use Rattle.bl_proc.specs.Deletes.{delete_next_in, delete_needs_in}
+use Rattle.bl_proc.specs.Posts.{post_next_in, post_needs_in}
+use Rattle.bl_proc.specs.Processes.{next_of, needs_of, Takes}
+use Rattle.bl_proc_unique.specs.Refusals.{ChangeRefused, GrowthRefused, InsertRefused, DeleteRefused, PostRefused, SqueezeRefused, CompressRefused, IsRefused, SqueezePuts, CompressPuts, PutsRefused, MayAsk}
+
+-- it opens a page, or ends
+abbrev pub OpensOrEnds : Action → Type 0
+OpensOrEnds action = ((x : ℕ) × (action ≡ act.Open x)) ⊎ (action ≡ act.End)
+
+change_opens : (c : Change) → ChangeRefused c → OpensOrEnds (change_next c)
+change_opens (change.Opening x o) r = inl (x, refl)
+change_opens old r = absurd r
+
+growth_opens : (g : Growth) → GrowthRefused g → OpensOrEnds (growth_next g)
+growth_opens growth.OpeningRefused r = inl (0, refl)
+growth_opens old r = absurd r
+
+insert_opens : (s : InsertStage) → InsertRefused s → OpensOrEnds (insert_next_in s)
+insert_opens (insert.Changing c) r = change_opens c r
+insert_opens (insert.Ending a) r = inr refl
+insert_opens (insert.Over a) r = inr refl
+insert_opens old r = absurd r
+
+delete_opens : (s : DeleteStage) → DeleteRefused s → OpensOrEnds (delete_next_in s)
+delete_opens (delete.Changing v c) r = change_opens c r
+delete_opens (delete.Ending a) r = inr refl
+delete_opens (delete.Over a) r = inr refl
+delete_opens old r = absurd r
+
+post_opens : (s : PostStage) → PostRefused s → OpensOrEnds (post_next_in s)
+post_opens (post.Growing g) r = growth_opens g r
+post_opens (post.Changing c) r = change_opens c r
+post_opens (post.Staying x a) r = inl (x, refl)
+post_opens (post.Ending a) r = inr refl
+post_opens (post.Over a) r = inr refl
+post_opens old r = absurd r
+
+squeeze_opens : (c : Compression) → SqueezeRefused c → (SqueezePuts c → ⊥) → OpensOrEnds (compression_next c)
+squeeze_opens (PuttingFirst u) r not = absurd (not r)
+squeeze_opens (PuttingParent u) r not = absurd (not r)
+squeeze_opens (PuttingLast u) r not = absurd (not r)
+squeeze_opens (Retiring at end) r not = absurd (not r)
+squeeze_opens (OpeningRight at end) r not = inl (_, refl)
+squeeze_opens (OpeningLeft at end) r not = inl (_, refl)
+squeeze_opens (OpeningParent x end) r not = inl (_, refl)
+squeeze_opens old r not = absurd r
+
+compress_opens : (s : CompressStage) → CompressRefused s → (CompressPuts s → ⊥) → OpensOrEnds (compress_next_in s)
+compress_opens (compress.Compressing c) r not = squeeze_opens c r not
+compress_opens (compress.Ending a) r not = inr refl
+compress_opens (compress.Over a) r not = inr refl
+compress_opens old r not = absurd r
+
+pub refused_opens : (p : Proc) → IsRefused p → (PutsRefused p → ⊥) → OpensOrEnds (next_of p)
+refused_opens (proc.Insert p) r not = insert_opens p.stage r
+refused_opens (proc.Delete p) r not = delete_opens p.stage r
+refused_opens (proc.Post p) r not = post_opens p.stage r
+refused_opens (proc.Compress p) r not = compress_opens p.stage r not
+refused_opens old r not = absurd r
+
+-- What it asks for
+
+some_ask : (a b : ℕ × ℕ) → Some a ≡ Some b → b ≡ a
+some_ask a b e = (let f : b ≡ a = cc in f)
+
+none_asks : {X : Type 0} (b : ℕ × ℕ) → None ≡ Some b → X
+none_asks b e = absurd (let f : None ≡ Some b = e in cc)
+
+change_asks : (c : Change) (b : ℕ × ℕ) → change_needs c ≡ Some b → (b ≡ (0, 1)) ⊎ (b ≡ (1, 2))
+change_asks (change.Putting x page) b e = inl (some_ask _ b e)
+change_asks (change.Taking full) b e = inr (some_ask _ b e)
+change_asks (change.PuttingNew p) b e = none_asks b e
+change_asks (change.PuttingOld p) b e = none_asks b e
+change_asks (change.OpeningNew x new separator) b e = none_asks b e
+change_asks (change.Opening x o) b e = none_asks b e
+
+growth_asks : (g : Growth) (b : ℕ × ℕ) → growth_needs g ≡ Some b → (b ≡ (0, 1)) ⊎ (b ≡ (1, 2))
+growth_asks growth.Latching b e = none_asks b e
+growth_asks growth.Latched b e = none_asks b e
+growth_asks (growth.Taking rise) b e = inr (some_ask _ b e)
+growth_asks (growth.PuttingTop t) b e = none_asks b e
+growth_asks (growth.PuttingAnchor t) b e = none_asks b e
+growth_asks (growth.OpeningTop x) b e = none_asks b e
+growth_asks growth.OpeningGrown b e = none_asks b e
+growth_asks growth.OpeningRefused b e = none_asks b e
+
+insert_asks : (s : InsertStage) (b : ℕ × ℕ) → insert_needs_in s ≡ Some b → (b ≡ (0, 1)) ⊎ (b ≡ (1, 2))
+insert_asks insert.New b e = none_asks b e
+insert_asks (insert.Coming a) b e = none_asks b e
+insert_asks (insert.Present x v) b e = none_asks b e
+insert_asks (insert.Changing c) b e = change_asks c b e
+insert_asks (insert.Ending a) b e = none_asks b e
+insert_asks (insert.Over a) b e = none_asks b e
+
+delete_asks : (s : DeleteStage) (b : ℕ × ℕ) → delete_needs_in s ≡ Some b → (b ≡ (0, 1)) ⊎ (b ≡ (1, 2))
+delete_asks delete.New b e = none_asks b e
+delete_asks (delete.Coming a) b e = none_asks b e
+delete_asks (delete.Absent x) b e = none_asks b e
+delete_asks (delete.Changing v c) b e = change_asks c b e
+delete_asks (delete.Ending a) b e = none_asks b e
+delete_asks (delete.Over a) b e = none_asks b e
+
+post_asks : (s : PostStage) (b : ℕ × ℕ) → post_needs_in s ≡ Some b → (b ≡ (0, 1)) ⊎ (b ≡ (1, 2))
+post_asks post.New b e = none_asks b e
+post_asks (post.Coming a) b e = none_asks b e
+post_asks (post.Growing g) b e = growth_asks g b e
+post_asks (post.Walking w) b e = none_asks b e
+post_asks (post.Changing c) b e = change_asks c b e
+post_asks (post.Staying x a) b e = none_asks b e
+post_asks (post.Ending a) b e = none_asks b e
+post_asks (post.Over a) b e = none_asks b e
+
+squeeze_asks : (c : Compression) (b : ℕ × ℕ) → compression_needs c ≡ Some b → b ≡ (0, 3)
+squeeze_asks (LatchingLeft f) b e = none_asks b e
+squeeze_asks (LatchedLeft f) b e = none_asks b e
+squeeze_asks (LatchingRight f page) b e = none_asks b e
+squeeze_asks (LatchedRight f page) b e = none_asks b e
+squeeze_asks (PuttingFirst u) b e = some_ask _ b e
+squeeze_asks (PuttingParent u) b e = none_asks b e
+squeeze_asks (PuttingLast u) b e = none_asks b e
+squeeze_asks (Retiring at end) b e = none_asks b e
+squeeze_asks (OpeningRight at end) b e = none_asks b e
+squeeze_asks (OpeningLeft at end) b e = none_asks b e
+squeeze_asks (OpeningParent x end) b e = none_asks b e
+
+compress_asks : (s : CompressStage) (b : ℕ × ℕ) → compress_needs_in s ≡ Some b → b ≡ (0, 3)
+compress_asks compress.New b e = none_asks b e
+compress_asks (compress.Coming a) b e = none_asks b e
+compress_asks (compress.Compressing c) b e = squeeze_asks c b e
+compress_asks (compress.Staying x) b e = none_asks b e
+compress_asks (compress.Ending a) b e = none_asks b e
+compress_asks (compress.Over a) b e = none_asks b e
+
+pub may_ask : (p : Proc) (b : ℕ × ℕ) → needs_of p ≡ Some b → MayAsk p b
+may_ask (proc.Find p) b e = none_asks b e
+may_ask (proc.Insert p) b e = insert_asks p.stage b e
+may_ask (proc.Delete p) b e = delete_asks p.stage b e
+may_ask (proc.Post p) b e = post_asks p.stage b e
+may_ask (proc.Part p) b e = none_asks b e
+may_ask (proc.Compress p) b e = compress_asks p.stage b e
+may_ask (proc.Reclaim p) b e = none_asks b e
+
+-- A step of a process leaves what its kind may ask for.
+pub may_ask_on : (p : Proc) (what : Seen) (q : Proc) (b : ℕ × ℕ) → Takes p what q → MayAsk p b → MayAsk q b
+may_ask_on (proc.Find p) what (proc.Find q) b t m = m
+may_ask_on (proc.Insert p) what (proc.Insert q) b t m = m
+may_ask_on (proc.Delete p) what (proc.Delete q) b t m = m
+may_ask_on (proc.Post p) what (proc.Post q) b t m = m
+may_ask_on (proc.Part p) what (proc.Part q) b t m = m
+may_ask_on (proc.Compress p) what (proc.Compress q) b t m = m
+may_ask_on (proc.Reclaim p) what (proc.Reclaim q) b t m = m
+may_ask_on old what new b t m = absurd t

@@ -1,0 +1,181 @@
+-- A page is retired right after a put: of the kinds of an index, a compression alone retires one.
+use Rattle.std.proofs.Common.{ℕ, ◌≡◌, refl, subst}
+use Rattle.bl_proc_base.specs.declared.acts.Action.{Action}
+use Rattle.bl_proc_base.specs.declared.acts.Action.TheVariants as act
+use Rattle.bl_proc_base.specs.declared.acts.Seen.{Seen}
+use Rattle.bl_proc_base.specs.declared.acts.Seen.TheVariants as seen
+use Rattle.bl_proc_base.specs.declared.approaching.Approach.{Approach}
+use Rattle.bl_proc_base.specs.declared.approaching.Approach.TheVariants as way
+use Rattle.bl_proc_base.specs.declared.changing.Change.{Change}
+use Rattle.bl_proc_base.specs.declared.changing.Change.TheVariants as change
+use Rattle.bl_proc_base.specs.declared.growing.Growth.{Growth}
+use Rattle.bl_proc_base.specs.declared.growing.Growth.TheVariants as growth
+use Rattle.bl_proc_base.specs.Approaches.{approach_next}
+use Rattle.bl_proc_base.specs.Changes.{change_next}
+use Rattle.bl_proc_base.specs.Growths.{growth_next}
+use Rattle.bl_rearrange.specs.declared.sides.Side.{Side}
+use Rattle.bl_rearrange.specs.declared.sides.Side.TheVariants as side
+use Rattle.bl_proc.specs.declared.searching.Find.{Find}
+use Rattle.bl_proc.specs.declared.searching.FindStage.{FindStage}
+use Rattle.bl_proc.specs.declared.searching.FindStage.TheVariants as find
+use Rattle.bl_proc.specs.declared.inserting.Insert.{Insert}
+use Rattle.bl_proc.specs.declared.inserting.InsertStage.{InsertStage}
+use Rattle.bl_proc.specs.declared.inserting.InsertStage.TheVariants as insert
+use Rattle.bl_proc.specs.declared.deleting.Delete.{Delete}
+use Rattle.bl_proc.specs.declared.deleting.DeleteStage.{DeleteStage}
+use Rattle.bl_proc.specs.declared.deleting.DeleteStage.TheVariants as delete
+use Rattle.bl_proc.specs.declared.posting.Post.{Post}
+use Rattle.bl_proc.specs.declared.posting.PostStage.{PostStage}
+use Rattle.bl_proc.specs.declared.posting.PostStage.TheVariants as post
+use Rattle.bl_proc.specs.declared.parts.Part.{Part}
+use Rattle.bl_proc.specs.declared.parts.PartStage.{PartStage}
+use Rattle.bl_proc.specs.declared.parts.PartStage.TheVariants as part
+use Rattle.bl_proc_compress.specs.declared.compressing.Trio.{Trio}
+use Rattle.bl_proc_compress.specs.declared.compressing.Puts.{Puts}
+use Rattle.bl_proc_compress.specs.declared.compressing.Fate.{Fate}
+use Rattle.bl_proc_compress.specs.declared.compressing.Compression.{Compression}
+use Rattle.bl_proc_compress.specs.declared.compressing.Compression.TheVariants.{LatchingLeft, LatchedLeft, LatchingRight, LatchedRight, PuttingFirst, PuttingParent, PuttingLast, Retiring, OpeningRight, OpeningLeft, OpeningParent}
+use Rattle.bl_proc_compress.specs.declared.compressing.Compressed.TheVariants.{On}
+use Rattle.bl_proc_compress.specs.declared.squeezing.Compress.{Compress}
+use Rattle.bl_proc_compress.specs.declared.squeezing.CompressStage.{CompressStage}
+use Rattle.bl_proc_compress.specs.Compressions.{put_of, other, compression_next, Links, Decides}
+use Rattle.bl_proc_compress.specs.Compresses.{compress_next_in}
+use Rattle.bl_proc.specs.declared.kinds.Proc.TheVariants as proc
+use Rattle.bl_proc.specs.Searches.{find_next_in}
+use Rattle.bl_proc.specs.Inserts.{insert_next_in}
+use Rattle.bl_proc.specs.Deletes.{delete_next_in}
+use Rattle.bl_proc.specs.Posts.{post_next_in}
+use Rattle.bl_proc.specs.Parts.{part_next_in}
+use Rattle.bl_proc.specs.Processes.{next_of, Takes}
+use Rattle.bl_proc_unique.specs.Retirements.{IsPutDone, RetiresAfter}
+use Rattle.bl_proc_unique.proofs.WayCases.{SqueezeCase, squeeze_case}
+use Rattle.bl_proc_unique.proofs.KindCases.{CompressCase, compress_case}
+
+module _ (old : Action) (what : Seen) where
+  approach_none : (a : Approach) → RetiresAfter old what (approach_next a)
+  approach_none way.Start = tt
+  approach_none (way.At x) = tt
+  approach_none (way.Latching x) = tt
+  approach_none (way.Latched x) = tt
+  approach_none (way.Leaving x to) = tt
+
+  change_none : (c : Change) → RetiresAfter old what (change_next c)
+  change_none (change.Putting x page) = tt
+  change_none (change.Taking full) = tt
+  change_none (change.PuttingNew p) = tt
+  change_none (change.PuttingOld p) = tt
+  change_none (change.OpeningNew x new separator) = tt
+  change_none (change.Opening x o) = tt
+
+  growth_none : (g : Growth) → RetiresAfter old what (growth_next g)
+  growth_none growth.Latching = tt
+  growth_none growth.Latched = tt
+  growth_none (growth.Taking rise) = tt
+  growth_none (growth.PuttingTop r) = tt
+  growth_none (growth.PuttingAnchor r) = tt
+  growth_none (growth.OpeningTop x) = tt
+  growth_none growth.OpeningGrown = tt
+  growth_none growth.OpeningRefused = tt
+
+  find_none : (a : FindStage) → RetiresAfter old what (find_next_in a)
+  find_none find.New = tt
+  find_none find.AtAnchor = tt
+  find_none (find.At x) = tt
+  find_none (find.Ending v) = tt
+  find_none (find.Over v) = tt
+
+  insert_none : (a : InsertStage) → RetiresAfter old what (insert_next_in a)
+  insert_none insert.New = tt
+  insert_none (insert.Coming w) = approach_none w
+  insert_none (insert.Present x there) = tt
+  insert_none (insert.Changing c) = change_none c
+  insert_none (insert.Ending r) = tt
+  insert_none (insert.Over r) = tt
+
+  delete_none : (a : DeleteStage) → RetiresAfter old what (delete_next_in a)
+  delete_none delete.New = tt
+  delete_none (delete.Coming w) = approach_none w
+  delete_none (delete.Absent x) = tt
+  delete_none (delete.Changing v c) = change_none c
+  delete_none (delete.Ending r) = tt
+  delete_none (delete.Over r) = tt
+
+  post_none : (a : PostStage) → RetiresAfter old what (post_next_in a)
+  post_none post.New = tt
+  post_none (post.Coming w) = approach_none w
+  post_none (post.Growing g) = growth_none g
+  post_none (post.Walking w) = tt
+  post_none (post.Changing c) = change_none c
+  post_none (post.Staying x r) = tt
+  post_none (post.Ending r) = tt
+  post_none (post.Over r) = tt
+
+  part_none : (a : PartStage) → RetiresAfter old what (part_next_in a)
+  part_none part.New = tt
+  part_none part.AtAnchor = tt
+  part_none (part.At x) = tt
+  part_none (part.Ending r) = tt
+  part_none (part.Over r) = tt
+
+  put_none : (s : Side) (p : Puts) → RetiresAfter old what (put_of s p)
+  put_none side.Left p = tt
+  put_none side.Right p = tt
+
+pub put_done : (s : Side) (p : Puts) → IsPutDone (put_of s p) seen.Done
+put_done side.Left p = tt
+put_done side.Right p = tt
+
+-- a compression that goes on to the retirement
+to_retiring : {c : Compression} {what : Seen} {d : Compression} {at : Trio} {fate : Fate} → SqueezeCase c what (On d) → d ≡ Retiring at fate → IsPutDone (compression_next c) what
+to_retiring (SqueezeCase.PutLast p d t) e = put_done (other p.gains) p
+to_retiring (SqueezeCase.GotLeft f c d t) e = absurd (subst (Links f c) e t)
+to_retiring (SqueezeCase.GotRight f c g d t) e = absurd (subst (Decides f c g) e t)
+to_retiring (SqueezeCase.LatchLeft f d t) e = cc
+to_retiring (SqueezeCase.MissLeft f d t) e = cc
+to_retiring (SqueezeCase.LatchRight f c d t) e = cc
+to_retiring (SqueezeCase.MissRight f c d t) e = cc
+to_retiring (SqueezeCase.PutFirst p d t) e = cc
+to_retiring (SqueezeCase.FirstRefused p d t) e = cc
+to_retiring (SqueezeCase.PutParent p d t) e = cc
+to_retiring (SqueezeCase.Retired u f d t) e = cc
+to_retiring (SqueezeCase.OpenedRight u f d t) e = cc
+to_retiring (SqueezeCase.OpenedLeft u f d t) e = cc
+
+-- and a process that may come to it from there alone
+after_unless : (old : Action) (what : Seen) (d : Compression) → ((at : Trio) (fate : Fate) → d ≡ Retiring at fate → IsPutDone old what) → RetiresAfter old what (compression_next d)
+after_unless old what (LatchingLeft f) done = tt
+after_unless old what (LatchedLeft f) done = tt
+after_unless old what (LatchingRight f page) done = tt
+after_unless old what (LatchedRight f page) done = tt
+after_unless old what (PuttingFirst p) done = put_none old what p.gains p
+after_unless old what (PuttingParent p) done = tt
+after_unless old what (PuttingLast p) done = put_none old what (other p.gains) p
+after_unless old what (Retiring at fate) done = done at fate refl
+after_unless old what (OpeningRight at fate) done = tt
+after_unless old what (OpeningLeft at fate) done = tt
+after_unless old what (OpeningParent x fate) done = tt
+
+stage_after : {level key : ℕ} {a b : CompressStage} {what : Seen} → CompressCase level key a what b → RetiresAfter (compress_next_in a) what (compress_next_in b)
+stage_after (CompressCase.Began w t) = approach_none act.Begin seen.Done w
+stage_after (CompressCase.Came a what b t) = approach_none (approach_next a) what b
+stage_after (CompressCase.Squeezed c what d t) = after_unless (compression_next c) what d (λ at fate e. to_retiring (squeeze_case c what _ t) e)
+stage_after (CompressCase.Lost c what a t) = approach_none (compression_next c) what a
+stage_after other = tt
+
+pub find_retires : (p q : Find) (what : Seen) → Takes (proc.Find p) what (proc.Find q) → RetiresAfter (next_of (proc.Find p)) what (next_of (proc.Find q))
+find_retires p q what t = find_none (next_of (proc.Find p)) what q.stage
+
+pub insert_retires : (p q : Insert) (what : Seen) → Takes (proc.Insert p) what (proc.Insert q) → RetiresAfter (next_of (proc.Insert p)) what (next_of (proc.Insert q))
+insert_retires p q what t = insert_none (next_of (proc.Insert p)) what q.stage
+
+pub delete_retires : (p q : Delete) (what : Seen) → Takes (proc.Delete p) what (proc.Delete q) → RetiresAfter (next_of (proc.Delete p)) what (next_of (proc.Delete q))
+delete_retires p q what t = delete_none (next_of (proc.Delete p)) what q.stage
+
+pub post_retires : (p q : Post) (what : Seen) → Takes (proc.Post p) what (proc.Post q) → RetiresAfter (next_of (proc.Post p)) what (next_of (proc.Post q))
+post_retires p q what t = post_none (next_of (proc.Post p)) what q.stage
+
+pub part_retires : (p q : Part) (what : Seen) → Takes (proc.Part p) what (proc.Part q) → RetiresAfter (next_of (proc.Part p)) what (next_of (proc.Part q))
+part_retires p q what t = part_none (next_of (proc.Part p)) what q.stage
+
+pub compress_retires : (p q : Compress) (what : Seen) → Takes (proc.Compress p) what (proc.Compress q) → RetiresAfter (next_of (proc.Compress p)) what (next_of (proc.Compress q))
+compress_retires p q what t = stage_after (compress_case p.level p.key p.stage what q.stage t.2)

@@ -1,0 +1,151 @@
+-- Which turns the machines that processes are built of can take, each with what it gives: the way of a writer, a change, a
+-- growth, and the compression of two children. Whoever takes such a turn apart has one clause for each of them, and none for
+-- what cannot be.
+use Rattle.std.proofs.Common.{ℕ, ◌≡◌, ◌≢◌, ◌<◌, Option, Some, None}
+use Rattle.bl_page.specs.declared.page.Page.{Page}
+use Rattle.bl_page.specs.declared.page.Page.TheVariants.{Anchor}
+use Rattle.bl_rearrange.specs.declared.fitted.Fitted.TheVariants.{Split}
+use Rattle.bl_rearrange.specs.Rearranged.{IsFitted}
+use Rattle.bl_claims.specs.Pages.{roots_of}
+use Rattle.bl_proc_base.specs.declared.acts.Seen.{Seen}
+use Rattle.bl_proc_base.specs.declared.acts.Seen.TheVariants as seen
+use Rattle.bl_proc_base.specs.declared.onwards.Step.{Step}
+use Rattle.bl_proc_base.specs.declared.onwards.Step.TheVariants.{Here}
+use Rattle.bl_proc_base.specs.declared.approaching.Approach.{Approach}
+use Rattle.bl_proc_base.specs.declared.approaching.Approach.TheVariants as way
+use Rattle.bl_proc_base.specs.declared.approaching.Approached.{Approached}
+use Rattle.bl_proc_base.specs.declared.approaching.Approached.TheVariants as came
+use Rattle.bl_proc_base.specs.declared.changing.Full.{Full}
+use Rattle.bl_proc_base.specs.declared.changing.Parting.{Parting}
+use Rattle.bl_proc_base.specs.declared.changing.Outcome.{Outcome}
+use Rattle.bl_proc_base.specs.declared.changing.Outcome.TheVariants as outcome
+use Rattle.bl_proc_base.specs.declared.changing.Change.{Change}
+use Rattle.bl_proc_base.specs.declared.changing.Change.TheVariants as change
+use Rattle.bl_proc_base.specs.declared.changing.Changed.{Changed}
+use Rattle.bl_proc_base.specs.declared.changing.Changed.TheVariants as changed
+use Rattle.bl_proc_base.specs.declared.growing.Rise.{Rise}
+use Rattle.bl_proc_base.specs.declared.growing.Raising.{Raising}
+use Rattle.bl_proc_base.specs.declared.growing.Growth.{Growth}
+use Rattle.bl_proc_base.specs.declared.growing.Growth.TheVariants as growth
+use Rattle.bl_proc_base.specs.declared.growing.Grew.{Grew}
+use Rattle.bl_proc_base.specs.declared.growing.Grew.TheVariants as grew
+use Rattle.bl_proc_compress.specs.declared.compressing.Trio.{Trio}
+use Rattle.bl_proc_compress.specs.declared.compressing.Family.{Family}
+use Rattle.bl_proc_compress.specs.declared.compressing.Puts.{Puts}
+use Rattle.bl_proc_compress.specs.declared.compressing.Fate.{Fate}
+use Rattle.bl_proc_compress.specs.declared.compressing.Fate.TheVariants.{Refused}
+use Rattle.bl_proc_compress.specs.declared.compressing.Compression.{Compression}
+use Rattle.bl_proc_compress.specs.declared.compressing.Compression.TheVariants.{LatchingLeft, LatchedLeft, LatchingRight, LatchedRight, PuttingFirst, PuttingParent, PuttingLast, Retiring, OpeningRight, OpeningLeft, OpeningParent}
+use Rattle.bl_proc_compress.specs.declared.compressing.Compressed.{Compressed}
+use Rattle.bl_proc_compress.specs.declared.compressing.Compressed.TheVariants as step
+use Rattle.bl_proc_compress.specs.Compressions.{Links, Decides, after_puts, Compresses}
+use Rattle.bl_proc_base.specs.Onwards.{Leads}
+use Rattle.bl_proc_base.specs.Approaches.{Enters, Turns, Quits, Approaches}
+use Rattle.bl_proc_base.specs.Changes.{Changes}
+use Rattle.bl_proc_base.specs.Growths.{Raises, Grows}
+
+-- A writer on its way to the page that covers its key, and there.
+pub data ApproachCase (level key : ℕ) : Approach → Seen → Approached → Type 0 where
+  Entered : (c : Page) (a : Approach) → Enters level (roots_of c) a → ApproachCase level key way.Start (seen.Words c) (came.On a)
+  Turned : (x : ℕ) (c : Page) (a : Approach) (o : Step) → Leads c key level o → Turns level x c o a → ApproachCase level key (way.At x) (seen.Words c) (came.On a)
+  LatchedPage : (x : ℕ) (a : Approach) → a ≡ way.Latched x → ApproachCase level key (way.Latching x) seen.Done (came.On a)
+  MissedPage : (x : ℕ) (a : Approach) → a ≡ way.At x → ApproachCase level key (way.Latching x) seen.Missed (came.On a)
+  Quitted : (x : ℕ) (c : Page) (y : ℕ) (to : Option ℕ) → (y ≡ x) × ((o : Step) × Leads c key level o × Quits o to) → ApproachCase level key (way.Latched x) (seen.Words c) (came.On (way.Leaving y to))
+  Arrived : (x : ℕ) (c : Page) (y : ℕ) (d : Page) → (y ≡ x) × (d ≡ c) × Leads c key level Here → ApproachCase level key (way.Latched x) (seen.Words c) (came.Here y d)
+  OpenedFor : (x y : ℕ) (a : Approach) → a ≡ way.Latching y → ApproachCase level key (way.Leaving x (Some y)) seen.Done (came.On a)
+  OpenedLost : (x : ℕ) (a : Approach) → a ≡ way.Start → ApproachCase level key (way.Leaving x None) seen.Done (came.On a)
+
+pub approach_case : (level key : ℕ) (a : Approach) (what : Seen) (new : Approached) → Approaches level key a what new → ApproachCase level key a what new
+approach_case level key way.Start (seen.Words c) (came.On b) t = Entered c b t
+approach_case level key (way.At x) (seen.Words c) (came.On b) t = Turned x c b t.0 t.1 t.2
+approach_case level key (way.Latching x) seen.Done (came.On b) t = LatchedPage x b t
+approach_case level key (way.Latching x) seen.Missed (came.On b) t = MissedPage x b t
+approach_case level key (way.Latched x) (seen.Words c) (came.On (way.Leaving y to)) t = Quitted x c y to t
+approach_case level key (way.Latched x) (seen.Words c) (came.Here y d) t = Arrived x c y d t
+approach_case level key (way.Leaving x (Some y)) seen.Done (came.On b) t = OpenedFor x y b t
+approach_case level key (way.Leaving x None) seen.Done (came.On b) t = OpenedLost x b t
+approach_case level key a what new t = absurd t
+
+-- The change of one pair of a page that is held.
+pub data ChangeCase : Change → Seen → Changed → Type 0 where
+  Put : (x : ℕ) (page : Page) (new : Change) → new ≡ change.Opening x outcome.Changed → ChangeCase (change.Putting x page) seen.Done (changed.On new)
+  PutRefused : (x : ℕ) (page : Page) (new : Change) → new ≡ change.Opening x outcome.Refused → ChangeCase (change.Putting x page) seen.Refused (changed.On new)
+  Took : (full : Full) (y : ℕ) (p : Parting) → (p.at ≡ full.at) × (p.new ≡ y) × IsFitted full.page full.key full.word y (Split p.left p.right p.separator) → ChangeCase (change.Taking full) (seen.Took y) (changed.On (change.PuttingNew p))
+  TakeRefused : (full : Full) (new : Change) → new ≡ change.Opening full.at outcome.Refused → ChangeCase (change.Taking full) seen.Refused (changed.On new)
+  PutNew : (p : Parting) (new : Change) → new ≡ change.PuttingOld p → ChangeCase (change.PuttingNew p) seen.Done (changed.On new)
+  PutOld : (p : Parting) (new : Change) → new ≡ change.OpeningNew p.at p.new p.separator → ChangeCase (change.PuttingOld p) seen.Done (changed.On new)
+  OpenedNew : (x y separator : ℕ) (new : Change) → new ≡ change.Opening x (outcome.Parted separator) → ChangeCase (change.OpeningNew x y separator) seen.Done (changed.On new)
+  Opened : (x : ℕ) (o last : Outcome) → last ≡ o → ChangeCase (change.Opening x o) seen.Done (changed.Over last)
+
+pub change_case : (c : Change) (what : Seen) (new : Changed) → Changes c what new → ChangeCase c what new
+change_case (change.Putting x page) seen.Done (changed.On new) t = Put x page new t
+change_case (change.Putting x page) seen.Refused (changed.On new) t = PutRefused x page new t
+change_case (change.Taking full) (seen.Took y) (changed.On (change.PuttingNew p)) t = Took full y p t
+change_case (change.Taking full) seen.Refused (changed.On new) t = TakeRefused full new t
+change_case (change.PuttingNew p) seen.Done (changed.On new) t = PutNew p new t
+change_case (change.PuttingOld p) seen.Done (changed.On new) t = PutOld p new t
+change_case (change.OpeningNew x y separator) seen.Done (changed.On new) t = OpenedNew x y separator new t
+change_case (change.Opening x o) seen.Done (changed.Over last) t = Opened x o last t
+change_case c what new t = absurd t
+
+-- A new top level.
+pub data GrowthCase (level : ℕ) : Growth → Seen → Grew → Type 0 where
+  LatchedAnchor : (new : Growth) → new ≡ growth.Latched → GrowthCase level growth.Latching seen.Done (grew.On new)
+  Missed : (new : Growth) → new ≡ growth.Latching → GrowthCase level growth.Latching seen.Missed (grew.On new)
+  Rises : (c : Page) (rise : Rise) → (c ≡ Anchor rise.anchor) × ((roots_of c).levels ≡ level) → GrowthCase level growth.Latched (seen.Words c) (grew.On (growth.Taking rise))
+  Stands : (c : Page) → (level < 12 → (roots_of c).levels ≢ level) → GrowthCase level growth.Latched (seen.Words c) (grew.On growth.OpeningGrown)
+  TookTop : (rise : Rise) (y : ℕ) (r : Raising) → (r.new ≡ y) × Raises rise.anchor.leftmost.items y r.top r.anchor → GrowthCase level (growth.Taking rise) (seen.Took y) (grew.On (growth.PuttingTop r))
+  TopRefused : (rise : Rise) (new : Growth) → new ≡ growth.OpeningRefused → GrowthCase level (growth.Taking rise) seen.Refused (grew.On new)
+  PutTop : (r : Raising) (new : Growth) → new ≡ growth.PuttingAnchor r → GrowthCase level (growth.PuttingTop r) seen.Done (grew.On new)
+  PutAnchor : (r : Raising) (new : Growth) → new ≡ growth.OpeningTop r.new → GrowthCase level (growth.PuttingAnchor r) seen.Done (grew.On new)
+  OpenedTop : (x : ℕ) (new : Growth) → new ≡ growth.OpeningGrown → GrowthCase level (growth.OpeningTop x) seen.Done (grew.On new)
+  OpenedGrown : GrowthCase level growth.OpeningGrown seen.Done grew.Grown
+  OpenedRefused : GrowthCase level growth.OpeningRefused seen.Done grew.Refused
+
+pub growth_case : (level : ℕ) (g : Growth) (what : Seen) (new : Grew) → Grows level g what new → GrowthCase level g what new
+growth_case level growth.Latching seen.Done (grew.On new) t = LatchedAnchor new t
+growth_case level growth.Latching seen.Missed (grew.On new) t = Missed new t
+growth_case level growth.Latched (seen.Words c) (grew.On (growth.Taking rise)) t = Rises c rise t
+growth_case level growth.Latched (seen.Words c) (grew.On growth.OpeningGrown) t = Stands c t
+growth_case level (growth.Taking rise) (seen.Took y) (grew.On (growth.PuttingTop r)) t = TookTop rise y r t
+growth_case level (growth.Taking rise) seen.Refused (grew.On new) t = TopRefused rise new t
+growth_case level (growth.PuttingTop r) seen.Done (grew.On new) t = PutTop r new t
+growth_case level (growth.PuttingAnchor r) seen.Done (grew.On new) t = PutAnchor r new t
+growth_case level (growth.OpeningTop x) seen.Done (grew.On new) t = OpenedTop x new t
+growth_case level growth.OpeningGrown seen.Done grew.Grown t = OpenedGrown
+growth_case level growth.OpeningRefused seen.Done grew.Refused t = OpenedRefused
+growth_case level g what new t = absurd t
+
+-- The compression of two children of a page that is held.
+pub data SqueezeCase : Compression → Seen → Compressed → Type 0 where
+  LatchLeft : (f : Family) (new : Compression) → new ≡ LatchedLeft f → SqueezeCase (LatchingLeft f) seen.Done (step.On new)
+  MissLeft : (f : Family) (new : Compression) → new ≡ LatchingLeft f → SqueezeCase (LatchingLeft f) seen.Missed (step.On new)
+  GotLeft : (f : Family) (c : Page) (new : Compression) → Links f c new → SqueezeCase (LatchedLeft f) (seen.Words c) (step.On new)
+  LatchRight : (f : Family) (c : Page) (new : Compression) → new ≡ LatchedRight f c → SqueezeCase (LatchingRight f c) seen.Done (step.On new)
+  MissRight : (f : Family) (c : Page) (new : Compression) → new ≡ LatchingRight f c → SqueezeCase (LatchingRight f c) seen.Missed (step.On new)
+  GotRight : (f : Family) (c d : Page) (new : Compression) → Decides f c d new → SqueezeCase (LatchedRight f c) (seen.Words d) (step.On new)
+  PutFirst : (p : Puts) (new : Compression) → new ≡ PuttingParent p → SqueezeCase (PuttingFirst p) seen.Done (step.On new)
+  FirstRefused : (p : Puts) (new : Compression) → new ≡ OpeningRight p.at Refused → SqueezeCase (PuttingFirst p) seen.Refused (step.On new)
+  PutParent : (p : Puts) (new : Compression) → new ≡ PuttingLast p → SqueezeCase (PuttingParent p) seen.Done (step.On new)
+  PutLast : (p : Puts) (new : Compression) → new ≡ after_puts p.at p.fate → SqueezeCase (PuttingLast p) seen.Done (step.On new)
+  Retired : (at : Trio) (fate : Fate) (new : Compression) → new ≡ OpeningLeft at fate → SqueezeCase (Retiring at fate) seen.Done (step.On new)
+  OpenedRight : (at : Trio) (fate : Fate) (new : Compression) → new ≡ OpeningLeft at fate → SqueezeCase (OpeningRight at fate) seen.Done (step.On new)
+  OpenedLeft : (at : Trio) (fate : Fate) (new : Compression) → new ≡ OpeningParent at.parent fate → SqueezeCase (OpeningLeft at fate) seen.Done (step.On new)
+  OpenedParent : (x : ℕ) (fate last : Fate) → last ≡ fate → SqueezeCase (OpeningParent x fate) seen.Done (step.Over last)
+
+pub squeeze_case : (c : Compression) (what : Seen) (new : Compressed) → Compresses c what new → SqueezeCase c what new
+squeeze_case (LatchingLeft f) seen.Done (step.On new) t = LatchLeft f new t
+squeeze_case (LatchingLeft f) seen.Missed (step.On new) t = MissLeft f new t
+squeeze_case (LatchedLeft f) (seen.Words c) (step.On new) t = GotLeft f c new t
+squeeze_case (LatchingRight f c) seen.Done (step.On new) t = LatchRight f c new t
+squeeze_case (LatchingRight f c) seen.Missed (step.On new) t = MissRight f c new t
+squeeze_case (LatchedRight f c) (seen.Words d) (step.On new) t = GotRight f c d new t
+squeeze_case (PuttingFirst p) seen.Done (step.On new) t = PutFirst p new t
+squeeze_case (PuttingFirst p) seen.Refused (step.On new) t = FirstRefused p new t
+squeeze_case (PuttingParent p) seen.Done (step.On new) t = PutParent p new t
+squeeze_case (PuttingLast p) seen.Done (step.On new) t = PutLast p new t
+squeeze_case (Retiring at fate) seen.Done (step.On new) t = Retired at fate new t
+squeeze_case (OpeningRight at fate) seen.Done (step.On new) t = OpenedRight at fate new t
+squeeze_case (OpeningLeft at fate) seen.Done (step.On new) t = OpenedLeft at fate new t
+squeeze_case (OpeningParent x fate) seen.Done (step.Over last) t = OpenedParent x fate last t
+squeeze_case c what new t = absurd t

@@ -1,0 +1,164 @@
+-- What a process has reserved, what it asks for, and what does not change from one action to the next.
+use Rattle.std.specs.Prelude.{◌≡◌, ◌≢◌, ◌≤◌, ℕ, suc, Option, Some, None}
+use Rattle.bl_model.specs.declared.operation.Op.{Op}
+use Rattle.bl_model.specs.declared.operation.Op.TheVariants as op
+use Rattle.bl_proc_base.specs.declared.acts.Action.{Action}
+use Rattle.bl_proc_base.specs.declared.acts.Action.TheVariants as act
+use Rattle.bl_proc_base.specs.declared.acts.Seen.{Seen}
+use Rattle.bl_proc_base.specs.declared.acts.Seen.TheVariants as seen
+use Rattle.bl_proc_base.specs.declared.changing.Change.{Change}
+use Rattle.bl_proc_base.specs.declared.changing.Change.TheVariants as change
+use Rattle.bl_proc_base.specs.declared.growing.Growth.{Growth}
+use Rattle.bl_proc_base.specs.declared.growing.Growth.TheVariants as growth
+use Rattle.bl_proc.specs.declared.inserting.InsertStage.{InsertStage}
+use Rattle.bl_proc.specs.declared.inserting.InsertStage.TheVariants as insert
+use Rattle.bl_proc.specs.declared.deleting.DeleteStage.{DeleteStage}
+use Rattle.bl_proc.specs.declared.deleting.DeleteStage.TheVariants as delete
+use Rattle.bl_proc.specs.declared.posting.PostStage.{PostStage}
+use Rattle.bl_proc.specs.declared.posting.PostStage.TheVariants as post
+use Rattle.bl_proc_compress.specs.declared.compressing.Compression.{Compression}
+use Rattle.bl_proc_compress.specs.declared.compressing.Compression.TheVariants as compression
+use Rattle.bl_proc_compress.specs.declared.squeezing.CompressStage.{CompressStage}
+use Rattle.bl_proc_compress.specs.declared.squeezing.CompressStage.TheVariants as compress
+use Rattle.bl_proc.specs.declared.kinds.Proc.{Proc}
+use Rattle.bl_proc.specs.declared.kinds.Proc.TheVariants as proc
+use Rattle.bl_proc.specs.Processes.{next_of, needs_of, answer_of}
+
+-- How many frames a process has reserved and not yet put.
+
+abbrev pub change_frames : Change → ℕ
+change_frames (change.Putting x page) = 0
+change_frames (change.Taking full) = 0
+change_frames (change.PuttingNew p) = 2
+change_frames (change.PuttingOld p) = 1
+change_frames (change.OpeningNew x new separator) = 0
+change_frames (change.Opening x what) = 0
+
+abbrev pub growth_frames : Growth → ℕ
+growth_frames growth.Latching = 0
+growth_frames growth.Latched = 0
+growth_frames (growth.Taking rise) = 0
+growth_frames (growth.PuttingTop r) = 2
+growth_frames (growth.PuttingAnchor r) = 1
+growth_frames (growth.OpeningTop x) = 0
+growth_frames growth.OpeningGrown = 0
+growth_frames growth.OpeningRefused = 0
+
+abbrev pub insert_frames : InsertStage → ℕ
+insert_frames insert.New = 0
+insert_frames (insert.Coming a) = 0
+insert_frames (insert.Present x there) = 0
+insert_frames (insert.Changing c) = change_frames c
+insert_frames (insert.Ending r) = 0
+insert_frames (insert.Over r) = 0
+
+abbrev pub delete_frames : DeleteStage → ℕ
+delete_frames delete.New = 0
+delete_frames (delete.Coming a) = 0
+delete_frames (delete.Absent x) = 0
+delete_frames (delete.Changing value c) = change_frames c
+delete_frames (delete.Ending r) = 0
+delete_frames (delete.Over r) = 0
+
+abbrev pub post_frames : PostStage → ℕ
+post_frames post.New = 0
+post_frames (post.Coming a) = 0
+post_frames (post.Growing g) = growth_frames g
+post_frames (post.Walking w) = 0
+post_frames (post.Changing c) = change_frames c
+post_frames (post.Staying x r) = 0
+post_frames (post.Ending r) = 0
+post_frames (post.Over r) = 0
+
+-- the puts of a compression that are still to come, once it has reserved for all three
+abbrev pub compression_frames : Compression → ℕ
+compression_frames (compression.LatchingLeft f) = 0
+compression_frames (compression.LatchedLeft f) = 0
+compression_frames (compression.LatchingRight f c) = 0
+compression_frames (compression.LatchedRight f c) = 0
+compression_frames (compression.PuttingFirst p) = 0
+compression_frames (compression.PuttingParent p) = 2
+compression_frames (compression.PuttingLast p) = 1
+compression_frames (compression.Retiring t fate) = 0
+compression_frames (compression.OpeningRight t fate) = 0
+compression_frames (compression.OpeningLeft t fate) = 0
+compression_frames (compression.OpeningParent x fate) = 0
+
+abbrev pub compress_frames : CompressStage → ℕ
+compress_frames compress.New = 0
+compress_frames (compress.Coming a) = 0
+compress_frames (compress.Compressing c) = compression_frames c
+compress_frames (compress.Staying x) = 0
+compress_frames (compress.Ending r) = 0
+compress_frames (compress.Over r) = 0
+
+abbrev pub frames_of : Proc → ℕ
+frames_of (proc.Find p) = 0
+frames_of (proc.Insert p) = insert_frames p.stage
+frames_of (proc.Delete p) = delete_frames p.stage
+frames_of (proc.Post p) = post_frames p.stage
+frames_of (proc.Part p) = 0
+frames_of (proc.Compress p) = compress_frames p.stage
+frames_of (proc.Reclaim p) = 0
+
+-- the operation that a process carries out, if it has one
+abbrev pub op_of : Proc → Option Op
+op_of (proc.Find p) = Some (op.Find p.key)
+op_of (proc.Insert p) = Some (op.Insert p.key p.value)
+op_of (proc.Delete p) = Some (op.Delete p.key)
+op_of (proc.Post p) = None
+op_of (proc.Part p) = Some (op.Part p.from)
+op_of (proc.Compress p) = None
+op_of (proc.Reclaim p) = None
+
+-- the level and the key of a post or a compression
+abbrev pub work_of : Proc → Option (ℕ × ℕ)
+work_of (proc.Find p) = None
+work_of (proc.Insert p) = None
+work_of (proc.Delete p) = None
+work_of (proc.Post p) = Some (p.level, p.key)
+work_of (proc.Part p) = None
+work_of (proc.Compress p) = Some (p.level, p.key)
+work_of (proc.Reclaim p) = None
+
+-- A process that has so many frames: a put asks for some, up to three, where it has none, and a take for a page and two
+-- frames. An index has sweeps for those that look or release.
+abbrev pub Wants : Action → Option (ℕ × ℕ) → ℕ → Type 0
+Wants (act.Put x page) None frames = frames ≢ 0
+Wants (act.Put x page) (Some ask) frames = (frames ≡ 0) × (ask.0 ≡ 0) × (1 ≤ ask.1) × (ask.1 ≤ 3)
+Wants act.Take (Some ask) frames = (frames ≡ 0) × (ask.0 ≡ 1) × (ask.1 ≡ 2)
+Wants act.Take None frames = ⊥
+Wants act.Begin needs frames = frames ≡ 0
+Wants act.End needs frames = frames ≡ 0
+Wants (act.Get x) needs frames = frames ≡ 0
+Wants (act.Latch x) needs frames = frames ≡ 0
+Wants (act.Open x) needs frames = frames ≡ 0
+Wants (act.Retire x) needs frames = frames ≡ 0
+Wants (act.Look p) needs frames = ⊥
+Wants (act.See x) needs frames = ⊥
+Wants (act.Release x) needs frames = ⊥
+
+-- How many frames are left then.
+abbrev pub Leaves : Action → Option (ℕ × ℕ) → Seen → ℕ → ℕ → Type 0
+Leaves (act.Put x page) None what before after = before ≡ suc after
+Leaves (act.Put x page) (Some ask) seen.Done before after = suc after ≡ ask.1
+Leaves (act.Put x page) (Some ask) what before after = after ≡ 0
+Leaves act.Take needs (seen.Took y) before after = after ≡ 2
+Leaves act.Take needs what before after = after ≡ 0
+Leaves act.Begin needs what before after = after ≡ 0
+Leaves act.End needs what before after = after ≡ 0
+Leaves (act.Get x) needs what before after = after ≡ 0
+Leaves (act.Latch x) needs what before after = after ≡ 0
+Leaves (act.Open x) needs what before after = after ≡ 0
+Leaves (act.Retire x) needs what before after = after ≡ 0
+Leaves (act.Look p) needs what before after = Unit {0}
+Leaves (act.See x) needs what before after = Unit {0}
+Leaves (act.Release x) needs what before after = Unit {0}
+
+-- what follows when a process goes on
+pub record Follows (old : Proc) (what : Seen) (new : Proc) : Type 0 where
+  pub frames : Leaves (next_of old) (needs_of old) what (frames_of old) (frames_of new)
+  pub begun : next_of new ≢ act.Begin
+  pub op : op_of new ≡ op_of old
+  pub work : work_of new ≡ work_of old
+  pub running : next_of old ≢ act.End → answer_of new ≡ None

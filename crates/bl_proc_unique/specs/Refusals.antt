@@ -1,0 +1,197 @@
+-- Where a process goes on without room, and what it may have asked for.
+use Rattle.std.specs.Prelude.{◌≡◌, ◌⊎◌, ℕ}
+use Rattle.bl_model.specs.declared.operation.Reply.TheVariants as reply
+use Rattle.bl_proc_base.specs.declared.answers.Answer.{Answer}
+use Rattle.bl_proc_base.specs.declared.answers.Answer.TheVariants as answer
+use Rattle.bl_proc_base.specs.declared.answers.Posted.TheVariants as posted
+use Rattle.bl_proc_base.specs.declared.answers.Squeezed.TheVariants as squeezed
+use Rattle.bl_proc_base.specs.declared.changing.Outcome.{Outcome}
+use Rattle.bl_proc_base.specs.declared.changing.Outcome.TheVariants as outcome
+use Rattle.bl_proc_base.specs.declared.changing.Change.{Change}
+use Rattle.bl_proc_base.specs.declared.changing.Change.TheVariants as change
+use Rattle.bl_proc_base.specs.declared.growing.Growth.{Growth}
+use Rattle.bl_proc_base.specs.declared.growing.Growth.TheVariants as growth
+use Rattle.bl_proc_compress.specs.declared.compressing.Fate.{Fate}
+use Rattle.bl_proc_compress.specs.declared.compressing.Fate.TheVariants as fate
+use Rattle.bl_proc_compress.specs.declared.compressing.Compression.{Compression}
+use Rattle.bl_proc_compress.specs.declared.compressing.Compression.TheVariants.{LatchingLeft, LatchedLeft, LatchingRight, LatchedRight, PuttingFirst, PuttingParent, PuttingLast, Retiring, OpeningRight, OpeningLeft, OpeningParent}
+use Rattle.bl_proc_compress.specs.declared.squeezing.CompressReply.{CompressReply}
+use Rattle.bl_proc_compress.specs.declared.squeezing.CompressReply.TheVariants as pressed
+use Rattle.bl_proc_compress.specs.declared.squeezing.CompressStage.{CompressStage}
+use Rattle.bl_proc_compress.specs.declared.squeezing.CompressStage.TheVariants as compress
+use Rattle.bl_proc.specs.declared.inserting.InsertStage.{InsertStage}
+use Rattle.bl_proc.specs.declared.inserting.InsertStage.TheVariants as insert
+use Rattle.bl_proc.specs.declared.inserting.InsertReply.{InsertReply}
+use Rattle.bl_proc.specs.declared.inserting.InsertReply.TheVariants as inserted
+use Rattle.bl_proc.specs.declared.deleting.DeleteStage.{DeleteStage}
+use Rattle.bl_proc.specs.declared.deleting.DeleteStage.TheVariants as delete
+use Rattle.bl_proc.specs.declared.deleting.DeleteReply.{DeleteReply}
+use Rattle.bl_proc.specs.declared.deleting.DeleteReply.TheVariants as deleted
+use Rattle.bl_proc.specs.declared.posting.PostStage.{PostStage}
+use Rattle.bl_proc.specs.declared.posting.PostStage.TheVariants as post
+use Rattle.bl_proc.specs.declared.posting.PostReply.{PostReply}
+use Rattle.bl_proc.specs.declared.posting.PostReply.TheVariants as listed
+use Rattle.bl_proc.specs.declared.kinds.Proc.{Proc}
+use Rattle.bl_proc.specs.declared.kinds.Proc.TheVariants as proc
+
+-- the answer is that there was no room
+abbrev pub IsNoRoom : Answer → Type 0
+IsNoRoom (answer.Op reply.NoRoom hint) = Unit {0}
+IsNoRoom (answer.Post posted.NoRoom hint) = Unit {0}
+IsNoRoom (answer.Compress squeezed.NoRoom hint) = Unit {0}
+IsNoRoom other = ⊥
+
+-- It goes on without room. Puts with such a fate count too, though none are ever decided.
+abbrev pub FateRefused : Fate → Type 0
+FateRefused (fate.Merged hint) = ⊥
+FateRefused fate.Evened = ⊥
+FateRefused fate.Enough = ⊥
+FateRefused (fate.Unposted hint) = ⊥
+FateRefused fate.Refused = Unit {0}
+FateRefused fate.Lost = ⊥
+
+abbrev pub SqueezeRefused : Compression → Type 0
+SqueezeRefused (LatchingLeft f) = ⊥
+SqueezeRefused (LatchedLeft f) = ⊥
+SqueezeRefused (LatchingRight f page) = ⊥
+SqueezeRefused (LatchedRight f page) = ⊥
+SqueezeRefused (PuttingFirst u) = FateRefused u.fate
+SqueezeRefused (PuttingParent u) = FateRefused u.fate
+SqueezeRefused (PuttingLast u) = FateRefused u.fate
+SqueezeRefused (Retiring at end) = FateRefused end
+SqueezeRefused (OpeningRight at end) = FateRefused end
+SqueezeRefused (OpeningLeft at end) = FateRefused end
+SqueezeRefused (OpeningParent x end) = FateRefused end
+
+abbrev pub PressNoRoom : CompressReply → Type 0
+PressNoRoom (pressed.Merged hint) = ⊥
+PressNoRoom pressed.Evened = ⊥
+PressNoRoom pressed.Enough = ⊥
+PressNoRoom pressed.Alone = ⊥
+PressNoRoom (pressed.Unposted hint) = ⊥
+PressNoRoom pressed.NoRoom = Unit {0}
+
+abbrev pub CompressRefused : CompressStage → Type 0
+CompressRefused compress.New = ⊥
+CompressRefused (compress.Coming a) = ⊥
+CompressRefused (compress.Compressing c) = SqueezeRefused c
+CompressRefused (compress.Staying x) = ⊥
+CompressRefused (compress.Ending r) = PressNoRoom r
+CompressRefused (compress.Over r) = PressNoRoom r
+
+abbrev pub OutcomeRefused : Outcome → Type 0
+OutcomeRefused outcome.Changed = ⊥
+OutcomeRefused (outcome.Parted k) = ⊥
+OutcomeRefused outcome.Refused = Unit {0}
+
+abbrev pub ChangeRefused : Change → Type 0
+ChangeRefused (change.Putting x0 c0) = ⊥
+ChangeRefused (change.Taking t0) = ⊥
+ChangeRefused (change.PuttingNew t0) = ⊥
+ChangeRefused (change.PuttingOld t0) = ⊥
+ChangeRefused (change.OpeningNew x0 n0 s0) = ⊥
+ChangeRefused (change.Opening x0 o0) = OutcomeRefused o0
+
+abbrev pub GrowthRefused : Growth → Type 0
+GrowthRefused growth.Latching = ⊥
+GrowthRefused growth.Latched = ⊥
+GrowthRefused (growth.Taking r0) = ⊥
+GrowthRefused (growth.PuttingTop r0) = ⊥
+GrowthRefused (growth.PuttingAnchor r0) = ⊥
+GrowthRefused (growth.OpeningTop x0) = ⊥
+GrowthRefused growth.OpeningGrown = ⊥
+GrowthRefused growth.OpeningRefused = Unit {0}
+
+abbrev pub InsertNoRoom : InsertReply → Type 0
+InsertNoRoom (inserted.Inserted s) = ⊥
+InsertNoRoom (inserted.Present v) = ⊥
+InsertNoRoom inserted.NoRoom = Unit {0}
+
+abbrev pub InsertRefused : InsertStage → Type 0
+InsertRefused insert.New = ⊥
+InsertRefused (insert.Coming a) = ⊥
+InsertRefused (insert.Present x v) = ⊥
+InsertRefused (insert.Changing c) = ChangeRefused c
+InsertRefused (insert.Ending r) = InsertNoRoom r
+InsertRefused (insert.Over r) = InsertNoRoom r
+
+abbrev pub DeleteNoRoom : DeleteReply → Type 0
+DeleteNoRoom (deleted.Deleted v) = ⊥
+DeleteNoRoom deleted.Absent = ⊥
+DeleteNoRoom deleted.NoRoom = Unit {0}
+
+abbrev pub DeleteRefused : DeleteStage → Type 0
+DeleteRefused delete.New = ⊥
+DeleteRefused (delete.Coming a) = ⊥
+DeleteRefused (delete.Absent x) = ⊥
+DeleteRefused (delete.Changing v c) = ChangeRefused c
+DeleteRefused (delete.Ending r) = DeleteNoRoom r
+DeleteRefused (delete.Over r) = DeleteNoRoom r
+
+abbrev pub PostNoRoom : PostReply → Type 0
+PostNoRoom (listed.Done s) = ⊥
+PostNoRoom listed.Already = ⊥
+PostNoRoom listed.Stale = ⊥
+PostNoRoom listed.NoRoom = Unit {0}
+PostNoRoom listed.TooTall = ⊥
+
+abbrev pub PostRefused : PostStage → Type 0
+PostRefused post.New = ⊥
+PostRefused (post.Coming a) = ⊥
+PostRefused (post.Growing g) = GrowthRefused g
+PostRefused (post.Walking w) = ⊥
+PostRefused (post.Changing c) = ChangeRefused c
+PostRefused (post.Staying x r) = PostNoRoom r
+PostRefused (post.Ending r) = PostNoRoom r
+PostRefused (post.Over r) = PostNoRoom r
+
+abbrev pub IsRefused : Proc → Type 0
+IsRefused (proc.Find p) = ⊥
+IsRefused (proc.Insert p) = InsertRefused p.stage
+IsRefused (proc.Delete p) = DeleteRefused p.stage
+IsRefused (proc.Post p) = PostRefused p.stage
+IsRefused (proc.Part p) = ⊥
+IsRefused (proc.Compress p) = CompressRefused p.stage
+IsRefused (proc.Reclaim p) = ⊥
+
+-- It is to put what was decided with such a fate, or to retire a page after it. None is ever decided.
+abbrev pub SqueezePuts : Compression → Type 0
+SqueezePuts (LatchingLeft f) = ⊥
+SqueezePuts (LatchedLeft f) = ⊥
+SqueezePuts (LatchingRight f page) = ⊥
+SqueezePuts (LatchedRight f page) = ⊥
+SqueezePuts (PuttingFirst u) = FateRefused u.fate
+SqueezePuts (PuttingParent u) = FateRefused u.fate
+SqueezePuts (PuttingLast u) = FateRefused u.fate
+SqueezePuts (Retiring at end) = FateRefused end
+SqueezePuts (OpeningRight at end) = ⊥
+SqueezePuts (OpeningLeft at end) = ⊥
+SqueezePuts (OpeningParent x end) = ⊥
+
+abbrev pub CompressPuts : CompressStage → Type 0
+CompressPuts compress.New = ⊥
+CompressPuts (compress.Coming a) = ⊥
+CompressPuts (compress.Compressing c) = SqueezePuts c
+CompressPuts (compress.Staying x) = ⊥
+CompressPuts (compress.Ending r) = ⊥
+CompressPuts (compress.Over r) = ⊥
+
+abbrev pub PutsRefused : Proc → Type 0
+PutsRefused (proc.Find p) = ⊥
+PutsRefused (proc.Insert p) = ⊥
+PutsRefused (proc.Delete p) = ⊥
+PutsRefused (proc.Post p) = ⊥
+PutsRefused (proc.Part p) = ⊥
+PutsRefused (proc.Compress p) = CompressPuts p.stage
+PutsRefused (proc.Reclaim p) = ⊥
+
+-- What a process of this kind asks for, pages and frames: for a put of one page; for one of two pages, of which one is
+-- new; for those of a compression.
+abbrev pub MayAsk : Proc → ℕ × ℕ → Type 0
+MayAsk (proc.Find p) ask = ⊥
+MayAsk (proc.Insert p) ask = (ask ≡ (0, 1)) ⊎ (ask ≡ (1, 2))
+MayAsk (proc.Delete p) ask = (ask ≡ (0, 1)) ⊎ (ask ≡ (1, 2))
+MayAsk (proc.Post p) ask = (ask ≡ (0, 1)) ⊎ (ask ≡ (1, 2))
+MayAsk (proc.Part p) ask = ⊥
+MayAsk (proc.Compress p) ask = ask ≡ (0, 3)
+MayAsk (proc.Reclaim p) ask = ⊥

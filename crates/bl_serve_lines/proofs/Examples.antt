@@ -1,0 +1,100 @@
+-- Worked examples of the definitions.
+use Rattle.std.proofs.Common.{◌≡◌, List, [], ◌∷◌, codes, decimal, refl, lit<, lit≤, Some}
+use Rattle.std.proofs.lemmas.Fmt.{decimal_digit}
+use Rattle.std.proofs.lemmas.List.Elements.{All-nil, All-cons}
+use Rattle.bl_model.specs.declared.operation.Op.TheVariants.{Find, Insert, Part}
+use Rattle.bl_model.specs.declared.operation.Reply.TheVariants.{Found, Absent, Inserted, Rows}
+use Rattle.bl_model.specs.declared.operation.Next.TheVariants.{More, End}
+use Rattle.bl_model.specs.declared.operation.Entry.{Entry}
+use Rattle.bl_model.specs.Map.{empty}
+use Rattle.bl_model.specs.History.{IsLegalFrom}
+use Rattle.bl_serve_lines.specs.declared.request.Request.TheVariants.{Ask, Scan, Sync}
+use Rattle.bl_serve_lines.specs.Text.{Spells}
+use Rattle.bl_serve_lines.specs.Lines.{Line, AreParts, Replied, Scanned, Synced, answer_text, input_of, output_of, rest_text}
+use Rattle.bl_serve_lines.specs.Served.{Interleaves}
+
+abbrev inserted : Entry
+inserted = record { pass = 0; op = Insert 1 5; reply = Inserted }
+
+abbrev found : Entry
+found = record { pass = 0; op = Find 1; reply = Found 5 }
+
+-- with two workers, the find of the second line may come first
+abbrev missed : Entry
+missed = record { pass = 1; op = Find 1; reply = Absent }
+
+find_first_is_legal : IsLegalFrom empty (missed ∷ inserted ∷ [])
+find_first_is_legal = (refl, (refl, tt))
+
+find_first_interleaves : Interleaves ((inserted ∷ []) ∷ (missed ∷ []) ∷ []) (missed ∷ inserted ∷ [])
+find_first_interleaves = (
+  (inserted ∷ []) ∷ [],
+  [],
+  [],
+  refl,
+  (
+    [],
+    [],
+    [] ∷ [],
+    refl,
+    All-cons (λ list. list ≡ []) [] ([] ∷ []) refl (All-cons (λ list. list ≡ []) [] [] refl (All-nil (λ list. list ≡ []))),
+  ),
+)
+
+one : decimal 1 ≡ codes "1"
+one = decimal_digit 1 (lit< tt)
+
+two : decimal 2 ≡ codes "2"
+two = decimal_digit 2 (lit< tt)
+
+three : decimal 3 ≡ codes "3"
+three = decimal_digit 3 (lit< tt)
+
+four : decimal 4 ≡ codes "4"
+four = decimal_digit 4 (lit< tt)
+
+five : decimal 5 ≡ codes "5"
+five = decimal_digit 5 (lit< tt)
+
+-- a line and what it spells
+insert_line : Spells (codes "insert 1 5") (Ask (Insert 1 5))
+insert_line = (lit< tt, lit< tt, simp (one, five))
+
+sync_line : Spells (codes "sync") Sync
+sync_line = refl
+
+-- three lines with their answers, as they are read and written, and bytes with no LF behind them
+abbrev lines : List Line
+lines = record { bytes = codes "insert 1 5"; answer = Replied inserted } ∷ record { bytes = codes "find 1"; answer = Replied found } ∷ record { bytes = codes "sync"; answer = Synced } ∷ []
+
+as_read : input_of lines ≡ codes "insert 1 5\nfind 1\nsync\n"
+as_read = refl
+
+as_written : output_of 1 lines ≡ codes "1 inserted\n2 found 5\n3 synced\n"
+as_written = simp (one, two, three, five)
+
+rest_written : rest_text 4 (codes "find") ≡ codes "4 malformed\n"
+rest_written = simp four
+
+scan_line : Spells (codes "scan 1 4") (Scan 1 4)
+scan_line = (lit< tt, lit< tt, simp (one, four))
+
+abbrev first_part : Entry
+first_part = record { pass = 0; op = Part 1; reply = Rows (record { items = (1, 2) ∷ (2, 3) ∷ [] }) (More 3) }
+
+abbrev second_part : Entry
+second_part = record { pass = 0; op = Part 3; reply = Rows (record { items = (3, 1) ∷ (4, 5) ∷ [] }) End }
+
+scan_parts : AreParts (Some 1) 4 (first_part ∷ second_part ∷ [])
+scan_parts = (lit< tt, refl, (lit< tt, refl, tt))
+
+-- a scan from 5 up to 5 has none
+no_parts : AreParts (Some 5) 5 []
+no_parts = lit≤ tt
+
+none_written : answer_text (Scanned 5 5 []) ≡ codes "rows"
+none_written = refl
+
+-- a scan from 1 up to 4 in two parts, of which the second goes on past its end
+scan_written : answer_text (Scanned 1 4 (first_part ∷ second_part ∷ [])) ≡ codes "rows 1=2 2=3 3=1"
+scan_written = simp (one, two, three)

@@ -1,0 +1,74 @@
+-- Lines of the input, their answers, and the lines of the output.
+use Rattle.std.specs.Prelude.{◌≡◌, ◌≢◌, ℕ, suc, ◌<◌, ◌≤◌, Option, Some, None, List, [], ◌∷◌, ◌++◌, All, flat_map, filter, nat_lt, codes}
+use Rattle.bl_model.specs.declared.operation.Op.TheVariants.{Part}
+use Rattle.bl_model.specs.Parts.{rows_of, ended_at}
+use Rattle.bl_model.specs.declared.operation.Entry.{Entry}
+use Rattle.bl_serve_lines.specs.declared.request.Request.TheVariants.{Ask, Scan, Sync}
+use Rattle.bl_serve_lines.specs.Text.{Spells, IsMalformed, reply_text, row_text, numbered}
+
+-- what a line is answered: an operation's entry; a scan's bounds and its parts in order; that a section ended; that it spells no request
+pub data Answer : Type 0 where
+  Replied : Entry → Answer
+  Scanned : ℕ → ℕ → List Entry → Answer
+  Synced : Answer
+  Malformed : Answer
+
+-- a line of the input, without its LF, and its answer
+pub record Line : Type 0 where
+  pub bytes : List ℕ
+  pub answer : Answer
+
+-- no LF is among the bytes
+abbrev pub HasNoLf : List ℕ → Type 0
+HasNoLf bytes = All (λ b. b ≢ 10) bytes
+
+-- The parts of a scan up to its end: the first from that key on, each further one from where the last one ended, and each from below
+-- the scan's end. Behind the last one nothing is left: it went to the end of the map, or not less far than the scan.
+abbrev pub AreParts : Option ℕ → ℕ → List Entry → Type 0
+AreParts None high [] = Unit {0}
+AreParts (Some from) high [] = high ≤ from
+AreParts None high (e ∷ es) = ⊥
+AreParts (Some from) high (e ∷ es) = (from < high) × (e.op ≡ Part from) × AreParts (ended_at e.reply) high es
+
+-- The answer is of the line's kind.
+abbrev pub Fits : List ℕ → Answer → Type 0
+Fits bytes (Replied entry) = Spells bytes (Ask entry.op)
+Fits bytes (Scanned low high parts) = Spells bytes (Scan low high) × AreParts (Some low) high parts
+Fits bytes Synced = Spells bytes Sync
+Fits bytes Malformed = IsMalformed bytes
+
+pub record IsLine (line : Line) : Type 0 where
+  pub cut : HasNoLf line.bytes
+  pub fits : Fits line.bytes line.answer
+
+-- the entries that an answer has in the history
+abbrev pub entries : Answer → List Entry
+entries (Replied entry) = entry ∷ []
+entries (Scanned low high parts) = parts
+entries Synced = []
+entries Malformed = []
+
+-- the rows that lie below a key
+abbrev pub rows_below : ℕ → List (ℕ × ℕ) → List (ℕ × ℕ)
+rows_below high rows = filter (λ row. nat_lt row.0 high) rows
+
+-- what is printed behind a line's number; of a scan, the rows of its parts that lie below its end
+abbrev pub answer_text : Answer → List ℕ
+answer_text (Replied entry) = reply_text entry.reply
+answer_text (Scanned low high parts) = codes "rows" ++ flat_map row_text (rows_below high (flat_map (λ entry. rows_of entry.reply) parts))
+answer_text Synced = codes "synced"
+answer_text Malformed = codes "malformed"
+
+-- the lines as they are read: each ends with one LF
+abbrev pub input_of : List Line → List ℕ
+input_of lines = flat_map (λ line. line.bytes ++ 10 ∷ []) lines
+
+-- the answers as they are written, numbered from n on
+abbrev pub output_of : ℕ → List Line → List ℕ
+output_of n [] = []
+output_of n (line ∷ lines) = numbered n (answer_text line.answer) ++ output_of (suc n) lines
+
+-- what is printed for the bytes after the last LF, if there are any: they are one malformed line
+abbrev pub rest_text : ℕ → List ℕ → List ℕ
+rest_text n [] = []
+rest_text n (b ∷ bytes) = numbered n (answer_text Malformed)

@@ -1,0 +1,120 @@
+-- What is written for what is read.
+use Rattle.std.specs.Prelude.{◌≡◌, ◌≢◌, ◌==◌, ℕ, ◌+◌, ◌<◌, ◌≤◌, suc, List, [], ◌∷◌, ◌++◌, All, flat_map, map, length, sum_by, count_by}
+use Rattle.bl_model.specs.declared.operation.Entry.{Entry}
+use Rattle.bl_model.specs.Map.{Map}
+use Rattle.bl_model.specs.History.{IsLegalFrom}
+use Rattle.bl_serve_lines.specs.declared.serving.ServeFault.{ServeFault}
+use Rattle.bl_serve_lines.specs.declared.serving.ServeFault.TheVariants.{Read, Write, Memory, Lost}
+use Rattle.bl_serve_lines.specs.declared.serving.Totals.{Totals}
+use Rattle.bl_serve_lines.specs.Lines.{Line, IsLine, HasNoLf, Answer, Synced, Malformed, entries, input_of, output_of, rest_text}
+
+-- The history takes the entries of the lists, those of one list in their order, in any order otherwise.
+abbrev pub Interleaves : List (List Entry) → List Entry → Type 0
+Interleaves lists [] = All (λ list. list ≡ []) lists
+Interleaves lists (e ∷ history) = (before : List (List Entry)) × (list : List Entry) × (after : List (List Entry))
+    × (lists ≡ before ++ (e ∷ list) ∷ after) × Interleaves (before ++ list ∷ after) history
+
+-- a section: its lines, and its part of the history
+pub record Section : Type 0 where
+  pub lines : List Line
+  pub history : List Entry
+
+pub record IsSection (section : Section) : Type 0 where
+  pub lines : All IsLine section.lines
+  pub history : Interleaves (map (λ line. entries line.answer) section.lines) section.history
+
+-- no line is a sync
+abbrev pub HasNoSync : List Line → Type 0
+HasNoSync lines = All (λ line. line.answer ≢ Synced) lines
+
+-- no line before the last one is a sync
+abbrev pub HasNoSyncInside : List Line → Type 0
+HasNoSyncInside lines = (front : List Line) (end : Line) → lines ≡ front ++ end ∷ [] → HasNoSync front
+
+-- a section that has ended: its last line, and no other, is a sync
+pub record IsFinished (section : Section) : Type 0 where
+  pub front : List Line
+  pub sync : List ℕ
+  pub ends : section.lines ≡ front ++ record { bytes = sync; answer = Synced } ∷ []
+  pub no_sync : HasNoSync front
+  pub whole : IsSection section
+
+abbrev pub lines_of : List Section → List Line
+lines_of sections = flat_map (λ section. section.lines) sections
+
+abbrev pub history_of : List Section → List Entry
+history_of sections = flat_map (λ section. section.history) sections
+
+-- one for a line that spells no request
+abbrev pub malformed_of : Answer → ℕ
+malformed_of Malformed = 1
+malformed_of answer = 0
+
+-- one where there are bytes after the last LF
+abbrev pub one_if_any : List ℕ → ℕ
+one_if_any [] = 0
+one_if_any (b ∷ bytes) = 1
+
+-- From the map at the start: the input is finished sections, an open one and bytes after the last LF; the history is
+-- legal, with all entries of a section before those of the next; the output is one line for each line of the input, by
+-- number; the totals count lines, those that are malformed, and syncs.
+pub record Served (start : Map) (input output : List ℕ) (totals : Totals) : Type 0 where
+  pub sections : List Section
+  pub last : Section
+  pub rest : List ℕ
+  pub each : All IsFinished sections
+  pub whole : IsSection last
+  pub no_sync : HasNoSync last.lines
+  pub cut : HasNoLf rest
+  pub legal : IsLegalFrom start (history_of sections ++ last.history)
+  pub read : input ≡ input_of (lines_of sections ++ last.lines) ++ rest
+  pub written : output ≡ output_of 1 (lines_of sections ++ last.lines) ++ rest_text (length (lines_of sections ++ last.lines) + 1) rest
+  pub requests : totals.requests ≡ length (lines_of sections ++ last.lines) + one_if_any rest
+  pub malformed : totals.malformed ≡ sum_by (λ line. malformed_of line.answer) (lines_of sections ++ last.lines) + one_if_any rest
+  pub finished : totals.sections ≡ length sections
+
+-- how many lines of these bytes have their LF
+abbrev pub whole_lines : List ℕ → ℕ
+whole_lines bytes = count_by (λ b. b == 10) bytes
+
+-- what a fault leaves of the lines behind so many in finished sections: how much of their output may be out, what was read
+-- ahead of them, and which lines they are. A line that was lost is one of those that were read ahead.
+abbrev pub Leaves : ServeFault → ℕ → List ℕ → List ℕ → List Line → Type 0
+Leaves Read done begun ahead lines = (begun ≡ []) × (ahead ≡ []) × HasNoSync lines
+Leaves Write done begun ahead lines = Unit {0}
+Leaves Memory done begun ahead lines = begun ≡ []
+Leaves (Lost number) done begun ahead lines = (begun ≡ []) × (done < number) × (number ≤ done + whole_lines ahead)
+
+-- The server stopped by the fault: the output is one line for each line of the finished sections, by number, and no
+-- others but, after a failed write, a beginning of the output of the lines behind them. ahead was read and not cut.
+pub record Stopped (start : Map) (input output : List ℕ) (fault : ServeFault) : Type 0 where
+  pub sections : List Section
+  pub last : Section
+  pub rest : List ℕ
+  pub ahead : List ℕ
+  pub begun : List ℕ
+  pub unwritten : List ℕ
+  pub each : All IsFinished sections
+  pub whole : IsSection last
+  pub open_lines : HasNoSyncInside last.lines
+  pub cut : HasNoLf rest
+  pub legal : IsLegalFrom start (history_of sections ++ last.history)
+  pub read : input ≡ input_of (lines_of sections ++ last.lines) ++ rest ++ ahead
+  pub open_output : output_of (suc (length (lines_of sections))) last.lines ++ rest_text (length (lines_of sections ++ last.lines) + 1) rest ≡ begun ++ unwritten
+  pub written : output ≡ output_of 1 (lines_of sections) ++ begun
+  pub leaves : Leaves fault (length (lines_of sections)) begun ahead last.lines
+
+-- the entries of a served input, in the order of its history
+abbrev pub whole_history : {start : Map} {input output : List ℕ} {totals : Totals} → Served start input output totals → List Entry
+whole_history served = history_of served.sections ++ served.last.history
+
+-- a read fault comes only from a reader that has failed, and a write fault from such a writer
+abbrev pub ComesFrom : ServeFault → Type 0 → Type 0 → Type 0
+ComesFrom Read reader_failed writer_failed = reader_failed
+ComesFrom Write reader_failed writer_failed = writer_failed
+ComesFrom Memory reader_failed writer_failed = Unit {0}
+ComesFrom (Lost number) reader_failed writer_failed = Unit {0}
+
+-- The server stopped by the fault, as far as its input and its output go, and with its reason.
+abbrev pub Stops : Map → List ℕ → List ℕ → ServeFault → Type 0 → Type 0 → Type 0
+Stops start input output fault reader_failed writer_failed = Stopped start input output fault × ComesFrom fault reader_failed writer_failed

@@ -1,0 +1,58 @@
+-- The text of requests and of replies.
+use Rattle.std.specs.Prelude.{◌≡◌, ℕ, ◌<◌, ◌^◌, List, [], ◌∷◌, ◌++◌, flat_map, codes, decimal, None, Some, Option}
+use Rattle.bl_model.specs.declared.operation.Op.TheVariants.{Find, Insert, Delete, Part}
+use Rattle.bl_model.specs.declared.operation.Next.{Next}
+use Rattle.bl_model.specs.declared.operation.Next.TheVariants.{More, End}
+use Rattle.bl_model.specs.declared.operation.Reply.{Reply}
+use Rattle.bl_model.specs.declared.operation.Reply.TheVariants.{Found, Absent, Inserted, Present, Deleted, Rows, NoRoom}
+use Rattle.bl_serve_lines.specs.declared.request.Request.{Request}
+use Rattle.bl_serve_lines.specs.declared.request.Request.TheVariants.{Ask, Scan, Sync}
+use Rattle.bl_serve_lines.specs.declared.print.Response.{Response}
+use Rattle.bl_serve_lines.specs.declared.print.Response.TheVariants.{Replied, Synced, Malformed}
+
+-- the line is a spelling of the request, whose numbers have 64 bits; no line asks for one part alone
+abbrev pub Spells : List ℕ → Request → Type 0
+Spells line (Ask (Find key)) = (key < 2 ^ 64) × (line ≡ codes "find " ++ decimal key)
+Spells line (Ask (Insert key value)) = (key < 2 ^ 64) × (value < 2 ^ 64) × (line ≡ codes "insert " ++ decimal key ++ codes " " ++ decimal value)
+Spells line (Ask (Delete key)) = (key < 2 ^ 64) × (line ≡ codes "delete " ++ decimal key)
+Spells line (Ask (Part from)) = ⊥
+Spells line (Scan low high) = (low < 2 ^ 64) × (high < 2 ^ 64) × (line ≡ codes "scan " ++ decimal low ++ codes " " ++ decimal high)
+Spells line Sync = line ≡ codes "sync"
+
+-- the line is a spelling of no request
+abbrev pub IsMalformed : List ℕ → Type 0
+IsMalformed line = (request : Request) → Spells line request → ⊥
+
+-- what a line means: a request, or nothing
+abbrev pub Means : List ℕ → Option Request → Type 0
+Means line (Some request) = Spells line request
+Means line None = IsMalformed line
+
+-- how a row is printed
+abbrev pub row_text : ℕ × ℕ → List ℕ
+row_text row = codes " " ++ decimal row.0 ++ (codes "=" ++ decimal row.1)
+
+-- how it is printed where a part went
+abbrev pub next_text : Next → List ℕ
+next_text (More key) = codes " more " ++ decimal key
+next_text End = codes " end"
+
+-- how a reply is printed
+abbrev pub reply_text : Reply → List ℕ
+reply_text (Found value) = codes "found " ++ decimal value
+reply_text Absent = codes "absent"
+reply_text Inserted = codes "inserted"
+reply_text (Present value) = codes "present " ++ decimal value
+reply_text (Deleted value) = codes "deleted " ++ decimal value
+reply_text (Rows rows next) = codes "rows" ++ flat_map row_text rows.items ++ next_text next
+reply_text NoRoom = codes "noroom"
+
+-- what is printed behind a line's number
+abbrev pub response_text : Response → List ℕ
+response_text (Replied reply) = reply_text reply
+response_text Synced = codes "synced"
+response_text Malformed = codes "malformed"
+
+-- a whole output line: the number, a space, the text, LF
+abbrev pub numbered : ℕ → List ℕ → List ℕ
+numbered number text = decimal number ++ codes " " ++ text ++ 10 ∷ []

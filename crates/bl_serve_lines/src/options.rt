@@ -1,0 +1,42 @@
+//! What a server is told on the command line.
+
+ghost use Rattle.std.specs.Prelude.{◌≤◌};
+ghost use Rattle.bl_serve_lines.specs.Options.{AreWithin, IsHeld};
+
+/// The options of a server.
+#[derive(Clone, Copy, Debug, PartialEq, Eq)]
+pub struct ServeOptions {
+    /// Pages of the index, 4 to 65,536.
+    pub pages: u32,
+    /// Threads that answer requests, 1 to 32.
+    pub workers: u32,
+    /// Threads that merge and even out pages, 0 to 16.
+    pub compressors: u32,
+}
+
+/// The value of an option: what was given, brought within the limits, or the default.
+fn held(value: Option<u32>, default: u32, least: u32, most: u32) -> u32
+    requires limits { least ≤ most }
+    requires above { least ≤ default }
+    requires below { default ≤ most }
+    ensures { IsHeld value default least most result }
+{
+    value.unwrap_or(default).clamp(least, most)
+}
+
+impl ServeOptions {
+    /// The options for the values that were given. Each is brought within its limits; where none was given, the defaults
+    /// are 1,024 pages, 4 workers and 1 compressor.
+    pub fn of(pages: Option<u32>, workers: Option<u32>, compressors: Option<u32>) -> ServeOptions
+        ensures within { AreWithin result }
+        ensures pages { IsHeld pages 1024 4 65536 result.pages }
+        ensures workers { IsHeld workers 4 1 32 result.workers }
+        ensures compressors { IsHeld compressors 1 0 16 result.compressors }
+    {
+        ServeOptions {
+            pages: held(pages, 1024, 4, 65536),
+            workers: held(workers, 4, 1, 32),
+            compressors: held(compressors, 1, 0, 16),
+        }
+    }
+}

@@ -1,0 +1,110 @@
+//! The printed form of replies.
+
+ghost use Rattle.std.specs.Prelude.{◌≡◌, ◌++◌, flat_map, OnOk, codes, decimal};
+ghost use Rattle.bl_serve_lines.specs.Lines.{rows_below};
+ghost use Rattle.bl_serve_lines.specs.Text.{row_text, next_text, reply_text, response_text, numbered};
+
+use bl_model::{Next, Reply};
+use itoa::Buffer;
+use std::alloc::AllocError;
+
+/// What is printed for a line, behind its number.
+#[derive(Debug, PartialEq, Eq, Drop)]
+pub enum Response {
+    /// The reply to the line's operation.
+    Replied(Reply),
+    /// The line ended a section.
+    Synced,
+    /// The line spells no request.
+    Malformed,
+}
+
+/// Appends a word and a number.
+pub fn push_number(out: &mut Vec<u8>, word: &[u8], value: u64) -> Result<(), AllocError>
+    ensures { OnOk result (out.new.items ≡ out.old.items ++ (word.now ++ decimal value)) }
+{
+    let mut buffer = Buffer::new();
+    out.extend_from_slice(word)?;
+    out.extend_from_slice(buffer.format(value).as_bytes())
+}
+
+/// Appends a row.
+fn push_row(out: &mut Vec<u8>, row: &(u64, u64)) -> Result<(), AllocError>
+    ensures { OnOk result (out.new.items ≡ out.old.items ++ row_text row.now) }
+{
+    push_number(out, b" ", row.0)?;
+    push_number(out, b"=", row.1)
+}
+
+/// Appends the rows of a part.
+fn push_rows(out: &mut Vec<u8>, rows: &[(u64, u64)]) -> Result<(), AllocError>
+    ensures { OnOk result (out.new.items ≡ out.old.items ++ flat_map row_text rows.now) }
+{
+    for row in rows {
+        push_row(out, row)?;
+    }
+    Ok(())
+}
+
+/// Appends the rows whose keys lie below an end.
+pub fn push_rows_below(out: &mut Vec<u8>, rows: &[(u64, u64)], end: u64) -> Result<(), AllocError>
+    ensures { OnOk result (out.new.items ≡ out.old.items ++ flat_map row_text (rows_below end rows.now)) }
+{
+    for row in rows {
+        if row.0 < end {
+            push_row(out, row)?;
+        }
+    }
+    Ok(())
+}
+
+/// Appends how far a part went.
+fn push_next(out: &mut Vec<u8>, next: Next) -> Result<(), AllocError>
+    ensures { OnOk result (out.new.items ≡ out.old.items ++ next_text next) }
+{
+    match next {
+        Next::More(key) => push_number(out, b" more ", key),
+        Next::End => out.extend_from_slice(b" end"),
+    }
+}
+
+/// Appends the reply's text.
+pub fn push_reply(out: &mut Vec<u8>, reply: &Reply) -> Result<(), AllocError>
+    ensures { OnOk result (out.new.items ≡ out.old.items ++ reply_text reply.now) }
+{
+    match reply {
+        Reply::Found(value) => push_number(out, b"found ", *value),
+        Reply::Absent => out.extend_from_slice(b"absent"),
+        Reply::Inserted => out.extend_from_slice(b"inserted"),
+        Reply::Present(value) => push_number(out, b"present ", *value),
+        Reply::Deleted(value) => push_number(out, b"deleted ", *value),
+        Reply::Rows(rows, next) => {
+            out.extend_from_slice(b"rows")?;
+            push_rows(out, rows.as_slice())?;
+            push_next(out, *next)
+        }
+        Reply::NoRoom => out.extend_from_slice(b"noroom"),
+    }
+}
+
+/// Appends the response's text.
+fn push_response(out: &mut Vec<u8>, response: &Response) -> Result<(), AllocError>
+    ensures { OnOk result (out.new.items ≡ out.old.items ++ response_text response.now) }
+{
+    match response {
+        Response::Replied(reply) => push_reply(out, reply),
+        Response::Synced => out.extend_from_slice(b"synced"),
+        Response::Malformed => out.extend_from_slice(b"malformed"),
+    }
+}
+
+/// Appends a whole output line.
+pub fn push_line(out: &mut Vec<u8>, number: u64, response: &Response) -> Result<(), AllocError>
+    ensures { OnOk result (out.new.items ≡ out.old.items ++ numbered number (response_text response.now)) }
+{
+    push_number(out, b"", number)?;
+    out.extend_from_slice(b" ")?;
+    push_response(out, response)?;
+    out.push(b'\n')?;
+    Ok(())
+}

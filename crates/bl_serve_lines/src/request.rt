@@ -1,0 +1,62 @@
+//! The request that a line spells.
+
+ghost use Rattle.std.specs.Prelude.{◌≡◌, ◌≢◌, ℕ, ◌<◌, List, ◌++◌, length, IsNone, MatchOption};
+ghost use Rattle.bl_serve_lines.specs.Text.{Means};
+
+use crate::number::{number, two_numbers};
+use bl_model::Op;
+
+/// The most bytes that a line may have before its LF. A longer one is malformed.
+pub const LINE_LIMIT: usize = 64;
+
+/// What a line asks for.
+#[derive(Clone, Copy, Debug, PartialEq, Eq)]
+pub enum Request {
+    /// One operation, which is no `Part`.
+    Ask(Op),
+    /// The rows from the first key on, below the second one.
+    Scan(u64, u64),
+    /// The end of a section.
+    Sync,
+}
+
+/// What stands behind the word, if the line begins with it.
+pub fn after<'a>(line: &'a [u8], word: &[u8]) -> Option<&'a [u8]>
+    ensures { MatchOption result ((rest : List ℕ) → line.now ≢ word.now ++ rest) (λ rest. line.now ≡ word.now ++ rest.now) }
+{
+    line.strip_prefix(word)
+}
+
+/// The request that the line spells, byte by byte.
+fn spelled(line: &[u8]) -> Option<Request>
+    ensures { Means line.now result }
+{
+    match line {
+        [b'f', b'i', b'n', b'd', b' ', rest @ ..] => {
+            let key = number(rest)?;
+            Some(Request::Ask(Op::Find(key)))
+        }
+        [b'i', b'n', b's', b'e', b'r', b't', b' ', rest @ ..] => {
+            let (key, value) = two_numbers(rest)?;
+            Some(Request::Ask(Op::Insert(key, value)))
+        }
+        [b'd', b'e', b'l', b'e', b't', b'e', b' ', rest @ ..] => {
+            let key = number(rest)?;
+            Some(Request::Ask(Op::Delete(key)))
+        }
+        [b's', b'c', b'a', b'n', b' ', rest @ ..] => {
+            let (low, high) = two_numbers(rest)?;
+            Some(Request::Scan(low, high))
+        }
+        [b's', b'y', b'n', b'c'] => Some(Request::Sync),
+        _ => None,
+    }
+}
+
+/// What the line asks for, or None where it is malformed.
+pub fn parse(line: &[u8]) -> Option<Request>
+    ensures meaning { Means line.now result }
+    ensures long { LINE_LIMIT < length line.now → IsNone result }
+{
+    spelled(line)
+}

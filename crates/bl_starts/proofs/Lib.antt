@@ -1,2 +1,0 @@
-pub mod WorldLaws
-pub mod Starts

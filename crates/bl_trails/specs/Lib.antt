@@ -1,4 +1,0 @@
-pub mod Trails
-pub mod Moments
-pub mod Meanings
-pub mod States

@@ -1,6 +1,0 @@
-use Rattle.std.proofs.Common.{inl}
-use Rattle.one_page.proofs.Steps.{gets}
-use Rattle.one_page.proofs.glance.Goals as goal
-
-pub glance-requires-clause-rule : goal.glance-requires-clause-rule
-glance-requires-clause-rule c = gets _ _ _ c.args.page (inl c.requires.page)

@@ -1,8 +1,0 @@
-use Rattle.one_page.proofs.Steps.{takes, refuses}
-use Rattle.one_page.proofs.reserve.Goals as goal
-
-pub reserve-requires-clause-takes : goal.reserve-requires-clause-takes
-reserve-requires-clause-takes c = λ asked x. takes _ _ _ x (c.requires.none asked)
-
-pub reserve-requires-clause-refuses : goal.reserve-requires-clause-refuses
-reserve-requires-clause-refuses c = refuses _ _ _

@@ -1,5 +1,0 @@
-use Rattle.one_page.proofs.Steps.{whole_at_end}
-use Rattle.one_page.proofs.shut.Goals as goal
-
-pub returns-clause-whole : goal.returns-clause-whole
-returns-clause-whole c = whole_at_end _ _ _ c.close.ensures

@@ -1,5 +1,0 @@
-use Rattle.bl_store.specs.Hands.{IsOf}
-use Rattle.page_race.proofs.loading.sweeps.Given as goal
-
-abbrev pub invariant-loop : goal.invariant-loop
-invariant-loop l = IsOf l.store.table.shared.table_id l.store.layout l.hand.seat

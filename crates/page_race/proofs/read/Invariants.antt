@@ -1,9 +1,0 @@
-use Rattle.bl_store.specs.Hands.{IsSameHand}
-use Rattle.one_page.specs.Holding.{IsFresh}
-use Rattle.page_race.proofs.read.Given as goal
-
-abbrev pub invariant-loop-round : goal.invariant-loop-round
-invariant-loop-round l = record {
-  same : IsSameHand l.fn.hand.seat l.hand.seat;
-  fresh : IsFresh l.fn.store.table.shared.table_id l.fn.store.layout l.hand;
-}

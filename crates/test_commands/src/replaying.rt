@@ -1,0 +1,97 @@
+//! The command `replay` over streams that fail, and where memory is refused; and paths that are no file. What it prints for scripts is
+//! compared by `test_worked_scripts`.
+
+use crate::streams::Full;
+use bl_cli_commands::{CommandFault, check_file, load_file, replay_file, replay_script};
+use bl_model::Watched;
+use std::io;
+use std::io::{ErrorKind, Read};
+
+/// Gives a text in pieces of at most 5 bytes, and then fails.
+#[derive(Drop)]
+struct Failing<'a> {
+    left: &'a [u8],
+}
+
+impl<'a> Read for Failing<'a> {
+    fn read(&mut self, buf: &mut [u8]) -> io::Result<usize> {
+        if self.left.is_empty() {
+            return Err(io::Error::from(ErrorKind::BrokenPipe));
+        }
+        let count = buf.len().min(5).min(self.left.len());
+        buf[..count].copy_from_slice(&self.left[..count]);
+        self.left = &self.left[count..];
+        Ok(count)
+    }
+}
+
+#[test]
+fn reads_that_fail(rt: HostRuntime) {
+    let alloc = rt.alloc();
+    let texts: [&[u8]; 4] = [
+        b"",
+        b"pages 4",
+        b"pages 4\nfind 5\nrun 1 9\n",
+        b"pages 4\nfind 5\nrun 1 9\nru",
+    ];
+    for left in texts {
+        let mut writer = Watched::new(Vec::new(alloc));
+        let result = replay_script(alloc, &mut Watched::new(Failing { left }), &mut writer);
+        assert_eq!(rt; result, Err(CommandFault::Read));
+        assert!(rt; writer.into_inner().is_empty());
+    }
+}
+
+#[test]
+fn writes_that_fail(rt: HostRuntime) {
+    let alloc = rt.alloc();
+    let text = b"pages 4\nfind 5\nrun 1 9\n";
+    let wanted = b"1 begin\n1 get 0\n1 get 1\n1 end\n1 answer absent\n";
+    for room in [0, 1, 9, 44] {
+        let mut writer = Watched::new(Full {
+            bytes: Vec::new(alloc),
+            room,
+        });
+        let result = replay_script(alloc, &mut Watched::new(&text[..]), &mut writer);
+        assert_eq!(rt; result, Err(CommandFault::Write));
+        assert!(rt; writer.into_inner().bytes.as_slice() == &wanted[..room]);
+    }
+}
+
+/// Holds whichever allocation is refused: the answer is Memory and a beginning of the output, or that of ample memory.
+#[test]
+fn memory_or_the_output(rt: HostRuntime) {
+    let text = b"pages 4\ninsert 5 50\nfind 5\nrun 1 4\nrun 2 9\nrun 1 9\n";
+    let wanted =
+        b"1 begin\n1 get 0\n1 latch 1\n1 get 1\n2 begin\n2 get 0\n2 get 1\n2 end\n2 answer absent\n1 put 1\n1 open 1\n1 end\n1 answer inserted\n";
+    let mut writer = Watched::new(Full {
+        bytes: Vec::new(rt.alloc()),
+        room: 999,
+    });
+    match replay_script(rt.alloc(), &mut Watched::new(&text[..]), &mut writer) {
+        Ok(()) => assert!(rt; writer.into_inner().bytes.as_slice() == wanted.as_slice()),
+        // the test's own writer may have been refused its memory
+        Err(CommandFault::Memory) | Err(CommandFault::Write) => assert!(rt;
+            wanted.starts_with(writer.into_inner().bytes.as_slice())
+        ),
+        Err(_) => assert!(rt; false),
+    }
+}
+
+/// `check`, the loading of an image and `replay` say that reading the path fails, and write nothing.
+fn is_no_file(rt: &HostRuntime, path: &str) -> bool {
+    let mut writer = Watched::new(Vec::new(rt.alloc()));
+    let checked = check_file(rt, path, &mut writer);
+    let replayed = replay_file(rt, path, &mut writer);
+    checked == Err(CommandFault::Read)
+        && replayed == Err(CommandFault::Read)
+        && load_file(rt, path).err() == Some(CommandFault::Read)
+        && writer.into_inner().is_empty()
+}
+
+#[test]
+fn paths_that_are_no_file(rt: HostRuntime) {
+    for path in ["/", "no such file", ""] {
+        assert!(rt; is_no_file(&rt, path), "{path}");
+    }
+}

@@ -1,0 +1,160 @@
+//! Scripts in pieces, kinds that are not there, and reads that fail. What each line means stands in `test_worked_scripts`.
+
+use bl_model::Watched;
+use bl_replay_script::{Kinds, Script, ScriptFault, has_one_reading, read_script};
+use std::alloc::Global;
+use std::io;
+use std::io::{ErrorKind, Read};
+
+/// Every kind of process.
+const ALL: Kinds = Kinds {
+    part: true,
+    compress: true,
+    reclaim: true,
+};
+
+/// Searches, insertions, deletions and posts alone.
+const FEW: Kinds = Kinds {
+    part: false,
+    compress: false,
+    reclaim: false,
+};
+
+fn script_of(alloc: Global, text: &[u8], kinds: Kinds) -> Result<Script, ScriptFault> {
+    read_script(alloc, &mut Watched::new(text), kinds)
+}
+
+/// The script is bad at that line.
+fn is_bad_at(rt: &HostRuntime, text: &[u8], kinds: Kinds, line: u64) -> bool {
+    match script_of(rt.alloc(), text, kinds) {
+        Err(fault) => fault == ScriptFault::Line(line),
+        Ok(_) => false,
+    }
+}
+
+#[test]
+fn kinds_that_are_not_there(rt: HostRuntime) {
+    for line in [
+        b"part 1\n".as_slice(),
+        b"compress 1 9\n".as_slice(),
+        b"reclaim 1\n".as_slice(),
+    ] {
+        let mut text = Vec::new(rt.alloc());
+        assert!(rt; text.extend_from_slice(b"pages 4\n").is_ok());
+        assert!(rt; text.extend_from_slice(line).is_ok());
+        assert!(rt; is_bad_at(&rt, text.as_slice(), FEW, 2));
+        assert!(rt; script_of(rt.alloc(), text.as_slice(), ALL).is_ok());
+    }
+}
+
+/// Gives a text, so many times the same byte, and then another text, in pieces of at most 7 bytes; then it ends, or
+/// fails. Each second call is interrupted.
+#[derive(Drop)]
+struct Slow<'a> {
+    front: &'a [u8],
+    byte: u8,
+    count: usize,
+    back: &'a [u8],
+    fails: bool,
+    interrupts: bool,
+}
+
+impl<'a> Read for Slow<'a> {
+    fn read(&mut self, buf: &mut [u8]) -> io::Result<usize> {
+        self.interrupts = !self.interrupts;
+        if self.interrupts {
+            return Err(io::Error::from(ErrorKind::Interrupted));
+        }
+        let most = buf.len().min(7);
+        if !self.front.is_empty() {
+            let count = most.min(self.front.len());
+            buf[..count].copy_from_slice(&self.front[..count]);
+            self.front = &self.front[count..];
+            return Ok(count);
+        }
+        if self.count > 0 {
+            let count = buf.len().min(self.count);
+            for byte in buf[..count].iter_mut() {
+                *byte = self.byte;
+            }
+            self.count -= count;
+            return Ok(count);
+        }
+        if self.back.is_empty() && self.fails {
+            return Err(io::Error::from(ErrorKind::BrokenPipe));
+        }
+        let count = most.min(self.back.len());
+        buf[..count].copy_from_slice(&self.back[..count]);
+        self.back = &self.back[count..];
+        Ok(count)
+    }
+}
+
+/// What is read from such a reader.
+fn slowly(
+    alloc: Global,
+    front: &[u8],
+    count: usize,
+    back: &[u8],
+    fails: bool,
+) -> Result<Script, ScriptFault> {
+    let mut reader = Watched::new(Slow {
+        front,
+        byte: b'1',
+        count,
+        back,
+        fails,
+        interrupts: false,
+    });
+    read_script(alloc, &mut reader, ALL)
+}
+
+#[test]
+fn a_script_in_pieces(rt: HostRuntime) {
+    let alloc = rt.alloc();
+    let whole = slowly(alloc, b"pages 8\nfind ", 3, b"\nrun 1 9\n", false);
+    let at_once = script_of(alloc, b"pages 8\nfind 111\nrun 1 9\n", ALL);
+    assert!(rt; whole == at_once);
+    match at_once {
+        Ok(script) => assert!(rt; script.pages == 8 && script.commands.len() == 2),
+        Err(_) => assert!(rt; false),
+    }
+    // a line of two million bytes, with an LF and without
+    let long = slowly(alloc, b"pages 8\nfind ", 2_000_000, b"\nrun 1 9\n", false);
+    assert!(rt; long == Err(ScriptFault::Line(2)));
+    let open = slowly(alloc, b"pages 8\nfind ", 2_000_000, b"", false);
+    assert!(rt; open == Err(ScriptFault::Line(2)));
+}
+
+#[test]
+fn a_read_that_fails_in_the_middle(rt: HostRuntime) {
+    let alloc = rt.alloc();
+    let texts: [&[u8]; 4] = [b"", b"pages", b"pages 8\n", b"pages 8\nfind 1\nru"];
+    for text in texts {
+        assert!(rt; slowly(alloc, text, 0, b"", true) == Err(ScriptFault::Read));
+    }
+    // a bad line comes first
+    assert!(rt; slowly(alloc, b"pages 8\nfind\n", 0, b"", true) == Err(ScriptFault::Line(2)));
+}
+
+/// Holds whichever allocation is refused: the answer is Memory, or that of ample memory.
+#[test]
+fn memory_or_the_script(rt: HostRuntime) {
+    match script_of(
+        rt.alloc(),
+        b"pages 8\nfind 1\nturn 1\nrefuse 1\nrun 1 2\nturn 1\n",
+        ALL,
+    ) {
+        Ok(script) => assert_eq!(rt; script.commands.len(), 5),
+        Err(fault) => assert_eq!(rt; fault, ScriptFault::Memory),
+    }
+    match script_of(rt.alloc(), b"pages 8\nfind 1\nturn 2\n", ALL) {
+        Ok(_) => assert!(rt; false),
+        Err(fault) => assert!(rt; fault == ScriptFault::Memory || fault == ScriptFault::Line(3)),
+    }
+}
+
+#[test]
+fn the_law_of_scripts_does_nothing() {
+    has_one_reading();
+}

@@ -1,0 +1,65 @@
+//! Answers in words.
+
+use bl_check::{Fault, Report};
+use bl_page::Page;
+use std::alloc::{AllocError, Global};
+use test_worked_lines::{count, said, shown_words};
+
+pub fn yes(alloc: Global, is_so: bool) -> Result<Vec<u8>, AllocError> {
+    said(alloc, if is_so { "yes" } else { "no" })
+}
+
+/// The number, if there is one.
+pub fn maybe(alloc: Global, number: Option<u64>) -> Result<Vec<u8>, AllocError> {
+    match number {
+        Some(number) => count(alloc, number),
+        None => said(alloc, "none"),
+    }
+}
+
+/// The words of a page.
+pub fn page(alloc: Global, page: &Page) -> Result<Vec<u8>, AllocError> {
+    shown_words(alloc, page.to_words().as_slice())
+}
+
+/// The words of two pages, behind some text.
+pub fn two_pages(
+    alloc: Global,
+    front: &str,
+    left: &Page,
+    right: &Page,
+) -> Result<Vec<u8>, AllocError> {
+    let mut text = said(alloc, front)?;
+    text.extend_from_slice(page(alloc, left)?.as_slice())?;
+    text.extend_from_slice(b" | ")?;
+    text.extend_from_slice(page(alloc, right)?.as_slice())?;
+    Ok(text)
+}
+
+/// What the checker has found.
+pub fn verdict(alloc: Global, found: Result<Report, Fault>) -> Result<Vec<u8>, AllocError> {
+    match found {
+        Ok(report) => reported(alloc, report),
+        Err(Fault::Rule { rule, page }) => {
+            let text = format!(in alloc; "rule {rule} page {page}")?;
+            said(alloc, text.as_str())
+        }
+        Err(Fault::Memory) => said(alloc, "out of memory"),
+    }
+}
+
+fn reported(alloc: Global, report: Report) -> Result<Vec<u8>, AllocError> {
+    let Report {
+        rows,
+        leaves,
+        inners,
+        levels,
+        unposted,
+        thin,
+    } = report;
+    let pages = format!(in alloc; "rows {rows} leaves {leaves} inners {inners}")?;
+    let shape = format!(in alloc; " levels {levels} unposted {unposted} thin {thin}")?;
+    let mut text = said(alloc, pages.as_str())?;
+    text.extend_from_slice(shape.as_bytes())?;
+    Ok(text)
+}

@@ -1,0 +1,67 @@
+//! Calls by their words.
+
+use crate::checks::Draft;
+use crate::pages::{child, covers, drop_row, even, merge, read, row, with};
+use std::alloc::{AllocError, Global};
+use test_worked_lines::{numbers_in, said};
+
+/// The image in the making.
+#[derive(Drop)]
+pub struct Bench {
+    draft: Draft,
+}
+
+/// A call on two pages.
+fn on_two(alloc: Global, call: &str, left: &str, right: &str) -> Result<Vec<u8>, AllocError> {
+    let left = numbers_in(alloc, left)?;
+    let right = numbers_in(alloc, right)?;
+    match call {
+        "merge" => merge(alloc, left.as_slice(), right.as_slice()),
+        "even" => even(alloc, left.as_slice(), right.as_slice()),
+        _ => said(alloc, "no such call"),
+    }
+}
+
+/// A call on one page.
+fn on_one(alloc: Global, call: &str, numbers: &[u64]) -> Result<Vec<u8>, AllocError> {
+    match (call, numbers) {
+        ("page", words) => read(alloc, words),
+        ("covers", [key, words @ ..]) => covers(alloc, *key, words),
+        ("row", [key, words @ ..]) => row(alloc, *key, words),
+        ("child", [key, words @ ..]) => child(alloc, *key, words),
+        ("without", [key, words @ ..]) => drop_row(alloc, *key, words),
+        ("with", [key, value, words @ ..]) => with(alloc, *key, *value, words),
+        _ => said(alloc, "no such call"),
+    }
+}
+
+impl Bench {
+    /// There is no image yet.
+    pub fn new(alloc: Global) -> Bench {
+        Bench {
+            draft: Draft::empty(alloc),
+        }
+    }
+
+    /// Makes the call, and says what it gives.
+    pub fn answer(&mut self, alloc: Global, line: &str) -> Result<Vec<u8>, AllocError> {
+        let (call, rest) = line.split_once(' ').unwrap_or((line, ""));
+        if let Some((left, right)) = rest.split_once(" | ") {
+            return on_two(alloc, call, left, right);
+        }
+        let numbers = numbers_in(alloc, rest)?;
+        match (call, numbers.as_slice()) {
+            ("image", [pages]) => {
+                self.draft = Draft::new(alloc, *pages)?;
+                said(alloc, "begun")
+            }
+            ("put", [page, words @ ..]) => self.draft.put(alloc, *page, words),
+            ("bytes", [from]) => self.draft.show(alloc, *from),
+            ("cut", []) => self.draft.cut(alloc),
+            ("alter", []) => self.draft.alter(alloc),
+            ("check", changes) => self.draft.check(alloc, 1, changes),
+            ("version", [version, changes @ ..]) => self.draft.check(alloc, *version, changes),
+            (_, numbers) => on_one(alloc, call, numbers),
+        }
+    }
+}

@@ -1,0 +1,143 @@
+//! Images in the making, and what the checker finds in them.
+
+use crate::answers::verdict;
+use bl_check::{Fault, check, load};
+use std::alloc::{AllocError, Global};
+use test_worked_lines::{count, page_words, said, shown_words};
+
+/// An image of which each page is given by its words.
+#[derive(Drop)]
+pub struct Draft {
+    pages: Vec<[u64; 32]>,
+}
+
+impl Draft {
+    /// No pages.
+    pub fn empty(alloc: Global) -> Draft {
+        Draft {
+            pages: Vec::new(alloc),
+        }
+    }
+
+    /// So many pages that are not in use.
+    pub fn new(alloc: Global, pages: u64) -> Result<Draft, AllocError> {
+        let mut all = Vec::new(alloc);
+        for _page in 0..pages.min(65_536) {
+            all.push([0; 32])?;
+        }
+        Ok(Draft { pages: all })
+    }
+
+    /// Writes a page.
+    pub fn put(&mut self, alloc: Global, page: u64, front: &[u64]) -> Result<Vec<u8>, AllocError> {
+        match self.pages.as_mut_slice().get_mut(page as usize) {
+            Some(place) => {
+                *place = page_words(front);
+                said(alloc, "done")
+            }
+            None => said(alloc, "no such page"),
+        }
+    }
+
+    /// The bytes of the image, with a number of its version.
+    fn bytes(&self, alloc: Global, version: u64, changes: &[u64]) -> Result<Vec<u8>, AllocError> {
+        let mut bytes = Vec::from_slice(alloc, b"BLNKIDX1")?;
+        let count = self.pages.len() as u64;
+        bytes.extend_from_slice(
+            (version % 256 + count % (1 << 32) * (1 << 32))
+                .to_le_bytes()
+                .as_slice(),
+        )?;
+        bytes.extend_from_slice([0; 16].as_slice())?;
+        for (page, words) in self.pages.iter().enumerate() {
+            for (place, word) in words.iter().enumerate() {
+                let word = changed(*word, page as u64, place as u64, changes);
+                bytes.extend_from_slice(word.to_le_bytes().as_slice())?;
+            }
+        }
+        Ok(bytes)
+    }
+
+    /// Eight bytes of the image.
+    pub fn show(&self, alloc: Global, from: u64) -> Result<Vec<u8>, AllocError> {
+        let bytes = self.bytes(alloc, 1, &[])?;
+        let mut eight = Vec::new(alloc);
+        for byte in bytes.iter().skip(from as usize).take(8) {
+            eight.push(u64::from(*byte))?;
+        }
+        shown_words(alloc, eight.as_slice())
+    }
+
+    /// What the checker finds in the image with these changes, each a page, a place and a word.
+    pub fn check(
+        &self,
+        alloc: Global,
+        version: u64,
+        changes: &[u64],
+    ) -> Result<Vec<u8>, AllocError> {
+        let bytes = self.bytes(alloc, version, changes)?;
+        let found = check(alloc, bytes.as_slice());
+        if load(alloc, bytes.as_slice()).err() != found.err() {
+            return said(alloc, "loaded otherwise");
+        }
+        verdict(alloc, found)
+    }
+
+    /// How many beginnings of the image, but for the whole, are refused for their head.
+    pub fn cut(&self, alloc: Global) -> Result<Vec<u8>, AllocError> {
+        let bytes = self.bytes(alloc, 1, &[])?;
+        let mut refused = 0u64;
+        for length in 0..bytes.len() {
+            let front = bytes.as_slice().get(..length).unwrap_or(&[]);
+            refused = refused.saturating_add(u64::from(breaks_the_head(alloc, front)));
+        }
+        counted(alloc, refused)
+    }
+
+    /// How many images are refused for their head that differ from this one in one of its first 32 bytes.
+    pub fn alter(&self, alloc: Global) -> Result<Vec<u8>, AllocError> {
+        let mut bytes = self.bytes(alloc, 1, &[])?;
+        let mut refused = 0u64;
+        for place in 0..32usize {
+            for mask in 1..=255u8 {
+                flip(bytes.as_mut_slice(), place, mask);
+                refused = refused.saturating_add(u64::from(breaks_the_head(
+                    alloc,
+                    bytes.as_slice(),
+                )));
+                flip(bytes.as_mut_slice(), place, mask);
+            }
+        }
+        counted(alloc, refused)
+    }
+}
+
+fn counted(alloc: Global, refused: u64) -> Result<Vec<u8>, AllocError> {
+    let mut text = count(alloc, refused)?;
+    text.extend_from_slice(b" are refused")?;
+    Ok(text)
+}
+
+fn breaks_the_head(alloc: Global, bytes: &[u8]) -> bool {
+    check(alloc, bytes) == Err(Fault::Rule { rule: 1, page: 0 })
+}
+
+/// Turns bits of the byte at that place.
+fn flip(bytes: &mut [u8], place: usize, mask: u8) {
+    if let Some(byte) = bytes.get_mut(place) {
+        *byte ^= mask;
+    }
+}
+
+/// The word at a place of a page, where some are others.
+fn changed(word: u64, page: u64, place: u64, changes: &[u64]) -> u64 {
+    let mut now = word;
+    for change in changes.chunks_exact(3) {
+        if let [at, there, value] = change {
+            if *at == page && *there == place {
+                now = *value;
+            }
+        }
+    }
+    now
+}

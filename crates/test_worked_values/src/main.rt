@@ -1,0 +1,50 @@
+//! Makes the calls that its input names, on pages and on images, and compares what each gives with what the input says. A line is
+//! a call and its answer, with ` = ` between them, as in `row 7 8589934593 0 0 0 7 70 = 70`. Lines without ` = ` are comments.
+//! Pages are given by their words, of which zeros at the end are left out; two pages have ` | ` between them.
+//!
+//! It prints each line that is answered otherwise, with that answer, and at the end how many were right.
+//!
+//! | Call | What it gives |
+//! |---|---|
+//! | `page WORDS` | `is one` where the words are a page's that is spelled so, and so is its copy; else the fault |
+//! | `covers KEY WORDS`, `row KEY WORDS`, `child KEY WORDS` | whether the page covers the key, and what it has of it |
+//! | `with KEY WORD WORDS` | the page with that pair more, or the two pages into which it is parted, of which the new one is page 2 |
+//! | `without KEY WORDS` | the leaf without that row |
+//! | `merge WORDS \| WORDS`, `even WORDS \| WORDS` | one page for both; both with as many pairs, with the separator and the side that gains |
+//! | `image PAGES` | begins an image with so many pages that are not in use |
+//! | `put PAGE WORDS` | writes a page's words into it |
+//! | `bytes FROM` | eight bytes of it |
+//! | `check [PAGE PLACE WORD]..` | what the checker finds in it, with these words of pages made others |
+//! | `version NUMBER [PAGE PLACE WORD]..` | the same with another version in its head |
+//! | `cut`, `alter` | how many images are refused for their head: beginnings of it, and with one of the first 32 bytes altered in any way |
+#![tactic(auto)]
+
+mod answers;
+mod calls;
+mod checks;
+mod pages;
+
+use calls::Bench;
+use test_worked_lines::{Tally, call_of};
+
+fn main(rt: HostRuntime) -> anyhow::Result<()> {
+    let mut bench = Bench::new(rt.alloc());
+    let mut tally = Tally::new();
+    for line in rt.lines(rt.alloc()) {
+        let line = line?;
+        if let Some((call, wanted)) = call_of(line.as_str()) {
+            let found = bench.answer(rt.alloc(), call)?;
+            let is_right = found.as_slice() == wanted.as_bytes();
+            if !is_right {
+                let found = String::from_utf8_lossy(rt.alloc(), found.as_slice())?;
+                println!(rt; "{call} = {found}, and not {wanted}")?;
+            }
+            tally = tally.with(is_right);
+        }
+    }
+    println!(rt;
+        "{} of {} calls answered as they should",
+        tally.right, tally.lines
+    )?;
+    Ok(())
+}

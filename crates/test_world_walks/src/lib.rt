@@ -1,0 +1,20 @@
+//! The laws of the tree by plain walks over the pages of a world, and what the processes of one may do and answer, apart from
+//! all definitions and proofs; and worlds whose number of pages is known.
+//!
+//! For `test_world_drawn` and `test_world`, whose tests are proved and run apart from these. What it promises is in the words of
+//! each law that it finds broken.
+#![tactic(auto)]
+
+mod lists;
+mod running;
+mod sized;
+mod squeezes;
+mod trees;
+
+pub use lists::Lists;
+pub use running::{Job, Running, hint_of, is_to_post};
+pub use sized::SizedWorld;
+pub use squeezes::{Squeeze, Way};
+pub use trees::{
+    Fresh, Law, Listed, Live, Moment, Tree, add, descends, holds, is_same_page, leads_back, walked,
+};

@@ -1,5 +1,0 @@
-use Rattle.worked_calls.specs.Owning.{IsFit}
-use Rattle.worked_calls.proofs.bench.Bench.answer.Given as goal
-
-abbrev pub invariant-loop-round : goal.invariant-loop-round
-invariant-loop-round g l = IsFit l.self

@@ -1,5 +1,0 @@
-use Rattle.worked_calls.specs.Owning.{IsFit}
-use Rattle.worked_calls.proofs.main.Given as goal
-
-abbrev pub invariant-loop-line : goal.invariant-loop-line
-invariant-loop-line g l = IsFit l.bench

@@ -1,5 +1,0 @@
-use Rattle.std.proofs.Common.{inr, arith}
-use Rattle.world_walks.proofs.sized.SizedWorld.reclaim.Goals as goal
-
-pub start-requires : goal.start-requires
-start-requires c = inr (c.args.page, omega (arith, c.args.self.now.size), c.reclaim.ensures.made)
