@@ -1,15 +1,11 @@
-//! Tests of processes that release a page, of what processes read of a page, and of hints that wait. Each other kind of process is
-//! run by `test_worked_turns`.
+//! Tests of processes that release a page, and of hints that wait. Each other kind of process is run by `test_worked_turns`, and what
+//! processes read of a page stands in `test_worked_values`.
 //!
-//! They stand apart from `bl_proc`, `bl_proc_base` and `bl_hints`, and nothing else uses them: whatever is built on the processes need not
-//! wait until these tests are proved.
+//! They stand apart from `bl_proc` and `bl_hints`, and nothing else uses them: whatever is built on the processes need not wait until
+//! these tests are proved.
 #![tactic(auto)]
 
-#[cfg(test)]
-mod counts;
 #[cfg(test)]
 mod hints;
 #[cfg(test)]
 mod releases;
-#[cfg(test)]
-mod spelled;

@@ -1,7 +1,6 @@
 //! Processes that release a page, told what they see. All others run in `test_worked_turns`, event by event.
 
 use bl_proc::{Action, Answer, Proc, Process, Reclaim, Reclaimed, Seen};
-use std::test::Fail;
 
 /// What a release does next, as a number: a page that is seen, a process that is looked at, a page that is released.
 #[derive(Clone, Copy, Debug, PartialEq, Eq)]
@@ -41,9 +40,14 @@ fn tell<P: Process>(process: &mut P, retired: bool, started: usize, own: usize, 
     }
 }
 
+/// The page was kept.
+fn is_kept(reclaim: &Reclaim) -> bool {
+    reclaim.answer() == Some(Answer::Reclaim(Reclaimed::Kept))
+}
+
 // The third of four processes: it looks at all others, and not at itself.
 #[test]
-fn a_retired_page_is_released_after_a_look_at_all_others(rt: HostRuntime) -> Result<(), Fail> {
+fn a_retired_page_is_released_after_a_look_at_all_others(rt: HostRuntime) {
     let mut reclaim = Proc::reclaim(2);
     assert!(rt; does_next(&reclaim) == Does::Sees(2) && reclaim.needs().is_none());
     for wanted in [
@@ -58,27 +62,32 @@ fn a_retired_page_is_released_after_a_look_at_all_others(rt: HostRuntime) -> Res
         assert!(rt; does_next(&reclaim) == wanted);
     }
     assert!(rt; reclaim.answer() == Some(Answer::Reclaim(Reclaimed::Released)));
-    Ok(())
 }
 
 #[test]
-fn a_page_is_kept(rt: HostRuntime) -> Result<(), Fail> {
-    // it is not retired
+fn a_page_that_is_not_retired_is_kept(rt: HostRuntime) {
     let mut reclaim = Reclaim::new(1);
     tell(&mut reclaim, false, 4, 3, false);
-    assert!(rt; reclaim.answer() == Some(Answer::Reclaim(Reclaimed::Kept)));
-    // the second process blocks
+    assert!(rt; is_kept(&reclaim));
+}
+
+// The second process blocks.
+#[test]
+fn a_page_that_a_process_may_see_is_kept(rt: HostRuntime) {
     let mut reclaim = Reclaim::new(1);
     tell(&mut reclaim, true, 4, 3, false);
     tell(&mut reclaim, true, 4, 3, false);
     assert!(rt; does_next(&reclaim) == Does::Looks(2));
     tell(&mut reclaim, true, 4, 3, true);
-    assert!(rt; reclaim.answer() == Some(Answer::Reclaim(Reclaimed::Kept)));
-    // another released it before; there is no other process
+    assert!(rt; is_kept(&reclaim));
+}
+
+// There is no other process.
+#[test]
+fn a_page_that_another_released_before_is_kept(rt: HostRuntime) {
     let mut reclaim = Reclaim::new(1);
     tell(&mut reclaim, true, 1, 1, false);
     assert!(rt; does_next(&reclaim) == Does::Releases(1));
     tell(&mut reclaim, true, 1, 1, true);
-    assert!(rt; reclaim.answer() == Some(Answer::Reclaim(Reclaimed::Kept)));
-    Ok(())
+    assert!(rt; is_kept(&reclaim));
 }

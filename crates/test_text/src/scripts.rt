@@ -34,16 +34,14 @@ fn is_bad_at(rt: &HostRuntime, text: &[u8], kinds: Kinds, line: u64) -> bool {
 
 #[test]
 fn kinds_that_are_not_there(rt: HostRuntime) {
-    for line in [
-        b"part 1\n".as_slice(),
-        b"compress 1 9\n".as_slice(),
-        b"reclaim 1\n".as_slice(),
-    ] {
-        let mut text = Vec::new(rt.alloc());
-        assert!(rt; text.extend_from_slice(b"pages 4\n").is_ok());
-        assert!(rt; text.extend_from_slice(line).is_ok());
-        assert!(rt; is_bad_at(&rt, text.as_slice(), FEW, 2));
-        assert!(rt; script_of(rt.alloc(), text.as_slice(), ALL).is_ok());
+    let texts: [&[u8]; 3] = [
+        b"pages 4\npart 1\n",
+        b"pages 4\ncompress 1 9\n",
+        b"pages 4\nreclaim 1\n",
+    ];
+    for text in texts {
+        assert!(rt; is_bad_at(&rt, text, FEW, 2));
+        assert!(rt; script_of(rt.alloc(), text, ALL).is_ok());
     }
 }
 
@@ -74,9 +72,7 @@ impl<'a> Read for Slow<'a> {
         }
         if self.count > 0 {
             let count = buf.len().min(self.count);
-            for byte in buf[..count].iter_mut() {
-                *byte = self.byte;
-            }
+            buf[..count].fill(self.byte);
             self.count -= count;
             return Ok(count);
         }
@@ -137,21 +133,21 @@ fn a_read_that_fails_in_the_middle(rt: HostRuntime) {
     assert!(rt; slowly(alloc, b"pages 8\nfind\n", 0, b"", true) == Err(ScriptFault::Line(2)));
 }
 
+/// The script has so many commands or this fault, or memory was refused.
+fn is_or_wants_memory(alloc: Global, text: &[u8], wanted: Result<usize, ScriptFault>) -> bool {
+    match script_of(alloc, text, ALL) {
+        Ok(script) => wanted == Ok(script.commands.len()),
+        Err(fault) => fault == ScriptFault::Memory || wanted == Err(fault),
+    }
+}
+
 /// Holds whichever allocation is refused: the answer is Memory, or that of ample memory.
 #[test]
 fn memory_or_the_script(rt: HostRuntime) {
-    match script_of(
-        rt.alloc(),
-        b"pages 8\nfind 1\nturn 1\nrefuse 1\nrun 1 2\nturn 1\n",
-        ALL,
-    ) {
-        Ok(script) => assert_eq!(rt; script.commands.len(), 5),
-        Err(fault) => assert_eq!(rt; fault, ScriptFault::Memory),
-    }
-    match script_of(rt.alloc(), b"pages 8\nfind 1\nturn 2\n", ALL) {
-        Ok(_) => assert!(rt; false),
-        Err(fault) => assert!(rt; fault == ScriptFault::Memory || fault == ScriptFault::Line(3)),
-    }
+    let text = b"pages 8\nfind 1\nturn 1\nrefuse 1\nrun 1 2\nturn 1\n";
+    assert!(rt; is_or_wants_memory(rt.alloc(), text, Ok(5)));
+    let text = b"pages 8\nfind 1\nturn 2\n";
+    assert!(rt; is_or_wants_memory(rt.alloc(), text, Err(ScriptFault::Line(3))));
 }
 
 #[test]

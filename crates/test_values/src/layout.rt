@@ -8,15 +8,18 @@ fn small_store(rt: HostRuntime) {
         pages: 4,
         passes: 1,
     };
-    assert_eq!(rt; layout.frames(), 16);
-    assert_eq!(rt; layout.words(), 538);
-    assert_eq!(rt; layout.clock(), 0);
-    assert_eq!(rt; layout.process(0), 1);
-    assert_eq!(rt; layout.page(0), 2);
-    assert_eq!(rt; layout.page_owner(0), 6);
-    assert_eq!(rt; layout.frame_owner(0), 10);
-    assert_eq!(rt; layout.frame_word(0, 0), 26);
-    assert_eq!(rt; layout.frame_word(15, 31), 537);
+    let numbers = [
+        layout.frames() as usize,
+        layout.words(),
+        layout.clock(),
+        layout.process(0),
+        layout.page(0),
+        layout.page_owner(0),
+        layout.frame_owner(0),
+        layout.frame_word(0, 0),
+        layout.frame_word(15, 31),
+    ];
+    assert!(rt; numbers == [16, 538, 0, 1, 2, 6, 10, 26, 537]);
 }
 
 #[test]
@@ -25,9 +28,9 @@ fn largest_store(rt: HostRuntime) {
         pages: 65_536,
         passes: 64,
     };
-    assert_eq!(rt; layout.frames(), 131_584);
-    assert_eq!(rt; layout.words(), 4_473_409);
-    assert_eq!(rt; layout.number(Word::FrameWord(131_583, 31)), 4_473_408);
+    let last = layout.number(Word::FrameWord(131_583, 31));
+    let numbers = [layout.frames() as usize, layout.words(), last];
+    assert!(rt; numbers == [131_584, 4_473_409, 4_473_408]);
 }
 
 #[test]

@@ -2,6 +2,7 @@
 
 use bl_check::{Fault, Report};
 use bl_page::Page;
+use bl_serve_lines::print::push_number;
 use std::alloc::{AllocError, Global};
 use test_worked_lines::{count, said, shown_words};
 
@@ -15,6 +16,13 @@ pub fn maybe(alloc: Global, number: Option<u64>) -> Result<Vec<u8>, AllocError> 
         Some(number) => count(alloc, number),
         None => said(alloc, "none"),
     }
+}
+
+/// A word and a number.
+pub fn numbered(alloc: Global, word: &[u8], number: u32) -> Result<Vec<u8>, AllocError> {
+    let mut text = Vec::new(alloc);
+    push_number(&mut text, word, u64::from(number))?;
+    Ok(text)
 }
 
 /// The words of a page.

@@ -1,14 +1,18 @@
 //! Calls by their words.
 
 use crate::checks::Draft;
+use crate::maps::{applied, op_of};
 use crate::pages::{child, covers, drop_row, even, merge, read, row, with};
+use crate::ways::way;
+use bl_model::PlainMap;
 use std::alloc::{AllocError, Global};
 use test_worked_lines::{numbers_in, said};
 
-/// The image in the making.
+/// The image in the making, and the map.
 #[derive(Drop)]
 pub struct Bench {
     draft: Draft,
+    map: PlainMap,
 }
 
 /// A call on two pages.
@@ -31,15 +35,33 @@ fn on_one(alloc: Global, call: &str, numbers: &[u64]) -> Result<Vec<u8>, AllocEr
         ("child", [key, words @ ..]) => child(alloc, *key, words),
         ("without", [key, words @ ..]) => drop_row(alloc, *key, words),
         ("with", [key, value, words @ ..]) => with(alloc, *key, *value, words),
-        _ => said(alloc, "no such call"),
+        _ => way(alloc, call, numbers),
     }
 }
 
 impl Bench {
-    /// There is no image yet.
+    /// There is no image yet, and the map has no rows.
     pub fn new(alloc: Global) -> Bench {
         Bench {
             draft: Draft::empty(alloc),
+            map: PlainMap::new(alloc),
+        }
+    }
+
+    /// Makes a call on the map or on one page.
+    fn applied(
+        &mut self,
+        alloc: Global,
+        call: &str,
+        numbers: &[u64],
+    ) -> Result<Vec<u8>, AllocError> {
+        if call == "map" {
+            self.map = PlainMap::new(alloc);
+            return said(alloc, "begun");
+        }
+        match op_of(call, numbers) {
+            Some(op) => applied(alloc, &mut self.map, &op),
+            None => on_one(alloc, call, numbers),
         }
     }
 
@@ -61,7 +83,9 @@ impl Bench {
             ("alter", []) => self.draft.alter(alloc),
             ("check", changes) => self.draft.check(alloc, 1, changes),
             ("version", [version, changes @ ..]) => self.draft.check(alloc, *version, changes),
-            (_, numbers) => on_one(alloc, call, numbers),
+            ("read", changes) => self.draft.read(alloc, changes),
+            ("spelled", [page]) => self.draft.spelled(alloc, *page),
+            (_, numbers) => self.applied(alloc, call, numbers),
         }
     }
 }

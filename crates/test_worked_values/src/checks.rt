@@ -2,6 +2,9 @@
 
 use crate::answers::verdict;
 use bl_check::{Fault, check, load};
+use bl_image::{ImageFault, read};
+use bl_page::Page;
+use bl_serve_lines::print::push_number;
 use std::alloc::{AllocError, Global};
 use test_worked_lines::{count, page_words, said, shown_words};
 
@@ -83,6 +86,24 @@ impl Draft {
         verdict(alloc, found)
     }
 
+    /// What is read of the image with these changes: which pages are in use, or the fault.
+    pub fn read(&self, alloc: Global, changes: &[u64]) -> Result<Vec<u8>, AllocError> {
+        let bytes = self.bytes(alloc, 1, changes)?;
+        match read(alloc, bytes.as_slice()) {
+            Ok(image) => in_use(alloc, image.pages.as_slice()),
+            Err(fault) => said(alloc, format!(in alloc; "{fault:?}")?.as_str()),
+        }
+    }
+
+    /// The words of a page that was read.
+    pub fn spelled(&self, alloc: Global, page: u64) -> Result<Vec<u8>, AllocError> {
+        let bytes = self.bytes(alloc, 1, &[])?;
+        match read(alloc, bytes.as_slice()) {
+            Ok(image) => word_list(alloc, image.to_words(alloc)?.as_slice(), page),
+            Err(_) => said(alloc, "no image"),
+        }
+    }
+
     /// How many beginnings of the image, but for the whole, are refused for their head.
     pub fn cut(&self, alloc: Global) -> Result<Vec<u8>, AllocError> {
         let bytes = self.bytes(alloc, 1, &[])?;
@@ -112,14 +133,36 @@ impl Draft {
     }
 }
 
+/// How many pages there are, and which of them are in use.
+fn in_use(alloc: Global, pages: &[Option<Page>]) -> Result<Vec<u8>, AllocError> {
+    let mut text = count(alloc, pages.len() as u64)?;
+    text.extend_from_slice(b" pages, in use")?;
+    for (number, page) in pages.iter().enumerate() {
+        if page.is_some() {
+            push_number(&mut text, b" ", number as u64)?;
+        }
+    }
+    Ok(text)
+}
+
+/// The words of the page with that number.
+fn word_list(alloc: Global, pages: &[[u64; 32]], page: u64) -> Result<Vec<u8>, AllocError> {
+    match pages.get(page as usize) {
+        Some(words) => shown_words(alloc, words.as_slice()),
+        None => said(alloc, "no such page"),
+    }
+}
+
 fn counted(alloc: Global, refused: u64) -> Result<Vec<u8>, AllocError> {
     let mut text = count(alloc, refused)?;
     text.extend_from_slice(b" are refused")?;
     Ok(text)
 }
 
+/// The bytes are not read for their head, and the checker says so.
 fn breaks_the_head(alloc: Global, bytes: &[u8]) -> bool {
     check(alloc, bytes) == Err(Fault::Rule { rule: 1, page: 0 })
+        && read(alloc, bytes).err() == Some(ImageFault::Head)
 }
 
 /// Turns bits of the byte at that place.

@@ -1,4 +1,4 @@
-//! Makes the calls that its input names, on pages and on images, and compares what each gives with what the input says. A line is
+//! Makes the calls that its input names, on pages, on images and on a plain map, and compares what each gives with what the input says. A line is
 //! a call and its answer, with ` = ` between them, as in `row 7 8589934593 0 0 0 7 70 = 70`. Lines without ` = ` are comments.
 //! Pages are given by their words, of which zeros at the end are left out; two pages have ` | ` between them.
 //!
@@ -11,18 +11,28 @@
 //! | `with KEY WORD WORDS` | the page with that pair more, or the two pages into which it is parted, of which the new one is page 2 |
 //! | `without KEY WORDS` | the leaf without that row |
 //! | `merge WORDS \| WORDS`, `even WORDS \| WORDS` | one page for both; both with as many pairs, with the separator and the side that gains |
+//! | `levels WORDS`, `top WORDS`, `level WORDS`, `pairs WORDS` | what the words of a page say: how many levels, the page on top, its level; and how many pairs the page has |
+//! | `step LEVEL KEY WORDS`, `step-reads LEVEL KEY WORDS` | where the page leads on the way to the key on a level, and how many of its words are read |
+//! | `listed KEY WORDS`, `listed-reads KEY WORDS` | what the words of a leaf list with the key, and how many of them are read |
+//! | `enter LEVEL KEY WORDS`, `onward PAGE LEVEL KEY WORDS`, `latched PAGE LEVEL KEY WORDS` | where a writer to a level goes by the words: at the anchor, at a page, and where it holds one |
 //! | `image PAGES` | begins an image with so many pages that are not in use |
 //! | `put PAGE WORDS` | writes a page's words into it |
 //! | `bytes FROM` | eight bytes of it |
 //! | `check [PAGE PLACE WORD]..` | what the checker finds in it, with these words of pages made others |
 //! | `version NUMBER [PAGE PLACE WORD]..` | the same with another version in its head |
+//! | `read [PAGE PLACE WORD]..` | how many pages are read of it, and which are in use, or the fault |
+//! | `spelled PAGE` | the words of a page that was read |
 //! | `cut`, `alter` | how many images are refused for their head: beginnings of it, and with one of the first 32 bytes altered in any way |
+//! | `map` | begins a map without rows |
+//! | `find KEY`, `insert KEY VALUE`, `delete KEY`, `part FROM` | what the map replies |
 #![tactic(auto)]
 
 mod answers;
 mod calls;
 mod checks;
+mod maps;
 mod pages;
+mod ways;
 
 use calls::Bench;
 use test_worked_lines::{Tally, call_of};
