@@ -1,5 +1,5 @@
 -- How far a section was read.
-use Rattle.std.proofs.Common.{◌≡◌, ◌≢◌, ℕ, List, [], ◌∷◌, ◌++◌, sym, ap, ◌∙◌, subst, append_assoc, append-nil}
+use Rattle.std.proofs.Common.{◌≡◌, ◌≢◌, ℕ, zero, suc, ◌+◌, List, [], ◌∷◌, ◌++◌, length, drop, refl, sym, ap, ◌∙◌, subst, append_assoc, append-nil, arith}
 use Rattle.std.specs.Prelude.{Option, Some}
 use Rattle.std.proofs.lemmas.List.{flat_map_more}
 use Rattle.std.proofs.lemmas.List.Elements.{All-nil, All-push}
@@ -51,3 +51,11 @@ reads_end source more x left new lines r is none = reads_rest source more x left
 -- it failed
 pub reads_failed : (source more x left new bytes : List ℕ) (lines : List (Option Request)) → ReadsLines (source ++ more) left lines [] → left ++ x ≡ bytes → new ≡ [] → HasNoLf bytes → ReadsLines (source ++ (more ++ x)) new lines bytes
 reads_failed source more x left new bytes lines r is none cut = reads_rest source more x left new bytes lines r (is ∙ (sym (append-nil bytes) ∙ ap (λ z. bytes ++ z) (sym none))) cut
+
+-- what stands behind a line and its LF
+pub behind_line : (line rest : List ℕ) (n : ℕ) → n ≡ length line + 1 → drop n (line ++ 10 ∷ rest) ≡ rest
+behind_line [] rest zero is = absurd (omega arith)
+behind_line [] rest (suc zero) is = refl
+behind_line [] rest (suc (suc n)) is = absurd (omega arith)
+behind_line (b ∷ line) rest zero is = absurd (omega arith)
+behind_line (b ∷ line) rest (suc n) is = behind_line line rest n (omega arith)

@@ -1,7 +1,6 @@
 -- A section that was answered.
-use Rattle.std.specs.Prelude.{◌≡◌, ℕ, ◌++◌, List, All, Option, flat_map, map, Result, Ok}
+use Rattle.std.specs.Prelude.{◌≡◌, ℕ, ◌++◌, List, All, Option, false, flat_map, map}
 use Rattle.std.specs.List.{AllZip}
-use Rattle.std.specs.declared.alloc.AllocError.{AllocError}
 use Rattle.bl_model.specs.declared.operation.Entry.{Entry}
 use Rattle.bl_serve_lines.specs.declared.request.Request.{Request}
 use Rattle.bl_serve_lines.specs.Lines.{Answer, entries}
@@ -11,7 +10,7 @@ use Rattle.bl_claims.specs.Seeing.{IsSeen, own, GoesOnFrom}
 use Rattle.bl_index.specs.declared.index.Pass.{Pass}
 use Rattle.bl_index.specs.Calls.{IsSamePass, number_of, trail}
 use Rattle.bl_serve.specs.declared.working.Written.{Written}
-use Rattle.bl_serve.specs.declared.working.Worked.{Worked}
+use Rattle.bl_serve.specs.declared.working.Desk.{Desk}
 use Rattle.bl_serve.specs.Answering.{IsFor, answers_text}
 
 -- a pass before and after a section, and the entries of the batches that its thread answered
@@ -42,9 +41,7 @@ pub record IsRound (first : List (Option Page)) (number : ℕ) (lines : List (Op
   pub each_taken : All (IsTaken first) taken
   pub weaves : Weaves taken answers
 
--- what the threads gave back: their passes, and what they wrote
-pub record Gathers (results : List (Result Worked AllocError)) (passes : List Pass) (written : List Written) : Type 0 where
-  pub worked : List Worked
-  pub are : map (λ w. Ok w) worked ≡ results
-  pub passes_are : passes ≡ map (λ w. w.pass) worked
-  pub written_are : written ≡ flat_map (λ w. w.log.items) worked
+-- what was written at the desks, for all of which there was memory
+pub record Gathers (desks : List Desk) (written : List Written) : Type 0 where
+  pub none_failed : All (λ (d : Desk). d.failed ≡ false) desks
+  pub written_are : written ≡ flat_map (λ d. d.log.items) desks

@@ -1,5 +1,5 @@
--- What a thread of a section gives back.
-use Rattle.std.specs.Prelude.{◌≡◌, ℕ, ◌+◌, ◌-◌, ◌<◌, ◌≤◌, ◌++◌, List, [], All, Option, flat_map, map, length, take, drop}
+-- What a pass does in a section.
+use Rattle.std.specs.Prelude.{◌≡◌, ℕ, ◌+◌, ◌-◌, ◌<◌, ◌≤◌, ◌++◌, List, [], ◌∷◌, All, Option, false, flat_map, map, length, take, drop}
 use Rattle.std.specs.List.{AllZip}
 use Rattle.bl_serve_lines.specs.declared.request.Request.{Request}
 use Rattle.bl_serve_lines.specs.Lines.{Answer, entries}
@@ -9,7 +9,7 @@ use Rattle.bl_claims.specs.Seeing.{IsSeen, own, GoesOnFrom}
 use Rattle.bl_index.specs.declared.index.Pass.{Pass}
 use Rattle.bl_index.specs.Calls.{IsSamePass, number_of, trail}
 use Rattle.bl_serve.specs.declared.working.Written.{Written}
-use Rattle.bl_serve.specs.declared.working.Worked.{Worked}
+use Rattle.bl_serve.specs.declared.working.Desk.{Desk}
 use Rattle.bl_serve.specs.Answering.{IsFor, answers_text}
 
 -- a batch's output, and the answers that it prints
@@ -37,6 +37,16 @@ pub record Logs (first : List (Option Page)) (number : ℕ) (lines : List (Optio
   pub seen : IsSeen first old → IsSeen first new
   pub mine : own pass new ≡ own pass old ++ flat_map (λ p. flat_map entries p.answers) pieces
 
--- The pass comes back with the log of what its thread wrote.
-abbrev pub IsTurn : List (Option Page) → ℕ → List (Option Request) → Pass → Worked → Type 0
-IsTurn first number lines old worked = IsSamePass old worked.pass × Logs first number lines (number_of old) (trail old) (trail worked.pass) [] worked.log.items
+-- A pass has had its turn, and what it wrote stands in the log of its desk.
+abbrev pub IsTurn : List (Option Page) → ℕ → List (Option Request) → Pass → Pass → Desk → Type 0
+IsTurn first number lines old new desk = Logs first number lines (number_of old) (trail old) (trail new) [] desk.log.items
+
+-- It has had its turn, if there was memory for what it wrote.
+abbrev pub TakesTurn : List (Option Page) → ℕ → List (Option Request) → Pass → Pass → Desk → Type 0
+TakesTurn first number lines old new desk = IsSamePass old new × (desk.failed ≡ false → IsTurn first number lines old new desk)
+
+-- Each of these passes has, at the desk that has its place.
+abbrev pub TakeTurns : List (Option Page) → ℕ → List (Option Request) → List Pass → List Pass → List Desk → Type 0
+TakeTurns first number lines [] [] [] = Unit {0}
+TakeTurns first number lines (old ∷ olds) (new ∷ news) (desk ∷ desks) = TakesTurn first number lines old new desk × TakeTurns first number lines olds news desks
+TakeTurns first number lines olds news desks = ⊥

@@ -154,25 +154,18 @@ fn follow_some<R: Wait>(rt: &R, index: &Index, hints: &Hints, pass: &mut Pass)
 }
 
 /// Follows hints until the workers have ended, and some at least.
-pub fn follow_hints<R: Wait>(
-    rt: &R,
-    index: &Index,
-    hints: &Hints,
-    shift: &Shift,
-    pass: Pass,
-) -> Pass
-    requires { IsPassOf index.now pass }
-    ensures same { IsSamePass pass result }
-    ensures adds { Adds (first_of index.now) (number_of pass) (trail pass) (trail result) }
+pub fn follow_hints<R: Wait>(rt: &R, index: &Index, hints: &Hints, shift: &Shift, pass: &mut Pass)
+    requires { IsPassOf index.now pass.old }
+    ensures same { IsSamePass pass.old pass.new }
+    ensures adds { Adds (first_of index.now) (number_of pass.old) (trail pass.old) (trail pass.new) }
 {
-    let mut pass = pass;
-    follow_some(rt, index, hints, &mut pass);
+    follow_some(rt, index, hints, pass);
     for _ in rt.forever() {
         let rung = shift.bell.load(Ordering::SeqCst);
         if shift.working.load(Ordering::SeqCst) == 0 {
-            return pass;
+            return;
         }
-        let followed = follow_hint(rt, index, hints, &mut pass);
+        let followed = follow_hint(rt, index, hints, pass);
         shift.rest(rt, hints, rung, followed);
     }
     unreachable!()

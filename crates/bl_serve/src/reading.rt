@@ -45,6 +45,12 @@ fn read_line<R: Read>(
         × ReadsLine (source.old ++ more) bytes result source.new
         (IsAtEnd (R.remaining reader.new.inner)) (reader.new.failed ≡ true) }
 {
+    if let Some(front) = source.front() {
+        let asked = parse(front);
+        let taken = front.len() + 1;
+        source.pass_over(taken);
+        return Ok(Reading::Line(asked));
+    }
     match source.next_line(reader, line) {
         Ok(Cut::Whole) => Ok(Reading::Line(parse(line.as_slice()))),
         Ok(Cut::Long) => Ok(Reading::Line(None)),

@@ -1,8 +1,9 @@
 //! A section is answered: its batches are given out, threads work on them, and all are joined.
 
-ghost use Rattle.std.specs.Prelude.{◌≡◌, ℕ, suc, ◌+◌, ◌<◌, ◌≤◌, ◌^◌, length, map, All, IfOk, IfErr, vec_len, slice_index_or};
+ghost use Rattle.std.specs.Prelude.{◌≡◌, suc, ◌+◌, ◌<◌, ◌≤◌, ◌^◌, ◌++◌, false, length, All, IfOk, IfErr, OnOk, vec_len};
 ghost use Rattle.bl_index.specs.Calls.{first_of, IsPassOf};
-ghost use Rattle.bl_serve.specs.Turns.{IsTurn};
+ghost use Rattle.std.specs.Thread.{IsSync};
+ghost use Rattle.bl_serve.specs.Turns.{TakeTurns};
 ghost use Rattle.bl_serve.specs.Rounds.{IsRound, Gathers};
 ghost use Rattle.bl_serve.specs.Serving.{AreTogether, HoldsSection, IsInside, seen_by};
 
@@ -10,7 +11,7 @@ use crate::compressing::Shift;
 use crate::gate::Gate;
 use crate::joining::collect;
 use crate::meeting::meet_all;
-use crate::working::{Batch, Turn, Worked, Written, take_turn};
+use crate::working::{Batch, Desk, Duty, Written, take_turn};
 use bl_hints::Hints;
 use bl_index::{Index, Pass};
 use bl_model::Op;
@@ -19,8 +20,7 @@ use bl_serve_lines::request::Request;
 use crossbeam_channel::{Receiver, unbounded};
 use std::alloc::{AllocError, Global};
 use std::sync::Wait;
-use std::thread;
-use std::thread::Threads;
+use std::thread::{Threads, join_mut};
 
 /// How many lines a batch has at most.
 const LONGEST: usize = 256;
@@ -69,27 +69,59 @@ fn batches<R: Wait>(
     Ok(receiver)
 }
 
-/// A turn for each pass: the first ones serve, the others compress.
-fn turns(alloc: Global, passes: Vec<Pass>, workers: usize) -> Result<Vec<Turn>, AllocError>
-    ensures { IfOk result (λ v. map (λ t. t.pass) v.items ≡ passes.items) }
-{
-    let mut passes = passes;
-    let count = passes.len();
-    let mut turns = Vec::with_capacity(alloc, count)?;
-    for number in 0..count {
-        let pass = passes.remove(0);
-        turns.push(Turn {
-            pass,
-            serves: number < workers,
-        })?;
-    }
-    Ok(turns)
+/// Which passes work in a section. The others rest, and keep the words of those that work out of common cache lines.
+#[derive(Clone, Copy, Debug, PartialEq, Eq)]
+pub struct Crew {
+    pub workers: usize,
+    pub compressors: usize,
+    /// The number of the first pass that works.
+    pub first: usize,
+    /// The numbers of the others follow in steps of this, at least 1: those of the workers, and then those of the compressors.
+    pub apart: usize,
 }
 
-/// How many of the turns are worth a thread of their own. A lone request needs none; else there are two at least, and more where
+impl Crew {
+    /// How many work.
+    fn size(&self) -> usize {
+        self.workers.saturating_add(self.compressors)
+    }
+
+    /// The duty of the pass of that number.
+    fn duty(&self, number: usize) -> Duty {
+        let apart = self.apart.max(1);
+        if number < self.first || (number - self.first) % apart != 0 {
+            return Duty::Rest;
+        }
+        let place = (number - self.first) / apart;
+        if place < self.workers {
+            Duty::Serve
+        } else if place < self.size() {
+            Duty::Compress
+        } else {
+            Duty::Rest
+        }
+    }
+}
+
+/// A desk for each of so many passes.
+pub fn desks(alloc: Global, count: usize, crew: Crew) -> Result<Vec<Desk>, AllocError>
+    ensures { IfOk result (λ v. vec_len v ≡ count) }
+{
+    let mut desks = Vec::with_capacity(alloc, count)?;
+    for number in 0..count {
+        desks.push(Desk {
+            duty: crew.duty(number),
+            log: Vec::new(alloc),
+            failed: false,
+        })?;
+    }
+    Ok(desks)
+}
+
+/// How many threads are worth their time. A lone request is answered by this thread; else there are two at least, and more where
 /// there are more requests, up to the number of workers. Where there are many, and deletions among them, compressors work beside
 /// them.
-fn threads_for(lines: &[Option<Request>], workers: usize, passes: usize) -> usize {
+fn threads_for(lines: &[Option<Request>], crew: Crew) -> usize {
     let asked = lines
         .iter()
         .filter(|asked| matches!(asked, Some(Request::Ask(_) | Request::Scan(..))))
@@ -99,47 +131,30 @@ fn threads_for(lines: &[Option<Request>], workers: usize, passes: usize) -> usiz
         .filter(|asked| matches!(asked, Some(Request::Ask(Op::Delete(_)))))
         .count();
     if asked < 2 {
-        0
+        1
     } else if asked >= MANY && deleted > 0 {
-        passes
+        crew.size()
     } else {
-        (asked / REQUESTS_A_THREAD).max(2).min(workers)
+        (asked / REQUESTS_A_THREAD).max(2).min(crew.workers)
     }
 }
 
-/// Each turn is carried out by a thread.
-fn work_abreast<R: Threads + Wait + Sync, G: Gate + Sync>(
-    rt: &R,
-    alloc: Global,
-    index: &Index,
-    hints: &Hints,
-    gate: &G,
-    shift: &Shift,
-    batches: &Receiver<Batch>,
-    done: u64,
-    lines: &[Option<Request>],
-    turns: Vec<Turn>,
-) -> Result<Vec<Result<Worked, AllocError>>, AllocError>
-    requires own { All (λ t. IsPassOf index.now t.pass) turns.items }
-    requires room { done + length lines.now < 2 ^ 64 }
-    ensures len { IfOk result (λ v. vec_len v ≡ vec_len turns) }
-    ensures each { IfOk result (λ v. (i : ℕ) (t : _) (d : _) → i < vec_len turns → IfOk (slice_index_or v.items i d) (IsTurn (first_of index.now) (suc done) lines.now (slice_index_or turns.items i t).pass)) }
-{
-    thread::map_vec(
-        rt,
-        turns,
-        &|turn: Turn| -> Result<Worked, AllocError>
-            requires { IsPassOf index.now turn.pass × (done + length lines.now < 2 ^ 64) }
-            ensures { IfOk result (IsTurn (first_of index.entry.now) (suc done) lines.entry.now turn.pass) }
-        {
-            take_turn(
-                rt, alloc, index, hints, gate, shift, batches, done, lines, turn,
-            )
-        },
-    )
+/// The place behind so many desks with work, and behind those that rest there.
+fn behind(desks: &[Desk], many: usize) -> usize {
+    let mut left = many;
+    for number in 0..desks.len() {
+        if desks[number].duty != Duty::Rest {
+            if left == 0 {
+                return number;
+            }
+            left -= 1;
+        }
+    }
+    desks.len()
 }
 
-/// The turns are carried out one after another.
+/// The passes take their turns one after another, each at its desk.
+#[cycle(in_turn)]
 fn work_in_turn<R: Wait, G: Gate>(
     rt: &R,
     alloc: Global,
@@ -150,28 +165,32 @@ fn work_in_turn<R: Wait, G: Gate>(
     batches: &Receiver<Batch>,
     done: u64,
     lines: &[Option<Request>],
-    turns: Vec<Turn>,
-) -> Result<Vec<Result<Worked, AllocError>>, AllocError>
-    requires own { All (λ t. IsPassOf index.now t.pass) turns.items }
+    passes: &mut [Pass],
+    desks: &mut [Desk],
+)
+    requires own { All (IsPassOf index.now) passes.old }
     requires room { done + length lines.now < 2 ^ 64 }
-    ensures len { IfOk result (λ v. vec_len v ≡ vec_len turns) }
-    ensures each { IfOk result (λ v. (i : ℕ) (t : _) (d : _) → i < vec_len turns → IfOk (slice_index_or v.items i d) (IsTurn (first_of index.now) (suc done) lines.now (slice_index_or turns.items i t).pass)) }
+    requires desks { length desks.old ≡ length passes.old }
+    ensures { TakeTurns (first_of index.now) (suc done) lines.now passes.old passes.new desks.new }
 {
-    let mut turns = turns;
-    let count = turns.len();
-    let mut results = Vec::with_capacity(alloc, count)?;
-    for _number in 0..count {
-        let turn = turns.remove(0);
-        let worked = take_turn(
-            rt, alloc, index, hints, gate, shift, batches, done, lines, turn,
-        );
-        results.push(worked)?;
-    }
-    Ok(results)
+    let Some((pass, others)) = passes.split_first_mut() else {
+        return;
+    };
+    let Some((desk, rest)) = desks.split_first_mut() else {
+        return;
+    };
+    take_turn(
+        rt, alloc, index, hints, gate, shift, batches, done, lines, pass, desk,
+    );
+    work_in_turn(
+        rt, alloc, index, hints, gate, shift, batches, done, lines, others, rest,
+    );
 }
 
-/// So many turns are carried out by threads, and then the others by this one.
-fn work<R: Threads + Wait + Sync, G: Gate + Sync>(
+/// The passes take their turns, those of so many desks with work in one thread. This thread makes all others, and works as they do:
+/// a thread that another new one makes would often wait for a processor.
+#[cycle(abreast)]
+fn work_abreast<R: Threads + Wait + Sync, G: Gate + Sync>(
     rt: &R,
     alloc: Global,
     index: &Index,
@@ -181,72 +200,108 @@ fn work<R: Threads + Wait + Sync, G: Gate + Sync>(
     batches: &Receiver<Batch>,
     done: u64,
     lines: &[Option<Request>],
-    turns: Vec<Turn>,
-    threads: usize,
-) -> Result<Vec<Result<Worked, AllocError>>, AllocError>
-    requires own { All (λ t. IsPassOf index.now t.pass) turns.items }
+    many: usize,
+    passes: &mut [Pass],
+    desks: &mut [Desk],
+)
+    requires own { All (IsPassOf index.now) passes.old }
     requires room { done + length lines.now < 2 ^ 64 }
-    ensures len { IfOk result (λ v. vec_len v ≡ vec_len turns) }
-    ensures each { IfOk result (λ v. (i : ℕ) (t : _) (d : _) → i < vec_len turns → IfOk (slice_index_or v.items i d) (IsTurn (first_of index.now) (suc done) lines.now (slice_index_or turns.items i t).pass)) }
+    requires desks { length desks.old ≡ length passes.old }
+    ensures { TakeTurns (first_of index.now) (suc done) lines.now passes.old passes.new desks.new }
 {
-    let mut turns = turns;
-    let later = turns.split_off(threads.min(turns.len()))?;
-    let mut results = work_abreast(
-        rt, alloc, index, hints, gate, shift, batches, done, lines, turns,
-    )?;
-    let mut others = work_in_turn(
-        rt, alloc, index, hints, gate, shift, batches, done, lines, later,
-    )?;
-    results.append(&mut others)?;
-    Ok(results)
-}
-
-/// The passes come back, and what was written.
-fn gather(
-    alloc: Global,
-    results: Vec<Result<Worked, AllocError>>,
-) -> Result<(Vec<Pass>, Vec<Written>), AllocError>
-    ensures { IfOk result (λ t. Gathers results.items t.0.items t.1.items) }
-{
-    let mut results = results;
-    let count = results.len();
-    let mut passes = Vec::with_capacity(alloc, count)?;
-    let mut written = Vec::new(alloc);
-    for _number in 0..count {
-        let Worked { pass, log } = results.remove(0)?;
-        let mut log = log;
-        passes.push(pass)?;
-        written.append(&mut log)?;
+    let place = behind(desks, many);
+    if place == 0 || passes.len() <= place {
+        work_in_turn(
+            rt, alloc, index, hints, gate, shift, batches, done, lines, passes, desks,
+        );
+        return;
     }
-    Ok((passes, written))
+    let (some, others) = passes.split_at_mut(place);
+    let (theirs, rest) = desks.split_at_mut(place);
+    join_mut(
+        rt,
+        &mut ||
+            requires { All (IsPassOf index.now) some.now × (done + length lines.now < 2 ^ 64) × (length theirs.now ≡ length some.now) }
+            ensures { TakeTurns (first_of index.entry.now) (suc done) lines.entry.now some.entry.now some.exit.now theirs.exit.now }
+        {
+            work_in_turn(
+                rt, alloc, index, hints, gate, shift, batches, done, lines, some, theirs,
+            )
+        },
+        &mut ||
+            requires { IsSync R.row × IsSync G.row × All (IsPassOf index.now) others.now × (done + length lines.now < 2 ^ 64) × (length rest.now ≡ length others.now) }
+            ensures { TakeTurns (first_of index.entry.now) (suc done) lines.entry.now others.entry.now others.exit.now rest.exit.now }
+        {
+            work_abreast(
+                rt, alloc, index, hints, gate, shift, batches, done, lines, many, others, rest,
+            )
+        },
+    );
 }
 
-/// Answers the lines of a section, before which so many others stood. Gives the passes back with the output.
+/// What was written at a desk goes behind the rest, if there was memory for all of it.
+fn hand_in(desk: &mut Desk, written: &mut Vec<Written>) -> Result<(), AllocError>
+    ensures { OnOk result ((desk.old.failed ≡ false) × (written.new.items ≡ written.old.items ++ desk.old.log.items)) }
+{
+    if desk.failed {
+        return Err(AllocError);
+    }
+    written.append(&mut desk.log)
+}
+
+/// What was written at the desks.
+fn gather(alloc: Global, desks: &mut Vec<Desk>) -> Result<Vec<Written>, AllocError>
+    ensures len { vec_len desks.new ≡ vec_len desks.old }
+    ensures gathers { IfOk result (λ written. Gathers desks.old.items written.items) }
+{
+    let mut written = Vec::new(alloc);
+    for number in 0..desks.len() {
+        hand_in(&mut desks[number], &mut written)?;
+    }
+    Ok(written)
+}
+
+/// Answers the lines of a section, before which so many others stood, each pass at the desk that has its place. Gives the passes back
+/// with the output.
 pub fn answer_section<R: Threads + Wait + Sync, G: Gate + Sync>(
     rt: &R,
     alloc: Global,
     index: &Index,
     hints: &Hints,
     gate: &G,
-    workers: usize,
+    crew: Crew,
     passes: Vec<Pass>,
+    desks: &mut Vec<Desk>,
     done: u64,
     lines: &[Option<Request>],
 ) -> Result<(Vec<Pass>, Vec<u8>), ServeFault>
     requires own { All (IsPassOf index.now) passes.items }
     requires room { done + length lines.now < 2 ^ 64 }
+    requires desks { vec_len desks.old ≡ vec_len passes }
+    ensures desks { vec_len desks.new ≡ vec_len desks.old }
     ensures own { IfOk result (λ t. All (IsPassOf index.now) t.0.items) }
     ensures fault { IfErr result (IsInside done (length lines.now)) }
     ensures round { IfOk result (λ t. IsRound (first_of index.now) (suc done) lines.now t.1.items passes.items t.0.items) }
 {
-    let batches = batches(rt, alloc, lines.len(), workers)?;
-    let shift = Shift::new(workers as u64);
-    let threads = threads_for(lines, workers, passes.len());
-    let turns = turns(alloc, passes, workers)?;
-    let results = work(
-        rt, alloc, index, hints, gate, &shift, &batches, done, lines, turns, threads,
-    )?;
-    let (passes, written) = gather(alloc, results)?;
+    let mut passes = passes;
+    let batches = batches(rt, alloc, lines.len(), crew.workers)?;
+    let shift = Shift::new(crew.workers as u64);
+    let many = crew.size().div_ceil(threads_for(lines, crew).max(1));
+    work_abreast(
+        rt,
+        alloc,
+        index,
+        hints,
+        gate,
+        &shift,
+        &batches,
+        done,
+        lines,
+        many,
+        passes.as_mut_slice(),
+        desks.as_mut_slice(),
+    );
+    let written = gather(alloc, desks)?;
     let text = collect(alloc, written, done, lines.len())?;
     Ok((passes, text))
 }
@@ -258,18 +313,23 @@ pub fn hold_section<R: Threads + Wait + Sync, G: Gate + Sync>(
     index: &Index,
     hints: &Hints,
     gate: &G,
-    workers: usize,
+    crew: Crew,
     passes: Vec<Pass>,
+    desks: &mut Vec<Desk>,
     done: u64,
     lines: &[Option<Request>],
 ) -> Result<(Vec<Pass>, Vec<u8>), ServeFault>
     requires together { AreTogether index.now (seen_by passes.items) passes.items }
     requires some { 0 < vec_len passes }
     requires room { done + length lines.now < 2 ^ 64 }
+    requires desks { vec_len desks.old ≡ vec_len passes }
+    ensures desks { vec_len desks.new ≡ vec_len desks.old }
     ensures held { IfOk result (λ t. HoldsSection index.now done lines.now t.1.items passes.items t.0.items) }
     ensures fault { IfErr result (IsInside done (length lines.now)) }
 {
-    let (back, text) = answer_section(rt, alloc, index, hints, gate, workers, passes, done, lines)?;
+    let (back, text) = answer_section(
+        rt, alloc, index, hints, gate, crew, passes, desks, done, lines,
+    )?;
     let mut passes = back;
     meet_all(index, passes.as_mut_slice());
     Ok((passes, text))

@@ -10,7 +10,8 @@ ghost use Rattle.bl_serve.specs.Serving.{AreTogether, IsInside, Serves, ServesSe
 
 use crate::gate::Gate;
 use crate::reading::{SectionEnd, read_section};
-use crate::rounds::hold_section;
+use crate::rounds::{Crew, desks, hold_section};
+use crate::working::Desk;
 use bl_hints::Hints;
 use bl_index::{Index, Pass};
 use bl_model::{Watched, write_out};
@@ -56,8 +57,9 @@ fn serve_section<T: Threads + Wait + Sync, G: Gate + Sync>(
     index: &Index,
     hints: &Hints,
     gate: &G,
-    workers: usize,
+    crew: Crew,
     passes: Vec<Pass>,
+    desks: &mut Vec<Desk>,
     lines: &[Option<Request>],
     end: SectionEnd,
     totals: &mut Totals,
@@ -67,6 +69,8 @@ fn serve_section<T: Threads + Wait + Sync, G: Gate + Sync>(
     requires requests { totals.old.requests + length lines.now + rests end < 2 ^ 64 }
     requires malformed { totals.old.malformed ≤ totals.old.requests }
     requires sections { totals.old.sections + syncs end < 2 ^ 64 }
+    requires desks { vec_len desks.old ≡ vec_len passes }
+    ensures desks { vec_len desks.new ≡ vec_len desks.old }
     ensures counts { OnOk result (CountsSection totals.old totals.new lines.now end) }
     ensures serves { IfOk result (λ t. ServesSection index.now totals.old.requests lines.now end t.1.items passes.items t.0.items) }
     ensures fault { IfErr result (IsInside totals.old.requests (length lines.now)) }
@@ -77,8 +81,9 @@ fn serve_section<T: Threads + Wait + Sync, G: Gate + Sync>(
         index,
         hints,
         gate,
-        workers,
+        crew,
         passes,
+        desks,
         totals.requests,
         lines,
     )?;
@@ -123,7 +128,39 @@ pub fn serve<T: Threads + Wait + Sync, R: Read, W: Write, G: Gate + Sync>(
         (λ fault. Stops (map_after (first_of index.now) (seen_by passes.items)) (input ++ ahead) output fault
         (reader.new.failed ≡ true) (writer.new.failed ≡ true)) }
 {
+    let crew = Crew {
+        workers,
+        compressors: passes.len() - workers,
+        first: 0,
+        apart: 1,
+    };
+    serve_with(rt, alloc, index, passes, reader, writer, gate, crew)
+}
+
+/// The same by a crew, of which the passes that do not work keep the words of the others apart.
+pub fn serve_with<T: Threads + Wait + Sync, R: Read, W: Write, G: Gate + Sync>(
+    rt: &T,
+    alloc: Global,
+    index: &Index,
+    passes: Vec<Pass>,
+    reader: &mut Watched<R>,
+    writer: &mut Watched<W>,
+    gate: &G,
+    crew: Crew,
+) -> Result<(Totals, Vec<Pass>), ServeFault>
+    requires together { AreTogether index.now (seen_by passes.items) passes.items }
+    requires some { 0 < vec_len passes }
+    ensures { (input : List ℕ) × (ahead : List ℕ) × (output : List ℕ)
+        × Consumes (R.remaining reader.old.inner) (R.remaining reader.new.inner) (input ++ ahead)
+        × Appends (W.contents writer.old.inner) (W.contents writer.new.inner) output
+        × MatchResult result
+        (λ t. Serves index.now passes.items t.1.items input output t.0
+        × EndsRead input ahead (IsAtEnd (R.remaining reader.new.inner)))
+        (λ fault. Stops (map_after (first_of index.now) (seen_by passes.items)) (input ++ ahead) output fault
+        (reader.new.failed ≡ true) (writer.new.failed ≡ true)) }
+{
     let hints = Hints::new(alloc)?;
+    let mut desks = desks(alloc, passes.len(), crew)?;
     let mut source = Source::new(alloc)?;
     let mut lines = Vec::new(alloc);
     let mut passes = passes;
@@ -141,8 +178,9 @@ pub fn serve<T: Threads + Wait + Sync, R: Read, W: Write, G: Gate + Sync>(
             index,
             &hints,
             gate,
-            workers,
+            crew,
             passes,
+            &mut desks,
             lines.as_slice(),
             end,
             &mut totals,

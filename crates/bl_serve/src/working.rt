@@ -1,8 +1,9 @@
 //! What the threads of a section do: workers take batches of lines from a channel, compressors follow hints.
 
-ghost use Rattle.std.specs.Prelude.{◌≡◌, suc, ◌+◌, ◌<◌, ◌^◌, length, IfOk, OnOk};
+ghost use Rattle.std.specs.Prelude.{◌≡◌, suc, ◌+◌, ◌<◌, ◌^◌, [], length, OnOk};
 ghost use Rattle.bl_index.specs.Calls.{first_of, IsPassOf, IsSamePass, number_of, trail};
-ghost use Rattle.bl_serve.specs.Turns.{IsTurn, Logs};
+ghost use Rattle.bl_serve.specs.Turns.{Logs, TakesTurn};
+ghost use Rattle.bl_serve.specs.Works.{Adds};
 
 use crate::answering::answer_lines;
 use crate::compressing::{Shift, follow_hints};
@@ -29,19 +30,24 @@ pub struct Written {
     pub text: Vec<u8>,
 }
 
-/// A thread is to work with a pass.
-#[derive(Drop)]
-pub struct Turn {
-    pub pass: Pass,
-    /// It answers lines, or follows hints.
-    pub serves: bool,
+/// What a pass does in the sections of a server.
+#[derive(Clone, Copy, Debug, PartialEq, Eq)]
+pub enum Duty {
+    /// It answers lines.
+    Serve,
+    /// It follows hints.
+    Compress,
+    /// Nothing.
+    Rest,
 }
 
-/// What a thread gives back.
+/// Where a pass works in a section: what it is to do, and what it has written.
 #[derive(Drop)]
-pub struct Worked {
-    pub pass: Pass,
+pub struct Desk {
+    pub duty: Duty,
     pub log: Vec<Written>,
+    /// There was no memory for all that it was to write.
+    pub failed: bool,
 }
 
 /// Answers the lines of a batch, if the section has them.
@@ -95,27 +101,70 @@ fn serve_batches<R: Wait, G: Gate>(
     batches: &Receiver<Batch>,
     done: u64,
     lines: &[Option<Request>],
-    pass: Pass,
-) -> Result<Worked, AllocError>
-    requires own { IsPassOf index.now pass }
+    pass: &mut Pass,
+    log: &mut Vec<Written>,
+) -> Result<(), AllocError>
+    requires own { IsPassOf index.now pass.old }
     requires room { done + length lines.now < 2 ^ 64 }
-    ensures { IfOk result (IsTurn (first_of index.now) (suc done) lines.now pass) }
+    ensures same { IsSamePass pass.old pass.new }
+    ensures logs { OnOk result (Logs (first_of index.now) (suc done) lines.now (number_of pass.old) (trail pass.old) (trail pass.new) log.old.items log.new.items) }
 {
-    let mut pass = pass;
-    let mut log = Vec::new(alloc);
     for _ in rt.forever() {
         let Ok(batch) = batches.recv(rt) else {
-            return Ok(Worked { pass, log });
+            return Ok(());
         };
-        serve_batch(
-            rt, alloc, index, hints, gate, done, lines, &mut pass, &mut log, batch,
-        )?;
+        serve_batch(rt, alloc, index, hints, gate, done, lines, pass, log, batch)?;
         shift.call(hints);
     }
     unreachable!()
 }
 
-/// Carries out one turn.
+/// A worker answers lines at its desk.
+fn serve_at<R: Wait, G: Gate>(
+    rt: &R,
+    alloc: Global,
+    index: &Index,
+    hints: &Hints,
+    gate: &G,
+    shift: &Shift,
+    batches: &Receiver<Batch>,
+    done: u64,
+    lines: &[Option<Request>],
+    pass: &mut Pass,
+    desk: &mut Desk,
+)
+    requires own { IsPassOf index.now pass.old }
+    requires room { done + length lines.now < 2 ^ 64 }
+    ensures { TakesTurn (first_of index.now) (suc done) lines.now pass.old pass.new desk.new }
+{
+    let mut log = Vec::new(alloc);
+    let served = serve_batches(
+        rt, alloc, index, hints, gate, shift, batches, done, lines, pass, &mut log,
+    );
+    desk.failed = served.is_err();
+    desk.log = log;
+    shift.leave();
+}
+
+/// A compressor follows hints. It writes nothing.
+fn compress_at<R: Wait>(
+    rt: &R,
+    index: &Index,
+    hints: &Hints,
+    shift: &Shift,
+    pass: &mut Pass,
+    desk: &mut Desk,
+)
+    requires own { IsPassOf index.now pass.old }
+    ensures same { IsSamePass pass.old pass.new }
+    ensures adds { Adds (first_of index.now) (number_of pass.old) (trail pass.old) (trail pass.new) }
+    ensures empty { desk.new.log.items ≡ [] }
+{
+    desk.log.clear();
+    follow_hints(rt, index, hints, shift, pass);
+}
+
+/// A pass does the duty of its desk in one section.
 pub fn take_turn<R: Wait, G: Gate>(
     rt: &R,
     alloc: Global,
@@ -126,24 +175,18 @@ pub fn take_turn<R: Wait, G: Gate>(
     batches: &Receiver<Batch>,
     done: u64,
     lines: &[Option<Request>],
-    turn: Turn,
-) -> Result<Worked, AllocError>
-    requires own { IsPassOf index.now turn.pass }
+    pass: &mut Pass,
+    desk: &mut Desk,
+)
+    requires own { IsPassOf index.now pass.old }
     requires room { done + length lines.now < 2 ^ 64 }
-    ensures { IfOk result (IsTurn (first_of index.now) (suc done) lines.now turn.pass) }
+    ensures { TakesTurn (first_of index.now) (suc done) lines.now pass.old pass.new desk.new }
 {
-    let Turn { pass, serves } = turn;
-    if serves {
-        let worked = serve_batches(
-            rt, alloc, index, hints, gate, shift, batches, done, lines, pass,
-        );
-        shift.leave();
-        worked
-    } else {
-        let pass = follow_hints(rt, index, hints, shift, pass);
-        Ok(Worked {
-            pass,
-            log: Vec::new(alloc),
-        })
+    match desk.duty {
+        Duty::Serve => serve_at(
+            rt, alloc, index, hints, gate, shift, batches, done, lines, pass, desk,
+        ),
+        Duty::Compress => compress_at(rt, index, hints, shift, pass, desk),
+        Duty::Rest => desk.log.clear(),
     }
 }

@@ -1,5 +1,4 @@
 use Rattle.std.proofs.Common.{refl, ap}
-use Rattle.std.specs.Prelude.{Some}
 use Rattle.std.proofs.lemmas.Result.{on_ok_weaker}
 use Rattle.bl_serve_lines.specs.declared.request.Request.TheVariants.{Ask}
 use Rattle.bl_serve.proofs.Lines.{asked_as}

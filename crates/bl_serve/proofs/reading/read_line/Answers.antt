@@ -1,7 +1,9 @@
-use Rattle.std.proofs.Common.{◌≡◌, ◌∙◌, subst, arith}
+use Rattle.std.proofs.Common.{◌≡◌, ◌∙◌, ◌++◌, ◌∷◌, [], ℕ, List, refl, ap, sym, drop, append-nil, subst, arith}
 use Rattle.std.proofs.lemmas.List.{take_all}
 use Rattle.bl_serve_lines.specs.Text.{Means}
+use Rattle.bl_serve_lines.proofs.Known.{consumes_start}
 use Rattle.bl_serve_lines.proofs.Long.{long_line}
+use Rattle.bl_serve.proofs.Cutting.{behind_line}
 use Rattle.bl_serve.proofs.reading.read_line.Goals as goal
 
 -- the whole line was kept
@@ -22,3 +24,15 @@ returns-in-Ok-End g c = let e = rw c.in-Ok-End.field-0-is at c.in-Ok-End.ensures
 
 pub returns-in-Err : goal.returns-in-Err
 returns-in-Err g c = let e = c.in-Err.ensures in (e.0, e.1, e.2, e.4)
+
+-- the line stands in what was read ahead
+pub returns-in-Some : goal.returns-in-Some
+returns-in-Some g c = let f = c.in-Some.ensures in let line = c.in-Some.front.now in (
+  line,
+  [],
+  consumes_start _,
+  (
+    record { cut = f.cut; means = c.parse-asked.ensures.meaning },
+    append-nil c.args.source.now ∙ (f.begins ∙ ap (λ (z : List ℕ). line ++ 10 ∷ z) (sym (c.pass_over.ensures ∙ (ap (drop _) f.begins ∙ behind_line line f.rest _ refl)))),
+  ),
+)

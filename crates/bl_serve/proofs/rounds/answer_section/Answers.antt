@@ -1,23 +1,48 @@
-use Rattle.std.proofs.Common.{arith}
-use Rattle.bl_serve.proofs.Shares.{round, round_own, turns_own, gathered_within}
+use Rattle.std.proofs.Common.{ap, sym, subst, suc, length, arith, List}
+use Rattle.bl_index.specs.declared.index.Pass.{Pass}
+use Rattle.bl_index.specs.Calls.{first_of, IsPassOf}
+use Rattle.bl_serve.specs.declared.working.Desk.{Desk}
+use Rattle.bl_serve.specs.Rounds.{IsRound, Gathers}
+use Rattle.std.specs.Prelude.{All}
+use Rattle.bl_serve.proofs.Shares.{round, round_own, gathered_within, turns_long, lent}
 use Rattle.bl_serve.proofs.rounds.answer_section.Goals as goal
 
-pub work-requires-clause-own : goal.work-requires-clause-own
-work-requires-clause-own g c = λ κs lives. turns_own c.args.index.now c.in_ok-turns.turns.items c.args.passes.items c.in_ok-turns.ensures c.requires.own
-
 pub collect-requires-clause-within : goal.collect-requires-clause-within
-collect-requires-clause-within g c = let a = c.in_ok-turns.turns.ok in let b = c.in_ok-results.results.ok in let same = c.in_ok-results.ensures.len in
-    gathered_within _ _ c.args.lines.now c.in_ok-turns.turns.items c.in_ok-results.results.items c.in_ok-passes.passes.items c.in_ok-passes.written.items (omega arith) (λ i t d low. c.in_ok-results.ensures.each i t d (omega arith)) c.in_ok-passes.ensures
+collect-requires-clause-within g c =
+    let t = c.work_abreast.ensures in
+    let long = (turns_long _ _ _ _ _ _ t).1 in
+    let same = ap length c.as_mut_slice.ensures.value in
+    let desks = c.requires.desks in
+    let a = c.args.passes.ok in
+    gathered_within (first_of c.args.index.now) (suc c.args.done) c.args.lines.now c.as_mut_slice.result.now c.work_abreast.new.passes c.work_abreast.new.desks c.in_ok-written.written.items t
+    (subst (λ (z : List Desk). Gathers z c.in_ok-written.written.items) (lent _ _ c.work_abreast.new.desks (omega (arith, long, same, desks, a))) c.in_ok-written.ensures.gathers)
 
 pub returns-clause-round : goal.returns-clause-round
 returns-clause-round g c =
-    let a = c.in_ok-turns.turns.ok in let b = c.in_ok-results.results.ok in let same = c.in_ok-results.ensures.len in
-    round _ _ c.args.lines.now c.in_ok-text.text.items c.args.passes.items c.in_ok-passes.passes.items c.in_ok-turns.turns.items c.in_ok-results.results.items c.in_ok-passes.written.items c.in_ok-text.ensures.text.0
-    c.in_ok-turns.ensures (omega arith) (λ i t d low. c.in_ok-results.ensures.each i t d (omega arith)) c.in_ok-passes.ensures c.in_ok-text.ensures.text.1 c.in_ok-text.ensures.text.2 c.in_ok-text.ensures.text.3
+    let t = c.work_abreast.ensures in
+    let longs = turns_long _ _ _ _ _ _ t in
+    let news = longs.0 in
+    let long = longs.1 in
+    let same = ap length c.as_mut_slice.ensures.value in
+    let desks = c.requires.desks in
+    let a = c.args.passes.ok in
+    let r = round (first_of c.args.index.now) (suc c.args.done) c.args.lines.now c.in_ok-text.text.items c.as_mut_slice.result.now c.work_abreast.new.passes c.work_abreast.new.desks c.in_ok-written.written.items c.in_ok-text.ensures.text.0 t
+    (subst (λ (z : List Desk). Gathers z c.in_ok-written.written.items) (lent _ _ c.work_abreast.new.desks (omega (arith, long, same, desks, a))) c.in_ok-written.ensures.gathers)
+    c.in_ok-text.ensures.text.1 c.in_ok-text.ensures.text.2 c.in_ok-text.ensures.text.3 in
+    subst (λ (z : List Pass). IsRound (first_of c.args.index.now) (suc c.args.done) c.args.lines.now c.in_ok-text.text.items c.args.passes.items z) (sym (lent _ c.args.passes.items c.work_abreast.new.passes (omega (arith, news, same, a))))
+    (subst (λ (z : List Pass). IsRound (first_of c.args.index.now) (suc c.args.done) c.args.lines.now c.in_ok-text.text.items z c.work_abreast.new.passes) c.as_mut_slice.ensures.value r)
 
 pub returns-clause-own : goal.returns-clause-own
 returns-clause-own g c =
-    let a = c.in_ok-turns.turns.ok in let b = c.in_ok-results.results.ok in let same = c.in_ok-results.ensures.len in
-    let r = round _ _ c.args.lines.now c.in_ok-text.text.items c.args.passes.items c.in_ok-passes.passes.items c.in_ok-turns.turns.items c.in_ok-results.results.items c.in_ok-passes.written.items c.in_ok-text.ensures.text.0
-    c.in_ok-turns.ensures (omega arith) (λ i t d low. c.in_ok-results.ensures.each i t d (omega arith)) c.in_ok-passes.ensures c.in_ok-text.ensures.text.1 c.in_ok-text.ensures.text.2 c.in_ok-text.ensures.text.3 in
-    round_own _ c.args.index.now _ _ _ _ _ c.requires.own r
+    let t = c.work_abreast.ensures in
+    let longs = turns_long _ _ _ _ _ _ t in
+    let news = longs.0 in
+    let long = longs.1 in
+    let same = ap length c.as_mut_slice.ensures.value in
+    let desks = c.requires.desks in
+    let a = c.args.passes.ok in
+    let r = round (first_of c.args.index.now) (suc c.args.done) c.args.lines.now c.in_ok-text.text.items c.as_mut_slice.result.now c.work_abreast.new.passes c.work_abreast.new.desks c.in_ok-written.written.items c.in_ok-text.ensures.text.0 t
+    (subst (λ (z : List Desk). Gathers z c.in_ok-written.written.items) (lent _ _ c.work_abreast.new.desks (omega (arith, long, same, desks, a))) c.in_ok-written.ensures.gathers)
+    c.in_ok-text.ensures.text.1 c.in_ok-text.ensures.text.2 c.in_ok-text.ensures.text.3 in
+    subst (All (IsPassOf c.args.index.now)) (sym (lent _ c.args.passes.items c.work_abreast.new.passes (omega (arith, news, same, a))))
+    (round_own _ c.args.index.now _ _ _ c.as_mut_slice.result.now c.work_abreast.new.passes (subst (All (IsPassOf c.args.index.now)) (sym c.as_mut_slice.ensures.value) c.requires.own) r)

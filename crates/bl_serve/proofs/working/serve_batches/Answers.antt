@@ -1,9 +1,9 @@
 use Rattle.std.proofs.Common.{rules}
-use Rattle.bl_serve.proofs.Lines.{no_logs_in, then_logs}
+use Rattle.bl_serve.proofs.Lines.{no_logs, then_logs}
 use Rattle.bl_serve.proofs.working.serve_batches.Goals as goal
 
 pub loop-init : goal.loop-init
-loop-init g c = record { same = search rules; logs = no_logs_in _ _ _ _ _ _ c.new-log.ensures.items }
+loop-init g c = record { same = search rules; logs = no_logs _ _ _ _ _ _ }
 
 pub loop-preserved : goal.loop-preserved
 loop-preserved g c = record {

@@ -1,4 +1,4 @@
-use Rattle.std.proofs.Common.{suc, []}
+use Rattle.std.proofs.Common.{suc}
 use Rattle.bl_index.specs.Calls.{first_of, IsSamePass, number_of, trail}
 use Rattle.bl_serve.specs.Turns.{Logs}
 use Rattle.bl_serve.proofs.working.serve_batches.Given as goal
@@ -6,5 +6,5 @@ use Rattle.bl_serve.proofs.working.serve_batches.Given as goal
 abbrev pub invariant-loop : goal.invariant-loop
 invariant-loop g l = record {
   same : IsSamePass l.fn.pass l.pass;
-  logs : Logs (first_of l.index) (suc l.fn.done) l.fn.lines (number_of l.fn.pass) (trail l.fn.pass) (trail l.pass) [] l.log.items;
+  logs : Logs (first_of l.index) (suc l.fn.done) l.fn.lines (number_of l.fn.pass) (trail l.fn.pass) (trail l.pass) l.fn.log.items l.log.items;
 }

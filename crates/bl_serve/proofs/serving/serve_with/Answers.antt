@@ -13,11 +13,15 @@ use Rattle.bl_serve.specs.Serving.{seen_by, IsInside}
 use Rattle.bl_serve.proofs.Advance.{no_progress, stops_inside}
 use Rattle.bl_serve.proofs.Holding.{together_by_first}
 use Rattle.bl_serve.proofs.Faults.{room, stops_at_read, reads_of, stops_at_answers, now_seen, together_now, some_now, stops_at_write, goes_on_at_sync, serves_at_end, serves_no_more}
-use Rattle.bl_serve.proofs.serving.serve.Goals as goal
+use Rattle.bl_serve.proofs.serving.serve_with.Goals as goal
 
 -- no memory at the start
 pub returns-in_err-hints : goal.returns-in_err-hints
 returns-in_err-hints g c = let p = err_from_is_err_and c.from_residual.result c.from_residual.ensures.1 in
+    rw (p.1, p.2) ([], [], [], consumes_start _, appends_start _, stops_inside (first_of c.args.index.now) (seen_by c.args.passes.items) (seen_by c.args.passes.items) _ [] [] [] Memory (c.args.reader.now.failed ≡ true) (c.args.writer.now.failed ≡ true) (no_progress (seen_by c.args.passes.items)) c.requires.together.may_be refl tt)
+
+pub returns-in_err-desks : goal.returns-in_err-desks
+returns-in_err-desks g c = let p = err_from_is_err_and c.from_residual-in_err-desks.result c.from_residual-in_err-desks.ensures.1 in
     rw (p.1, p.2) ([], [], [], consumes_start _, appends_start _, stops_inside (first_of c.args.index.now) (seen_by c.args.passes.items) (seen_by c.args.passes.items) _ [] [] [] Memory (c.args.reader.now.failed ≡ true) (c.args.writer.now.failed ≡ true) (no_progress (seen_by c.args.passes.items)) c.requires.together.may_be refl tt)
 
 pub returns-in_err-source : goal.returns-in_err-source
@@ -33,11 +37,12 @@ loop-section-init g c = record {
   wrote = appends_start _;
   progress = no_progress _;
   together = c.requires.together;
-  some = (let a = c.requires.workers.0 in let b = c.requires.workers.1 in let d = c.args.passes.ok in omega (arith, a, b, d));
+  some = (let a = c.requires.some in let d = c.args.passes.ok in omega (arith, a, d));
   room = omega arith;
   malformed = omega arith;
   sections = omega arith;
   number = omega arith;
+  desks = (let a = c.in_ok-desks.ensures in let b = c.requires.together.count in let d = c.args.passes.ok in omega (arith, a, b, d));
 }
 
 -- the section could not be read whole
@@ -60,6 +65,9 @@ pub serve_section-requires-clause-requests : goal.serve_section-requires-clause-
 serve_section-requires-clause-requests g c κs within = let i = c.loop-section.invariant in let e = c.in_ok-end.ensures in
     subst (λ (z : List (Option Request)). c.loop-section.totals.requests + length z + rests c.in_ok-end.end < 2 ^ 64) (sym c.as_slice.ensures.value)
     (room c.in_ok-end.end c.loop-section.totals c.read_section.new.lines.items e.0 (c.loop-section.source ++ e.1) c.read_section.new.source (IsAtEnd (g.R.Read.remaining c.read_section.new.reader.inner)) (c.read_section.new.reader.failed ≡ true) e.3 i.room)
+
+pub serve_section-requires-clause-desks : goal.serve_section-requires-clause-desks
+serve_section-requires-clause-desks g c κs within = let i = c.loop-section.invariant in let a = i.desks in let b = i.together.count in let d = c.loop-section.passes.ok in omega (arith, a, b, d)
 
 -- it was not answered
 pub returns-in_err-back : goal.returns-in_err-back
@@ -125,6 +133,7 @@ loop-section-preserved g c = let i = c.loop-section.invariant in let e = c.in_ok
       malformed = v.malformed i.malformed;
       sections = (let a = v.sections in let b = i.sections in omega (arith, a, b));
       number = (let a = v.requests in let b = i.number in omega (arith, a, b));
+      desks = (let a = c.serve_section.ensures.desks in let b = i.desks in omega (arith, a, b));
     }
 
 -- as many sections as there are numbers

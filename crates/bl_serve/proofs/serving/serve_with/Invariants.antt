@@ -1,9 +1,11 @@
-use Rattle.std.proofs.Common.{◌<◌, ◌≤◌, ◌^◌, ℕ, List, ◌++◌, length}
+use Rattle.std.proofs.Common.{◌≡◌, ◌<◌, ◌≤◌, ◌^◌, ℕ, List, ◌++◌, length}
+use Rattle.std.specs.Prelude.{vec_len}
 use Rattle.std.specs.Io.KnownBytes.{Consumes, Appends}
 use Rattle.bl_claims.specs.Trails.{Trail}
+use Rattle.bl_index.specs.Calls.{passes_of}
 use Rattle.bl_serve.specs.Serving.{AreTogether, seen_by}
 use Rattle.bl_serve.proofs.Advance.{Progress}
-use Rattle.bl_serve.proofs.serving.serve.Given as goal
+use Rattle.bl_serve.proofs.serving.serve_with.Given as goal
 
 abbrev pub invariant-loop-section : goal.invariant-loop-section
 invariant-loop-section g l = record {
@@ -19,4 +21,5 @@ invariant-loop-section g l = record {
   malformed : l.totals.malformed ≤ l.totals.requests;
   sections : l.totals.sections ≤ l._section;
   number : l._section ≤ l.totals.requests;
+  desks : vec_len l.desks ≡ passes_of l.index;
 }

@@ -1,0 +1,13 @@
+use Rattle.std.proofs.Common.{suc, ◌++◌, sym, subst, List, rules}
+use Rattle.bl_index.specs.declared.index.Pass.{Pass}
+use Rattle.bl_index.specs.Calls.{first_of}
+use Rattle.bl_serve.specs.Turns.{TakeTurns}
+use Rattle.bl_serve.proofs.Shares.{turns_append}
+use Rattle.bl_serve.proofs.rounds.+abreast.Goals as goal
+
+pub returns : goal.returns
+returns g t c =
+    let some : TakeTurns (first_of c.args.index.now) (suc c.args.done) c.args.lines.now c.split_at_mut-some.result.0.now c.some-1.given.0 c.theirs-1.given.0 = search rules in
+    let others : TakeTurns (first_of c.args.index.now) (suc c.args.done) c.args.lines.now c.split_at_mut-some.result.1.now c.others-1.given.0 c.rest-1.given.0 = search rules in
+    subst (λ (z : List Pass). TakeTurns (first_of c.args.index.now) (suc c.args.done) c.args.lines.now z (c.some-1.given.0 ++ c.others-1.given.0) (c.theirs-1.given.0 ++ c.rest-1.given.0)) (sym c.split_at_mut-some.ensures.value)
+    (turns_append _ _ _ _ _ _ _ _ _ some others)
