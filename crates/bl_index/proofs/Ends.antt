@@ -5,7 +5,7 @@ use Rattle.bl_model.specs.declared.operation.Op.TheVariants as op
 use Rattle.bl_model.specs.declared.operation.Reply.{Reply}
 use Rattle.bl_model.specs.declared.operation.Reply.TheVariants.{Rows}
 use Rattle.bl_page.specs.declared.page.Page.{Page}
-use Rattle.bl_claims.specs.Trails.{marks_of}
+use Rattle.bl_claims.specs.Trails.{Trail, marks_of}
 use Rattle.bl_proc_base.specs.declared.acts.Action.TheVariants as act
 use Rattle.bl_proc_base.specs.declared.acts.Seen.TheVariants as seen
 use Rattle.bl_proc_base.specs.declared.answers.Hint.{Hint}
@@ -44,7 +44,8 @@ use Rattle.bl_proc_unique.specs.Frames.{op_of}
 use Rattle.bl_index_rule.specs.declared.known.Mine.{Mine}
 use Rattle.bl_index_rule.specs.Noting.{trail_of}
 use Rattle.bl_claims.specs.Seeing.{Holds, name}
-use Rattle.bl_index.specs.Calls.{Answers}
+use Rattle.bl_index.specs.Calls.{Answers, InCall}
+use Rattle.bl_index.specs.Held.{own_marks}
 use Rattle.bl_index.specs.Runs.{IsDone}
 use Rattle.bl_index.proofs.Calls.{since_end, since_said, end_seen}
 
@@ -222,3 +223,14 @@ op_answered from pass old e first last o reply hint d begins is answer =
       seen = (end_seen pass (end_of_proc d.before) old d.d e from d.since d.told begins).1;
       once = since_said pass (end_of_proc d.before) old d.d e (Some (record { op = o; reply = reply })) d.since d.told (λ r h. s.said r (h ∙ d.state));
     }
+
+-- what its process has done, by its name in the call
+pub own_done : (pass : ℕ) (old e : Mine) (first last : Proc) → IsDone pass old e first last → own_marks e ≡ marks_of (name pass (old.number + 1)) (trail_of e.trail)
+own_done pass old e first last d = ap (λ (z : ℕ × ℕ). marks_of (name z.0 z.1) (trail_of e.trail)) (λ i. ((d.told.notes.pass ∙ d.since.named) i, (d.told.notes.number ∙ d.since.number) i))
+
+pub op_in_call : (from : List (Option Page)) (pass : ℕ) (old e : Mine) (first last : Proc) (o : Operation) (reply : Reply) (hint : Option Hint) (IsSo : Trail → Type 0) → IsDone pass old e first last → old.first ≡ from → op_of first ≡ Some o → answer_of last ≡ Some (Op reply hint) → IsSo (own_marks e) → InCall pass (Some reply) (trail_of old.trail) (trail_of e.trail) IsSo
+op_in_call from pass old e first last o reply hint IsSo d begins is answer so = record {
+  number = old.number + 1;
+  holds = (op_answered from pass old e first last o reply hint d begins is answer).holds;
+  is = subst IsSo (own_done pass old e first last d) so;
+}

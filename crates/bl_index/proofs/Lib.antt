@@ -1,5 +1,7 @@
 pub mod Calls
 pub mod Hands
+pub mod Got
+pub mod Held
 pub mod Standing
 pub mod Inserted
 mod Spreading
@@ -26,6 +28,7 @@ pub mod Ranges
 pub mod Picked
 pub mod Scanned
 pub mod PartByPart
+pub mod Asked
 pub mod Rooms
 pub mod Holders
 pub mod Gathered

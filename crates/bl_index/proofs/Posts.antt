@@ -26,11 +26,12 @@ use Rattle.bl_proc_unique.specs.Frames.{work_of}
 use Rattle.bl_index_rule.specs.declared.known.Mine.{Mine}
 use Rattle.bl_index_rule.specs.Noting.{trail_of}
 use Rattle.bl_claims.specs.Seeing.{name}
-use Rattle.bl_index.specs.Calls.{Posts}
+use Rattle.bl_index.specs.Calls.{Posts, InCall}
+use Rattle.bl_index.specs.Held.{own_marks}
 use Rattle.bl_index.specs.Runs.{IsDone}
 use Rattle.bl_index.specs.Searching.{IsPostAnswer}
 use Rattle.bl_index.proofs.Quiet.{first_of, second_of, quiet_adds}
-use Rattle.bl_index.proofs.Ends.{not_end_way, not_end}
+use Rattle.bl_index.proofs.Ends.{not_end_way, not_end, own_done}
 
 not_end_growth : (g : Growth) → growth_next g ≢ act.End
 not_end_growth growth.Latching e = cc
@@ -106,3 +107,13 @@ post_answered from pass old e first q level key what next d begins is a =
       latches = d.tidy;
       hint = subst (λ (z : ℕ × ℕ). MeansHint z.0 z.1 what next marks) (λ i. (p.level_is i, p.key_is i)) (stage_hints q.level q.key q.stage what next marks a d.log);
     }
+
+-- it is still the post of that key to that level
+pub post_named : (pass : ℕ) (old e : Mine) (first : Proc) (q : Post) (level key : ℕ) → IsDone pass old e first (proc.Post q) → work_of first ≡ Some (level, key) → (q.level ≡ level) × (q.key ≡ key)
+post_named pass old e first q level key d is = let p = posting d.before q level key (d.work ∙ is) d.at_end d.takes in (p.level_is, p.key_is)
+
+pub post_in_call : (from : List (Option Page)) (pass : ℕ) (old e : Mine) (first : Proc) (q : Post) (level key : ℕ) (IsSo : Trail → Type 0) → IsDone pass old e first (proc.Post q) → old.first ≡ from → work_of first ≡ Some (level, key) → IsSo (own_marks e) → InCall pass None (trail_of old.trail) (trail_of e.trail) IsSo
+post_in_call from pass old e first q level key IsSo d begins is so =
+    let p = posting d.before q level key (d.work ∙ is) d.at_end d.takes in
+    let adds = quiet_adds from pass old e first (proc.Post q) (proc.Post p.old) d begins p.before_is refl (λ r h. ap (λ (z : Proc). (know_of r.got r.child r.time z).said) h ∙ silent_at_end p.old.level p.old.key r.got r.child p.old.stage p.at_end) in
+    record { number = old.number + 1; holds = adds.holds; is = subst IsSo (own_done pass old e first (proc.Post q) d) so }

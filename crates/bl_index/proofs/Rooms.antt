@@ -1,5 +1,5 @@
 -- What a hand was refused that found no room, from one event of its process to the next.
-use Rattle.std.proofs.Common.{ℕ, ◌≡◌, ◌≢◌, None, Some, inl, inr, refl, sym, subst, ◌∙◌}
+use Rattle.std.proofs.Common.{ℕ, ◌≡◌, ◌≢◌, None, Some, inl, inr, refl, sym, ap, subst, ◌∙◌}
 use Rattle.atomic_table.specs.declared.shared.Seat.{Seat}
 use Rattle.bl_proc_base.specs.declared.acts.Action.TheVariants as act
 use Rattle.bl_proc_base.specs.declared.acts.Seen.{Seen}
@@ -11,7 +11,7 @@ use Rattle.bl_proc_unique.specs.Refusals.{IsRefused, PutsRefused}
 use Rattle.bl_proc_unique.proofs.RefusedTurns.{takes_refused, takes_puts}
 use Rattle.bl_proc_unique.proofs.RefusedNexts.{refused_opens, may_ask, may_ask_on}
 use Rattle.bl_store.specs.declared.view.View.{View}
-use Rattle.bl_store.specs.Hands.{WasRefused, IsSameRefusal}
+use Rattle.bl_store.specs.Hands.{known, WasRefused, IsSameRefusal}
 use Rattle.bl_index_rule.specs.declared.known.Mine.{Mine}
 use Rattle.bl_proc_base.specs.declared.changing.Outcome.{Outcome}
 use Rattle.bl_proc_base.specs.declared.changing.Outcome.TheVariants as outcome
@@ -22,7 +22,12 @@ use Rattle.bl_proc_compress.specs.declared.squeezing.Compress.{Compress}
 use Rattle.bl_proc.specs.declared.inserting.InsertReply.TheVariants as inserted
 use Rattle.bl_proc.specs.Inserts.{insert_reply}
 use Rattle.bl_proc.specs.Posts.{post_reply}
-use Rattle.bl_index.specs.Rooms.{LacksRoom, LacksAsked, TellsRoom}
+use Rattle.bl_index.specs.Refused.{HasRoom, IsFull}
+use Rattle.bl_index.specs.Held.{own_marks, KeepsLatch, proc_held, AsksFor}
+use Rattle.bl_index.specs.Rooms.{LacksPage, LacksPost, LacksAsked, TellsRoom}
+use Rattle.bl_index.specs.Runs.{Moves}
+use Rattle.bl_index.proofs.Held.{goes_keeps, keeps_held}
+use Rattle.bl_index.proofs.Asked.{asks_on, asks_keep, asks_told}
 
 abbrev H : Type 0
 H = Seat (Unit {0}) (View Mine)
@@ -61,37 +66,48 @@ KeepsRoom h p = (IsRefused p → LacksAsked h p) × (PutsRefused p → ⊥)
 pub free_room : (h : H) (p : Proc) → (IsRefused p → ⊥) → (PutsRefused p → ⊥) → KeepsRoom h p
 free_room h p free puts = ((λ r. absurd (free r)), puts)
 
-pub keeps_room : (h h' : H) (p : Proc) (what : Seen) (q : Proc) → Takes p what q → TellsRoom h h' p what → next_of p ≢ act.End → KeepsRoom h p → KeepsRoom h' q
-keeps_room h h' p what q takes tells going keeps = (
+pub keeps_room : (h h' : H) (p : Proc) (what : Seen) (q : Proc) → (known h).state ≡ p → proc_held p (own_marks (known h)) → Moves (known h) (known h') → Takes p what q → TellsRoom h h' p what → next_of p ≢ act.End → KeepsRoom h p → KeepsRoom h' q
+keeps_room h h' p what q is held moves takes tells going keeps = (
   (λ r. elim (takes_refused p what q takes r) [
     | inl was ↦ elim (refused_opens p was keeps.1) [
-      | inl opens ↦ let lacks = keeps.0 was in (lacks.0, may_ask_on p what q lacks.0 takes lacks.1, tells.1 opens.0 opens.1 ∙ lacks.2)
+      | inl opens ↦
+          let lacks = keeps.0 was in
+          let latch = goes_keeps moves.0 (known h) (known h') moves.1 (λ x l. (let f : act.Open opens.0 ≡ act.Latch x = sym opens.1 ∙ (ap next_of (sym is) ∙ l) in cc)) in
+          (lacks.0, may_ask_on p what q lacks.0 takes lacks.1, tells.1 opens.0 opens.1 ∙ lacks.2, asks_on p what q lacks.0 (own_marks (known h')) takes (asks_keep p lacks.0 (known h) (known h') latch lacks.3))
       | inr end ↦ absurd (going end)
     ]
-    | inr told ↦ let asked = tells.0 told in (asked.0, may_ask_on p what q asked.0 takes (may_ask p asked.0 asked.1), asked.2)
+    | inr told ↦
+        let asked = tells.0 told in
+        (asked.0, may_ask_on p what q asked.0 takes (may_ask p asked.0 asked.1), asked.2, asks_on p what q asked.0 (own_marks (known h')) takes (asks_told p asked.0 (known h) (known h') moves.0 is asked.1 held moves.1))
   ]),
   λ r. keeps.1 (takes_puts p what q takes r),
 )
 
 -- nothing has happened
-pub stays_room : (h h' : H) (p q : Proc) → q ≡ p → IsSameRefusal h h' → KeepsRoom h p → KeepsRoom h' q
-stays_room h h' p q is same keeps = subst (KeepsRoom h') (sym is) ((λ r. let lacks = keeps.0 r in (lacks.0, lacks.1, same ∙ lacks.2)), keeps.1)
+pub stays_room : (h h' : H) (p q : Proc) → q ≡ p → IsSameRefusal h h' → known h' ≡ known h → KeepsRoom h p → KeepsRoom h' q
+stays_room h h' p q is same still keeps = subst (KeepsRoom h') (sym is) ((λ r. let lacks = keeps.0 r in (lacks.0, lacks.1, same ∙ lacks.2, subst (λ (d : Mine). AsksFor p lacks.0 (own_marks d)) (sym still) lacks.3)), keeps.1)
 
 -- and it ends so
-pub ends_room : (h h' : H) (p q : Proc) → Takes p seen.Done q → IsSameRefusal h h' → KeepsRoom h p → IsRefused q → LacksAsked h' q
-ends_room h h' p q takes same keeps r = elim (takes_refused p seen.Done q takes r) [
-  | inl was ↦ let lacks = keeps.0 was in (lacks.0, may_ask_on p seen.Done q lacks.0 takes lacks.1, same ∙ lacks.2)
+pub ends_room : (h h' : H) (p q : Proc) → Takes p seen.Done q → IsSameRefusal h h' → KeepsLatch (known h) (known h') → KeepsRoom h p → IsRefused q → LacksAsked h' q
+ends_room h h' p q takes same latch keeps r = elim (takes_refused p seen.Done q takes r) [
+  | inl was ↦ let lacks = keeps.0 was in (lacks.0, may_ask_on p seen.Done q lacks.0 takes lacks.1, same ∙ lacks.2, asks_on p seen.Done q lacks.0 (own_marks (known h')) takes (asks_keep p lacks.0 (known h) (known h') latch lacks.3))
   | inr told ↦ absurd (let f : seen.Done ≡ seen.Refused = told in cc)
 ]
 
 -- By what a hand lacks
-pub lacks_on : (h h' : H) → IsSameRefusal h h' → LacksRoom h → LacksRoom h'
-lacks_on h h' same lacks = elim lacks [ inl one ↦ inl (same ∙ one) | inr two ↦ inr (same ∙ two) ]
+pub lacks_on : (level key : ℕ) (h h' : H) → IsSameRefusal h h' → KeepsLatch (known h) (known h') → LacksPage level key h → LacksPage level key h'
+lacks_on level key h h' same latch lacks = elim lacks [
+  | inl one ↦ inl (same ∙ one.0, keeps_held level key HasRoom (known h) (known h') latch one.1)
+  | inr two ↦ inr (same ∙ two.0, keeps_held level key IsFull (known h) (known h') latch two.1)
+]
 
-pub lacks_asked : (h : H) (p : Post) → LacksAsked h (proc.Post p) → LacksRoom h
-lacks_asked h p lacks = elim lacks.1 [
-  | inl one ↦ inl (subst (λ (z : ℕ × ℕ). WasRefused h z.0 z.1) one lacks.2)
-  | inr two ↦ inr (subst (λ (z : ℕ × ℕ). WasRefused h z.0 z.1) two lacks.2)
+pub lacks_asked : (h : H) (p : Post) → LacksAsked h (proc.Post p) → LacksPost p.level p.key h
+lacks_asked h p lacks = elim lacks.3 [
+  | inl page ↦ elim page [
+    | inl one ↦ inl (inl (subst (λ (z : ℕ × ℕ). WasRefused h z.0 z.1) one.0 lacks.2, one.1))
+    | inr two ↦ inl (inr (subst (λ (z : ℕ × ℕ). WasRefused h z.0 z.1) two.0 lacks.2, two.1))
+  ]
+  | inr top ↦ inr (subst (λ (z : ℕ × ℕ). WasRefused h z.0 z.1) top.0 lacks.2, top.1)
 ]
 
 pub lacks_three : (h : H) (p : Compress) → LacksAsked h (proc.Compress p) → WasRefused h 0 3

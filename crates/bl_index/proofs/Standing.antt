@@ -23,15 +23,21 @@ use Rattle.bl_index_rule.specs.declared.known.Mine.{Mine}
 use Rattle.bl_index_rule.specs.Noting.{trail_of}
 use Rattle.bl_claims.specs.Seeing.{name}
 use Rattle.bl_index_rule.specs.Told.{Goes, Finishes, ends}
+use Rattle.bl_index.specs.Held.{own_marks, proc_held}
 use Rattle.bl_index.specs.Runs.{IsOn, IsSince, IsDone}
 use Rattle.bl_index.specs.Events.{IsSameProcess, HoldsNone, OpensLast}
 use Rattle.bl_index.proofs.Calls.{since_step}
+use Rattle.bl_index.proofs.Held.{goes_held}
 
 pub on_itself : (l : Layout) (d : Mine) (p : Proc) → IsOn l d p → IsOn l d d.state
-on_itself l d p on = record { runs = on.runs; state = refl; pages = on.pages; passes = on.passes; near = on.near }
+on_itself l d p on = record { runs = on.runs; state = refl; pages = on.pages; passes = on.passes; near = on.near; held = on.held }
 
 pub on_as : (l : Layout) (d : Mine) (p : Proc) → IsOn l d d.state → d.state ≡ p → IsOn l d p
-on_as l d p on is = record { runs = on.runs; state = is; pages = on.pages; passes = on.passes; near = on.near }
+on_as l d p on is = record { runs = on.runs; state = is; pages = on.pages; passes = on.passes; near = on.near; held = on.held }
+
+-- what it has got of the page that it latched last
+pub on_held : (l : Layout) (d : Mine) (p : Proc) → IsOn l d p → proc_held p (own_marks d)
+on_held l d p on = subst (λ (z : Proc). proc_held z (own_marks d)) on.state on.held
 
 pub opens_at : (state p ending last : Proc) (page : ℕ) → state ≡ p → OpensLast p page ending last → OpensLast state page ending last
 opens_at state p ending last page is opens = subst (λ (z : Proc). OpensLast z page ending last) (sym is) opens
@@ -54,6 +60,7 @@ on_goes l what d e p q on goes t = record {
   pages = goes.steps.pages ∙ on.pages;
   passes = goes.steps.passes ∙ on.passes;
   near = goes.steps.near;
+  held = goes_held what d e goes on.held;
 }
 
 pub on_after : (l : Layout) (what : Seen) (d e : Mine) (p : Proc) → IsOn l d p → Goes what d e → IsOn l e e.state
@@ -63,6 +70,7 @@ on_after l what d e p on goes = record {
   pages = goes.steps.pages ∙ on.pages;
   passes = goes.steps.passes ∙ on.passes;
   near = goes.steps.near;
+  held = goes_held what d e goes on.held;
 }
 
 pub same_goes : (what : Seen) (d e : Mine) → Goes what d e → IsSameProcess d e

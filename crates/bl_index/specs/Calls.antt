@@ -5,6 +5,7 @@ use Rattle.bl_model.specs.History.{final_map}
 use Rattle.bl_model.specs.declared.operation.Op.{Op}
 use Rattle.bl_model.specs.declared.operation.Op.TheVariants as op
 use Rattle.bl_model.specs.declared.operation.Reply.{Reply}
+use Rattle.bl_model.specs.declared.operation.Reply.TheVariants as reply
 use Rattle.bl_page.specs.declared.page.Page.{Page}
 use Rattle.bl_claims.specs.Trails.{Mark, Trail, history_of, marks_of}
 use Rattle.bl_claims.specs.Walks.{Each}
@@ -21,6 +22,7 @@ use Rattle.bl_store.specs.Hands.{WasRefused}
 use Rattle.bl_index_rule.specs.Noting.{trail_of}
 use Rattle.bl_claims.specs.Seeing.{first_map, IsSeen, own, Holds, name}
 use Rattle.bl_index_rule.specs.Told.{IsRelease}
+use Rattle.bl_index.specs.Refused.{LacksForPage, LacksForPost}
 use Rattle.bl_index.specs.declared.config.OutOfTurns.{OutOfTurns}
 use Rattle.bl_index.specs.declared.index.Index.{Index}
 use Rattle.bl_index.specs.declared.index.Pass.{Pass}
@@ -58,6 +60,20 @@ released_by pass = pass.hand.seat.me.0.releases
 -- last reservation of that call.
 abbrev pub MetNoRoom : Pass → ℕ → ℕ → Type 0
 MetNoRoom pass pages frames = WasRefused pass.hand.seat pages frames
+
+-- The process of a call, whose events stand in what is new of the trail, answered that, and what it did is so.
+pub record InCall (pass : ℕ) (answer : Option Reply) (old new : Trail) (IsSo : Trail → Type 0) : Type 0 where
+  pub number : ℕ
+  pub holds : Holds (name pass number) answer old new
+  pub is : IsSo (marks_of (name pass number) new)
+
+-- An insertion of that key found no room for its leaf.
+abbrev pub InsertLacks : Pass → ℕ → Pass → Type 0
+InsertLacks old key new = InCall (number_of old) (Some reply.NoRoom) (trail old) (trail new) (λ marks. LacksForPage 0 key marks (MetNoRoom new))
+
+-- A post of that key to that level found none for its parent, or for a new top level.
+abbrev pub PostLacks : Pass → ℕ → ℕ → Pass → Type 0
+PostLacks old level key new = InCall (number_of old) None (trail old) (trail new) (λ marks. LacksForPost level key marks (MetNoRoom new))
 
 -- The same pass of the same index
 abbrev pub IsSamePass : Pass → Pass → Type 0

@@ -48,7 +48,7 @@ use Rattle.bl_index.specs.declared.errands.Posting.{Posting}
 use Rattle.bl_index.specs.declared.posting.Walked.{Walked}
 use Rattle.bl_index.specs.declared.posting.Walked.TheVariants.{On, Found, Stale, Lost}
 use Rattle.bl_index.specs.Runs.{IsOn, IsSince, IsWithin, IsDone}
-use Rattle.bl_index.specs.Rooms.{LacksRoom}
+use Rattle.bl_index.specs.Rooms.{LacksPost}
 use Rattle.bl_proc_base.specs.declared.answers.Posted.TheVariants as posted
 
 -- what the pass knows then is of the same process
@@ -147,5 +147,5 @@ HasWalked l j x words y d Lost = IsOn l d (posting j (post.Coming (Leaving x Non
 
 -- It has ended, and has answered that; or its way begins again.
 abbrev pub IsPostOver : Layout → Posting → Mine → Seat (Unit {0}) (View Mine) → Option (Posted × Option Hint) → Type 0
-IsPostOver l j d h (Some t) = (IsIdle h × HasNoStock h) × IsWithin h × ((known h).runs ≡ false) × (t.0 ≡ posted.NoRoom → LacksRoom h) × ((pass : ℕ) (old : Mine) → IsSince pass old d → HasPosted pass old (known h) (posting j post.New tt) t.0 t.1)
+IsPostOver l j d h (Some t) = (IsIdle h × HasNoStock h) × IsWithin h × ((known h).runs ≡ false) × (t.0 ≡ posted.NoRoom → LacksPost j.level j.key h) × ((pass : ℕ) (old : Mine) → IsSince pass old d → HasPosted pass old (known h) (posting j post.New tt) t.0 t.1)
 IsPostOver l j d h None = (IsRunning h × HasNoStock h) × IsOn l (known h) (posting j (post.Coming Start) tt) × IsSameProcess d (known h)

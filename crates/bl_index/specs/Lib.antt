@@ -10,5 +10,7 @@ pub mod Meetings
 pub mod Scans
 pub mod LeafRows
 pub mod Parts
+pub mod Refused
+pub mod Held
 pub mod Rooms
 pub mod Closed

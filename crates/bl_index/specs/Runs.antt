@@ -13,7 +13,6 @@ use Rattle.bl_proc_unique.specs.Frames.{op_of, work_of, frames_of, Follows}
 use Rattle.bl_proc_base.specs.declared.acts.Seen.{Seen}
 use Rattle.bl_index.specs.declared.stepping.Stepped.{Stepped}
 use Rattle.bl_index.specs.declared.stepping.Stepped.TheVariants.{On, AtEnd}
-use Rattle.bl_page.specs.Machine.{Act}
 use Rattle.bl_page.specs.Machine.Act.{Begin}
 use Rattle.bl_claims.specs.Trails.{Mark, Trail, DoesAt, marks_of}
 use Rattle.bl_claims.specs.Bounds.{gets_of, IsWithinBound, IsBelowBound}
@@ -23,7 +22,8 @@ use Rattle.bl_proc.specs.Processes.{next_of, Takes}
 use Rattle.bl_index_rule.specs.declared.known.Mine.{Mine}
 use Rattle.bl_index_rule.specs.Noting.{trail_of}
 use Rattle.bl_claims.specs.Seeing.{own, AreWithin, AreElse, AreOnlyOf, name}
-use Rattle.bl_index_rule.specs.Told.{IsNear, HasOwn, Steps, Finishes}
+use Rattle.bl_index_rule.specs.Told.{IsNear, HasOwn, Goes, Finishes}
+use Rattle.bl_index.specs.Held.{own_marks, proc_held}
 use Rattle.bl_index.specs.Rooms.{TellsRoom}
 
 -- the pass runs this process, in an index of that layout
@@ -33,6 +33,7 @@ pub record IsOn (l : Layout) (d : Mine) (process : Proc) : Type 0 where
   pub pages : d.pages ≡ l.pages
   pub passes : d.passes ≡ l.passes
   pub near : IsNear d.pages (next_of d.state)
+  pub held : proc_held d.state (own_marks d)
 
 -- The pass, of that number, knew old when the process began that it runs, and has done nothing else since.
 pub record IsSince (pass : ℕ) (old d : Mine) : Type 0 where
@@ -55,7 +56,7 @@ IsWithin h = AreWithin h.me.0.layout.passes (trail_of (known h).trail)
 
 -- one event of the process
 abbrev pub Moves : Mine → Mine → Type 0
-Moves d e = (act : Act _ _) × Steps act d e
+Moves d e = (what : Seen) × Goes what d e
 
 -- The hand has reserved what this process has left: so many frames, in a stock if it has one, and with that leave to retire a
 -- page. A process that is to retire one has a stock.

@@ -1,6 +1,6 @@
 //! Insertions and deletions.
 
-ghost use Rattle.std.specs.Prelude.{◌≡◌, ◌≢◌, ◌⊎◌, ℕ, None, Some, false};
+ghost use Rattle.std.specs.Prelude.{◌≡◌, ◌≢◌, ℕ, None, Some, false};
 ghost use Rattle.bl_proc_base.specs.declared.acts.Action.TheVariants as act;
 ghost use Rattle.bl_model.specs.declared.operation.Op.TheVariants as op;
 ghost use Rattle.bl_index.specs.declared.reply.KeyReply.TheVariants as replies;
@@ -11,7 +11,7 @@ ghost use Rattle.bl_store.specs.Hands.{known, IsOf, IsIdle, IsRunning, IsSameHan
 ghost use Rattle.bl_index_rule.specs.Told.{IsUnborn};
 ghost use Rattle.bl_index_rule.specs.declared.known.Mine.{Mine as Knows};
 ghost use Rattle.bl_index.specs.Runs.{IsOn, IsSince, IsDone, IsWithin, HasReserved};
-ghost use Rattle.bl_index.specs.Rooms.{LacksRoom, LacksAsked};
+ghost use Rattle.bl_index.specs.Rooms.{LacksAsked};
 
 use crate::index::{Index, Pass};
 use crate::kinds::Kind;
@@ -24,7 +24,7 @@ use crossbeam_utils::Backoff;
 use std::sync::Wait;
 
 impl Index {
-    ghost use Rattle.bl_index.specs.Calls.{first_of, IsPassOf, IsSamePass, number_of, trail, Inserts, Deletes, MetNoRoom, StepsAlone};
+    ghost use Rattle.bl_index.specs.Calls.{first_of, IsPassOf, IsSamePass, number_of, trail, Inserts, Deletes, InsertLacks, MetNoRoom, StepsAlone};
 
     /// Puts the value at the key, where the key has none. Where the leaf was parted, there is a hint to post its upper part.
     pub fn insert<R: Wait>(
@@ -37,7 +37,7 @@ impl Index {
         requires { IsPassOf self.now pass.old }
         ensures same { IsSamePass pass.old pass.new }
         ensures inserts { Inserts (first_of self.now) (number_of pass.old) key value (reply_of result.0) result.1 (trail pass.old) (trail pass.new) }
-        ensures no_room { result.0 ≡ replies.NoRoom → MetNoRoom pass.new 0 1 ⊎ MetNoRoom pass.new 1 2 }
+        ensures no_room { result.0 ≡ replies.NoRoom → InsertLacks pass.old key pass.new }
         ensures alone { StepsAlone (first_of self.now) self.now (op.Insert key value) (reply_of result.0) (trail pass.old) (trail pass.new) }
     {
         self.insert_by(rt, &mut pass.hand, key, value)

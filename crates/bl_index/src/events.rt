@@ -14,6 +14,7 @@ ghost use Rattle.bl_store.specs.Drafts.{IsSpread};
 ghost use Rattle.bl_store.specs.Hands.{known, read_words, IsOf, IsIdle, IsRunning, IsSameHand, IsSameStage, IsSameStock, HasNoStock, IsStockOf, ReadsFrom, WasRefused, IsSameRefusal};
 ghost use Rattle.bl_index_rule.specs.declared.known.Mine.{Mine as Knows};
 ghost use Rattle.bl_index_rule.specs.Told.{Goes};
+ghost use Rattle.bl_index.specs.Held.{KeepsLatch};
 ghost use Rattle.bl_index.specs.Runs.{IsOn, IsSince, IsWithin, IsDone};
 ghost use Rattle.bl_index.specs.Events.{OpensLast};
 
@@ -184,6 +185,7 @@ impl Index {
         ensures rests { (known hand.new.seat).runs ≡ false }
         ensures done { (pass : ℕ) (old : Knows) (first ending last : Proc) → IsSince pass old (known hand.old.seat) → OpensLast (known hand.old.seat).state page ending last → op_of ending ≡ op_of first → work_of ending ≡ work_of first → IsDone pass old (known hand.new.seat) first last }
         ensures refusal { IsSameRefusal hand.old.seat hand.new.seat }
+        ensures keeps { KeepsLatch (known hand.old.seat) (known hand.new.seat) }
     {
         self.reopen(hand, page);
         self.store.end::<Ended>(hand);

@@ -18,7 +18,7 @@ ghost use Rattle.bl_store.specs.Hands.{known, read_words, IsOf, IsIdle, IsRunnin
 ghost use Rattle.bl_index_rule.specs.declared.known.Mine.{Mine as Knows};
 ghost use Rattle.bl_index.specs.Runs.{IsOn, IsSince, IsWithin};
 ghost use Rattle.bl_index.specs.Events.{IsThere, HasInserted, HasInsertedBy};
-ghost use Rattle.bl_index.specs.Rooms.{LacksRoom};
+ghost use Rattle.bl_index.specs.Rooms.{LacksPage};
 ghost use Rattle.bl_index.specs.Replies.{reply_of};
 
 use crate::errands::Inserting;
@@ -108,7 +108,7 @@ impl Index {
         ensures within { IsWithin hand.new.seat }
         ensures rests { (known hand.new.seat).runs ≡ false }
         ensures inserted { (pass : ℕ) (old : Knows) → IsSince pass old (known hand.old.seat) → HasInsertedBy pass old (known hand.new.seat) (proc.Insert (record { key = errand.key; value = errand.value; stage = insert.New })) result }
-        ensures no_room { result ≡ inserted.NoRoom → LacksRoom hand.new.seat }
+        ensures no_room { result ≡ inserted.NoRoom → LacksPage 0 errand.key hand.new.seat }
     {
         let _ = errand;
         let changed = self.replace_spread(hand, at, glance, spread);
@@ -138,7 +138,7 @@ impl Index {
         ensures within { IsWithin hand.new.seat }
         ensures rests { (known hand.new.seat).runs ≡ false }
         ensures inserted { (pass : ℕ) (old : Knows) → IsSince pass old (known hand.old.seat) → HasInsertedBy pass old (known hand.new.seat) (proc.Insert (record { key = errand.key; value = errand.value; stage = insert.New })) result }
-        ensures no_room { result ≡ inserted.NoRoom → LacksRoom hand.new.seat }
+        ensures no_room { result ≡ inserted.NoRoom → LacksPage 0 errand.key hand.new.seat }
     {
         let shown = Shown {
             store: &self.store,
@@ -169,7 +169,7 @@ impl Index {
         ensures within { IsWithin hand.new.seat }
         ensures rests { (known hand.new.seat).runs ≡ false }
         ensures inserted { (pass : ℕ) (old : Knows) → IsSince pass old (known hand.old.seat) → HasInsertedBy pass old (known hand.new.seat) (proc.Insert (record { key = errand.key; value = errand.value; stage = insert.New })) result }
-        ensures no_room { result ≡ inserted.NoRoom → LacksRoom hand.new.seat }
+        ensures no_room { result ≡ inserted.NoRoom → LacksPage 0 errand.key hand.new.seat }
     {
         let shown = Shown {
             store: &self.store,
@@ -209,7 +209,7 @@ impl Index {
         ensures within { IsWithin hand.new.seat }
         ensures rests { (known hand.new.seat).runs ≡ false }
         ensures inserted { HasInserted hand.old.number (known hand.old.seat) (known hand.new.seat) (proc.Insert (record { key = key; value = value; stage = insert.New })) (reply_of result.0) result.1 }
-        ensures no_room { result.0 ≡ replies.NoRoom → LacksRoom hand.new.seat }
+        ensures no_room { result.0 ≡ replies.NoRoom → LacksPage 0 key hand.new.seat }
     {
         let errand = Inserting { key, value };
         self.depart(hand, &errand);

@@ -12,7 +12,9 @@ ghost use Rattle.bl_index.specs.Runs.{IsOn};
 ghost use Rattle.bl_index.specs.Events.{IsSameProcess, IsToEnter};
 ghost use Rattle.bl_index.specs.Halves.{AreParts};
 ghost use Rattle.bl_proc_base.specs.declared.changing.Outcome.TheVariants as outcomes;
-ghost use Rattle.bl_index.specs.Rooms.{LacksRoom};
+ghost use Rattle.bl_index.specs.Refused.{GotHeld, IsFull};
+ghost use Rattle.bl_index.specs.Held.{own_marks};
+ghost use Rattle.bl_index.specs.Rooms.{LacksPage};
 
 use crate::changers::Changer;
 use crate::halves::{entries_with, laid_out};
@@ -81,7 +83,7 @@ impl Index {
         ensures empty { HasNoStock hand.new.seat }
         ensures process { IsOn self.now.store.layout (known hand.new.seat) (J.changing changer.now (change.Opening at result)) }
         ensures since { IsSameProcess (known hand.old.seat) (known hand.new.seat) }
-        ensures asked { result ≡ outcomes.Refused → WasRefused hand.new.seat 1 2 }
+        ensures asked { result ≡ outcomes.Refused → WasRefused hand.new.seat 1 2 × GotHeld (J.level_at changer.now) (J.key_at changer.now) (own_marks (known hand.new.seat)) IsFull }
     {
         match self.take_page(hand) {
             Some((new, stock)) => {
@@ -110,7 +112,7 @@ impl Index {
         ensures empty { HasNoStock hand.new.seat }
         ensures process { IsOn self.now.store.layout (known hand.new.seat) (J.changing changer.now (change.Opening at result)) }
         ensures since { IsSameProcess (known hand.old.seat) (known hand.new.seat) }
-        ensures asked { result ≡ outcomes.Refused → LacksRoom hand.new.seat }
+        ensures asked { result ≡ outcomes.Refused → LacksPage (J.level_at changer.now) (J.key_at changer.now) hand.new.seat }
     {
         if words[0] % LEVEL_UNIT >= 14 {
             return self.part_full(hand, changer, at, words, key, word);

@@ -1,6 +1,6 @@
 //! Posts, by the words of pages.
 
-ghost use Rattle.std.specs.Prelude.{◌≡◌, ◌≢◌, ◌⊎◌, ◌<◌, ◌≤◌, ◌-◌, ℕ, Some, None, false};
+ghost use Rattle.std.specs.Prelude.{◌≡◌, ◌≢◌, ◌<◌, ◌≤◌, ◌-◌, ℕ, Some, None, false};
 ghost use Rattle.bl_page.specs.declared.page.Page.{Page};
 ghost use Rattle.bl_page.specs.Words.{words_of};
 ghost use Rattle.bl_claims.specs.Pages.{node_of, IsTreePage};
@@ -22,7 +22,7 @@ ghost use Rattle.bl_index_rule.specs.declared.known.Mine.{Mine as Knows};
 ghost use Rattle.bl_index.specs.Runs.{IsOn, IsSince, IsWithin};
 ghost use Rattle.bl_index.specs.Events.{posting, IsThere, IsToEnter, IsWalking, HasWalked, HasPosted, IsPostOver, IsSameProcess};
 ghost use Rattle.bl_index.specs.Searching.{IsPostAnswer};
-ghost use Rattle.bl_index.specs.Rooms.{LacksRoom};
+ghost use Rattle.bl_index.specs.Rooms.{LacksPost};
 ghost use Rattle.bl_proc_base.specs.declared.answers.Posted.TheVariants as postings;
 ghost use Rattle.bl_proc.specs.declared.posting.PostReply.TheVariants as replies;
 
@@ -116,7 +116,7 @@ fn low_in<W: Words>(source: &W, hand: &mut W::Hand) -> u64
 }
 
 impl Index {
-    ghost use Rattle.bl_index.specs.Calls.{first_of, IsPassOf, IsSamePass, number_of, trail, Posts, MetNoRoom};
+    ghost use Rattle.bl_index.specs.Calls.{first_of, IsPassOf, IsSamePass, number_of, trail, Posts, PostLacks};
 
     /// Lists the page whose low is the hint's key in its parent, which is of the hint's level. The parent then reaches it
     /// without the link of its left neighbour. A hint of either kind will do, and a late or repeated one does no harm.
@@ -125,7 +125,7 @@ impl Index {
         requires own { IsPassOf self.now pass.old }
         ensures same { IsSamePass pass.old pass.new }
         ensures posts { Posts (first_of self.now) (number_of pass.old) (level_of hint) (key_of hint) result.0 result.1 (trail pass.old) (trail pass.new) }
-        ensures no_room { result.0 ≡ postings.NoRoom → MetNoRoom pass.new 0 1 ⊎ MetNoRoom pass.new 1 2 }
+        ensures no_room { result.0 ≡ postings.NoRoom → PostLacks pass.old (level_of hint) (key_of hint) pass.new }
     {
         self.post_by(rt, &mut pass.hand, hint.level(), hint.key())
     }
@@ -377,7 +377,7 @@ impl Index {
         ensures within { IsWithin hand.new.seat }
         ensures rests { (known hand.new.seat).runs ≡ false }
         ensures posted { (first : Proc) × (work_of first ≡ Some (level, key)) × HasPosted hand.old.number (known hand.old.seat) (known hand.new.seat) first result.0 result.1 }
-        ensures no_room { result.0 ≡ postings.NoRoom → LacksRoom hand.new.seat }
+        ensures no_room { result.0 ≡ postings.NoRoom → LacksPost level key hand.new.seat }
     {
         let errand = Posting { level, key };
         self.depart(hand, &errand);

@@ -113,6 +113,11 @@ module _ (s : Pages Mine) (f : Fits s) (n m : ℕ) (st : Stage) (d : Mine) (at :
         tidy = subst (λ (r : Run). IsTidy r.state (marks_of (name n m) (trail_of next_known.trail))) t.extends.proc.at (subst (λ (l : Trail). IsTidy (t.next.proc (name n m)).state (marks_of (name n m) l)) (sym (trail_back t.next.trail)) (all_kept.tidy (name n m)));
       }
 
+  -- the mark of the event shows what it saw
+  pub next_saw : (logs : KeepsLogs t.next) (all_kept : AllKept t.next) → (next_notes logs all_kept).last.saw ≡ t.saw
+  unfolding next_notes
+  next_saw logs all_kept = refl
+
   pub next_near : IsNear next_known.pages (next_of next_known.state)
   next_near =
       let p = name n m in

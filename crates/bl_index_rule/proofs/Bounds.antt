@@ -1,5 +1,5 @@
 -- A process begins, and ends: each keeps the rule, and the pass knows it.
-use Rattle.std.proofs.Common.{ℕ, ◌≡◌, ◌≢◌, ◌+◌, ◌≤◌, ◌++◌, Bool, true, false, if◌then◌else◌, Option, Some, None, List, [], ◌∷◌, length, refl, sym, ap, ◌∙◌, subst, inl, inr, arith, append-nil}
+use Rattle.std.proofs.Common.{ℕ, ◌≡◌, ◌≢◌, ◌+◌, ◌≤◌, ◌++◌, true, false, Option, Some, None, List, [], ◌∷◌, length, refl, sym, ap, ◌∙◌, subst, inl, inr, arith, append-nil}
 use mathlib.Core.Option.{some, some-injective}
 use mathlib.Core.Option as lists
 use lib.ListN.{get_elem?}
@@ -10,7 +10,7 @@ use Rattle.bl_page.specs.declared.page.Page.TheVariants.{Anchor}
 use Rattle.bl_page.specs.Machine.{Name, State, Act}
 use Rattle.bl_page.specs.Machine as machine
 use Rattle.bl_claims.specs.Trails.{Said, Mark, Trail, entries_at, marks_of, IsMarked}
-use Rattle.bl_core.proofs.Pushes.{name_cases, not_same, marks_of-own, SaysAt-last, DoesAt-last}
+use Rattle.bl_core.proofs.Pushes.{name_cases, marks_of-own, SaysAt-last, DoesAt-last}
 use Rattle.bl_core.specs.Worlds.{World}
 use Rattle.bl_claims.specs.Walks.{Each}
 use Rattle.bl_core.proofs.Frames.{Each-map}

@@ -7,7 +7,7 @@ use Rattle.atomic_table.proofs.Lists.{at_set}
 use Rattle.bl_page.specs.declared.page.Page.{Page}
 use Rattle.bl_page.specs.Machine.{Name, State, Act, AllBeganAfter as AllBeganAfterIn}
 use Rattle.bl_page.specs.Machine as machine
-use Rattle.bl_claims.specs.Trails.{Said, Mark, Trail, entries_at, marks_of}
+use Rattle.bl_claims.specs.Trails.{Said, Mark, Trail, entries_at}
 use Rattle.bl_core.proofs.Pushes.{marks_of-own}
 use Rattle.bl_core.specs.Worlds.{HoldsPage}
 use Rattle.bl_core.proofs.Frames.{Each-map}

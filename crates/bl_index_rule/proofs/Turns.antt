@@ -1,5 +1,5 @@
 -- A turn of the process that a hand runs, told truly what its next action gave.
-use Rattle.std.proofs.Common.{ℕ, ◌≡◌, ◌≢◌, ◌≤◌, true, List, length, set, refl, sym, ap, ◌∙◌, subst, arith}
+use Rattle.std.proofs.Common.{ℕ, ◌≡◌, ◌≢◌, ◌≤◌, true, Some, List, length, set, refl, sym, ap, ◌∙◌, subst, arith}
 use Rattle.std.proofs.lemmas.Bool.{false≢true}
 use mathlib.Core.Option.{some}
 use lib.ListN.{get_elem?}
@@ -9,6 +9,7 @@ use Rattle.bl_page.specs.Machine as machine
 use Rattle.bl_core.specs.Worlds.{World, IsGood}
 use Rattle.bl_proc_base.specs.declared.acts.Action.{Action}
 use Rattle.bl_proc_base.specs.declared.acts.Seen.{Seen}
+use Rattle.bl_proc_base.specs.declared.acts.Seen.TheVariants as seen
 use Rattle.bl_proc.specs.declared.kinds.Proc.{Proc}
 use Rattle.bl_proc.specs.Processes.{next_of, Takes}
 use Rattle.bl_claims.specs.Trails.{marks_of}
@@ -17,6 +18,7 @@ use Rattle.bl_proc_invariant.specs.Turns.{event_of, IsTold, IsShown, Does, Turne
 use Rattle.bl_proc_invariant.specs.Knowing.{Run, bare as know, end_of_proc, run_next}
 use Rattle.bl_proc_invariant.proofs.Turning.{bare_turn as turn}
 use Rattle.bl_proc_invariant.proofs.Middles.{KeepsLogs}
+use Rattle.bl_proc_invariant.proofs.Logged.{saw_words}
 use Rattle.bl_proc_bounds.specs.Paces.{AllKept}
 use Rattle.bl_proc_bounds.proofs.Turns.{state_kept}
 use Rattle.bl_proc_unique.specs.Courses.{GoesOn}
@@ -28,7 +30,7 @@ use Rattle.bl_index_rule.specs.Told.{Notes, Steps, Goes}
 use Rattle.bl_index_rule.proofs.Doings.{log_after}
 use Rattle.bl_index_rule.proofs.Shown.{same_owner}
 use Rattle.bl_index_rule.proofs.Logs.{next_logs}
-use Rattle.bl_index_rule.proofs.Advance.{next_known, advance, next_notes, next_near, next_own, next_stage}
+use Rattle.bl_index_rule.proofs.Advance.{next_known, advance, next_notes, next_saw, next_near, next_own, next_stage}
 
 -- the turn of a process of that state
 pub turn_of : (w : World Run) (p : Name) (old : Proc) (what : Seen) (s : State Page) → IsGood know w → (w.proc p).state ≡ old → (c : GoesOn old what) → (a : Action) → next_of old ≡ a → IsTold w.now w.size a what → IsShown w.now p (w.proc p).time a what → Does w.now p (event_of (end_of_proc old) a what) s
@@ -73,8 +75,10 @@ module _ (s : Pages Mine) (f : Fits s) (n since : ℕ) (d : Mine) (at : Stands s
         let act = event_of (end_of_proc d.state) a what in
         let b = run_next f.world.now (f.world.proc mine) what course.new in
         let notes : Notes n d.number act d then_known = next_notes s f n d.number (Running since) d at act s1 b turned true d.past then_logs then_kept in
+        let saw : (x : ℕ) (c : Page) → act ≡ Act.Get x → what ≡ seen.Words c → notes.last.saw ≡ Some c = λ x c e told. next_saw s f n d.number (Running since) d at act s1 b turned true d.past then_logs then_kept ∙ saw_words (end_of_proc d.state) f.world.now f.world.size turned.saw a what said turned.extends.saw x c e told in
+        let named = subst (λ (z : ℕ). (k : Notes z d.number act d then_known) × ((x : ℕ) (c : Page) → act ≡ Act.Get x → what ≡ seen.Words c → k.last.saw ≡ Some c)) (sym is_named.0) (notes, saw) in
         let steps : Steps act d then_known = record {
-          notes = subst (λ (z : ℕ). Notes z d.number act d then_known) (sym is_named.0) notes;
+          notes = named.0;
           runs = refl;
           pages = sym is_named.1;
           passes = sym (f.counts n (Running since) d at standing.1);
@@ -82,8 +86,10 @@ module _ (s : Pages Mine) (f : Fits s) (n since : ℕ) (d : Mine) (at : Stands s
           own = next_own s f n d.number (Running since) d at act s1 b turned true d.past standing.4;
           near = next_near s f n d.number (Running since) d at act s1 b turned true d.past;
         } in
+        let both = subst (λ (y : Action). (k : Steps (event_of (end_of_proc d.state) y what) d then_known) × ((x : ℕ) (c : Page) → event_of (end_of_proc d.state) y what ≡ Act.Get x → what ≡ seen.Words c → k.notes.last.saw ≡ Some c)) (sym next) (steps, named.1) in
         record {
-          steps = subst (λ (y : Action). Steps (event_of (end_of_proc d.state) y what) d then_known) (sym next) steps;
+          steps = both.0;
+          saw = both.1;
           course = course;
           state = refl;
         }

@@ -1,5 +1,5 @@
 -- What each event tells the pass that makes it.
-use Rattle.std.specs.Prelude.{true, false, ◌≡◌, ◌≢◌, ◌⊎◌, ℕ, ◌+◌, ◌<◌, ◌++◌, Option, None, List, [], ◌∷◌, length}
+use Rattle.std.specs.Prelude.{true, false, ◌≡◌, ◌≢◌, ◌⊎◌, ℕ, ◌+◌, ◌<◌, ◌++◌, Option, None, Some, List, [], ◌∷◌, length}
 use Rattle.bl_model.specs.declared.operation.Reply.{Reply}
 use Rattle.bl_page.specs.declared.page.Page.{Page}
 use Rattle.bl_page.specs.Words.{words_of}
@@ -76,9 +76,10 @@ pub record Steps (act : Act Page Reply) (d e : Mine) : Type 0 where
   pub own : HasOwn e
   pub near : IsNear e.pages (next_of e.state)
 
--- the process was told this of its next action, and goes on
+-- the process was told this of its next action, and goes on; where it got a page, its mark shows that page
 pub record Goes (what : Seen) (d e : Mine) : Type 0 where
   pub steps : Steps (event_of (end_of_proc d.state) (next_of d.state) what) d e
+  pub saw : (x : ℕ) (c : Page) → event_of (end_of_proc d.state) (next_of d.state) what ≡ Act.Get x → what ≡ seen.Words c → steps.notes.last.saw ≡ Some c
   pub course : GoesOn d.state what
   pub state : e.state ≡ course.new
 

@@ -10,6 +10,8 @@ use Rattle.bl_index_rule.specs.Noting.{trail_of}
 use Rattle.bl_claims.specs.Seeing.{name}
 use Rattle.bl_index.specs.Runs.{IsSince}
 use Rattle.bl_index.proofs.Calls.{since_step}
+use Rattle.bl_index.proofs.Held.{ends_keeps}
+use Rattle.bl_index.proofs.Standing.{on_held}
 use Rattle.bl_proc_unique.proofs.RefusedAnswers.{answers_refused}
 use Rattle.bl_index.proofs.Rooms.{keeps_room, stays_room, ends_room}
 use Rattle.bl_index.proofs.index.Index.carry_on.Goals as goal
@@ -24,12 +26,12 @@ loop-preserved g c =
       same = search rules;
       running = search rules;
       process = after.0;
-      since = λ pass old begun. since_step _ _ _ _ _ (inv.since pass old begun) after.1.1;
+      since = λ pass old begun. since_step _ _ _ _ _ (inv.since pass old begun) after.1.1.steps;
       going = (sym (laws.answers c.step.new.process) ∙ follows.running after.4, λ e. follows.begun (laws.acts c.step.new.process ∙ e));
       op = follows.op ∙ inv.op;
       work = follows.work ∙ inv.work;
       reserved = after.2;
-      room = keeps_room c.loop.hand.seat c.step.new.hand.seat (g.P.Kind.proc_of c.loop.process) after.3.0 (g.P.Kind.proc_of c.step.new.process) after.3.2 after.3.3 after.4 inv.room;
+      room = keeps_room c.loop.hand.seat c.step.new.hand.seat (g.P.Kind.proc_of c.loop.process) after.3.0 (g.P.Kind.proc_of c.step.new.process) inv.process.state (on_held _ (known c.loop.hand.seat) _ inv.process) after.1 after.3.2 after.3.3 after.4 inv.room;
     }
 
 pub returns-in-AtEnd-clause-done : goal.returns-in-AtEnd-clause-done
@@ -57,5 +59,5 @@ returns-in-AtEnd-clause-no_room g c = λ a is none.
     let inv = c.loop.invariant in
     let after = c.in-AtEnd.ensures.after in
     let p = g.P.Kind.proc_of c.loop.process in let q = g.P.Kind.proc_of c.step.new.process in
-    let keeps = stays_room c.loop.hand.seat c.step.new.hand.seat p q after.1 after.4 inv.room in
-    ends_room c.step.new.hand.seat c.finish.new.hand.seat q (g.P.Kind.proc_of c.finish.new.process) (laws.goes _ _ _ c.finish.ensures.takes) c.finish.ensures.refusal keeps (answers_refused _ a (laws.answers c.finish.new.process ∙ is) none)
+    let keeps = stays_room c.loop.hand.seat c.step.new.hand.seat p q after.1 after.4 after.2 inv.room in
+    ends_room c.step.new.hand.seat c.finish.new.hand.seat q (g.P.Kind.proc_of c.finish.new.process) (laws.goes _ _ _ c.finish.ensures.takes) c.finish.ensures.refusal (ends_keeps _ (known c.step.new.hand.seat) (known c.finish.new.hand.seat) c.finish.ensures.told) keeps (answers_refused _ a (laws.answers c.finish.new.process ∙ is) none)

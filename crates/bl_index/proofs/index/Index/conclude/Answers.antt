@@ -1,3 +1,4 @@
+use Rattle.bl_index.proofs.Held.{goes_keeps, ends_keeps, keeps_both, open_latches_not}
 use Rattle.std.proofs.Common.{refl, ap, ◌∙◌}
 use Rattle.bl_proc_base.specs.declared.acts.Seen.TheVariants as seen
 use Rattle.bl_proc.specs.Processes.{next_of}
@@ -19,3 +20,8 @@ returns-clause-within c = ends_within c.args.self.now.store.layout c.reopen.new.
 pub returns-clause-done : goal.returns-clause-done
 returns-clause-done c = λ pass old first ending last since opens op work.
     concluded pass c.args.page old (known c.args.hand.now.seat) (known c.reopen.new.hand.seat) (known c.end.new.hand.seat) first ending last since opens c.reopen.ensures.goes c.end.ensures.told.1 op work
+
+pub returns-clause-keeps : goal.returns-clause-keeps
+returns-clause-keeps c =
+    let d = known c.args.hand.now.seat in let e = known c.reopen.new.hand.seat in let f = known c.end.new.hand.seat in
+    keeps_both d e f (goes_keeps seen.Done d e c.reopen.ensures.goes (open_latches_not d c.args.page c.requires.opens.2.next)) (ends_keeps _ e f c.end.ensures.told.1.0)

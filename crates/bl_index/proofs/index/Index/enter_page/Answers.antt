@@ -8,7 +8,10 @@ use Rattle.bl_proc_base.proofs.Spellings.{pairs_counted}
 use Rattle.bl_proc.specs.Processes.{next_of}
 use Rattle.bl_store.specs.Hands.{known}
 use Rattle.bl_index.specs.Runs.{IsOn}
-use Rattle.bl_index.proofs.Standing.{on_goes, same_goes}
+use Rattle.bl_index.specs.Refused.{HasRoom}
+use Rattle.bl_index.specs.Held.{own_marks}
+use Rattle.bl_index.proofs.Held.{goes_keeps, keeps_held, put_latches_not}
+use Rattle.bl_index.proofs.Standing.{on_held, on_goes, same_goes}
 use Rattle.bl_index.proofs.Parents.{enters_putting, enters_taking}
 use Rattle.bl_index.proofs.index.Index.enter_page.Goals as goal
 
@@ -58,4 +61,11 @@ pub returns-then-words-ge14-clause-asked : goal.returns-then-words-ge14-clause-a
 returns-then-words-ge14-clause-asked g c = λ none. inr (c.part_full.ensures.asked none)
 
 pub returns-else-replace-clause-asked : goal.returns-else-replace-clause-asked
-returns-else-replace-clause-asked g c = λ none. inl (c.replace.ensures.asked c.if-replace.false)
+returns-else-replace-clause-asked g c = λ none.
+    let enter = c.requires.page.1 in let j = c.args.changer.now in let layout = c.args.self.now.store.layout in
+    let room : length (pairs_of enter.page) < 14 = omega (arith, pairs_counted enter.page c.args.words.now enter.tree enter.is, c.if-words-ge14.false) in
+    let putting = enters_putting c.args.at c.args.key c.args.word c.args.words.now c.requires.page.0 enter room in
+    let on = subst (λ (z : Change). IsOn layout (known c.args.hand.now.seat) (g.J.Changer.changing j z)) putting.2 c.requires.page.2 in
+    let d = known c.args.hand.now.seat in let e = known c.replace.new.hand.seat in
+    let latch = goes_keeps seen.Refused d e (c.replace.ensures.refused c.if-replace.false) (put_latches_not d _ c.args.at putting.0 on.state (g.J.Changer.acts j (change.Putting c.args.at putting.0))) in
+    inl (c.replace.ensures.asked c.if-replace.false, keeps_held (g.J.Changer.level_at j) (g.J.Changer.key_at j) HasRoom d e latch (g.J.Changer.holds j (change.Putting c.args.at putting.0) (own_marks d) (on_held layout d _ on)))

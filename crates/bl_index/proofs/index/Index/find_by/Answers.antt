@@ -31,7 +31,7 @@ loop-turn-preserved c =
       same = search rules;
       running = search rules;
       process = process;
-      since = since_step _ _ _ _ _ inv.since c.read.ensures.moves.1;
+      since = since_step _ _ _ _ _ inv.since c.read.ensures.moves.1.steps;
       key = takes.1.0 ∙ inv.key;
       going = going;
       turn = at_step _ _ _ _ _ inv.since.named inv.since.number inv.turn _ _ process.pages c.read.ensures.got (find_is_search _ _ process.state) (find_under_way _ _ process.state going);
@@ -42,7 +42,7 @@ returns-in-Ending-clause-answers c =
     let inv = c.loop-turn.invariant in
     let takes = c.read.ensures.takes in
     let process = c.read.ensures.process in
-    let since = since_step _ _ _ _ _ inv.since c.read.ensures.moves.1 in
+    let since = since_step _ _ _ _ _ inv.since c.read.ensures.moves.1.steps in
     record {
       answered = record {
         answers = find_answers _ _ _ _ _ c.read.new.process c.args.key c.in-Ending.value (reply_of c.found.result) refl since process.state (takes.1.0 ∙ inv.key) c.in-Ending.is c.finish.ensures.told c.found.ensures;

@@ -5,6 +5,8 @@ use Rattle.bl_proc.specs.Processes.{next_of}
 use Rattle.bl_proc_unique.specs.Courses.{GoesOn}
 use Rattle.bl_store.specs.Hands.{known}
 use Rattle.bl_index_rule.proofs.Pages.{latches_page, misses_page}
+use Rattle.std.proofs.lemmas.Bool.{false≢true}
+use Rattle.bl_index.proofs.Standing.{on_goes}
 use Rattle.bl_index.proofs.Rooms.{tells_missed, tells_done, latch_opens_not}
 use Rattle.bl_index.proofs.index.Index.latch.Goals as goal
 
@@ -19,3 +21,13 @@ returns-then-try_latch-clause-takes g c = (seen.Done, c.took.ensures, tells_done
 
 pub returns-else-try_latch-clause-takes : goal.returns-else-try_latch-clause-takes
 returns-else-try_latch-clause-takes g c = (seen.Missed, c.took-else-try_latch.ensures, tells_missed c.args.hand.now.seat c.try_latch.new.hand.seat (g.P.Kind.proc_of c.args.process.now) _ (g.met.P.Kind.acts c.args.process.now ∙ c.requires.next.1))
+
+pub returns-then-try_latch-clause-process : goal.returns-then-try_latch-clause-process
+returns-then-try_latch-clause-process g c =
+    let told = c.try_latch.ensures.told in
+    on_goes _ seen.Done _ _ _ _ c.requires.process (told.3.0 (told.2.0 c.if-try_latch.true)) (g.met.P.Kind.goes _ _ seen.Done c.took.ensures)
+
+pub returns-else-try_latch-clause-process : goal.returns-else-try_latch-clause-process
+returns-else-try_latch-clause-process g c =
+    let told = c.try_latch.ensures.told in
+    on_goes _ seen.Missed _ _ _ _ c.requires.process (told.3.1 (λ is. false≢true (sym c.if-try_latch.false ∙ told.2.1 is))) (g.met.P.Kind.goes _ _ seen.Missed c.took-else-try_latch.ensures)

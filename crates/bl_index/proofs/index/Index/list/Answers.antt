@@ -1,4 +1,4 @@
-use Rattle.std.proofs.Common.{Some, refl, sym, ap, subst, ◌∙◌}
+use Rattle.std.proofs.Common.{Some, inl, refl, sym, ap, subst, ◌∙◌}
 use Rattle.bl_proc.specs.declared.posting.PostReply.{PostReply}
 use Rattle.bl_proc.specs.declared.posting.PostStage.TheVariants as post
 use Rattle.bl_proc.specs.Posts.{post_reply, posted_answer}
@@ -27,7 +27,7 @@ returns-clause-over c =
       (c.conclude.ensures.idle, c.conclude.ensures.same.1.0 ∙ c.enter_page-outcome.ensures.empty),
       c.conclude.ensures.within,
       c.conclude.ensures.rests,
-      (λ none. lacks_on c.enter_page-outcome.new.hand.seat c.conclude.new.hand.seat c.conclude.ensures.refusal (c.enter_page-outcome.ensures.asked (reply_refused o (sym c.reply_by.ensures ∙ c.posted_by.ensures.no_room none)))),
+      (λ none. inl (lacks_on j.level j.key c.enter_page-outcome.new.hand.seat c.conclude.new.hand.seat c.conclude.ensures.refusal c.conclude.ensures.keeps (c.enter_page-outcome.ensures.asked (reply_refused o (sym c.reply_by.ensures ∙ c.posted_by.ensures.no_room none))))),
       λ pass old since. record {
         last = record { level = j.level; key = j.key; stage = post.Over (post_reply o); least = j.least; most = j.most; below = may_reply j o below };
         done = c.conclude.ensures.done pass old (posting j post.New tt) (posting j (post.Ending (post_reply o)) (may_reply j o below)) (posting j (post.Over (post_reply o)) (may_reply j o below)) (c.enter_page-outcome.ensures.since pass old since) opens refl refl;

@@ -1,9 +1,13 @@
+use Rattle.bl_store.specs.Hands.{known}
+use Rattle.bl_index.proofs.Held.{goes_keeps, keeps_held, take_latches_not}
+use Rattle.bl_index.specs.Held.{own_marks}
+use Rattle.bl_index.specs.Refused.{IsFull}
 use Rattle.std.proofs.Common.{refl, sym, ap, ◌∙◌, get_or}
 use Rattle.bl_proc_base.specs.declared.acts.Seen.TheVariants as seen
 use Rattle.bl_proc_base.specs.declared.changing.Change.TheVariants as change
 use Rattle.bl_proc_base.specs.declared.changing.Outcome.TheVariants as outcome
 use Rattle.bl_proc.specs.Processes.{next_of}
-use Rattle.bl_index.proofs.Standing.{on_itself, on_goes, same_goes, same_all, course_at}
+use Rattle.bl_index.proofs.Standing.{on_itself, on_held, on_goes, same_goes, same_all, course_at}
 use Rattle.bl_index.proofs.Parted.{parted_by, full_tree, full_head}
 use Rattle.bl_proc_base.specs.declared.changing.Parting.{Parting}
 use Rattle.bl_index.proofs.index.Index.part_full.Goals as goal
@@ -42,3 +46,10 @@ returns-in-None-clause-since g c = same_goes _ _ _ c.in-None.ensures.took.1
 
 pub returns-in-Some-clause-since : goal.returns-in-Some-clause-since
 returns-in-Some-clause-since g c = same_all _ _ _ (same_goes _ _ _ c.in-Some.ensures.took.3) c.put_parts.ensures.since
+
+pub returns-in-None-clause-asked : goal.returns-in-None-clause-asked
+returns-in-None-clause-asked g c = λ none.
+    let f = c.requires.full in let j = c.args.changer.now in
+    let d = known c.args.hand.now.seat in let e = known c.take_page.new.hand.seat in
+    let latch = goes_keeps seen.Refused d e c.in-None.ensures.took.1 (take_latches_not d _ f.5.state (g.J.Changer.acts j (change.Taking f.0))) in
+    (c.in-None.ensures.asked, keeps_held (g.J.Changer.level_at j) (g.J.Changer.key_at j) IsFull d e latch (g.J.Changer.holds j (change.Taking f.0) (own_marks d) (on_held _ d _ f.5)))

@@ -6,6 +6,8 @@ use Rattle.bl_store.specs.Hands.{known}
 use Rattle.bl_store.specs.declared.store.Hand.{Hand}
 use Rattle.bl_index_rule.specs.declared.known.Mine.{Mine}
 use Rattle.bl_index.specs.Runs.{IsOn, IsSince}
+use Rattle.bl_index.specs.Refused.{IsFull}
+use Rattle.bl_index.proofs.Held.{keeps_held}
 use Rattle.bl_index.proofs.Standing.{on_itself, opens_at}
 use Rattle.bl_index.proofs.Inserted.{inserting, opens_changed, has_inserted}
 use Rattle.bl_index.proofs.Rooms.{insert_refused}
@@ -34,4 +36,6 @@ returns-clause-inserted c = λ pass old since reply hint e.
     (ap inserted_answer (sym c.inserted_by.ensures) ∙ e)
 
 pub returns-clause-no_room : goal.returns-clause-no_room
-returns-clause-no_room c = λ none. inr (c.conclude.ensures.refusal ∙ c.part_full-outcome.ensures.asked (insert_refused _ (sym c.inserted_by.ensures ∙ none)))
+returns-clause-no_room c = λ none.
+    let asked = c.part_full-outcome.ensures.asked (insert_refused _ (sym c.inserted_by.ensures ∙ none)) in
+    inr (c.conclude.ensures.refusal ∙ asked.0, keeps_held 0 c.args.errand.key IsFull (known c.part_full-outcome.new.hand.seat) (known c.conclude.new.hand.seat) c.conclude.ensures.keeps asked.1)

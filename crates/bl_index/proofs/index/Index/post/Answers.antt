@@ -1,7 +1,11 @@
-use Rattle.std.proofs.Common.{Some, ◌∙◌}
+use Rattle.std.proofs.Common.{ℕ, Some, subst, ◌∙◌}
+use Rattle.bl_proc_base.specs.Hints.{level_of, key_of}
+use Rattle.bl_store.specs.Hands.{known, WasRefused}
+use Rattle.bl_index.specs.Refused.{LacksForPost}
+use Rattle.bl_index.specs.Held.{own_marks}
 use Rattle.bl_index.proofs.Taken.{same_pass}
 use Rattle.bl_index.proofs.Ends.{done_first}
-use Rattle.bl_index.proofs.Posts.{post_answered}
+use Rattle.bl_index.proofs.Posts.{post_answered, post_in_call}
 use Rattle.bl_index.proofs.index.Index.post.Goals as goal
 
 pub returns-clause-posts : goal.returns-clause-posts
@@ -14,3 +18,9 @@ returns-clause-same g c = let e = c.post_by.ensures in same_pass c.args.pass.now
 
 pub invariant_of-pass : goal.invariant_of-pass
 invariant_of-pass g c = let e = c.post_by.ensures in record { idle = e.idle.0; empty = e.idle.1; within = e.within; rests = e.rests; seen = ∣ e.posted.2.done.told.notes.seen ∣₁ }
+
+pub returns-clause-no_room : goal.returns-clause-no_room
+returns-clause-no_room g c = λ none.
+    let posted = c.post_by.ensures.posted in let h = c.post_by.new.hand.seat in
+    let lacks = subst (λ (z : ℕ × ℕ). LacksForPost z.0 z.1 (own_marks (known h)) (WasRefused h)) (λ i. (c.level.ensures.named i, c.key.ensures i)) (c.post_by.ensures.no_room none) in
+    post_in_call _ _ _ (known h) _ _ _ _ (λ marks. LacksForPost (level_of c.args.hint) (key_of c.args.hint) marks (WasRefused h)) posted.2.done c.requires.own.2 (posted.1 ∙ (λ i. Some (c.level.ensures.named i, c.key.ensures i))) lacks

@@ -1,4 +1,4 @@
-use Rattle.std.proofs.Common.{inl, inr, Some, refl, sym, subst, ◌∙◌}
+use Rattle.std.proofs.Common.{ℕ, inl, inr, Some, refl, sym, subst, ◌∙◌}
 use Rattle.bl_proc_base.specs.declared.acts.Seen.TheVariants as seen
 use Rattle.bl_proc_base.specs.declared.approaching.Approach.TheVariants as approach
 use Rattle.bl_proc.specs.declared.posting.PostStage.TheVariants as post
@@ -9,7 +9,8 @@ use Rattle.bl_index_rule.specs.declared.known.Mine.{Mine}
 use Rattle.bl_proc_unique.proofs.Posts.{post_goes}
 use Rattle.bl_index.specs.Runs.{IsOn, IsSince}
 use Rattle.bl_index.specs.Events.{posting}
-use Rattle.bl_index.proofs.Posts.{post_has_answer}
+use Rattle.bl_index.specs.Rooms.{LacksPost}
+use Rattle.bl_index.proofs.Posts.{post_has_answer, post_named}
 use Rattle.bl_index.proofs.Standing.{on_as, done_from}
 use Rattle.bl_proc_base.specs.declared.answers.Answer.TheVariants as answer
 use Rattle.bl_proc_base.specs.declared.answers.Posted.{Posted}
@@ -35,12 +36,14 @@ posted-requires g c =
 
 pub returns-clause-over : goal.returns-clause-over
 returns-clause-over g c =
-    let anchor = c.requires.anchor in
-    let takes = c.took_words.ensures.takes anchor.0 anchor.1 in (
+    let anchor = c.requires.anchor in let first = c.requires.since in
+    let takes = c.took_words.ensures.takes anchor.0 anchor.1 in
+    let still = subst (λ (h : Hand Mine). IsSince first.0 first.1 (known h.seat)) (sym c.took_words.ensures.same) first.2 in
+    let named = post_named first.0 first.1 (known c.carry_on-process.new.hand.seat) (proc.Post c.took_words.new.self) c.carry_on-process.result c.args.errand.level c.args.errand.key (c.carry_on-process.ensures.done first.0 first.1 still) (λ i. Some (takes.0 i, takes.1 i)) in (
       c.carry_on-process.ensures.idle,
       c.carry_on-process.ensures.within,
       c.carry_on-process.ensures.rests,
-      (λ none. lacks_asked c.carry_on-process.new.hand.seat c.carry_on-process.result (c.carry_on-process.ensures.no_room _ (sym c.answer.ensures ∙ c.posted.ensures) (subst (λ (z : Posted). IsNoRoom (answer.Post z c.posted.result.1)) (sym none) tt))),
+      (λ none. subst (λ (z : ℕ × ℕ). LacksPost z.0 z.1 c.carry_on-process.new.hand.seat) (λ i. (named.0 i, named.1 i)) (lacks_asked c.carry_on-process.new.hand.seat c.carry_on-process.result (c.carry_on-process.ensures.no_room _ (sym c.answer.ensures ∙ c.posted.ensures) (subst (λ (z : Posted). IsNoRoom (answer.Post z c.posted.result.1)) (sym none) tt)))),
       λ pass old begun.
           let since = subst (λ (h : Hand Mine). IsSince pass old (known h.seat)) (sym c.took_words.ensures.same) begun in
           record {

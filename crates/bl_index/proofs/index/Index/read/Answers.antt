@@ -13,6 +13,8 @@ use Rattle.bl_proc_invariant.specs.Knowing.{end_of_proc}
 use Rattle.bl_index_rule.specs.declared.known.Mine.{Mine}
 use Rattle.bl_index_rule.specs.Told.{Steps}
 use Rattle.bl_index_rule.proofs.Pages.{gets_page}
+use Rattle.bl_index.specs.Runs.{IsOn}
+use Rattle.bl_index.proofs.Standing.{on_goes}
 use Rattle.bl_index.proofs.index.Index.read.Goals as goal
 
 pub glance-requires-clause-rule : goal.glance-requires-clause-rule
@@ -33,3 +35,9 @@ returns-clause-got g c =
     let next : next_of (known c.args.hand.now.seat).state ≡ act.Get c.args.page = ap next_of c.requires.process.state ∙ (g.met.P.Kind.acts c.args.process.now ∙ c.requires.next.1) in
     let steps : Steps (Get c.args.page) (known c.args.hand.now.seat) (known c.glance.new.hand.seat) = subst (λ (a : Action). Steps (event_of (end_of_proc (known c.args.hand.now.seat).state) a (seen.Words page.0)) (known c.args.hand.now.seat) (known c.glance.new.hand.seat)) next page.2.steps in
     subst (λ (h : Hand Mine). Steps (Get c.args.page) (known c.args.hand.now.seat) (known h.seat)) (sym c.took_words.ensures.same) steps
+
+pub returns-clause-process : goal.returns-clause-process
+returns-clause-process g c =
+    let told = c.in-Some.ensures.told in let page = told.3 in
+    let takes = g.met.P.Kind.goes _ _ _ (c.took_words.ensures.takes page.0 (sym told.2.1 ∙ page.1)) in
+    subst (λ (h : Hand Mine). IsOn c.args.self.now.store.layout (known h.seat) (g.P.Kind.proc_of c.took_words.new.self)) (sym c.took_words.ensures.same) (on_goes _ (seen.Words page.0) _ _ _ _ c.requires.process page.2 takes)

@@ -1,0 +1,50 @@
+-- What a call that found no room was refused, by the page that its process held.
+use Rattle.std.specs.Prelude.{◌≡◌, ◌⊎◌, ℕ, ◌<◌, ◌≤◌, Some, ◌∷◌, length}
+use Rattle.bl_page.specs.declared.page.Page.{Page}
+use Rattle.bl_page.specs.Machine.Act.{Get, Latch}
+use Rattle.bl_claims.specs.Nodes.{Covers}
+use Rattle.bl_claims.specs.Pages.{node_of, roots_of}
+use Rattle.bl_claims.specs.Trails.{Mark, Trail}
+use Rattle.bl_claims.specs.Moments.{After, IsLatch}
+use Rattle.bl_rearrange.specs.Rearranged.{pairs_of}
+
+-- the page that the process latched last was x, and next it got that page, which then was c
+pub record GotLatched (marks : Trail) (x : ℕ) (c : Page) : Type 0 where
+  pub latched : After marks IsLatch
+  pub is : latched.last.event.act ≡ Latch x
+  pub get : Mark
+  pub rest : Trail
+  pub next : latched.since ≡ get ∷ rest
+  pub act : get.event.act ≡ Get x
+  pub saw : get.saw ≡ Some c
+
+-- a page may have 14 pairs: rows of a leaf, children of an inner page
+abbrev pub HasRoom : Page → Type 0
+HasRoom page = length (pairs_of page) < 14
+
+abbrev pub IsFull : Page → Type 0
+IsFull page = 14 ≤ length (pairs_of page)
+
+-- The page that the process held, as it got it, was of that level, covered the key, and was so.
+pub record GotHeld (level key : ℕ) (marks : Trail) (WasSo : Page → Type 0) : Type 0 where
+  pub at : ℕ
+  pub page : Page
+  pub got : GotLatched marks at page
+  pub level_is : (node_of page).shape.level ≡ level
+  pub covers : Covers (node_of page).shape key
+  pub was : WasSo page
+
+-- It held the anchor of a tree with that many levels, which was to have one more.
+pub record GotAnchor (level : ℕ) (marks : Trail) : Type 0 where
+  pub anchor : Page
+  pub got : GotLatched marks 0 anchor
+  pub levels : (roots_of anchor).levels ≡ level
+
+-- A frame was refused, where the page that the process held had room for one pair more; or a page and two frames, where that
+-- page was full, and was to be parted. How many pages and frames were refused is said by WasRefused.
+abbrev pub LacksForPage : ℕ → ℕ → Trail → (ℕ → ℕ → Type 0) → Type 0
+LacksForPage level key marks WasRefused = (WasRefused 0 1 × GotHeld level key marks HasRoom) ⊎ (WasRefused 1 2 × GotHeld level key marks IsFull)
+
+-- The same for a post; or a page and two frames, where it held the anchor, for a new top level.
+abbrev pub LacksForPost : ℕ → ℕ → Trail → (ℕ → ℕ → Type 0) → Type 0
+LacksForPost level key marks WasRefused = LacksForPage level key marks WasRefused ⊎ (WasRefused 1 2 × GotAnchor level marks)
