@@ -139,18 +139,21 @@ fn threads_for(lines: &[Option<Request>], crew: Crew) -> usize {
     }
 }
 
-/// The place behind so many desks with work, and behind those that rest there.
-fn behind(desks: &[Desk], many: usize) -> usize {
-    let mut left = many;
-    for number in 0..desks.len() {
+/// The place of the first of so many desks with work, counted from the back; 0 where there are no more than these.
+fn last_ones(desks: &[Desk], many: usize) -> usize {
+    let mut place = desks.len();
+    let mut found = 0;
+    for back in 1..=desks.len() {
+        let number = desks.len() - back;
         if desks[number].duty != Duty::Rest {
-            if left == 0 {
-                return number;
+            if found == many {
+                return place;
             }
-            left -= 1;
+            found += 1;
+            place = number;
         }
     }
-    desks.len()
+    0
 }
 
 /// The passes take their turns one after another, each at its desk.
@@ -188,7 +191,8 @@ fn work_in_turn<R: Wait, G: Gate>(
 }
 
 /// The passes take their turns, those of so many desks with work in one thread. This thread makes all others, and works as they do:
-/// a thread that another new one makes would often wait for a processor.
+/// a thread that another new one makes would often wait for a processor. The last ones get a thread first: where none can be
+/// made, their turns come behind all others, so no compressor waits for a worker that has not begun.
 #[cycle(abreast)]
 fn work_abreast<R: Threads + Wait + Sync, G: Gate + Sync>(
     rt: &R,
@@ -209,15 +213,15 @@ fn work_abreast<R: Threads + Wait + Sync, G: Gate + Sync>(
     requires desks { length desks.old ≡ length passes.old }
     ensures { TakeTurns (first_of index.now) (suc done) lines.now passes.old passes.new desks.new }
 {
-    let place = behind(desks, many);
+    let place = last_ones(desks, many);
     if place == 0 || passes.len() <= place {
         work_in_turn(
             rt, alloc, index, hints, gate, shift, batches, done, lines, passes, desks,
         );
         return;
     }
-    let (some, others) = passes.split_at_mut(place);
-    let (theirs, rest) = desks.split_at_mut(place);
+    let (others, some) = passes.split_at_mut(place);
+    let (rest, theirs) = desks.split_at_mut(place);
     join_mut(
         rt,
         &mut ||
