@@ -142,14 +142,14 @@ fn threads_for(lines: &[Option<Request>], crew: Crew) -> usize {
 /// The place of the first of so many desks with work, counted from the back; 0 where there are no more than these.
 fn last_ones(desks: &[Desk], many: usize) -> usize {
     let mut place = desks.len();
-    let mut found = 0;
-    for back in 1..=desks.len() {
-        let number = desks.len() - back;
+    let mut left = many;
+    for back in 0..desks.len() {
+        let number = desks.len() - 1 - back;
         if desks[number].duty != Duty::Rest {
-            if found == many {
+            if left == 0 {
                 return place;
             }
-            found += 1;
+            left -= 1;
             place = number;
         }
     }
