@@ -211,7 +211,7 @@ stops_inside first old now before input output ahead fault ReaderFailed WriterFa
 )
 
 -- lists that are taken one after another
-interleaves_skip : (history : List Entry) (lists : List (List Entry)) → Interleaves lists history → Interleaves ([] ∷ lists) history
+pub interleaves_skip : (history : List Entry) (lists : List (List Entry)) → Interleaves lists history → Interleaves ([] ∷ lists) history
 interleaves_skip [] lists none = All-cons (λ list. list ≡ []) [] lists refl none
 interleaves_skip (e ∷ history) lists (before, list, after, is, more) =
     ([] ∷ before, list, after, ap (λ ls. [] ∷ ls) is, interleaves_skip history (before ++ list ∷ after) more)

@@ -25,7 +25,7 @@ use Rattle.bl_serve.specs.declared.reading.SectionEnd.{SectionEnd}
 use Rattle.bl_serve.specs.declared.reading.SectionEnd.TheVariants as section_end
 use Rattle.bl_serve.specs.Reading.{ReadsLines, AsksSyncLast, EndsReading, IsReadAs, bytes_of}
 use Rattle.bl_serve.specs.Sections.{Held, CountsSection, end_text, rests, syncs}
-use Rattle.bl_serve.specs.Serving.{AreTogether, ServesSection, ServedBy, IsInside}
+use Rattle.bl_serve.specs.Serving.{AreTogether, FailsSection, ServesSection, ServedBy, IsInside}
 use Rattle.bl_serve.proofs.Spelled.{lines_with}
 use Rattle.bl_serve.proofs.Advance.{Progress, add_section, serves_end, stops_inside, stops_reading, stops_writing, ends_rest, ends_finished, inside_no_sync, inside_sync_last, input_long}
 use Rattle.bl_serve.proofs.Holding.{first_seen}
@@ -79,6 +79,12 @@ stops_at_answers first (Lost number) old now before input output unread left res
     let whole = read_whole asked unread left rest r in let done = p.requests in let low = inside.0 in let high = inside.1 in
     stops_inside first old now before input output unread (Lost number) ReaderFailed WriterFailed p seen (refl, omega (arith, done, low), omega (arith, done, high, whole)) tt
 stops_at_answers first fault old now before input output unread left rest asked ReaderFailed WriterFailed p seen r inside = absurd inside
+
+-- it was not served
+pub stops_at_section : (first : List (Option Page)) (fault : ServeFault) (old now : Trail) (before : Totals) (input output unread left rest : List ℕ) (asked : List (Option Request)) (most : ℕ) (AtEnd ReaderFailed WriterFailed : Type 0) → Progress old now before input output → IsSeen first now
+    → FailsSection fault before.requests most asked rest unread left AtEnd ReaderFailed → Stops (map_after first old) (input ++ unread) output fault ReaderFailed WriterFailed
+stops_at_section first fault old now before input output unread left rest asked most AtEnd ReaderFailed WriterFailed p seen (inl e) = stops_at_read first fault old now before input output unread left rest asked most AtEnd ReaderFailed WriterFailed p seen e
+stops_at_section first fault old now before input output unread left rest asked most AtEnd ReaderFailed WriterFailed p seen (inr f) = stops_at_answers first fault old now before input output unread left rest asked ReaderFailed WriterFailed p seen f.0 f.1
 
 -- ---- a section that was answered
 

@@ -11,6 +11,7 @@ pub mod Advance
 pub mod Holding
 pub mod Cutting
 pub mod Faults
+pub mod Continuing
 pub mod Beginning
 pub mod Scanning
 pub mod Leaving

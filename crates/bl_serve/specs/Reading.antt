@@ -1,12 +1,14 @@
 -- The lines of a section, as they are read.
 use Rattle.std.specs.Prelude.{◌≡◌, ◌≢◌, ℕ, ◌<◌, ◌≤◌, ◌⊎◌, List, [], ◌∷◌, ◌++◌, All, Option, Some, Result, Ok, Err, flat_map, length}
 use Rattle.std.specs.List.{AllZip}
+use Rattle.std.specs.Io.KnownBytes.{Consumes, IsAtEnd}
 use Rattle.bl_serve_lines.specs.declared.request.Request.{Request}
 use Rattle.bl_serve_lines.specs.declared.request.Request.TheVariants.{Sync}
 use Rattle.bl_serve_lines.specs.declared.serving.ServeFault.{ServeFault}
 use Rattle.bl_serve_lines.specs.declared.serving.ServeFault.TheVariants.{Read, Write, Memory, Lost}
 use Rattle.bl_serve.specs.declared.reading.Reading.{Reading}
 use Rattle.bl_serve.specs.declared.reading.Reading.TheVariants as reading
+use Rattle.bl_serve.specs.declared.reading.Ahead.{Ahead}
 use Rattle.bl_serve.specs.declared.reading.SectionEnd.{SectionEnd}
 use Rattle.bl_serve.specs.declared.reading.SectionEnd.TheVariants.{Synced, Rest, Finished}
 use Rattle.bl_serve_lines.specs.Text.{Means}
@@ -55,3 +57,11 @@ EndsReading (Err Read) most asked rest unread left at_end failed = ReadsLines un
 EndsReading (Err Write) most asked rest unread left at_end failed = ⊥
 EndsReading (Err Memory) most asked rest unread left at_end failed = Unit {0}
 EndsReading (Err (Lost number)) most asked rest unread left at_end failed = ⊥
+
+-- At most so many lines were read on as are wanted; where none are, nothing was read.
+pub record ReadsOn (old new : Ahead) (before after : Option (List ℕ)) (failed : Type 0) : Type 0 where
+  pub rest : List ℕ
+  pub more : List ℕ
+  pub consumed : Consumes before after more
+  pub reads : EndsReading new.end old.most new.lines.items rest (old.source ++ more) new.source (IsAtEnd after) failed
+  pub idle : old.most ≡ 0 → (after ≡ before) × (new.source ≡ old.source)

@@ -1,5 +1,5 @@
 -- What the server promises.
-use Rattle.std.specs.Prelude.{◌≡◌, ℕ, suc, ◌+◌, ◌<◌, ◌≤◌, List, [], ◌∷◌, ◌++◌, Option, length}
+use Rattle.std.specs.Prelude.{◌≡◌, ℕ, suc, ◌+◌, ◌<◌, ◌≤◌, ◌⊎◌, List, [], ◌∷◌, ◌++◌, Option, Err, length}
 use Rattle.bl_serve_lines.specs.declared.request.Request.{Request}
 use Rattle.bl_serve_lines.specs.declared.serving.Totals.{Totals}
 use Rattle.bl_serve_lines.specs.declared.serving.ServeFault.{ServeFault}
@@ -12,6 +12,7 @@ use Rattle.bl_index.specs.declared.index.Index.{Index}
 use Rattle.bl_index.specs.declared.index.Pass.{Pass}
 use Rattle.bl_index.specs.Calls.{first_of, IsPassOf, number_of, trail, passes_of, map_after}
 use Rattle.bl_serve.specs.declared.reading.SectionEnd.{SectionEnd}
+use Rattle.bl_serve.specs.Reading.{EndsReading, ReadsLines}
 use Rattle.bl_serve.specs.Sections.{Held, end_text}
 
 -- passes of the index that are numbered from that number on, each of which has seen that trail
@@ -48,6 +49,10 @@ IsInside done count Read = ⊥
 IsInside done count Write = ⊥
 IsInside done count Memory = Unit {0}
 IsInside done count (Lost number) = (done < number) × (number ≤ done + count)
+
+-- how a section behind so many lines ends by a fault: it could not be read, or lines that were read could not be answered
+abbrev pub FailsSection : ServeFault → ℕ → ℕ → List (Option Request) → List ℕ → List ℕ → List ℕ → Type 0 → Type 0 → Type 0
+FailsSection fault done most asked rest unread left at_end failed = EndsReading (Err fault) most asked rest unread left at_end failed ⊎ (ReadsLines unread left asked rest × IsInside done (length asked) fault)
 
 -- The input is served from the map after old on, and the trail now is old with the entries of what was served, in the order of
 -- its history, and with no others.

@@ -1,15 +1,15 @@
 //! Sections are read.
 
-ghost use Rattle.std.specs.Prelude.{◌≡◌, ℕ, ◌+◌, ◌≤◌, List, [], ◌∷◌, ◌++◌, ◌↔◌, IsTrue, true, OnOk};
+ghost use Rattle.std.specs.Prelude.{◌≡◌, ℕ, ◌+◌, ◌≤◌, List, [], ◌∷◌, ◌++◌, ◌↔◌, IsTrue, true, IfOk, OnOk};
 ghost use Rattle.std.specs.Io.KnownBytes.{Consumes, IsAtEnd};
-ghost use Rattle.bl_serve.specs.Reading.{EndsReading, ReadsLine};
+ghost use Rattle.bl_serve.specs.Reading.{EndsReading, ReadsLine, ReadsOn};
 
 use arrayvec::ArrayVec;
 use bl_model::{Failed, Watched};
 use bl_serve_lines::ServeFault;
 use bl_serve_lines::request::{Request, parse};
 use bl_serve_lines::source::{Cut, KEPT, Source};
-use std::alloc::AllocError;
+use std::alloc::{AllocError, Global};
 use std::io::Read;
 
 /// How a section ended.
@@ -21,6 +21,18 @@ pub enum SectionEnd {
     Rest,
     /// With the input.
     Finished,
+}
+
+/// Lines that are read while those before them are answered.
+#[derive(Drop)]
+pub struct Ahead {
+    /// What was read and is not cut into lines yet.
+    pub source: Source,
+    /// How many lines are to be read at most.
+    pub most: u64,
+    pub lines: Vec<Option<Request>>,
+    /// How reading of them ended.
+    pub end: Result<SectionEnd, ServeFault>,
 }
 
 /// What came next.
@@ -104,4 +116,29 @@ pub fn read_section<R: Read>(
         }
     }
     Ok(SectionEnd::Finished)
+}
+
+impl Ahead {
+    /// Nothing is read yet.
+    pub fn new(alloc: Global) -> Result<Ahead, AllocError>
+        ensures { IfOk result (λ ahead. (ahead.source ≡ []) × (ahead.lines.items ≡ [])) }
+    {
+        Ok(Ahead {
+            source: Source::new(alloc)?,
+            most: 0,
+            lines: Vec::new(alloc),
+            end: Ok(SectionEnd::Finished),
+        })
+    }
+}
+
+/// Reads the next lines of a section, as many as are wanted; where none are, nothing is read.
+pub fn read_on<R: Read>(reader: &mut Watched<R>, ahead: &mut Ahead)
+    ensures { ReadsOn ahead.old ahead.new (R.remaining reader.old.inner) (R.remaining reader.new.inner) (reader.new.failed ≡ true) }
+{
+    ahead.lines.clear();
+    ahead.end = Ok(SectionEnd::Finished);
+    if ahead.most > 0 {
+        ahead.end = read_section(&mut ahead.source, reader, &mut ahead.lines, ahead.most);
+    }
 }

@@ -1,9 +1,11 @@
 //! A section is answered: its batches are given out, threads work on them, and all are joined.
 
-ghost use Rattle.std.specs.Prelude.{◌≡◌, suc, ◌+◌, ◌<◌, ◌≤◌, ◌^◌, ◌++◌, false, length, All, IfOk, IfErr, OnOk, vec_len};
+ghost use Rattle.std.specs.Prelude.{◌≡◌, ℕ, List, suc, ◌+◌, ◌<◌, ◌≤◌, ◌^◌, ◌++◌, true, false, length, All, IfOk, IfErr, OnOk, vec_len};
 ghost use Rattle.bl_index.specs.Calls.{first_of, IsPassOf};
 ghost use Rattle.std.specs.Thread.{IsSync};
 ghost use Rattle.bl_serve.specs.Turns.{TakeTurns};
+ghost use Rattle.std.specs.Io.KnownBytes.{Consumes};
+ghost use Rattle.bl_serve.specs.Reading.{ReadsOn};
 ghost use Rattle.bl_serve.specs.Rounds.{IsRound, Gathers};
 ghost use Rattle.bl_serve.specs.Serving.{AreTogether, HoldsSection, IsInside, seen_by};
 
@@ -11,14 +13,16 @@ use crate::compressing::Shift;
 use crate::gate::Gate;
 use crate::joining::collect;
 use crate::meeting::meet_all;
+use crate::reading::{Ahead, read_on};
 use crate::working::{Batch, Desk, Duty, Written, take_turn};
 use bl_hints::Hints;
 use bl_index::{Index, Pass};
-use bl_model::Op;
+use bl_model::{Op, Watched};
 use bl_serve_lines::ServeFault;
 use bl_serve_lines::request::Request;
 use crossbeam_channel::{Receiver, unbounded};
 use std::alloc::{AllocError, Global};
+use std::io::Read;
 use std::sync::Wait;
 use std::thread::{Threads, join_mut};
 
@@ -139,10 +143,12 @@ fn threads_for(lines: &[Option<Request>], crew: Crew) -> usize {
     }
 }
 
-/// The place of the first of so many desks with work, counted from the back; 0 where there are no more than these.
-fn last_ones(desks: &[Desk], many: usize) -> usize {
+/// Where the share of the last one of so many threads begins: it has as many desks with work as any other, or one more. 0 where one
+/// thread has them all.
+fn last_share(desks: &[Desk], threads: usize) -> usize {
+    let working = desks.iter().filter(|desk| desk.duty != Duty::Rest).count();
+    let mut left = working.div_ceil(threads.max(1));
     let mut place = desks.len();
-    let mut left = many;
     for back in 0..desks.len() {
         let number = desks.len() - 1 - back;
         if desks[number].duty != Duty::Rest {
@@ -190,11 +196,11 @@ fn work_in_turn<R: Wait, G: Gate>(
     );
 }
 
-/// The passes take their turns, those of so many desks with work in one thread. This thread makes all others, and works as they do:
-/// a thread that another new one makes would often wait for a processor. The last ones get a thread first: where none can be
+/// The passes take their turns, in so many threads. This thread makes all others, and works as they do:
+/// a thread that another new one makes would often wait for a processor. Before it works it reads on. The last ones get a thread first: where none can be
 /// made, their turns come behind all others, so no compressor waits for a worker that has not begun.
 #[cycle(abreast)]
-fn work_abreast<R: Threads + Wait + Sync, G: Gate + Sync>(
+fn work_abreast<R: Threads + Wait + Sync, G: Gate + Sync, I: Read>(
     rt: &R,
     alloc: Global,
     index: &Index,
@@ -204,17 +210,21 @@ fn work_abreast<R: Threads + Wait + Sync, G: Gate + Sync>(
     batches: &Receiver<Batch>,
     done: u64,
     lines: &[Option<Request>],
-    many: usize,
+    threads: usize,
     passes: &mut [Pass],
     desks: &mut [Desk],
+    reader: &mut Watched<I>,
+    ahead: &mut Ahead,
 )
     requires own { All (IsPassOf index.now) passes.old }
     requires room { done + length lines.now < 2 ^ 64 }
     requires desks { length desks.old ≡ length passes.old }
-    ensures { TakeTurns (first_of index.now) (suc done) lines.now passes.old passes.new desks.new }
+    ensures turns { TakeTurns (first_of index.now) (suc done) lines.now passes.old passes.new desks.new }
+    ensures reads { ReadsOn ahead.old ahead.new (I.remaining reader.old.inner) (I.remaining reader.new.inner) (reader.new.failed ≡ true) }
 {
-    let place = last_ones(desks, many);
+    let place = last_share(desks, threads);
     if place == 0 || passes.len() <= place {
+        read_on(reader, ahead);
         work_in_turn(
             rt, alloc, index, hints, gate, shift, batches, done, lines, passes, desks,
         );
@@ -234,10 +244,24 @@ fn work_abreast<R: Threads + Wait + Sync, G: Gate + Sync>(
         },
         &mut ||
             requires { IsSync R.row × IsSync G.row × All (IsPassOf index.now) others.now × (done + length lines.now < 2 ^ 64) × (length rest.now ≡ length others.now) }
-            ensures { TakeTurns (first_of index.entry.now) (suc done) lines.entry.now others.entry.now others.exit.now rest.exit.now }
+            ensures turns { TakeTurns (first_of index.entry.now) (suc done) lines.entry.now others.entry.now others.exit.now rest.exit.now }
+            ensures reads { ReadsOn ahead.entry.now ahead.exit.now (I.remaining reader.entry.now.inner) (I.remaining reader.exit.now.inner) (reader.exit.now.failed ≡ true) }
         {
             work_abreast(
-                rt, alloc, index, hints, gate, shift, batches, done, lines, many, others, rest,
+                rt,
+                alloc,
+                index,
+                hints,
+                gate,
+                shift,
+                batches,
+                done,
+                lines,
+                threads.saturating_sub(1),
+                others,
+                rest,
+                reader,
+                ahead,
             )
         },
     );
@@ -267,7 +291,7 @@ fn gather(alloc: Global, desks: &mut Vec<Desk>) -> Result<Vec<Written>, AllocErr
 
 /// Answers the lines of a section, before which so many others stood, each pass at the desk that has its place. Gives the passes back
 /// with the output.
-pub fn answer_section<R: Threads + Wait + Sync, G: Gate + Sync>(
+pub fn answer_section<R: Threads + Wait + Sync, G: Gate + Sync, I: Read>(
     rt: &R,
     alloc: Global,
     index: &Index,
@@ -278,6 +302,8 @@ pub fn answer_section<R: Threads + Wait + Sync, G: Gate + Sync>(
     desks: &mut Vec<Desk>,
     done: u64,
     lines: &[Option<Request>],
+    reader: &mut Watched<I>,
+    ahead: &mut Ahead,
 ) -> Result<(Vec<Pass>, Vec<u8>), ServeFault>
     requires own { All (IsPassOf index.now) passes.items }
     requires room { done + length lines.now < 2 ^ 64 }
@@ -285,12 +311,14 @@ pub fn answer_section<R: Threads + Wait + Sync, G: Gate + Sync>(
     ensures desks { vec_len desks.new ≡ vec_len desks.old }
     ensures own { IfOk result (λ t. All (IsPassOf index.now) t.0.items) }
     ensures fault { IfErr result (IsInside done (length lines.now)) }
+    ensures reads { OnOk result (ReadsOn ahead.old ahead.new (I.remaining reader.old.inner) (I.remaining reader.new.inner) (reader.new.failed ≡ true)) }
+    ensures consumes { (more : List ℕ) × Consumes (I.remaining reader.old.inner) (I.remaining reader.new.inner) more }
     ensures round { IfOk result (λ t. IsRound (first_of index.now) (suc done) lines.now t.1.items passes.items t.0.items) }
 {
     let mut passes = passes;
     let batches = batches(rt, alloc, lines.len(), crew.workers)?;
     let shift = Shift::new(crew.workers as u64);
-    let many = crew.size().div_ceil(threads_for(lines, crew).max(1));
+    let threads = threads_for(lines, crew);
     work_abreast(
         rt,
         alloc,
@@ -301,9 +329,11 @@ pub fn answer_section<R: Threads + Wait + Sync, G: Gate + Sync>(
         &batches,
         done,
         lines,
-        many,
+        threads,
         passes.as_mut_slice(),
         desks.as_mut_slice(),
+        reader,
+        ahead,
     );
     let written = gather(alloc, desks)?;
     let text = collect(alloc, written, done, lines.len())?;
@@ -311,7 +341,7 @@ pub fn answer_section<R: Threads + Wait + Sync, G: Gate + Sync>(
 }
 
 /// Answers the lines of a section by passes that have met, and lets them meet again.
-pub fn hold_section<R: Threads + Wait + Sync, G: Gate + Sync>(
+pub fn hold_section<R: Threads + Wait + Sync, G: Gate + Sync, I: Read>(
     rt: &R,
     alloc: Global,
     index: &Index,
@@ -322,17 +352,21 @@ pub fn hold_section<R: Threads + Wait + Sync, G: Gate + Sync>(
     desks: &mut Vec<Desk>,
     done: u64,
     lines: &[Option<Request>],
+    reader: &mut Watched<I>,
+    ahead: &mut Ahead,
 ) -> Result<(Vec<Pass>, Vec<u8>), ServeFault>
     requires together { AreTogether index.now (seen_by passes.items) passes.items }
     requires some { 0 < vec_len passes }
     requires room { done + length lines.now < 2 ^ 64 }
     requires desks { vec_len desks.old ≡ vec_len passes }
     ensures desks { vec_len desks.new ≡ vec_len desks.old }
+    ensures reads { OnOk result (ReadsOn ahead.old ahead.new (I.remaining reader.old.inner) (I.remaining reader.new.inner) (reader.new.failed ≡ true)) }
+    ensures consumes { (more : List ℕ) × Consumes (I.remaining reader.old.inner) (I.remaining reader.new.inner) more }
     ensures held { IfOk result (λ t. HoldsSection index.now done lines.now t.1.items passes.items t.0.items) }
     ensures fault { IfErr result (IsInside done (length lines.now)) }
 {
     let (back, text) = answer_section(
-        rt, alloc, index, hints, gate, crew, passes, desks, done, lines,
+        rt, alloc, index, hints, gate, crew, passes, desks, done, lines, reader, ahead,
     )?;
     let mut passes = back;
     meet_all(index, passes.as_mut_slice());

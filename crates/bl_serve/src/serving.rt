@@ -1,15 +1,16 @@
 //! The server: sections are read, answered and written.
 
-ghost use Rattle.std.specs.Prelude.{◌≡◌, ℕ, ◌+◌, ◌<◌, ◌≤◌, ◌^◌, List, ◌++◌, length, true, count_by, is_none, vec_len, IfOk, IfErr, OnOk, MatchResult};
+ghost use Rattle.std.specs.Prelude.{◌≡◌, ℕ, ◌+◌, ◌-◌, ◌<◌, ◌≤◌, ◌^◌, ◌↔◌, IsTrue, List, ◌++◌, length, min, Option, Ok, true, count_by, is_none, vec_len, IfOk, IfErr, OnOk, MatchResult};
 ghost use Rattle.std.specs.Io.KnownBytes.{Appends, Consumes, IsAtEnd};
 ghost use Rattle.bl_serve_lines.specs.Served.{Stops};
 ghost use Rattle.bl_serve_lines.specs.Streams.{EndsRead};
 ghost use Rattle.bl_index.specs.Calls.{first_of, map_after};
+ghost use Rattle.bl_serve.specs.Reading.{EndsReading, ReadsOn};
 ghost use Rattle.bl_serve.specs.Sections.{CountsSection, rests, syncs};
-ghost use Rattle.bl_serve.specs.Serving.{AreTogether, IsInside, Serves, ServesSection, seen_by};
+ghost use Rattle.bl_serve.specs.Serving.{AreTogether, FailsSection, IsInside, Serves, ServesSection, seen_by};
 
 use crate::gate::Gate;
-use crate::reading::{SectionEnd, read_section};
+use crate::reading::{Ahead, SectionEnd, read_on};
 use crate::rounds::{Crew, desks, hold_section};
 use crate::working::Desk;
 use bl_hints::Hints;
@@ -17,10 +18,10 @@ use bl_index::{Index, Pass};
 use bl_model::{Watched, write_out};
 use bl_serve_lines::print::{Response, push_line};
 use bl_serve_lines::request::Request;
-use bl_serve_lines::source::Source;
 use bl_serve_lines::{ServeFault, Totals};
 use std::alloc::Global;
 use std::io::{Read, Write};
+use std::mem;
 use std::sync::Wait;
 use std::thread::Threads;
 
@@ -50,8 +51,25 @@ fn count(totals: &mut Totals, lines: &[Option<Request>], end: SectionEnd)
     }
 }
 
-/// Answers a section that was read, and counts its lines. Bytes after the last LF are a malformed line.
-fn serve_section<T: Threads + Wait + Sync, G: Gate + Sync>(
+/// So many lines of a section are read before they are answered. While they are, the next ones are read.
+const ROUND: u64 = 12_288;
+
+/// How many lines are read next, behind so many others.
+fn most_behind(requests: u64) -> u64
+    ensures { result ≡ min ROUND (2 ^ 64 - 1 - requests) }
+{
+    ROUND.min(u64::MAX - requests)
+}
+
+/// Whether a section may go on behind lines that were read together, so many and with that end.
+fn goes_on(end: SectionEnd, count: usize) -> bool
+    ensures { IsTrue result ↔ ((end ≡ SectionEnd.Finished) × (ROUND ≤ count)) }
+{
+    end == SectionEnd::Finished && ROUND <= count as u64
+}
+
+/// Answers lines that were read together, counts them, and reads on meanwhile. Bytes after the last LF are a malformed line.
+fn serve_round<T: Threads + Wait + Sync, R: Read, G: Gate + Sync>(
     rt: &T,
     alloc: Global,
     index: &Index,
@@ -63,6 +81,8 @@ fn serve_section<T: Threads + Wait + Sync, G: Gate + Sync>(
     lines: &[Option<Request>],
     end: SectionEnd,
     totals: &mut Totals,
+    reader: &mut Watched<R>,
+    ahead: &mut Ahead,
 ) -> Result<(Vec<Pass>, Vec<u8>), ServeFault>
     requires together { AreTogether index.now (seen_by passes.items) passes.items }
     requires some { 0 < vec_len passes }
@@ -73,6 +93,8 @@ fn serve_section<T: Threads + Wait + Sync, G: Gate + Sync>(
     ensures desks { vec_len desks.new ≡ vec_len desks.old }
     ensures counts { OnOk result (CountsSection totals.old totals.new lines.now end) }
     ensures serves { IfOk result (λ t. ServesSection index.now totals.old.requests lines.now end t.1.items passes.items t.0.items) }
+    ensures reads { OnOk result (ReadsOn ahead.old ahead.new (R.remaining reader.old.inner) (R.remaining reader.new.inner) (reader.new.failed ≡ true)) }
+    ensures consumes { (more : List ℕ) × Consumes (R.remaining reader.old.inner) (R.remaining reader.new.inner) more }
     ensures fault { IfErr result (IsInside totals.old.requests (length lines.now)) }
 {
     let (passes, text) = hold_section(
@@ -86,6 +108,8 @@ fn serve_section<T: Threads + Wait + Sync, G: Gate + Sync>(
         desks,
         totals.requests,
         lines,
+        reader,
+        ahead,
     )?;
     let mut text = text;
     count(totals, lines, end);
@@ -94,6 +118,73 @@ fn serve_section<T: Threads + Wait + Sync, G: Gate + Sync>(
     }
     push_line(&mut text, totals.requests, &Response::Malformed)?;
     Ok((passes, text))
+}
+
+/// Reads a section, answers it and counts its lines, in rounds: while the lines of one are answered, the next ones are read.
+fn serve_section<T: Threads + Wait + Sync, R: Read, G: Gate + Sync>(
+    rt: &T,
+    alloc: Global,
+    index: &Index,
+    hints: &Hints,
+    gate: &G,
+    crew: Crew,
+    passes: Vec<Pass>,
+    desks: &mut Vec<Desk>,
+    lines: &mut Vec<Option<Request>>,
+    totals: &mut Totals,
+    reader: &mut Watched<R>,
+    ahead: &mut Ahead,
+) -> Result<(Vec<Pass>, Vec<u8>, SectionEnd), ServeFault>
+    requires together { AreTogether index.now (seen_by passes.items) passes.items }
+    requires some { 0 < vec_len passes }
+    requires requests { totals.old.requests < 2 ^ 64 }
+    requires malformed { totals.old.malformed ≤ totals.old.requests }
+    requires sections { totals.old.sections + 1 < 2 ^ 64 }
+    requires desks { vec_len desks.old ≡ vec_len passes }
+    ensures desks { vec_len desks.new ≡ vec_len desks.old }
+    ensures serves { (asked : List (Option Request)) × (rest : List ℕ) × (more : List ℕ)
+        × Consumes (R.remaining reader.old.inner) (R.remaining reader.new.inner) more
+        × MatchResult result
+        (λ t. EndsReading (Ok t.2) (2 ^ 64 - 1 - totals.old.requests) asked rest (ahead.old.source ++ more) ahead.new.source (IsAtEnd (R.remaining reader.new.inner)) (reader.new.failed ≡ true)
+        × CountsSection totals.old totals.new asked t.2
+        × ServesSection index.now totals.old.requests asked t.2 t.1.items passes.items t.0.items)
+        (λ fault. (left : List ℕ) × FailsSection fault totals.old.requests (2 ^ 64 - 1 - totals.old.requests) asked rest (ahead.old.source ++ more) left (IsAtEnd (R.remaining reader.new.inner)) (reader.new.failed ≡ true)) }
+{
+    let mut passes = passes;
+    let mut text = Vec::new(alloc);
+    ahead.most = most_behind(totals.requests);
+    read_on(reader, ahead);
+    for _ in rt.forever() {
+        let end = ahead.end?;
+        mem::swap(lines, &mut ahead.lines);
+        let open = goes_on(end, lines.len());
+        ahead.most = if open {
+            most_behind(totals.requests + lines.len() as u64)
+        } else {
+            0
+        };
+        let (back, more) = serve_round(
+            rt,
+            alloc,
+            index,
+            hints,
+            gate,
+            crew,
+            passes,
+            desks,
+            lines.as_slice(),
+            end,
+            totals,
+            reader,
+            ahead,
+        )?;
+        passes = back;
+        text.extend_from_slice(more.as_slice())?;
+        if !open {
+            return Ok((passes, text, end));
+        }
+    }
+    unreachable!()
 }
 
 /// Serves the requests of the reader by all passes of an index, which have met: the first so many are workers and answer
@@ -161,7 +252,7 @@ pub fn serve_with<T: Threads + Wait + Sync, R: Read, W: Write, G: Gate + Sync>(
 {
     let hints = Hints::new(alloc)?;
     let mut desks = desks(alloc, passes.len(), crew)?;
-    let mut source = Source::new(alloc)?;
+    let mut ahead = Ahead::new(alloc)?;
     let mut lines = Vec::new(alloc);
     let mut passes = passes;
     let mut totals = Totals {
@@ -170,9 +261,7 @@ pub fn serve_with<T: Threads + Wait + Sync, R: Read, W: Write, G: Gate + Sync>(
         sections: 0,
     };
     for _section in 0..u64::MAX {
-        lines.clear();
-        let end = read_section(&mut source, reader, &mut lines, u64::MAX - totals.requests)?;
-        let (back, text) = serve_section(
+        let (back, text, end) = serve_section(
             rt,
             alloc,
             index,
@@ -181,9 +270,10 @@ pub fn serve_with<T: Threads + Wait + Sync, R: Read, W: Write, G: Gate + Sync>(
             crew,
             passes,
             &mut desks,
-            lines.as_slice(),
-            end,
+            &mut lines,
             &mut totals,
+            reader,
+            &mut ahead,
         )?;
         passes = back;
         match write_out(writer, text.as_slice()) {

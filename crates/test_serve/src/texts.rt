@@ -131,3 +131,39 @@ fn a_thousand_changes_of_one_key(rt: HostRuntime) -> Result<(), Fail> {
     assert_eq!(rt; refused, 0);
     Ok(())
 }
+
+// How many lines of the text end with these bytes.
+fn ending(text: &[u8], end: &[u8]) -> usize {
+    text.split(|byte| *byte == b'\n')
+        .filter(|line| line.ends_with(end))
+        .count()
+}
+
+// A section is answered in rounds of 12,288 lines: this one fills two, the second with its sync.
+#[test]
+fn a_section_of_two_rounds(rt: HostRuntime) -> Result<(), Fail> {
+    let mut input = Vec::new(rt.alloc());
+    input.extend_from_slice(b"insert 7 70\n")?;
+    for _line in 0..12_287 {
+        input.extend_from_slice(b"find 8\n")?;
+    }
+    for _line in 0..12_287 {
+        input.extend_from_slice(b"find 7\n")?;
+    }
+    input.extend_from_slice(b"sync\nfind 7\n")?;
+    for workers in 1..4 {
+        let Some((text, totals)) = serve_new(&rt, rt.alloc(), 8, input.as_slice(), workers, 1)
+        else {
+            assert!(rt; false);
+            return Ok(());
+        };
+        let text = text.as_slice();
+        assert!(rt; text.starts_with(b"1 inserted\n2 absent\n"));
+        assert_eq!(rt; ending(text, b"absent"), 12_287);
+        assert_eq!(rt; ending(text, b"found 70"), 12_288);
+        assert!(rt; text.ends_with(b"24575 found 70\n24576 synced\n24577 found 70\n"));
+        assert_eq!(rt; totals.requests, 24_577);
+        assert_eq!(rt; totals.sections, 1);
+    }
+    Ok(())
+}

@@ -5,8 +5,8 @@ use Rattle.bl_serve.specs.Turns.{TakeTurns}
 use Rattle.bl_serve.proofs.Shares.{turns_append}
 use Rattle.bl_serve.proofs.rounds.+abreast.Goals as goal
 
-pub returns : goal.returns
-returns g t c =
+pub returns-clause-turns : goal.returns-clause-turns
+returns-clause-turns g t c =
     let some : TakeTurns (first_of c.args.index.now) (suc c.args.done) c.args.lines.now c.split_at_mut-others.result.1.now c.some-1.given.0 c.theirs-1.given.0 = search rules in
     let others : TakeTurns (first_of c.args.index.now) (suc c.args.done) c.args.lines.now c.split_at_mut-others.result.0.now c.others-1.given.0 c.rest-1.given.0 = search rules in
     subst (λ (z : List Pass). TakeTurns (first_of c.args.index.now) (suc c.args.done) c.args.lines.now z (c.others-1.given.0 ++ c.some-1.given.0) (c.rest-1.given.0 ++ c.theirs-1.given.0)) (sym c.split_at_mut-others.ensures.value)

@@ -9,7 +9,7 @@ use Rattle.bl_serve.proofs.rounds.answer_section.Goals as goal
 
 pub collect-requires-clause-within : goal.collect-requires-clause-within
 collect-requires-clause-within g c =
-    let t = c.work_abreast.ensures in
+    let t = c.work_abreast.ensures.turns in
     let long = (turns_long _ _ _ _ _ _ t).1 in
     let same = ap length c.as_mut_slice.ensures.value in
     let desks = c.requires.desks in
@@ -19,7 +19,7 @@ collect-requires-clause-within g c =
 
 pub returns-clause-round : goal.returns-clause-round
 returns-clause-round g c =
-    let t = c.work_abreast.ensures in
+    let t = c.work_abreast.ensures.turns in
     let longs = turns_long _ _ _ _ _ _ t in
     let news = longs.0 in
     let long = longs.1 in
@@ -34,7 +34,7 @@ returns-clause-round g c =
 
 pub returns-clause-own : goal.returns-clause-own
 returns-clause-own g c =
-    let t = c.work_abreast.ensures in
+    let t = c.work_abreast.ensures.turns in
     let longs = turns_long _ _ _ _ _ _ t in
     let news = longs.0 in
     let long = longs.1 in

@@ -1,18 +1,14 @@
-use Rattle.std.proofs.Common.{◌≡◌, ◌≢◌, ◌+◌, ◌-◌, ◌<◌, ◌^◌, ◌++◌, [], List, ℕ, refl, ap, ◌∙◌, sym, subst, length, arith, append-nil, append_assoc, rules, true}
-use Rattle.std.specs.Prelude.{Option, Ok}
+use Rattle.std.proofs.Common.{◌≡◌, ◌≢◌, ◌-◌, ◌++◌, [], List, ℕ, refl, ap, ◌∙◌, sym, subst, arith, append-nil, append_assoc, rules, true}
 use Rattle.std.specs.Io.KnownBytes.{Consumes, Appends, IsAtEnd}
 use Rattle.std.proofs.lemmas.Result.{err_from_is_err_and}
-use Rattle.bl_serve_lines.specs.declared.request.Request.{Request}
 use Rattle.bl_serve_lines.specs.declared.serving.ServeFault.TheVariants.{Memory}
 use Rattle.bl_serve_lines.proofs.Known.{consumes_start, consumes_next, consumes_rest, appends_start, appends_more, appends_text}
 use Rattle.bl_index.specs.Calls.{first_of}
 use Rattle.bl_serve.specs.declared.reading.SectionEnd.TheVariants as section_end
-use Rattle.bl_serve.specs.Reading.{EndsReading}
-use Rattle.bl_serve.specs.Sections.{rests}
-use Rattle.bl_serve.specs.Serving.{seen_by, IsInside}
+use Rattle.bl_serve.specs.Serving.{seen_by}
 use Rattle.bl_serve.proofs.Advance.{no_progress, stops_inside}
 use Rattle.bl_serve.proofs.Holding.{together_by_first}
-use Rattle.bl_serve.proofs.Faults.{room, stops_at_read, reads_of, stops_at_answers, now_seen, together_now, some_now, stops_at_write, goes_on_at_sync, serves_at_end, serves_no_more}
+use Rattle.bl_serve.proofs.Faults.{room, stops_at_section, now_seen, together_now, some_now, stops_at_write, goes_on_at_sync, serves_at_end, serves_no_more}
 use Rattle.bl_serve.proofs.serving.serve_with.Goals as goal
 
 -- no memory at the start
@@ -24,8 +20,8 @@ pub returns-in_err-desks : goal.returns-in_err-desks
 returns-in_err-desks g c = let p = err_from_is_err_and c.from_residual-in_err-desks.result c.from_residual-in_err-desks.ensures.1 in
     rw (p.1, p.2) ([], [], [], consumes_start _, appends_start _, stops_inside (first_of c.args.index.now) (seen_by c.args.passes.items) (seen_by c.args.passes.items) _ [] [] [] Memory (c.args.reader.now.failed ≡ true) (c.args.writer.now.failed ≡ true) (no_progress (seen_by c.args.passes.items)) c.requires.together.may_be refl tt)
 
-pub returns-in_err-source : goal.returns-in_err-source
-returns-in_err-source g c = let p = err_from_is_err_and c.from_residual-in_err-source.result c.from_residual-in_err-source.ensures.1 in
+pub returns-in_err-ahead : goal.returns-in_err-ahead
+returns-in_err-ahead g c = let p = err_from_is_err_and c.from_residual-in_err-ahead.result c.from_residual-in_err-ahead.ensures.1 in
     rw (p.1, p.2) ([], [], [], consumes_start _, appends_start _, stops_inside (first_of c.args.index.now) (seen_by c.args.passes.items) (seen_by c.args.passes.items) _ [] [] [] Memory (c.args.reader.now.failed ≡ true) (c.args.writer.now.failed ≡ true) (no_progress (seen_by c.args.passes.items)) c.requires.together.may_be refl tt)
 
 pub loop-section-init : goal.loop-section-init
@@ -33,7 +29,7 @@ loop-section-init g c = record {
   input = [];
   output = [];
   seen = seen_by c.args.passes.items;
-  consumed = subst (λ t. Consumes (g.R.Read.remaining c.args.reader.now.inner) (g.R.Read.remaining c.args.reader.now.inner) t) (sym c.in_ok-source.ensures) (consumes_start _);
+  consumed = subst (λ t. Consumes (g.R.Read.remaining c.args.reader.now.inner) (g.R.Read.remaining c.args.reader.now.inner) t) (sym c.in_ok-ahead.ensures.0) (consumes_start _);
   wrote = appends_start _;
   progress = no_progress _;
   together = c.requires.together;
@@ -45,91 +41,65 @@ loop-section-init g c = record {
   desks = (let a = c.in_ok-desks.ensures in let b = c.requires.together.count in let d = c.args.passes.ok in omega (arith, a, b, d));
 }
 
--- the section could not be read whole
-pub returns-in_err-end : goal.returns-in_err-end
-returns-in_err-end g c = let i = c.loop-section.invariant in let e = c.in_err-end.ensures in let p = err_from_is_err_and c.from_residual-in_err-end.result c.from_residual-in_err-end.ensures.1 in
+-- the section could not be read whole, or not be answered
+pub returns-in_err-back : goal.returns-in_err-back
+returns-in_err-back g c = let i = c.loop-section.invariant in let e = c.in_err-back.ensures.serves in let p = err_from_is_err_and c.from_residual-in_err-back.result c.from_residual-in_err-back.ensures.1 in
     rw (p.1, p.2) (
       i.input,
-      c.loop-section.source ++ e.1,
+      c.loop-section.ahead.source ++ e.2,
       i.output,
-      consumes_next _ _ _ i.input c.loop-section.source e.1 _ i.consumed e.2 refl,
+      consumes_next _ _ _ i.input c.loop-section.ahead.source e.2 _ i.consumed e.3 refl,
       i.wrote,
-      stops_at_read (first_of c.args.index.now) c.in_err-end.field-0.0 (seen_by c.args.passes.items) i.seen c.loop-section.totals i.input i.output (c.loop-section.source ++ e.1) c.read_section.new.source e.0 c.read_section.new.lines.items (18446744073709551615 - c.loop-section.totals.requests)
-          (IsAtEnd (g.R.Read.remaining c.read_section.new.reader.inner)) (c.read_section.new.reader.failed ≡ true) (c.loop-section.writer.failed ≡ true) i.progress i.together.may_be e.3,
+      stops_at_section (first_of c.args.index.now) c.in_err-back.field-0.0 (seen_by c.args.passes.items) i.seen c.loop-section.totals i.input i.output (c.loop-section.ahead.source ++ e.2) e.4.0 e.1 e.0 (18446744073709551615 - c.loop-section.totals.requests)
+          (IsAtEnd (g.R.Read.remaining c.serve_section.new.reader.inner)) (c.serve_section.new.reader.failed ≡ true) (c.loop-section.writer.failed ≡ true) i.progress i.together.may_be e.4.1,
     )
 
 pub serve_section-requires-clause-together : goal.serve_section-requires-clause-together
 serve_section-requires-clause-together g c κs within = let i = c.loop-section.invariant in together_by_first c.args.index.now i.seen c.loop-section.passes.items i.some i.together
 
-pub serve_section-requires-clause-requests : goal.serve_section-requires-clause-requests
-serve_section-requires-clause-requests g c κs within = let i = c.loop-section.invariant in let e = c.in_ok-end.ensures in
-    subst (λ (z : List (Option Request)). c.loop-section.totals.requests + length z + rests c.in_ok-end.end < 2 ^ 64) (sym c.as_slice.ensures.value)
-    (room c.in_ok-end.end c.loop-section.totals c.read_section.new.lines.items e.0 (c.loop-section.source ++ e.1) c.read_section.new.source (IsAtEnd (g.R.Read.remaining c.read_section.new.reader.inner)) (c.read_section.new.reader.failed ≡ true) e.3 i.room)
-
 pub serve_section-requires-clause-desks : goal.serve_section-requires-clause-desks
 serve_section-requires-clause-desks g c κs within = let i = c.loop-section.invariant in let a = i.desks in let b = i.together.count in let d = c.loop-section.passes.ok in omega (arith, a, b, d)
 
--- it was not answered
-pub returns-in_err-back : goal.returns-in_err-back
-returns-in_err-back g c = let i = c.loop-section.invariant in let e = c.in_ok-end.ensures in let p = err_from_is_err_and c.from_residual-in_err-back.result c.from_residual-in_err-back.ensures.1 in
-    rw (p.1, p.2) (
-      i.input,
-      c.loop-section.source ++ e.1,
-      i.output,
-      consumes_next _ _ _ i.input c.loop-section.source e.1 _ i.consumed e.2 refl,
-      i.wrote,
-      stops_at_answers (first_of c.args.index.now) c.in_err-back.field-0.0 (seen_by c.args.passes.items) i.seen c.loop-section.totals i.input i.output (c.loop-section.source ++ e.1) c.read_section.new.source e.0 c.read_section.new.lines.items (c.read_section.new.reader.failed ≡ true) (c.loop-section.writer.failed ≡ true) i.progress i.together.may_be
-          (reads_of c.in_ok-end.end (18446744073709551615 - c.loop-section.totals.requests) c.read_section.new.lines.items e.0 (c.loop-section.source ++ e.1) c.read_section.new.source (IsAtEnd (g.R.Read.remaining c.read_section.new.reader.inner)) (c.read_section.new.reader.failed ≡ true) e.3)
-          (subst (λ (z : List (Option Request)). IsInside c.loop-section.totals.requests (length z) c.in_err-back.field-0.0) c.as_slice.ensures.value c.in_err-back.ensures.fault),
-    )
-
 -- its output was not written whole
 pub returns-in-Err : goal.returns-in-Err
-returns-in-Err g c = let i = c.loop-section.invariant in let e = c.in_ok-end.ensures in let s = c.in_ok-back.ensures.serves in
-    let ends : EndsReading (Ok c.in_ok-end.end) (18446744073709551615 - c.loop-section.totals.requests) c.as_slice.result.now e.0 (c.loop-section.source ++ e.1) c.read_section.new.source (IsAtEnd (g.R.Read.remaining c.read_section.new.reader.inner)) (c.read_section.new.reader.failed ≡ true)
-    = subst (λ (z : List (Option Request)). EndsReading (Ok c.in_ok-end.end) (18446744073709551615 - c.loop-section.totals.requests) z e.0 (c.loop-section.source ++ e.1) c.read_section.new.source (IsAtEnd (g.R.Read.remaining c.read_section.new.reader.inner)) (c.read_section.new.reader.failed ≡ true)) (sym c.as_slice.ensures.value) e.3 in
+returns-in-Err g c = let i = c.loop-section.invariant in let e = c.in_ok-back.ensures.serves in let ends = e.4.0 in let counts = e.4.1 in let s = e.4.2 in
     let w = c.in-Err.ensures.err in (
       i.input,
-      c.loop-section.source ++ e.1,
+      c.loop-section.ahead.source ++ e.2,
       i.output ++ w.0,
-      consumes_next _ _ _ i.input c.loop-section.source e.1 _ i.consumed e.2 refl,
+      consumes_next _ _ _ i.input c.loop-section.ahead.source e.2 _ i.consumed e.3 refl,
       appends_more _ _ _ _ _ i.wrote w.3,
-      stops_at_write c.args.index.now i.seen c.loop-section.totals c.as_slice.result.now c.in_ok-end.end c.in_ok-back.text.items c.loop-section.passes.items c.in_ok-back.back.items i.together i.some s (seen_by c.args.passes.items) i.input i.output (c.loop-section.source ++ e.1) c.read_section.new.source e.0 w.0 w.1 (18446744073709551615 - c.loop-section.totals.requests)
-          (IsAtEnd (g.R.Read.remaining c.read_section.new.reader.inner)) (c.read_section.new.reader.failed ≡ true) (c.write_out.new.writer.failed ≡ true) i.progress ends (sym c.as_slice-in-loop-section.ensures.value ∙ w.2) c.in-Err.ensures.failed,
+      stops_at_write c.args.index.now i.seen c.loop-section.totals e.0 c.in_ok-back.end c.in_ok-back.text.items c.loop-section.passes.items c.in_ok-back.back.items i.together i.some s (seen_by c.args.passes.items) i.input i.output (c.loop-section.ahead.source ++ e.2) c.serve_section.new.ahead.source e.1 w.0 w.1 (18446744073709551615 - c.loop-section.totals.requests)
+          (IsAtEnd (g.R.Read.remaining c.serve_section.new.reader.inner)) (c.serve_section.new.reader.failed ≡ true) (c.write_out.new.writer.failed ≡ true) i.progress ends (sym c.as_slice.ensures.value ∙ w.2) c.in-Err.ensures.failed,
     )
 
 pub returns-then-ne : goal.returns-then-ne
-returns-then-ne g c = let i = c.loop-section.invariant in let e = c.in_ok-end.ensures in let s = c.in_ok-back.ensures.serves in
-    let ends : EndsReading (Ok c.in_ok-end.end) (18446744073709551615 - c.loop-section.totals.requests) c.as_slice.result.now e.0 (c.loop-section.source ++ e.1) c.read_section.new.source (IsAtEnd (g.R.Read.remaining c.read_section.new.reader.inner)) (c.read_section.new.reader.failed ≡ true)
-    = subst (λ (z : List (Option Request)). EndsReading (Ok c.in_ok-end.end) (18446744073709551615 - c.loop-section.totals.requests) z e.0 (c.loop-section.source ++ e.1) c.read_section.new.source (IsAtEnd (g.R.Read.remaining c.read_section.new.reader.inner)) (c.read_section.new.reader.failed ≡ true)) (sym c.as_slice.ensures.value) e.3 in
-    let other : c.in_ok-end.end ≢ section_end.Synced = search rules in
-    let v = serves_at_end c.args.index.now i.seen c.loop-section.totals c.as_slice.result.now c.in_ok-end.end c.in_ok-back.text.items c.loop-section.passes.items c.in_ok-back.back.items i.together i.some s (seen_by c.args.passes.items) c.serve_section.new.totals i.input i.output (c.loop-section.source ++ e.1) c.read_section.new.source e.0
-    (IsAtEnd (g.R.Read.remaining c.read_section.new.reader.inner)) (c.read_section.new.reader.failed ≡ true) other i.progress ends i.room c.in_ok-back.ensures.counts in (
+returns-then-ne g c = let i = c.loop-section.invariant in let e = c.in_ok-back.ensures.serves in let ends = e.4.0 in let counts = e.4.1 in let s = e.4.2 in
+    let other : c.in_ok-back.end ≢ section_end.Synced = search rules in
+    let v = serves_at_end c.args.index.now i.seen c.loop-section.totals e.0 c.in_ok-back.end c.in_ok-back.text.items c.loop-section.passes.items c.in_ok-back.back.items i.together i.some s (seen_by c.args.passes.items) c.serve_section.new.totals i.input i.output (c.loop-section.ahead.source ++ e.2) c.serve_section.new.ahead.source e.1
+    (IsAtEnd (g.R.Read.remaining c.serve_section.new.reader.inner)) (c.serve_section.new.reader.failed ≡ true) other i.progress ends i.room counts in (
       i.input ++ v.consumed,
-      c.read_section.new.source,
+      c.serve_section.new.ahead.source,
       i.output ++ c.in_ok-back.text.items,
-      consumes_rest _ _ _ i.input _ _ v.consumed _ i.consumed e.2 v.read,
-      appends_text _ _ _ _ _ _ i.wrote c.in-Ok.ensures.ok c.as_slice-in-loop-section.ensures.value,
-      (record { now = now_seen c.args.index.now i.seen c.loop-section.totals c.as_slice.result.now c.in_ok-end.end c.in_ok-back.text.items c.loop-section.passes.items c.in_ok-back.back.items i.together i.some s; served = v.served; together = together_now c.args.index.now i.seen c.loop-section.totals c.as_slice.result.now c.in_ok-end.end c.in_ok-back.text.items c.loop-section.passes.items c.in_ok-back.back.items i.together i.some s }, v.ends),
+      consumes_rest _ _ _ i.input _ _ v.consumed _ i.consumed e.3 v.read,
+      appends_text _ _ _ _ _ _ i.wrote c.in-Ok.ensures.ok c.as_slice.ensures.value,
+      (record { now = now_seen c.args.index.now i.seen c.loop-section.totals e.0 c.in_ok-back.end c.in_ok-back.text.items c.loop-section.passes.items c.in_ok-back.back.items i.together i.some s; served = v.served; together = together_now c.args.index.now i.seen c.loop-section.totals e.0 c.in_ok-back.end c.in_ok-back.text.items c.loop-section.passes.items c.in_ok-back.back.items i.together i.some s }, v.ends),
     )
 
 pub loop-section-preserved : goal.loop-section-preserved
-loop-section-preserved g c = let i = c.loop-section.invariant in let e = c.in_ok-end.ensures in let s = c.in_ok-back.ensures.serves in
-    let ends : EndsReading (Ok c.in_ok-end.end) (18446744073709551615 - c.loop-section.totals.requests) c.as_slice.result.now e.0 (c.loop-section.source ++ e.1) c.read_section.new.source (IsAtEnd (g.R.Read.remaining c.read_section.new.reader.inner)) (c.read_section.new.reader.failed ≡ true)
-    = subst (λ (z : List (Option Request)). EndsReading (Ok c.in_ok-end.end) (18446744073709551615 - c.loop-section.totals.requests) z e.0 (c.loop-section.source ++ e.1) c.read_section.new.source (IsAtEnd (g.R.Read.remaining c.read_section.new.reader.inner)) (c.read_section.new.reader.failed ≡ true)) (sym c.as_slice.ensures.value) e.3 in
-    let is : c.in_ok-end.end ≡ section_end.Synced = search rules in
-    let counts = c.in_ok-back.ensures.counts in
-    let v = goes_on_at_sync c.args.index.now i.seen c.loop-section.totals c.as_slice.result.now c.in_ok-end.end c.in_ok-back.text.items c.loop-section.passes.items c.in_ok-back.back.items i.together i.some s (seen_by c.args.passes.items) c.serve_section.new.totals i.input i.output (c.loop-section.source ++ e.1) c.read_section.new.source e.0 (18446744073709551615 - c.loop-section.totals.requests)
-    (IsAtEnd (g.R.Read.remaining c.read_section.new.reader.inner)) (c.read_section.new.reader.failed ≡ true) is i.progress ends counts in record {
+loop-section-preserved g c = let i = c.loop-section.invariant in let e = c.in_ok-back.ensures.serves in let ends = e.4.0 in let counts = e.4.1 in let s = e.4.2 in
+    let is : c.in_ok-back.end ≡ section_end.Synced = search rules in
+    let v = goes_on_at_sync c.args.index.now i.seen c.loop-section.totals e.0 c.in_ok-back.end c.in_ok-back.text.items c.loop-section.passes.items c.in_ok-back.back.items i.together i.some s (seen_by c.args.passes.items) c.serve_section.new.totals i.input i.output (c.loop-section.ahead.source ++ e.2) c.serve_section.new.ahead.source e.1 (18446744073709551615 - c.loop-section.totals.requests)
+    (IsAtEnd (g.R.Read.remaining c.serve_section.new.reader.inner)) (c.serve_section.new.reader.failed ≡ true) is i.progress ends counts in record {
       input = i.input ++ v.consumed;
       output = i.output ++ c.in_ok-back.text.items;
-      seen = now_seen c.args.index.now i.seen c.loop-section.totals c.as_slice.result.now c.in_ok-end.end c.in_ok-back.text.items c.loop-section.passes.items c.in_ok-back.back.items i.together i.some s;
-      consumed = consumes_rest _ _ _ i.input _ _ v.consumed _ i.consumed e.2 v.read;
-      wrote = appends_text _ _ _ _ _ _ i.wrote c.in-Ok.ensures.ok c.as_slice-in-loop-section.ensures.value;
+      seen = now_seen c.args.index.now i.seen c.loop-section.totals e.0 c.in_ok-back.end c.in_ok-back.text.items c.loop-section.passes.items c.in_ok-back.back.items i.together i.some s;
+      consumed = consumes_rest _ _ _ i.input _ _ v.consumed _ i.consumed e.3 v.read;
+      wrote = appends_text _ _ _ _ _ _ i.wrote c.in-Ok.ensures.ok c.as_slice.ensures.value;
       progress = v.progress;
-      together = together_now c.args.index.now i.seen c.loop-section.totals c.as_slice.result.now c.in_ok-end.end c.in_ok-back.text.items c.loop-section.passes.items c.in_ok-back.back.items i.together i.some s;
-      some = some_now c.args.index.now i.seen c.loop-section.totals c.as_slice.result.now c.in_ok-end.end c.in_ok-back.text.items c.loop-section.passes.items c.in_ok-back.back.items i.together i.some s;
-      room = (let a = counts.requests in let b = room c.in_ok-end.end c.loop-section.totals c.as_slice.result.now e.0 (c.loop-section.source ++ e.1) c.read_section.new.source (IsAtEnd (g.R.Read.remaining c.read_section.new.reader.inner)) (c.read_section.new.reader.failed ≡ true) ends i.room in omega (arith, a, b));
+      together = together_now c.args.index.now i.seen c.loop-section.totals e.0 c.in_ok-back.end c.in_ok-back.text.items c.loop-section.passes.items c.in_ok-back.back.items i.together i.some s;
+      some = some_now c.args.index.now i.seen c.loop-section.totals e.0 c.in_ok-back.end c.in_ok-back.text.items c.loop-section.passes.items c.in_ok-back.back.items i.together i.some s;
+      room = (let a = counts.requests in let b = room c.in_ok-back.end c.loop-section.totals e.0 e.1 (c.loop-section.ahead.source ++ e.2) c.serve_section.new.ahead.source (IsAtEnd (g.R.Read.remaining c.serve_section.new.reader.inner)) (c.serve_section.new.reader.failed ≡ true) ends i.room in omega (arith, a, b));
       malformed = v.malformed i.malformed;
       sections = (let a = v.sections in let b = i.sections in omega (arith, a, b));
       number = (let a = v.requests in let b = i.number in omega (arith, a, b));
@@ -139,11 +109,11 @@ loop-section-preserved g c = let i = c.loop-section.invariant in let e = c.in_ok
 -- as many sections as there are numbers
 pub returns : goal.returns
 returns g c = let i = c.loop-section.invariant in
-    let v = serves_no_more (first_of c.args.index.now) (seen_by c.args.passes.items) i.seen c.loop-section.totals i.input i.output c.loop-section.source (IsAtEnd (g.R.Read.remaining c.loop-section.reader.inner)) i.progress i.together.may_be (let a = i.number in let b = c.loop-section-test.false in omega (arith, a, b)) in (
+    let v = serves_no_more (first_of c.args.index.now) (seen_by c.args.passes.items) i.seen c.loop-section.totals i.input i.output c.loop-section.ahead.source (IsAtEnd (g.R.Read.remaining c.loop-section.reader.inner)) i.progress i.together.may_be (let a = i.number in let b = c.loop-section-test.false in omega (arith, a, b)) in (
       i.input ++ v.consumed,
-      c.loop-section.source,
+      c.loop-section.ahead.source,
       i.output ++ [],
-      subst (λ (t : List ℕ). Consumes (g.R.Read.remaining c.args.reader.now.inner) (g.R.Read.remaining c.loop-section.reader.inner) t) (ap (λ (t : List ℕ). i.input ++ t) v.read ∙ sym (append_assoc i.input v.consumed c.loop-section.source)) i.consumed,
+      subst (λ (t : List ℕ). Consumes (g.R.Read.remaining c.args.reader.now.inner) (g.R.Read.remaining c.loop-section.reader.inner) t) (ap (λ (t : List ℕ). i.input ++ t) v.read ∙ sym (append_assoc i.input v.consumed c.loop-section.ahead.source)) i.consumed,
       subst (λ (t : List ℕ). Appends (g.W.Write.contents c.args.writer.now.inner) (g.W.Write.contents c.loop-section.writer.inner) t) (sym (append-nil i.output)) i.wrote,
       (record { now = i.seen; served = v.served; together = i.together }, v.ends),
     )

@@ -12,7 +12,7 @@ invariant-loop-section g l = record {
   input : List ℕ;
   output : List ℕ;
   seen : Trail;
-  consumed : Consumes (g.R.Read.remaining l.fn.reader.inner) (g.R.Read.remaining l.reader.inner) (input ++ l.source);
+  consumed : Consumes (g.R.Read.remaining l.fn.reader.inner) (g.R.Read.remaining l.reader.inner) (input ++ l.ahead.source);
   wrote : Appends (g.W.Write.contents l.fn.writer.inner) (g.W.Write.contents l.writer.inner) output;
   progress : Progress (seen_by l.fn.passes.items) seen l.totals input output;
   together : AreTogether l.index seen l.passes.items;

@@ -1,0 +1,219 @@
+-- A section that is read and answered in rounds: two rounds that follow each other are one.
+use Rattle.std.proofs.Common.{◌≡◌, ◌≢◌, ℕ, suc, ◌+◌, ◌≤◌, ◌<◌, ◌^◌, ◌-◌, List, [], ◌∷◌, ◌++◌, length, map, refl, sym, ap, ◌∙◌, subst, append_assoc, append-nil, arith, length-append, inl, inr}
+use Rattle.std.specs.Prelude.{All, Option, Some, Result, Ok, Err, is_none, cond, min}
+use Rattle.std.proofs.lemmas.List.{map-append}
+use Rattle.std.proofs.lemmas.List.Concat.{flat_map-append}
+use Rattle.std.proofs.lemmas.List.Sums.{sum_by-append}
+use Rattle.std.proofs.lemmas.List.Elements.{All-nil, All-head, All-tail, All-append}
+use Rattle.bl_model.specs.declared.operation.Entry.{Entry}
+use Rattle.bl_serve_lines.specs.declared.request.Request.{Request}
+use Rattle.bl_serve_lines.specs.declared.request.Request.TheVariants.{Sync}
+use Rattle.bl_serve_lines.specs.declared.serving.ServeFault.{ServeFault}
+use Rattle.bl_serve_lines.specs.declared.serving.ServeFault.TheVariants.{Read, Write, Memory, Lost}
+use Rattle.bl_serve_lines.specs.declared.serving.Totals.{Totals}
+use Rattle.bl_serve_lines.specs.Lines.{entries}
+use Rattle.bl_serve_lines.specs.Served.{Interleaves}
+use Rattle.bl_claims.specs.Trails.{Trail, history_of}
+use Rattle.bl_index.specs.declared.index.Index.{Index}
+use Rattle.bl_index.specs.declared.index.Pass.{Pass}
+use Rattle.bl_serve.specs.declared.reading.SectionEnd.{SectionEnd}
+use Rattle.bl_serve.specs.declared.reading.SectionEnd.TheVariants.{Synced, Rest, Finished}
+use Rattle.bl_serve.specs.Answering.{IsFor, answers_text}
+use Rattle.bl_serve.specs.Reading.{IsReadAs, bytes_of, AsksNoSync, AsksSyncLast, ReadsLines, EndsReading}
+use Rattle.bl_serve.specs.Sections.{Held, CountsSection, end_text, rests}
+use Rattle.bl_serve.specs.Serving.{AreTogether, FailsSection, ServesSection, IsInside, seen_by}
+use Rattle.bl_serve.proofs.Lines.{zip_append, zip_length, text_append}
+use Rattle.bl_serve.proofs.Sections.{history_append}
+use Rattle.bl_serve.proofs.Holding.{first_seen}
+use Rattle.bl_serve.proofs.Cutting.{asks_none}
+use Rattle.bl_serve.proofs.Faults.{reads_of}
+use Rattle.bl_serve.proofs.Advance.{interleaves_skip}
+
+-- ---- reading
+
+-- more was read, and not cut
+pub reads_ahead : (unread left more : List ℕ) (asked : List (Option Request)) (rest : List ℕ) → ReadsLines unread left asked rest → ReadsLines (unread ++ more) (left ++ more) asked rest
+reads_ahead unread left more asked rest r = record {
+  texts = r.texts;
+  each = r.each;
+  cut = r.cut;
+  read = ap (λ (z : List ℕ). z ++ more) r.read ∙ append_assoc (bytes_of r.texts ++ rest) left more;
+}
+
+pub reads_then : (unread mid left : List ℕ) (xs ys : List (Option Request)) (rest : List ℕ) → ReadsLines unread mid xs [] → ReadsLines mid left ys rest → ReadsLines unread left (xs ++ ys) rest
+reads_then unread mid left xs ys rest r s = record {
+  texts = r.texts ++ s.texts;
+  each = zip_append IsReadAs xs ys r.texts s.texts r.each s.each;
+  cut = s.cut;
+  read = r.read ∙ (ap (λ (z : List ℕ). z ++ mid) (append-nil (bytes_of r.texts)) ∙ (ap (λ (z : List ℕ). bytes_of r.texts ++ z) s.read
+      ∙ (sym (append_assoc (bytes_of r.texts) (bytes_of s.texts ++ rest) left) ∙ (ap (λ (z : List ℕ). z ++ left) (sym (append_assoc (bytes_of r.texts) (bytes_of s.texts) rest))
+      ∙ ap (λ (z : List ℕ). (z ++ rest) ++ left) (sym (flat_map-append (λ (t : List ℕ). t ++ 10 ∷ []) r.texts s.texts))))));
+}
+
+no_sync_then : (xs ys : List (Option Request)) → AsksNoSync xs → AsksNoSync ys → AsksNoSync (xs ++ ys)
+no_sync_then xs ys a b = All-append (λ z. z ≢ Some Sync) xs ys a b
+
+sync_last_then : (xs ys : List (Option Request)) → AsksNoSync xs → AsksSyncLast ys → AsksSyncLast (xs ++ ys)
+sync_last_then xs ys a b = record {
+  front = xs ++ b.front;
+  ends = ap (λ (z : List (Option Request)). xs ++ z) b.ends ∙ sym (append_assoc xs b.front (Some Sync ∷ []));
+  no_sync = no_sync_then xs b.front a b.no_sync;
+}
+
+-- lines without a sync, and how the reading of those behind them ended
+pub ends_then : (ended : Result SectionEnd ServeFault) (most few : ℕ) (unread mid left : List ℕ) (xs ys : List (Option Request)) (rest : List ℕ) (AtEnd Failed : Type 0) → ReadsLines unread mid xs [] → AsksNoSync xs → length xs + few ≤ most → (ended ≡ Ok Finished → few ≤ length ys → most ≤ length xs + length ys)
+    → EndsReading ended few ys rest mid left AtEnd Failed → EndsReading ended most (xs ++ ys) rest unread left AtEnd Failed
+ends_then (Ok Synced) most few unread mid left xs ys rest AtEnd Failed r none within full e = let long = length-append xs ys in let b = e.1 in
+    (reads_then unread mid left xs ys rest r e.0, omega (arith, long, within, b), e.2, sync_last_then xs ys none e.3)
+ends_then (Ok Rest) most few unread mid left xs ys rest AtEnd Failed r none within full e = let long = length-append xs ys in let b = e.1 in
+    (reads_then unread mid left xs ys rest r e.0, omega (arith, long, within, b), e.2, no_sync_then xs ys none e.3, e.4)
+ends_then (Ok Finished) most few unread mid left xs ys rest AtEnd Failed r none within full e = let long = length-append xs ys in let b = e.1 in
+    (reads_then unread mid left xs ys rest r e.0, omega (arith, long, within, b), e.2, no_sync_then xs ys none e.3, elim e.4 [ inl here ↦ inl here | inr many ↦ inr (let c = full refl many in omega (arith, long, c)) ])
+ends_then (Err Read) most few unread mid left xs ys rest AtEnd Failed r none within full e = (reads_then unread mid left xs ys rest r e.0, no_sync_then xs ys none e.1, e.2, e.3)
+ends_then (Err Write) most few unread mid left xs ys rest AtEnd Failed r none within full e = absurd e
+ends_then (Err Memory) most few unread mid left xs ys rest AtEnd Failed r none within full e = tt
+ends_then (Err (Lost number)) most few unread mid left xs ys rest AtEnd Failed r none within full e = absurd e
+
+-- that reading failed does not matter where it did not
+pub any_failed : (end : SectionEnd) (most : ℕ) (asked : List (Option Request)) (rest unread left : List ℕ) (AtEnd Failed Failed' : Type 0) → EndsReading (Ok end) most asked rest unread left AtEnd Failed → EndsReading (Ok end) most asked rest unread left AtEnd Failed'
+any_failed Synced most asked rest unread left AtEnd Failed Failed' e = e
+any_failed Rest most asked rest unread left AtEnd Failed Failed' e = e
+any_failed Finished most asked rest unread left AtEnd Failed Failed' e = e
+
+-- ---- answering
+
+all_empty : (xs ys : List (List Entry)) (k : List Entry) → All (λ list. list ≡ []) xs → Interleaves ys k → Interleaves (xs ++ ys) k
+all_empty [] ys k none w = w
+all_empty (x ∷ xs) ys k none w = subst (λ (z : List Entry). Interleaves (z ∷ (xs ++ ys)) k) (sym (All-head (λ (list : List Entry). list ≡ []) x xs none))
+    (interleaves_skip k (xs ++ ys) (all_empty xs ys k (All-tail (λ (list : List Entry). list ≡ []) x xs none) w))
+
+-- one history behind another
+interleaves_then : (xs ys : List (List Entry)) (h k : List Entry) → Interleaves xs h → Interleaves ys k → Interleaves (xs ++ ys) (h ++ k)
+interleaves_then xs ys [] k a b = all_empty xs ys k a b
+interleaves_then xs ys (e ∷ h) k (before, list, after, is, more) b = (
+  before,
+  list,
+  after ++ ys,
+  ap (λ (z : List (List Entry)). z ++ ys) is ∙ append_assoc before ((e ∷ list) ∷ after) ys,
+  subst (λ (z : List (List Entry)). Interleaves z (h ++ k)) (append_assoc before (list ∷ after) ys) (interleaves_then (before ++ list ∷ after) ys h k more b),
+)
+
+held_then : (done : ℕ) (xs ys : List (Option Request)) (text text' : List ℕ) (more more' : Trail) → Held done xs text more → Held (done + length xs) ys text' more' → Held done (xs ++ ys) (text ++ text') (more ++ more')
+held_then done xs ys text text' more more' a b = record {
+  answers = a.answers ++ b.answers;
+  each = zip_append IsFor xs ys a.answers b.answers a.each b.each;
+  prints = ap (λ (z : List ℕ). z ++ text') a.prints ∙ (ap (λ (z : List ℕ). answers_text (suc done) a.answers ++ z) b.prints
+      ∙ (ap (λ (n : ℕ). answers_text (suc done) a.answers ++ answers_text n b.answers) (let long = zip_length IsFor xs a.answers a.each in let e : suc (done + length xs) ≡ suc done + length a.answers = omega (arith, long) in e)
+      ∙ sym (text_append (suc done) a.answers b.answers)));
+  interleaves = subst (λ (z : List (List Entry) × List Entry). Interleaves z.0 z.1) (λ i. (sym (map-append entries a.answers b.answers) i, sym (history_append more more') i))
+      (interleaves_then (map entries a.answers) (map entries b.answers) (history_of more) (history_of more') a.interleaves b.interleaves);
+}
+
+pub serves_nothing : (index : Index) (done : ℕ) (olds : List Pass) → AreTogether index (seen_by olds) olds → ServesSection index done [] Finished [] olds olds
+serves_nothing index done olds t = record {
+  answers = [];
+  holds = record {
+    more = [];
+    held = record { answers = []; each = tt; prints = refl; interleaves = All-nil (λ (list : List Entry). list ≡ []) };
+    together = subst (λ (z : Trail). AreTogether index z olds) (sym (append-nil (seen_by olds))) t;
+  };
+  ends = refl;
+}
+
+pub serves_then : (index : Index) (done now : ℕ) (xs ys : List (Option Request)) (end : SectionEnd) (text text' : List ℕ) (olds mids news : List Pass) → now ≡ done + length xs → 0 < length mids
+    → ServesSection index done xs Finished text olds mids → ServesSection index now ys end text' mids news → ServesSection index done (xs ++ ys) end (text ++ text') olds news
+serves_then index done now xs ys end text text' olds mids news at some a b' = let b = subst (λ (n : ℕ). ServesSection index n ys end text' mids news) at b' in record {
+  answers = a.answers ++ b.answers;
+  holds = record {
+    more = a.holds.more ++ b.holds.more;
+    held = held_then done xs ys a.answers b.answers a.holds.more b.holds.more a.holds.held b.holds.held;
+    together = subst (λ (z : Trail). AreTogether index z news)
+        (ap (λ (z : Trail). z ++ b.holds.more) (first_seen index (seen_by olds ++ a.holds.more) mids some a.holds.together) ∙ append_assoc (seen_by olds) a.holds.more b.holds.more) b.holds.together;
+  };
+  ends = ap (λ (z : List ℕ). z ++ text') (a.ends ∙ append-nil a.answers) ∙ (ap (λ (z : List ℕ). a.answers ++ z) b.ends ∙ (sym (append_assoc a.answers b.answers (end_text end (done + length xs + length ys + 1)))
+      ∙ ap (λ (n : ℕ). (a.answers ++ b.answers) ++ end_text end n) (let long = length-append xs ys in let e : done + length xs + length ys + 1 ≡ done + length (xs ++ ys) + 1 = omega (arith, long) in e)));
+}
+
+pub counts_nothing : (totals : Totals) → CountsSection totals totals [] Finished
+counts_nothing totals = record { requests = omega arith; malformed = omega arith; sections = omega arith }
+
+pub counts_then : (old mid new : Totals) (xs ys : List (Option Request)) (end : SectionEnd) → CountsSection old mid xs Finished → CountsSection mid new ys end → CountsSection old new (xs ++ ys) end
+counts_then old mid new xs ys end a b = record {
+  requests = (let long = length-append xs ys in let c = a.requests in let d = b.requests in omega (arith, long, c, d));
+  malformed = (let many = sum_by-append (λ (x : Option Request). cond (is_none x) 1 0) xs ys in let c = a.malformed in let d = b.malformed in omega (arith, many, c, d));
+  sections = (let c = a.sections in let d = b.sections in omega (arith, c, d));
+}
+
+-- it was not answered
+pub inside_then : (done now : ℕ) (xs ys : List (Option Request)) (fault : ServeFault) → now ≡ done + length xs → IsInside now (length ys) fault → IsInside done (length (xs ++ ys)) fault
+inside_then done now xs ys Read at i = absurd i
+inside_then done now xs ys Write at i = absurd i
+inside_then done now xs ys Memory at i = tt
+inside_then done now xs ys (Lost number) at i = let long = length-append xs ys in let a = i.0 in let b = i.1 in (omega (arith, at, a), omega (arith, at, long, b))
+
+-- ---- from round to round
+
+-- lines of a section were read and answered, and it goes on
+pub record HasServed (index : Index) (olds passes : List Pass) (start now : Totals) (unread mid : List ℕ) (asked : List (Option Request)) (text : List ℕ) : Type 0 where
+  pub front : ReadsLines unread mid asked []
+  pub no_sync : AsksNoSync asked
+  pub counts : CountsSection start now asked Finished
+  pub serves : ServesSection index start.requests asked Finished text olds passes
+  pub some : 0 < length passes
+  pub room : now.requests < 2 ^ 64
+
+pub served_nothing : (index : Index) (passes : List Pass) (totals : Totals) (unread : List ℕ) (text : List ℕ) → text ≡ [] → AreTogether index (seen_by passes) passes → 0 < length passes → totals.requests < 2 ^ 64 → HasServed index passes passes totals totals unread unread [] text
+served_nothing index passes totals unread text none t some room = subst (HasServed index passes passes totals totals unread unread []) (sym none) (record {
+  front = record { texts = []; each = tt; cut = All-nil (λ b. b ≢ 10); read = refl };
+  no_sync = asks_none;
+  counts = counts_nothing totals;
+  serves = serves_nothing index totals.requests passes t;
+  some = some;
+  room = room;
+})
+
+module _ (index : Index) (olds passes : List Pass) (start now : Totals) (unread mid : List ℕ) (asked : List (Option Request)) (text : List ℕ) (h : HasServed index olds passes start now unread mid asked text) where
+  now_is : now.requests ≡ start.requests + length asked
+  now_is = let a = h.counts.requests in omega (arith, a)
+
+  -- the section's last lines
+  pub ends_section : (ended : Result SectionEnd ServeFault) (few : ℕ) (lines : List (Option Request)) (rest left : List ℕ) (AtEnd Failed : Type 0) → (ended ≡ Ok Finished → length lines < few) → EndsReading ended (min few (2 ^ 64 - 1 - now.requests)) lines rest mid left AtEnd Failed
+      → EndsReading ended (2 ^ 64 - 1 - start.requests) (asked ++ lines) rest unread left AtEnd Failed
+  ends_section ended few lines rest left AtEnd Failed last e = let a = now_is in let b = h.room in
+      ends_then ended (2 ^ 64 - 1 - start.requests) (min few (2 ^ 64 - 1 - now.requests)) unread mid left asked lines rest AtEnd Failed h.front h.no_sync (omega (arith, a, b)) (λ is full. let c = last is in omega (arith, a, b, c, full)) e
+
+  pub counts_all : (new : Totals) (lines : List (Option Request)) (end : SectionEnd) → CountsSection now new lines end → CountsSection start new (asked ++ lines) end
+  counts_all new lines end c = counts_then start now new asked lines end h.counts c
+
+  pub serves_all : (lines : List (Option Request)) (end : SectionEnd) (text' : List ℕ) (news : List Pass) → ServesSection index now.requests lines end text' passes news → ServesSection index start.requests (asked ++ lines) end (text ++ text') olds news
+  serves_all lines end text' news s = serves_then index start.requests now.requests asked lines end text text' olds passes news now_is h.some h.serves s
+
+  -- its next lines could not be answered, while more was read
+  pub fails_answering : (fault : ServeFault) (end : SectionEnd) (few most : ℕ) (lines : List (Option Request)) (rest left more : List ℕ) (AtEnd Failed AtEnd' Failed' : Type 0) → EndsReading (Ok end) few lines rest mid left AtEnd Failed → IsInside now.requests (length lines) fault
+      → FailsSection fault start.requests most (asked ++ lines) rest (unread ++ more) (left ++ more) AtEnd' Failed'
+  fails_answering fault end few most lines rest left more AtEnd Failed AtEnd' Failed' e inside = inr (
+    reads_ahead unread left more (asked ++ lines) rest (reads_then unread mid left asked lines rest h.front (reads_of end few lines rest mid left AtEnd Failed e)),
+    inside_then start.requests now.requests asked lines fault now_is inside,
+  )
+
+  -- they were answered, while more was read, and it goes on
+  pub goes_on : (new : Totals) (end : SectionEnd) (few : ℕ) (lines : List (Option Request)) (rest left more text' : List ℕ) (news : List Pass) (AtEnd Failed : Type 0) → end ≡ Finished → EndsReading (Ok end) few lines rest mid left AtEnd Failed → few ≤ 2 ^ 64 - 1 - now.requests
+      → CountsSection now new lines end → ServesSection index now.requests lines end text' passes news → HasServed index olds news start new (unread ++ more) (left ++ more) (asked ++ lines) (text ++ text')
+  goes_on new end few lines rest left more text' news AtEnd Failed is e' low c' s' =
+      let e = subst (λ (z : SectionEnd). EndsReading (Ok z) few lines rest mid left AtEnd Failed) is e' in let c = subst (CountsSection now new lines) is c' in
+      let s = subst (λ (z : SectionEnd). ServesSection index now.requests lines z text' passes news) is s' in record {
+        front = reads_ahead unread left more (asked ++ lines) [] (reads_then unread mid left asked lines [] h.front (subst (ReadsLines mid left lines) e.2 e.0));
+        no_sync = no_sync_then asked lines h.no_sync e.3;
+        counts = counts_all new lines Finished c;
+        serves = serves_all lines Finished text' news s;
+        some = (let a = h.serves.holds.together.count in let b = s.holds.together.count in let d = h.some in omega (arith, a, b, d));
+        room = (let a = c.requests in let b = e.1 in let d = h.room in omega (arith, a, b, d, low));
+      }
+
+pub finished_by : (end : SectionEnd) → ◌≡◌ {A = Result SectionEnd ServeFault} (Ok end) (Ok Finished) → end ≡ Finished
+finished_by Synced is = absurd (let no : ⊥ = cc in no)
+finished_by Rest is = absurd (let no : ⊥ = cc in no)
+finished_by Finished is = refl
+
+pub finished_none : (end : SectionEnd) → end ≡ Finished → rests end ≡ 0
+finished_none end is = ap rests is

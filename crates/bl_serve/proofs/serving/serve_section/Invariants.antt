@@ -1,0 +1,21 @@
+use Rattle.std.proofs.Common.{◌≡◌, ◌-◌, ◌≤◌, ◌^◌, ℕ, List, ◌++◌}
+use Rattle.std.specs.Prelude.{Option, min, true, vec_len}
+use Rattle.std.specs.Io.KnownBytes.{Consumes, IsAtEnd}
+use Rattle.bl_serve_lines.specs.declared.request.Request.{Request}
+use Rattle.bl_serve.specs.Reading.{EndsReading}
+use Rattle.bl_serve.proofs.Continuing.{HasServed}
+use Rattle.bl_serve.proofs.serving.serve_section.Given as goal
+
+-- Lines were answered, and others are read. Behind those that were answered come these bytes.
+abbrev pub invariant-loop : goal.invariant-loop
+invariant-loop g l = record {
+  asked : List (Option Request);
+  rest : List ℕ;
+  more : List ℕ;
+  mid : List ℕ;
+  consumed : Consumes (g.R.Read.remaining l.fn.reader.inner) (g.R.Read.remaining l.reader.inner) more;
+  served : HasServed l.index l.fn.passes.items l.passes.items l.fn.totals l.totals (l.fn.ahead.source ++ more) mid asked l.text.items;
+  reads : EndsReading l.ahead.end (min 12288 (2 ^ 64 - 1 - l.totals.requests)) l.ahead.lines.items rest mid l.ahead.source (IsAtEnd (g.R.Read.remaining l.reader.inner)) (l.reader.failed ≡ true);
+  malformed : l.totals.malformed ≤ l.totals.requests;
+  desks : vec_len l.desks ≡ vec_len l.passes;
+}
