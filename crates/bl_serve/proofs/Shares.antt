@@ -1,5 +1,5 @@
 -- What the passes did in a section, put together.
-use Rattle.std.proofs.Common.{◌≡◌, ℕ, zero, suc, ◌+◌, ◌-◌, ◌<◌, ◌≤◌, List, [], ◌∷◌, ◌++◌, length, take, drop, map, set, get_or, refl, sym, ap, ◌∙◌, subst, append-nil, arith, add-one, length-set}
+use Rattle.std.proofs.Common.{◌≡◌, ℕ, suc, ◌+◌, ◌-◌, ◌<◌, ◌≤◌, List, [], ◌∷◌, ◌++◌, length, take, drop, map, set, get_or, refl, sym, ap, ◌∙◌, subst, append-nil, arith, add-one, length-set}
 use Rattle.std.specs.Prelude.{All, Option, false, flat_map, IsPermutation}
 use Rattle.std.specs.List.{AllZip}
 use Rattle.std.proofs.lemmas.List.{map-append, take_all, take_more}
@@ -16,10 +16,7 @@ use Rattle.bl_claims.specs.Seeing.{own}
 use Rattle.bl_index.specs.declared.index.Index.{Index}
 use Rattle.bl_index.specs.declared.index.Pass.{Pass}
 use Rattle.bl_index.specs.Calls.{IsPassOf, IsSamePass, number_of, trail}
-use Rattle.bl_index.specs.declared.config.Config.{Config}
-use Rattle.bl_index.specs.Opened.{IsOpened}
 use Rattle.bl_index.proofs.Taken.{same_of}
-use Rattle.atomic_table.proofs.Lists.{at_index}
 use Rattle.bl_serve.specs.declared.working.Desk.{Desk}
 use Rattle.bl_serve.specs.declared.working.Written.{Written}
 use Rattle.bl_serve.specs.Answering.{IsFor, answers_text}
@@ -185,12 +182,3 @@ round_own first index number lines text olds news own_all r = subst (All (IsPass
     go : (taken : List Taken) → All (IsTaken first) taken → All (IsPassOf index) (map (λ t. t.old) taken) → All (IsPassOf index) (map (λ t. t.new) taken)
     go [] each h = All-nil (IsPassOf index)
     go (t ∷ ts) each h = All-cons (IsPassOf index) t.new (map (λ t. t.new) ts) (same_of index t.old t.new (All-head (IsTaken first) t ts each).same (All-head (IsPassOf index) t.old (map (λ t. t.old) ts) h)) (go ts (All-tail (IsTaken first) t ts each) (All-tail (IsPassOf index) t.old (map (λ t. t.old) ts) h))
-
-any_default : {A : Type 0} (l : List A) (i : ℕ) (d e : A) → i < length l → get_or l i d ≡ get_or l i e
-any_default [] i d e low = absurd (omega arith)
-any_default (x ∷ l) zero d e low = refl
-any_default (x ∷ l) (suc i) d e low = any_default l i d e (omega arith)
-
--- the passes of a new index are its own
-pub opened_own : (config : Config) (index : Index) (passes : List Pass) → IsOpened config index passes → All (IsPassOf index) passes
-opened_own config index passes o k d low = (o.each k (get_or passes k d) (at_index passes k (get_or passes k d) low (any_default passes k d (get_or passes k d) low))).0

@@ -9,6 +9,15 @@ use crate::working::Written;
 use bl_serve_lines::ServeFault;
 use std::alloc::Global;
 
+/// How many bytes the batches' texts have together; fewer where no number holds so many.
+fn length_of(written: &[Written]) -> usize {
+    let mut length: usize = 0;
+    for piece in written {
+        length = length.saturating_add(piece.text.len());
+    }
+    length
+}
+
 /// The texts of batches that follow each other from place 0 up to the count, put together. Else the number of the least
 /// line that the batches, in the order of their lines, do not have exactly once; so many lines come before them.
 fn joined(
@@ -24,7 +33,7 @@ fn joined(
     ensures fault { IfErr result (IsInside done count) }
     ensures lost { IfErr result (NamesLost written.now done count) }
 {
-    let mut text = Vec::new(alloc);
+    let mut text = Vec::with_capacity(alloc, length_of(written))?;
     let mut next = 0;
     for piece in written {
         if piece.from != next {

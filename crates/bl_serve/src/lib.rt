@@ -1,9 +1,10 @@
 //! The server with workers and compressors.
 //!
-//! The input is read section by section, up to each `sync`. A section's lines are shared by threads that each have a pass
-//! of the index: workers take batches of lines from a channel and answer them, and compressors follow the hints that the
-//! workers leave. When all have ended, the answers are put in the order of their lines and written, and only then is the
-//! next section read. An index of the server's own begins without rows or with those of a sound image.
+//! The input is read section by section, up to each `sync`, and a section in rounds of some thousand lines. A round's lines are
+//! shared by threads that each have a pass of the index: workers take batches of lines from a channel and answer them, and
+//! compressors follow the hints that the workers leave. One of the threads first reads the lines of the next round. When all have
+//! ended, the answers are put in the order of their lines. They are written when the section has ended, and only then is the next
+//! section read. An index of the server's own begins without rows or with those of a sound image.
 #![tactic(auto)]
 
 mod answering;

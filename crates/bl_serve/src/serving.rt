@@ -120,7 +120,8 @@ fn serve_round<T: Threads + Wait + Sync, R: Read, G: Gate + Sync>(
     Ok((passes, text))
 }
 
-/// Reads a section, answers it and counts its lines, in rounds: while the lines of one are answered, the next ones are read.
+/// Reads a section, answers it and counts its lines, in rounds: while the lines of one are answered, the next ones are read. The
+/// text then holds the output, and nothing else.
 fn serve_section<T: Threads + Wait + Sync, R: Read, G: Gate + Sync>(
     rt: &T,
     alloc: Global,
@@ -132,9 +133,10 @@ fn serve_section<T: Threads + Wait + Sync, R: Read, G: Gate + Sync>(
     desks: &mut Vec<Desk>,
     lines: &mut Vec<Option<Request>>,
     totals: &mut Totals,
+    text: &mut Vec<u8>,
     reader: &mut Watched<R>,
     ahead: &mut Ahead,
-) -> Result<(Vec<Pass>, Vec<u8>, SectionEnd), ServeFault>
+) -> Result<(Vec<Pass>, SectionEnd), ServeFault>
     requires together { AreTogether index.now (seen_by passes.items) passes.items }
     requires some { 0 < vec_len passes }
     requires requests { totals.old.requests < 2 ^ 64 }
@@ -145,13 +147,13 @@ fn serve_section<T: Threads + Wait + Sync, R: Read, G: Gate + Sync>(
     ensures serves { (asked : List (Option Request)) × (rest : List ℕ) × (more : List ℕ)
         × Consumes (R.remaining reader.old.inner) (R.remaining reader.new.inner) more
         × MatchResult result
-        (λ t. EndsReading (Ok t.2) (2 ^ 64 - 1 - totals.old.requests) asked rest (ahead.old.source ++ more) ahead.new.source (IsAtEnd (R.remaining reader.new.inner)) (reader.new.failed ≡ true)
-        × CountsSection totals.old totals.new asked t.2
-        × ServesSection index.now totals.old.requests asked t.2 t.1.items passes.items t.0.items)
+        (λ t. EndsReading (Ok t.1) (2 ^ 64 - 1 - totals.old.requests) asked rest (ahead.old.source ++ more) ahead.new.source (IsAtEnd (R.remaining reader.new.inner)) (reader.new.failed ≡ true)
+        × CountsSection totals.old totals.new asked t.1
+        × ServesSection index.now totals.old.requests asked t.1 text.new.items passes.items t.0.items)
         (λ fault. (left : List ℕ) × FailsSection fault totals.old.requests (2 ^ 64 - 1 - totals.old.requests) asked rest (ahead.old.source ++ more) left (IsAtEnd (R.remaining reader.new.inner)) (reader.new.failed ≡ true)) }
 {
     let mut passes = passes;
-    let mut text = Vec::new(alloc);
+    text.clear();
     ahead.most = most_behind(totals.requests);
     read_on(reader, ahead);
     for _ in rt.forever() {
@@ -181,7 +183,7 @@ fn serve_section<T: Threads + Wait + Sync, R: Read, G: Gate + Sync>(
         passes = back;
         text.extend_from_slice(more.as_slice())?;
         if !open {
-            return Ok((passes, text, end));
+            return Ok((passes, end));
         }
     }
     unreachable!()
@@ -254,6 +256,7 @@ pub fn serve_with<T: Threads + Wait + Sync, R: Read, W: Write, G: Gate + Sync>(
     let mut desks = desks(alloc, passes.len(), crew)?;
     let mut ahead = Ahead::new(alloc)?;
     let mut lines = Vec::new(alloc);
+    let mut text = Vec::new(alloc);
     let mut passes = passes;
     let mut totals = Totals {
         requests: 0,
@@ -261,7 +264,7 @@ pub fn serve_with<T: Threads + Wait + Sync, R: Read, W: Write, G: Gate + Sync>(
         sections: 0,
     };
     for _section in 0..u64::MAX {
-        let (back, text, end) = serve_section(
+        let (back, end) = serve_section(
             rt,
             alloc,
             index,
@@ -272,6 +275,7 @@ pub fn serve_with<T: Threads + Wait + Sync, R: Read, W: Write, G: Gate + Sync>(
             &mut desks,
             &mut lines,
             &mut totals,
+            &mut text,
             reader,
             &mut ahead,
         )?;

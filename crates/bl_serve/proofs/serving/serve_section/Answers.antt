@@ -21,7 +21,7 @@ loop-init g c = let r = c.read_on.ensures in record {
   more = r.more;
   mid = c.args.ahead.now.source ++ r.more;
   consumed = r.consumed;
-  served = served_nothing c.args.index.now c.args.passes.items c.args.totals.now (c.args.ahead.now.source ++ r.more) c.new-text.result.items c.new-text.ensures.items c.requires.together (let a = c.requires.some in let d = c.args.passes.ok in omega (arith, a, d)) c.requires.requests;
+  served = served_nothing c.args.index.now c.args.passes.items c.args.totals.now (c.args.ahead.now.source ++ r.more) c.clear.new.self.items c.clear.ensures.items c.requires.together (let a = c.requires.some in let d = c.args.passes.ok in omega (arith, a, d)) c.requires.requests;
   reads = subst (λ (n : ℕ). EndsReading c.read_on.new.ahead.end n c.read_on.new.ahead.lines.items r.rest (c.args.ahead.now.source ++ r.more) c.read_on.new.ahead.source (IsAtEnd (g.R.Read.remaining c.read_on.new.reader.inner)) (c.read_on.new.reader.failed ≡ true)) c.most_behind-ahead.ensures r.reads;
   malformed = c.requires.malformed;
   desks = c.requires.desks;

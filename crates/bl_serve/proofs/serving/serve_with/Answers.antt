@@ -69,36 +69,36 @@ returns-in-Err g c = let i = c.loop-section.invariant in let e = c.in_ok-back.en
       i.output ++ w.0,
       consumes_next _ _ _ i.input c.loop-section.ahead.source e.2 _ i.consumed e.3 refl,
       appends_more _ _ _ _ _ i.wrote w.3,
-      stops_at_write c.args.index.now i.seen c.loop-section.totals e.0 c.in_ok-back.end c.in_ok-back.text.items c.loop-section.passes.items c.in_ok-back.back.items i.together i.some s (seen_by c.args.passes.items) i.input i.output (c.loop-section.ahead.source ++ e.2) c.serve_section.new.ahead.source e.1 w.0 w.1 (18446744073709551615 - c.loop-section.totals.requests)
+      stops_at_write c.args.index.now i.seen c.loop-section.totals e.0 c.in_ok-back.end c.serve_section.new.text.items c.loop-section.passes.items c.in_ok-back.back.items i.together i.some s (seen_by c.args.passes.items) i.input i.output (c.loop-section.ahead.source ++ e.2) c.serve_section.new.ahead.source e.1 w.0 w.1 (18446744073709551615 - c.loop-section.totals.requests)
           (IsAtEnd (g.R.Read.remaining c.serve_section.new.reader.inner)) (c.serve_section.new.reader.failed ≡ true) (c.write_out.new.writer.failed ≡ true) i.progress ends (sym c.as_slice.ensures.value ∙ w.2) c.in-Err.ensures.failed,
     )
 
 pub returns-then-ne : goal.returns-then-ne
 returns-then-ne g c = let i = c.loop-section.invariant in let e = c.in_ok-back.ensures.serves in let ends = e.4.0 in let counts = e.4.1 in let s = e.4.2 in
     let other : c.in_ok-back.end ≢ section_end.Synced = search rules in
-    let v = serves_at_end c.args.index.now i.seen c.loop-section.totals e.0 c.in_ok-back.end c.in_ok-back.text.items c.loop-section.passes.items c.in_ok-back.back.items i.together i.some s (seen_by c.args.passes.items) c.serve_section.new.totals i.input i.output (c.loop-section.ahead.source ++ e.2) c.serve_section.new.ahead.source e.1
+    let v = serves_at_end c.args.index.now i.seen c.loop-section.totals e.0 c.in_ok-back.end c.serve_section.new.text.items c.loop-section.passes.items c.in_ok-back.back.items i.together i.some s (seen_by c.args.passes.items) c.serve_section.new.totals i.input i.output (c.loop-section.ahead.source ++ e.2) c.serve_section.new.ahead.source e.1
     (IsAtEnd (g.R.Read.remaining c.serve_section.new.reader.inner)) (c.serve_section.new.reader.failed ≡ true) other i.progress ends i.room counts in (
       i.input ++ v.consumed,
       c.serve_section.new.ahead.source,
-      i.output ++ c.in_ok-back.text.items,
+      i.output ++ c.serve_section.new.text.items,
       consumes_rest _ _ _ i.input _ _ v.consumed _ i.consumed e.3 v.read,
       appends_text _ _ _ _ _ _ i.wrote c.in-Ok.ensures.ok c.as_slice.ensures.value,
-      (record { now = now_seen c.args.index.now i.seen c.loop-section.totals e.0 c.in_ok-back.end c.in_ok-back.text.items c.loop-section.passes.items c.in_ok-back.back.items i.together i.some s; served = v.served; together = together_now c.args.index.now i.seen c.loop-section.totals e.0 c.in_ok-back.end c.in_ok-back.text.items c.loop-section.passes.items c.in_ok-back.back.items i.together i.some s }, v.ends),
+      (record { now = now_seen c.args.index.now i.seen c.loop-section.totals e.0 c.in_ok-back.end c.serve_section.new.text.items c.loop-section.passes.items c.in_ok-back.back.items i.together i.some s; served = v.served; together = together_now c.args.index.now i.seen c.loop-section.totals e.0 c.in_ok-back.end c.serve_section.new.text.items c.loop-section.passes.items c.in_ok-back.back.items i.together i.some s }, v.ends),
     )
 
 pub loop-section-preserved : goal.loop-section-preserved
 loop-section-preserved g c = let i = c.loop-section.invariant in let e = c.in_ok-back.ensures.serves in let ends = e.4.0 in let counts = e.4.1 in let s = e.4.2 in
     let is : c.in_ok-back.end ≡ section_end.Synced = search rules in
-    let v = goes_on_at_sync c.args.index.now i.seen c.loop-section.totals e.0 c.in_ok-back.end c.in_ok-back.text.items c.loop-section.passes.items c.in_ok-back.back.items i.together i.some s (seen_by c.args.passes.items) c.serve_section.new.totals i.input i.output (c.loop-section.ahead.source ++ e.2) c.serve_section.new.ahead.source e.1 (18446744073709551615 - c.loop-section.totals.requests)
+    let v = goes_on_at_sync c.args.index.now i.seen c.loop-section.totals e.0 c.in_ok-back.end c.serve_section.new.text.items c.loop-section.passes.items c.in_ok-back.back.items i.together i.some s (seen_by c.args.passes.items) c.serve_section.new.totals i.input i.output (c.loop-section.ahead.source ++ e.2) c.serve_section.new.ahead.source e.1 (18446744073709551615 - c.loop-section.totals.requests)
     (IsAtEnd (g.R.Read.remaining c.serve_section.new.reader.inner)) (c.serve_section.new.reader.failed ≡ true) is i.progress ends counts in record {
       input = i.input ++ v.consumed;
-      output = i.output ++ c.in_ok-back.text.items;
-      seen = now_seen c.args.index.now i.seen c.loop-section.totals e.0 c.in_ok-back.end c.in_ok-back.text.items c.loop-section.passes.items c.in_ok-back.back.items i.together i.some s;
+      output = i.output ++ c.serve_section.new.text.items;
+      seen = now_seen c.args.index.now i.seen c.loop-section.totals e.0 c.in_ok-back.end c.serve_section.new.text.items c.loop-section.passes.items c.in_ok-back.back.items i.together i.some s;
       consumed = consumes_rest _ _ _ i.input _ _ v.consumed _ i.consumed e.3 v.read;
       wrote = appends_text _ _ _ _ _ _ i.wrote c.in-Ok.ensures.ok c.as_slice.ensures.value;
       progress = v.progress;
-      together = together_now c.args.index.now i.seen c.loop-section.totals e.0 c.in_ok-back.end c.in_ok-back.text.items c.loop-section.passes.items c.in_ok-back.back.items i.together i.some s;
-      some = some_now c.args.index.now i.seen c.loop-section.totals e.0 c.in_ok-back.end c.in_ok-back.text.items c.loop-section.passes.items c.in_ok-back.back.items i.together i.some s;
+      together = together_now c.args.index.now i.seen c.loop-section.totals e.0 c.in_ok-back.end c.serve_section.new.text.items c.loop-section.passes.items c.in_ok-back.back.items i.together i.some s;
+      some = some_now c.args.index.now i.seen c.loop-section.totals e.0 c.in_ok-back.end c.serve_section.new.text.items c.loop-section.passes.items c.in_ok-back.back.items i.together i.some s;
       room = (let a = counts.requests in let b = room c.in_ok-back.end c.loop-section.totals e.0 e.1 (c.loop-section.ahead.source ++ e.2) c.serve_section.new.ahead.source (IsAtEnd (g.R.Read.remaining c.serve_section.new.reader.inner)) (c.serve_section.new.reader.failed ≡ true) ends i.room in omega (arith, a, b));
       malformed = v.malformed i.malformed;
       sections = (let a = v.sections in let b = i.sections in omega (arith, a, b));
