@@ -1,6 +1,6 @@
 //! A plain Rust program that answers request lines as `blink serve` does, for comparison, and a generator of such lines.
-//! `twin lines N M` writes N mixed lines with a sync each M, `twin finds N` as many that find but for 4,000 insertions; `twin serve`
-//! answers standard input.
+//! `twin lines N K M` writes N mixed lines of keys 1 to K with a sync each M, `twin finds N K` as many that find but for the insertions
+//! of K keys; `twin serve` answers standard input.
 
 use std::collections::BTreeMap;
 use std::env;
@@ -81,35 +81,33 @@ fn serve() -> io::Result<()> {
     writer.flush()
 }
 
-const KEYS: u64 = 4000;
-
 /// The next state of a linear congruential generator.
 fn step(state: u64) -> u64 {
     state.wrapping_mul(6364136223846793005).wrapping_add(1442695040888963407)
 }
 
-/// An insertion of each key from 1 to 4,000 and a sync, then finds of these keys, and a sync each 100,000 lines.
-fn write_finds(count: u64) -> io::Result<()> {
+/// An insertion of each key from 1 on and a sync, then finds of these keys, and a sync each 100,000 lines.
+fn write_finds(count: u64, keys: u64) -> io::Result<()> {
     let mut writer = BufWriter::new(io::stdout().lock());
     let mut state = 1u64;
     for line in 1..=count {
         state = step(state);
         match line {
-            _ if line <= KEYS => writeln!(writer, "insert {line} {}", state >> 20)?,
-            _ if line == KEYS + 1 || line % 100_000 == 0 => writeln!(writer, "sync")?,
-            _ => writeln!(writer, "find {}", (state >> 33) % KEYS + 1)?,
+            _ if line <= keys => writeln!(writer, "insert {line} {}", state >> 20)?,
+            _ if line == keys + 1 || line % 100_000 == 0 => writeln!(writer, "sync")?,
+            _ => writeln!(writer, "find {}", (state >> 33) % keys + 1)?,
         }
     }
     writer.flush()
 }
 
-/// Finds, inserts and deletes of keys 1 to 4,000 in turn, and a sync each so many lines.
-fn write_lines(count: u64, section: u64) -> io::Result<()> {
+/// Finds, inserts and deletes in turn, and a sync each so many lines.
+fn write_lines(count: u64, keys: u64, section: u64) -> io::Result<()> {
     let mut writer = BufWriter::new(io::stdout().lock());
     let mut state = 1u64;
     for line in 1..=count {
         state = step(state);
-        let key = (state >> 33) % KEYS + 1;
+        let key = (state >> 33) % keys + 1;
         match (state >> 60) % 4 {
             _ if line % section == 0 => writeln!(writer, "sync")?,
             0 | 1 => writeln!(writer, "find {key}")?,
@@ -120,14 +118,19 @@ fn write_lines(count: u64, section: u64) -> io::Result<()> {
     writer.flush()
 }
 
+/// The number that the word spells, or 1.
+fn positive(word: &str) -> u64 {
+    word.parse().unwrap_or(1).max(1)
+}
+
 fn main() -> io::Result<()> {
     let words: Vec<String> = env::args().skip(1).collect();
     match words.iter().map(String::as_str).collect::<Vec<_>>().as_slice() {
         ["serve"] => serve(),
-        ["lines", count, section] => write_lines(count.parse().unwrap_or(0), section.parse().unwrap_or(1000).max(1)),
-        ["finds", count] => write_finds(count.parse().unwrap_or(0)),
+        ["lines", count, keys, section] => write_lines(positive(count), positive(keys), positive(section)),
+        ["finds", count, keys] => write_finds(positive(count), positive(keys)),
         _ => {
-            eprintln!("usage: twin serve | twin lines N M | twin finds N");
+            eprintln!("usage: twin serve | twin lines N K M | twin finds N K");
             std::process::exit(2);
         }
     }

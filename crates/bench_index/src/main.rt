@@ -265,12 +265,13 @@ fn run<R: Threads + Wait + Sync>(
 }
 
 // How far the passes that work are apart. A begin and an end write to a word of their pass, these words follow each other,
-// and a cache line holds eight words: so no two of seven passes write to one line. Of more than that some do.
+// a cache line holds eight words, and processors fetch lines in pairs: so no two of four passes write to one pair of lines. Of more
+// than that some do.
 fn spacing(threads: u32) -> u32
     requires { (1 ≤ threads) × (threads ≤ 16) }
     ensures { (1 ≤ result) × (result * threads + 5 ≤ 64) }
 {
-    if threads <= 7 { 8 } else { 59 / threads }
+    if threads <= 3 { 16 } else { 59 / threads }
 }
 
 // Of the passes that many apart, from the back.
