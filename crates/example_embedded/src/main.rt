@@ -1,6 +1,6 @@
 //! How a program embeds the index. Two threads share it, each by a pass of its own: each inserts a hundred rows and deletes the
-//! last twenty of them. Their passes meet, and one pass finds and lists rows of both. The index is closed, and another one opened
-//! from its image. What it prints is the same whatever the schedule. `docs/EMBEDDING.md` goes through it.
+//! last twenty of them. Their passes meet, and one of them finds a row of the other and lists rows of both. The index is closed,
+//! and another one opened from its image. What it prints is the same whatever the schedule. `docs/EMBEDDING.md` goes through it.
 #![tactic(auto)]
 
 ghost use Rattle.std.specs.Prelude.{All, IfSome};
@@ -22,7 +22,7 @@ const ROWS: u64 = 100;
 /// How many of its rows each thread keeps.
 const KEPT: u64 = 80;
 
-/// How many levels a tree may have: a hint is followed by at most one more on each.
+/// How many levels a tree may have. So many hints are followed behind one change, and more are left.
 const LEVELS: u32 = 12;
 
 /// How many rows the threads have inserted and deleted.
@@ -77,7 +77,7 @@ fn tidy<R: Wait>(rt: &R, index: &Index, pass: &mut Pass, hint: Option<Hint>)
     }
 }
 
-/// Inserts so many rows with the keys behind that one. The value of each is ten times its key.
+/// Inserts the rows of a thread, whose keys are behind that one. The value of each is ten times its key.
 fn fill<R: Wait>(rt: &R, index: &Index, pass: &mut Pass, behind: u64, counts: &Counts)
     requires { IsPassOf index.now pass.old }
     ensures { IsPassOf index.now pass.new }
@@ -92,7 +92,7 @@ fn fill<R: Wait>(rt: &R, index: &Index, pass: &mut Pass, behind: u64, counts: &C
     }
 }
 
-/// Deletes those of these rows that are not kept. Leaves get thin by it, and are merged while the other thread works.
+/// Deletes those of them that are not kept. Leaves get thin by it, and are merged or evened out while the other thread works.
 fn shrink<R: Wait>(rt: &R, index: &Index, pass: &mut Pass, behind: u64, counts: &Counts)
     requires { IsPassOf index.now pass.old }
     ensures { IsPassOf index.now pass.new }
@@ -139,7 +139,7 @@ fn find<R: Wait>(rt: &R, index: &Index, pass: &mut Pass, key: u64) -> Option<u64
     unreachable!()
 }
 
-/// The rows of a range, in the order of their keys. Nobody changes any now, so a scan is not stopped, but by want of memory.
+/// The rows of a range, in the order of their keys. Nobody else changes pages now, so only want of memory can stop the scan.
 fn listed(
     alloc: Global,
     index: &Index,
@@ -157,8 +157,18 @@ fn listed(
     }
 }
 
-/// The passes meet, so that the first one knows all that the second one has done. It finds a row of the second one, and lists the
-/// rows on both sides of where the second one's begin.
+/// The pass meets each of the others, so that it knows all that they have done, and they what it has done.
+fn meet_each(index: &Index, one: &mut Pass, others: &mut [Pass])
+    requires { IsPassOf index.now one.old × All (IsPassOf index.now) others.old }
+    ensures { IsPassOf index.now one.new × All (IsPassOf index.now) others.new }
+{
+    for number in 0..others.len() {
+        index.meet(one, &mut others[number]);
+    }
+}
+
+/// The last pass meets the other one, so that it knows all that has happened. It finds a row that the other one has inserted, and
+/// lists the rows on both sides of where its own begin. Then it is put back, since a close takes all passes.
 fn look<R: Wait>(
     rt: &R,
     alloc: Global,
@@ -166,19 +176,17 @@ fn look<R: Wait>(
     passes: &mut Vec<Pass>,
 ) -> Option<(u64, Vec<(u64, u64)>)>
     requires { All (IsPassOf index.now) passes.old.items }
-    ensures { IfSome result (λ _. All (IsPassOf index.now) passes.new.items) }
+    ensures { All (IsPassOf index.now) passes.new.items }
 {
-    let mut two = passes.pop()?;
-    let mut one = passes.pop()?;
-    index.meet(&mut one, &mut two);
-    let value = find(rt, index, &mut one, 150)?;
-    let rows = listed(alloc, index, &mut one, 79, Some(103))?;
-    passes.push(one).ok()?;
-    passes.push(two).ok()?;
+    let mut last = passes.pop()?;
+    meet_each(index, &mut last, passes.as_mut_slice());
+    let value = find(rt, index, &mut last, 50)?;
+    let rows = listed(alloc, index, &mut last, 79, Some(103))?;
+    passes.push(last).ok()?;
     Some((value, rows))
 }
 
-/// Closes the index, opens one with a single pass from its image, and gives the value of a key and the number of rows there.
+/// Closes the index and opens one with a single pass from its image. Gives the value of a key there, and how many rows there are.
 fn reopened<R: Wait>(rt: &R, alloc: Global, index: Index, passes: Vec<Pass>) -> Option<(u64, usize)>
     requires { All (IsPassOf index) passes.items }
 {
@@ -211,7 +219,7 @@ fn main(rt: HostRuntime) -> anyhow::Result<()> {
         eprintln!(&rt; "a row is missing, or memory")?;
         return Ok(());
     };
-    println!(rt; "150 has {value}")?;
+    println!(rt; "50 has {value}")?;
     for (key, value) in rows.as_slice() {
         println!(rt; "{key} {value}")?;
     }
