@@ -28,3 +28,24 @@ returns-in-Err-clause-appends c =
     let told = rw c.in-Err.is at c.append_rows-appended.ensures.appends in
     let more = subst (λ (h : Hand Mine). vec_capacity c.append_rows-appended.new.rows - vec_len c.append_rows-appended.new.rows < length (rows_between c.args.from c.args.to (pairs_of (read_words h.seat)))) c.next_in-next.ensures.same told.more in
     record { listed = tt; left = part_leaves _ _ c.args.from _ c.come_to_leaf.new.hand.seat c.end_part.new.hand.seat _ has ended c.next_in-next.result c.next_in-next.ensures.next c.args.turns c.args.to _ _ _ told.none more }
+
+pub come_to_leaf-requires-clause-own : goal.come_to_leaf-requires-clause-own
+come_to_leaf-requires-clause-own c = c.requires.own
+
+pub come_to_leaf-requires-clause-idle : goal.come_to_leaf-requires-clause-idle
+come_to_leaf-requires-clause-idle c = c.requires.idle
+
+pub returns-in-Ok-clause-idle : goal.returns-in-Ok-clause-idle
+returns-in-Ok-clause-idle c = c.end_part.ensures.idle
+
+pub returns-in-Ok-clause-within : goal.returns-in-Ok-clause-within
+returns-in-Ok-clause-within c = c.end_part.ensures.within
+
+pub returns-in-Err-clause-idle : goal.returns-in-Err-clause-idle
+returns-in-Err-clause-idle c = c.end_part.ensures.idle
+
+pub returns-in-Err-clause-within : goal.returns-in-Err-clause-within
+returns-in-Err-clause-within c = c.end_part.ensures.within
+
+pub returns-in_default-clause-same : goal.returns-in_default-clause-same
+returns-in_default-clause-same c = c.come_to_leaf.ensures.same

@@ -15,3 +15,27 @@ carry_on-requires-clause-free g c =
     let takes = g.met.P.Kind.goes _ _ _ c.begin.ensures.takes in
     let p = g.P.Kind.proc_of c.args.process in let q = g.P.Kind.proc_of c.begin.new.process in
     ((λ r. elim (takes_refused p seen.Done q takes r) [ inl was ↦ c.requires.free.0 was | inr told ↦ done_not_refused told ]), λ r. c.requires.free.1 (takes_puts p seen.Done q takes r))
+
+pub begin-requires-clause-own : goal.begin-requires-clause-own
+begin-requires-clause-own g c = c.requires.own
+
+pub begin-requires-clause-new : goal.begin-requires-clause-new
+begin-requires-clause-new g c = c.requires.new
+
+pub returns-clause-idle : goal.returns-clause-idle
+returns-clause-idle g c = c.carry_on.ensures.idle
+
+pub returns-clause-within : goal.returns-clause-within
+returns-clause-within g c = c.carry_on.ensures.within
+
+pub returns-clause-rests : goal.returns-clause-rests
+returns-clause-rests g c = c.carry_on.ensures.rests
+
+pub returns-clause-no_room : goal.returns-clause-no_room
+returns-clause-no_room g c = c.carry_on.ensures.no_room
+
+pub carry_on-requires-clause-running : goal.carry_on-requires-clause-running
+carry_on-requires-clause-running g c = c.begin.ensures.running
+
+pub carry_on-requires-clause-process : goal.carry_on-requires-clause-process
+carry_on-requires-clause-process g c = c.begin.ensures.process

@@ -69,3 +69,42 @@ returns-else-replace-clause-asked g c = λ none.
     let d = known c.args.hand.now.seat in let e = known c.replace.new.hand.seat in
     let latch = goes_keeps seen.Refused d e (c.replace.ensures.refused c.if-replace.false) (put_latches_not d _ c.args.at putting.0 on.state (g.J.Changer.acts j (change.Putting c.args.at putting.0))) in
     inl (c.replace.ensures.asked c.if-replace.false, keeps_held (g.J.Changer.level_at j) (g.J.Changer.key_at j) HasRoom d e latch (g.J.Changer.holds j (change.Putting c.args.at putting.0) (own_marks d) (on_held layout d _ on)))
+
+pub part_full-requires-clause-own : goal.part_full-requires-clause-own
+part_full-requires-clause-own g c = c.requires.own
+
+pub part_full-requires-clause-running : goal.part_full-requires-clause-running
+part_full-requires-clause-running g c = c.requires.running
+
+pub replace-requires-clause-own : goal.replace-requires-clause-own
+replace-requires-clause-own g c = c.requires.own
+
+pub replace-requires-clause-running : goal.replace-requires-clause-running
+replace-requires-clause-running g c = c.requires.running.0
+
+pub replace-requires-clause-empty : goal.replace-requires-clause-empty
+replace-requires-clause-empty g c = c.requires.running.1
+
+pub returns-then-words-ge14-clause-same : goal.returns-then-words-ge14-clause-same
+returns-then-words-ge14-clause-same g c = c.part_full.ensures.same
+
+pub returns-then-words-ge14-clause-empty : goal.returns-then-words-ge14-clause-empty
+returns-then-words-ge14-clause-empty g c = c.part_full.ensures.empty
+
+pub returns-then-words-ge14-clause-process : goal.returns-then-words-ge14-clause-process
+returns-then-words-ge14-clause-process g c = c.part_full.ensures.process
+
+pub returns-then-words-ge14-clause-since : goal.returns-then-words-ge14-clause-since
+returns-then-words-ge14-clause-since g c = c.part_full.ensures.since
+
+pub returns-then-replace-clause-same : goal.returns-then-replace-clause-same
+returns-then-replace-clause-same g c = c.replace.ensures.same
+
+pub returns-then-replace-clause-empty : goal.returns-then-replace-clause-empty
+returns-then-replace-clause-empty g c = c.replace.ensures.empty
+
+pub returns-else-replace-clause-same : goal.returns-else-replace-clause-same
+returns-else-replace-clause-same g c = c.replace.ensures.same
+
+pub returns-else-replace-clause-empty : goal.returns-else-replace-clause-empty
+returns-else-replace-clause-empty g c = c.replace.ensures.empty

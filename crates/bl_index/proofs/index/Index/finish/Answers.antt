@@ -27,3 +27,18 @@ returns-clause-tidy g c =
     let goes = g.met.P.Kind.goes c.args.process.now c.took.new.self seen.Done c.took.ensures in
     let takes : Takes (known c.args.hand.now.seat).state seen.Done (g.P.Kind.proc_of c.took.new.self) = subst (λ (z : Proc). Takes z seen.Done (g.P.Kind.proc_of c.took.new.self)) (sym c.requires.process.state) goes in
     subst (λ (z : Proc). IsTidy z (marks_of (name (known c.args.hand.now.seat).pass (known c.args.hand.now.seat).number) (trail_of (known c.end.new.hand.seat).trail))) (ended.1.state ∙ sym (ended.1.course.only _ takes)) ended.0.notes.tidy
+
+pub end-requires-clause-own : goal.end-requires-clause-own
+end-requires-clause-own g c = c.requires.own
+
+pub end-requires-clause-running : goal.end-requires-clause-running
+end-requires-clause-running g c = c.requires.running
+
+pub returns-clause-same : goal.returns-clause-same
+returns-clause-same g c = c.end.ensures.same
+
+pub returns-clause-idle : goal.returns-clause-idle
+returns-clause-idle g c = c.end.ensures.idle
+
+pub returns-clause-refusal : goal.returns-clause-refusal
+returns-clause-refusal g c = c.end.ensures.refusal

@@ -65,3 +65,36 @@ part_leaf-requires-clause-full c =
     let stands = stands_taking key value c.args.at there.page _ there.takes there.leads none full in
     subst (λ (h : Hand Mine). (f : Full) × (f.at ≡ c.args.at) × (f.key ≡ key) × (f.word ≡ value) × (read_words h.seat ≡ words_of f.page) × IsOn c.args.self.now.store.layout (known h.seat) (inserting key value (insert.Changing (change.Taking f))))
     (sym (c.listed_at.ensures.same ∙ (c.place_in-place.ensures.same ∙ c.word-head.ensures.same))) (stands.0, stands.1, stands.2, stands.3, there.is ∙ ap words_of (sym stands.4), on_as _ _ _ c.requires.process stands.5)
+
+pub returns-else-count-lt14-clause-idle : goal.returns-else-count-lt14-clause-idle
+returns-else-count-lt14-clause-idle c = c.part_leaf.ensures.idle
+
+pub returns-else-count-lt14-clause-within : goal.returns-else-count-lt14-clause-within
+returns-else-count-lt14-clause-within c = c.part_leaf.ensures.within
+
+pub returns-else-count-lt14-clause-rests : goal.returns-else-count-lt14-clause-rests
+returns-else-count-lt14-clause-rests c = c.part_leaf.ensures.rests
+
+pub returns-else-count-lt14-clause-no_room : goal.returns-else-count-lt14-clause-no_room
+returns-else-count-lt14-clause-no_room c = c.part_leaf.ensures.no_room
+
+pub returns-then-count-lt14-clause-idle : goal.returns-then-count-lt14-clause-idle
+returns-then-count-lt14-clause-idle c = c.enter.ensures.idle
+
+pub returns-then-count-lt14-clause-within : goal.returns-then-count-lt14-clause-within
+returns-then-count-lt14-clause-within c = c.enter.ensures.within
+
+pub returns-then-count-lt14-clause-rests : goal.returns-then-count-lt14-clause-rests
+returns-then-count-lt14-clause-rests c = c.enter.ensures.rests
+
+pub returns-then-count-lt14-clause-no_room : goal.returns-then-count-lt14-clause-no_room
+returns-then-count-lt14-clause-no_room c = c.enter.ensures.no_room
+
+pub returns-in-Some-clause-idle : goal.returns-in-Some-clause-idle
+returns-in-Some-clause-idle c = c.keep_present.ensures.idle
+
+pub returns-in-Some-clause-within : goal.returns-in-Some-clause-within
+returns-in-Some-clause-within c = c.keep_present.ensures.within
+
+pub returns-in-Some-clause-rests : goal.returns-in-Some-clause-rests
+returns-in-Some-clause-rests c = c.keep_present.ensures.rests

@@ -31,3 +31,6 @@ pub returns-else-try_latch-clause-process : goal.returns-else-try_latch-clause-p
 returns-else-try_latch-clause-process g c =
     let told = c.try_latch.ensures.told in
     on_goes _ seen.Missed _ _ _ _ c.requires.process (told.3.1 (λ is. false≢true (sym c.if-try_latch.false ∙ told.2.1 is))) (g.met.P.Kind.goes _ _ seen.Missed c.took-else-try_latch.ensures)
+
+pub try_latch-requires-clause-own : goal.try_latch-requires-clause-own
+try_latch-requires-clause-own g c = c.requires.own

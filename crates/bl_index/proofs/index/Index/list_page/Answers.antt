@@ -25,3 +25,9 @@ returns-in-Here-clause-reached c =
     let leads = c.in-Here.ensures.leads went.0 went.1 in
     subst (λ (h : Hand Mine). HasReached c.args.from c.args.self.now.store.layout h.seat (reached.Leaf c.look-glance.result)) (sym c.step_in.ensures.same)
     (page_reached c.args.self.now.store.layout c.args.from c.args.page went.0 (known c.args.hand.now.seat) c.look-glance.new.hand.seat c.look-glance.result c.requires.process went.2 c.look-glance.ensures.reads went.1 Here leads)
+
+pub look-glance-requires-clause-own : goal.look-glance-requires-clause-own
+look-glance-requires-clause-own c = c.requires.own
+
+pub look-glance-requires-clause-running : goal.look-glance-requires-clause-running
+look-glance-requires-clause-running c = c.requires.running

@@ -13,3 +13,15 @@ open-requires-clause-rule g c = let laws = g.met.P.Kind in opens_page _ _ (known
 
 pub returns-clause-takes : goal.returns-clause-takes
 returns-clause-takes g c = (seen.Done, c.took.ensures, tells_done c.args.hand.now.seat c.open.new.hand.seat (g.P.Kind.proc_of c.args.process.now) (λ x opens. c.open.ensures.refusal))
+
+pub took-requires-clause-running : goal.took-requires-clause-running
+took-requires-clause-running g c = c.requires.next.0
+
+pub took-requires-clause-given : goal.took-requires-clause-given
+took-requires-clause-given g c = rw c.requires.next.1 tt
+
+pub returns-clause-same : goal.returns-clause-same
+returns-clause-same g c = (c.open.ensures.same.0, c.open.ensures.same.1)
+
+pub returns-clause-stock : goal.returns-clause-stock
+returns-clause-stock g c = c.open.ensures.same.2

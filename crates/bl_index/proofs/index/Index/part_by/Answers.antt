@@ -25,3 +25,18 @@ returns-clause-answers c =
       answered = part_answers _ _ c.args.from _ c.come_to_leaf.new.hand.seat c.end_part.new.hand.seat _ has ended c.next_in-next.result goes (record { rows = c.rows_in-rows.result; next = c.next_in-next.result }) c.rows_in-rows.ensures.rows refl;
       refused = tt;
     }
+
+pub come_to_leaf-requires-clause-own : goal.come_to_leaf-requires-clause-own
+come_to_leaf-requires-clause-own c = c.requires.own
+
+pub come_to_leaf-requires-clause-idle : goal.come_to_leaf-requires-clause-idle
+come_to_leaf-requires-clause-idle c = c.requires.idle
+
+pub returns-clause-idle : goal.returns-clause-idle
+returns-clause-idle c = c.end_part.ensures.idle
+
+pub returns-clause-within : goal.returns-clause-within
+returns-clause-within c = c.end_part.ensures.within
+
+pub returns-in_default-clause-same : goal.returns-in_default-clause-same
+returns-in_default-clause-same c = c.come_to_leaf.ensures.same

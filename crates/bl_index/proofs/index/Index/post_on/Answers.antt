@@ -63,3 +63,9 @@ returns-in-None-clause-over g c =
       c.in-None.ensures.came,
       same_all _ _ _ looked c.come_from.ensures.since,
     )
+
+pub look-glance-requires-clause-own : goal.look-glance-requires-clause-own
+look-glance-requires-clause-own g c = c.requires.own
+
+pub look-glance-requires-clause-running : goal.look-glance-requires-clause-running
+look-glance-requires-clause-running g c = c.requires.running.0

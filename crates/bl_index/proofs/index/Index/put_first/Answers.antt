@@ -16,3 +16,21 @@ returns-in-Ok-clause-takes g c = (seen.Done, c.put_with.ensures.takes, tells_don
 
 pub returns-in-Err-clause-takes : goal.returns-in-Err-clause-takes
 returns-in-Err-clause-takes g c = (seen.Refused, c.took.ensures, tells_refused c.args.hand.now.seat c.reserve.new.hand.seat (g.P.Kind.proc_of c.args.process.now) (0, c.args.frames) (put_opens_not (g.P.Kind.proc_of c.args.process.now) _ _ (g.met.P.Kind.acts c.args.process.now ∙ c.requires.next.1)) (g.met.P.Kind.asks c.args.process.now ∙ c.requires.needs.0) c.in-Err.ensures.asked)
+
+pub reserve-requires-clause-own : goal.reserve-requires-clause-own
+reserve-requires-clause-own g c = c.requires.own
+
+pub reserve-requires-clause-empty : goal.reserve-requires-clause-empty
+reserve-requires-clause-empty g c = c.requires.empty
+
+pub put_with-requires-clause-next : goal.put_with-requires-clause-next
+put_with-requires-clause-next g c = c.requires.next
+
+pub took-requires-clause-running : goal.took-requires-clause-running
+took-requires-clause-running g c = c.requires.next.0
+
+pub took-requires-clause-given : goal.took-requires-clause-given
+took-requires-clause-given g c = rw (c.requires.next.1, c.requires.needs.0) refl
+
+pub returns-in-Err-clause-same : goal.returns-in-Err-clause-same
+returns-in-Err-clause-same g c = c.reserve.ensures.same

@@ -9,3 +9,21 @@ use Rattle.bl_index.proofs.index.Index.put_with.Goals as goal
 
 pub put-requires-clause-rule : goal.put-requires-clause-rule
 put-requires-clause-rule g c = let laws = g.met.P.Kind in puts_page _ _ (known c.args.hand.now.seat) c.requires.process.runs _ _ c.args.contents.now (ap next_of c.requires.process.state ∙ (laws.acts c.args.process.now ∙ c.requires.next.1)) c.to_words.ensures (subst (λ (z : Proc). GoesOn z seen.Done) (sym c.requires.process.state) (laws.courses c.args.process.now seen.Done c.requires.next.0 (rw c.requires.next.1 tt)))
+
+pub put-requires-clause-stock : goal.put-requires-clause-stock
+put-requires-clause-stock g c = (c.requires.stock.0, c.requires.stock.1)
+
+pub took-requires-clause-running : goal.took-requires-clause-running
+took-requires-clause-running g c = c.requires.next.0
+
+pub took-requires-clause-given : goal.took-requires-clause-given
+took-requires-clause-given g c = rw c.requires.next.1 tt
+
+pub returns-clause-same : goal.returns-clause-same
+returns-clause-same g c = (c.put.ensures.same.0, c.put.ensures.same.1)
+
+pub returns-clause-takes : goal.returns-clause-takes
+returns-clause-takes g c = c.took.ensures
+
+pub returns-clause-stock : goal.returns-clause-stock
+returns-clause-stock g c = (c.put.ensures.stock.0, c.put.ensures.stock.1, c.put.ensures.same.2 ∙ c.requires.stock.2)

@@ -41,3 +41,9 @@ returns-clause-process g c =
     let told = c.in-Some.ensures.told in let page = told.3 in
     let takes = g.met.P.Kind.goes _ _ _ (c.took_words.ensures.takes page.0 (sym told.2.1 ∙ page.1)) in
     subst (λ (h : Hand Mine). IsOn c.args.self.now.store.layout (known h.seat) (g.P.Kind.proc_of c.took_words.new.self)) (sym c.took_words.ensures.same) (on_goes _ (seen.Words page.0) _ _ _ _ c.requires.process page.2 takes)
+
+pub glance-requires-clause-own : goal.glance-requires-clause-own
+glance-requires-clause-own g c = c.requires.own
+
+pub glance-requires-clause-running : goal.glance-requires-clause-running
+glance-requires-clause-running g c = c.requires.running

@@ -13,3 +13,15 @@ retire-requires-clause-rule g c = let laws = g.met.P.Kind in retires_page _ _ (k
 
 pub returns-clause-takes : goal.returns-clause-takes
 returns-clause-takes g c = (seen.Done, c.took.ensures, tells_done c.args.hand.now.seat c.retire.new.hand.seat (g.P.Kind.proc_of c.args.process.now) (λ x opens. absurd (retire_opens_not (g.P.Kind.proc_of c.args.process.now) _ (g.met.P.Kind.acts c.args.process.now ∙ c.requires.next.1) x opens)))
+
+pub took-requires-clause-running : goal.took-requires-clause-running
+took-requires-clause-running g c = c.requires.next.0
+
+pub took-requires-clause-given : goal.took-requires-clause-given
+took-requires-clause-given g c = rw c.requires.next.1 tt
+
+pub returns-clause-same : goal.returns-clause-same
+returns-clause-same g c = c.retire.ensures.same
+
+pub returns-clause-stock : goal.returns-clause-stock
+returns-clause-stock g c = c.retire.ensures.stock.0 ∙ c.requires.empty

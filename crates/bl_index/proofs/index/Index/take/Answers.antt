@@ -19,3 +19,24 @@ returns-in-Some-clause-takes g c = (seen.Took c.in-Some.page, c.took.ensures, te
 
 pub returns-in-Err-clause-takes : goal.returns-in-Err-clause-takes
 returns-in-Err-clause-takes g c = (seen.Refused, c.took-in-Err.ensures, tells_refused c.args.hand.now.seat c.reserve.new.hand.seat (g.P.Kind.proc_of c.args.process.now) (1, 2) (take_opens_not (g.P.Kind.proc_of c.args.process.now) (g.met.P.Kind.acts c.args.process.now ∙ c.requires.next.1)) (g.met.P.Kind.asks c.args.process.now ∙ c.requires.needs) c.in-Err.ensures.asked)
+
+pub reserve-requires-clause-own : goal.reserve-requires-clause-own
+reserve-requires-clause-own g c = c.requires.own
+
+pub reserve-requires-clause-empty : goal.reserve-requires-clause-empty
+reserve-requires-clause-empty g c = c.requires.empty
+
+pub took-requires-clause-running : goal.took-requires-clause-running
+took-requires-clause-running g c = c.requires.next.0
+
+pub took-requires-in-Err-clause-running : goal.took-requires-in-Err-clause-running
+took-requires-in-Err-clause-running g c = c.requires.next.0
+
+pub took-requires-in-Err-clause-given : goal.took-requires-in-Err-clause-given
+took-requires-in-Err-clause-given g c = rw (c.requires.next.1, c.requires.needs) refl
+
+pub returns-in-Some-clause-same : goal.returns-in-Some-clause-same
+returns-in-Some-clause-same g c = c.reserve.ensures.same
+
+pub returns-in-Err-clause-same : goal.returns-in-Err-clause-same
+returns-in-Err-clause-same g c = c.reserve.ensures.same
