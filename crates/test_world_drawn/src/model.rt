@@ -4,7 +4,7 @@ use bl_page::{Page, from_words};
 use bl_proc::{Action, Answer, Proc, Process, Seen};
 use bl_world::{Act, Owner, Turn};
 use std::alloc::Global;
-use test_world_walks::{Law, Lists, add};
+use test_world_walks::{Law, Lists, add, found};
 
 /// By which event a process began, whether it has ended, and since which event it has seen its page retired.
 #[derive(Clone, Copy)]
@@ -28,7 +28,7 @@ impl Spans {
 
     /// The process may still read what the other one has seen retired.
     fn blocks(&mut self, number: usize, by: usize) -> Result<bool, Law> {
-        let saw = self.of(by)?.saw.ok_or("who looks has seen its page")?;
+        let saw = found!(self.of(by)?.saw, "who looks has seen its page");
         let other = self.of(number)?;
         Ok(match other.begun {
             Some(begun) => begun < saw && !other.ended,
@@ -65,7 +65,7 @@ fn latches(lists: &mut Lists, at: u32, number: usize) -> Result<bool, Law> {
 
 /// The page is one that may be taken, if it is retired as the process has seen it.
 fn releases(lists: &mut Lists, at: u32, span: &Span) -> Result<bool, Law> {
-    let saw = span.saw.ok_or("who releases a page has seen it")?;
+    let saw = found!(span.saw, "who releases a page has seen it");
     let is_retired = lists.owner(at)? == Owner::Retired(saw);
     if is_retired {
         lists.own(at, Owner::Released)?;
@@ -217,7 +217,7 @@ impl Model {
             .processes
             .as_mut_slice()
             .get_mut(number.wrapping_sub(1));
-        let process = process.ok_or("who has a turn was started")?;
+        let process = found!(process, "who has a turn was started");
         match turn {
             Turn::Step(_) if matches!(*process, Proc::Reclaim(_)) => {
                 look(process, &mut self.lists, &mut self.spans, number)

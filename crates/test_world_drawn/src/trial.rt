@@ -13,8 +13,8 @@ use bl_proc::{Answer, Posted, Proc};
 use bl_world::{Act, Event, Owner, Turn, WorldFault};
 use std::alloc::Global;
 use test_world_walks::{
-    Fresh, Job, Law, Moment, Running, SizedWorld, Squeeze, Tree, add, descends, hint_of, holds,
-    is_same_page, is_to_post, leads_back, walked,
+    Fresh, Job, Law, Moment, Running, SizedWorld, Squeeze, Tree, add, descends, found, hint_of,
+    holds, is_same_page, is_to_post, keep, leads_back, walked,
 };
 
 /// Numbers that look random, each world's its own.
@@ -115,6 +115,25 @@ fn page_of(act: Act) -> Option<u32> {
     }
 }
 
+/// The first of two laws that is broken.
+fn both(first: bool, law: Law, second: bool, other: Law) -> Result<(), Law> {
+    if first {
+        holds(second, other)
+    } else {
+        Err(law)
+    }
+}
+
+/// Who gets or sees a page leaves its owner as it is.
+fn looks_at_page(before: Option<Owner>, after: Option<Owner>) -> Result<(), Law> {
+    both(
+        before.is_some(),
+        "a page is got or seen that is there",
+        after == before,
+        "who gets or sees a page changes no owner",
+    )
+}
+
 /// What becomes of the owner of the page that the event at that place names.
 fn owns(
     event: Event,
@@ -123,48 +142,135 @@ fn owns(
     after: Option<Owner>,
 ) -> Result<(), Law> {
     let held = Some(Owner::Held(event.process));
-    match event.act {
-        Act::Get(_) | Act::See(_) => {
-            let may = before != Some(Owner::Released) || matches!(event.act, Act::See(_));
-            holds(may, "no released page is got")?;
-            holds(before.is_some(), "a page is got or seen that is there")?;
-            holds(after == before, "who gets or sees a page changes no owner")
+    let released = Some(Owner::Released);
+    let (was, law, is, then) = match event.act {
+        Act::Get(_) if before == released => return Err("no released page is got"),
+        Act::Get(_) | Act::See(_) => return looks_at_page(before, after),
+        Act::Take(0) => return Err("page 0 is not taken"),
+        Act::Put(_) => (
+            held,
+            "who puts a page holds it",
+            held,
+            "a put changes no owner",
+        ),
+        Act::Latch(_) => (
+            Some(Owner::Open),
+            "an open page is latched",
+            held,
+            "who latches a page holds it",
+        ),
+        Act::Take(_) => (
+            released,
+            "a released page is taken",
+            held,
+            "who takes a page holds it",
+        ),
+        Act::Open(_) => (
+            held,
+            "who opens a page holds it",
+            Some(Owner::Open),
+            "a page is opened",
+        ),
+        Act::Retire(_) => (
+            held,
+            "who retires a page holds it",
+            Some(Owner::Retired(place)),
+            "a page is retired",
+        ),
+        Act::Release(_) => return releases(before, after),
+        _ => return Ok(()),
+    };
+    both(before == was, law, after == is, then)
+}
+
+/// A retired page becomes a released one.
+fn releases(before: Option<Owner>, after: Option<Owner>) -> Result<(), Law> {
+    both(
+        matches!(before, Some(Owner::Retired(_))),
+        "a retired page is released",
+        after == Some(Owner::Released),
+        "a page is released",
+    )
+}
+
+/// The process with that number, if it runs.
+fn running_of(running: &mut [Running], number: usize) -> Option<&mut Running> {
+    for one in running.iter_mut() {
+        if one.number == number {
+            return Some(one);
         }
-        Act::Put(_) => {
-            holds(before == held, "who puts a page holds it")?;
-            holds(after == held, "a put changes no owner")
-        }
-        Act::Latch(_) => {
-            holds(before == Some(Owner::Open), "an open page is latched")?;
-            holds(after == held, "who latches a page holds it")
-        }
-        Act::Take(at) => {
-            holds(at > 0, "page 0 is not taken")?;
-            holds(before == Some(Owner::Released), "a released page is taken")?;
-            holds(after == held, "who takes a page holds it")
-        }
-        Act::Open(_) => {
-            holds(before == held, "who opens a page holds it")?;
-            holds(after == Some(Owner::Open), "a page is opened")
-        }
-        Act::Retire(_) => {
-            holds(before == held, "who retires a page holds it")?;
-            holds(after == Some(Owner::Retired(place)), "a page is retired")
-        }
-        Act::Release(_) => {
-            let was_retired = matches!(before, Some(Owner::Retired(_)));
-            holds(was_retired, "a retired page is released")?;
-            holds(after == Some(Owner::Released), "a page is released")
-        }
-        _ => Ok(()),
     }
+    None
+}
+
+/// The change that a running process has made by that event, which led to this tree. A deletion may leave its leaf thin.
+fn change_of(running: &mut Running, act: Act, tree: &Tree) -> Result<Op, Law> {
+    match running.job {
+        Job::Insert(key, value) => Ok(Op::Insert(key, value)),
+        Job::Delete(key) => {
+            if let Act::Put(page) = act {
+                running.thin = tree.thin_low(page)?;
+            }
+            Ok(Op::Delete(key))
+        }
+        _ => Err("only insertions and deletions change rows"),
+    }
+}
+
+/// The next put of a compression, of that page. Whether it is the last one.
+fn puts_last(squeeze: &mut Option<Squeeze>, page: u32) -> Result<bool, Law> {
+    match squeeze {
+        Some(squeeze) => {
+            squeeze.puts(page)?;
+            Ok(squeeze.puts == 3)
+        }
+        None => Ok(false),
+    }
+}
+
+/// A post answers that it is done where this tree lists its key and the one before it did not. A new top level lists the key 0,
+/// which is no work of a post for that key.
+fn lists_first(running: &mut Running, before: &Tree, tree: &Tree) {
+    if let Job::Post(level, key) = running.job
+        && key != 0
+        && tree.lists(level as usize, key)
+        && !before.lists(level as usize, key)
+    {
+        running.own = Some(Answer::Post(Posted::Done, None));
+    }
+}
+
+/// A running process has parted the named page from another one.
+fn parts(running: &mut Running, tree: &Tree, named: Option<u32>) -> Result<(), Law> {
+    if let Some(page) = named {
+        let live = found!(tree.live_at(page), "a page that is named is live");
+        running.parted = Some((live.level.saturating_add(1), live.low));
+    }
+    Ok(())
+}
+
+/// A compression that has put nothing waits for a latch.
+fn waits(running: &Running, turn: Turn, act: Act) -> bool {
+    running.squeeze.is_none()
+        && matches!(running.job, Job::Compress(_, _))
+        && running.begun.is_some()
+        && act == Act::Miss
+        && matches!(turn, Turn::Step(_))
+}
+
+/// A process that runs is not to answer yet.
+fn goes_on(running: &Running) -> Result<(), Law> {
+    both(
+        running.saw.is_none() || matches!(running.saw, Some(Owner::Retired(_))),
+        "who sees a page that is not retired answers in that turn",
+        !running.blocked && !running.missed,
+        "who may not release a page answers in that turn",
+    )
 }
 
 impl Trial {
     fn new(alloc: Global, seed: u64, size: Size) -> Result<Trial, Law> {
-        let world = SizedWorld::open(alloc, size.pages)
-            .ok()
-            .ok_or("there is memory")?;
+        let world = found!(SizedWorld::open(alloc, size.pages).ok(), "there is memory");
         let model = Model::new(alloc, size.pages)?;
         let moment = Moment {
             fresh: Vec::new(alloc),
@@ -352,7 +458,7 @@ impl Trial {
     fn start(&mut self, alloc: Global, job: Job) -> Result<(), Law> {
         let number = self.enter(job)?;
         self.started = self.started.wrapping_add(1);
-        holds(number == self.started, "processes count from 1")?;
+        keep!(number == self.started, "processes count from 1");
         let running = Running {
             number,
             job,
@@ -445,44 +551,36 @@ impl Trial {
 
     /// The rows have changed to those of this tree by that event.
     fn changed(&mut self, event: Event, tree: &Tree) -> Result<(), Law> {
-        for running in self.running.as_mut_slice() {
-            if running.number == event.process {
-                let op = match running.job {
-                    Job::Insert(key, value) => Op::Insert(key, value),
-                    Job::Delete(key) => {
-                        if let Act::Put(page) = event.act {
-                            running.thin = tree.thin_low(page)?;
-                        }
-                        Op::Delete(key)
-                    }
-                    _ => return Err("only insertions and deletions change rows"),
-                };
-                let reply = self.map.apply(&op).ok().ok_or("there is memory")?;
-                holds(running.own.is_none(), "a process changes rows once")?;
-                running.own = Some(Answer::Op(reply, None));
-                return Ok(());
-            }
-        }
-        Err("only a running process changes rows")
+        let running = running_of(self.running.as_mut_slice(), event.process);
+        let running = found!(running, "only a running process changes rows");
+        let op = change_of(running, event.act, tree)?;
+        let reply = found!(self.map.apply(&op).ok(), "there is memory");
+        keep!(running.own.is_none(), "a process changes rows once");
+        running.own = Some(Answer::Op(reply, None));
+        Ok(())
+    }
+
+    /// The map has the rows of this tree.
+    fn has_rows_of(&mut self, alloc: Global, tree: &Tree) -> Result<(), Law> {
+        let rows = rows_of(alloc, &mut self.map)?;
+        let same = rows.as_slice() == tree.rows.as_slice();
+        holds(same, "the leaves have the rows of the map")
     }
 
     /// A process that puts this page compresses, and goes on with that.
     fn puts_in_compression(&mut self, alloc: Global, number: usize, page: u32) -> Result<(), Law> {
-        for running in self.running.as_mut_slice() {
-            if running.number == number
-                && let Job::Compress(level, key) = running.job
-            {
-                if running.squeeze.is_none() {
-                    running.squeeze = Some(Squeeze::new(alloc, &self.tree, level, key)?);
-                    add(&mut self.moment.compressing, number)?;
-                }
-                if let Some(squeeze) = &mut running.squeeze {
-                    squeeze.puts(page)?;
-                    if squeeze.puts == 3 {
-                        self.moment.compressing.retain(|other| *other != number);
-                    }
-                }
-            }
+        let Some(running) = running_of(self.running.as_mut_slice(), number) else {
+            return Ok(());
+        };
+        let Job::Compress(level, key) = running.job else {
+            return Ok(());
+        };
+        if running.squeeze.is_none() {
+            running.squeeze = Some(Squeeze::new(alloc, &self.tree, level, key)?);
+            add(&mut self.moment.compressing, number)?;
+        }
+        if puts_last(&mut running.squeeze, page)? {
+            self.moment.compressing.retain(|other| *other != number);
         }
         Ok(())
     }
@@ -508,7 +606,7 @@ impl Trial {
         let mut named_by = None;
         for (at, owner) in before.iter().enumerate() {
             if *owner == Owner::Held(number) {
-                holds(named_by.is_none(), "who takes a page holds one")?;
+                keep!(named_by.is_none(), "who takes a page holds one");
                 named_by = u32::try_from(at).ok();
             }
         }
@@ -518,7 +616,7 @@ impl Trial {
                 break;
             }
         }
-        let named_by = named_by.ok_or("who takes a page holds one")?;
+        let named_by = found!(named_by, "who takes a page holds one");
         let fresh = Fresh {
             page,
             holder: number,
@@ -535,30 +633,19 @@ impl Trial {
         tree: &Tree,
         named: Option<u32>,
     ) -> Result<(), Law> {
-        for running in self.running.as_mut_slice() {
-            if running.number != event.process {
-                continue;
-            }
-            if let Job::Post(level, key) = running.job {
-                let level = level as usize;
-                // a new top level lists the key 0, which is no work of a post for that key
-                if key != 0 && tree.lists(level, key) && !self.tree.lists(level, key) {
-                    running.own = Some(Answer::Post(Posted::Done, None));
-                }
-            }
-            if let Some(page) = named
-                && event.act != Act::Put(0)
-            {
-                let live = tree.live_at(page).ok_or("a page that is named is live")?;
-                running.parted = Some((live.level.saturating_add(1), live.low));
-            }
-            if let Some(squeeze) = &running.squeeze
-                && squeeze.puts == 3
-            {
-                squeeze.is_done(alloc, &self.model.lists, tree)?;
-                running.own = Some(squeeze.answer_in(tree)?);
-                self.tally.squeezed(squeeze);
-            }
+        let Some(running) = running_of(self.running.as_mut_slice(), event.process) else {
+            return Ok(());
+        };
+        lists_first(running, &self.tree, tree);
+        if event.act != Act::Put(0) {
+            parts(running, tree, named)?;
+        }
+        if let Some(squeeze) = &running.squeeze
+            && squeeze.puts == 3
+        {
+            squeeze.is_done(alloc, &self.model.lists, tree)?;
+            running.own = Some(squeeze.answer_in(tree)?);
+            self.tally.squeezed(squeeze);
         }
         Ok(())
     }
@@ -572,36 +659,48 @@ impl Trial {
         }
     }
 
-    /// The tree is now this one, after that event, by which a fresh page may have come to be named.
-    fn went_to(
+    /// The tree may be this one, after that event, by which a fresh page may have come to be named.
+    fn goes_to(
         &mut self,
         alloc: Global,
         event: Event,
-        tree: Tree,
+        tree: &Tree,
         named: Option<u32>,
     ) -> Result<(), Law> {
         let puts = matches!(event.act, Act::Put(_));
-        holds(puts || tree.is_as(&self.tree), "only a put changes pages")?;
+        keep!(puts || tree.is_as(&self.tree), "only a put changes pages");
         if tree.rows.as_slice() != self.tree.rows.as_slice() {
-            self.changed(event, &tree)?;
-            let rows = rows_of(alloc, &mut self.map)?;
-            let same = rows.as_slice() == tree.rows.as_slice();
-            holds(same, "the leaves have the rows of the map")?;
+            self.changed(event, tree)?;
+            self.has_rows_of(alloc, tree)?;
         }
         if puts {
-            self.has_put(alloc, event, &tree, named)?;
+            self.has_put(alloc, event, tree, named)
+        } else {
+            Ok(())
         }
+    }
+
+    /// The tree has changed: what is a right answer now is noted, and each key and each dead page still leads to its leaf.
+    fn looks_on(&mut self) -> Result<(), Law> {
+        for running in self.running.as_mut_slice() {
+            running.look(&self.tree)?;
+        }
+        self.all_descend()?;
+        self.dead_pages_lead_back()
+    }
+
+    /// What stands on the pages after that event.
+    fn went_to(&mut self, alloc: Global, event: Event, named: Option<u32>) -> Result<(), Law> {
+        let tree = walked(alloc, &self.model.lists, &self.moment)?;
+        self.goes_to(alloc, event, &tree, named)?;
         self.evens(&tree);
         self.tally.levels = self.tally.levels.max(tree.levels);
         self.tree = tree;
-        if puts {
-            for running in self.running.as_mut_slice() {
-                running.look(&self.tree)?;
-            }
-            self.all_descend()?;
-            self.dead_pages_lead_back()?;
+        if matches!(event.act, Act::Put(_)) {
+            self.looks_on()
+        } else {
+            Ok(())
         }
-        Ok(())
     }
 
     /// What a process has done in this turn by the event at that place, and the owner before it of the page that it names.
@@ -613,28 +712,22 @@ impl Trial {
         owner: Option<Owner>,
         refused: bool,
     ) -> Result<(), Law> {
-        for running in self.running.as_mut_slice() {
-            if running.number == number_of(turn) {
-                running.refused = running.refused || refused;
-                if let Act::See(_) = act {
-                    running.started = self.started;
-                }
-                running.note(turn, act, place, owner)?;
-                if matches!(act, Act::See(_) | Act::Look(_)) {
-                    running.looks_on();
-                }
-                if running.squeeze.is_none()
-                    && matches!(running.job, Job::Compress(_, _))
-                    && running.begun.is_some()
-                    && act == Act::Miss
-                    && matches!(turn, Turn::Step(_))
-                {
-                    one_more(&mut self.tally.waits);
-                }
-                return Ok(());
-            }
+        let started = self.started;
+        let Some(running) = running_of(self.running.as_mut_slice(), number_of(turn)) else {
+            return holds(act == Act::Miss, "who has answered does nothing");
+        };
+        running.refused = running.refused || refused;
+        if let Act::See(_) = act {
+            running.started = started;
         }
-        holds(act == Act::Miss, "who has answered does nothing")
+        running.note(turn, act, place, owner)?;
+        if matches!(act, Act::See(_) | Act::Look(_)) {
+            running.looks_on();
+        }
+        if waits(running, turn, act) {
+            one_more(&mut self.tally.waits);
+        }
+        Ok(())
     }
 
     /// The process with that number may still read what was retired by the event at that place.
@@ -686,28 +779,46 @@ impl Trial {
     ) -> Result<Option<u32>, Law> {
         let number = event.process;
         match event.act {
-            Act::Take(page) => self.takes(number, page, before)?,
-            Act::Retire(page) => add(&mut self.retired, page)?,
             Act::Put(page) => {
                 self.puts_in_compression(alloc, number, page)?;
-                return Ok(self.names_fresh(number, page));
+                Ok(self.names_fresh(number, page))
             }
-            Act::Look(other) => self.looks_at(number, other),
-            Act::Latch(_) => return self.latches(number, before).map(|_| None),
-            Act::Release(page) => {
-                if let Some(Owner::Retired(place)) = before.get(page as usize).copied() {
-                    holds(!self.is_read(place), "no page is released that may be read")?;
-                }
-                add(&mut self.released, page)?;
+            act => {
+                self.goes_after(act, number, before)?;
+                Ok(None)
+            }
+        }
+    }
+
+    /// The same of an event that puts nothing.
+    fn goes_after(&mut self, act: Act, number: usize, before: &[Owner]) -> Result<(), Law> {
+        match act {
+            Act::Take(page) => self.takes(number, page, before),
+            Act::Retire(page) => add(&mut self.retired, page),
+            Act::Latch(_) => self.latches(number, before),
+            Act::Release(page) => self.is_released(page, before),
+            Act::Look(other) => {
+                self.looks_at(number, other);
+                Ok(())
             }
             Act::Get(page) => {
                 if let Some(Page::Dead(_)) = self.model.lists.pages.as_slice().get(page as usize) {
                     one_more(&mut self.tally.dead_pages_got);
                 }
+                Ok(())
             }
-            _ => {}
+            _ => Ok(()),
         }
-        Ok(None)
+    }
+
+    /// No process may still read a page that is released.
+    fn is_released(&mut self, page: u32, before: &[Owner]) -> Result<(), Law> {
+        if let Some(Owner::Retired(place)) = before.get(page as usize).copied()
+            && self.is_read(place)
+        {
+            return Err("no page is released that may be read");
+        }
+        add(&mut self.released, page)
     }
 
     /// Who latches a page holds none, or compresses and holds two at most.
@@ -732,7 +843,7 @@ impl Trial {
             if let Owner::Retired(place) = owner
                 && self.is_read(*place)
             {
-                let page = u32::try_from(at).ok().ok_or("a page has a number")?;
+                let page = found!(u32::try_from(at).ok(), "a page has a number");
                 leads_back(&self.model.lists, &self.tree, page)?;
             }
         }
@@ -742,42 +853,43 @@ impl Trial {
     /// Processes that have answered run no more.
     fn judge(&mut self, number: usize) -> Result<(), Law> {
         for place in 0..self.running.len() {
-            let Some(running) = self.running.as_slice().get(place) else {
-                return Ok(());
-            };
-            if let Some(answer) = self.world.answer(running.number) {
-                holds(
-                    running.number == number,
-                    "a process answers in its own turn",
-                )?;
-                self.tally.answered(&answer);
-                if let Some(hint) = hint_of(&answer) {
-                    self.tally.hinted(&answer, &hint);
-                    if is_to_post(&hint) {
-                        add(&mut self.hints, (hint.level(), hint.key()))?;
-                    } else {
-                        add(&mut self.thin, (hint.level(), hint.key()))?;
-                    }
-                }
-                if running.missed {
-                    one_more(&mut self.tally.missed);
-                }
-                running.judge(answer)?;
+            if self.has_answered(place, number)? {
                 if place < self.running.len() {
                     self.running.remove(place);
                 }
                 return Ok(());
             }
-            holds(
-                running.saw.is_none() || matches!(running.saw, Some(Owner::Retired(_))),
-                "who sees a page that is not retired answers in that turn",
-            )?;
-            holds(
-                !running.blocked && !running.missed,
-                "who may not release a page answers in that turn",
-            )?;
         }
         Ok(())
+    }
+
+    /// Whether the running process at that place has answered, which only the one with that number may have.
+    fn has_answered(&mut self, place: usize, number: usize) -> Result<bool, Law> {
+        let running = self.running.as_slice().get(place);
+        let running = found!(running, "who runs has a place");
+        let Some(answer) = self.world.answer(running.number) else {
+            goes_on(running)?;
+            return Ok(false);
+        };
+        keep!(
+            running.number == number,
+            "a process answers in its own turn"
+        );
+        if running.missed {
+            one_more(&mut self.tally.missed);
+        }
+        if let Some(hint) = hint_of(&answer) {
+            self.tally.hinted(&answer, &hint);
+            let named = (hint.level(), hint.key());
+            if is_to_post(&hint) {
+                add(&mut self.hints, named)?;
+            } else {
+                add(&mut self.thin, named)?;
+            }
+        }
+        self.tally.answered(&answer);
+        running.judge(answer)?;
+        Ok(true)
     }
 
     fn owner_of(&self, page: Option<u32>) -> Option<Owner> {
@@ -789,7 +901,7 @@ impl Trial {
     fn are_held_by_running(&self) -> Result<(), Law> {
         for owner in self.model.lists.owners.as_slice() {
             if let Owner::Held(number) = owner {
-                holds(self.is_running(*number), "who holds a page runs")?;
+                keep!(self.is_running(*number), "who holds a page runs");
             }
         }
         Ok(())
@@ -798,17 +910,17 @@ impl Trial {
     /// No page but those that an event names has got another owner.
     fn keeps_owners(&self, before: &[Owner], named: Option<u32>) -> Result<(), Law> {
         let after = self.model.lists.owners.as_slice();
-        holds(
+        keep!(
             after.len() == before.len(),
-            "there are as many pages as before",
-        )?;
+            "there are as many pages as before"
+        );
         for (at, owner) in before.iter().enumerate() {
             let same = after.get(at) == Some(owner);
             let is_named = named.map(|page| page as usize) == Some(at);
-            holds(
+            keep!(
                 same || is_named,
-                "an event changes the owner of its own page alone",
-            )?;
+                "an event changes the owner of its own page alone"
+            );
         }
         Ok(())
     }
@@ -816,41 +928,48 @@ impl Trial {
     /// One turn, and all that is to hold after it.
     fn give(&mut self, alloc: Global, turn: Turn) -> Result<(), Law> {
         let number = number_of(turn);
-        let events = self.world.steps().len();
+        if number == 0 || number > self.started {
+            return self.gives_nobody(turn);
+        }
         let refused = matches!(turn, Turn::Refuse(_)) && self.is_reserving(number);
         let before = Vec::from_slice(alloc, self.model.lists.owners.as_slice());
-        let before = before.ok().ok_or("there is memory")?;
+        let before = found!(before.ok(), "there is memory");
+        let event = self.run(turn)?;
+        self.went_on(alloc, turn, event, before.as_slice(), refused)
+    }
+
+    /// Nobody has that turn.
+    fn gives_nobody(&mut self, turn: Turn) -> Result<(), Law> {
+        let events = self.world.steps().len();
         let ran = self.world.run(&[turn]);
-        if number == 0 || number > self.started {
-            holds(ran == Err(WorldFault::NoSuchProcess), "nobody has no turn")?;
-            return holds(
-                self.world.steps().len() == events,
-                "a refused list does nothing",
-            );
-        }
-        holds(ran == Ok(()), "there is memory")?;
-        let event = self
-            .world
-            .steps()
-            .last()
-            .copied()
-            .ok_or("a turn is an event")?;
-        holds(
+        both(
+            ran == Err(WorldFault::NoSuchProcess),
+            "nobody has no turn",
+            self.world.steps().len() == events,
+            "a refused list does nothing",
+        )
+    }
+
+    /// The one event of that turn, in the world and in its model.
+    fn run(&mut self, turn: Turn) -> Result<Event, Law> {
+        let events = self.world.steps().len();
+        let ran = self.world.run(&[turn]);
+        keep!(ran == Ok(()), "there is memory");
+        let event = found!(self.world.steps().last().copied(), "a turn is an event");
+        both(
             self.world.steps().len() == events.wrapping_add(1),
             "a turn is one event",
-        )?;
-        holds(
-            event.process == number,
+            event.process == number_of(turn),
             "an event is of the process whose turn it is",
         )?;
         self.models(turn, event, events)?;
-        self.went_on(alloc, turn, event, before.as_slice(), refused)
+        Ok(event)
     }
 
     /// The model takes the same turn, with the same event at that place and the same answer.
     fn models(&mut self, turn: Turn, event: Event, place: usize) -> Result<(), Law> {
         let act = self.model.turn(turn, event.process, place)?;
-        holds(act == event.act, "an event is that of the model")?;
+        keep!(act == event.act, "an event is that of the model");
         let answer = self.model.answer(event.process);
         holds(
             answer == self.world.answer(event.process),
@@ -880,8 +999,7 @@ impl Trial {
         self.keeps_pages(event.act)?;
         match event.act {
             Act::Put(_) | Act::Open(_) | Act::Take(_) | Act::Retire(_) | Act::Release(_) => {
-                let tree = walked(alloc, &self.model.lists, &self.moment)?;
-                self.went_to(alloc, event, tree, named)?;
+                self.went_to(alloc, event, named)?;
             }
             Act::Begin => self.looks_from(event.process)?,
             _ => {}
@@ -893,18 +1011,18 @@ impl Trial {
     /// No page has changed but the one that an event puts.
     fn keeps_pages(&mut self, act: Act) -> Result<(), Law> {
         let pages = self.model.lists.pages.as_slice();
-        holds(
+        keep!(
             pages.len() == self.pages.len(),
-            "there are as many pages as before",
-        )?;
+            "there are as many pages as before"
+        );
         for (at, old) in self.pages.as_mut_slice().iter_mut().enumerate() {
-            let page = pages.get(at).ok_or("there are as many pages as before")?;
+            let page = found!(pages.get(at), "there are as many pages as before");
             if let Act::Put(put) = act
                 && put as usize == at
             {
                 *old = page.copied();
             } else {
-                holds(is_same_page(page, old), "only a put changes pages")?;
+                keep!(is_same_page(page, old), "only a put changes pages");
             }
         }
         Ok(())

@@ -5,16 +5,16 @@
 //! each law that it finds broken.
 #![tactic(auto)]
 
+mod laws;
 mod lists;
 mod running;
 mod sized;
 mod squeezes;
 mod trees;
 
+pub use laws::{Law, add, holds};
 pub use lists::Lists;
 pub use running::{Job, Running, hint_of, is_to_post};
 pub use sized::SizedWorld;
 pub use squeezes::{Squeeze, Way};
-pub use trees::{
-    Fresh, Law, Listed, Live, Moment, Tree, add, descends, holds, is_same_page, leads_back, walked,
-};
+pub use trees::{Fresh, Listed, Live, Moment, Tree, descends, is_same_page, leads_back, walked};

@@ -1,6 +1,6 @@
 //! What stands in a world, for walks over it.
 
-use crate::trees::{Law, add};
+use crate::laws::{Law, add};
 use bl_page::Page;
 use bl_world::Owner;
 use std::alloc::Global;

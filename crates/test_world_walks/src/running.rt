@@ -1,7 +1,9 @@
 //! Processes that run, and what they may do and answer.
 
+use crate::keep;
+use crate::laws::{Law, add, holds};
 use crate::squeezes::{Squeeze, rights_of};
-use crate::trees::{Law, Tree, add, holds};
+use crate::trees::Tree;
 use bl_model::Reply;
 use bl_proc::{Answer, Hint, Posted, Reclaimed, Squeezed};
 use bl_world::{Act, Owner, Turn};
@@ -162,7 +164,7 @@ impl Running {
         }
         match act {
             Act::Begin => {
-                holds(self.begun.is_none(), "a process begins once")?;
+                keep!(self.begun.is_none(), "a process begins once");
                 self.begun = Some(place);
                 Ok(())
             }
@@ -194,13 +196,13 @@ impl Running {
         let has_looked = self.looks > self.started;
         match act {
             Act::See(at) => {
-                holds(at == page, "who is to release a page sees that page")?;
-                holds(self.saw.is_none(), "a page is seen once")?;
+                keep!(at == page, "who is to release a page sees that page");
+                keep!(self.saw.is_none(), "a page is seen once");
                 self.saw = owner;
                 Ok(())
             }
             Act::Look(number) => {
-                holds(may_release, "who looks has seen a retired page")?;
+                keep!(may_release, "who looks has seen a retired page");
                 holds(
                     number == self.looks,
                     "each process is looked at, by rising number",
@@ -208,10 +210,10 @@ impl Running {
             }
             Act::Release(at) => {
                 self.released = true;
-                holds(
+                keep!(
                     may_release && has_looked && at == page,
-                    "who releases a page has seen it retired, and looked at all",
-                )?;
+                    "who releases a page has seen it retired, and looked at all"
+                );
                 holds(
                     owner == self.saw,
                     "a page is released from the retirement that was seen",
@@ -219,7 +221,7 @@ impl Running {
             }
             Act::Miss => {
                 if matches!(turn, Turn::Step(_)) {
-                    holds(may_release && has_looked, "a release alone is missed")?;
+                    keep!(may_release && has_looked, "a release alone is missed");
                     self.missed = true;
                 }
                 Ok(())
@@ -238,7 +240,7 @@ impl Running {
 
     /// It has answered that this became of its page.
     fn judge_of_page(&self, what: Reclaimed) -> Result<(), Law> {
-        holds(self.saw.is_some(), "who answers for a page has seen it")?;
+        keep!(self.saw.is_some(), "who answers for a page has seen it");
         if what == Reclaimed::Released {
             return holds(self.released, "who has released a page says so");
         }
@@ -251,10 +253,10 @@ impl Running {
     /// It has answered with this hint, or none.
     fn judge_hint(&self, hint: Option<Hint>) -> Result<(), Law> {
         let Some(hint) = hint else {
-            holds(self.parted.is_none(), "who parts a page hints so")?;
+            keep!(self.parted.is_none(), "who parts a page hints so");
             return holds(self.thin.is_none(), "who leaves a leaf thin hints so");
         };
-        holds(self.own.is_some(), "who hints has changed a page")?;
+        keep!(self.own.is_some(), "who hints has changed a page");
         if is_to_post(&hint) {
             let named = Some((hint.level() as usize, hint.key()));
             return holds(
@@ -262,7 +264,7 @@ impl Running {
                 "a hint to post names the page that was parted",
             );
         }
-        holds(hint.level() == 1, "the parent of a thin leaf is of level 1")?;
+        keep!(hint.level() == 1, "the parent of a thin leaf is of level 1");
         holds(
             self.thin == Some(hint.key()),
             "a hint of a thin leaf names its low",
@@ -276,14 +278,14 @@ impl Running {
             None => 0,
         };
         let has_put = what == Squeezed::Merged || what == Squeezed::Evened;
-        holds(
+        keep!(
             puts == if has_put { 3 } else { 0 },
-            "a compression is done whole",
-        )?;
-        holds(
+            "a compression is done whole"
+        );
+        keep!(
             !self.evens || what == Squeezed::Evened,
-            "a child begins before its key in an evening alone",
-        )?;
+            "a child begins before its key in an evening alone"
+        );
         holds(
             self.retired == (what == Squeezed::Merged),
             "a merge retires the dead page",
@@ -297,7 +299,7 @@ impl Running {
             Answer::Compress(what, _) => self.judge_of_children(*what)?,
             _ => self.judge_hint(hint_of(&answer))?,
         }
-        holds(self.begun.is_some(), "who answers has begun")?;
+        keep!(self.begun.is_some(), "who answers has begun");
         let answer = without_hint(answer);
         if let Some(own) = &self.own {
             return holds(answer == *own, "who has changed the tree answers so");

@@ -1,7 +1,9 @@
 //! What a compression is to do, by the pages before its first put.
 
+use crate::laws::{Law, add, holds};
 use crate::lists::Lists;
-use crate::trees::{Law, Listed, Live, Tree, add, holds};
+use crate::trees::{Listed, Live, Tree};
+use crate::{found, keep};
 use bl_page::Page;
 use bl_proc::{Answer, Hint, Level, Squeezed};
 use std::alloc::Global;
@@ -47,7 +49,7 @@ fn siblings(tree: &Tree, parent: u32, key: u64) -> Result<Option<Family>, Law> {
 }
 
 fn level_of(number: usize) -> Result<Level, Law> {
-    let number = u32::try_from(number).ok().ok_or("a level is small")?;
+    let number = found!(u32::try_from(number).ok(), "a level is small");
     if number == 0 || number > 12 {
         return Err("a hint is of a level of 1 to 12");
     }
@@ -59,8 +61,8 @@ fn right_at(tree: &Tree, parent: &Live, key: u64) -> Result<Option<Answer>, Law>
     let Some(family) = siblings(tree, parent.page, key)? else {
         return Ok(Some(Answer::Compress(Squeezed::Alone, None)));
     };
-    let left = tree.live_at(family.left).ok_or("a child is live")?;
-    let right = tree.live_at(family.right).ok_or("a child is live")?;
+    let left = found!(tree.live_at(family.left), "a child is live");
+    let right = found!(tree.live_at(family.right), "a child is live");
     if left.right != right.page {
         let level = level_of(parent.level)?;
         let key = left.high;
@@ -114,13 +116,16 @@ pub enum Way {
 impl Squeeze {
     /// The compression of the children of the page of that level that covers the key, which is the parent if it is that page.
     fn at_parent(alloc: Global, tree: &Tree, parent: &Live, key: u64) -> Result<Squeeze, Law> {
-        let family = siblings(tree, parent.page, key)?.ok_or("who compresses has two children")?;
-        let left = tree.live_at(family.left).ok_or("a child is live")?;
-        let right = tree.live_at(family.right).ok_or("a child is live")?;
-        holds(
+        let family = found!(
+            siblings(tree, parent.page, key)?,
+            "who compresses has two children"
+        );
+        let left = found!(tree.live_at(family.left), "a child is live");
+        let right = found!(tree.live_at(family.right), "a child is live");
+        keep!(
             left.right == right.page,
-            "the left child leads to the right one",
-        )?;
+            "the left child leads to the right one"
+        );
         let mut pairs = tree.pairs_of(alloc, &left)?;
         for pair in tree.pairs_of(alloc, &right)?.as_slice() {
             add(&mut pairs, *pair)?;
@@ -168,10 +173,10 @@ impl Squeeze {
     /// It puts that page as its next one: the child that gains, the parent, and the other child.
     pub fn puts(&mut self, page: u32) -> Result<(), Law> {
         let thin = self.left.count < 7 || self.right.count < 7;
-        holds(
+        keep!(
             thin || self.way() == Way::Merged,
-            "children with enough pairs are left alone",
-        )?;
+            "children with enough pairs are left alone"
+        );
         let (first, last) = if self.way() == Way::ToTheRight {
             (self.family.right, self.family.left)
         } else {
@@ -183,10 +188,10 @@ impl Squeeze {
             2 => Some(last),
             _ => None,
         };
-        holds(
+        keep!(
             next == Some(page),
-            "a compression puts who gains, the parent, who loses",
-        )?;
+            "a compression puts who gains, the parent, who loses"
+        );
         self.puts = self.puts.saturating_add(1);
         Ok(())
     }
@@ -196,23 +201,21 @@ impl Squeeze {
         let Some(Page::Dead(dead)) = lists.pages.as_slice().get(self.right.page as usize) else {
             return Err("a merged page is dead");
         };
-        holds(
+        keep!(
             dead.level as usize == self.right.level && dead.low == self.right.low,
-            "a dead page keeps its level and its low",
-        )?;
-        holds(
+            "a dead page keeps its level and its low"
+        );
+        keep!(
             dead.right == self.left.page,
-            "a dead page names who took its pairs",
-        )?;
-        let left = tree
-            .live_at(self.left.page)
-            .ok_or("the left child is live")?;
-        holds(
+            "a dead page names who took its pairs"
+        );
+        let left = found!(tree.live_at(self.left.page), "the left child is live");
+        keep!(
             left.low == self.left.low
                 && left.high == self.right.high
                 && left.right == self.right.right,
-            "a merged page has the bounds and the link of both",
-        )?;
+            "a merged page has the bounds and the link of both"
+        );
         let pairs = tree.pairs_of(alloc, &left)?;
         holds(
             pairs.as_slice() == self.pairs.as_slice() && left.count == self.count(),
@@ -222,37 +225,33 @@ impl Squeeze {
 
     /// After the last put of an evening each child has its half of the pairs.
     fn has_evened(&self, alloc: Global, tree: &Tree) -> Result<u64, Law> {
-        let left = tree
-            .live_at(self.left.page)
-            .ok_or("the left child is live")?;
-        let right = tree
-            .live_at(self.right.page)
-            .ok_or("the right child is live")?;
-        holds(
+        let left = found!(tree.live_at(self.left.page), "the left child is live");
+        let right = found!(tree.live_at(self.right.page), "the right child is live");
+        keep!(
             left.count == self.half() && left.count > 6 && right.count > 6,
-            "the left child has half of the pairs, and neither is thin",
-        )?;
-        holds(
+            "the left child has half of the pairs, and neither is thin"
+        );
+        keep!(
             left.low == self.left.low && left.high == right.low && left.right == right.page,
-            "the left child ends where the right one begins",
-        )?;
-        holds(
+            "the left child ends where the right one begins"
+        );
+        keep!(
             right.high == self.right.high && right.right == self.right.right,
-            "the right child ends as before",
-        )?;
+            "the right child ends as before"
+        );
         let mut pairs = tree.pairs_of(alloc, &left)?;
         let upper = tree.pairs_of(alloc, &right)?;
-        holds(
+        keep!(
             upper.as_slice().first().map(|pair| pair.0) == Some(right.low),
-            "the right child begins with its first key",
-        )?;
+            "the right child begins with its first key"
+        );
         for pair in upper.as_slice() {
             add(&mut pairs, *pair)?;
         }
-        holds(
+        keep!(
             pairs.as_slice() == self.pairs.as_slice(),
-            "evened pages have the pairs of both",
-        )?;
+            "evened pages have the pairs of both"
+        );
         Ok(right.low)
     }
 
@@ -272,9 +271,7 @@ impl Squeeze {
                 add(&mut wanted, (low, pair.1))?;
             }
         }
-        let parent = tree
-            .live_at(self.family.parent)
-            .ok_or("the parent is live")?;
+        let parent = found!(tree.live_at(self.family.parent), "the parent is live");
         let listed = tree.pairs_of(alloc, &parent)?;
         holds(
             listed.as_slice() == wanted.as_slice(),

@@ -3,23 +3,14 @@
 //! name it; and while a process is between the first and the last put of a compression, two pages that it holds may cover a
 //! key in common, and a child that it holds may begin before the key by which it is listed, which is so in an evening alone.
 
+use crate::laws::{Law, add, holds};
 use crate::lists::Lists;
+use crate::{found, keep};
 use arrayvec::ArrayVec;
 use bl_model::{Next, Reply};
 use bl_page::{Inner, Leaf, Page};
 use bl_world::Owner;
 use std::alloc::Global;
-
-/// A law that is broken, in words.
-pub type Law = &'static str;
-
-pub fn holds(condition: bool, law: Law) -> Result<(), Law> {
-    if condition { Ok(()) } else { Err(law) }
-}
-
-pub fn add<T: Drop>(list: &mut Vec<T>, item: T) -> Result<(), Law> {
-    list.push(item).ok().ok_or("there is memory")
-}
 
 /// A page that was taken and is to be named by another one, which the same process holds.
 #[derive(Clone, Copy, PartialEq, Eq)]
@@ -117,9 +108,9 @@ pub struct Tree {
 fn keys_rise_within(pairs: &[(u64, u64)], low: u64, high: u64) -> Result<(), Law> {
     let mut last = None;
     for pair in pairs {
-        holds(Some(pair.0) > last, "the keys of a page rise")?;
-        holds(low <= pair.0, "no key is below the page")?;
-        holds(high == 0 || pair.0 < high, "no key is past the page")?;
+        keep!(Some(pair.0) > last, "the keys of a page rise");
+        keep!(low <= pair.0, "no key is below the page");
+        keep!(high == 0 || pair.0 < high, "no key is past the page");
         last = Some(pair.0);
     }
     Ok(())
@@ -140,10 +131,10 @@ fn live_leaf(page: u32, leaf: &Leaf) -> Result<Live, Law> {
 fn live_inner(page: u32, inner: &Inner) -> Result<Live, Law> {
     let children = inner.children.as_slice();
     keys_rise_within(children, inner.low, inner.high)?;
-    holds(
+    keep!(
         children.first().map(|child| child.0) == Some(inner.low),
-        "the first child begins with the page",
-    )?;
+        "the first child begins with the page"
+    );
     Ok(Live {
         page,
         level: inner.level as usize,
@@ -183,7 +174,7 @@ impl Tree {
 
     fn enter_all(&mut self, lists: &Lists, moment: &Moment) -> Result<(), Law> {
         for (at, owner) in lists.owners.as_slice().iter().enumerate() {
-            let page = u32::try_from(at).ok().ok_or("a page has a number")?;
+            let page = found!(u32::try_from(at).ok(), "a page has a number");
             if matches!(*owner, Owner::Open | Owner::Held(_))
                 && !moment.is_fresh(page)
                 && let Some(words) = lists.pages.as_slice().get(at)
@@ -207,12 +198,12 @@ impl Tree {
     /// Two pages that cover a key in common are in the hands of one compression, and each is of a level of the tree.
     fn overlap_in_compressions_alone(&self, lists: &Lists, moment: &Moment) -> Result<(), Law> {
         for (at, live) in self.live.as_slice().iter().enumerate() {
-            holds(live.level < self.levels, "a page is of a level of the tree")?;
+            keep!(live.level < self.levels, "a page is of a level of the tree");
             for other in self.live.as_slice().iter().skip(at.saturating_add(1)) {
-                holds(
+                keep!(
                     !live.overlaps(other) || moment.compresses_both(lists, live.page, other.page),
-                    "two pages of a level cover no key in common",
-                )?;
+                    "two pages of a level cover no key in common"
+                );
             }
         }
         Ok(())
@@ -242,17 +233,17 @@ impl Tree {
         let mut before = first;
         let mut from = 0;
         for _ in 0..lists.pages.len() {
-            let live = self.live_at(at).ok_or("a chain goes by live pages")?;
-            holds(live.level == level, "a page is of its level")?;
-            holds(
+            let live = found!(self.live_at(at), "a chain goes by live pages");
+            keep!(live.level == level, "a page is of its level");
+            keep!(
                 live.low == from || (live.low < from && moment.compresses_both(lists, before, at)),
-                "a page begins where the one before it ends",
-            )?;
+                "a page begins where the one before it ends"
+            );
             self.meet_rows(lists, at, from)?;
             if live.high == 0 {
                 return holds(live.right == 0, "the last page has no link");
             }
-            holds(from < live.high, "a page ends past its beginning")?;
+            keep!(from < live.high, "a page ends past its beginning");
             before = at;
             at = live.right;
             from = live.high;
@@ -263,18 +254,18 @@ impl Tree {
     /// A child is live, a level below, and begins with the key by which it is listed, or before it in an evening.
     fn is_child(&mut self, lists: &Lists, moment: &Moment, listed: Listed) -> Result<(), Law> {
         let child = u32::try_from(listed.child).ok();
-        let child = child.ok_or("a child has a number")?;
-        let live = self.live_at(child).ok_or("a child is live")?;
-        holds(
+        let child = found!(child, "a child has a number");
+        let live = found!(self.live_at(child), "a child is live");
+        keep!(
             live.level.wrapping_add(1) == listed.level,
-            "a child is one level lower",
-        )?;
-        holds(live.low <= listed.key, "a child begins with its key")?;
+            "a child is one level lower"
+        );
+        keep!(live.low <= listed.key, "a child begins with its key");
         if live.low == listed.key {
             return Ok(());
         }
         let compressor = moment.compressor_of(lists, child);
-        let compressor = compressor.ok_or("a child begins with its key")?;
+        let compressor = found!(compressor, "a child begins with its key");
         add(&mut self.evening, compressor)
     }
 
@@ -292,10 +283,10 @@ impl Tree {
         let mut place = 0usize;
         for row in self.rows.as_slice() {
             if live.covers(row.0) {
-                holds(
+                keep!(
                     leaf.rows.as_slice().get(place) == Some(row),
-                    "a leaf has the rows of the keys that it covers",
-                )?;
+                    "a leaf has the rows of the keys that it covers"
+                );
                 place = place.wrapping_add(1);
             }
         }
@@ -334,7 +325,7 @@ impl Tree {
 
     /// The low of the page, if it has fewer than 7 pairs and is not alone on its level.
     pub fn thin_low(&self, page: u32) -> Result<Option<u64>, Law> {
-        let live = self.live_at(page).ok_or("a page that is put is live")?;
+        let live = found!(self.live_at(page), "a page that is put is live");
         Ok(if live.count < 7 && !live.is_alone() {
             Some(live.low)
         } else {
@@ -419,7 +410,7 @@ pub fn walked(alloc: Global, lists: &Lists, moment: &Moment) -> Result<Tree, Law
 fn onwards(lists: &Lists, at: u32, key: u64) -> Result<Option<u32>, Law> {
     match lists.pages.as_slice().get(at as usize) {
         Some(Page::Leaf(leaf)) => {
-            holds(leaf.low <= key, "a descent comes to no page past its key")?;
+            keep!(leaf.low <= key, "a descent comes to no page past its key");
             if leaf.high == 0 || key < leaf.high {
                 return Ok(None);
             }
@@ -435,7 +426,7 @@ fn onwards(lists: &Lists, at: u32, key: u64) -> Result<Option<u32>, Law> {
                     child = u32::try_from(pair.1).ok();
                 }
             }
-            holds(child.is_some(), "a descent comes to no page past its key")?;
+            keep!(child.is_some(), "a descent comes to no page past its key");
             Ok(child)
         }
         Some(Page::Dead(dead)) => Ok(Some(dead.right)),
@@ -449,19 +440,17 @@ pub fn descends(lists: &Lists, tree: &Tree, key: u64) -> Result<(u32, u32), Law>
     let Some(Page::Anchor(anchor)) = lists.pages.as_slice().first() else {
         return Err("page 0 is the anchor");
     };
-    let mut at = anchor
-        .leftmost
-        .as_slice()
-        .last()
-        .copied()
-        .ok_or("there is a level")?;
+    let mut at = found!(
+        anchor.leftmost.as_slice().last().copied(),
+        "there is a level"
+    );
     let mut gets = 1u32;
     for _ in 0..lists.pages.len() {
         gets = gets.saturating_add(1);
         match onwards(lists, at, key)? {
             Some(next) => at = next,
             None => {
-                holds(tree.live_at(at).is_some(), "a descent ends at a live leaf")?;
+                keep!(tree.live_at(at).is_some(), "a descent ends at a live leaf");
                 return Ok((at, gets));
             }
         }
@@ -480,7 +469,7 @@ pub fn leads_back(lists: &Lists, tree: &Tree, dead: u32) -> Result<(), Law> {
         match lists.pages.as_slice().get(at as usize) {
             Some(Page::Dead(next)) => at = next.right,
             _ => {
-                let live = tree.live_at(at).ok_or("a dead page leads to a live one")?;
+                let live = found!(tree.live_at(at), "a dead page leads to a live one");
                 return holds(
                     live.level == first.level as usize,
                     "a dead page leads to one of its level",
