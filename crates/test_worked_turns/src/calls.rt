@@ -43,6 +43,22 @@ fn done(alloc: Global, is_done: bool) -> Result<Vec<u8>, AllocError> {
     said(alloc, if is_done { "done" } else { "not fit" })
 }
 
+/// Makes a call on the process that waits.
+fn go_on(
+    alloc: Global,
+    tree: &mut Tree,
+    process: &mut Proc,
+    call: &str,
+    numbers: &[u64],
+) -> Result<Vec<u8>, AllocError> {
+    match (call, numbers) {
+        ("go", [most]) => tree.run(alloc, process, *most),
+        ("refuse", []) => done(alloc, refuse(process)),
+        ("miss", []) => done(alloc, miss(process)),
+        _ => said(alloc, "no such call"),
+    }
+}
+
 impl Bench {
     /// There are no pages yet.
     pub fn new(alloc: Global) -> Bench {
@@ -57,21 +73,34 @@ impl Bench {
     pub fn answer(&mut self, alloc: Global, line: &str) -> Result<Vec<u8>, AllocError> {
         let (call, rest) = line.split_once(' ').unwrap_or((line, ""));
         let numbers = numbers_in(alloc, rest)?;
-        match (call, numbers.as_slice()) {
-            ("opening", []) => {
-                self.tree = Tree::opening(alloc)?;
-                said(alloc, "done")
-            }
+        match call {
+            "wait" => self.wait(alloc, rest, numbers.as_slice()),
+            _ => self.make(alloc, call, numbers.as_slice()),
+        }
+    }
+
+    /// Makes a call of these numbers.
+    fn make(&mut self, alloc: Global, call: &str, numbers: &[u64]) -> Result<Vec<u8>, AllocError> {
+        match (call, numbers) {
+            ("opening", []) => self.open(alloc),
             ("page", [number]) => self.tree.show(alloc, *number),
             ("put", [number, words @ ..]) => self.tree.put(alloc, *number, words),
-            ("wait", numbers) => self.wait(alloc, rest, numbers),
-            ("seek", [key]) => {
-                self.seeks = Find::new(*key);
-                said(alloc, "done")
-            }
+            ("seek", [key]) => self.begin_search(alloc, *key),
             ("seek-on", [most]) => self.tree.seek(alloc, &mut self.seeks, *most),
-            (_, numbers) => self.run(alloc, call, numbers),
+            _ => self.run(alloc, call, numbers),
         }
+    }
+
+    /// The pages of an opening tree are in place of those before.
+    fn open(&mut self, alloc: Global) -> Result<Vec<u8>, AllocError> {
+        self.tree = Tree::opening(alloc)?;
+        said(alloc, "done")
+    }
+
+    /// Begins a search that is told of words.
+    fn begin_search(&mut self, alloc: Global, key: u64) -> Result<Vec<u8>, AllocError> {
+        self.seeks = Find::new(key);
+        said(alloc, "done")
     }
 
     /// Starts a process that waits.
@@ -83,17 +112,17 @@ impl Bench {
 
     /// Runs a process, or the one that waits.
     fn run(&mut self, alloc: Global, call: &str, numbers: &[u64]) -> Result<Vec<u8>, AllocError> {
-        if let Some(mut process) = process_of(call, numbers) {
-            return self.tree.run(alloc, &mut process, ENOUGH);
+        match process_of(call, numbers) {
+            Some(mut process) => self.tree.run(alloc, &mut process, ENOUGH),
+            None => self.go_on(alloc, call, numbers),
         }
-        let Some(process) = &mut self.waits else {
-            return said(alloc, "nothing waits");
-        };
-        match (call, numbers) {
-            ("go", [most]) => self.tree.run(alloc, process, *most),
-            ("refuse", []) => done(alloc, refuse(process)),
-            ("miss", []) => done(alloc, miss(process)),
-            _ => said(alloc, "no such call"),
+    }
+
+    /// Runs the process that waits.
+    fn go_on(&mut self, alloc: Global, call: &str, numbers: &[u64]) -> Result<Vec<u8>, AllocError> {
+        match &mut self.waits {
+            Some(process) => go_on(alloc, &mut self.tree, process, call, numbers),
+            None => said(alloc, "nothing waits"),
         }
     }
 }

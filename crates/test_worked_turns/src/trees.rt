@@ -30,6 +30,21 @@ fn note_page(text: &mut Vec<u8>, word: &[u8], page: u32) -> Result<(), AllocErro
     push_number(text, b" ", u64::from(page))
 }
 
+/// Appends what a process does, where the least page that nobody uses is this one. What no lone process does is left out.
+fn note_action(text: &mut Vec<u8>, action: &Action, unused: u32) -> Result<(), AllocError> {
+    match action {
+        Action::Begin => note(text, b"begin"),
+        Action::End => note(text, b"end"),
+        Action::Get(at) => note_page(text, b"get", *at),
+        Action::Put(at, _) => note_page(text, b"put", *at),
+        Action::Latch(at) => note_page(text, b"latch", *at),
+        Action::Take if 0 < unused && unused < PAGES => note_page(text, b"take", unused),
+        Action::Open(at) => note_page(text, b"open", *at),
+        Action::Retire(at) => note_page(text, b"retire", *at),
+        _ => Ok(()),
+    }
+}
+
 /// Appends what the process has answered, if it has.
 pub fn note_answer<P: Process>(
     alloc: Global,
@@ -100,52 +115,49 @@ impl Tree {
         if process.answer().is_some() {
             return Ok(false);
         }
-        let seen = match process.next() {
-            Action::Begin => {
-                note(text, b"begin")?;
-                Seen::Done
-            }
-            Action::End => {
-                note(text, b"end")?;
-                Seen::Done
-            }
-            Action::Get(at) => {
-                note_page(text, b"get", at)?;
-                match self.pages.as_slice().get(at as usize) {
-                    Some(page) => Seen::Words(page.copied()),
-                    None => return Ok(false),
-                }
-            }
+        let action = process.next();
+        note_action(text, &action, self.unused)?;
+        let seen = match action {
+            Action::Get(at) => match self.copy_of(at) {
+                Some(page) => Seen::Words(page),
+                None => return Ok(false),
+            },
             Action::Put(at, page) => {
-                note_page(text, b"put", at)?;
-                match self.pages.as_mut_slice().get_mut(at as usize) {
-                    Some(place) => *place = page,
-                    None => return Ok(false),
+                if !self.write(at, page) {
+                    return Ok(false);
                 }
-                Seen::Done
-            }
-            Action::Latch(at) => {
-                note_page(text, b"latch", at)?;
                 Seen::Done
             }
             Action::Take if 0 < self.unused && self.unused < PAGES => {
                 let new = self.unused;
                 self.unused += 1;
-                note_page(text, b"take", new)?;
                 Seen::Took(new)
             }
-            Action::Open(at) => {
-                note_page(text, b"open", at)?;
-                Seen::Done
-            }
-            Action::Retire(at) => {
-                note_page(text, b"retire", at)?;
-                Seen::Done
-            }
+            Action::Begin | Action::End | Action::Latch(_) | Action::Open(_) | Action::Retire(_) =>
+                Seen::Done,
             _ => return Ok(false),
         };
         process.took(seen);
         Ok(true)
+    }
+
+    /// A copy of a page, if it is there.
+    fn copy_of(&self, at: u32) -> Option<Page> {
+        match self.pages.as_slice().get(at as usize) {
+            Some(page) => Some(page.copied()),
+            None => None,
+        }
+    }
+
+    /// Writes a page, if it is there.
+    fn write(&mut self, at: u32, page: Page) -> bool {
+        match self.pages.as_mut_slice().get_mut(at as usize) {
+            Some(place) => {
+                *place = page;
+                true
+            }
+            None => false,
+        }
     }
 
     /// A process's events up to its answer, or that many of them, and its answer if it has one.
@@ -170,22 +182,16 @@ impl Tree {
         if find.answer().is_some() {
             return Ok(false);
         }
-        match find.next() {
+        let action = find.next();
+        note_action(text, &action, self.unused)?;
+        match action {
             Action::Get(at) => {
-                note_page(text, b"get", at)?;
                 let Some(page) = self.pages.as_slice().get(at as usize) else {
                     return Ok(false);
                 };
                 find.took_words(&page.to_words(), &mut ());
             }
-            Action::Begin => {
-                note(text, b"begin")?;
-                find.took(Seen::Done);
-            }
-            Action::End => {
-                note(text, b"end")?;
-                find.took(Seen::Done);
-            }
+            Action::Begin | Action::End => find.took(Seen::Done),
             _ => return Ok(false),
         }
         Ok(true)
