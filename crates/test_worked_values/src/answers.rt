@@ -38,10 +38,14 @@ pub fn two_pages(
     right: &Page,
 ) -> Result<Vec<u8>, AllocError> {
     let mut text = said(alloc, front)?;
-    text.extend_from_slice(page(alloc, left)?.as_slice())?;
+    push_page(&mut text, alloc, left)?;
     text.extend_from_slice(b" | ")?;
-    text.extend_from_slice(page(alloc, right)?.as_slice())?;
+    push_page(&mut text, alloc, right)?;
     Ok(text)
+}
+
+fn push_page(text: &mut Vec<u8>, alloc: Global, shown: &Page) -> Result<(), AllocError> {
+    text.extend_from_slice(page(alloc, shown)?.as_slice())
 }
 
 /// What the checker has found.
@@ -57,17 +61,17 @@ pub fn verdict(alloc: Global, found: Result<Report, Fault>) -> Result<Vec<u8>, A
 }
 
 fn reported(alloc: Global, report: Report) -> Result<Vec<u8>, AllocError> {
-    let Report {
-        rows,
-        leaves,
-        inners,
-        levels,
-        unposted,
-        thin,
-    } = report;
-    let pages = format!(in alloc; "rows {rows} leaves {leaves} inners {inners}")?;
-    let shape = format!(in alloc; " levels {levels} unposted {unposted} thin {thin}")?;
-    let mut text = said(alloc, pages.as_str())?;
-    text.extend_from_slice(shape.as_bytes())?;
+    let counts: [(&[u8], u32); 6] = [
+        (b"rows ", report.rows),
+        (b" leaves ", report.leaves),
+        (b" inners ", report.inners),
+        (b" levels ", report.levels),
+        (b" unposted ", report.unposted),
+        (b" thin ", report.thin),
+    ];
+    let mut text = Vec::new(alloc);
+    for (name, count) in counts {
+        push_number(&mut text, name, u64::from(count))?;
+    }
     Ok(text)
 }

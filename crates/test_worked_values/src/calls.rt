@@ -30,11 +30,18 @@ fn on_two(alloc: Global, call: &str, left: &str, right: &str) -> Result<Vec<u8>,
 fn on_one(alloc: Global, call: &str, numbers: &[u64]) -> Result<Vec<u8>, AllocError> {
     match (call, numbers) {
         ("page", words) => read(alloc, words),
+        ("without", [key, words @ ..]) => drop_row(alloc, *key, words),
+        ("with", [key, value, words @ ..]) => with(alloc, *key, *value, words),
+        _ => on_key(alloc, call, numbers),
+    }
+}
+
+/// A call on what one page has of a key.
+fn on_key(alloc: Global, call: &str, numbers: &[u64]) -> Result<Vec<u8>, AllocError> {
+    match (call, numbers) {
         ("covers", [key, words @ ..]) => covers(alloc, *key, words),
         ("row", [key, words @ ..]) => row(alloc, *key, words),
         ("child", [key, words @ ..]) => child(alloc, *key, words),
-        ("without", [key, words @ ..]) => drop_row(alloc, *key, words),
-        ("with", [key, value, words @ ..]) => with(alloc, *key, *value, words),
         _ => way(alloc, call, numbers),
     }
 }
@@ -65,6 +72,35 @@ impl Bench {
         }
     }
 
+    /// Begins an image.
+    fn begin(&mut self, alloc: Global, pages: u64) -> Result<Vec<u8>, AllocError> {
+        self.draft = Draft::new(alloc, pages)?;
+        said(alloc, "begun")
+    }
+
+    /// Makes a call that shows the image as it is, or another one.
+    fn shown(&mut self, alloc: Global, call: &str, numbers: &[u64]) -> Result<Vec<u8>, AllocError> {
+        match (call, numbers) {
+            ("bytes", [from]) => self.draft.show(alloc, *from),
+            ("spelled", [page]) => self.draft.spelled(alloc, *page),
+            ("cut", []) => self.draft.cut(alloc),
+            ("alter", []) => self.draft.alter(alloc),
+            _ => self.applied(alloc, call, numbers),
+        }
+    }
+
+    /// Makes a call of these numbers.
+    fn made(&mut self, alloc: Global, call: &str, numbers: &[u64]) -> Result<Vec<u8>, AllocError> {
+        match (call, numbers) {
+            ("image", [pages]) => self.begin(alloc, *pages),
+            ("put", [page, words @ ..]) => self.draft.put(alloc, *page, words),
+            ("check", changes) => self.draft.check(alloc, 1, changes),
+            ("version", [version, changes @ ..]) => self.draft.check(alloc, *version, changes),
+            ("read", changes) => self.draft.read(alloc, changes),
+            _ => self.shown(alloc, call, numbers),
+        }
+    }
+
     /// Makes the call, and says what it gives.
     pub fn answer(&mut self, alloc: Global, line: &str) -> Result<Vec<u8>, AllocError> {
         let (call, rest) = line.split_once(' ').unwrap_or((line, ""));
@@ -72,20 +108,6 @@ impl Bench {
             return on_two(alloc, call, left, right);
         }
         let numbers = numbers_in(alloc, rest)?;
-        match (call, numbers.as_slice()) {
-            ("image", [pages]) => {
-                self.draft = Draft::new(alloc, *pages)?;
-                said(alloc, "begun")
-            }
-            ("put", [page, words @ ..]) => self.draft.put(alloc, *page, words),
-            ("bytes", [from]) => self.draft.show(alloc, *from),
-            ("cut", []) => self.draft.cut(alloc),
-            ("alter", []) => self.draft.alter(alloc),
-            ("check", changes) => self.draft.check(alloc, 1, changes),
-            ("version", [version, changes @ ..]) => self.draft.check(alloc, *version, changes),
-            ("read", changes) => self.draft.read(alloc, changes),
-            ("spelled", [page]) => self.draft.spelled(alloc, *page),
-            (_, numbers) => self.applied(alloc, call, numbers),
-        }
+        self.made(alloc, call, numbers.as_slice())
     }
 }

@@ -44,31 +44,27 @@ impl Draft {
 
     /// The bytes of the image, with a number of its version.
     fn bytes(&self, alloc: Global, version: u64, changes: &[u64]) -> Result<Vec<u8>, AllocError> {
-        let mut bytes = Vec::from_slice(alloc, b"BLNKIDX1")?;
-        let count = self.pages.len() as u64;
-        bytes.extend_from_slice(
-            (version % 256 + count % (1 << 32) * (1 << 32))
-                .to_le_bytes()
-                .as_slice(),
-        )?;
-        bytes.extend_from_slice([0; 16].as_slice())?;
+        let mut bytes = self.head(alloc, version)?;
         for (page, words) in self.pages.iter().enumerate() {
-            for (place, word) in words.iter().enumerate() {
-                let word = changed(*word, page as u64, place as u64, changes);
-                bytes.extend_from_slice(word.to_le_bytes().as_slice())?;
-            }
+            push_words(&mut bytes, page as u64, words, changes)?;
         }
+        Ok(bytes)
+    }
+
+    /// The head of the image.
+    fn head(&self, alloc: Global, version: u64) -> Result<Vec<u8>, AllocError> {
+        let count = self.pages.len() as u64;
+        let word = version % 256 + count % (1 << 32) * (1 << 32);
+        let mut bytes = Vec::from_slice(alloc, b"BLNKIDX1")?;
+        bytes.extend_from_slice(word.to_le_bytes().as_slice())?;
+        bytes.extend_from_slice([0; 16].as_slice())?;
         Ok(bytes)
     }
 
     /// Eight bytes of the image.
     pub fn show(&self, alloc: Global, from: u64) -> Result<Vec<u8>, AllocError> {
         let bytes = self.bytes(alloc, 1, &[])?;
-        let mut eight = Vec::new(alloc);
-        for byte in bytes.iter().skip(from as usize).take(8) {
-            eight.push(u64::from(*byte))?;
-        }
-        shown_words(alloc, eight.as_slice())
+        shown_words(alloc, &eight_from(bytes.as_slice(), from as usize))
     }
 
     /// What the checker finds in the image with these changes, each a page, a place and a word.
@@ -133,16 +129,44 @@ impl Draft {
     }
 }
 
+/// Appends the words of a page, with these changes.
+fn push_words(
+    bytes: &mut Vec<u8>,
+    page: u64,
+    words: &[u64; 32],
+    changes: &[u64],
+) -> Result<(), AllocError> {
+    for (place, word) in words.iter().enumerate() {
+        let word = changed(*word, page, place as u64, changes);
+        bytes.extend_from_slice(word.to_le_bytes().as_slice())?;
+    }
+    Ok(())
+}
+
+/// Eight bytes from there on, and zeros where there are fewer.
+fn eight_from(bytes: &[u8], from: usize) -> [u64; 8] {
+    let mut eight = [0; 8];
+    for (word, byte) in eight.iter_mut().zip(bytes.iter().skip(from)) {
+        *word = u64::from(*byte);
+    }
+    eight
+}
+
 /// How many pages there are, and which of them are in use.
 fn in_use(alloc: Global, pages: &[Option<Page>]) -> Result<Vec<u8>, AllocError> {
     let mut text = count(alloc, pages.len() as u64)?;
     text.extend_from_slice(b" pages, in use")?;
+    push_used(&mut text, pages)?;
+    Ok(text)
+}
+
+fn push_used(text: &mut Vec<u8>, pages: &[Option<Page>]) -> Result<(), AllocError> {
     for (number, page) in pages.iter().enumerate() {
         if page.is_some() {
-            push_number(&mut text, b" ", number as u64)?;
+            push_number(text, b" ", number as u64)?;
         }
     }
-    Ok(text)
+    Ok(())
 }
 
 /// The words of the page with that number.

@@ -41,17 +41,33 @@ fn main(rt: HostRuntime) -> anyhow::Result<()> {
     let mut bench = Bench::new(rt.alloc());
     let mut tally = Tally::new();
     for line in rt.lines(rt.alloc()) {
-        let line = line?;
-        if let Some((call, wanted)) = call_of(line.as_str()) {
-            let found = bench.answer(rt.alloc(), call)?;
-            let is_right = found.as_slice() == wanted.as_bytes();
-            if !is_right {
-                let found = String::from_utf8_lossy(rt.alloc(), found.as_slice())?;
-                println!(rt; "{call} = {found}, and not {wanted}")?;
-            }
-            tally = tally.with(is_right);
-        }
+        tally = judge(&rt, &mut bench, tally, line?.as_str())?;
     }
+    sum_up(&rt, tally)
+}
+
+/// The tally with this line. An answer that is another than the line's is printed.
+fn judge(rt: &HostRuntime, bench: &mut Bench, tally: Tally, line: &str) -> anyhow::Result<Tally> {
+    let Some((call, wanted)) = call_of(line) else {
+        return Ok(tally);
+    };
+    let found = bench.answer(rt.alloc(), call)?;
+    let is_right = found.as_slice() == wanted.as_bytes();
+    if !is_right {
+        show(rt, call, found.as_slice(), wanted)?;
+    }
+    Ok(tally.with(is_right))
+}
+
+/// Prints a call that is answered otherwise.
+fn show(rt: &HostRuntime, call: &str, found: &[u8], wanted: &str) -> anyhow::Result<()> {
+    let found = String::from_utf8_lossy(rt.alloc(), found)?;
+    println!(rt; "{call} = {found}, and not {wanted}")?;
+    Ok(())
+}
+
+/// Prints how many were right.
+fn sum_up(rt: &HostRuntime, tally: Tally) -> anyhow::Result<()> {
     println!(rt;
         "{} of {} calls answered as they should",
         tally.right, tally.lines

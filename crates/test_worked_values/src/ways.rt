@@ -46,6 +46,11 @@ fn step_text(alloc: Global, step: Option<(Step, u64)>) -> Result<Vec<u8>, AllocE
     }
 }
 
+/// How many words were read for a step.
+fn step_reads(alloc: Global, step: Option<(Step, u64)>) -> Result<Vec<u8>, AllocError> {
+    maybe(alloc, step.map(|step| step.1))
+}
+
 /// What a leaf lists with the key, and how many words are read for it.
 fn listed(key: u64, front: &[u64]) -> Option<(Option<u64>, u64)> {
     match page_of(front) {
@@ -80,17 +85,9 @@ fn onward(
     }
 }
 
-/// A call on the words of a page.
-pub fn way(alloc: Global, call: &str, numbers: &[u64]) -> Result<Vec<u8>, AllocError> {
+/// A call on where the words of a page lead a writer.
+fn approached(alloc: Global, call: &str, numbers: &[u64]) -> Result<Vec<u8>, AllocError> {
     match (call, numbers) {
-        ("step", [level, key, front @ ..]) => step_text(alloc, step(*level, *key, front)),
-        ("step-reads", [level, key, front @ ..]) => {
-            maybe(alloc, step(*level, *key, front).map(|step| step.1))
-        }
-        ("listed", [key, front @ ..]) => maybe(alloc, listed(*key, front).and_then(|row| row.0)),
-        ("listed-reads", [key, front @ ..]) => {
-            maybe(alloc, listed(*key, front).map(|row| row.1))
-        }
         ("enter", [level, key, front @ ..]) => onward(alloc, Approach::Start, *level, *key, front),
         ("onward", [at, level, key, front @ ..]) => {
             onward(alloc, Approach::At(small(*at)), *level, *key, front)
@@ -102,5 +99,18 @@ pub fn way(alloc: Global, call: &str, numbers: &[u64]) -> Result<Vec<u8>, AllocE
             Some(number) => count(alloc, number),
             None => said(alloc, "no such call"),
         },
+    }
+}
+
+/// A call on the words of a page.
+pub fn way(alloc: Global, call: &str, numbers: &[u64]) -> Result<Vec<u8>, AllocError> {
+    match (call, numbers) {
+        ("step", [level, key, front @ ..]) => step_text(alloc, step(*level, *key, front)),
+        ("step-reads", [level, key, front @ ..]) => step_reads(alloc, step(*level, *key, front)),
+        ("listed", [key, front @ ..]) => maybe(alloc, listed(*key, front).and_then(|row| row.0)),
+        ("listed-reads", [key, front @ ..]) => {
+            maybe(alloc, listed(*key, front).map(|row| row.1))
+        }
+        _ => approached(alloc, call, numbers),
     }
 }
