@@ -13,9 +13,15 @@ use std::test::Fail;
 
 #[test]
 fn numbers_have_one_spelling(rt: HostRuntime) {
-    assert!(rt; number(b"0") == Some(0) && number(b"10") == Some(10));
-    assert!(rt; number(b"007").is_none());
-    assert!(rt; two_numbers(b"1 20") == Some((1, 20)) && two_numbers(b"1  20").is_none());
+    assert!(rt; are_numbers() && are_two_numbers());
+}
+
+fn are_numbers() -> bool {
+    number(b"0") == Some(0) && number(b"10") == Some(10) && number(b"007").is_none()
+}
+
+fn are_two_numbers() -> bool {
+    two_numbers(b"1 20") == Some((1, 20)) && two_numbers(b"1  20").is_none()
 }
 
 /// The response to the seventh line is printed so.
@@ -25,22 +31,20 @@ fn is_printed(alloc: Global, response: &Response, line: &str) -> Result<bool, Fa
     Ok(out.as_slice() == line.as_bytes())
 }
 
-/// The same of a reply.
-fn is_replied(alloc: Global, reply: Reply, line: &str) -> Result<bool, Fail> {
-    is_printed(alloc, &Response::Replied(reply), line)
-}
-
 #[test]
 fn answers_are_printed_by_number(rt: HostRuntime) -> Result<(), Fail> {
-    let alloc = rt.alloc();
-    assert!(rt; is_replied(alloc, Reply::Found(5), "7 found 5\n")?);
-    assert!(rt; is_replied(alloc, Reply::Absent, "7 absent\n")?);
-    assert!(rt; is_replied(alloc, Reply::Inserted, "7 inserted\n")?);
-    assert!(rt; is_replied(alloc, Reply::Present(0), "7 present 0\n")?);
-    assert!(rt; is_replied(alloc, Reply::Deleted(8), "7 deleted 8\n")?);
-    assert!(rt; is_replied(alloc, Reply::NoRoom, "7 noroom\n")?);
-    assert!(rt; is_printed(alloc, &Response::Synced, "7 synced\n")?);
-    assert!(rt; is_printed(alloc, &Response::Malformed, "7 malformed\n")?);
+    for (response, line) in [
+        (Response::Replied(Reply::Found(5)), "7 found 5\n"),
+        (Response::Replied(Reply::Absent), "7 absent\n"),
+        (Response::Replied(Reply::Inserted), "7 inserted\n"),
+        (Response::Replied(Reply::Present(0)), "7 present 0\n"),
+        (Response::Replied(Reply::Deleted(8)), "7 deleted 8\n"),
+        (Response::Replied(Reply::NoRoom), "7 noroom\n"),
+        (Response::Synced, "7 synced\n"),
+        (Response::Malformed, "7 malformed\n"),
+    ] {
+        assert!(rt; is_printed(rt.alloc(), &response, line)?);
+    }
     Ok(())
 }
 
@@ -48,22 +52,37 @@ fn answers_are_printed_by_number(rt: HostRuntime) -> Result<(), Fail> {
 fn rows_are_printed_by_number(rt: HostRuntime) -> Result<(), Fail> {
     let mut rows = ArrayVec::new();
     let _ = rows.try_push((1, 10));
-    let reply = Reply::Rows(rows, Next::More(2));
-    assert!(rt; is_replied(rt.alloc(), reply, "7 rows 1=10 more 2\n")?);
+    let response = Response::Replied(Reply::Rows(rows, Next::More(2)));
+    assert!(rt; is_printed(rt.alloc(), &response, "7 rows 1=10 more 2\n")?);
     Ok(())
+}
+
+/// Rows in order.
+const ROWS: &[(u64, u64)] = &[(7, 70), (8, 80), (9, 90), (10, 100), (11, 110)];
+
+/// Rows, an end, and the text of those below it, behind the text before.
+const BELOW: [(&[(u64, u64)], u64, &str); 3] = [
+    (ROWS, 9, " 7=70 8=80"),
+    (ROWS, 7, " 7=70 8=80"),
+    (&[(11, 110)], 99, " 7=70 8=80 11=110"),
+];
+
+/// With the rows below the end, the text is this one.
+fn is_listed_below(
+    out: &mut Vec<u8>,
+    rows: &[(u64, u64)],
+    end: u64,
+    wanted: &str,
+) -> Result<bool, Fail> {
+    push_rows_below(out, rows, end)?;
+    Ok(out.as_slice() == wanted.as_bytes())
 }
 
 #[test]
 fn rows_are_printed_below_an_end(rt: HostRuntime) -> Result<(), Fail> {
-    let rows = [(7, 70), (8, 80), (9, 90), (10, 100), (11, 110)];
     let mut out = Vec::new(rt.alloc());
-    for (rows, end, wanted) in [
-        (rows.as_slice(), 9, " 7=70 8=80"),
-        (rows.as_slice(), 7, " 7=70 8=80"),
-        ([(11, 110)].as_slice(), 99, " 7=70 8=80 11=110"),
-    ] {
-        push_rows_below(&mut out, rows, end)?;
-        assert!(rt; out.as_slice() == wanted.as_bytes());
+    for (rows, end, wanted) in BELOW {
+        assert!(rt; is_listed_below(&mut out, rows, end, wanted)?);
     }
     Ok(())
 }
@@ -122,42 +141,66 @@ fn has_three_lines(source: &mut Source, reader: &mut Watched<Halting>, line: &mu
         && gives(source, reader, line, (Cut::Whole, "sync"))
 }
 
+/// Behind the reader's lines are the beginning of one and the end.
+fn is_cut_whole(source: &mut Source) -> bool {
+    let mut reader = reader_of_lines(false);
+    let mut line = ArrayVec::new();
+    has_three_lines(source, &mut reader, &mut line)
+        && source.next_line(&mut reader, &mut line) == Ok(Cut::Rest)
+        && source.next_line(&mut reader, &mut line) == Ok(Cut::End)
+}
+
+/// The reader fails behind its lines.
+fn is_cut_and_fails(source: &mut Source) -> bool {
+    let mut reader = reader_of_lines(true);
+    let mut line = ArrayVec::new();
+    has_three_lines(source, &mut reader, &mut line)
+        && source.next_line(&mut reader, &mut line).is_err()
+}
+
 #[test]
 fn a_reader_is_cut_into_lines(rt: HostRuntime) -> Result<(), Fail> {
     let mut source = Source::new(rt.alloc())?;
-    let mut reader = reader_of_lines(false);
-    let mut line = ArrayVec::new();
-    assert!(rt; has_three_lines(&mut source, &mut reader, &mut line));
-    assert!(rt; source.next_line(&mut reader, &mut line) == Ok(Cut::Rest));
-    assert!(rt; source.next_line(&mut reader, &mut line) == Ok(Cut::End));
+    assert!(rt; is_cut_whole(&mut source));
     Ok(())
 }
 
 #[test]
 fn a_reader_fails_behind_its_lines(rt: HostRuntime) -> Result<(), Fail> {
     let mut source = Source::new(rt.alloc())?;
-    let mut reader = reader_of_lines(true);
-    let mut line = ArrayVec::new();
-    assert!(rt; has_three_lines(&mut source, &mut reader, &mut line));
-    assert!(rt; source.next_line(&mut reader, &mut line).is_err());
+    assert!(rt; is_cut_and_fails(&mut source));
     Ok(())
+}
+
+/// The line is seen, and seen again, and goes where it is passed over.
+fn stands_until_passed(source: &mut Source) -> bool {
+    for _look in 0..2 {
+        if source.front() != Some(b"find 66".as_slice()) {
+            return false;
+        }
+    }
+    if source.front() == Some(b"find 66".as_slice()) {
+        source.pass_over(b"find 66\n".len());
+    }
+    source.front().is_none()
+}
+
+/// Nothing stands in front before the first of three lines, the second line does behind it, and the third is a rest.
+fn has_a_line_in_front(source: &mut Source) -> bool {
+    let is_bare = source.front().is_none();
+    let mut reader = Watched::new(b"sync\nfind 66\nfind".as_slice());
+    let mut line = ArrayVec::new();
+    is_bare
+        && source.next_line(&mut reader, &mut line) == Ok(Cut::Whole)
+        && stands_until_passed(source)
+        && gives(source, &mut reader, &mut line, (Cut::Rest, "find"))
 }
 
 // A line that was read ahead is seen where it stands, and goes only where it is passed over.
 #[test]
 fn the_first_line_is_seen_where_it_stands(rt: HostRuntime) -> Result<(), Fail> {
     let mut source = Source::new(rt.alloc())?;
-    assert!(rt; source.front().is_none());
-    let mut reader = Watched::new(b"sync\nfind 66\nfind".as_slice());
-    let mut line = ArrayVec::new();
-    assert!(rt; source.next_line(&mut reader, &mut line) == Ok(Cut::Whole));
-    assert!(rt; source.front() == Some(b"find 66".as_slice()));
-    assert!(rt; source.front() == Some(b"find 66".as_slice()));
-    if source.front().is_some() {
-        source.pass_over(b"find 66\n".len());
-    }
-    assert!(rt; source.front().is_none());
-    assert!(rt; gives(&mut source, &mut reader, &mut line, (Cut::Rest, "find")));
+    assert!(rt; has_a_line_in_front(&mut source));
     Ok(())
 }
 
@@ -175,21 +218,29 @@ fn long_line(alloc: Global, length: usize) -> Result<Vec<u8>, Fail> {
 fn is_cut(alloc: Global, length: usize, cut: Cut) -> Result<bool, Fail> {
     let input = long_line(alloc, length)?;
     let mut source = Source::new(alloc)?;
-    let mut reader = Watched::new(input.as_slice());
+    Ok(is_cut_from(&mut source, input.as_slice(), cut))
+}
+
+/// The first line of the input is cut so, and the second one is whole.
+fn is_cut_from(source: &mut Source, input: &[u8], cut: Cut) -> bool {
+    let mut reader = Watched::new(input);
     let mut line = ArrayVec::new();
-    let found = source.next_line(&mut reader, &mut line);
-    let behind = (Cut::Whole, "sync");
-    Ok(found == Ok(cut) && gives(&mut source, &mut reader, &mut line, behind))
+    source.next_line(&mut reader, &mut line) == Ok(cut)
+        && gives(source, &mut reader, &mut line, (Cut::Whole, "sync"))
 }
 
 // The longest request has 48 bytes, and the longest line that is kept 64.
 #[test]
 fn long_lines_are_cut_whole(rt: HostRuntime) -> Result<(), Fail> {
-    assert!(rt; is_cut(rt.alloc(), 64, Cut::Whole)?);
-    for length in [65usize, 66, 65_535, 65_536, 65_537, 3_000_000] {
-        assert!(rt; is_cut(rt.alloc(), length, Cut::Long)?);
+    for length in [64usize, 65, 66, 65_535, 65_536, 65_537, 3_000_000] {
+        let cut = if length > 64 { Cut::Long } else { Cut::Whole };
+        assert!(rt; is_cut(rt.alloc(), length, cut)?);
     }
     Ok(())
+}
+
+fn has_words(alloc: Global, fault: &ServeFault, words: &str) -> Result<bool, Fail> {
+    Ok(fault.to_string(alloc)?.as_str() == words)
 }
 
 #[test]
@@ -200,7 +251,7 @@ fn faults_have_words(rt: HostRuntime) -> Result<(), Fail> {
         (ServeFault::Memory, "out of memory"),
         (ServeFault::Lost(7), "lost request 7"),
     ] {
-        assert!(rt; fault.to_string(rt.alloc())?.as_str() == words);
+        assert!(rt; has_words(rt.alloc(), &fault, words)?);
     }
     Ok(())
 }

@@ -25,11 +25,8 @@ fn script_of(alloc: Global, text: &[u8], kinds: Kinds) -> Result<Script, ScriptF
 }
 
 /// The script is bad at that line.
-fn is_bad_at(rt: &HostRuntime, text: &[u8], kinds: Kinds, line: u64) -> bool {
-    match script_of(rt.alloc(), text, kinds) {
-        Err(fault) => fault == ScriptFault::Line(line),
-        Ok(_) => false,
-    }
+fn is_bad_at(alloc: Global, text: &[u8], kinds: Kinds, line: u64) -> bool {
+    script_of(alloc, text, kinds) == Err(ScriptFault::Line(line))
 }
 
 #[test]
@@ -40,9 +37,13 @@ fn kinds_that_are_not_there(rt: HostRuntime) {
         b"pages 4\nreclaim 1\n",
     ];
     for text in texts {
-        assert!(rt; is_bad_at(&rt, text, FEW, 2));
-        assert!(rt; script_of(rt.alloc(), text, ALL).is_ok());
+        assert!(rt; is_of_more_kinds(rt.alloc(), text));
     }
+}
+
+/// The second line of the script is bad where there are few kinds, and none is where there are all.
+fn is_of_more_kinds(alloc: Global, text: &[u8]) -> bool {
+    is_bad_at(alloc, text, FEW, 2) && script_of(alloc, text, ALL).is_ok()
 }
 
 /// Gives a text, so many times the same byte, and then another text, in pieces of at most 7 bytes; then it ends, or
@@ -105,21 +106,32 @@ fn slowly(
     read_script(alloc, &mut reader, ALL)
 }
 
+/// A script of eight pages was read, and two commands.
+fn has_two_commands(read: &Result<Script, ScriptFault>) -> bool {
+    match read {
+        Ok(script) => script.pages == 8 && script.commands.len() == 2,
+        Err(_) => false,
+    }
+}
+
+/// The second line is bad where it has two million digits before this text.
+fn is_too_long(alloc: Global, back: &[u8]) -> bool {
+    slowly(alloc, b"pages 8\nfind ", 2_000_000, back, false) == Err(ScriptFault::Line(2))
+}
+
 #[test]
 fn a_script_in_pieces(rt: HostRuntime) {
     let alloc = rt.alloc();
     let whole = slowly(alloc, b"pages 8\nfind ", 3, b"\nrun 1 9\n", false);
     let at_once = script_of(alloc, b"pages 8\nfind 111\nrun 1 9\n", ALL);
-    assert!(rt; whole == at_once);
-    match at_once {
-        Ok(script) => assert!(rt; script.pages == 8 && script.commands.len() == 2),
-        Err(_) => assert!(rt; false),
-    }
+    assert!(rt; whole == at_once && has_two_commands(&at_once));
     // a line of two million bytes, with an LF and without
-    let long = slowly(alloc, b"pages 8\nfind ", 2_000_000, b"\nrun 1 9\n", false);
-    assert!(rt; long == Err(ScriptFault::Line(2)));
-    let open = slowly(alloc, b"pages 8\nfind ", 2_000_000, b"", false);
-    assert!(rt; open == Err(ScriptFault::Line(2)));
+    assert!(rt; is_too_long(alloc, b"\nrun 1 9\n") && is_too_long(alloc, b""));
+}
+
+/// Where the reader fails behind the text, this is the fault.
+fn fails_with(alloc: Global, text: &[u8], fault: ScriptFault) -> bool {
+    slowly(alloc, text, 0, b"", true) == Err(fault)
 }
 
 #[test]
@@ -127,10 +139,10 @@ fn a_read_that_fails_in_the_middle(rt: HostRuntime) {
     let alloc = rt.alloc();
     let texts: [&[u8]; 4] = [b"", b"pages", b"pages 8\n", b"pages 8\nfind 1\nru"];
     for text in texts {
-        assert!(rt; slowly(alloc, text, 0, b"", true) == Err(ScriptFault::Read));
+        assert!(rt; fails_with(alloc, text, ScriptFault::Read));
     }
     // a bad line comes first
-    assert!(rt; slowly(alloc, b"pages 8\nfind\n", 0, b"", true) == Err(ScriptFault::Line(2)));
+    assert!(rt; fails_with(alloc, b"pages 8\nfind\n", ScriptFault::Line(2)));
 }
 
 /// The script has so many commands or this fault, or memory was refused.
@@ -144,10 +156,16 @@ fn is_or_wants_memory(alloc: Global, text: &[u8], wanted: Result<usize, ScriptFa
 /// Holds whichever allocation is refused: the answer is Memory, or that of ample memory.
 #[test]
 fn memory_or_the_script(rt: HostRuntime) {
-    let text = b"pages 8\nfind 1\nturn 1\nrefuse 1\nrun 1 2\nturn 1\n";
-    assert!(rt; is_or_wants_memory(rt.alloc(), text, Ok(5)));
-    let text = b"pages 8\nfind 1\nturn 2\n";
-    assert!(rt; is_or_wants_memory(rt.alloc(), text, Err(ScriptFault::Line(3))));
+    let texts: [(&[u8], Result<usize, ScriptFault>); 2] = [
+        (
+            b"pages 8\nfind 1\nturn 1\nrefuse 1\nrun 1 2\nturn 1\n",
+            Ok(5),
+        ),
+        (b"pages 8\nfind 1\nturn 2\n", Err(ScriptFault::Line(3))),
+    ];
+    for (text, wanted) in texts {
+        assert!(rt; is_or_wants_memory(rt.alloc(), text, wanted));
+    }
 }
 
 #[test]
