@@ -1,12 +1,40 @@
 //! What calls get, in words.
 
 use bl_check::{Fault, Report};
-use bl_index::{CloseFault, KeyReply, OpenFault, OutOfTurns, ScanFault};
+use bl_index::{CloseFault, Hint, KeyReply, OpenFault, OutOfTurns, ScanFault};
 use bl_model::Reply;
-use bl_proc::Answer;
+use bl_proc::{Answer, Posted, Squeezed};
 use bl_serve_lines::print::push_number;
 use std::alloc::{AllocError, Global};
-use test_worked_lines::{said, told};
+use test_worked_lines::{count, said, told};
+
+pub fn yes(alloc: Global, is_so: bool) -> Result<Vec<u8>, AllocError> {
+    said(alloc, if is_so { "yes" } else { "no" })
+}
+
+/// What an insertion or a deletion got.
+pub fn changed(
+    alloc: Global,
+    (reply, hint): (KeyReply, Option<Hint>),
+) -> Result<Vec<u8>, AllocError> {
+    told(alloc, &Answer::Op(reply.reply(), hint))
+}
+
+/// What a post got.
+pub fn posted(
+    alloc: Global,
+    (posted, hint): (Posted, Option<Hint>),
+) -> Result<Vec<u8>, AllocError> {
+    told(alloc, &Answer::Post(posted, hint))
+}
+
+/// What a compression got.
+pub fn compressed(
+    alloc: Global,
+    (squeezed, hint): (Squeezed, Option<Hint>),
+) -> Result<Vec<u8>, AllocError> {
+    told(alloc, &Answer::Compress(squeezed, hint))
+}
 
 /// What a search got.
 pub fn found(alloc: Global, reply: Result<KeyReply, OutOfTurns>) -> Result<Vec<u8>, AllocError> {
@@ -31,17 +59,28 @@ pub fn scanned(
     rows: &[(u64, u64)],
 ) -> Result<Vec<u8>, AllocError> {
     let mut text = Vec::new(alloc);
-    match end {
-        Ok(()) => text.extend_from_slice(b"done")?,
-        Err(ScanFault::OutOfTurns(at)) => push_number(&mut text, b"out of turns at ", at)?,
-        Err(ScanFault::Memory(at)) => push_number(&mut text, b"out of memory at ", at)?,
-    }
+    push_end(&mut text, end)?;
     text.extend_from_slice(b", rows")?;
-    for row in rows {
-        push_number(&mut text, b" ", row.0)?;
-        push_number(&mut text, b"=", row.1)?;
-    }
+    push_rows(&mut text, rows)?;
     Ok(text)
+}
+
+/// Appends how a scan ended.
+fn push_end(text: &mut Vec<u8>, end: Result<(), ScanFault>) -> Result<(), AllocError> {
+    match end {
+        Ok(()) => text.extend_from_slice(b"done"),
+        Err(ScanFault::OutOfTurns(at)) => push_number(text, b"out of turns at ", at),
+        Err(ScanFault::Memory(at)) => push_number(text, b"out of memory at ", at),
+    }
+}
+
+/// Appends rows.
+fn push_rows(text: &mut Vec<u8>, rows: &[(u64, u64)]) -> Result<(), AllocError> {
+    for (key, value) in rows {
+        push_number(text, b" ", *key)?;
+        push_number(text, b"=", *value)?;
+    }
+    Ok(())
 }
 
 /// Why no index was opened.
@@ -67,22 +106,35 @@ pub fn checked(
     bytes: usize,
     report: Result<Report, Fault>,
 ) -> Result<Vec<u8>, AllocError> {
-    let mut text = Vec::new(alloc);
-    push_number(&mut text, b"", bytes as u64)?;
-    match report {
-        Ok(report) => {
-            push_number(&mut text, b" bytes, ok rows ", u64::from(report.rows))?;
-            push_number(&mut text, b" leaves ", u64::from(report.leaves))?;
-            push_number(&mut text, b" inners ", u64::from(report.inners))?;
-            push_number(&mut text, b" levels ", u64::from(report.levels))?;
-            push_number(&mut text, b" unposted ", u64::from(report.unposted))?;
-            push_number(&mut text, b" thin ", u64::from(report.thin))?;
-        }
-        Err(Fault::Rule { rule, page }) => {
-            push_number(&mut text, b" bytes, rule ", u64::from(rule))?;
-            push_number(&mut text, b" page ", u64::from(page))?;
-        }
-        Err(Fault::Memory) => text.extend_from_slice(b" bytes, out of memory")?,
-    }
+    let mut text = count(alloc, bytes as u64)?;
+    push_checked(&mut text, report)?;
     Ok(text)
+}
+
+/// Appends what the checker says.
+fn push_checked(text: &mut Vec<u8>, report: Result<Report, Fault>) -> Result<(), AllocError> {
+    match report {
+        Ok(report) => push_report(text, report),
+        Err(Fault::Rule { rule, page }) => {
+            push_number(text, b" bytes, rule ", u64::from(rule))?;
+            push_number(text, b" page ", u64::from(page))
+        }
+        Err(Fault::Memory) => text.extend_from_slice(b" bytes, out of memory"),
+    }
+}
+
+/// Appends what there is in a sound image.
+fn push_report(text: &mut Vec<u8>, report: Report) -> Result<(), AllocError> {
+    let counts: [(&[u8], u32); 6] = [
+        (b" bytes, ok rows ", report.rows),
+        (b" leaves ", report.leaves),
+        (b" inners ", report.inners),
+        (b" levels ", report.levels),
+        (b" unposted ", report.unposted),
+        (b" thin ", report.thin),
+    ];
+    for (name, count) in counts {
+        push_number(text, name, u64::from(count))?;
+    }
+    Ok(())
 }

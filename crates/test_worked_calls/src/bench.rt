@@ -36,8 +36,31 @@ fn rounds_of(line: &str) -> (u64, &str) {
     (rounds.parse().unwrap_or(0), calls)
 }
 
+/// What the words of a call ask for.
+fn read_call(alloc: Global, call: &str) -> Result<Option<Call>, AllocError> {
+    let words: Vec<&str> = call.split(' ').collect(alloc)?;
+    Ok(call_of(words.as_slice()))
+}
+
+/// Appends an answer behind those before it.
+fn push_next(text: &mut Vec<u8>, answer: &[u8]) -> Result<(), AllocError> {
+    if !text.is_empty() {
+        text.extend_from_slice(b"; ")?;
+    }
+    text.extend_from_slice(answer)
+}
+
+/// The words of a page in the bytes of an image.
+fn words_at(bytes: &[u8], number: usize) -> Option<[u64; 32]> {
+    let mut pages = bytes.get(32..).unwrap_or(&[]).chunks_exact(256);
+    let page = pages.nth(number)?;
+    let mut words = [0; 32];
+    LittleEndian::read_u64_into(page, &mut words);
+    Some(words)
+}
+
 impl Bench {
-    ghost use Rattle.test_worked_calls.specs.Owning.{IsFit};
+    ghost use Rattle.test_worked_calls.specs.Owning.{IsFit, IsOwner};
 
     /// There is no index yet, and no image.
     pub fn new() -> Bench
@@ -82,18 +105,27 @@ impl Bench {
     {
         let mut text = Vec::new(alloc);
         for call in calls.split("; ") {
-            if !text.is_empty() {
-                text.extend_from_slice(b"; ")?;
-            }
-            let words: Vec<&str> = call.split(' ').collect(alloc)?;
-            let answer = match call_of(words.as_slice()) {
-                Some(Call::Pass(number, call)) => self.call(rt, alloc, number, call)?,
-                Some(call) => self.settle(alloc, call)?,
-                None => said(alloc, "no such call")?,
-            };
-            text.extend_from_slice(answer.as_slice())?;
+            let answer = self.answer_one(rt, alloc, call)?;
+            push_next(&mut text, answer.as_slice())?;
         }
         Ok(text)
+    }
+
+    /// What one call gets.
+    fn answer_one<R: Wait>(
+        &mut self,
+        rt: &R,
+        alloc: Global,
+        call: &str,
+    ) -> Result<Vec<u8>, AllocError>
+        requires { IsFit self.old }
+        ensures { IsFit self.new }
+    {
+        match read_call(alloc, call)? {
+            Some(Call::Pass(number, call)) => self.call(rt, alloc, number, call),
+            Some(call) => self.settle(alloc, call),
+            None => said(alloc, "no such call"),
+        }
     }
 
     /// What a call of a pass gets.
@@ -140,12 +172,18 @@ impl Bench {
     {
         self.stage = None;
         match Stage::open(alloc, config) {
-            Ok(stage) => {
-                self.stage = Some(stage);
-                said(alloc, "done")
-            }
+            Ok(stage) => self.begin(alloc, stage),
             Err(fault) => unopened(alloc, fault),
         }
+    }
+
+    /// Goes on with a new index.
+    fn begin(&mut self, alloc: Global, stage: Stage) -> Result<Vec<u8>, AllocError>
+        requires { IsOwner stage }
+        ensures { IsFit self.new }
+    {
+        self.stage = Some(stage);
+        said(alloc, "done")
     }
 
     /// Closes the index, with all passes or without the last one, and keeps its image.
@@ -182,10 +220,7 @@ impl Bench {
             return said(alloc, "no image");
         };
         match Stage::reopen(alloc, quiet, passes) {
-            Ok(stage) => {
-                self.stage = Some(stage);
-                said(alloc, "done")
-            }
+            Ok(stage) => self.begin(alloc, stage),
             Err((quiet, fault)) => {
                 self.image = Some(quiet);
                 unopened(alloc, fault)
@@ -208,12 +243,9 @@ impl Bench {
             return said(alloc, "no image");
         };
         let bytes = bytes_of(alloc, quiet)?;
-        let mut pages = bytes.as_slice().get(32..).unwrap_or(&[]).chunks_exact(256);
-        let Some(page) = pages.nth(number) else {
-            return said(alloc, "no such page");
-        };
-        let mut words = [0; 32];
-        LittleEndian::read_u64_into(page, &mut words);
-        shown_words(alloc, &words)
+        match words_at(bytes.as_slice(), number) {
+            Some(words) => shown_words(alloc, &words),
+            None => said(alloc, "no such page"),
+        }
     }
 }

@@ -36,72 +36,94 @@ pub enum PassCall {
 /// What the words ask for.
 pub fn call_of(words: &[&str]) -> Option<Call> {
     match *words {
-        ["open", pages, passes] => Some(Call::Open(Config {
-            pages: pages.parse().ok()?,
-            passes: passes.parse().ok()?,
-        })),
-        ["patience"] => Some(Call::Patience),
-        ["close"] => Some(Call::Close),
-        ["close-early"] => Some(Call::CloseEarly),
-        ["image"] => Some(Call::Image),
-        ["page", number] => Some(Call::Page(number.parse().ok()?)),
-        ["reopen", passes] => Some(Call::Reopen(passes.parse().ok()?)),
-        [pass, ref call @ ..] => Some(Call::Pass(
-            pass.parse().ok()?,
-            map_call(call).or(work_call(call))?,
-        )),
+        [word] => lone_call(word),
+        ["open", pages, passes] => config_of(pages, passes).map(Call::Open),
+        ["page", number] => number.parse().ok().map(Call::Page),
+        ["reopen", passes] => passes.parse().ok().map(Call::Reopen),
+        [pass, ref call @ ..] => pass_call(pass, call),
         [] => None,
     }
+}
+
+/// A call of a single word.
+fn lone_call(word: &str) -> Option<Call> {
+    match word {
+        "patience" => Some(Call::Patience),
+        "close" => Some(Call::Close),
+        "close-early" => Some(Call::CloseEarly),
+        "image" => Some(Call::Image),
+        _ => None,
+    }
+}
+
+/// The index that the words describe.
+fn config_of(pages: &str, passes: &str) -> Option<Config> {
+    Some(Config {
+        pages: pages.parse().ok()?,
+        passes: passes.parse().ok()?,
+    })
+}
+
+/// A call of the pass whose number is the word.
+fn pass_call(pass: &str, words: &[&str]) -> Option<Call> {
+    let call = map_call(words).or(work_call(words))?;
+    Some(Call::Pass(pass.parse().ok()?, call))
 }
 
 /// A call that asks or changes the map.
 fn map_call(words: &[&str]) -> Option<PassCall> {
     match *words {
-        ["insert", key, value] => Some(PassCall::Insert(key.parse().ok()?, value.parse().ok()?)),
-        ["delete", key] => Some(PassCall::Delete(key.parse().ok()?)),
-        ["find", key, turns] => Some(PassCall::Find(key.parse().ok()?, turns.parse().ok()?)),
-        ["part", from, turns] => Some(PassCall::Part(from.parse().ok()?, turns.parse().ok()?)),
-        ["scan-all", from, turns] => Some(PassCall::Scan(
-            from.parse().ok()?,
-            None,
-            turns.parse().ok()?,
-        )),
-        ["scan", from, end, turns] => Some(PassCall::Scan(
-            from.parse().ok()?,
-            Some(end.parse().ok()?),
-            turns.parse().ok()?,
-        )),
+        ["delete", key] => key.parse().ok().map(PassCall::Delete),
+        ["insert", key, value] => insert_of(key, value),
+        [call, key, turns] => search_of(call, key, turns),
+        ["scan", from, end, turns] => scan_of(from, end, turns),
         _ => None,
     }
+}
+
+fn insert_of(key: &str, value: &str) -> Option<PassCall> {
+    Some(PassCall::Insert(key.parse().ok()?, value.parse().ok()?))
+}
+
+/// A call that has a key and so many turns.
+fn search_of(call: &str, key: &str, turns: &str) -> Option<PassCall> {
+    let key = key.parse().ok()?;
+    let turns = turns.parse().ok()?;
+    match call {
+        "find" => Some(PassCall::Find(key, turns)),
+        "part" => Some(PassCall::Part(key, turns)),
+        "scan-all" => Some(PassCall::Scan(key, None, turns)),
+        _ => None,
+    }
+}
+
+fn scan_of(from: &str, end: &str, turns: &str) -> Option<PassCall> {
+    Some(PassCall::Scan(
+        from.parse().ok()?,
+        Some(end.parse().ok()?),
+        turns.parse().ok()?,
+    ))
 }
 
 /// A call that says nothing of the map.
 fn work_call(words: &[&str]) -> Option<PassCall> {
     match *words {
-        ["post", level, key] => Some(PassCall::Post(to_post(level, key)?)),
-        ["post-thin", level, key] => Some(PassCall::Post(thin(level, key)?)),
-        ["compress", level, key] => Some(PassCall::Compress(thin(level, key)?)),
-        ["compress-post", level, key] => Some(PassCall::Compress(to_post(level, key)?)),
         ["sweep"] => Some(PassCall::Sweep),
         ["lacks"] => Some(PassCall::Lacks),
+        [call, level, key] => helper_of(call, level_of(level)?, key.parse().ok()?),
         _ => None,
     }
 }
 
-/// The hint to list the page whose low is the key in a parent of that level.
-fn to_post(level: &str, key: &str) -> Option<Hint> {
-    Some(Hint::Post {
-        level: level_of(level)?,
-        key: key.parse().ok()?,
-    })
-}
-
-/// The hint that the page of the key has few pairs, whose parent is of that level.
-fn thin(level: &str, key: &str) -> Option<Hint> {
-    Some(Hint::Thin {
-        level: level_of(level)?,
-        key: key.parse().ok()?,
-    })
+/// A post or a compression by the hint that its word names.
+fn helper_of(call: &str, level: Level, key: u64) -> Option<PassCall> {
+    match call {
+        "post" => Some(PassCall::Post(Hint::Post { level, key })),
+        "post-thin" => Some(PassCall::Post(Hint::Thin { level, key })),
+        "compress" => Some(PassCall::Compress(Hint::Thin { level, key })),
+        "compress-post" => Some(PassCall::Compress(Hint::Post { level, key })),
+        _ => None,
+    }
 }
 
 /// The level that the word spells.

@@ -26,20 +26,41 @@ mod bench;
 mod calls;
 mod stage;
 
+ghost use Rattle.test_worked_calls.specs.Owning.{IsFit};
+
 use bench::Bench;
+use std::sync::Wait;
 
 fn main(rt: HostRuntime) -> anyhow::Result<()> {
-    let mut bench = Bench::new();
+    answer_all(&rt, &rt, &mut Bench::new())
+}
+
+/// Prints each line of the input with what it gets. The calls wait by the second handle.
+fn answer_all<W: Wait>(rt: &HostRuntime, waits: &W, bench: &mut Bench) -> anyhow::Result<()>
+    requires { IsFit bench.old }
+{
     for line in rt.lines(rt.alloc()) {
-        let line = line?;
-        let line = line.as_str();
-        if line.is_empty() || line.starts_with('#') {
-            println!(rt; "{line}")?;
-        } else {
-            let text = bench.answer(&rt, rt.alloc(), line)?;
-            let text = String::from_utf8_lossy(rt.alloc(), text.as_slice())?;
-            println!(rt; "{line} = {text}")?;
-        }
+        answer(rt, waits, bench, line?.as_str())?;
     }
+    Ok(())
+}
+
+/// Prints a line with what it gets, or alone.
+fn answer<W: Wait>(rt: &HostRuntime, waits: &W, bench: &mut Bench, line: &str) -> anyhow::Result<()>
+    requires { IsFit bench.old }
+    ensures { IsFit bench.new }
+{
+    if line.is_empty() || line.starts_with('#') {
+        println!(rt; "{line}")?;
+        return Ok(());
+    }
+    let text = bench.answer(waits, rt.alloc(), line)?;
+    show(rt, line, text.as_slice())
+}
+
+/// Prints a line and what it got.
+fn show(rt: &HostRuntime, line: &str, text: &[u8]) -> anyhow::Result<()> {
+    let text = String::from_utf8_lossy(rt.alloc(), text)?;
+    println!(rt; "{line} = {text}")?;
     Ok(())
 }

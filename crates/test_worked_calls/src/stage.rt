@@ -2,14 +2,13 @@
 
 ghost use Rattle.bl_index.specs.Calls.{IsPassOf};
 
-use crate::answers::{found, listed, scanned};
+use crate::answers::{changed, compressed, found, listed, posted, scanned, yes};
 use crate::calls::PassCall;
 use bl_check::Quiet;
 use bl_index::{CloseFault, Config, Index, OpenFault, Pass};
-use bl_proc::Answer;
 use std::alloc::{AllocError, Global};
 use std::sync::Wait;
-use test_worked_lines::{count, said, told};
+use test_worked_lines::{count, said};
 
 /// An index that calls are made of. That the passes are its own is what each call asks for and leaves.
 #[derive(Drop)]
@@ -33,42 +32,23 @@ fn answer<R: Wait>(
     ensures { IsPassOf index.now pass.new }
 {
     match call {
-        PassCall::Insert(key, value) => {
-            let (reply, hint) = index.insert(rt, pass, key, value);
-            told(alloc, &Answer::Op(reply.reply(), hint))
-        }
-        PassCall::Delete(key) => {
-            let (reply, hint) = index.delete(rt, pass, key);
-            told(alloc, &Answer::Op(reply.reply(), hint))
-        }
+        PassCall::Insert(key, value) => changed(alloc, index.insert(rt, pass, key, value)),
+        PassCall::Delete(key) => changed(alloc, index.delete(rt, pass, key)),
         PassCall::Find(key, turns) => found(alloc, index.find(pass, key, turns)),
         PassCall::Part(from, turns) => listed(alloc, index.part(pass, from, turns)),
         PassCall::Scan(from, end, turns) => {
             let end = index.scan_into(pass, from, end, turns, rows);
             scanned(alloc, end, rows.as_slice())
         }
-        PassCall::Post(hint) => {
-            let (posted, hint) = index.post(rt, pass, hint);
-            told(alloc, &Answer::Post(posted, hint))
-        }
-        PassCall::Compress(hint) => {
-            let (squeezed, hint) = index.compress(rt, pass, hint);
-            told(alloc, &Answer::Compress(squeezed, hint))
-        }
+        PassCall::Post(hint) => posted(alloc, index.post(rt, pass, hint)),
+        PassCall::Compress(hint) => compressed(alloc, index.compress(rt, pass, hint)),
         PassCall::Sweep => count(alloc, u64::from(index.sweep(pass))),
-        PassCall::Lacks => said(
-            alloc,
-            if index.lacks_frames(pass) {
-                "yes"
-            } else {
-                "no"
-            },
-        ),
+        PassCall::Lacks => yes(alloc, index.lacks_frames(pass)),
     }
 }
 
 impl Stage {
-    ghost use Rattle.std.specs.Prelude.{IfOk, IfErr};
+    ghost use Rattle.std.specs.Prelude.{◌≡◌, IfOk, IfErr};
     ghost use Rattle.test_worked_calls.specs.Owning.{IsOwner};
 
     /// A new index.
@@ -123,7 +103,7 @@ impl Stage {
     /// The image that the index leaves. Where it is not closed, all comes back.
     pub fn close(self, alloc: Global) -> Result<Quiet, (Stage, CloseFault)>
         requires { IsOwner self }
-        ensures { IfErr result (λ t. IsOwner t.0) }
+        ensures { IfErr result (λ t. IsOwner t.0 × (t.0.index ≡ self.index)) }
     {
         let Stage {
             index,
@@ -144,47 +124,28 @@ impl Stage {
     }
 
     /// The same without the last pass, which is beside the others again where the index is not closed.
-    pub fn close_early(self, alloc: Global) -> Result<Quiet, (Stage, CloseFault)>
+    pub fn close_early(mut self, alloc: Global) -> Result<Quiet, (Stage, CloseFault)>
         requires { IsOwner self }
         ensures { IfErr result (λ t. IsOwner t.0) }
     {
-        let Stage {
-            index,
-            mut passes,
-            rows,
-        } = self;
-        let Some(last) = passes.pop() else {
-            return Err((
-                Stage {
-                    index,
-                    passes,
-                    rows,
-                },
-                CloseFault::Pass,
-            ));
+        let Some(last) = self.passes.pop() else {
+            return Err((self, CloseFault::Pass));
         };
-        match index.close(alloc, passes) {
+        match self.close(alloc) {
             Ok(quiet) => Ok(quiet),
-            Err((index, mut passes, fault)) => {
-                if passes.push(last).is_err() {
-                    return Err((
-                        Stage {
-                            index,
-                            passes,
-                            rows,
-                        },
-                        CloseFault::Memory,
-                    ));
-                }
-                Err((
-                    Stage {
-                        index,
-                        passes,
-                        rows,
-                    },
-                    fault,
-                ))
-            }
+            Err((stage, fault)) => Err(stage.with_last(last, fault)),
+        }
+    }
+
+    /// The pass is beside the others again, behind a fault. Where memory is refused for that, this is the fault.
+    fn with_last(mut self, last: Pass, fault: CloseFault) -> (Stage, CloseFault)
+        requires own { IsOwner self }
+        requires last { IsPassOf self.index last }
+        ensures { IsOwner result.0 }
+    {
+        match self.passes.push(last) {
+            Ok(()) => (self, fault),
+            Err(_) => (self, CloseFault::Memory),
         }
     }
 }
