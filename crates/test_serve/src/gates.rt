@@ -1,11 +1,17 @@
 //! Gates that hold requests.
 
+ghost use Rattle.std.specs.Prelude.{◌≡◌, vec_len};
+ghost use Rattle.bl_serve.specs.Serving.{AreTogether, seen_by};
+
 use crate::served::opened;
+use bl_index::{Index, Pass};
 use bl_model::Watched;
 use bl_serve::{Gate, serve};
+use std::alloc::Global;
+use std::sync::Wait;
 use std::sync::atomic::{AtomicBool, AtomicU64, Ordering};
-use std::test::Fail;
 use std::thread;
+use std::thread::Threads;
 
 /// Holds request 1 until request 2 was carried out, for at most a million turns. Counts the requests that were carried out
 /// when request 4 began.
@@ -53,32 +59,41 @@ impl Gate for HoldsFirst {
     }
 }
 
+/// Whether two passes that have met write these lines for those behind the gate.
+fn answer_behind<R: Threads + Wait + Sync>(
+    rt: &R,
+    alloc: Global,
+    index: &Index,
+    passes: Vec<Pass>,
+    gate: &HoldsFirst,
+    input: &[u8],
+    output: &[u8],
+) -> bool
+    requires many { vec_len passes ≡ 2 }
+    requires together { AreTogether index.now (seen_by passes.items) passes.items }
+{
+    let mut reader = Watched::new(input);
+    let mut writer = Watched::new(Vec::new(alloc));
+    match serve(rt, alloc, index, passes, &mut reader, &mut writer, gate, 2) {
+        Ok(_) => writer.into_inner().as_slice() == output,
+        Err(_) => false,
+    }
+}
+
 // While the first request is held, another worker answers the second one. The fourth, behind the sync, begins only when both
 // were carried out.
 #[test]
-fn two_workers_at_once(rt: HostRuntime) -> Result<(), Fail> {
-    let Some((index, passes)) = opened(rt.alloc(), 8, 2) else {
-        assert!(rt; false);
-        return Ok(());
-    };
+fn two_workers_at_once(rt: HostRuntime) {
     let gate = HoldsFirst::new();
-    let input: &[u8] = b"insert 1 10\ninsert 2 20\nsync\nfind 1\n";
-    let mut reader = Watched::new(input);
-    let mut writer = Watched::new(Vec::new(rt.alloc()));
-    let served = serve(
-        &rt,
-        rt.alloc(),
-        &index,
-        passes,
-        &mut reader,
-        &mut writer,
-        &gate,
-        2,
-    );
-    assert!(rt; served.is_ok());
-    assert!(rt; !gate.gave_up.load(Ordering::SeqCst));
-    assert!(rt; gate.done_before_the_fourth.load(Ordering::SeqCst) == 2);
-    let text = writer.into_inner();
-    assert!(rt; text.as_slice() == b"1 inserted\n2 inserted\n3 synced\n4 found 10\n".as_slice());
-    Ok(())
+    let input = b"insert 1 10\ninsert 2 20\nsync\nfind 1\n".as_slice();
+    let output = b"1 inserted\n2 inserted\n3 synced\n4 found 10\n".as_slice();
+    let served = match opened(rt.alloc(), 8, 2) {
+        Some((index, passes)) => {
+            answer_behind(&rt, rt.alloc(), &index, passes, &gate, input, output)
+        }
+        None => false,
+    };
+    let gave_up = gate.gave_up.load(Ordering::SeqCst);
+    let done = gate.done_before_the_fourth.load(Ordering::SeqCst);
+    assert_eq!(rt; (served, gave_up, done), (true, false, 2));
 }

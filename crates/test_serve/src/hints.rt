@@ -52,27 +52,54 @@ fn rows_of_the_only_leaf(index: &Index, pass: &mut Pass) -> Option<usize>
     }
 }
 
+/// What the deletion of key 9 answers, and whether its hint waits then.
+fn delete<R: Wait>(rt: &R, index: &Index, hints: &Hints, pass: &mut Pass) -> (KeyReply, bool)
+    requires { IsPassOf index.now pass.old }
+    ensures { IsPassOf index.now pass.new }
+{
+    let (reply, hint) = index.delete(rt, pass, 9);
+    match hint {
+        Some(hint) => (reply, hints.give(rt, hint)),
+        None => (reply, false),
+    }
+}
+
+/// What the steps of a merge answer: whether a hint was followed, the deletion, the rows of the only leaf, again whether one
+/// was followed, the rows, and whether one more was followed.
+type Steps = (
+    bool,
+    (KeyReply, bool),
+    Option<usize>,
+    bool,
+    Option<usize>,
+    bool,
+);
+
+/// Fills the index, and takes these steps.
+fn merge<R: Wait>(rt: &R, index: &Index, hints: &Hints, pass: &mut Pass) -> Steps
+    requires { IsPassOf index.now pass.old }
+{
+    fill(rt, index, hints, pass);
+    (
+        follow_hint(rt, index, hints, pass),
+        delete(rt, index, hints, pass),
+        rows_of_the_only_leaf(index, pass),
+        follow_hint(rt, index, hints, pass),
+        rows_of_the_only_leaf(index, pass),
+        follow_hint(rt, index, hints, pass),
+    )
+}
+
 // A compressor's first step lists the upper leaf. A deletion leaves that thin, and its hint waits: the next step merges the
 // two leaves, and the one that stays has all 14 rows. Then no hint waits.
 #[test]
 fn a_compressor_merges_two_leaves(rt: HostRuntime) -> Result<(), Fail> {
-    let Some((index, mut pass)) = opened(rt.alloc()) else {
-        assert!(rt; false);
-        return Ok(());
-    };
     let hints = Hints::new(rt.alloc())?;
-    fill(&rt, &index, &hints, &mut pass);
-    assert!(rt; follow_hint(&rt, &index, &hints, &mut pass));
-    let (gone, hint) = index.delete(&rt, &mut pass, 9);
-    assert!(rt; matches!(gone, KeyReply::Deleted(90)));
-    let Some(hint) = hint else {
-        assert!(rt; false);
-        return Ok(());
+    let steps = match opened(rt.alloc()) {
+        Some((index, mut pass)) => Some(merge(&rt, &index, &hints, &mut pass)),
+        None => None,
     };
-    assert!(rt; hints.give(&rt, hint));
-    assert!(rt; rows_of_the_only_leaf(&index, &mut pass) == None);
-    assert!(rt; follow_hint(&rt, &index, &hints, &mut pass));
-    assert!(rt; rows_of_the_only_leaf(&index, &mut pass) == Some(14));
-    assert!(rt; !follow_hint(&rt, &index, &hints, &mut pass));
+    let deleted = (KeyReply::Deleted(90), true);
+    assert!(rt; steps == Some((true, deleted, None, true, Some(14), false)));
     Ok(())
 }

@@ -56,6 +56,14 @@ pub fn serve_on<R: Threads + Wait + Sync>(
     }
 }
 
+/// What was written and counted, without the passes.
+fn without_passes(served: Option<(Vec<u8>, Totals, Vec<Pass>)>) -> Option<(Vec<u8>, Totals)> {
+    match served {
+        Some((text, totals, _)) => Some((text, totals)),
+        None => None,
+    }
+}
+
 /// What a new index of so many pages writes for these bytes by so many workers and compressors, and what it counts.
 pub fn serve_new<R: Threads + Wait + Sync>(
     rt: &R,
@@ -67,9 +75,17 @@ pub fn serve_new<R: Threads + Wait + Sync>(
 ) -> Option<(Vec<u8>, Totals)>
     requires { (1 ≤ workers) × (workers ≤ 32) × (compressors ≤ 16) }
 {
-    let (index, passes) = opened(alloc, pages, workers + compressors)?;
-    let (text, totals, _) = serve_on(rt, alloc, &index, passes, input, workers as usize)?;
-    Some((text, totals))
+    match opened(alloc, pages, workers + compressors) {
+        Some((index, passes)) => without_passes(serve_on(
+            rt,
+            alloc,
+            &index,
+            passes,
+            input,
+            workers as usize,
+        )),
+        None => None,
+    }
 }
 
 /// Whether a new index of 8 pages writes these lines for those.
@@ -89,6 +105,24 @@ pub fn answers<R: Threads + Wait + Sync>(
     }
 }
 
+/// Whether what a new index writes for these bytes ends with those lines, and what it counts.
+pub fn last_lines<R: Threads + Wait + Sync>(
+    rt: &R,
+    alloc: Global,
+    pages: u32,
+    input: &[u8],
+    last: &[u8],
+    workers: u32,
+    compressors: u32,
+) -> Option<(bool, Totals)>
+    requires { (1 ≤ workers) × (workers ≤ 32) × (compressors ≤ 16) }
+{
+    match serve_new(rt, alloc, pages, input, workers, compressors) {
+        Some((text, totals)) => Some((text.as_slice().ends_with(last), totals)),
+        None => None,
+    }
+}
+
 /// Lines that insert the keys from 1 up to the last one, each with its tenfold.
 pub fn inserts(alloc: Global, last: u64) -> Result<Vec<u8>, Fail> {
     let mut lines = Vec::new(alloc);
@@ -96,5 +130,12 @@ pub fn inserts(alloc: Global, last: u64) -> Result<Vec<u8>, Fail> {
         let line = format!(in alloc; "insert {key} {key}0\n")?;
         lines.extend_from_slice(line.as_bytes())?;
     }
+    Ok(lines)
+}
+
+/// The same lines, and more behind them.
+pub fn inserts_before(alloc: Global, last: u64, more: &[u8]) -> Result<Vec<u8>, Fail> {
+    let mut lines = inserts(alloc, last)?;
+    lines.extend_from_slice(more)?;
     Ok(lines)
 }

@@ -1,15 +1,16 @@
 //! Streams that fail.
 
-ghost use Rattle.std.specs.Prelude.{◌≤◌};
+ghost use Rattle.std.specs.Prelude.{◌≡◌, ◌≤◌, vec_len};
+ghost use Rattle.bl_serve.specs.Serving.{AreTogether, seen_by};
 
 use crate::served::opened;
+use bl_index::{Index, Pass};
 use bl_model::Watched;
 use bl_serve::{OpenGate, ServeFault, serve};
 use std::alloc::Global;
 use std::io;
 use std::io::{ErrorKind, Read, Write};
 use std::sync::Wait;
-use std::test::Fail;
 use std::thread::Threads;
 
 // two sections, of 17 and of 9 bytes
@@ -91,124 +92,124 @@ impl Write for Narrow {
     }
 }
 
-/// How two workers and a compressor end, and what they write.
-fn ends<R: Threads + Wait + Sync>(
+/// How two workers and a compressor end whose passes have met, and the writer.
+fn end_on<R: Threads + Wait + Sync, I: Read + Drop, O: Write + Drop>(
+    rt: &R,
+    alloc: Global,
+    index: &Index,
+    passes: Vec<Pass>,
+    reader: I,
+    writer: O,
+) -> (Option<ServeFault>, O)
+    requires many { vec_len passes ≡ 3 }
+    requires together { AreTogether index.now (seen_by passes.items) passes.items }
+{
+    let mut reader = Watched::new(reader);
+    let mut writer = Watched::new(writer);
+    let fault = match serve(
+        rt,
+        alloc,
+        index,
+        passes,
+        &mut reader,
+        &mut writer,
+        &OpenGate,
+        2,
+    ) {
+        Ok(_) => None,
+        Err(fault) => Some(fault),
+    };
+    (fault, writer.into_inner())
+}
+
+/// The same on a new index.
+fn end<R: Threads + Wait + Sync, I: Read + Drop, O: Write + Drop>(
+    rt: &R,
+    alloc: Global,
+    reader: I,
+    writer: O,
+) -> Option<(Option<ServeFault>, O)> {
+    match opened(alloc, 8, 3) {
+        Some((index, passes)) => Some(end_on(rt, alloc, &index, passes, reader, writer)),
+        None => None,
+    }
+}
+
+/// How they end where the reader is that one, and whether they have written so many bytes of the output.
+fn end_reading<R: Threads + Wait + Sync>(
     rt: &R,
     alloc: Global,
     reader: Halting,
-) -> Option<(Option<ServeFault>, Vec<u8>)> {
-    let (index, passes) = opened(alloc, 8, 3)?;
-    let mut reader = Watched::new(reader);
-    let mut writer = Watched::new(Vec::new(alloc));
-    let served = serve(
-        rt,
-        alloc,
-        &index,
-        passes,
-        &mut reader,
-        &mut writer,
-        &OpenGate,
-        2,
-    );
-    let fault = match served {
-        Ok(_) => None,
-        Err(fault) => Some(fault),
-    };
-    Some((fault, writer.into_inner()))
-}
-
-/// How they end where the writer has that room, and the writer.
-fn ends_at<R: Threads + Wait + Sync>(
-    rt: &R,
-    alloc: Global,
-    writer: Narrow,
-) -> Option<(Option<ServeFault>, Narrow)> {
-    let (index, passes) = opened(alloc, 8, 3)?;
-    let mut reader = Watched::new(INPUT);
-    let mut writer = Watched::new(writer);
-    let served = serve(
-        rt,
-        alloc,
-        &index,
-        passes,
-        &mut reader,
-        &mut writer,
-        &OpenGate,
-        2,
-    );
-    let fault = match served {
-        Ok(_) => None,
-        Err(fault) => Some(fault),
-    };
-    Some((fault, writer.into_inner()))
+    written: usize,
+) -> Option<(Option<ServeFault>, bool)> {
+    match end(rt, alloc, reader, Vec::new(alloc)) {
+        Some((fault, text)) => Some((
+            fault,
+            text.as_slice() == &OUTPUT[..OUTPUT.len().min(written)],
+        )),
+        None => None,
+    }
 }
 
 // Wherever the reader fails, the finished sections are written.
 #[test]
-fn a_read_that_fails_at_each_place(rt: HostRuntime) -> Result<(), Fail> {
+fn a_read_that_fails_at_each_place(rt: HostRuntime) {
     for place in 0..27usize {
         let reader = Halting {
             text: &INPUT[..INPUT.len().min(place)],
             interrupts: false,
             fails: true,
         };
-        let Some((fault, text)) = ends(&rt, rt.alloc(), reader) else {
-            assert!(rt; false);
-            return Ok(());
-        };
-        assert_eq!(rt; fault, Some(ServeFault::Read));
         let finished = if place < 17 { 0 } else { 20 };
-        assert!(rt; text.as_slice() == &OUTPUT[..OUTPUT.len().min(finished)]);
+        let ended = end_reading(&rt, rt.alloc(), reader, finished);
+        assert_eq!(rt; ended, Some((Some(ServeFault::Read), true)));
     }
     let whole = Halting {
         text: INPUT,
         interrupts: false,
         fails: false,
     };
-    let Some((fault, text)) = ends(&rt, rt.alloc(), whole) else {
-        assert!(rt; false);
-        return Ok(());
-    };
-    assert_eq!(rt; fault, None);
-    assert!(rt; text.as_slice() == OUTPUT);
-    Ok(())
+    let ended = end_reading(&rt, rt.alloc(), whole, OUTPUT.len());
+    assert_eq!(rt; ended, Some((None, true)));
+}
+
+/// How they end where the writer has so much room and so many good flushes, how many bytes it has taken, whether these are a
+/// beginning of the output, and how often it was flushed.
+fn end_writing<R: Threads + Wait + Sync>(
+    rt: &R,
+    alloc: Global,
+    room: usize,
+    good_flushes: usize,
+) -> Option<(Option<ServeFault>, usize, bool, usize)> {
+    match end(rt, alloc, INPUT, Narrow::new(room, good_flushes)) {
+        Some((fault, narrow)) => Some((
+            fault,
+            narrow.count,
+            OUTPUT.starts_with(&narrow.taken[..narrow.count]),
+            narrow.flushes,
+        )),
+        None => None,
+    }
 }
 
 // Wherever the writer is full, what it has taken is a beginning of the output. Each section is flushed when it is written.
 #[test]
 fn a_write_that_fails_at_each_place(rt: HostRuntime) {
     for room in 0..44usize {
-        let Some((fault, narrow)) = ends_at(&rt, rt.alloc(), Narrow::new(room, 9)) else {
-            assert!(rt; false);
-            return;
-        };
-        let wanted = if room < 43 {
-            Some(ServeFault::Write)
+        let (fault, flushes) = if room < 20 {
+            (Some(ServeFault::Write), 0)
+        } else if room < 43 {
+            (Some(ServeFault::Write), 1)
         } else {
-            None
+            (None, 2)
         };
-        assert_eq!(rt; fault, wanted);
-        assert_eq!(rt; narrow.count, room);
-        assert!(rt; narrow.taken[..narrow.count] == OUTPUT[..OUTPUT.len().min(room)]);
-        assert_eq!(rt;
-            narrow.flushes,
-            if room < 20 {
-                0
-            } else if room < 43 {
-                1
-            } else {
-                2
-            }
-        );
+        let ended = end_writing(&rt, rt.alloc(), room, 9);
+        assert_eq!(rt; ended, Some((fault, room, true, flushes)));
     }
 }
 
 #[test]
 fn a_failed_flush_stops_the_server(rt: HostRuntime) {
-    let Some((fault, narrow)) = ends_at(&rt, rt.alloc(), Narrow::new(64, 0)) else {
-        assert!(rt; false);
-        return;
-    };
-    assert_eq!(rt; fault, Some(ServeFault::Write));
-    assert_eq!(rt; narrow.count, 20);
+    let ended = end_writing(&rt, rt.alloc(), 64, 0);
+    assert!(rt; matches!(ended, Some((Some(ServeFault::Write), 20, _, _))));
 }

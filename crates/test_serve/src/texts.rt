@@ -1,29 +1,53 @@
 //! Served texts.
 
-use crate::served::{answers, inserts, serve_new};
+ghost use Rattle.std.specs.Prelude.{◌≤◌};
+
+use crate::served::{answers, inserts_before, last_lines, serve_new};
 use bl_serve::Totals;
+use std::alloc::Global;
+use std::sync::Wait;
 use std::test::Fail;
+use std::thread::Threads;
+
+/// Whether a worker writes these lines for those, and what it counts.
+fn answer<R: Threads + Wait + Sync>(
+    rt: &R,
+    alloc: Global,
+    input: &[u8],
+    output: &[u8],
+) -> Option<(bool, Totals)> {
+    match serve_new(rt, alloc, 8, input, 1, 0) {
+        Some((text, totals)) => Some((text.as_slice() == output, totals)),
+        None => None,
+    }
+}
 
 #[test]
-fn one_worker_answers_by_number(rt: HostRuntime) -> Result<(), Fail> {
-    let input: &[u8] = b"insert 1 10\nfind 1\nsync\ndelete 1\nx\n";
-    let Some((text, totals)) = serve_new(&rt, rt.alloc(), 8, input, 1, 0) else {
-        assert!(rt; false);
-        return Ok(());
+fn one_worker_answers_by_number(rt: HostRuntime) {
+    let input = b"insert 1 10\nfind 1\nsync\ndelete 1\nx\n".as_slice();
+    let output = b"1 inserted\n2 found 10\n3 synced\n4 deleted 10\n5 malformed\n".as_slice();
+    let totals = Totals {
+        requests: 5,
+        malformed: 1,
+        sections: 1,
     };
-    assert!(rt;
-        text.as_slice()
-            == b"1 inserted\n2 found 10\n3 synced\n4 deleted 10\n5 malformed\n".as_slice()
-    );
     assert_eq!(rt;
-        totals,
-        Totals {
-            requests: 5,
-            malformed: 1,
-            sections: 1
-        }
+        answer(&rt, rt.alloc(), input, output),
+        Some((true, totals))
     );
-    Ok(())
+}
+
+/// Whether one worker writes these lines for those, and whether four and a compressor do.
+fn both_answer<R: Threads + Wait + Sync>(
+    rt: &R,
+    alloc: Global,
+    input: &[u8],
+    output: &[u8],
+) -> (bool, bool) {
+    (
+        answers(rt, alloc, input, output, 1, 0),
+        answers(rt, alloc, input, output, 4, 1),
+    )
 }
 
 #[test]
@@ -45,8 +69,7 @@ fn small_inputs(rt: HostRuntime) {
             b"1 inserted\n2 synced\n3 found 1\n".as_slice(),
         ),
     ] {
-        assert!(rt; answers(&rt, rt.alloc(), input, output, 1, 0));
-        assert!(rt; answers(&rt, rt.alloc(), input, output, 4, 1));
+        assert_eq!(rt; both_answer(&rt, rt.alloc(), input, output), (true, true));
     }
 }
 
@@ -65,20 +88,15 @@ fn scans_list_rows(rt: HostRuntime) -> Result<(), Fail> {
             b"1 inserted\n2 synced\n3 rows\n".as_slice(),
         ),
     ] {
-        assert!(rt; answers(&rt, rt.alloc(), input, output, 1, 0));
-        assert!(rt; answers(&rt, rt.alloc(), input, output, 4, 1));
+        assert_eq!(rt; both_answer(&rt, rt.alloc(), input, output), (true, true));
     }
     // key 15 parts the leaf at 9: the scan has two parts, of which the second goes on past its end
-    let mut input = inserts(rt.alloc(), 15)?;
-    input.extend_from_slice(b"sync\nscan 7 11\nscan 1 3\nscan 15 99\n")?;
-    let Some((text, totals)) = serve_new(&rt, rt.alloc(), 8, input.as_slice(), 2, 1) else {
-        assert!(rt; false);
-        return Ok(());
-    };
-    let last: &[u8] =
-        b"\n16 synced\n17 rows 7=70 8=80 9=90 10=100\n18 rows 1=10 2=20\n19 rows 15=150\n";
-    assert!(rt; text.as_slice().ends_with(last));
-    assert_eq!(rt; totals.malformed, 0);
+    let more = b"sync\nscan 7 11\nscan 1 3\nscan 15 99\n".as_slice();
+    let last =
+        b"\n16 synced\n17 rows 7=70 8=80 9=90 10=100\n18 rows 1=10 2=20\n19 rows 15=150\n".as_slice();
+    let input = inserts_before(rt.alloc(), 15, more)?;
+    let served = last_lines(&rt, rt.alloc(), 8, input.as_slice(), last, 2, 1);
+    assert!(rt; matches!(served, Some((true, Totals { malformed: 0, .. }))));
     Ok(())
 }
 
@@ -100,70 +118,97 @@ fn sections_stand_in_order(rt: HostRuntime) {
 // Of four pages the last is taken by the first post. Keys 16 to 22 fill page 2, and then there is no page to part it.
 #[test]
 fn four_pages_are_soon_full(rt: HostRuntime) -> Result<(), Fail> {
-    let mut input = inserts(rt.alloc(), 23)?;
-    input.extend_from_slice(b"find 23\nfind 22\n")?;
-    let Some((text, _)) = serve_new(&rt, rt.alloc(), 4, input.as_slice(), 1, 0) else {
-        assert!(rt; false);
-        return Ok(());
-    };
-    let last: &[u8] = b"21 inserted\n22 inserted\n23 noroom\n24 absent\n25 found 220\n";
-    assert!(rt; text.as_slice().ends_with(last));
+    let input = inserts_before(rt.alloc(), 23, b"find 23\nfind 22\n")?;
+    let last = b"21 inserted\n22 inserted\n23 noroom\n24 absent\n25 found 220\n".as_slice();
+    let served = last_lines(&rt, rt.alloc(), 4, input.as_slice(), last, 1, 0);
+    assert!(rt; matches!(served, Some((true, _))));
     Ok(())
 }
 
-// Each change leaves a frame behind, and sweeps give all of them back.
-#[test]
-fn a_thousand_changes_of_one_key(rt: HostRuntime) -> Result<(), Fail> {
-    let mut input = Vec::new(rt.alloc());
-    for _round in 0..500 {
-        input.extend_from_slice(b"insert 1 10\ndelete 1\n")?;
-    }
-    let Some((text, totals)) = serve_new(&rt, rt.alloc(), 8, input.as_slice(), 1, 0) else {
-        assert!(rt; false);
-        return Ok(());
-    };
-    assert_eq!(rt; totals.requests, 1000);
-    let refused = text
-        .as_slice()
-        .split(|byte| *byte == b'\n')
-        .filter(|line| line.ends_with(b"noroom"))
-        .count();
-    assert_eq!(rt; refused, 0);
-    Ok(())
-}
-
-// How many lines of the text end with these bytes.
+/// How many lines of the text end with these bytes.
 fn ending(text: &[u8], end: &[u8]) -> usize {
     text.split(|byte| *byte == b'\n')
         .filter(|line| line.ends_with(end))
         .count()
 }
 
+/// Adds the lines so many times.
+fn repeat(input: &mut Vec<u8>, lines: &[u8], times: usize) -> Result<(), Fail> {
+    for _time in 0..times {
+        input.extend_from_slice(lines)?;
+    }
+    Ok(())
+}
+
+/// How many lines a worker writes that end with these bytes, and what it counts.
+fn lines_ending<R: Threads + Wait + Sync>(
+    rt: &R,
+    alloc: Global,
+    input: &[u8],
+    end: &[u8],
+) -> Option<(usize, Totals)> {
+    match serve_new(rt, alloc, 8, input, 1, 0) {
+        Some((text, totals)) => Some((ending(text.as_slice(), end), totals)),
+        None => None,
+    }
+}
+
+// Each change leaves a frame behind, and sweeps give all of them back.
+#[test]
+fn a_thousand_changes_of_one_key(rt: HostRuntime) -> Result<(), Fail> {
+    let mut input = Vec::new(rt.alloc());
+    repeat(&mut input, b"insert 1 10\ndelete 1\n", 500)?;
+    let refused = lines_ending(&rt, rt.alloc(), input.as_slice(), b"noroom");
+    assert!(rt; matches!(refused, Some((0, Totals { requests: 1000, .. }))));
+    Ok(())
+}
+
+/// The lines of two rounds, and a line behind them.
+fn two_rounds(alloc: Global) -> Result<Vec<u8>, Fail> {
+    let mut input = Vec::new(alloc);
+    for (lines, times) in [
+        (b"insert 7 70\n".as_slice(), 1),
+        (b"find 8\n".as_slice(), 12_287),
+        (b"find 7\n".as_slice(), 12_287),
+        (b"sync\nfind 7\n".as_slice(), 1),
+    ] {
+        repeat(&mut input, lines, times)?;
+    }
+    Ok(input)
+}
+
+/// Whether the text begins and ends as it is to, and how many keys it says to be absent and to be found.
+fn seen_in(text: &[u8]) -> (bool, usize, usize, bool) {
+    (
+        text.starts_with(b"1 inserted\n2 absent\n"),
+        ending(text, b"absent"),
+        ending(text, b"found 70"),
+        text.ends_with(b"24575 found 70\n24576 synced\n24577 found 70\n"),
+    )
+}
+
+/// The same of what so many workers write, and how many requests and sections they count.
+fn seen_by<R: Threads + Wait + Sync>(
+    rt: &R,
+    alloc: Global,
+    input: &[u8],
+    workers: u32,
+) -> Option<((bool, usize, usize, bool), u64, u64)>
+    requires { (1 ≤ workers) × (workers ≤ 32) }
+{
+    match serve_new(rt, alloc, 8, input, workers, 1) {
+        Some((text, totals)) => Some((seen_in(text.as_slice()), totals.requests, totals.sections)),
+        None => None,
+    }
+}
+
 // A section is answered in rounds of 12,288 lines: this one fills two, the second with its sync.
 #[test]
 fn a_section_of_two_rounds(rt: HostRuntime) -> Result<(), Fail> {
-    let mut input = Vec::new(rt.alloc());
-    input.extend_from_slice(b"insert 7 70\n")?;
-    for _line in 0..12_287 {
-        input.extend_from_slice(b"find 8\n")?;
-    }
-    for _line in 0..12_287 {
-        input.extend_from_slice(b"find 7\n")?;
-    }
-    input.extend_from_slice(b"sync\nfind 7\n")?;
+    let input = two_rounds(rt.alloc())?;
     for workers in 1..4 {
-        let Some((text, totals)) = serve_new(&rt, rt.alloc(), 8, input.as_slice(), workers, 1)
-        else {
-            assert!(rt; false);
-            return Ok(());
-        };
-        let text = text.as_slice();
-        assert!(rt; text.starts_with(b"1 inserted\n2 absent\n"));
-        assert_eq!(rt; ending(text, b"absent"), 12_287);
-        assert_eq!(rt; ending(text, b"found 70"), 12_288);
-        assert!(rt; text.ends_with(b"24575 found 70\n24576 synced\n24577 found 70\n"));
-        assert_eq!(rt; totals.requests, 24_577);
-        assert_eq!(rt; totals.sections, 1);
+        let seen = seen_by(&rt, rt.alloc(), input.as_slice(), workers);
+        assert_eq!(rt; seen, Some(((true, 12_287, 12_288, true), 24_577, 1)));
     }
     Ok(())
 }
