@@ -80,6 +80,15 @@ fn is_unread<R: Read + Drop>(alloc: Global, reader: R, length: Option<u64>) -> b
     result == Err(CommandFault::Read) && writer.into_inner().is_empty()
 }
 
+/// How `check` of these bytes ends where nothing can be written.
+fn unwritten(alloc: Global, bytes: &[u8]) -> Result<bool, CommandFault> {
+    let mut full = Watched::new(Full {
+        bytes: Vec::new(alloc),
+        room: 0,
+    });
+    check_image(alloc, &mut Watched::new(bytes), None, &mut full)
+}
+
 #[test]
 fn reads_and_writes_that_fail(rt: HostRuntime) {
     let alloc = rt.alloc();
@@ -91,12 +100,7 @@ fn reads_and_writes_that_fail(rt: HostRuntime) {
     for length in [0, 2079, 2081, 4096] {
         assert!(rt; is_unread(alloc, bytes.as_slice(), Some(length)));
     }
-    let mut full = Watched::new(Full {
-        bytes: Vec::new(alloc),
-        room: 0,
-    });
-    let result = check_image(alloc, &mut Watched::new(bytes.as_slice()), None, &mut full);
-    assert!(rt; result == Err(CommandFault::Write));
+    assert!(rt; unwritten(alloc, bytes.as_slice()) == Err(CommandFault::Write));
 }
 
 /// How many pages the image has that these bytes are.

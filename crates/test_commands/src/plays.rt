@@ -1,12 +1,13 @@
 //! A script that is carried out, and a writer that fails.
 
+ghost use Rattle.bl_replay.specs.Plays.{MayPlay};
+
 use bl_model::Watched;
 use bl_replay::{PLAYED, ReplayFault, replay};
-use bl_replay_script::read_script;
+use bl_replay_script::{Script, read_script};
 use std::alloc::Global;
 use std::io;
 use std::io::{ErrorKind, Write};
-use std::test::Fail;
 
 /// Takes so many writes, and then fails.
 #[derive(Drop)]
@@ -28,17 +29,32 @@ impl Write for Failing {
     }
 }
 
+/// How a script ends where so many writes are taken, and whether the writer has failed.
+fn replayed(alloc: Global, script: &Script, left: u32) -> (Result<(), ReplayFault>, bool)
+    requires { MayPlay script.now.pages script.now.commands.items }
+{
+    let mut writer = Watched::new(Failing { left });
+    let result = replay(alloc, script, &mut writer);
+    (result, writer.failed())
+}
+
+/// The same of a script that is read from these bytes, None where it is bad.
+fn read_and_replayed(
+    alloc: Global,
+    text: &[u8],
+    left: u32,
+) -> Option<(Result<(), ReplayFault>, bool)> {
+    match read_script(alloc, &mut Watched::new(text), PLAYED) {
+        Ok(script) => Some(replayed(alloc, &script, left)),
+        Err(_) => None,
+    }
+}
+
 #[test]
-fn writers_that_fail(rt: HostRuntime) -> Result<(), Fail> {
-    let alloc = rt.alloc();
-    let text = b"pages 4\nfind 5\nrun 1 9\n";
-    let script = read_script(alloc, &mut Watched::new(&text[..]), PLAYED)
-        .ok()
-        .ok_or("bad")?;
-    let mut writer = Watched::new(Failing { left: 0 });
-    assert!(rt; replay(alloc, &script, &mut writer) == Err(ReplayFault::Write));
-    assert!(rt; writer.failed());
-    let mut writer = Watched::new(Failing { left: 1 });
-    assert!(rt; replay(alloc, &script, &mut writer) == Ok(()));
-    Ok(())
+fn writers_that_fail(rt: HostRuntime) {
+    let text = b"pages 4\nfind 5\nrun 1 9\n".as_slice();
+    let failed = read_and_replayed(rt.alloc(), text, 0);
+    assert!(rt; failed == Some((Err(ReplayFault::Write), true)));
+    let played = read_and_replayed(rt.alloc(), text, 1);
+    assert!(rt; matches!(played, Some((Ok(()), _))));
 }

@@ -4,6 +4,7 @@
 use crate::streams::Full;
 use bl_cli_commands::{CommandFault, check_file, load_file, replay_file, replay_script};
 use bl_model::Watched;
+use std::alloc::Global;
 use std::io;
 use std::io::{ErrorKind, Read};
 
@@ -25,9 +26,15 @@ impl<'a> Read for Failing<'a> {
     }
 }
 
+/// How a script ends whose stream gives these bytes and then fails, and how many bytes are written.
+fn replay_failing(alloc: Global, left: &[u8]) -> (Result<(), CommandFault>, usize) {
+    let mut writer = Watched::new(Vec::new(alloc));
+    let result = replay_script(alloc, &mut Watched::new(Failing { left }), &mut writer);
+    (result, writer.into_inner().len())
+}
+
 #[test]
 fn reads_that_fail(rt: HostRuntime) {
-    let alloc = rt.alloc();
     let texts: [&[u8]; 4] = [
         b"",
         b"pages 4",
@@ -35,47 +42,49 @@ fn reads_that_fail(rt: HostRuntime) {
         b"pages 4\nfind 5\nrun 1 9\nru",
     ];
     for left in texts {
-        let mut writer = Watched::new(Vec::new(alloc));
-        let result = replay_script(alloc, &mut Watched::new(Failing { left }), &mut writer);
-        assert_eq!(rt; result, Err(CommandFault::Read));
-        assert!(rt; writer.into_inner().is_empty());
+        assert_eq!(rt;
+            replay_failing(rt.alloc(), left),
+            (Err(CommandFault::Read), 0)
+        );
     }
+}
+
+/// How a script ends where so many bytes have room, and what is written.
+fn replay_within(alloc: Global, text: &[u8], room: usize) -> (Result<(), CommandFault>, Vec<u8>) {
+    let mut writer = Watched::new(Full {
+        bytes: Vec::new(alloc),
+        room,
+    });
+    let result = replay_script(alloc, &mut Watched::new(text), &mut writer);
+    (result, writer.into_inner().bytes)
 }
 
 #[test]
 fn writes_that_fail(rt: HostRuntime) {
-    let alloc = rt.alloc();
-    let text = b"pages 4\nfind 5\nrun 1 9\n";
+    let text = b"pages 4\nfind 5\nrun 1 9\n".as_slice();
     let wanted = b"1 begin\n1 get 0\n1 get 1\n1 end\n1 answer absent\n";
     for room in [0, 1, 9, 44] {
-        let mut writer = Watched::new(Full {
-            bytes: Vec::new(alloc),
-            room,
-        });
-        let result = replay_script(alloc, &mut Watched::new(&text[..]), &mut writer);
-        assert_eq!(rt; result, Err(CommandFault::Write));
-        assert!(rt; writer.into_inner().bytes.as_slice() == &wanted[..room]);
+        let (result, written) = replay_within(rt.alloc(), text, room);
+        let writes = written.as_slice() == &wanted[..room];
+        assert_eq!(rt; (result, writes), (Err(CommandFault::Write), true));
     }
 }
 
 /// Holds whichever allocation is refused: the answer is Memory and a beginning of the output, or that of ample memory.
 #[test]
 fn memory_or_the_output(rt: HostRuntime) {
-    let text = b"pages 4\ninsert 5 50\nfind 5\nrun 1 4\nrun 2 9\nrun 1 9\n";
+    let text = b"pages 4\ninsert 5 50\nfind 5\nrun 1 4\nrun 2 9\nrun 1 9\n".as_slice();
     let wanted =
-        b"1 begin\n1 get 0\n1 latch 1\n1 get 1\n2 begin\n2 get 0\n2 get 1\n2 end\n2 answer absent\n1 put 1\n1 open 1\n1 end\n1 answer inserted\n";
-    let mut writer = Watched::new(Full {
-        bytes: Vec::new(rt.alloc()),
-        room: 999,
-    });
-    match replay_script(rt.alloc(), &mut Watched::new(&text[..]), &mut writer) {
-        Ok(()) => assert!(rt; writer.into_inner().bytes.as_slice() == wanted.as_slice()),
+        b"1 begin\n1 get 0\n1 latch 1\n1 get 1\n2 begin\n2 get 0\n2 get 1\n2 end\n2 answer absent\n1 put 1\n1 open 1\n1 end\n1 answer inserted\n".as_slice();
+    let (result, written) = replay_within(rt.alloc(), text, 999);
+    let written = written.as_slice();
+    let is_as_told = match result {
+        Ok(()) => written == wanted,
         // the test's own writer may have been refused its memory
-        Err(CommandFault::Memory) | Err(CommandFault::Write) => assert!(rt;
-            wanted.starts_with(writer.into_inner().bytes.as_slice())
-        ),
-        Err(_) => assert!(rt; false),
-    }
+        Err(CommandFault::Memory) | Err(CommandFault::Write) => wanted.starts_with(written),
+        Err(_) => false,
+    };
+    assert!(rt; is_as_told);
 }
 
 /// `check`, the loading of an image and `replay` say that reading the path fails, and write nothing.

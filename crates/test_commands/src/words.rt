@@ -23,133 +23,187 @@ fn invoked(alloc: Global, text: &str) -> Result<Option<Invocation>, Fail> {
 /// What a server asks for: its pages, workers and compressors, and the image that it begins with.
 type Served<'a> = (u32, u32, u32, Option<&'a str>);
 
-/// A server of that kind.
-fn server(alloc: Global, served: Served<'_>) -> Result<Server, Fail> {
+/// Whether a server is of that kind.
+fn is_server(server: &Server, served: Served<'_>) -> bool {
     let (pages, workers, compressors, image) = served;
     let options = ServeOptions {
         pages,
         workers,
         compressors,
     };
-    let image = match image {
-        Some(file) => Some(String::from_str(alloc, file)?),
-        None => None,
+    let begins = match &server.image {
+        Some(named) => image == Some(named.as_str()),
+        None => image.is_none(),
     };
-    Ok(Server { options, image })
+    begins && server.options == options
 }
 
-/// What such a server is asked for by, or a dump of it to that file.
-fn asked(alloc: Global, served: Served<'_>, dump: Option<&str>) -> Result<Invocation, Fail> {
-    let server = server(alloc, served)?;
-    match dump {
-        Some(file) => Ok(Invocation::Dump(server, String::from_str(alloc, file)?)),
-        None => Ok(Invocation::Serve(server)),
+/// Whether such a server is asked for, or a dump of it to that file.
+fn is_for_server(invocation: &Invocation, served: Served<'_>, dump: Option<&str>) -> bool {
+    match invocation {
+        Invocation::Serve(server) => dump.is_none() && is_server(server, served),
+        Invocation::Dump(server, named) => {
+            dump == Some(named.as_str()) && is_server(server, served)
+        }
+        _ => false,
     }
 }
+
+/// Whether a command line asks for that.
+fn asks(alloc: Global, text: &str, served: Served<'_>, dump: Option<&str>) -> Result<bool, Fail> {
+    Ok(match invoked(alloc, text)? {
+        Some(invocation) => is_for_server(&invocation, served, dump),
+        None => false,
+    })
+}
+
+/// A command line, the server that it asks for, and the file of a dump.
+type Line = (&'static str, Served<'static>, Option<&'static str>);
+
+const LINES: [Line; 6] = [
+    ("blink serve", (1024, 4, 1, None), None),
+    (
+        "blink serve --pages 4 --workers 1 --compressors 0",
+        (4, 1, 0, None),
+        None,
+    ),
+    (
+        "blink serve --pages 65536 --workers 32 --compressors 16",
+        (65536, 32, 16, None),
+        None,
+    ),
+    (
+        "blink dump --pages 4 index.image --workers 1 --compressors 0",
+        (4, 1, 0, None),
+        Some("index.image"),
+    ),
+    (
+        "blink serve --image old.image",
+        (1024, 4, 1, Some("old.image")),
+        None,
+    ),
+    (
+        "blink dump new.image --image old.image",
+        (1024, 4, 1, Some("old.image")),
+        Some("new.image"),
+    ),
+];
 
 #[test]
 fn words_of_the_command_line(rt: HostRuntime) -> Result<(), Fail> {
-    for (text, served, dump) in [
-        ("blink serve", (1024, 4, 1, None), None),
-        (
-            "blink serve --pages 4 --workers 1 --compressors 0",
-            (4, 1, 0, None),
-            None,
-        ),
-        (
-            "blink serve --pages 65536 --workers 32 --compressors 16",
-            (65536, 32, 16, None),
-            None,
-        ),
-        (
-            "blink dump --pages 4 index.image --workers 1 --compressors 0",
-            (4, 1, 0, None),
-            Some("index.image"),
-        ),
-        (
-            "blink serve --image old.image",
-            (1024, 4, 1, Some("old.image")),
-            None,
-        ),
-        (
-            "blink dump new.image --image old.image",
-            (1024, 4, 1, Some("old.image")),
-            Some("new.image"),
-        ),
-    ] {
-        let wanted = asked(rt.alloc(), served, dump)?;
-        assert!(rt; invoked(rt.alloc(), text)? == Some(wanted), "{text}");
+    for (text, served, dump) in LINES {
+        assert!(rt; asks(rt.alloc(), text, served, dump)?, "{text}");
     }
     Ok(())
+}
+
+/// Whether that file is to be checked, and whether it is to be replayed.
+fn is_for_file(invocation: &Invocation, file: &str) -> (bool, bool) {
+    match invocation {
+        Invocation::Check(named) => (named.as_str() == file, false),
+        Invocation::Replay(named) => (false, named.as_str() == file),
+        _ => (false, false),
+    }
+}
+
+/// Whether a command line asks for that.
+fn reads_file(alloc: Global, text: &str, file: &str) -> Result<(bool, bool), Fail> {
+    Ok(match invoked(alloc, text)? {
+        Some(invocation) => is_for_file(&invocation, file),
+        None => (false, false),
+    })
 }
 
 #[test]
 fn words_that_name_a_file(rt: HostRuntime) -> Result<(), Fail> {
-    let image = String::from_str(rt.alloc(), "image")?;
-    let script = String::from_str(rt.alloc(), "script")?;
-    let checked = invoked(rt.alloc(), "blink check image")?;
-    assert!(rt; checked == Some(Invocation::Check(image)));
-    let replayed = invoked(rt.alloc(), "blink replay script")?;
-    assert!(rt; replayed == Some(Invocation::Replay(script)));
+    let checked = reads_file(rt.alloc(), "blink check image", "image")?;
+    let replayed = reads_file(rt.alloc(), "blink replay script", "script")?;
+    assert_eq!(rt; (checked, replayed), ((true, false), (false, true)));
     Ok(())
+}
+
+const REFUSED: [&str; 19] = [
+    "blink",
+    "blink dump",
+    "blink dump a b",
+    "blink dump index.image --pages 3",
+    "blink serve --image",
+    "blink serve --image old.image --pages 1024",
+    "blink dump new.image --pages 8 --image old.image",
+    "blink serve --pages 3",
+    "blink serve --pages 65537",
+    "blink serve --workers 0",
+    "blink serve --workers 33",
+    "blink serve --compressors 17",
+    "blink serve --pages x",
+    "blink server",
+    "blink check",
+    "blink check a b",
+    "blink check --deep a",
+    "blink replay",
+    "blink replay a b",
+];
+
+fn is_refused(alloc: Global, text: &str) -> Result<bool, Fail> {
+    Ok(invoked(alloc, text)?.is_none())
 }
 
 #[test]
 fn words_that_are_refused(rt: HostRuntime) -> Result<(), Fail> {
-    for refused in [
-        "blink",
-        "blink dump",
-        "blink dump a b",
-        "blink dump index.image --pages 3",
-        "blink serve --image",
-        "blink serve --image old.image --pages 1024",
-        "blink dump new.image --pages 8 --image old.image",
-        "blink serve --pages 3",
-        "blink serve --pages 65537",
-        "blink serve --workers 0",
-        "blink serve --workers 33",
-        "blink serve --compressors 17",
-        "blink serve --pages x",
-        "blink server",
-        "blink check",
-        "blink check a b",
-        "blink check --deep a",
-        "blink replay",
-        "blink replay a b",
-    ] {
-        assert!(rt; invoked(rt.alloc(), refused)?.is_none(), "{refused}");
+    for refused in REFUSED {
+        assert!(rt; is_refused(rt.alloc(), refused)?, "{refused}");
     }
     Ok(())
 }
 
+/// What fails of a dump.
+#[derive(Clone, Copy)]
+enum Failing {
+    Memory,
+    Make,
+    Fill,
+    Rename,
+}
+
+/// The fault of a dump to this file.
+fn fault_of(alloc: Global, failing: Failing) -> Result<DumpFault, Fail> {
+    let path = String::from_str(alloc, "i.new")?;
+    Ok(match failing {
+        Failing::Memory => DumpFault::Memory,
+        Failing::Make => DumpFault::Make(path),
+        Failing::Fill => DumpFault::Fill(path),
+        Failing::Rename => DumpFault::Rename(path),
+    })
+}
+
+/// Whether that is the line of the fault, and its status.
+fn is_told(alloc: Global, fault: DumpFault, text: &str, status: u8) -> Result<bool, Fail> {
+    let words = format!(in alloc; "{fault}")?;
+    Ok(words.as_str() == text && fault.status() == status)
+}
+
 #[test]
 fn words_of_a_dump_that_fails(rt: HostRuntime) -> Result<(), Fail> {
-    let path = || String::from_str(rt.alloc(), "i.new");
-    for (fault, text, status) in [
-        (DumpFault::Memory, "blink: out of memory", 4),
+    for (failing, text, status) in [
+        (Failing::Memory, "blink: out of memory", 4),
+        (Failing::Make, "blink: write failed: cannot make i.new", 3),
+        (Failing::Fill, "blink: write failed: cannot write i.new", 3),
         (
-            DumpFault::Make(path()?),
-            "blink: write failed: cannot make i.new",
-            3,
-        ),
-        (
-            DumpFault::Fill(path()?),
-            "blink: write failed: cannot write i.new",
-            3,
-        ),
-        (
-            DumpFault::Rename(path()?),
+            Failing::Rename,
             "blink: write failed: cannot rename i.new",
             3,
         ),
     ] {
-        let words = format!(in rt.alloc(); "{fault}")?;
-        assert!(rt;
-            words.as_str() == text && fault.status() == status,
-            "{text}"
-        );
+        let fault = fault_of(rt.alloc(), failing)?;
+        assert!(rt; is_told(rt.alloc(), fault, text, status)?, "{text}");
     }
     Ok(())
+}
+
+/// The same of a command.
+fn is_spelled(alloc: Global, fault: CommandFault, text: &str, status: u8) -> Result<bool, Fail> {
+    let words = format!(in alloc; "{fault}")?;
+    Ok(words.as_str() == text && fault.status() == status)
 }
 
 #[test]
@@ -178,11 +232,7 @@ fn words_on_standard_error(rt: HostRuntime) -> Result<(), Fail> {
         (CommandFault::Script(7), "blink: bad script line 7", 3),
         (CommandFault::Unsound(5, 12), "fault C5 page 12", 1),
     ] {
-        let words = format!(in rt.alloc(); "{fault}")?;
-        assert!(rt;
-            words.as_str() == text && fault.status() == status,
-            "{text}"
-        );
+        assert!(rt; is_spelled(rt.alloc(), fault, text, status)?, "{text}");
     }
     Ok(())
 }
