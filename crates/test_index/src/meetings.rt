@@ -6,7 +6,6 @@ ghost use Rattle.bl_index.specs.Calls.{IsPassOf};
 use crate::calls::opened;
 use bl_index::{Index, KeyReply, Pass};
 use std::sync::Wait;
-use std::test::Fail;
 use std::thread;
 use std::thread::Threads;
 
@@ -78,13 +77,42 @@ fn found(index: &Index, pass: &mut Pass) -> u64
     count
 }
 
+/// How many keys the last pass finds that has met the others, each of which has inserted its own.
+fn found_by_one<R: Threads + Wait + Sync>(
+    rt: &R,
+    index: &Index,
+    passes: &mut [Pass],
+    last: &mut Pass,
+) -> u64
+    requires passes { All (IsPassOf index.now) passes.old }
+    requires last { IsPassOf index.now last.old }
+{
+    fill_all(rt, index, passes);
+    meet_each(index, last, passes);
+    found(index, last)
+}
+
+/// The same where the index and its passes are dropped at the end: the caller need not drop them.
+fn found_at_last<R: Threads + Wait + Sync>(
+    rt: &R,
+    index: Index,
+    passes: Vec<Pass>,
+    last: Pass,
+) -> u64
+    requires passes { All (IsPassOf index) passes.items }
+    requires last { IsPassOf index last }
+{
+    let mut passes = passes;
+    let mut last = last;
+    found_by_one(rt, &index, passes.as_mut_slice(), &mut last)
+}
+
 // Eight threads insert keys of their own. Their passes meet, and one of them finds all keys.
 #[test]
-fn one_pass_finds_the_keys_of_all(rt: HostRuntime) -> Result<(), Fail> {
-    let (index, mut passes, mut last) = opened(rt.alloc(), 256, 9).ok_or("no index")?;
-    fill_all(&rt, &index, passes.as_mut_slice());
-    meet_each(&index, &mut last, passes.as_mut_slice());
-    let all = found(&index, &mut last);
-    assert!(rt; all == 400);
-    Ok(())
+fn one_pass_finds_the_keys_of_all(rt: HostRuntime) {
+    let all = match opened(rt.alloc(), 256, 9) {
+        Some((index, passes, last)) => Some(found_at_last(&rt, index, passes, last)),
+        None => None,
+    };
+    assert!(rt; all == Some(400));
 }
