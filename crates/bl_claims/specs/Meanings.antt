@@ -4,6 +4,7 @@ use Rattle.bl_model.specs.declared.operation.Reply.{Reply}
 use Rattle.bl_page.specs.declared.page.Page.{Page}
 use Rattle.bl_page.specs.Machine.{Act}
 use Rattle.bl_page.specs.Machine.Act.{Begin, Get, Put, Latch, Retire, Release, Miss}
+use Rattle.bl_page.specs.declared.machine.Missed.TheVariants as missed
 use Rattle.bl_claims.specs.Nodes.{Covers}
 use Rattle.bl_claims.specs.Pages.{node_of, roots_of}
 use Rattle.bl_claims.specs.Trails.{Mark, Trail}
@@ -149,12 +150,11 @@ pub record MeansTooTall (level : ℕ) (marks : Trail) : Type 0 where
   pub got : HasGot marks 0 anchor
   pub full : (roots_of anchor).levels ≡ 12
 
--- NoRoom: the process missed something while it held a page, and put nothing then. It latches no other page then, so what it
--- missed is what it was to reserve, or a turn that was not fit.
+-- NoRoom: the process was refused a reservation while it held a page, and put nothing then.
 pub record MeansNoRoom (level : ℕ) (marks : Trail) : Type 0 where
   pub at : ℕ
   pub under : UnderLatch level marks at
   pub none : under.wrote ≡ []
   pub mark : Mark
   pub is : Contains under.during mark
-  pub miss : mark.event.act ≡ Miss
+  pub refused : mark.event.act ≡ Miss missed.Reservation

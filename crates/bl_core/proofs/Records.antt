@@ -29,7 +29,7 @@ same_phases s s' p (Act.Open x) i c = c.2
 same_phases s s' p (Retire x) i c = c.3.2
 same_phases s s' p (Look it) i c = c.2
 same_phases s s' p (Release x) i c = c.2
-same_phases s s' p Miss i c = c.2
+same_phases s s' p (Miss what) i c = c.2
 
 history_said : (first : Map) (history : List Entry) (p : Name) (said : Option Said) (m m' : Map) → IsLegalFrom first history → ((k : ℕ) → m k ≡ final_map first history k) → MapsTo m m' said → IsLegalFrom first (history ++ entries_at p said) × ((k : ℕ) → m' k ≡ final_map first (history ++ entries_at p said) k)
 history_said first history p None m m' legal is t = rw (append-nil history) (legal, λ k. t k ∙ is k)

@@ -70,7 +70,7 @@ IsWatch (Act.Open x) = ⊥
 IsWatch (Retire x) = ⊥
 IsWatch (Look it) = Unit {0}
 IsWatch (Release x) = ⊥
-IsWatch Miss = Unit {0}
+IsWatch (Miss what) = Unit {0}
 
 pub watch_inner : (a : Act Page Reply) → IsWatch a → IsInner a
 watch_inner Begin h = absurd h
@@ -83,7 +83,7 @@ watch_inner (Act.Open x) h = absurd h
 watch_inner (Retire x) h = absurd h
 watch_inner (Look it) h = (λ e. cc, λ a e. cc)
 watch_inner (Release x) h = absurd h
-watch_inner Miss h = (λ e. cc, λ a e. cc)
+watch_inner (Miss what) h = (λ e. cc, λ a e. cc)
 
 -- it changes nothing, and is no take, latch or put
 watch_same : (s s' : State Page) (p : Name) (a : Act Page Reply) → IsWatch a → Changes s p a s' → SameContents s s' × SameOwners s s' × ((y : ℕ) → (a ≢ Take y) × (a ≢ Latch y)) × ((y : ℕ) (c : Page) → a ≢ Put y c)
@@ -97,7 +97,7 @@ watch_same s s' p (Act.Open x) h c = absurd h
 watch_same s s' p (Retire x) h c = absurd h
 watch_same s s' p (Look it) h c = (c.0, c.1, λ y. (λ e. cc, λ e. cc), λ y d e. cc)
 watch_same s s' p (Release x) h c = absurd h
-watch_same s s' p Miss h c = (c.0, c.1, λ y. (λ e. cc, λ e. cc), λ y d e. cc)
+watch_same s s' p (Miss what) h c = (c.0, c.1, λ y. (λ e. cc, λ e. cc), λ y d e. cc)
 
 pub record SameGhost {P : Type 0} (w w' : World P) : Type 0 where
   pub status : w'.status ≡ w.status

@@ -29,7 +29,7 @@ other_phase s s' p q (Act.Open x) c ne = c.2 q
 other_phase s s' p q (Act.Retire x) c ne = c.3.2 q
 other_phase s s' p q (Act.Look it) c ne = c.2 q
 other_phase s s' p q (Act.Release x) c ne = c.2 q
-other_phase s s' p q Act.Miss c ne = c.2 q
+other_phase s s' p q (Act.Miss what) c ne = c.2 q
 
 fits_logs : (s : Pages Mine) (f : Fits s) → KeepsLogs f.world
 fits_logs s f p since runs =

@@ -18,7 +18,7 @@ act_back (Act.Retire x) = refl
 act_back (Act.Look (Looked.Process p)) = refl
 act_back (Act.Look (Looked.Page x)) = refl
 act_back (Act.Release x) = refl
-act_back Act.Miss = refl
+act_back (Act.Miss what) = refl
 
 said_back : (s : Option Said) → said_of (spoken_of s) ≡ s
 said_back None = refl

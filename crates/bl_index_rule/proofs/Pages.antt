@@ -4,6 +4,7 @@ use Rattle.std.proofs.Math.ListN.{length-set}
 use mathlib.Core.Option.{some}
 use lib.ListN.{get_elem?}
 use Rattle.atomic_table.proofs.Lists.{at_set}
+use Rattle.bl_page.specs.declared.machine.Missed.TheVariants as missed
 use Rattle.bl_page.specs.declared.page.Page.{Page}
 use Rattle.bl_page.specs.Words.{words_of}
 use Rattle.bl_page.specs.Pairs.{IsChild}
@@ -155,7 +156,7 @@ module _ (l : Layout) (n : ℕ) (d : Mine) (runs : d.runs ≡ true) where
   misses_page x next course s st words owner f o at page shut =
       running (λ sg. (e : Mine) × Fits (told s n sg e) × tries d x owner words e) s f n st d runs at (λ since at'.
       let w = f.world in
-      let does : Does w.now (name n d.number) Act.Miss w.now = record { changes = (λ z. refl, λ z. refl, λ q. refl); on = omega arith } in
+      let does : Does w.now (name n d.number) (Act.Miss (missed.Latch x)) w.now = record { changes = (λ z. refl, λ z. refl, λ q. refl); on = omega arith } in
       let u = unmoved s f n since d at' seen.Missed course (act.Latch x) next tt tt does in
       (u.0, u.1, ((λ e. absurd (shut e)), λ ne. u.2)))
 
@@ -183,7 +184,7 @@ module _ (l : Layout) (n : ℕ) (d : Mine) (runs : d.runs ≡ true) where
   refuses_take next course s st f o at =
       running (λ sg. (e : Mine) × Fits (told s n sg e) × refuses d s.clock e) s f n st d runs at (λ since at'.
       let w = f.world in
-      let does : Does w.now (name n d.number) Act.Miss w.now = record { changes = (λ z. refl, λ z. refl, λ q. refl); on = omega arith } in
+      let does : Does w.now (name n d.number) (Act.Miss missed.Reservation) w.now = record { changes = (λ z. refl, λ z. refl, λ q. refl); on = omega arith } in
       let u = unmoved s f n since d at' seen.Refused course act.Take next tt tt does in
       (u.0, u.1, u.2))
 
@@ -191,6 +192,6 @@ module _ (l : Layout) (n : ℕ) (d : Mine) (runs : d.runs ≡ true) where
   refuses_put x c next course s st f o at =
       running (λ sg. (e : Mine) × Fits (told s n sg e) × refuses d s.clock e) s f n st d runs at (λ since at'.
       let w = f.world in
-      let does : Does w.now (name n d.number) Act.Miss w.now = record { changes = (λ z. refl, λ z. refl, λ q. refl); on = omega arith } in
+      let does : Does w.now (name n d.number) (Act.Miss missed.Reservation) w.now = record { changes = (λ z. refl, λ z. refl, λ q. refl); on = omega arith } in
       let u = unmoved s f n since d at' seen.Refused course (act.Put x c) next tt tt does in
       (u.0, u.1, u.2))

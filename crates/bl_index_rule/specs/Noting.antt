@@ -25,7 +25,7 @@ act_of (deed.Retire x) = Act.Retire x
 act_of (deed.Look w) = Act.Look (Looked.Process (name_of w))
 act_of (deed.See x) = Act.Look (Looked.Page x)
 act_of (deed.Release x) = Act.Release x
-act_of deed.Miss = Act.Miss
+act_of (deed.Miss what) = Act.Miss what
 
 abbrev pub said_of : Option Spoken → Option Said
 said_of None = None
@@ -57,7 +57,7 @@ deed_of (Act.Open x) = deed.Open x
 deed_of (Act.Retire x) = deed.Retire x
 deed_of (Act.Look it) = look_noted it
 deed_of (Act.Release x) = deed.Release x
-deed_of Act.Miss = deed.Miss
+deed_of (Act.Miss what) = deed.Miss what
 
 abbrev pub spoken_of : Option Said → Option Spoken
 spoken_of None = None

@@ -3,7 +3,7 @@
 ghost use Rattle.std.specs.Prelude.{◌≡◌};
 
 use bl_model::{Entry, Op, Reply};
-use bl_page::Page;
+use bl_page::{Missed, Page};
 use bl_proc::Proc;
 use std::collections::LinkedList;
 use std::marker::Model;
@@ -33,7 +33,7 @@ pub enum Deed {
     /// A look at the owner of a page.
     See(u32),
     Release(u32),
-    Miss,
+    Miss(Missed),
 }
 
 /// An answered operation.

@@ -1,6 +1,7 @@
 -- The page machine: pages with owners, and processes that begin, act and end, one event at a time.
 -- It knows nothing of what stands in a page, nor of how a process chooses its next act.
 use Rattle.std.specs.Prelude.{◌≡◌, ◌≢◌, ℕ, ◌<◌, ◌≤◌, Option, List, [], ◌∷◌}
+use Rattle.bl_page.specs.declared.machine.Missed.{Missed}
 
 -- A process: on threads the pass that runs it, and its number among that pass's processes.
 pub record Name : Type 0 where
@@ -32,7 +33,7 @@ pub data Looked : Type 0 where
   Process : Name → Looked
   Page : ℕ → Looked
 
--- The eleven events of a process. An end may carry an answer, of the type A.
+-- The eleven events of a process. An end may carry an answer, of the type A; a miss tells what was missed.
 pub data Act (C A : Type 0) : Type 0 where
   Begin : Act C A
   End : Option A → Act C A
@@ -44,7 +45,7 @@ pub data Act (C A : Type 0) : Type 0 where
   Retire : ℕ → Act C A
   Look : Looked → Act C A
   Release : ℕ → Act C A
-  Miss : Act C A
+  Miss : Missed → Act C A
 
 pub record Event (C A : Type 0) : Type 0 where
   pub process : Name
@@ -65,7 +66,7 @@ HoldsNone s p = (x : ℕ) → s.owner x ≢ Held p
 abbrev pub AllBeganAfter : {C : Type 0} → State C → ℕ → Type 0
 AllBeganAfter s time = (q : Name) (since : ℕ) → s.phase q ≡ Running since → time < since
 
--- When the event may happen.
+-- When the event may happen: a look and a miss always.
 abbrev pub Enabled : {C A : Type 0} → State C → Name → Act C A → Type 0
 Enabled s p Begin = s.phase p ≡ Waiting
 Enabled s p (End answer) = IsRunning s p × HoldsNone s p
@@ -75,9 +76,8 @@ Enabled s p (Take x) = s.owner x ≡ Released
 Enabled s p (Latch x) = s.owner x ≡ Owner.Open
 Enabled s p (Open x) = s.owner x ≡ Held p
 Enabled s p (Retire x) = s.owner x ≡ Held p
-Enabled s p (Look it) = Unit {0}
 Enabled s p (Release x) = (time : ℕ) × (s.owner x ≡ Retired time) × AllBeganAfter s time
-Enabled s p Miss = Unit {0}
+Enabled s p act = Unit {0}
 
 abbrev pub SameContents : {C : Type 0} → State C → State C → Type 0
 SameContents s s' = (x : ℕ) → s'.contents x ≡ s.contents x
@@ -92,19 +92,17 @@ SamePhases s s' = (p : Name) → s'.phase p ≡ s.phase p
 abbrev pub Owns : {C : Type 0} → State C → ℕ → Owner → State C → Type 0
 Owns s x owner s' = SameContents s s' × IsAt x owner s.owner s'.owner × SamePhases s s'
 
--- What the event changes, the clock apart.
+-- What the event changes, the clock apart: a get, a look and a miss nothing.
 abbrev pub Changes : {C A : Type 0} → State C → Name → Act C A → State C → Type 0
 Changes s p Begin s' = SameContents s s' × SameOwners s s' × ((now : ℕ) × (s.clock ≤ now) × (now ≤ s'.clock) × IsAt p (Running now) s.phase s'.phase)
 Changes s p (End answer) s' = SameContents s s' × SameOwners s s' × IsAt p Ended s.phase s'.phase
-Changes s p (Get x) s' = SameContents s s' × SameOwners s s' × SamePhases s s'
 Changes s p (Put x c) s' = IsAt x c s.contents s'.contents × SameOwners s s' × SamePhases s s'
 Changes s p (Take x) s' = Owns s x (Held p) s'
 Changes s p (Latch x) s' = Owns s x (Held p) s'
 Changes s p (Open x) s' = Owns s x Owner.Open s'
 Changes s p (Retire x) s' = (now : ℕ) × (s.clock ≤ now) × (now < s'.clock) × Owns s x (Retired now) s'
-Changes s p (Look it) s' = SameContents s s' × SameOwners s s' × SamePhases s s'
 Changes s p (Release x) s' = Owns s x Released s'
-Changes s p Miss s' = SameContents s s' × SameOwners s s' × SamePhases s s'
+Changes s p act s' = SameContents s s' × SameOwners s s' × SamePhases s s'
 
 -- One event leads from a state in which it is enabled to the next.
 pub record Steps {C A : Type 0} (s : State C) (e : Event C A) (s' : State C) : Type 0 where

@@ -3,6 +3,7 @@
 
 mod copies;
 mod keys;
+mod machine;
 mod page;
 mod pairs;
 mod reading;
@@ -11,6 +12,7 @@ mod source;
 mod spelling;
 
 pub use keys::is_within;
+pub use machine::Missed;
 pub use page::{Anchor, Dead, Inner, Leaf, Page, Pairs, WordFault};
 pub use pairs::{listed_with, place_of};
 pub use reading::from_words;

@@ -45,7 +45,7 @@ is_begin_only (Act.Open x) e = cc
 is_begin_only (Retire x) e = cc
 is_begin_only (Look it) e = cc
 is_begin_only (Release x) e = cc
-is_begin_only Miss e = cc
+is_begin_only (Miss what) e = cc
 
 does_begin : (p : Name) (m : Mark) → m.event ≡ record { process = p; act = Begin } → begins p m ≡ true
 does_begin p m e = and_true (same_name m.event.process p) (is_begin m.event.act) (ap (λ v. same_name v.process p) e ∙ same_self p) (ap (λ v. is_begin v.act) e)

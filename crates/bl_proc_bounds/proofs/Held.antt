@@ -49,7 +49,7 @@ own_held s s' p (Act.Open x) y held en c own e = (let k = kept x y held e in c.1
 own_held s s' p (Retire x) y held en c own e = (let k = kept x y held e in c.3.1.others y (λ i. k.0 (sym i)) ∙ own k.1)
 own_held s s' p (Look it) y held en c own e = c.1 y ∙ own e
 own_held s s' p (Release x) y held en c own e = c.1.others y (λ i. (let v : Held p ≡ Retired en.0 = sym (own e) ∙ (ap s.owner i ∙ en.1) in cc)) ∙ own e
-own_held s s' p Miss y held en c own e = c.1 y ∙ own e
+own_held s s' p (Miss what) y held en c own e = c.1 y ∙ own e
 
 -- an event of another
 other_held : (s s' : State Page) (p q : Name) (a : Act Page Reply) (y : ℕ) → p ≢ q → Enabled s p a → Changes s p a s' → s.owner y ≡ Held q → s'.owner y ≡ Held q
@@ -63,7 +63,7 @@ other_held s s' p q (Act.Open x) y ne en c h = c.1.others y (λ i. (let v : Held
 other_held s s' p q (Retire x) y ne en c h = c.3.1.others y (λ i. (let v : Held q ≡ Held p = sym h ∙ (ap s.owner i ∙ en) in ne cc)) ∙ h
 other_held s s' p q (Look it) y ne en c h = c.1 y ∙ h
 other_held s s' p q (Release x) y ne en c h = c.1.others y (λ i. (let v : Held q ≡ Retired en.0 = sym h ∙ (ap s.owner i ∙ en.1) in cc)) ∙ h
-other_held s s' p q Miss y ne en c h = c.1 y ∙ h
+other_held s s' p q (Miss what) y ne en c h = c.1 y ∙ h
 
 pub owned_on : {P : Type 0} (w w' : World P) (m : Mark) (b : P) → Extends w w' m b → AllOwned w → AllOwned w'
 owned_on w w' m b e all p y keeps = elim (name_cases m.event.process p) [

@@ -139,7 +139,7 @@ put_cases (Act.Open x) = inl refl
 put_cases (Retire x) = inl refl
 put_cases (Look it) = inl refl
 put_cases (Release x) = inl refl
-put_cases Miss = inl refl
+put_cases (Miss what) = inl refl
 
 -- only a put changes what pages hold
 same_contents : (s s' : State Page) (p : Name) (a : Act Page Reply) → puts_in a ≡ 0 → Changes s p a s' → s'.contents ≡ s.contents
@@ -153,7 +153,7 @@ same_contents s s' p (Act.Open x) h c = fun_ext c.0
 same_contents s s' p (Retire x) h c = fun_ext c.3.0
 same_contents s s' p (Look it) h c = fun_ext c.0
 same_contents s s' p (Release x) h c = fun_ext c.0
-same_contents s s' p Miss h c = fun_ext c.0
+same_contents s s' p (Miss what) h c = fun_ext c.0
 
 module _ (w w' : World Run) (m : Mark) (b : Run) (e : Extends w w' m b) (g : IsGood bare w) (g' : IsGood bare w') where
   abbrev pub IsKeptThen : Name → ℕ → Place → Type 0

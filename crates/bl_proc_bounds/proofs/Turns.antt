@@ -2,6 +2,7 @@
 use Rattle.std.proofs.Common.{◌≡◌, refl, sym, ap, ◌∙◌, subst}
 use Rattle.bl_model.specs.declared.operation.Reply.{Reply}
 use Rattle.bl_page.specs.declared.page.Page.{Page}
+use Rattle.bl_page.specs.declared.machine.Missed.{Missed}
 use Rattle.bl_page.specs.Machine.{Name, State, Act}
 use Rattle.bl_page.specs.Machine.Act.{Miss}
 use Rattle.bl_claims.specs.Trails.{Mark, marks_of}
@@ -48,7 +49,7 @@ paced_turn w p a new what s is g t told shown does =
     let r = turn w p a new what s is g t told shown does in
     record { turned = r; kept = told_kept w r.next p a (run_next w.now a what new) what _ refl is r.extends (bare_good w g) (bare_good r.next r.good) (subst (λ (z : Run). proc_log z.state (marks_of p w.trail)) is (g.sure p).log) t told }
 
-pub paced_idle : (w : World Run) (p : Name) (s : State Page) → IsGood know w → Does w.now p Miss s → Paced w p Miss s (w.proc p)
-paced_idle w p s g does =
-    let r = idle_turn w p s g does in
+pub paced_idle : (w : World Run) (p : Name) (what : Missed) (s : State Page) → IsGood know w → Does w.now p (Miss what) s → Paced w p (Miss what) s (w.proc p)
+paced_idle w p what s g does =
+    let r = idle_turn w p what s g does in
     record { turned = r; kept = idle_kept w r.next _ r.extends (bare_good w g) (bare_good r.next r.good) refl refl (λ x. (λ e. cc, λ e. cc, λ c e. cc)) }

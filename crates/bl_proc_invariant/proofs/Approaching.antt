@@ -2,6 +2,7 @@
 use Rattle.std.proofs.Common.{ℕ, ◌≡◌, ◌≢◌, ◌⊎◌, ◌≤◌, ◌<◌, ◌-◌, Option, Some, None, List, [], ◌∷◌, arith, sym, ◌∙◌, refl, subst, inl, inr}
 use Rattle.bl_page.specs.declared.page.Page.{Page}
 use Rattle.bl_page.specs.declared.page.Page.TheVariants.{Dead}
+use Rattle.bl_page.specs.declared.machine.Missed.{Missed}
 use Rattle.bl_page.specs.Machine.{Name, Owner, State, Act}
 use Rattle.bl_page.specs.Machine.Owner.{Held}
 use Rattle.bl_page.specs.Machine.Act.{Get, Latch, Miss}
@@ -150,11 +151,11 @@ module _ {P : Type 0} (know : P → Know) (w : World P) (g : IsGood know w) (p :
         latched know w g p b _ _ before then x s told does refl (inl refl) (λ y h. absurd h)
         (walks_held w _ p (Latch x) None x (goes_to x level level ∷ []) (key < unbounded) sure.stage sure.said does.changes.1.at (open_live know w g p x sure.goes.0.may told) sure.goes sure.sound)
 
-    pub miss_turn : (x : ℕ) (s : State Page) → know (w.proc p) ≡ know_approach level key (Latching x) → know b ≡ know_approach level key (At x) → level ≤ 12 → Does w.now p Miss s → Turned know w p Miss s b
-    miss_turn x s before then low does =
+    pub miss_turn : {what : Missed} (x : ℕ) (s : State Page) → know (w.proc p) ≡ know_approach level key (Latching x) → know b ≡ know_approach level key (At x) → level ≤ 12 → Does w.now p (Miss what) s → Turned know w p (Miss what) s b
+    miss_turn {what} x s before then low does =
         let sure : IsSure w p (know_approach level key (Latching x)) = rw before at (g.sure p) in
-        watched know w g p b _ _ before then Miss None None s tt tt does tt refl (λ y h. h) (λ it e. cc) (λ j. refl)
-        (walks w _ p Miss None (goes_to x level 12 ∷ []) (key < unbounded) sure.stage sure.said (wider x level level level 12 (omega arith) low sure.goes.0, tt) sure.sound)
+        watched know w g p b _ _ before then (Miss what) None None s tt tt does tt refl (λ y h. h) (λ it e. cc) (λ j. refl)
+        (walks w _ p (Miss what) None (goes_to x level 12 ∷ []) (key < unbounded) sure.stage sure.said (wider x level level level 12 (omega arith) low sure.goes.0, tt) sure.sound)
 
     pub leave_turn : (x : ℕ) (to : Option ℕ) (c : Page) (o : Step) (s : State Page) → know (w.proc p) ≡ know_approach level key (Latched x) → know b ≡ know_approach level key (Leaving x to) → c ≡ w.now.contents x → Leads c key level o → Quits o to → Does w.now p (Get x) s → Turned know w p (Get x) s b
     leave_turn x None c o s before then told l q does =

@@ -2,6 +2,7 @@
 use Rattle.std.proofs.Common.{ℕ, ◌≡◌, ◌≢◌, ◌<◌, ◌++◌, false, Option, Some, None, List, [], ◌∷◌, length, arith, ap, sym, ◌∙◌, refl, subst, inl, inr}
 use Rattle.std.proofs.lemmas.Bool.{cases_eq, false≢true}
 use Rattle.bl_page.specs.declared.page.Page.{Page}
+use Rattle.bl_page.specs.declared.machine.Missed.{Missed}
 use Rattle.bl_page.specs.Machine.{Name, State, Act}
 use Rattle.bl_page.specs.Machine.Owner.{Released}
 use Rattle.bl_page.specs.Machine.Act.{Put, Take, Miss}
@@ -170,13 +171,13 @@ module _ {P : Type 0} (know : P → Know) (w : World P) (g : IsGood know w) (p :
       }
 
   -- there is no room, and the page stays as it is
-  pub refuse_turn : (x : ℕ) (c : Page) (kids : List Child) (S : Type 0) (s : State Page) → know (w.proc p) ≡ record (idle Stage.Busy) { holds = holds_known x c ∷ []; children = kids; sound = S } → know b ≡ know_change aim got (Opening x outcome.Refused) → IsDue aim c → Does w.now p Miss s → Turned know w p Miss s b
-  refuse_turn x c kids S s before then due does =
+  pub refuse_turn : {what : Missed} (x : ℕ) (c : Page) (kids : List Child) (S : Type 0) (s : State Page) → know (w.proc p) ≡ record (idle Stage.Busy) { holds = holds_known x c ∷ []; children = kids; sound = S } → know b ≡ know_change aim got (Opening x outcome.Refused) → IsDue aim c → Does w.now p (Miss what) s → Turned know w p (Miss what) s b
+  refuse_turn {what} x c kids S s before then due does =
       let is : IsSure w p (record (idle Stage.Busy) { holds = holds_known x c ∷ []; children = kids; sound = S }) = rw before at (g.sure p) in
       let held = is.holds.0 in
-      let m : Mark = record { event = record { process = p; act = Miss }; saw = None; said = aim.said outcome.Refused } in
+      let m : Mark = record { event = record { process = p; act = Miss what }; saw = None; said = aim.said outcome.Refused } in
       let here : IsDue aim (w.now.contents x) = rw (← held.page) at due in
-      watched know w g p b _ _ before then Miss None (aim.said outcome.Refused) s tt tt does tt refl (λ y h. h) (λ it e. (is.stage, is.said))
+      watched know w g p b _ _ before then (Miss what) None (aim.said outcome.Refused) s tt tt does tt refl (λ y h. h) (λ it e. (is.stage, is.said))
       (refused_maps know w aim x g fine held.status here)
       (record {
         stage = is.stage;

@@ -1,6 +1,7 @@
 -- Turns of a compression that put nothing keep a world good.
 use Rattle.std.proofs.Common.{ℕ, suc, ◌≡◌, ◌≢◌, ◌<◌, Some, None, arith, ap, sym, ◌∙◌, refl, inl, inr}
 use Rattle.bl_page.specs.declared.page.Page.{Page}
+use Rattle.bl_page.specs.declared.machine.Missed.{Missed}
 use Rattle.bl_page.specs.Machine.{Name, Owner, State, Act}
 use Rattle.bl_page.specs.Machine.Owner.{Held}
 use Rattle.bl_page.specs.Machine.Act.{Get, Latch, Miss}
@@ -62,13 +63,13 @@ module _ {P : Type 0} (know : P → Know) (w : World P) (g : IsGood know w) (p :
       })
 
   -- a latch of a child is missed, and tried again
-  pub miss_left_turn : (f : Family) (s : State Page) → know (w.proc p) ≡ know_compression level key got at new (LatchingLeft f) → know b ≡ know_compression level key got at new (LatchingLeft f) → Does w.now p Miss s → Turned know w p Miss s b
-  miss_left_turn f s before then does =
+  pub miss_left_turn : {what : Missed} (f : Family) (s : State Page) → know (w.proc p) ≡ know_compression level key got at new (LatchingLeft f) → know b ≡ know_compression level key got at new (LatchingLeft f) → Does w.now p (Miss what) s → Turned know w p (Miss what) s b
+  miss_left_turn {what} f s before then does =
       let is : IsSure w p (know_compression level key got at new (LatchingLeft f)) = rw before at (g.sure p) in
-      watched know w g p b _ _ before then Miss None None s tt tt does tt refl (λ y h. h) (λ it e. cc) (λ j. refl)
+      watched know w g p b _ _ before then (Miss what) None None s tt tt does tt refl (λ y h. h) (λ it e. cc) (λ j. refl)
       (record {
         stage = is.stage;
-        said = HasSaid-silent w.trail (silent p Miss) p None refl is.said;
+        said = HasSaid-silent w.trail (silent p (Miss what)) p None refl is.said;
         holds = ((does.changes.1 f.at.parent ∙ is.holds.0.owner, is.holds.0.status, tt, is.holds.0.page), tt);
         goes = is.goes;
         children = tt;
@@ -77,13 +78,13 @@ module _ {P : Type 0} (know : P → Know) (w : World P) (g : IsGood know w) (p :
         log = tt;
       })
 
-  pub miss_right_turn : (f : Family) (c : Page) (s : State Page) → know (w.proc p) ≡ know_compression level key got at new (LatchingRight f c) → know b ≡ know_compression level key got at new (LatchingRight f c) → Does w.now p Miss s → Turned know w p Miss s b
-  miss_right_turn f c s before then does =
+  pub miss_right_turn : {what : Missed} (f : Family) (c : Page) (s : State Page) → know (w.proc p) ≡ know_compression level key got at new (LatchingRight f c) → know b ≡ know_compression level key got at new (LatchingRight f c) → Does w.now p (Miss what) s → Turned know w p (Miss what) s b
+  miss_right_turn {what} f c s before then does =
       let is : IsSure w p (know_compression level key got at new (LatchingRight f c)) = rw before at (g.sure p) in
-      watched know w g p b _ _ before then Miss None None s tt tt does tt refl (λ y h. h) (λ it e. cc) (λ j. refl)
+      watched know w g p b _ _ before then (Miss what) None None s tt tt does tt refl (λ y h. h) (λ it e. cc) (λ j. refl)
       (record {
         stage = is.stage;
-        said = HasSaid-silent w.trail (silent p Miss) p None refl is.said;
+        said = HasSaid-silent w.trail (silent p (Miss what)) p None refl is.said;
         holds = ((does.changes.1 f.at.parent ∙ is.holds.0.owner, is.holds.0.status, tt, is.holds.0.page), ((does.changes.1 f.at.left ∙ is.holds.1.0.owner, is.holds.1.0.status, tt, is.holds.1.0.page), tt));
         goes = is.goes;
         children = tt;
@@ -153,13 +154,13 @@ module _ {P : Type 0} (know : P → Know) (w : World P) (g : IsGood know w) (p :
       })
 
   -- the reservation is refused
-  pub refuse_turn : (u : Puts) (fate : Fate) (s : State Page) → know (w.proc p) ≡ know_compression level key got at new (PuttingFirst u) → know b ≡ know_compression level key got at new (OpeningRight u.at fate) → Does w.now p Miss s → Turned know w p Miss s b
-  refuse_turn u fate s before then does =
+  pub refuse_turn : {what : Missed} (u : Puts) (fate : Fate) (s : State Page) → know (w.proc p) ≡ know_compression level key got at new (PuttingFirst u) → know b ≡ know_compression level key got at new (OpeningRight u.at fate) → Does w.now p (Miss what) s → Turned know w p (Miss what) s b
+  refuse_turn {what} u fate s before then does =
       let is : IsSure w p (know_compression level key got at new (PuttingFirst u)) = rw before at (g.sure p) in
-      watched know w g p b _ _ before then Miss None None s tt tt does tt refl (λ z h. h) (λ it e. cc) (λ j. refl)
+      watched know w g p b _ _ before then (Miss what) None None s tt tt does tt refl (λ z h. h) (λ it e. cc) (λ j. refl)
       (record {
         stage = is.stage;
-        said = HasSaid-silent w.trail (silent p Miss) p None refl is.said;
+        said = HasSaid-silent w.trail (silent p (Miss what)) p None refl is.said;
         holds = ((does.changes.1 u.at.parent ∙ is.holds.0.owner, is.holds.0.status, tt, tt), ((does.changes.1 u.at.left ∙ is.holds.1.0.owner, is.holds.1.0.status, tt, tt), ((does.changes.1 u.at.right ∙ is.holds.1.1.0.owner, is.holds.1.1.0.status, tt, tt), tt)));
         goes = tt;
         children = tt;

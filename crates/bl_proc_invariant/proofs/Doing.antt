@@ -3,6 +3,8 @@ use Rattle.std.proofs.Common.{ℕ, ◌≡◌, ◌⊎◌, ◌<◌, ◌++◌, List
 use Rattle.bl_model.specs.declared.operation.Reply.{Reply}
 use Rattle.bl_page.specs.declared.page.Page.{Page}
 use Rattle.bl_page.specs.declared.page.Page.TheVariants.{Inner as InnerPage}
+use Rattle.bl_page.specs.declared.machine.Missed.{Missed}
+use Rattle.bl_page.specs.declared.machine.Missed.TheVariants as missed
 use Rattle.bl_page.specs.Machine.{Act}
 use Rattle.bl_page.specs.Machine.Act.{Get, Put, Latch, Retire, Miss}
 use Rattle.bl_claims.specs.Pages.{node_of}
@@ -65,7 +67,7 @@ among_done (Act.Open x) rest = refl
 among_done (Retire x) rest = refl
 among_done (Act.Look what) rest = refl
 among_done (Act.Release x) rest = refl
-among_done Miss rest = refl
+among_done (Miss what) rest = refl
 
 writes_of-acts : (ms : Trail) → writes_of ms ≡ writes_among (acts_of ms)
 writes_of-acts [] = refl
@@ -88,7 +90,7 @@ put_event : (sd : Side) (u : Puts) → event_of None (put_of sd u) seen.Done ≡
 put_event side.Left u = refl
 put_event side.Right u = refl
 
-refused_event : (sd : Side) (u : Puts) → event_of None (put_of sd u) seen.Refused ≡ Miss
+refused_event : (sd : Side) (u : Puts) → event_of None (put_of sd u) seen.Refused ≡ Miss missed.Reservation
 refused_event side.Left u = refl
 refused_event side.Right u = refl
 
@@ -226,7 +228,7 @@ module _ (ms : Trail) (m : Mark) where
     squeeze_on (SqueezeCase.MissRight f c d t) did saw h = subst (λ z. squeeze_log level key z more) (sym t) (left_on [] (ap acts_in did) h)
     squeeze_on (SqueezeCase.GotRight f c e d t) did saw h = decides_on f c e d t did (saw f.at.right e did refl) h
     squeeze_on (SqueezeCase.PutFirst u d t) did saw h = subst (λ z. squeeze_log level key z more) (sym t) (puts_on (put_act u.gains u ∷ []) (ap acts_in (did ∙ put_event u.gains u) ∙ act_put u.gains u) h)
-    squeeze_on (SqueezeCase.FirstRefused u d t) did saw h = subst (λ z. squeeze_log level key z more) (sym t) (once_now (record { until = ms; mark = m; split = refl; miss = did ∙ refused_event u.gains u; puts = u; is = h }))
+    squeeze_on (SqueezeCase.FirstRefused u d t) did saw h = subst (λ z. squeeze_log level key z more) (sym t) (once_now (record { until = ms; mark = m; split = refl; refused = did ∙ refused_event u.gains u; puts = u; is = h }))
     squeeze_on (SqueezeCase.PutParent u d t) did saw h = subst (λ z. squeeze_log level key z more) (sym t) (puts_on (Put u.at.parent u.parent ∷ []) (ap acts_in did) h)
     squeeze_on (SqueezeCase.PutLast u d t) did saw h = subst (λ z. squeeze_log level key z more) (sym t) (last_on u (puts_on (put_act (other u.gains) u ∷ []) (ap acts_in (did ∙ put_event (other u.gains) u) ∙ act_put (other u.gains) u) h))
     squeeze_on (SqueezeCase.Retired at ended d t) did saw h = subst (λ z. squeeze_log level key z more) (sym t) (retired_on at ended did h)
@@ -298,7 +300,7 @@ module _ (ms : Trail) (m : Mark) where
       compress_on (CompressCase.Ended r last t) did saw h = subst (λ z. pressed_log level key z more) (sym t) (pressed_on r (ap writes_in did) h)
 
   -- a miss that is of no turn of its own changes nothing
-  module _ (level key : ℕ) (did : m.event.act ≡ Miss) where
+  module _ {what : Missed} (level key : ℕ) (did : m.event.act ≡ Miss what) where
     squeeze_stays : (c : Compression) → squeeze_log level key c ms → squeeze_log level key c more
     squeeze_stays (LatchingLeft f) h = family_on [] (ap acts_in did) h
     squeeze_stays (LatchedLeft f) h = family_on [] (ap acts_in did) h

@@ -3,6 +3,7 @@ use Rattle.std.proofs.Common.{ℕ, ◌≡◌, ◌≢◌, ◌<◌, ◌-◌, ◌++
 use Rattle.bl_model.specs.Rows.{map_of}
 use Rattle.bl_page.specs.declared.page.Page.{Page}
 use Rattle.bl_page.specs.declared.page.Page.TheVariants.{Anchor, Leaf, Inner, Dead}
+use Rattle.bl_page.specs.declared.machine.Missed.{Missed}
 use Rattle.bl_page.specs.Machine.{Name, Owner, State, Act, IsAt}
 use Rattle.bl_page.specs.Machine.Owner.{Released, Held}
 use Rattle.bl_page.specs.Machine.Act.{Get, Put, Take, Latch, Miss}
@@ -99,11 +100,11 @@ module _ {P : Type 0} (know : P → Know) (w : World P) (g : IsGood know w) (p :
       latched know w g p b _ _ before then 0 s told does refl (inl refl) (λ y h. absurd h)
       (holds_anchor w _ p (Latch 0) None None _ is.stage is.said does.changes.1.at g.tree.anchored tt is.sound)
 
-  miss_turn : (got : ℕ → Page) (s : State Page) → know (w.proc p) ≡ know_growth level key got growth.Latching → know b ≡ know_growth level key got growth.Latching → Does w.now p Miss s → Turned know w p Miss s b
-  miss_turn got s before then does =
+  miss_turn : {what : Missed} (got : ℕ → Page) (s : State Page) → know (w.proc p) ≡ know_growth level key got growth.Latching → know b ≡ know_growth level key got growth.Latching → Does w.now p (Miss what) s → Turned know w p (Miss what) s b
+  miss_turn {what} got s before then does =
       let is : IsSure w p (know_growth level key got growth.Latching) = rw before at (g.sure p) in
-      watched know w g p b _ _ before then Miss None None s tt tt does tt refl (λ y h. h) (λ it e. cc) (λ j. refl)
-      (walks w _ p Miss None [] (key < unbounded) is.stage is.said tt is.sound)
+      watched know w g p b _ _ before then (Miss what) None None s tt tt does tt refl (λ y h. h) (λ it e. cc) (λ j. refl)
+      (walks w _ p (Miss what) None [] (key < unbounded) is.stage is.said tt is.sound)
 
   -- the anchor is got under its latch
   grown_turn : (got got' : ℕ → Page) (s : State Page) → know (w.proc p) ≡ know_growth level key got growth.Latched → know b ≡ know_growth level key got' growth.OpeningGrown → Does w.now p (Get 0) s → Turned know w p (Get 0) s b
@@ -120,11 +121,11 @@ module _ {P : Type 0} (know : P → Know) (w : World P) (g : IsGood know w) (p :
       (holds_anchor w _ p (Get 0) (Some (w.now.contents 0)) (Some (Anchor rise.anchor)) _ is.stage is.said (does.changes.1 0 ∙ is.holds.0.owner) is.holds.0.status (sym told ∙ is_anchor)
       (is.sound, record { anchor = refl; levels = count; room = (let r = rise.room in omega (arith, count)) }, is_anchor))
 
-  refuse_turn : (got : ℕ → Page) (rise : Rise) (s : State Page) → know (w.proc p) ≡ know_growth level key got (growth.Taking rise) → know b ≡ know_growth level key got growth.OpeningRefused → Does w.now p Miss s → Turned know w p Miss s b
-  refuse_turn got rise s before then does =
+  refuse_turn : {what : Missed} (got : ℕ → Page) (rise : Rise) (s : State Page) → know (w.proc p) ≡ know_growth level key got (growth.Taking rise) → know b ≡ know_growth level key got growth.OpeningRefused → Does w.now p (Miss what) s → Turned know w p (Miss what) s b
+  refuse_turn {what} got rise s before then does =
       let is : IsSure w p (know_growth level key got (growth.Taking rise)) = rw before at (g.sure p) in
-      watched know w g p b _ _ before then Miss None None s tt tt does tt refl (λ y h. h) (λ it e. cc) (λ j. refl)
-      (holds_anchor w _ p Miss None None _ is.stage is.said (does.changes.1 0 ∙ is.holds.0.owner) is.holds.0.status tt tt)
+      watched know w g p b _ _ before then (Miss what) None None s tt tt does tt refl (λ y h. h) (λ it e. cc) (λ j. refl)
+      (holds_anchor w _ p (Miss what) None None _ is.stage is.said (does.changes.1 0 ∙ is.holds.0.owner) is.holds.0.status tt tt)
 
   take_turn : (got : ℕ → Page) (rise : Rise) (y : ℕ) (r : Raising) (s : State Page) → know (w.proc p) ≡ know_growth level key got (growth.Taking rise) → know b ≡ know_growth level key got (growth.PuttingTop r) → w.now.owner y ≡ Released → y < w.size → (r.new ≡ y) → Raises rise.anchor.leftmost.items y r.top r.anchor → Does w.now p (Take y) s → Turned know w p (Take y) s b
   take_turn got rise y r s before then free within new raises does =

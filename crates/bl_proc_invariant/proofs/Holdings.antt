@@ -5,6 +5,7 @@ use Rattle.std.proofs.lemmas.Bool.{cases_eq, cases_lt}
 use Rattle.std.proofs.lemmas.List.Elements.{Contains-push, Contains-push_cases}
 use Rattle.bl_page.specs.declared.page.Page.{Page}
 use Rattle.bl_page.specs.declared.page.Page.TheVariants.{Anchor, Leaf, Inner, Dead}
+use Rattle.bl_page.specs.declared.machine.Missed.TheVariants as missed
 use Rattle.bl_page.specs.Machine.{Act}
 use Rattle.bl_page.specs.Machine.Act.{Get, Latch, Miss}
 use Rattle.bl_rearrange.specs.declared.fitted.Fitted.TheVariants.{Split}
@@ -76,7 +77,7 @@ module _ (ms : Trail) (m : Mark) where
   }
 
   -- a reservation was refused while the page was held
-  pub refused_while : {level x : ℕ} → m.event.act ≡ Miss → Holding level ms x [] → MeansNoRoom level (ms ++ m ∷ [])
+  pub refused_while : {level x : ℕ} → m.event.act ≡ Miss missed.Reservation → Holding level ms x [] → MeansNoRoom level (ms ++ m ∷ [])
   refused_while {level} {x} act h = record {
     at = x;
     under = record {
@@ -95,7 +96,7 @@ module _ (ms : Trail) (m : Mark) where
     none = refl;
     mark = m;
     is = Contains-push h.during m;
-    miss = act;
+    refused = act;
   }
 
 -- while the page is held

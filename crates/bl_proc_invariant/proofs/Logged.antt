@@ -3,6 +3,7 @@
 use Rattle.std.proofs.Common.{ℕ, ◌≡◌, ◌++◌, Option, Some, None, [], ◌∷◌, ap, sym, ◌∙◌, refl, subst, inl, inr}
 use Rattle.bl_model.specs.declared.operation.Reply.{Reply}
 use Rattle.bl_page.specs.declared.page.Page.{Page}
+use Rattle.bl_page.specs.declared.machine.Missed.{Missed}
 use Rattle.bl_page.specs.Machine.{Name, State, Act}
 use Rattle.bl_page.specs.Machine.Act.{Get, Miss}
 use Rattle.bl_claims.specs.Trails.{Mark, Trail, Saw, marks_of}
@@ -234,7 +235,7 @@ log_turn (Compress a) (Part c) what marks m t did saw h = tt
 log_turn (Compress a) (Reclaim c) what marks m t did saw h = tt
 log_turn old new what marks m t did saw h = absurd t
 
-log_stays : (old : Proc) (marks : Trail) (m : Mark) → m.event.act ≡ Miss → proc_log old marks → proc_log old (marks ++ m ∷ [])
+log_stays : {what : Missed} (old : Proc) (marks : Trail) (m : Mark) → m.event.act ≡ Miss what → proc_log old marks → proc_log old (marks ++ m ∷ [])
 log_stays (Find a) marks m did h = tt
 log_stays (Insert a) marks m did h = insert_stays marks m (λ x l. (let e = sym did ∙ l in cc)) (ap put_in did) a.stage h
 log_stays (Delete a) marks m did h = delete_stays marks m (λ x l. (let e = sym did ∙ l in cc)) (ap put_in did) a.stage h
@@ -268,7 +269,7 @@ with_logs w p a new what s did is g t told same turned =
     (λ x c e f. ap (λ z. z.saw) mark ∙ saw_words (end_of_proc a.state) w.now w.size turned.saw (next_of a.state) what told seen_it x c (sym (ap (λ z. z.event.act) mark ∙ same) ∙ e) f)
     (subst (λ r. proc_log r.state marks) is (subst (proc_log (w.proc p).state) (sym here) (g.sure p).log))))
 
-pub with_miss : (w : World Run) (p : Name) (s : State Page) → IsGood know w → Turned bare w p Miss s (w.proc p) → Turned know w p Miss s (w.proc p)
-with_miss w p s g turned =
-    full_turned w p Miss s (w.proc p) turned (logs_after w p Miss s (w.proc p) turned g (λ marks m here mark.
+pub with_miss : (w : World Run) (p : Name) (what : Missed) (s : State Page) → IsGood know w → Turned bare w p (Miss what) s (w.proc p) → Turned know w p (Miss what) s (w.proc p)
+with_miss w p what s g turned =
+    full_turned w p (Miss what) s (w.proc p) turned (logs_after w p (Miss what) s (w.proc p) turned g (λ marks m here mark.
     log_stays (w.proc p).state marks m (ap (λ z. z.event.act) mark) (subst (proc_log (w.proc p).state) (sym here) (g.sure p).log)))

@@ -5,6 +5,7 @@ use Rattle.std.specs.Prelude.{Contains}
 use Rattle.std.proofs.lemmas.List.Elements.{Contains-push, Contains-push_cases, Contains-append_left, Contains-append_right, Contains-append_cases}
 use Rattle.bl_model.specs.declared.operation.Reply.{Reply}
 use Rattle.bl_page.specs.declared.page.Page.{Page}
+use Rattle.bl_page.specs.declared.machine.Missed.{Missed}
 use Rattle.bl_page.specs.Machine.{Name, Act}
 use Rattle.bl_page.specs.Machine.Phase.{Running}
 use Rattle.bl_page.specs.Machine.Act.{Begin, End, Get, Put, Take, Latch, Retire, Look, Release, Miss}
@@ -28,7 +29,7 @@ use Rattle.bl_proc_invariant.specs.Knowing.{Run, know_of, know_compress, bare}
 use Rattle.bl_proc_invariant.proofs.Plain.{of_middle}
 
 -- all but a miss is done
-acts_cases : (a : Act Page Reply) → (a ≡ Miss) ⊎ (acts_in a ≡ a ∷ [])
+acts_cases : (a : Act Page Reply) → ((what : Missed) × (a ≡ Miss what)) ⊎ (acts_in a ≡ a ∷ [])
 acts_cases Begin = inr refl
 acts_cases (End answer) = inr refl
 acts_cases (Get x) = inr refl
@@ -39,7 +40,7 @@ acts_cases (Act.Open x) = inr refl
 acts_cases (Retire x) = inr refl
 acts_cases (Look what) = inr refl
 acts_cases (Release x) = inr refl
-acts_cases Miss = inl refl
+acts_cases (Miss what) = inl (what, refl)
 
 cons_cases : {A : Type 0} (a : A) (xs : List A) (v : A) → Contains (a ∷ xs) v → (a ≡ v) ⊎ Contains xs v
 cons_cases a xs v c = elim (Contains-append_cases (a ∷ []) xs v c) [
@@ -51,14 +52,14 @@ head_in : {A : Type 0} (a : A) (xs : List A) → Contains (a ∷ xs) a
 head_in a xs = Contains-append_left (a ∷ []) xs a (Contains-push [] a)
 
 -- what a mark tells is among what was done
-among : (ms : Trail) (m : Mark) (a : Act Page Reply) → Contains ms m → m.event.act ≡ a → a ≢ Miss → Contains (acts_of ms) a
+among : (ms : Trail) (m : Mark) (a : Act Page Reply) → Contains ms m → m.event.act ≡ a → ((what : Missed) → a ≢ Miss what) → Contains (acts_of ms) a
 among [] m a c e n = absurd (omega (arith, c.1))
 among (o ∷ ms) m a c e n = elim (cons_cases o ms m c) [
   | inr i ↦ Contains-append_right (acts_in o.event.act) (acts_of ms) a (among ms m a i e n)
   | inl i ↦
       let same : o.event.act ≡ a = ap (λ z. z.event.act) i ∙ e in
       elim (acts_cases o.event.act) [
-        | inl miss ↦ absurd (n (sym same ∙ miss))
+        | inl miss ↦ absurd (n miss.0 (sym same ∙ miss.1))
         | inr one ↦ Contains-append_left (acts_in o.event.act) (acts_of ms) a (subst (λ z. Contains z a) (sym (one ∙ ap (λ z. z ∷ []) same)) (head_in a []))
       ]
 ]
@@ -133,7 +134,7 @@ module _ (u : Puts) (three : AreThree u.at) (tail : List (Act Page Reply)) (pare
 
   not_yet : (rest : Trail) (sd : Side) → acts_of rest ≡ Get u.at.right ∷ put_act sd u ∷ tail → PutsPage rest (lost sd) → ⊥
   not_yet rest sd e h =
-      let c = subst (λ z. Contains z (Put (lost sd) h.page)) e (among rest h.mark (Put (lost sd) h.page) h.is h.act (λ i. cc)) in
+      let c = subst (λ z. Contains z (Put (lost sd) h.page)) e (among rest h.mark (Put (lost sd) h.page) h.is h.act (λ what i. cc)) in
       elim (cons_cases (Get u.at.right) (put_act sd u ∷ tail) (Put (lost sd) h.page) c) [
         | inl i ↦ cc
         | inr i ↦ elim (cons_cases (put_act sd u) tail (Put (lost sd) h.page) i) [
@@ -165,7 +166,7 @@ module _ (u : Puts) (three : AreThree u.at) (tail : List (Act Page Reply)) (pare
           since = r.rest;
           split = h.split ∙ (ap (λ z. h.before ++ h.latch ∷ z) r.split ∙ sym (append_assoc h.before (h.latch ∷ r.before) (r.mark ∷ r.rest)));
           is = (u.at.right, r.is);
-          never_again = λ m c l. no_latch u.gains l.0 (subst (λ z. Contains z (Latch l.0)) r.after (among r.rest m (Latch l.0) c l.1 (λ i. cc)));
+          never_again = λ m c l. no_latch u.gains l.0 (subst (λ z. Contains z (Latch l.0)) r.after (among r.rest m (Latch l.0) c l.1 (λ what i. cc)));
         };
         put_one = half r.rest u.gains r.after;
       }

@@ -4,6 +4,7 @@ use Rattle.std.proofs.Common.{ℕ, ◌≡◌, ◌≢◌, ◌<◌, ◌≤◌, tru
 use Rattle.std.proofs.lemmas.Bool.{cases_eq, cases_lt}
 use Rattle.bl_model.specs.declared.operation.Reply.{Reply}
 use Rattle.bl_page.specs.declared.page.Page.{Page}
+use Rattle.bl_page.specs.declared.machine.Missed.TheVariants as missed
 use Rattle.bl_page.specs.Machine.{Name, State, Act, Enabled}
 use Rattle.bl_page.specs.Machine.Act.{Look, Release, Miss}
 use Rattle.bl_page.specs.Machine.Looked.{Process, Page as OfPage}
@@ -138,4 +139,4 @@ module _ {P : Type 0} (know : P → Know) (w : World P) (g : IsGood know w) (p :
       watch_turn _ None (Look (Process (numbered r.next))) s tt tt tt does before then tt
   reclaim_turn time (ReclaimCase.Done k t) s before then shown does = release_turn time s before then shown does
   reclaim_turn time (ReclaimCase.Missed k t) s before then shown does =
-      watch_turn _ None Miss s tt tt tt does before then tt
+      watch_turn _ None (Miss (missed.Release page)) s tt tt tt does before then tt

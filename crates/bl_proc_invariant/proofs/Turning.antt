@@ -1,5 +1,6 @@
 -- Every turn of every process keeps a world good, and the world after it is given.
 use Rattle.std.proofs.Common.{ℕ, ◌≡◌, ◌++◌, None, [], ◌∷◌, ap, ◌∙◌, refl, subst}
+use Rattle.bl_page.specs.declared.machine.Missed.{Missed}
 use Rattle.bl_page.specs.Machine.{Name, State}
 use Rattle.bl_page.specs.Machine.Act.{Miss}
 use Rattle.bl_page.specs.declared.page.Page.{Page}
@@ -48,11 +49,11 @@ pub bare_turn : (w : World Run) (p : Name) (a : Run) (new : Proc) (what : Seen) 
 bare_turn w p a new what s is g t told shown does = state_turn w p a.got a.child a.time a.state new (run_next w.now a what new) what s g (ap bare is) refl t told shown does
 
 -- A turn that is not fit is a miss, and changes nothing.
-pub bare_idle_turn : (w : World Run) (p : Name) (s : State Page) → IsGood bare w → Does w.now p Miss s → Turned bare w p Miss s (w.proc p)
-bare_idle_turn w p s g does =
+pub bare_idle_turn : (w : World Run) (p : Name) (what : Missed) (s : State Page) → IsGood bare w → Does w.now p (Miss what) s → Turned bare w p (Miss what) s (w.proc p)
+bare_idle_turn w p what s g does =
     let is = g.sure p in
-    let m : Mark = silent p Miss in
-    watched bare w g p (w.proc p) _ _ refl refl Miss None None s tt tt does tt refl (λ x h. h) (λ it e. cc) (λ k. refl)
+    let m : Mark = silent p (Miss what) in
+    watched bare w g p (w.proc p) _ _ refl refl (Miss what) None None s tt tt does tt refl (λ x h. h) (λ it e. cc) (λ k. refl)
     (record {
       stage = is.stage;
       said = HasSaid-silent w.trail m p (bare (w.proc p)).said refl is.said;
@@ -68,5 +69,5 @@ bare_idle_turn w p s g does =
 pub turn : (w : World Run) (p : Name) (a : Run) (new : Proc) (what : Seen) (s : State Page) → w.proc p ≡ a → IsGood know w → Takes a.state what new → IsTold w.now w.size (next_of a.state) what → IsShown w.now p a.time (next_of a.state) what → Does w.now p (event_of (end_of_proc a.state) (next_of a.state) what) s → Turned know w p (event_of (end_of_proc a.state) (next_of a.state) what) s (run_next w.now a what new)
 turn w p a new what s is g t told shown does = with_logs w p a new what s _ is g t told refl (bare_turn w p a new what s is (bare_good w g) t told shown does)
 
-pub idle_turn : (w : World Run) (p : Name) (s : State Page) → IsGood know w → Does w.now p Miss s → Turned know w p Miss s (w.proc p)
-idle_turn w p s g does = with_miss w p s g (bare_idle_turn w p s (bare_good w g) does)
+pub idle_turn : (w : World Run) (p : Name) (what : Missed) (s : State Page) → IsGood know w → Does w.now p (Miss what) s → Turned know w p (Miss what) s (w.proc p)
+idle_turn w p what s g does = with_miss w p what s g (bare_idle_turn w p what s (bare_good w g) does)

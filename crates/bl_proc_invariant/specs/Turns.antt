@@ -2,6 +2,8 @@
 use Rattle.std.specs.Prelude.{◌≡◌, ℕ, ◌<◌, ◌≤◌, Bool, true, false, Option}
 use Rattle.bl_model.specs.declared.operation.Reply.{Reply}
 use Rattle.bl_page.specs.declared.page.Page.{Page}
+use Rattle.bl_page.specs.declared.machine.Missed.{Missed}
+use Rattle.bl_page.specs.declared.machine.Missed.TheVariants as missed
 use Rattle.bl_page.specs.Machine.{Name, Owner, State, Act, Changes}
 use Rattle.bl_page.specs.Machine.Owner.{Released, Retired}
 use Rattle.bl_page.specs.Machine.Phase.{Running}
@@ -18,6 +20,13 @@ use Rattle.bl_proc_base.specs.declared.acts.Seen.TheVariants as seen
 abbrev pub numbered : ℕ → Name
 numbered number = record { pass = number; number = 0 }
 
+-- what was missed, where an action gave no more than that
+abbrev pub missed_by : Action → Seen → Missed
+missed_by action seen.Refused = missed.Reservation
+missed_by (act.Latch x) what = missed.Latch x
+missed_by (act.Release x) what = missed.Release x
+missed_by action what = missed.Turn
+
 -- The event of an action that gave this. An end carries the reply of the operation, if the process has one.
 abbrev pub event_of : Option Reply → Action → Seen → Act Page Reply
 event_of reply act.Begin seen.Done = Begin
@@ -31,7 +40,7 @@ event_of reply (act.Retire x) seen.Done = Retire x
 event_of reply (act.Look q) (seen.Blocks blocks) = Look (Process (numbered q))
 event_of reply (act.See x) (seen.Owner retired started own) = Look (OfPage x)
 event_of reply (act.Release x) seen.Done = Release x
-event_of reply action what = Miss
+event_of reply action what = Miss (missed_by action what)
 
 -- What it was told is true of the pages. Whether a page may be got, put or opened is not asked: the process knows it.
 abbrev pub IsTold : State Page → ℕ → Action → Seen → Type 0

@@ -5,6 +5,7 @@ use Rattle.bl_page.specs.declared.page.Page.{Page}
 use Rattle.bl_page.specs.declared.page.Page.TheVariants.{Inner}
 use Rattle.bl_page.specs.Machine.{Act}
 use Rattle.bl_page.specs.Machine.Act.{Get, Put, Latch, Retire, Miss}
+use Rattle.bl_page.specs.declared.machine.Missed.TheVariants as missed
 use Rattle.bl_claims.specs.Nodes.{Covers}
 use Rattle.bl_claims.specs.Pages.{node_of, roots_of}
 use Rattle.bl_rearrange.specs.declared.sides.Side.{Side}
@@ -24,7 +25,7 @@ use Rattle.bl_proc_compress.specs.Compressions.{AreSiblings, Links, Decides, oth
 
 -- what was done, in its order; what was missed is left out
 abbrev pub acts_in : Act Page Reply → List (Act Page Reply)
-acts_in Miss = []
+acts_in (Miss what) = []
 acts_in act = act ∷ []
 
 abbrev pub acts_of : Trail → List (Act Page Reply)
@@ -139,18 +140,17 @@ pub record HasOneChild (level key : ℕ) (marks : Trail) : Type 0 where
 abbrev pub MeansAlone : ℕ → ℕ → Trail → Type 0
 MeansAlone level key marks = Once marks (λ ms. HasNoLevel level ms ⊎ HasOneChild level key ms)
 
--- NoRoom: what was to be put was decided, and the next that the process did was to miss something. It latches no page then,
--- so what it missed is what it was to reserve, or a turn that was not fit.
-pub record HasMissed (level key : ℕ) (marks : Trail) : Type 0 where
+-- NoRoom: what was to be put was decided, and next a reservation was refused.
+pub record LacksPlace (level key : ℕ) (marks : Trail) : Type 0 where
   pub until : Trail
   pub mark : Mark
   pub split : marks ≡ until ++ mark ∷ []
-  pub miss : mark.event.act ≡ Miss
+  pub refused : mark.event.act ≡ Miss missed.Reservation
   pub puts : Puts
   pub is : IsToSqueeze level key until puts (to_right puts.at)
 
 abbrev pub MeansNoPlace : ℕ → ℕ → Trail → Type 0
-MeansNoPlace level key marks = Once marks (HasMissed level key)
+MeansNoPlace level key marks = Once marks (LacksPlace level key)
 
 -- What each answer means with the hint beside it. Merged alone may have one or not, and Unposted has one.
 abbrev pub MeansSqueezed : ℕ → ℕ → Squeezed → Option Hint → Trail → Type 0

@@ -163,7 +163,7 @@ tied D = record {
     changes = ((λ y. refl), owner_at ended s.owners x (Retired time) Released page.1, stays ended s (told (owned s x Released) n st d') n st d d' at refl);
     on = le_refl s.clock;
   };
-  misses = λ ended s n st d d' at. record {
+  misses = λ ended s n what st d d' at. record {
     enabled = tt;
     changes = ((λ y. refl), (λ y. refl), stays ended s (told s n st d') n st d d' at refl);
     on = le_refl s.clock;

@@ -2,6 +2,7 @@
 use Rattle.std.specs.Prelude.{◌≢◌, ℕ, ◌+◌, ◌==◌, nat_lt, if◌then◌else◌, None, List, [], slice_index_or}
 use mathlib.Core.Option.{Option, none, some}
 use lib.ListN.{get_elem?}
+use Rattle.bl_page.specs.declared.machine.Missed.{Missed}
 use Rattle.bl_page.specs.Machine.{Name, Event, Steps}
 use Rattle.bl_page.specs.Machine as machine
 use Rattle.bl_store.specs.Pages.{Owner, Released, Open, Held, Retired, Stage, Idle, Running, Pages, Stands, IsPage, HoldsNone, AllBeganAfter, told, owned, written, later}
@@ -49,4 +50,4 @@ pub record IsTied (D : Type 0) : Type 0 where
   pub opens : (ended : ℕ → ℕ) (s : Pages D) (n x : ℕ) (st : Stage) (d d' : D) (words : List ℕ) → Stands s n st d → IsPage s x words (Held n) → Leads ended n (machine.Act.Open x) s ended (told (owned s x Open) n st d')
   pub retires : (ended : ℕ → ℕ) (s : Pages D) (n x : ℕ) (st : Stage) (d d' : D) (words : List ℕ) → Stands s n st d → IsPage s x words (Held n) → Leads ended n (machine.Retire x) s ended (told (later (owned s x (Retired s.clock))) n st d')
   pub releases : (ended : ℕ → ℕ) (s : Pages D) (n x time : ℕ) (st : Stage) (d d' : D) (words : List ℕ) → Stands s n st d → IsPage s x words (Retired time) → AllBeganAfter s time → Leads ended n (machine.Release x) s ended (told (owned s x Released) n st d')
-  pub misses : (ended : ℕ → ℕ) (s : Pages D) (n : ℕ) (st : Stage) (d d' : D) → Stands s n st d → Leads ended n machine.Miss s ended (told s n st d')
+  pub misses : (ended : ℕ → ℕ) (s : Pages D) (n : ℕ) (what : Missed) (st : Stage) (d d' : D) → Stands s n st d → Leads ended n (machine.Miss what) s ended (told s n st d')

@@ -4,6 +4,7 @@ use Rattle.std.proofs.lemmas.Bool.{cases_eq}
 use Rattle.std.proofs.lemmas.Option.{slice_get_within, get_or_from_slice_get}
 use Rattle.std.proofs.lemmas.List.{length-set}
 use Rattle.bl_page.specs.declared.page.Page.{Page}
+use Rattle.bl_page.specs.declared.machine.Missed.{Missed}
 use Rattle.bl_page.specs.Machine.{State, Act as MachineAct, Owner as MachineOwner}
 use Rattle.bl_page.specs.Machine.Owner.{Held as MachineHeld, Retired as MachineRetired}
 use Rattle.bl_page.specs.Machine.Phase.{Running, Ended}
@@ -191,14 +192,14 @@ miss_not_see : {x : ℕ} → shown.Miss ≡ shown.See x → ⊥
 miss_not_see {x} e = cc
 
 -- a turn that is not fit
-pub idles : (pages : List Page) (owners : List Owner) (processes : List Proc) (events : List Event) (n : ℕ) → n < length processes → (h : HasWorld pages owners processes events) → Grows h pages owners processes (events ++ record { process = suc n; act = shown.Miss } ∷ [])
-idles pages owners processes events n within h =
+pub idles : (what : Missed) (pages : List Page) (owners : List Owner) (processes : List Proc) (events : List Event) (n : ℕ) → n < length processes → (h : HasWorld pages owners processes events) → Grows h pages owners processes (events ++ record { process = suc n; act = shown.Miss } ∷ [])
+idles what pages owners processes events n within h =
     let s : State Page = record h.world.now { clock = suc h.world.now.clock } in
     turned_lists pages pages owners owners processes processes events n _ s _ h within refl refl refl
     (λ x c is. h.contents x c is) (λ x o is. h.owner x o is) (λ p is. h.runs n p is) (λ i ne. refl) refl
     (λ q is. (h.inside n q is, reclaiming_on events _ (suc n) q.page (h.world.proc (name_of (suc n))).time q.stage (λ s. miss_not_see (ap (λ z. z.act) (same_some _ _ (sym (push_new events _) ∙ s)))) (h.reclaiming n q is)))
     (λ x e. absurd cc)
-    (paced_idle h.world (name_of (suc n)) s h.good (record { changes = (λ x. refl, λ x. refl, λ q. refl); on = omega arith }))
+    (paced_idle h.world (name_of (suc n)) what s h.good (record { changes = (λ x. refl, λ x. refl, λ q. refl); on = omega arith }))
 
 -- what stands at a place within a list
 pub stands : {A : Type 0} (xs : List A) (n : ℕ) → n < length xs → (a : A) × (slice_get xs n ≡ Some a)

@@ -2,6 +2,8 @@
 use Rattle.std.proofs.Common.{ℕ, ◌≡◌, ◌+◌, ◌++◌, suc, Some, List, [], ◌∷◌, length, slice_get, slice_set, arith, ap, sym, ◌∙◌, refl, subst, inl, inr, append_assoc, append-nil}
 use Rattle.std.proofs.lemmas.Option.{slice_get_within}
 use mathlib.Core.Logic.{∥∥₁_map}
+use Rattle.bl_page.specs.declared.machine.Missed.{Missed}
+use Rattle.bl_page.specs.declared.machine.Missed.TheVariants as missed
 use Rattle.bl_page.specs.declared.page.Page.{Page}
 use Rattle.bl_proc_base.specs.declared.acts.Action.{Action}
 use Rattle.bl_proc_base.specs.declared.acts.Action.TheVariants as act
@@ -45,11 +47,11 @@ module _ (v v' : View) (n : ℕ) (p : Proc) (stood : slice_get v.processes n ≡
   puts_to : (act : Act) (what : Seen) (x : ℕ) (c : Page) → Puts v x c v' → (t : Tells v n p act what v') → Grows h (slice_set v.pages x c) v.owners (slice_set v.processes n t.new) (v.events ++ record { process = suc n; act = act } ∷ []) → GrowsTo h v'
   puts_to act what x c s t g = rw (s.0, s.1, t.processes, t.events, one_more n) g
 
-  idles_to : Idles v n v' → GrowsTo h v'
-  idles_to e =
+  idles_to : (what : Missed) → Idles v n v' → GrowsTo h v'
+  idles_to what e =
       let w : View = record v { events = v.events ++ record { process = suc n; act = shown.Miss } ∷ [] } in
       let is : v' ≡ w = rw (one_more n) at e in
-      subst (λ z. GrowsTo h z) (sym is) (idles v.pages v.owners v.processes v.events n (slice_get_within v.processes n p stood) h)
+      subst (λ z. GrowsTo h z) (sym is) (idles what v.pages v.owners v.processes v.events n (slice_get_within v.processes n p stood) h)
 
   carries_to : (action : Action) → next_of p ≡ action → Carries v n p action v' → GrowsTo h v'
   carries_to act.Begin next c = stays_to _ _ c.0 c.1 (begins v.pages v.owners v.processes v.events n p c.1.new stood next c.1.takes h)
@@ -77,12 +79,12 @@ module _ (v v' : View) (n : ℕ) (p : Proc) (stood : slice_get v.processes n ≡
   refuses_to old next r s t = absurd r
 
   at_to : (t : Turn) → TurnsAt v n p t v' → GrowsTo h v'
-  at_to (turn.Step number) does = elim does [ inl d ↦ carries_to (next_of p) refl d.1 | inr d ↦ idles_to d.1 ]
+  at_to (turn.Step number) does = elim does [ inl d ↦ carries_to (next_of p) refl d.1 | inr d ↦ idles_to missed.Turn d.1 ]
   at_to (turn.Take number x) does = elim does [
     | inl d ↦ owns_to _ _ x (own.Held (suc n)) (d.2.0, rw (one_more n) at d.2.1) d.3 (takes_page v.pages v.owners v.processes v.events n p d.3.new stood x d.1.1 (rw (← h.paired) (slice_get_within v.owners x own.Released d.1.1)) d.0.1 d.3.takes h)
-    | inr d ↦ idles_to d.1
+    | inr d ↦ idles_to missed.Take d.1
   ]
-  at_to (turn.Refuse number) does = elim does [ inl d ↦ refuses_to (next_of p) refl (reserves p d.0.1) d.1 d.2 | inr d ↦ idles_to d.1 ]
+  at_to (turn.Refuse number) does = elim does [ inl d ↦ refuses_to (next_of p) refl (reserves p d.0.1) d.1 d.2 | inr d ↦ idles_to missed.Turn d.1 ]
 
 -- one turn
 pub turn_grows : (v v' : View) (t : Turn) (h : Has v) → TurnsTo v t v' → GrowsTo h v'

@@ -29,7 +29,7 @@ stays_begun s s' p q (Open x) c n = λ e. n (sym (c.2 q) ∙ e)
 stays_begun s s' p q (Retire x) c n = λ e. n (sym (c.3.2 q) ∙ e)
 stays_begun s s' p q (Look it) c n = λ e. n (sym (c.2 q) ∙ e)
 stays_begun s s' p q (Release x) c n = λ e. n (sym (c.2 q) ∙ e)
-stays_begun s s' p q Miss c n = λ e. n (sym (c.2 q) ∙ e)
+stays_begun s s' p q (Miss what) c n = λ e. n (sym (c.2 q) ∙ e)
 
 -- the first event of a trail, if it is the begin of q
 first_is : (m mark : Mark) (q : Name) (a : Act Page Reply) → Some m ≡ Some mark → mark.event ≡ record { process = q; act = a } → m.event ≡ record { process = q; act = a }
@@ -86,7 +86,7 @@ ends_by s s' p q (Open x) c n e = absurd (n (sym (c.2 q) ∙ e))
 ends_by s s' p q (Retire x) c n e = absurd (n (sym (c.3.2 q) ∙ e))
 ends_by s s' p q (Look it) c n e = absurd (n (sym (c.2 q) ∙ e))
 ends_by s s' p q (Release x) c n e = absurd (n (sym (c.2 q) ∙ e))
-ends_by s s' p q Miss c n e = absurd (n (sym (c.2 q) ∙ e))
+ends_by s s' p q (Miss what) c n e = absurd (n (sym (c.2 q) ∙ e))
 
 pub ended_in : (s s' : State Page) (trail : Trail) (q : Name) → s.phase q ≢ Ended → LeadsOn s trail s' → s'.phase q ≡ Ended → (i : ℕ) × ((reply : Option Reply) × DoesAt trail i q (End reply))
 ended_in s s' [] q n l e = absurd (n (sym (ap (λ z. z.phase q) l) ∙ e))

@@ -39,7 +39,7 @@ phase_others s s' p q (MachineAct.Open x) c n = c.2 q
 phase_others s s' p q (Retire x) c n = c.3.2 q
 phase_others s s' p q (Look it) c n = c.2 q
 phase_others s s' p q (Release x) c n = c.2 q
-phase_others s s' p q Miss c n = c.2 q
+phase_others s s' p q (Miss what) c n = c.2 q
 
 pub shown_push : (trail : Trail) (m : Mark) → events_shown (events_of (trail ++ m ∷ [])) ≡ events_shown (events_of trail) ++ record { process = m.event.process.pass; act = act_shown m.event.act } ∷ []
 shown_push [] m = refl

@@ -49,7 +49,7 @@ stays_retired s s' p (Release y) x k e c n r = elim (cases_eq x y) [
   | inl same ↦ absurd (n (ap shown.Release (sym same)))
   | inr ne ↦ c.1.others x ne ∙ r
 ]
-stays_retired s s' p Miss x k e c n r = c.1 x ∙ r
+stays_retired s s' p (Miss what) x k e c n r = c.1 x ∙ r
 
 -- a page that is retired was so before, or this event retired it
 pub was_retired : (s s' : State Page) (p : Name) (a : MachineAct Page Reply) (x k : ℕ) → Changes s p a s' → s'.owner x ≡ Retired k → ((s.owner x ≡ Retired k) × (act_shown a ≢ shown.Release x)) ⊎ ((act_shown a ≡ shown.Retire x) × (s.clock ≤ k) × (k < s'.clock))
@@ -70,7 +70,7 @@ was_retired s s' p (Release y) x k c r = elim (cases_eq x y) [
   | inl same ↦ absurd (let f : Released ≡ Retired k = sym c.1.at ∙ (ap s'.owner (sym same) ∙ r) in cc)
   | inr ne ↦ inl (sym (c.1.others x ne) ∙ r, λ f. ne (let g : shown.Release y ≡ shown.Release x = f in cc))
 ]
-was_retired s s' p Miss x k c r = inl (sym (c.1 x) ∙ r, λ f. cc)
+was_retired s s' p (Miss what) x k c r = inl (sym (c.1 x) ∙ r, λ f. cc)
 
 -- an event that retires a page does so at its time
 pub retires_now : (s s' : State Page) (p : Name) (a : MachineAct Page Reply) (x : ℕ) → Changes s p a s' → act_shown a ≡ shown.Retire x → (k : ℕ) × (s.clock ≤ k) × (k < s'.clock) × (s'.owner x ≡ Retired k)
@@ -96,7 +96,7 @@ was_running s s' p q (MachineAct.Open x) since c r = inl (sym (c.2 q) ∙ r)
 was_running s s' p q (Retire x) since c r = inl (sym (c.3.2 q) ∙ r)
 was_running s s' p q (Look it) since c r = inl (sym (c.2 q) ∙ r)
 was_running s s' p q (Release x) since c r = inl (sym (c.2 q) ∙ r)
-was_running s s' p q Miss since c r = inl (sym (c.2 q) ∙ r)
+was_running s s' p q (Miss what) since c r = inl (sym (c.2 q) ∙ r)
 
 -- a process that has not ended had not, and this is not its end
 pub had_not_ended : (s s' : State Page) (p q : Name) (a : MachineAct Page Reply) → Enabled s p a → Changes s p a s' → s'.phase q ≢ Ended → (s.phase q ≢ Ended) × ((q ≡ p) → act_shown a ≢ shown.End)
@@ -117,7 +117,7 @@ had_not_ended s s' p q (Retire x) e c n = (λ f. n (c.3.2 q ∙ f), λ i f. cc)
 had_not_ended s s' p q (Look (Process r)) e c n = (λ f. n (c.2 q ∙ f), λ i f. cc)
 had_not_ended s s' p q (Look (OfPage x)) e c n = (λ f. n (c.2 q ∙ f), λ i f. cc)
 had_not_ended s s' p q (Release x) e c n = (λ f. n (c.2 q ∙ f), λ i f. cc)
-had_not_ended s s' p q Miss e c n = (λ f. n (c.2 q ∙ f), λ i f. cc)
+had_not_ended s s' p q (Miss what) e c n = (λ f. n (c.2 q ∙ f), λ i f. cc)
 
 -- the world after one event of the process at place n, at which the clock moves on by one
 module _ (w w' : ModelWorld Run) (events : List Event) (n : ℕ) (a : MachineAct Page Reply) (can : Enabled w.now (name_of (suc n)) a) (changes : Changes w.now (name_of (suc n)) a w'.now) (on : w'.now.clock ≡ suc w.now.clock) (t : HasTimes w events) where

@@ -55,7 +55,7 @@ act_shown (Retire x) = shown.Retire x
 act_shown (Look (Process p)) = shown.Look p.pass
 act_shown (Look (OfPage x)) = shown.See x
 act_shown (Release x) = shown.Release x
-act_shown Miss = shown.Miss
+act_shown (Miss what) = shown.Miss
 
 abbrev pub events_shown : List (MachineEvent Page Reply) → List Event
 events_shown [] = []
