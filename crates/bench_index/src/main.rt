@@ -28,10 +28,6 @@ struct Load {
 /// How many levels a tree may have: a split is followed by at most one post on each.
 const LEVELS: u32 = 12;
 
-/// The number of the first pass that works. The passes before it make the frames begin with a cache line where the system's
-/// allocator puts a large block 16 bytes behind the begin of a line, as glibc's does.
-const FIRST: usize = 5;
-
 /// So many threads at most.
 const MOST_THREADS: u32 = 16;
 
@@ -264,47 +260,16 @@ fn run<R: Threads + Wait + Sync>(
     done.load(Ordering::SeqCst)
 }
 
-// How far the passes that work are apart. A begin and an end write to a word of their pass, these words follow each other,
-// a cache line holds eight words, and processors fetch lines in pairs: so no two of four passes write to one pair of lines. Of more
-// than that some do.
-fn spacing(threads: u32) -> u32
-    requires { (1 ≤ threads) × (threads ≤ 16) }
-    ensures { (1 ≤ result) × (result * threads + 5 ≤ 64) }
-{
-    if threads <= 3 { 16 } else { 59 / threads }
-}
-
-// Of the passes that many apart, from the back.
-fn spaced(alloc: Global, index: &Index, passes: Vec<Pass>, spacing: u32) -> Option<Vec<Pass>>
-    requires apart { 1 ≤ spacing }
-    requires passes { All (IsPassOf index.now) passes.items }
-    ensures { IfSome result (λ v. All (IsPassOf index.now) v.items) }
-{
-    let mut passes = passes;
-    let mut apart = Vec::new(alloc);
-    while let Some(pass) = passes.pop() {
-        let number = passes.len();
-        if number >= FIRST && (number - FIRST) % spacing as usize == 0 {
-            apart.push(pass).ok()?;
-        }
-    }
-    Some(apart)
-}
-
 // The largest index, with a pass for each thread.
 fn opened(alloc: Global, load: Load) -> Option<(Index, Vec<Pass>)>
     ensures { IfSome result (λ t. All (IsPassOf t.0) t.1.items) }
 {
-    let spacing = spacing(load.threads);
     let config = Config {
         pages: 65_536,
-        passes: spacing * load.threads + FIRST as u32,
+        passes: load.threads,
     };
     match Index::open(alloc, config) {
-        Ok((index, passes)) => {
-            let apart = spaced(alloc, &index, passes, spacing)?;
-            Some((index, apart))
-        }
+        Ok((index, passes)) => Some((index, passes)),
         Err(_) => None,
     }
 }

@@ -5,8 +5,7 @@
 pub struct Config {
     /// How many pages there are, 4 to 65,536.
     pub pages: u32,
-    /// How many passes there are, 1 to 64. Threads disturb each other least with passes whose numbers are 8 apart, so an
-    /// index for a few threads may have more passes than threads.
+    /// How many passes there are, 1 to 64: one for each thread that works at once.
     pub passes: u32,
 }
 

@@ -1,15 +1,20 @@
 //! The numbers of the words in which a store of pages keeps everything that threads share.
 //!
-//! A store of `pages` pages that `passes` passes use has `2 * pages + 8 * passes` frames, each with room for
-//! the 32 words of one page. Its words stand in one table, in this order: the clock, a process word for
-//! each pass, a word for each page, an owner for each page, an owner for each frame, and the words of the
-//! frames. The order is this project's own format.
+//! A store of `pages` pages that `passes` passes use has `2 * pages + 8 * passes` frames, each with room for the 32 words of one page.
+//! Its words are numbered in this order: the clock, a process word for each pass, a word for each page, an owner for each page, an
+//! owner for each frame, and the words of the frames. The numbers are this project's own format.
 //!
-//! It promises to a store that each word has a number below the total, and that no two words share one.
+//! They stand in one table, each in a cell. Words that are written often have cache lines of their own there, so that threads that
+//! read others do not wait for them: the clock stands alone, and the process words stand behind all others, two lines for each. The
+//! others follow each other as their numbers do.
+//!
+//! It promises to a store that each word has a number below the total, which no other word has, and where its cell is.
 #![tactic(auto)]
 
+mod cells;
 mod layout;
 mod word;
 
+pub use cells::PROCESS_CELLS;
 pub use layout::Layout;
 pub use word::Word;

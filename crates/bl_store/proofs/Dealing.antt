@@ -9,7 +9,8 @@ use Rattle.std.proofs.lemmas.List.{get_or_append_left, get_or-append_right, leng
 use Rattle.atomic_table.specs.Table.{State, opening, Splits}
 use Rattle.atomic_table.proofs.Lists.{at_set, set_else}
 use Rattle.bl_layout.specs.declared.layout.Layout.{Layout}
-use Rattle.bl_layout.specs.Words.{frame_count, word_count}
+use Rattle.bl_layout.specs.Words.{frame_count}
+use Rattle.bl_layout.specs.Cells.{cell_count}
 use Rattle.bl_store.specs.Pages.{Owner, Released, Open, Retired, Stage, Idle, Running, Pages, IsOrderly, owned, written}
 use Rattle.bl_store.specs.Frames.{process_at, page_at, owner_at, state_at, place_at, drafted, shown, Frame, free, used, FrameIs, OwnerIs, ProcessIs, Knows, total_of, Shows, IsLive, Kept, share, starting}
 use Rattle.bl_store.specs.declared.view.View.{View}
@@ -77,8 +78,8 @@ blank_words (x ∷ xs) (suc n) size e = elim (eqb x 0) as (λ b. eqb x 0 ≡ b �
 
 module _ (l : Layout) (cs : List (List ℕ)) where
   -- all words are 0, and no page is laid
-  pub laid_none : Laid l cs (replicate (word_count l) 0) 0
-  laid_none = let zeros = zero_at (word_count l) in record {
+  pub laid_none : Laid l cs (replicate (cell_count l) 0) 0
+  laid_none = let zeros = zero_at (cell_count l) in record {
     pages = record { contents = replicate l.pages (replicate 32 0); owners = replicate l.pages Released; clock = 0; hands = replicate l.passes (Idle, tt) };
     frames = replicate (frame_count l) free;
     orderly = record {
@@ -88,13 +89,13 @@ module _ (l : Layout) (cs : List (List ℕ)) where
       begun = λ n since d at. let no : Idle ≡ Running since = ap (λ (z : Stage × Unit {0}). z.0) (of_all l.passes (Idle, tt) n (Running since, d) at) in cc;
     };
     shows = record {
-      wide = length-replicate (word_count l) 0;
+      wide = length-replicate (cell_count l) 0;
       frame_total = length-replicate (frame_count l) free;
       clock = zeros 0;
-      process = λ q st d low at. subst (ProcessIs (get_or (replicate (word_count l) 0) (process_at q) 0)) (ap (λ (z : Stage × Unit {0}). z.0) (of_all l.passes (Idle, tt) q (st, d) at)) (zeros (process_at q));
+      process = λ q st d low at. subst (ProcessIs (get_or (replicate (cell_count l) 0) (process_at l q) 0)) (ap (λ (z : Stage × Unit {0}). z.0) (of_all l.passes (Idle, tt) q (st, d) at)) (zeros (process_at l q));
       page = λ x xs e. inl (zeros (page_at l x), sym (of_all l.pages (replicate 32 0) x xs e));
-      owner = λ x o e. subst (OwnerIs (get_or (replicate (word_count l) 0) (owner_at l x) 0)) (of_all l.pages Released x o e) (zeros (owner_at l x));
-      frame = λ f st e. subst (FrameIs l (replicate (word_count l) 0) f) (of_all (frame_count l) free f st e) (zeros (state_at l f));
+      owner = λ x o e. subst (OwnerIs (get_or (replicate (cell_count l) 0) (owner_at l x) 0)) (of_all l.pages Released x o e) (zeros (owner_at l x));
+      frame = λ f st e. subst (FrameIs l (replicate (cell_count l) 0) f) (of_all (frame_count l) free f st e) (zeros (state_at l f));
     };
     hands = refl;
     clock = refl;
@@ -208,7 +209,7 @@ module _ (l : Layout) (cs : List (List ℕ)) where
         wide = r.shows.wide;
         frame_total = r.shows.frame_total;
         clock = r.shows.clock ∙ r.clock;
-        process = λ q st e low at. subst (ProcessIs (get_or ws (process_at q) 0)) (ap (λ (z : Stage × D). z.0) (of_all l.passes (Idle, d) q (st, e) at)) (r.shows.process q Idle tt low (ap (λ (z : List (Stage × Unit {0})). get_elem? z q) r.hands ∙ at_all l.passes (Idle, tt) q low));
+        process = λ q st e low at. subst (ProcessIs (get_or ws (process_at l q) 0)) (ap (λ (z : Stage × D). z.0) (of_all l.passes (Idle, d) q (st, e) at)) (r.shows.process q Idle tt low (ap (λ (z : List (Stage × Unit {0})). get_elem? z q) r.hands ∙ at_all l.passes (Idle, tt) q low));
         page = λ x xs e. r.shows.page x xs (ap (λ (z : List (List ℕ)). get_elem? z x) contents ∙ e);
         owner = λ x o e. r.shows.owner x o (ap (λ (z : List Owner). get_elem? z x) owners ∙ e);
         frame = r.shows.frame;

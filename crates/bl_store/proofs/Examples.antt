@@ -1,8 +1,8 @@
 -- Worked examples of the definitions.
 use Rattle.std.proofs.Common.{◌≡◌, ℕ, [], ◌∷◌, replicate, refl, inl}
-use Rattle.bl_layout.specs.Words.{word_count}
+use Rattle.bl_layout.specs.Cells.{cell_count}
 use Rattle.bl_store.specs.Pages.{Released, Open, Held, Retired, Idle, Running, Pages, Stands, IsPage, told, owned, written, later}
-use Rattle.bl_store.specs.Frames.{page_at, owner_at, state_at, place_at, smallest, OwnerIs, share, taking_in, giving_back, given_back, joined}
+use Rattle.bl_store.specs.Frames.{process_at, page_at, owner_at, state_at, place_at, smallest, OwnerIs, share, taking_in, giving_back, given_back, joined}
 use Rattle.bl_store.specs.Opening.{first_pages}
 use Rattle.bl_store.specs.Told.{draft, lower}
 use Rattle.bl_store.specs.Hands.{drafts}
@@ -46,12 +46,13 @@ left_held = refl
 left_retired : left_of (Retired 9) (3 ∷ []) ≡ replicate 32 0
 left_retired = refl
 
--- With 4 pages and 1 pass: 538 words, the owner of page 0 at 6, that of frame 0 at 10, and its words from 26 on.
-words : word_count smallest ≡ 538
-words = refl
+-- With 4 pages and 1 pass: the table has 598 cells, the words of pages from 30 on, the owner of page 0 at 34, that of frame 0 at 38,
+-- its words from 54 on, and the process word at 582.
+cells : cell_count smallest ≡ 598
+cells = refl
 
-numbers : (page_at smallest 0 ≡ 2) × (owner_at smallest 0 ≡ 6) × (state_at smallest 0 ≡ 10) × (place_at smallest 0 0 ≡ 26)
-numbers = (refl, refl, refl, refl)
+places : (page_at smallest 0 ≡ 30) × (owner_at smallest 0 ≡ 34) × (state_at smallest 0 ≡ 38) × (place_at smallest 0 0 ≡ 54) × (process_at smallest 0 ≡ 582)
+places = (refl, refl, refl, refl, refl)
 
 -- the owner words of a page that is held by pass 3, and of one that was retired at 5
 held : OwnerIs 14 (Held 3)

@@ -9,6 +9,7 @@ use Rattle.std.proofs.lemmas.Grind.{get_or-set_at}
 use Rattle.atomic_table.specs.Table.{State, keeps, stepped}
 use Rattle.atomic_table.proofs.Lists.{at_set, set_else}
 use Rattle.bl_layout.specs.declared.layout.Layout.{Layout}
+use Rattle.bl_layout.specs.Cells.{front, behind}
 use Rattle.bl_store.specs.Pages.{Owner, Retired, Stage, Running, Pages, Stands, IsOrderly, told, owned, written, later}
 use Rattle.bl_store.specs.Frames.{process_at, page_at, owner_at, state_at, place_at, Use, drafted, shown, dropped, timed, Frame, free, used, StateIs, FrameIs, PageIs, OwnerIs, ProcessIs, stage_of, IsRead, MayRead, Readable, Reads, Stocks, Drops, Seals, Swept, SweepIs, Knows, Budgeted, Shows, IsLive, IsApart, IsSealing, Kept}
 use Rattle.bl_store.specs.declared.view.View.{View}
@@ -57,13 +58,13 @@ drops_kept fs f old new q (Timed g t) here no_drop no_time k = (k.0, frame_kept 
 
 module _ {D : Type 0} where
   -- what the words show stays where a hand is told something, and its process word shows where it stands
-  pub shows_told : (l : Layout) (ws : List ℕ) (s : Pages D) (fs : List Frame) (q : ℕ) (st : Stage) (d : D) → ProcessIs (get_or ws (process_at q) 0) st → Shows l ws s fs → Shows l ws (told s q st d) fs
+  pub shows_told : (l : Layout) (ws : List ℕ) (s : Pages D) (fs : List Frame) (q : ℕ) (st : Stage) (d : D) → ProcessIs (get_or ws (process_at l q) 0) st → Shows l ws s fs → Shows l ws (told s q st d) fs
   shows_told l ws s fs q st d is r = record {
     wide = r.wide;
     frame_total = r.frame_total;
     clock = r.clock;
     process = λ j st' d' low at. ⊎_elim
-        (λ (t : (j ≡ q) × ((st, d) ≡ (st', d'))). subst (λ (z : ℕ × Stage). ProcessIs (get_or ws (process_at z.0) 0) z.1) (λ i. (sym t.0 i, (t.1 i).0)) is)
+        (λ (t : (j ≡ q) × ((st, d) ≡ (st', d'))). subst (λ (z : ℕ × Stage). ProcessIs (get_or ws (process_at l z.0) 0) z.1) (λ i. (sym t.0 i, (t.1 i).0)) is)
         (λ (t : (j ≢ q) × (get_elem? s.hands j ≡ some (st', d'))). r.process j st' d' low t.1) (at_set s.hands q j (st, d) (st', d') at);
     page = r.page;
     owner = r.owner;
@@ -74,11 +75,12 @@ module _ {D : Type 0} where
   pub shows_frame : (l : Layout) (ws : List ℕ) (s : Pages D) (fs : List Frame) (f i n : ℕ) (old new : Frame) → IsOrderly l s → Shows l ws s fs → get_elem? fs f ≡ some old → (i ≡ state_at l f) ⊎ ((place_at l f 0 ≤ i) × (i < place_at l f 32))
       → FrameIs l (set ws i n) f new → ((x : ℕ) (ys : List ℕ) → used (shown x) ys ≢ old) → Shows l (set ws i n) s (set fs f new)
   shows_frame l ws s fs f i n old new o r here where_i is no_page = let total = r.frame_total in let inside = at_below fs f old here in let counts = o.contents in let owned' = o.owners in
-      let high : 1 + l.passes + 2 * l.pages ≤ i = ⊎_elim (λ (e : i ≡ state_at l f). omega arith) (λ (e : (place_at l f 0 ≤ i) × (i < place_at l f 32)). let low = e.0 in omega arith) where_i in record {
+      let high : front l + 2 * l.pages ≤ i = ⊎_elim (λ (e : i ≡ state_at l f). omega arith) (λ (e : (place_at l f 0 ≤ i) × (i < place_at l f 32)). let low = e.0 in omega arith) where_i in
+      let low : i < behind l = ⊎_elim (λ (e : i ≡ state_at l f). omega arith) (λ (e : (place_at l f 0 ≤ i) × (i < place_at l f 32)). let below = e.1 in omega arith) where_i in record {
         wide = length-set ws i n ∙ r.wide;
         frame_total = length-set fs f new ∙ r.frame_total;
         clock = get_or-set_other ws i 0 n 0 (λ z. omega arith) ∙ r.clock;
-        process = λ q st d low at. subst (λ (z : ℕ). ProcessIs z st) (sym (get_or-set_other ws i (process_at q) n 0 (λ z. omega arith))) (r.process q st d low at);
+        process = λ q st d low at. subst (λ (z : ℕ). ProcessIs z st) (sym (get_or-set_other ws i (process_at l q) n 0 (λ z. omega arith))) (r.process q st d low at);
         page = λ x xs e. let low = at_below s.contents x xs e in subst (λ (z : ℕ). PageIs (set fs f new) x z xs) (sym (get_or-set_other ws i (page_at l x) n 0 (λ z. omega arith)))
             (page_kept fs f old new x (get_or ws (page_at l x) 0) xs here (no_page x) (r.page x xs e));
         owner = λ x ow e. let low = at_below s.owners x ow e in subst (λ (z : ℕ). OwnerIs z ow) (sym (get_or-set_other ws i (owner_at l x) n 0 (λ z. omega arith))) (r.owner x ow e);
@@ -104,18 +106,18 @@ module _ {D : Type 0} where
   }
 
   -- a process word changes, and where its hand stands
-  pub shows_process : (l : Layout) (ws : List ℕ) (s : Pages D) (fs : List Frame) (q n : ℕ) (st : Stage) (d : D) → q < l.passes → ProcessIs n st → Shows l ws s fs → Shows l (set ws (process_at q) n) (told s q st d) fs
-  shows_process l ws s fs q n st d low is r = let wide = r.wide in let i : ℕ = process_at q in record {
+  pub shows_process : (l : Layout) (ws : List ℕ) (s : Pages D) (fs : List Frame) (q n : ℕ) (st : Stage) (d : D) → IsOrderly l s → q < l.passes → ProcessIs n st → Shows l ws s fs → Shows l (set ws (process_at l q) n) (told s q st d) fs
+  shows_process l ws s fs q n st d orderly low is r = let wide = r.wide in let total = r.frame_total in let counts = orderly.contents in let owned' = orderly.owners in let i : ℕ = process_at l q in record {
     wide = length-set ws i n ∙ r.wide;
     frame_total = r.frame_total;
     clock = get_or-set_other ws i 0 n 0 (λ z. omega arith) ∙ r.clock;
     process = λ j st' d' below at. ⊎_elim
-        (λ (t : (j ≡ q) × ((st, d) ≡ (st', d'))). let same = t.0 in subst (λ (z : ℕ × Stage). ProcessIs z.0 z.1) (λ k. (sym (get_or-set_at ws i (process_at j) n 0 (omega arith) (omega arith)) k, (t.1 k).0)) is)
-        (λ (t : (j ≢ q) × (get_elem? s.hands j ≡ some (st', d'))). let other = t.0 in subst (λ (z : ℕ). ProcessIs z st') (sym (get_or-set_other ws i (process_at j) n 0 (λ z. other (omega arith)))) (r.process j st' d' below t.1))
+        (λ (t : (j ≡ q) × ((st, d) ≡ (st', d'))). let same = t.0 in subst (λ (z : ℕ × Stage). ProcessIs z.0 z.1) (λ k. (sym (get_or-set_at ws i (process_at l j) n 0 (omega arith) (omega arith)) k, (t.1 k).0)) is)
+        (λ (t : (j ≢ q) × (get_elem? s.hands j ≡ some (st', d'))). let other = t.0 in subst (λ (z : ℕ). ProcessIs z st') (sym (get_or-set_other ws i (process_at l j) n 0 (λ z. other (omega arith)))) (r.process j st' d' below t.1))
         (at_set s.hands q j (st, d) (st', d') at);
-    page = λ x xs e. subst (λ (z : ℕ). PageIs fs x z xs) (sym (get_or-set_other ws i (page_at l x) n 0 (λ z. omega arith))) (r.page x xs e);
-    owner = λ x ow e. subst (λ (z : ℕ). OwnerIs z ow) (sym (get_or-set_other ws i (owner_at l x) n 0 (λ z. omega arith))) (r.owner x ow e);
-    frame = λ g fr e. frame_same l ws (set ws i n) g (get_or-set_other ws i (state_at l g) n 0 (λ z. omega arith)) (λ k small. get_or-set_other ws i (place_at l g k) n 0 (λ z. omega arith)) fr (r.frame g fr e);
+    page = λ x xs e. let below = at_below s.contents x xs e in subst (λ (z : ℕ). PageIs fs x z xs) (sym (get_or-set_other ws i (page_at l x) n 0 (λ z. omega arith))) (r.page x xs e);
+    owner = λ x ow e. let below = at_below s.owners x ow e in subst (λ (z : ℕ). OwnerIs z ow) (sym (get_or-set_other ws i (owner_at l x) n 0 (λ z. omega arith))) (r.owner x ow e);
+    frame = λ g fr e. let below = at_below fs g fr e in frame_same l ws (set ws i n) g (get_or-set_other ws i (state_at l g) n 0 (λ z. omega arith)) (λ k small. get_or-set_other ws i (place_at l g k) n 0 (λ z. omega arith)) fr (r.frame g fr e);
   }
 
   -- an owner word changes, and the owner
@@ -124,7 +126,7 @@ module _ {D : Type 0} where
     wide = length-set ws i n ∙ r.wide;
     frame_total = r.frame_total;
     clock = get_or-set_other ws i 0 n 0 (λ z. omega arith) ∙ r.clock;
-    process = λ q st d below at. subst (λ (z : ℕ). ProcessIs z st) (sym (get_or-set_other ws i (process_at q) n 0 (λ z. omega arith))) (r.process q st d below at);
+    process = λ q st d below at. subst (λ (z : ℕ). ProcessIs z st) (sym (get_or-set_other ws i (process_at l q) n 0 (λ z. omega arith))) (r.process q st d below at);
     page = λ y xs e. let below = at_below s.contents y xs e in subst (λ (z : ℕ). PageIs fs y z xs) (sym (get_or-set_other ws i (page_at l y) n 0 (λ z. omega arith))) (r.page y xs e);
     owner = λ y ow e. ⊎_elim
         (λ (t : (y ≡ x) × (o ≡ ow)). let same = t.0 in subst (λ (z : ℕ × Owner). OwnerIs z.0 z.1) (λ k. (sym (get_or-set_at ws i (owner_at l y) n 0 (omega arith) (omega arith)) k, t.1 k)) is)
@@ -138,7 +140,7 @@ module _ {D : Type 0} where
     wide = length-set ws 0 n ∙ r.wide;
     frame_total = r.frame_total;
     clock = get_or-set_same ws 0 n 0 (omega arith) ∙ up;
-    process = λ q st d below at. subst (λ (z : ℕ). ProcessIs z st) (sym (get_or-set_other ws 0 (process_at q) n 0 (λ z. omega arith))) (r.process q st d below at);
+    process = λ q st d below at. subst (λ (z : ℕ). ProcessIs z st) (sym (get_or-set_other ws 0 (process_at l q) n 0 (λ z. omega arith))) (r.process q st d below at);
     page = λ x xs e. subst (λ (z : ℕ). PageIs fs x z xs) (sym (get_or-set_other ws 0 (page_at l x) n 0 (λ z. omega arith))) (r.page x xs e);
     owner = λ x ow e. subst (λ (z : ℕ). OwnerIs z ow) (sym (get_or-set_other ws 0 (owner_at l x) n 0 (λ z. omega arith))) (r.owner x ow e);
     frame = λ g fr e. frame_same l ws (set ws 0 n) g (get_or-set_other ws 0 (state_at l g) n 0 (λ z. omega arith)) (λ k small. get_or-set_other ws 0 (place_at l g k) n 0 (λ z. omega arith)) fr (r.frame g fr e);

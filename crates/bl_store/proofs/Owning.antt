@@ -39,7 +39,7 @@ module _ {D : Type 0} (l : Layout) (first : D) (holds : Pages D → Type 0) wher
       let orderly = r.orderly in let owned' = orderly.owners in let counted = mine.counted in let dealt = mine.dealt in let low = at_below s.owners x o here in
       let ws : List ℕ = set st.words i n in let s1 : Pages D = owned s x o' in let s' : Pages D = told s1 q sg d in
       let shows : Shows l ws s1 r.frames = subst (λ (z : ℕ). Shows l (set st.words z n) s1 r.frames) (sym i_is) (shows_owner l st.words s r.frames x n o' r.orderly (omega arith) is r.shows) in
-      let process : get_or ws (process_at q) 0 ≡ get_or st.words (process_at q) 0 = get_or-set_other st.words i (process_at q) n 0 (λ z. omega arith) in
+      let process : get_or ws (process_at l q) 0 ≡ get_or st.words (process_at l q) 0 = get_or-set_other st.words i (process_at l q) n 0 (λ z. omega arith) in
       let seals : (j : ℕ) (y : Sealing) → Seals l st.words s.owners j y → Seals l ws s1.owners j y = (λ j y k. sealed_else st.words s.owners i n x j o o' i_is here (λ t. apart j t) y k) in
       let go : Goes l st.words ws s s' r.frames r.frames r.budgets r.budgets q = record {
         clock = le_refl s.clock;

@@ -54,7 +54,7 @@ module _ {D : Type 0} (l : Layout) (first : D) (holds : Pages D → Type 0) wher
   pub shows_put : (ws0 : List ℕ) (s : Pages D) (fs gs : List Frame) (q x f i n : ℕ) (xs : List ℕ) (ds : List Draft) → i ≡ page_at l x → n ≡ f + 1 → x < l.pages → IsOrderly l s → Shows l ws0 s fs → Passing l ws0 fs gs q x f xs ds → Shows l (set ws0 i n) (written s x xs) gs
   shows_put ws0 s fs gs q x f i n xs ds i_is n_is inside orderly sh go = let counts = orderly.contents in let owned' = orderly.owners in let total = sh.frame_total in let wide = sh.wide in let ws : List ℕ = set ws0 i n in
       let owners : (y : ℕ) → y < length s.owners → get_or ws (owner_at l y) 0 ≡ get_or ws0 (owner_at l y) 0 = (λ y below. get_or-set_other ws0 i (owner_at l y) n 0 (λ z. omega arith)) in
-      let process : (k : ℕ) → k < l.passes → get_or ws (process_at k) 0 ≡ get_or ws0 (process_at k) 0 = (λ k below. get_or-set_other ws0 i (process_at k) n 0 (λ z. omega arith)) in
+      let process : (k : ℕ) → k < l.passes → get_or ws (process_at l k) 0 ≡ get_or ws0 (process_at l k) 0 = (λ k below. get_or-set_other ws0 i (process_at l k) n 0 (λ z. omega arith)) in
       record {
         wide = length-set ws0 i n ∙ sh.wide;
         frame_total = go.count ∙ sh.frame_total;
@@ -75,7 +75,7 @@ module _ {D : Type 0} (l : Layout) (first : D) (holds : Pages D → Type 0) wher
       let orderly = r.orderly in let counts = orderly.contents in let owned' = orderly.owners in let total = r.shows.frame_total in let wide = r.shows.wide in let counted = mine.counted in let dealt = mine.dealt in
       let ws : List ℕ = set st.words i n in let s1 : Pages D = written s x xs in let s' : Pages D = told s1 q sg d in
       let owners : (y : ℕ) → y < length s.owners → get_or ws (owner_at l y) 0 ≡ get_or st.words (owner_at l y) 0 = (λ y below. get_or-set_other st.words i (owner_at l y) n 0 (λ z. omega arith)) in
-      let process : (k : ℕ) → k < l.passes → get_or ws (process_at k) 0 ≡ get_or st.words (process_at k) 0 = (λ k below. get_or-set_other st.words i (process_at k) n 0 (λ z. omega arith)) in
+      let process : (k : ℕ) → k < l.passes → get_or ws (process_at l k) 0 ≡ get_or st.words (process_at l k) 0 = (λ k below. get_or-set_other st.words i (process_at l k) n 0 (λ z. omega arith)) in
       let shows : Shows l ws s1 gs = shows_put st.words s r.frames gs q x f i n xs ds i_is n_is inside r.orderly r.shows go in
       let moves : Goes l st.words ws s s' r.frames gs r.budgets r.budgets q = record {
         clock = le_refl s.clock;

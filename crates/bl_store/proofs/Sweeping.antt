@@ -61,21 +61,21 @@ module _ {D : Type 0} (l : Layout) (first : D) (holds : Pages D → Type 0) wher
         (((refl, refl, refl, refl), refl, (refl, refl, refl), refl), refl, refl, refl),
       )
 
-  pub passes : (slots id i m k : ℕ) (me : M) → i ≡ process_at k → me.0.sweep ≡ Over m k → IsLive me.0 → Allows Rule slots id me i (λ n. n) (passed (step slots i 0 0 none) me)
+  pub passes : (slots id i m k : ℕ) (me : M) → i ≡ process_at l k → me.0.sweep ≡ Over m k → IsLive me.0 → Allows Rule slots id me i (λ n. n) (passed (step slots i 0 0 none) me)
   passes slots id i m k me i_is is live st r _ at _ = let mine = r.seats id me.0 at live in let s : Pages D = r.pages in let n : ℕ = get_or st.words i 0 in let orderly = r.orderly in let hands = orderly.hands in
       let so_far : Swept s m k = subst (SweepIs s) is mine.sweeps in let past = so_far.past in let both = lower_both m n in
       let further : Swept s (lower m n) (k + 1) = record {
         past = omega arith;
         later = λ j b d stands low. dite (ℕ_discrete j k)
-            (λ e. let inside = at_below s.hands j (Running b, d) stands in let now : ProcessIs (get_or st.words (process_at j) 0) (Running b) = r.shows.process j (Running b) d (omega arith) stands in
-            let same : get_or st.words (process_at j) 0 ≡ n = ap (λ (z : ℕ). get_or st.words (process_at z) 0) e ∙ ap (λ (z : ℕ). get_or st.words z 0) (sym i_is) in let some_word = now.0 in let near = now.1 in lower_began m n b (omega arith) (omega arith))
+            (λ e. let inside = at_below s.hands j (Running b, d) stands in let now : ProcessIs (get_or st.words (process_at l j) 0) (Running b) = r.shows.process j (Running b) d (omega arith) stands in
+            let same : get_or st.words (process_at l j) 0 ≡ n = ap (λ (z : ℕ). get_or st.words (process_at l z) 0) e ∙ ap (λ (z : ℕ). get_or st.words z 0) (sym i_is) in let some_word = now.0 in let near = now.1 in lower_began m n b (omega arith) (omega arith))
             (λ ne. let soon = so_far.later j b d stands (omega arith) in omega arith);
       } in (
         record me.0 { puts = me.0.puts; retires = me.0.retires; sweep = Over (lower m n) (k + 1) },
         keeps,
         tt,
         silent_load l first holds st r i id me.1 me.0 me.0.puts me.0.retires (Over (lower m n) (k + 1)) me.0.seen me.0.got r.budgets at live r.budgeted (λ j _. refl) mine.budget further,
-        (((refl, refl, refl, refl), refl, (refl, refl, refl), refl), refl, (λ m' k' e equal. let is_k : k ≡ k' = omega arith in let is_m : m ≡ m' = ap time_of (sym is ∙ e) in λ z. Over (lower (is_m z) n) (is_k z + 1)), refl),
+        (((refl, refl, refl, refl), refl, (refl, refl, refl), refl), refl, (λ m' k' e equal. let here : i ≡ process_at l k' = subst (λ (z : Layout). i ≡ process_at z k') mine.layout equal in let is_k : k ≡ k' = omega arith in let is_m : m ≡ m' = ap time_of (sym is ∙ e) in λ z. Over (lower (is_m z) n) (is_k z + 1)), refl),
       )
 
 -- how many pages were released by some releases, and then by one more, which may have been of a page

@@ -106,7 +106,7 @@ module _ {D : Type 0} (l : Layout) (first : D) (holds : Pages D → Type 0) wher
       let bs' : List ℕ = set r.budgets q (me.0.puts + k) in let ws : List ℕ = set st.words i (n + 1) in let w : View D = record me.0 { sealing = Sealed x n; retires = k; known = t.1 } in
       let same_words : set st.words (owner_at l x) (get_or st.words (owner_at l x) 0) ≡ st.words = set-get_or st.words (owner_at l x) 0 in
       let shows1 : Shows l st.words s1 r.frames = subst (λ (z : List ℕ). Shows l z s1 r.frames) same_words (shows_owner l st.words s r.frames x (get_or st.words (owner_at l x) 0) (Retired s.clock) r.orderly inside (inr (q, word)) r.shows) in
-      let process : get_or ws (process_at q) 0 ≡ get_or st.words (process_at q) 0 = get_or-set_other st.words i (process_at q) (n + 1) 0 (λ z. omega arith) in
+      let process : get_or ws (process_at l q) 0 ≡ get_or st.words (process_at l q) 0 = get_or-set_other st.words i (process_at l q) (n + 1) 0 (λ z. omega arith) in
       let shows : Shows l ws (later s1) r.frames = subst (λ (z : ℕ). Shows l (set st.words z (n + 1)) (later s1) r.frames) (sym i_is) (shows_later l st.words s1 r.frames (n + 1) (omega arith) shows1) in
       let owners : (y : ℕ) → y < length s1.owners → get_or ws (owner_at l y) 0 ≡ get_or st.words (owner_at l y) 0 = (λ y below. get_or-set_other st.words i (owner_at l y) (n + 1) 0 (λ z. omega arith)) in
       let others : (j : ℕ) (y : Sealing) → Seals l st.words s.owners j y → Seals l ws s1.owners j y = (λ j y a. seal_same l st.words ws s1.owners j y owners (sealed_else s.owners st.words x j own.0 (Retired s.clock) own.1 (λ u e. let no : Held q ≡ Retired u = sym t.0 ∙ e in cc) y a)) in

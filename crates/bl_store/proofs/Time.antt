@@ -105,7 +105,7 @@ module _ {D : Type 0} (l : Layout) (first : D) (holds : Pages D → Type 0) wher
       } refl refl kept
 
   -- a process word changes, and the hand reads nothing
-  process_step : (st : St) (r : Rule st) (i id n : ℕ) (cs : List (ℕ × Unit {0})) (v : View D) (sp : Stamp) (rf : Option Wanted) (d : D) → get_elem? st.views id ≡ some v → IsLive v → i ≡ process_at v.number → ProcessIs n (stage_of sp) → IsRead r.pages.clock sp
+  process_step : (st : St) (r : Rule st) (i id n : ℕ) (cs : List (ℕ × Unit {0})) (v : View D) (sp : Stamp) (rf : Option Wanted) (d : D) → get_elem? st.views id ≡ some v → IsLive v → i ≡ process_at l v.number → ProcessIs n (stage_of sp) → IsRead r.pages.clock sp
       → ((b : ℕ) → stage_of sp ≡ Running b → b ≡ r.pages.clock) → holds (told r.pages v.number (stage_of sp) d) → Rule (stepped st i n id cs (record v { stamp = sp; reading = Nowhere; refused = rf; known = d }) keeps)
   process_step st r i id n cs v sp rf d at live i_is is clocked' begun kept = let mine = r.seats id v at live in let s : Pages D = r.pages in let low = mine.counted in let dealt = mine.dealt in let orderly = r.orderly in let counts = orderly.owners in
       let ws : List ℕ = set st.words i n in
@@ -114,7 +114,7 @@ module _ {D : Type 0} (l : Layout) (first : D) (holds : Pages D → Type 0) wher
       (λ b e. let now = begun b e in inr (omega arith)) owners in
       moved l first holds st r i n id cs v (record v { stamp = sp; reading = Nowhere; refused = rf; known = d }) (told s v.number (stage_of sp) d) r.frames r.budgets at live
       (orderly_told l s v.number (stage_of sp) d (λ b e. let now = begun b e in omega arith) r.orderly)
-      (subst (λ (z : ℕ). Shows l (set st.words z n) (told s v.number (stage_of sp) d) r.frames) (sym i_is) (shows_process l st.words s r.frames v.number n (stage_of sp) d (omega arith) is r.shows))
+      (subst (λ (z : ℕ). Shows l (set st.words z n) (told s v.number (stage_of sp) d) r.frames) (sym i_is) (shows_process l st.words s r.frames v.number n (stage_of sp) d r.orderly (omega arith) is r.shows))
       r.budgeted go
       record {
         layout = refl;
@@ -157,7 +157,7 @@ module _ {D : Type 0} (l : Layout) (first : D) (holds : Pages D → Type 0) wher
         ((refl, refl, refl, refl), (refl, refl, refl), refl, refl, omega arith),
       )
 
-  pub stamps : (then' : D → ℕ → D → Type 0) (slots id i n c : ℕ) (me : M) → i ≡ process_at me.0.number → n ≡ c + 1 → me.0.stamp ≡ Clocked c → Begins holds l me.0.number me.0.known then'
+  pub stamps : (then' : D → ℕ → D → Type 0) (slots id i n c : ℕ) (me : M) → i ≡ process_at l me.0.number → n ≡ c + 1 → me.0.stamp ≡ Clocked c → Begins holds l me.0.number me.0.known then'
       → IsLive me.0 → Allows Rule slots id me i (λ _. n) (λ _. stamped then' (step slots i n 0 none) me n)
   stamps then' slots id i n c me i_is n_is is asked live st r _ at _ = let mine = r.seats id me.0 at live in let s : Pages D = r.pages in let seen : c ≤ s.clock = subst (IsRead s.clock) is mine.clocked in
       let t = asked s r.kept r.orderly (mine.stands ∙ ap (λ (z : Stamp). some (stage_of z, me.0.known)) is) in (
@@ -168,7 +168,7 @@ module _ {D : Type 0} (l : Layout) (first : D) (holds : Pages D → Type 0) wher
         ((refl, refl, refl, refl), (refl, refl, refl), refl, (s.clock, refl, t.2)),
       )
 
-  pub finishes : (then' : D → ℕ → D → Type 0) (slots id i b : ℕ) (me : M) → i ≡ process_at me.0.number → me.0.stamp ≡ In b → Ends holds l me.0.number me.0.known then'
+  pub finishes : (then' : D → ℕ → D → Type 0) (slots id i b : ℕ) (me : M) → i ≡ process_at l me.0.number → me.0.stamp ≡ In b → Ends holds l me.0.number me.0.known then'
       → IsLive me.0 → Allows Rule slots id me i (λ _. 0) (λ _. ended then' (step slots i 0 0 none) me 0)
   finishes then' slots id i b me i_is is asked live st r _ at _ = let mine = r.seats id me.0 at live in let s : Pages D = r.pages in
       let t = asked s b r.kept r.orderly (mine.stands ∙ ap (λ (z : Stamp). some (stage_of z, me.0.known)) is) in (

@@ -6,7 +6,8 @@ use lib.ListN.{get_elem?}
 use native.Mathlib.Nat.{le_refl, le-add_right}
 use Rattle.atomic_table.specs.Table.{State}
 use Rattle.bl_layout.specs.declared.layout.Layout.{Layout}
-use Rattle.bl_layout.specs.Words.{frame_count, word_count}
+use Rattle.bl_layout.specs.Words.{frame_count}
+use Rattle.bl_layout.specs.Cells.{front, behind, cell_count}
 use Rattle.bl_store.specs.Pages.{Owner, Released, Open, Held, Retired, Stage, Idle, Running, Pages, Stands, IsOrderly}
 use Rattle.bl_store.specs.declared.view.View.{View}
 use Rattle.bl_store.specs.declared.view.Joined.{Joined}
@@ -22,21 +23,21 @@ use Rattle.bl_store.specs.declared.view.Sealing.TheVariants.{Unsealed, Sealed}
 use Rattle.bl_store.specs.declared.view.Sweep.{Sweep}
 use Rattle.bl_store.specs.declared.view.Sweep.TheVariants.{Still, Over}
 
--- the words of the table, as the layout numbers them
-abbrev pub process_at : ℕ → ℕ
-process_at q = 1 + q
+-- the cells of the words, as the layout has them
+abbrev pub process_at : Layout → ℕ → ℕ
+process_at l q = behind l + 16 * (1 + q)
 
 abbrev pub page_at : Layout → ℕ → ℕ
-page_at l x = 1 + l.passes + x
+page_at l x = front l + x
 
 abbrev pub owner_at : Layout → ℕ → ℕ
-owner_at l x = 1 + l.passes + l.pages + x
+owner_at l x = front l + l.pages + x
 
 abbrev pub state_at : Layout → ℕ → ℕ
-state_at l f = 1 + l.passes + 2 * l.pages + f
+state_at l f = front l + 2 * l.pages + f
 
 abbrev pub place_at : Layout → ℕ → ℕ → ℕ
-place_at l f k = 1 + l.passes + 2 * l.pages + frame_count l + 32 * f + k
+place_at l f k = front l + 2 * l.pages + frame_count l + 32 * f + k
 
 -- What a frame with words is used for: reserved by the hand q as the k-th of its stock, the contents of the page x, taken from a page by the hand q, the same since the hand drew the time t, or retired at t.
 pub data Use : Type 0 where
@@ -220,10 +221,10 @@ pub record Budgeted (passes clock : ℕ) (bs : List ℕ) : Type 0 where
 
 -- what the words show of the pages and frames
 pub record Shows {D : Type 0} (l : Layout) (ws : List ℕ) (s : Pages D) (fs : List Frame) : Type 0 where
-  pub wide : length ws ≡ word_count l
+  pub wide : length ws ≡ cell_count l
   pub frame_total : length fs ≡ frame_count l
   pub clock : slice_index ws 0 ≡ s.clock
-  pub process : (q : ℕ) (st : Stage) (d : D) → q < l.passes → Stands s q st d → ProcessIs (slice_index ws (process_at q)) st
+  pub process : (q : ℕ) (st : Stage) (d : D) → q < l.passes → Stands s q st d → ProcessIs (slice_index ws (process_at l q)) st
   pub page : (x : ℕ) (xs : List ℕ) → get_elem? s.contents x ≡ some xs → PageIs fs x (slice_index ws (page_at l x)) xs
   pub owner : (x : ℕ) (o : Owner) → get_elem? s.owners x ≡ some o → OwnerIs (slice_index ws (owner_at l x)) o
   pub frame : (f : ℕ) (st : Frame) → get_elem? fs f ≡ some st → FrameIs l ws f st

@@ -146,7 +146,7 @@ module _ {D : Type 0} where
 
   -- a load of the next process word
   abbrev pub passed : Play → Sat D → ℕ → Sat D → Type 0
-  passed st m r m' = IsSilent m m' × (m'.0.releases ≡ m.0.releases) × ((n k : ℕ) → m.0.sweep ≡ Over n k → st.word ≡ process_at k → m'.0.sweep ≡ Over (lower n r) (k + 1)) × (m'.0.reading ≡ m.0.reading)
+  passed st m r m' = IsSilent m m' × (m'.0.releases ≡ m.0.releases) × ((n k : ℕ) → m.0.sweep ≡ Over n k → st.word ≡ process_at m.0.layout k → m'.0.sweep ≡ Over (lower n r) (k + 1)) × (m'.0.reading ≡ m.0.reading)
 
   -- a frame that was found retired is free
   abbrev pub released : Play → Sat D → ℕ → Sat D → Type 0

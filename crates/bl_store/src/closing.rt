@@ -3,7 +3,8 @@ ghost use Rattle.std.specs.Prelude.{◌≡◌, ◌≢◌, ◌⊎◌, ℕ, ◌+�
 ghost use Rattle.std.specs.Slots.{slots_items, slots_len, IsFull};
 ghost use mathlib.Core.Option.{some};
 ghost use lib.ListN.{get_elem?};
-ghost use Rattle.bl_layout.specs.Words.{frame_count, word_count};
+ghost use Rattle.bl_layout.specs.Words.{frame_count};
+ghost use Rattle.bl_layout.specs.Cells.{cell_count};
 ghost use Rattle.bl_store.specs.Frames.{page_at, owner_at, place_at};
 ghost use Rattle.bl_store.specs.Hands.{IsOf, IsIdle};
 ghost use Rattle.bl_store.specs.Closing.{HasEach, IsClosed, IsGone};
@@ -44,19 +45,19 @@ impl<D, R: PageRule<D>, A: Allocator> Store<D, R, A> {
 
 // The words of a page in the closed table.
 fn last_words<A: Allocator>(closed: &Closed<(), A>, layout: Layout, page: u32) -> [u64; 32]
-    requires full { IsFull closed.now.words × (slots_len closed.now.words ≡ word_count layout) }
+    requires full { IsFull closed.now.words × (slots_len closed.now.words ≡ cell_count layout) }
     requires page { page < layout.pages }
     requires frame { slice_index (slots_items closed.now.words) (page_at layout page) ≤ frame_count layout }
     ensures gone { IsGone (slots_items closed.now.words) layout page → result ≡ replicate 32 0 }
     ensures here { (IsGone (slots_items closed.now.words) layout page → ⊥) → (k : ℕ) → k < 32 → slice_index result k ≡ slice_index (slots_items closed.now.words) (place_at layout (slice_index (slots_items closed.now.words) (page_at layout page) - 1) k) }
 {
-    let owner = closed.word(layout.page_owner(page));
-    let found = closed.word(layout.page(page));
+    let owner = closed.word(layout.page_owner_cell(page));
+    let found = closed.word(layout.page_cell(page));
     let mut words = [0; 32];
     if owner == 0 || owner % 4 == 3 || found == 0 {
         return words;
     }
-    let first = layout.frame_word((found - 1) as u32, 0);
+    let first = layout.frame_word_cell((found - 1) as u32, 0);
     for place in 0..32 {
         words[place] = closed.word(first + place);
     }

@@ -62,7 +62,7 @@ impl<D, R: PageRule<D>, A: Allocator> Store<D, R, A> {
         let blank = shared.split_seat::<Blank>(&mut hand.seat);
         let theirs = mem::replace(&mut other.seat, blank);
         shared.join_seat::<TakeIn<R>>(&mut hand.seat, theirs);
-        shared.load::<Met<M>>(&mut hand.seat, self.layout.clock());
+        shared.load::<Met<M>>(&mut hand.seat, self.layout.clock_cell());
         other.seat = shared.split_seat::<GiveBack>(&mut hand.seat);
     }
 }

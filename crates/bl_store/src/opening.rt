@@ -1,6 +1,6 @@
 //! A store is made, and its hands are dealt out.
 ghost use Rattle.std.specs.Prelude.{◌≡◌, ℕ, ◌+◌, ◌<◌, ◌≤◌, false, [], length, replicate, slice_index_or, IfOk};
-ghost use Rattle.bl_layout.specs.Words.{word_count};
+ghost use Rattle.bl_layout.specs.Cells.{cell_count};
 ghost use Rattle.bl_store.specs.Frames.{share};
 ghost use Rattle.bl_store.specs.Opening.{first_pages, is_blank, Laid, IsDealt};
 ghost use Rattle.bl_store.specs.declared.view.Sealing.TheVariants.{Unsealed};
@@ -61,8 +61,8 @@ impl<D, R: PageRule<D>> Store<D, R, Global> {
         ensures hands { IfOk result (λ t. IsDealt t.0.table.shared.table_id layout known.now layout.passes t.1.items) }
         ensures known { IfOk result (λ t. t.0.table.shared.key.known.value ≡ known.now) }
     {
-        let mut words = Vec::with_capacity(alloc, layout.words())?;
-        for _ in 0..layout.words() {
+        let mut words = Vec::with_capacity(alloc, layout.cells())?;
+        for _ in 0..layout.cells() {
             words.push(0u64)?;
         }
         lay(layout, first, words.as_mut_slice());
@@ -74,8 +74,9 @@ impl<D, R: PageRule<D>> Store<D, R, Global> {
         let store = Store {
             table,
             layout,
-            heads: layout.page(0),
-            firsts: layout.frame_word(0, 0),
+            heads: layout.page_cell(0),
+            firsts: layout.frame_word_cell(0, 0),
+            stamps: layout.process_cell(0),
             least_free: AtomicU64::new(1),
         };
         let hands = store.deal(alloc, seat)?;
@@ -126,7 +127,7 @@ impl<D> Hand<D> {
 // Gives each page that is not all zeros the frame of its own number.
 fn lay(layout: Layout, first: &[[u64; 32]], words: &mut [u64])
     requires pages { length first.now ≡ layout.pages }
-    requires words { words.old ≡ replicate (word_count layout) 0 }
+    requires words { words.old ≡ replicate (cell_count layout) 0 }
     ensures { Laid layout first.now words.new layout.pages }
 {
     for page in 0..layout.pages {
@@ -144,12 +145,12 @@ fn lay_page(layout: Layout, first: &[[u64; 32]], page: u32, words: &mut [u64])
     ensures { Laid layout first.now words.new (page + 1) }
 {
     let contents = first[page as usize];
-    words[layout.frame_owner(page)] = 2;
+    words[layout.frame_owner_cell(page)] = 2;
     for place in 0..32 {
-        words[layout.frame_word(page, place)] = contents[place as usize];
+        words[layout.frame_word_cell(page, place)] = contents[place as usize];
     }
-    words[layout.page(page)] = page as u64 + 1;
-    words[layout.page_owner(page)] = 1;
+    words[layout.page_cell(page)] = page as u64 + 1;
+    words[layout.page_owner_cell(page)] = 1;
 }
 
 fn is_all_zeros(words: &[u64; 32]) -> bool

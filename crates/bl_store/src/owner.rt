@@ -24,7 +24,7 @@ impl<D, R: PageRule<D>, A: Allocator> Store<D, R, A> {
         ensures told { (owner : Owner) × (words : List ℕ) × (IsTrue result ↔ (owner ≡ Owner.Open)) × M.then (known hand.old.seat) page owner words (known hand.new.seat) }
     {
         let mine = 4 * hand.number as u64 + 2;
-        let at = self.layout.page_owner(page);
+        let at = self.layout.page_owner_cell(page);
         self.table
             .shared
             .compare_exchange::<Try<M>>(&mut hand.seat, at, 1, mine)
@@ -40,7 +40,7 @@ impl<D, R: PageRule<D>, A: Allocator> Store<D, R, A> {
         ensures refusal { IsSameRefusal hand.old.seat hand.new.seat }
         ensures told { (words : List ℕ) × M.then (known hand.old.seat) page (Held hand.old.number) words (known hand.new.seat) }
     {
-        let at = self.layout.page_owner(page);
+        let at = self.layout.page_owner_cell(page);
         self.table.shared.store::<Open<M>>(&mut hand.seat, at, 1);
     }
 
@@ -55,7 +55,7 @@ impl<D, R: PageRule<D>, A: Allocator> Store<D, R, A> {
         ensures told { (time : ℕ) × M.then (known hand.old.seat) time (known hand.new.seat) }
     {
         let time = self.seal::<M, Brand>(&mut hand.seat, page);
-        let at = self.layout.page_owner(page);
+        let at = self.layout.page_owner_cell(page);
         self.table
             .shared
             .store::<Publish>(&mut hand.seat, at, 4 * time + 3);
@@ -75,6 +75,6 @@ impl<D, R: PageRule<D>, A: Allocator> Store<D, R, A> {
     {
         self.table
             .shared
-            .fetch_add::<Seal<M, J>>(seat, self.layout.clock(), 1)
+            .fetch_add::<Seal<M, J>>(seat, self.layout.clock_cell(), 1)
     }
 }

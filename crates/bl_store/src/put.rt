@@ -99,10 +99,11 @@ impl<D, R: PageRule<D>, A: Allocator> Store<D, R, A> {
         ensures told { (old : List ℕ) × M.then (known hand.old.seat) page (Held hand.old.number) old (known hand.new.seat) }
         ensures retired { HasRetired hand.new.seat }
     {
-        let before = self
-            .table
-            .shared
-            .swap::<Swap<M>>(&mut hand.seat, self.layout.page(page), frame as u64 + 1);
+        let before = self.table.shared.swap::<Swap<M>>(
+            &mut hand.seat,
+            self.layout.page_cell(page),
+            frame as u64 + 1,
+        );
         if before != 0 {
             self.retire_frame(hand, (before - 1) as u32);
         }
@@ -116,7 +117,7 @@ impl<D, R: PageRule<D>, A: Allocator> Store<D, R, A> {
         ensures same { IsQuiet hand.old.seat hand.new.seat }
         ensures stock { (ds : List Draft) → hand.old.seat.me.0.stock ≡ draft frame [] ∷ ds → hand.new.seat.me.0.stock ≡ draft frame words.now ∷ ds }
     {
-        let first = self.layout.frame_word(frame, 0);
+        let first = self.layout.frame_word_cell(frame, 0);
         for pair in 0..16 {
             let at = 2 * pair;
             self.write_sparse(hand, frame, first, at, words[at]);
@@ -252,7 +253,7 @@ impl<D, R: PageRule<D>, A: Allocator> Store<D, R, A> {
         ensures words { IsSpread change (read_words hand.old.seat) (draft_words hand.new.seat) }
     {
         let place = change.place;
-        let first = self.layout.frame_word(frame, 0);
+        let first = self.layout.frame_word_cell(frame, 0);
         self.write_next(hand, frame, first, 0, change.first);
         let low = self.seen_word(hand, glance, 1);
         self.write_next(hand, frame, first, 1, low);
@@ -274,8 +275,8 @@ impl<D, R: PageRule<D>, A: Allocator> Store<D, R, A> {
         let time = self
             .table
             .shared
-            .fetch_add::<Tick>(&mut hand.seat, self.layout.clock(), 1);
-        let at = self.layout.frame_owner(frame);
+            .fetch_add::<Tick>(&mut hand.seat, self.layout.clock_cell(), 1);
+        let at = self.layout.frame_owner_cell(frame);
         self.table
             .shared
             .store::<Settle>(&mut hand.seat, at, 4 * time + 3);

@@ -1,6 +1,6 @@
 //! Reservations of frames and of a page.
 ghost use Rattle.std.specs.Prelude.{◌≡◌, ◌≢◌, ◌⊎◌, ℕ, ◌+◌, ◌*◌, ◌<◌, ◌≤◌, ◌↔◌, true, false, List, [], ◌∷◌, length, IfOk, IfErr, IfSome, IfNone, IsTrue, Some, None};
-ghost use Rattle.bl_layout.specs.Words.{frame_count, word_count};
+ghost use Rattle.bl_layout.specs.Words.{frame_count};
 ghost use Rattle.bl_store.specs.Pages.{Released, Takes, Refuses};
 ghost use Rattle.bl_store.specs.Frames.{owner_at};
 ghost use Rattle.bl_store.specs.Hands.{known, IsOf, IsSameHand, IsSameReading, IsSameStage, IsSameStock, IsQuiet, HasNoStock, IsStockOf, MayRetire, SawTaken, IsTried, IsWhy, WasRefused};
@@ -46,7 +46,7 @@ impl<D, R: PageRule<D>, A: Allocator> Store<D, R, A> {
         let clock = self
             .table
             .shared
-            .load::<Allot>(&mut hand.seat, self.layout.clock());
+            .load::<Allot>(&mut hand.seat, self.layout.clock_cell());
         if clock >= END_OF_TIME {
             self.refuse::<M, Brand>(hand, pages, frames);
             return Err(NoRoom::Clock);
@@ -85,7 +85,7 @@ impl<D, R: PageRule<D>, A: Allocator> Store<D, R, A> {
     {
         self.table
             .shared
-            .load::<Refuse<M, J>>(&mut hand.seat, self.layout.clock());
+            .load::<Refuse<M, J>>(&mut hand.seat, self.layout.clock_cell());
     }
 
     // Tries the frames that it has released itself, then each frame once, until there are enough.
@@ -198,7 +198,7 @@ impl<D, R: PageRule<D>, A: Allocator> Store<D, R, A> {
         ensures kept { (f : ℕ) → IsTried hand.old.seat f → IsTried hand.new.seat f }
         ensures reads { IsSameReading hand.old.seat hand.new.seat }
     {
-        let at = self.layout.frame_owner(frame);
+        let at = self.layout.frame_owner_cell(frame);
         if self.table.shared.load::<Note>(&mut hand.seat, at) != 0 {
             return;
         }
@@ -224,14 +224,12 @@ impl<D, R: PageRule<D>, A: Allocator> Store<D, R, A> {
             stock.count -= 1;
             let frame = stock.frames[stock.count as usize];
             let mine = 4 * hand.number as u64 + 2;
-            self.table
-                .shared
-                .compare_exchange::<Return>(
-                    &mut hand.seat,
-                    self.layout.frame_owner(frame),
-                    mine,
-                    0,
-                );
+            self.table.shared.compare_exchange::<Return>(
+                &mut hand.seat,
+                self.layout.frame_owner_cell(frame),
+                mine,
+                0,
+            );
         }
     }
 
@@ -282,7 +280,7 @@ impl<D, R: PageRule<D>, A: Allocator> Store<D, R, A> {
         ensures taken { result ≡ true → (words : List ℕ) × T.then (known hand.old.seat) page Released words (known hand.new.seat) }
         ensures missed { result ≡ false → (known hand.new.seat ≡ known hand.old.seat) × SawTaken hand.new.seat (owner_at self.now.layout page) × ((i : ℕ) → SawTaken hand.old.seat i → SawTaken hand.new.seat i) }
     {
-        let at = self.layout.page_owner(page);
+        let at = self.layout.page_owner_cell(page);
         if self.table.shared.load::<Note>(&mut hand.seat, at) != 0 {
             return false;
         }

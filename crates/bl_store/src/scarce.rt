@@ -40,7 +40,7 @@ impl<D, R: PageRule<D>, A: Allocator> Store<D, R, A> {
             if free == wanted {
                 return (free, retired);
             }
-            let state = self.table.shared.peek(self.layout.frame_owner(frame));
+            let state = self.table.shared.peek(self.layout.frame_owner_cell(frame));
             if state == 0 {
                 free += 1;
             }

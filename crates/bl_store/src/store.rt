@@ -1,7 +1,8 @@
 //! The store, and the calls that begin and end a process and read pages.
 ghost use Rattle.std.specs.Prelude.{◌≡◌, ◌≢◌, ℕ, ◌+◌, ◌*◌, ◌<◌, ◌≤◌, true, false, List, [], length, slice_index, Some, None};
-ghost use Rattle.bl_layout.specs.Words.{frame_count, word_count};
-ghost use Rattle.bl_store.specs.Frames.{page_at, place_at};
+ghost use Rattle.bl_layout.specs.Words.{frame_count};
+ghost use Rattle.bl_layout.specs.Cells.{cell_count};
+ghost use Rattle.bl_store.specs.Frames.{process_at, page_at, place_at};
 ghost use Rattle.bl_store.specs.Pages.{Owner, Begins, Ends, Gets};
 ghost use Rattle.bl_store.specs.Hands.{known, read_words, IsOf, IsIdle, IsRunning, IsSameHand, IsSameStage, IsSameStock, IsSameRefusal, IsSameLook, ReadsFrom, HasSeen};
 ghost use Rattle.bl_store.specs.declared.view.Reading.TheVariants.{At};
@@ -11,7 +12,7 @@ use crate::plays::{Clock, Copy, Enter, Leave, Look};
 use crate::rule::{PagePlay, PageRule, TimePlay};
 use crate::view::{Framed, Ground, View};
 use atomic_table::{Seat, Table};
-use bl_layout::Layout;
+use bl_layout::{Layout, PROCESS_CELLS};
 use std::alloc::{Allocator, Global};
 use std::sync::atomic::AtomicU64;
 
@@ -44,7 +45,7 @@ pub struct Hand<D> {
 /// Where the words of a page stand, which a hand has looked at, and how many of them it has read.
 #[derive(Clone, Copy)]
 pub struct Glance {
-    // The number of the first of them in the table.
+    // The cell of the first of them.
     pub(crate) first: usize,
     pub(crate) used: u32,
 }
@@ -54,15 +55,17 @@ pub struct Glance {
 pub struct Store<D, R: PageRule<D>, A: Allocator = Global> {
     pub(crate) table: Table<(), View<D>, Ground<D>, Framed<R>, A>,
     pub(crate) layout: Layout,
-    // The numbers of the word of page 0, and of the first word of frame 0.
+    // The cells of the word of page 0, of the first word of frame 0, and of the process word of hand 0.
     pub(crate) heads: usize,
     pub(crate) firsts: usize,
+    pub(crate) stamps: usize,
     // The least page that may be released, as one thread alone sees it. No proof rests on it.
     pub(crate) least_free: AtomicU64,
     pub ghost key: { table.shared.key.layout ≡ layout },
     pub ghost heads_at: { heads ≡ page_at layout 0 },
     pub ghost firsts_at: { firsts ≡ place_at layout 0 0 },
-    pub ghost wide: { table.shared.table_id.words ≡ word_count layout },
+    pub ghost stamps_at: { stamps ≡ process_at layout 0 },
+    pub ghost wide: { table.shared.table_id.words ≡ cell_count layout },
     pub ghost bare: { table.shared.table_id.slots ≡ 0 },
 }
 
@@ -117,8 +120,8 @@ impl<D, R: PageRule<D>, A: Allocator> Store<D, R, A> {
         let clock = self
             .table
             .shared
-            .load::<Clock>(&mut hand.seat, self.layout.clock());
-        let process = self.layout.process(hand.number);
+            .load::<Clock>(&mut hand.seat, self.layout.clock_cell());
+        let process = self.stamps + PROCESS_CELLS * hand.number as usize;
         self.table
             .shared
             .store::<Enter<M>>(&mut hand.seat, process, clock + 1);
@@ -134,7 +137,7 @@ impl<D, R: PageRule<D>, A: Allocator> Store<D, R, A> {
         ensures refusal { IsSameRefusal hand.old.seat hand.new.seat }
         ensures told { (now : ℕ) × M.then (known hand.old.seat) now (known hand.new.seat) }
     {
-        let process = self.layout.process(hand.number);
+        let process = self.stamps + PROCESS_CELLS * hand.number as usize;
         self.table
             .shared
             .store::<Leave<M>>(&mut hand.seat, process, 0);
@@ -220,7 +223,7 @@ impl<D, R: PageRule<D>, A: Allocator> Store<D, R, A> {
         let found = self
             .table
             .shared
-            .load::<Look<M>>(&mut hand.seat, self.layout.page(page));
+            .load::<Look<M>>(&mut hand.seat, self.layout.page_cell(page));
         if found == 0 {
             *words = [0; 32];
         } else {
@@ -235,7 +238,7 @@ impl<D, R: PageRule<D>, A: Allocator> Store<D, R, A> {
         ensures same { (hand.new.seat.table_id ≡ hand.old.seat.table_id) × (hand.new.seat.me ≡ hand.old.seat.me) }
         ensures words { (xs : List ℕ) → length xs ≡ 32 → hand.old.seat.me.0.reading ≡ At frame xs → words.new ≡ xs }
     {
-        let first = self.layout.frame_word(frame, 0);
+        let first = self.layout.frame_word_cell(frame, 0);
         for i in 0..32 {
             words[i] = self.table.shared.load::<Copy>(&mut hand.seat, first + i);
         }

@@ -50,7 +50,7 @@ impl<D, R: PageRule<D>, A: Allocator> Store<D, R, A> {
         let mut any = false;
         for i in 0..looks {
             let state = self.table.shared.peek(
-                self.layout.page_owner(0) + behind(first, i, owners) as usize,
+                self.layout.page_owner_cell(0) + behind(first, i, owners) as usize,
             );
             if state % 4 == 3 {
                 states[i as usize] = state;
@@ -85,12 +85,12 @@ impl<D, R: PageRule<D>, A: Allocator> Store<D, R, A> {
         let mut oldest = self
             .table
             .shared
-            .load::<Horizon>(&mut hand.seat, self.layout.clock());
+            .load::<Horizon>(&mut hand.seat, self.layout.clock_cell());
         for pass in 0..self.layout.passes {
             let stamp = self
                 .table
                 .shared
-                .load::<Pass>(&mut hand.seat, self.layout.process(pass));
+                .load::<Pass>(&mut hand.seat, self.layout.process_cell(pass));
             if stamp != 0 {
                 oldest = oldest.min(stamp - 1);
             }
@@ -115,7 +115,7 @@ impl<D, R: PageRule<D>, A: Allocator> Store<D, R, A> {
             if frame >= total {
                 continue;
             }
-            let state = self.table.shared.peek(self.layout.frame_owner(frame));
+            let state = self.table.shared.peek(self.layout.frame_owner_cell(frame));
             // A sweep may have released it meanwhile.
             if state % 4 != 3 {
                 continue;
@@ -140,7 +140,7 @@ impl<D, R: PageRule<D>, A: Allocator> Store<D, R, A> {
         ensures kept { (hand.new.retired ≡ hand.old.retired) × (hand.new.waiting ≡ hand.old.waiting) }
         ensures reads { IsSameReading hand.old.seat hand.new.seat }
     {
-        let word = self.layout.frame_owner(frame);
+        let word = self.layout.frame_owner_cell(frame);
         let found = self
             .table
             .shared
@@ -164,7 +164,7 @@ impl<D, R: PageRule<D>, A: Allocator> Store<D, R, A> {
         ensures no { result ≡ false → hand.new.seat.me.0.releases ≡ hand.old.seat.me.0.releases }
     {
         if at < self.layout.pages {
-            let word = self.layout.page_owner(at);
+            let word = self.layout.page_owner_cell(at);
             let found = self
                 .table
                 .shared
@@ -175,7 +175,7 @@ impl<D, R: PageRule<D>, A: Allocator> Store<D, R, A> {
             self.least_free.fetch_min(at as u64, Ordering::SeqCst);
             return true;
         }
-        let word = self.layout.frame_owner(at - self.layout.pages);
+        let word = self.layout.frame_owner_cell(at - self.layout.pages);
         let found = self
             .table
             .shared

@@ -1,7 +1,7 @@
 //! Hints that are followed.
 
 ghost use Rattle.std.specs.Prelude.{IfSome};
-ghost use Rattle.bl_index.specs.Calls.{IsPassOf, IsSamePass};
+ghost use Rattle.bl_index.specs.Calls.{IsPassOf};
 
 use bl_hints::Hints;
 use bl_index::{Config, Index, KeyReply, Pass};

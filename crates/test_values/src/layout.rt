@@ -23,6 +23,27 @@ fn small_store(rt: HostRuntime) {
 }
 
 #[test]
+fn cells_of_a_small_store(rt: HostRuntime) {
+    let layout = Layout {
+        pages: 4,
+        passes: 2,
+    };
+    let cells = [
+        layout.clock_cell(),
+        layout.page_cell(0),
+        layout.page_cell(3),
+        layout.page_owner_cell(0),
+        layout.frame_owner_cell(0),
+        layout.frame_word_cell(0, 0),
+        layout.frame_word_cell(23, 31),
+        layout.process_cell(0),
+        layout.process_cell(1),
+        layout.cells(),
+    ];
+    assert!(rt; cells == [0, 38, 41, 42, 46, 70, 837, 854, 870, 886]);
+}
+
+#[test]
 fn largest_store(rt: HostRuntime) {
     let layout = Layout {
         pages: 65_536,

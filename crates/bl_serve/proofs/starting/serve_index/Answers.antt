@@ -12,12 +12,12 @@ returns-in_err-index g c = let p = err_from_is_err_and c.from_residual.result c.
 
 pub returns-in-Ok : goal.returns-in-Ok
 returns-in-Ok g c =
-    let h = c.serve_with.ensures in
+    let h = c.serve.ensures in
     let s = rw c.in-Ok.is at h.5 in
     (h.0, h.1, h.2, h.3, h.4, (served_from c.args.origin _ c.in_ok-index.index c.in_ok-index.passes.items c.in_ok-index.ensures c.in-Ok.field-0-1.items h.0 h.2 c.in-Ok.totals s.0, s.1))
 
 pub returns : goal.returns
 returns g c =
-    let h = c.serve_with.ensures in
+    let h = c.serve.ensures in
     let s = rw c.in-Err.is at h.5 in
-    (h.0, h.1, h.2, h.3, h.4, stops_from c.args.origin _ c.in_ok-index.index c.in_ok-index.passes.items c.in_ok-index.ensures (h.0 ++ h.1) h.2 c.in-Err.fault (c.serve_with.new.reader.failed ≡ true) (c.serve_with.new.writer.failed ≡ true) s)
+    (h.0, h.1, h.2, h.3, h.4, stops_from c.args.origin _ c.in_ok-index.index c.in_ok-index.passes.items c.in_ok-index.ensures (h.0 ++ h.1) h.2 c.in-Err.fault (c.serve.new.reader.failed ≡ true) (c.serve.new.writer.failed ≡ true) s)

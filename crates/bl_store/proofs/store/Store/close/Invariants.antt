@@ -2,7 +2,8 @@ use Rattle.std.proofs.Common.{◌≡◌, ℕ, ◌≤◌, ◌<◌, List, length, 
 use mathlib.Core.Option.{some}
 use lib.ListN.{get_elem?}
 use Rattle.std.specs.Slots.{slots_items, slots_len, IsFull}
-use Rattle.bl_layout.specs.Words.{frame_count, word_count}
+use Rattle.bl_layout.specs.Words.{frame_count}
+use Rattle.bl_layout.specs.Cells.{cell_count}
 use Rattle.bl_store.specs.Frames.{IsLive, page_at}
 use Rattle.bl_store.specs.Hands.{known}
 use Rattle.bl_store.specs.declared.store.Hand.{Hand}
@@ -28,7 +29,7 @@ decreases-loop-other g l = goal.left-loop-other g l
 abbrev pub invariant-loop-page : goal.invariant-loop-page
 invariant-loop-page g l = record {
   layout : l.layout ≡ l.fn.self.layout;
-  full : IsFull l.closed.words × (slots_len l.closed.words ≡ word_count l.layout);
+  full : IsFull l.closed.words × (slots_len l.closed.words ≡ cell_count l.layout);
   bare : slots_len l.closed.slots ≡ 0;
   frames : (x : ℕ) → x < l.layout.pages → get_or (slots_items l.closed.words) (page_at l.layout x) 0 ≤ frame_count l.layout;
   size : length l.room.items ≡ l.page;
