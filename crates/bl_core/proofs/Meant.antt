@@ -99,4 +99,4 @@ module _ (ms : Trail) (m : Mark) where
   tall_on quiet t = record { last = t.last; first = wrote_still _ quiet t.first; anchor = t.anchor; got = got_on t.got; full = t.full }
 
   pub no_room_on : {level : ℕ} → writes_in m.event.act ≡ [] → MeansNoRoom level ms → MeansNoRoom level (ms ++ m ∷ [])
-  no_room_on quiet n = record { at = n.at; under = under_on quiet n.under; none = n.none; mark = n.mark; is = n.is; miss = n.miss }
+  no_room_on quiet n = record { at = n.at; under = under_on quiet n.under; none = n.none; mark = n.mark; is = n.is; refused = n.refused }

@@ -81,7 +81,7 @@ cut_at [] [] ys a e = absurd (let f = e in cc)
 cut_at [] (x ∷ xs) ys a e = absurd (let f = e in cc)
 cut_at (o ∷ ms) [] ys a e = elim (acts_cases o.event.act) [
   | inl miss ↦
-      let r = cut_at ms [] ys a (sym (ap (λ z. acts_in z ++ acts_of ms) miss) ∙ e) in
+      let r = cut_at ms [] ys a (sym (ap (λ z. acts_in z ++ acts_of ms) miss.1) ∙ e) in
       record { before = o ∷ r.before; mark = r.mark; rest = r.rest; split = ap (λ z. o ∷ z) r.split; is = r.is; after = r.after }
   | inr one ↦
       let h = same_head o.event.act a (acts_of ms) ys (sym (ap (λ z. z ++ acts_of ms) one) ∙ e) in
@@ -89,7 +89,7 @@ cut_at (o ∷ ms) [] ys a e = elim (acts_cases o.event.act) [
 ]
 cut_at (o ∷ ms) (x ∷ xs) ys a e = elim (acts_cases o.event.act) [
   | inl miss ↦
-      let r = cut_at ms (x ∷ xs) ys a (sym (ap (λ z. acts_in z ++ acts_of ms) miss) ∙ e) in
+      let r = cut_at ms (x ∷ xs) ys a (sym (ap (λ z. acts_in z ++ acts_of ms) miss.1) ∙ e) in
       record { before = o ∷ r.before; mark = r.mark; rest = r.rest; split = ap (λ z. o ∷ z) r.split; is = r.is; after = r.after }
   | inr one ↦
       let h = same_head o.event.act x (acts_of ms) (xs ++ a ∷ ys) (sym (ap (λ z. z ++ acts_of ms) one) ∙ e) in

@@ -1,4 +1,4 @@
-use Rattle.std.proofs.Common.{rules, arith, sym, ◌∙◌, ◌≡◌, ℕ, subst, refl}
+use Rattle.std.proofs.Common.{rules, arith, ap, sym, ◌∙◌, ◌≡◌, ◌<◌, ℕ, subst, refl}
 use Rattle.bl_layout.specs.declared.layout.Layout.{Layout}
 use Rattle.bl_store.specs.Pages.{Begins}
 use Rattle.bl_store.proofs.Time.{reads_clock, stamps}
@@ -9,9 +9,9 @@ pub load-clock-requires : goal.load-clock-requires
 load-clock-requires g c = let wide = c.args.self.now.wide in (search rules, omega arith, reads_clock _ _ _ _ _ _ _ (search rules) c.requires.idle (live_hand c.args.hand.now))
 
 pub store-requires : goal.store-requires
-store-requires g c = let st = c.args.self.now in let wide = st.wide in let own = c.args.hand.now.own in let e = c.load-clock.ensures.2 in let number : c.args.hand.now.number ≡ c.load-clock.new.seat.me.0.number = own.0 ∙ sym e.0.1 in (
+store-requires g c = let st = c.args.self.now in let wide = st.wide in let own = c.args.hand.now.own in let first = st.stamps_at in let low : c.args.hand.now.number < st.layout.passes = subst (λ (z : Layout). c.args.hand.now.number < z.passes) c.requires.own.1 own.1 in let e = c.load-clock.ensures.2 in let number : c.args.hand.now.number ≡ c.load-clock.new.seat.me.0.number = own.0 ∙ sym e.0.1 in (
   search rules,
   omega arith,
-  stamps _ _ _ g.M.TimePlay.then _ _ _ _ c.load-clock.result _ (omega arith) refl e.3
+  stamps _ _ _ g.M.TimePlay.then _ _ _ _ c.load-clock.result _ (let key = st.key in omega (arith, ap (λ (z : Layout). z.pages) key, ap (λ (z : Layout). z.passes) key)) refl e.3
       (subst (λ (z : Layout × ℕ × g.row.D.Denot). Begins g.R.PageRule.holds z.0 z.1 z.2 g.M.TimePlay.then) (λ i. (sym st.key i, number i, sym e.2 i)) c.requires.rule) (live_on c.args.hand.now c.load-clock.new.seat.me e.0.0 e.0.1),
 )
