@@ -64,7 +64,7 @@ pub fn dump_index<T: Threads + Wait + Sync, R: Read, W: Write>(
         (λ fault. StopsFrom origin (input ++ ahead) output fault (reader.new.failed ≡ true) (writer.new.failed ≡ true)) }
 {
     let (index, passes) = open_index(alloc, origin, workers + compressors)?;
-    let served = serve(
+    match serve(
         rt,
         alloc,
         &index,
@@ -73,8 +73,7 @@ pub fn dump_index<T: Threads + Wait + Sync, R: Read, W: Write>(
         writer,
         &OpenGate,
         workers as usize,
-    );
-    match served {
+    ) {
         Ok((totals, passes)) => Ok((totals, shut(alloc, index, passes))),
         Err(fault) => Err(fault),
     }

@@ -83,7 +83,7 @@ pub fn serve_index<T: Threads + Wait + Sync, R: Read, W: Write>(
         (λ fault. StopsFrom origin (input ++ ahead) output fault (reader.new.failed ≡ true) (writer.new.failed ≡ true)) }
 {
     let (index, passes) = open_index(alloc, origin, workers + compressors)?;
-    let served = serve(
+    match serve(
         rt,
         alloc,
         &index,
@@ -92,8 +92,7 @@ pub fn serve_index<T: Threads + Wait + Sync, R: Read, W: Write>(
         writer,
         &OpenGate,
         workers as usize,
-    );
-    match served {
+    ) {
         Ok((totals, _)) => Ok(totals),
         Err(fault) => Err(fault),
     }

@@ -33,7 +33,7 @@ loop-section-init g c = record {
   wrote = appends_start _;
   progress = no_progress _;
   together = c.requires.together;
-  some = (let a = c.requires.some in let d = c.args.passes.ok in omega (arith, a, d));
+  some = (let a = c.requires.workers in let d = c.args.passes.ok in omega (arith, a.0, a.1, d));
   room = omega arith;
   malformed = omega arith;
   sections = omega arith;

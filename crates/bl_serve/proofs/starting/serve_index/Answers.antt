@@ -1,4 +1,4 @@
-use Rattle.std.proofs.Common.{◌≡◌, [], ◌++◌, refl, true}
+use Rattle.std.proofs.Common.{◌≡◌, [], ◌++◌, refl, true, arith}
 use Rattle.std.proofs.lemmas.Result.{err_from_is_err_and}
 use Rattle.bl_serve_lines.proofs.Known.{consumes_start, appends_start}
 use Rattle.bl_serve.specs.Origins.{Unopened}
@@ -9,6 +9,9 @@ use Rattle.bl_serve.proofs.starting.serve_index.Goals as goal
 pub returns-in_err-index : goal.returns-in_err-index
 returns-in_err-index g c = let p = err_from_is_err_and c.from_residual.result c.from_residual.ensures.1 in
     rw (p.1, p.2) ([], [], [], consumes_start _, appends_start _, Unopened refl refl refl)
+
+pub serve-requires-clause-workers : goal.serve-requires-clause-workers
+serve-requires-clause-workers g c = let least = c.requires.passes.0 in let many = c.in_ok-index.ensures.many in let d = c.in_ok-index.passes.ok in (least, omega (arith, least, many, d))
 
 pub returns-in-Ok : goal.returns-in-Ok
 returns-in-Ok g c =
