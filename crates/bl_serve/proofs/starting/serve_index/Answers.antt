@@ -11,7 +11,7 @@ returns-in_err-index g c = let p = err_from_is_err_and c.from_residual.result c.
     rw (p.1, p.2) ([], [], [], consumes_start _, appends_start _, Unopened refl refl refl)
 
 pub serve-requires-clause-workers : goal.serve-requires-clause-workers
-serve-requires-clause-workers g c = let least = c.requires.passes.0 in let many = c.in_ok-index.ensures.many in let d = c.in_ok-index.passes.ok in (least, omega (arith, least, many, d))
+serve-requires-clause-workers g c = let least = c.requires.passes.0 in let many = c.in_ok-index.ensures.many in let d = c.in_ok-index.passes.ok in omega (arith, least, many, d)
 
 pub returns-in-Ok : goal.returns-in-Ok
 returns-in-Ok g c =
