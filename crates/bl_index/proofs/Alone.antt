@@ -24,7 +24,6 @@ use Rattle.atomic_table.specs.declared.shared.Seat.{Seat}
 use Rattle.bl_store.specs.declared.view.View.{View}
 use Rattle.bl_store.specs.Hands.{known, IsSameHand}
 use Rattle.bl_index_rule.specs.declared.known.Mine.{Mine}
-use Rattle.bl_index_rule.specs.Noting.{trail_of}
 
 abbrev OfFirst : Entry → Type 0
 OfFirst e = e.pass ≡ 0
@@ -59,7 +58,7 @@ pass_within index pass of = subst (λ (z : Layout). AreWithin z.passes (trail pa
 -- a call of the only pass
 module _ (index : Index) (old : Pass) (h : Seat (Unit {0}) (View Mine)) (op : Op) (of : IsPassOf index old) (same : IsSameHand old.hand.seat h) (within : IsWithin h) where
   abbrev new : Trail
-  new = trail_of (known h).trail
+  new = (known h).trail
 
   pub steps_alone : (reply : Reply) → Answers (first_of index) (number_of old) op reply (trail old) new → StepsAlone (first_of index) index op reply (trail old) new
   steps_alone reply answers one =

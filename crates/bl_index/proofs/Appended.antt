@@ -19,7 +19,6 @@ use Rattle.bl_store.specs.declared.store.Glance.{Glance}
 use Rattle.bl_store.specs.declared.view.View.{View}
 use Rattle.bl_store.specs.Hands.{known, read_words}
 use Rattle.bl_index_rule.specs.declared.known.Mine.{Mine}
-use Rattle.bl_index_rule.specs.Noting.{trail_of}
 use Rattle.bl_index_rule.specs.Told.{ends}
 use Rattle.bl_index.specs.declared.scanning.ScanFault.TheVariants.{Memory}
 use Rattle.bl_index.specs.Calls.{Finds}
@@ -53,12 +52,12 @@ module _ (from : ℕ) (words : List ℕ) (d : Mine) (leaf : IsAtLeaf from words 
 
 module _ (l : Layout) (pass from : ℕ) (old : Mine) (h h' : Seat (Unit {0}) (View Mine)) (glance : Glance) (has : HasLeaf l pass from old h glance) (ended : ends (known h) 0 (known h')) (next : Next) (goes : GoesOnBehind (read_words h) next) where
   -- the part is answered by what was read
-  pub part_answers : (read : PartRows) → read.rows.items ≡ rows_from from (pairs_of (read_words h)) → read.next ≡ next → Finds old.first l.pages pass (op.Part from) (Rows read.rows read.next) (trail_of old.trail) (trail_of (known h').trail)
-  part_answers read is same = subst (λ (z : PartRows). Finds old.first l.pages pass (op.Part from) (Rows z.rows z.next) (trail_of old.trail) (trail_of (known h').trail)) (rows_are from (read_words h) (known h) has.leaf next goes read is same) (part_finds l pass from old h h' glance has ended)
+  pub part_answers : (read : PartRows) → read.rows.items ≡ rows_from from (pairs_of (read_words h)) → read.next ≡ next → Finds old.first l.pages pass (op.Part from) (Rows read.rows read.next) old.trail (known h').trail
+  part_answers read is same = subst (λ (z : PartRows). Finds old.first l.pages pass (op.Part from) (Rows z.rows z.next) old.trail (known h').trail) (rows_are from (read_words h) (known h) has.leaf next goes read is same) (part_finds l pass from old h h' glance has ended)
 
   module _ (turns : ℕ) (to : Option ℕ) (before after : List (ℕ × ℕ)) where
     -- its rows below the end were appended
-    pub part_appends : after ≡ before ++ rows_between from to (pairs_of (read_words h)) → AppendsPart old.first l.pages pass from to next before after (trail_of old.trail) (trail_of (known h').trail)
+    pub part_appends : after ≡ before ++ rows_between from to (pairs_of (read_words h)) → AppendsPart old.first l.pages pass from to next before after old.trail (known h').trail
     part_appends grown = record {
       reply = Rows has.leaf.rows.rows has.leaf.rows.next;
       finds = part_finds l pass from old h h' glance has ended;
@@ -67,7 +66,7 @@ module _ (l : Layout) (pass from : ℕ) (old : Mine) (h h' : Seat (Unit {0}) (Vi
     }
 
     -- or they had no room
-    pub part_leaves : (room : ℕ) → after ≡ before → room < length (rows_between from to (pairs_of (read_words h))) → LeavesPart old.first l.pages pass turns from to room (Memory from) before after (trail_of old.trail) (trail_of (known h').trail)
+    pub part_leaves : (room : ℕ) → after ≡ before → room < length (rows_between from to (pairs_of (read_words h))) → LeavesPart old.first l.pages pass turns from to room (Memory from) before after old.trail (known h').trail
     part_leaves room kept more = record {
       key = refl;
       kept = kept;

@@ -12,7 +12,6 @@ use Rattle.bl_proc.specs.declared.kinds.Proc.{Proc}
 use Rattle.bl_proc_invariant.specs.Knowing.{Run, bare as know}
 use Rattle.bl_claims.specs.Latches.{OnlyLooks}
 use Rattle.bl_index_rule.specs.declared.known.Mine.{Mine}
-use Rattle.bl_index_rule.specs.Noting.{trail_of}
 use Rattle.bl_claims.specs.Seeing.{IsSeen, AreElse, AreOnlyOf, own, Holds, name}
 use Rattle.bl_index_rule.specs.Told.{Steps, Begins, Finishes}
 use Rattle.bl_index_rule.proofs.Marks.{each_append}
@@ -69,14 +68,14 @@ since_step pass act old d e s t =
       before = s.before;
       first = s.first;
       since = s.since ++ tail;
-      begins = t.notes.trail ∙ (ap (λ (z : Trail). z ++ tail) s.begins ∙ longer (trail_of old.trail) s.before s.first s.since tail);
+      begins = t.notes.trail ∙ (ap (λ (z : Trail). z ++ tail) s.begins ∙ longer old.trail s.before s.first s.since tail);
       begun = s.begun;
       none = s.none;
       only = each_append _ s.since tail s.only here;
     }
 
 -- its end stands last
-pub since_end : (pass : ℕ) (answer : Option Reply) (old d e : Mine) → IsSince pass old d → Finishes answer d e → Holds (name pass (old.number + 1)) answer (trail_of old.trail) (trail_of e.trail)
+pub since_end : (pass : ℕ) (answer : Option Reply) (old d e : Mine) → IsSince pass old d → Finishes answer d e → Holds (name pass (old.number + 1)) answer old.trail e.trail
 since_end pass answer old d e s t =
     let p = name pass (old.number + 1) in
     let tail : Trail = t.notes.between ++ t.notes.last ∷ [] in
@@ -85,7 +84,7 @@ since_end pass answer old d e s t =
       first = s.first;
       between = s.since ++ t.notes.between;
       last = t.notes.last;
-      begins = t.notes.trail ∙ (ap (λ (z : Trail). z ++ tail) s.begins ∙ (longer (trail_of old.trail) s.before s.first s.since tail ∙ ap (λ (z : Trail). trail_of old.trail ++ (s.before ++ s.first ∷ z)) (sym (append_assoc s.since t.notes.between (t.notes.last ∷ [])))));
+      begins = t.notes.trail ∙ (ap (λ (z : Trail). z ++ tail) s.begins ∙ (longer old.trail s.before s.first s.since tail ∙ ap (λ (z : Trail). old.trail ++ (s.before ++ s.first ∷ z)) (sym (append_assoc s.since t.notes.between (t.notes.last ∷ [])))));
       begun = s.begun;
       ended = t.notes.event ∙ (λ i. record { process = name (s.named i) (s.number i); act = End answer });
       none = s.none;
@@ -93,15 +92,15 @@ since_end pass answer old d e s t =
     }
 
 -- what the index began with, and what the pass has seen by then
-pub end_seen : (pass : ℕ) (answer : Option Reply) (old d e : Mine) (first : List (Option Page)) → IsSince pass old d → Finishes answer d e → old.first ≡ first → (e.first ≡ first) × IsSeen first (trail_of e.trail)
-end_seen pass answer old d e first s t is = let same : e.first ≡ first = t.notes.first ∙ (s.beginning ∙ is) in (same, subst (λ (z : List (Option Page)). IsSeen z (trail_of e.trail)) same t.notes.seen)
+pub end_seen : (pass : ℕ) (answer : Option Reply) (old d e : Mine) (first : List (Option Page)) → IsSince pass old d → Finishes answer d e → old.first ≡ first → (e.first ≡ first) × IsSeen first e.trail
+end_seen pass answer old d e first s t is = let same : e.first ≡ first = t.notes.first ∙ (s.beginning ∙ is) in (same, subst (λ (z : List (Option Page)). IsSeen z e.trail) same t.notes.seen)
 
 -- what the pass has said by then
-pub since_said : (pass : ℕ) (answer : Option Reply) (old d e : Mine) (said : Option Said) → IsSince pass old d → Finishes answer d e → ((r : Run) → r.state ≡ d.state → (know r).said ≡ said) → own pass (trail_of e.trail) ≡ own pass (trail_of old.trail) ++ entries_at (name pass (old.number + 1)) said
+pub since_said : (pass : ℕ) (answer : Option Reply) (old d e : Mine) (said : Option Said) → IsSince pass old d → Finishes answer d e → ((r : Run) → r.state ≡ d.state → (know r).said ≡ said) → own pass e.trail ≡ own pass old.trail ++ entries_at (name pass (old.number + 1)) said
 since_said pass answer old d e said s t says =
     let h = s.own in
-    let here : own pass (trail_of e.trail) ≡ own pass (trail_of d.trail) = subst (λ (z : ℕ). own z (trail_of e.trail) ≡ own z (trail_of d.trail)) s.named t.own in
-    let there : own pass (trail_of d.trail) ≡ d.past ++ entries_at (name pass (old.number + 1)) (know h.run).said = subst (λ (z : Name). own z.pass (trail_of d.trail) ≡ d.past ++ entries_at z (know h.run).said) (λ i. name (s.named i) (s.number i)) h.own in
+    let here : own pass e.trail ≡ own pass d.trail = subst (λ (z : ℕ). own z e.trail ≡ own z d.trail) s.named t.own in
+    let there : own pass d.trail ≡ d.past ++ entries_at (name pass (old.number + 1)) (know h.run).said = subst (λ (z : Name). own z.pass d.trail ≡ d.past ++ entries_at z (know h.run).said) (λ i. name (s.named i) (s.number i)) h.own in
     here ∙ (there ∙ ((λ i. s.past i ++ entries_at (name pass (old.number + 1)) (says h.run h.state i))))
 
 -- what it has done, by its name in the call

@@ -42,7 +42,6 @@ use Rattle.bl_proc_invariant.proofs.Beside.{beside_means}
 use Rattle.bl_proc_invariant.specs.Knowing.{Run, bare as know, know_of, inserted_reply, deleted_reply, found_reply, know_find, know_part, know_insert, know_delete, find_end, part_end, insert_end, delete_end, end_of_proc}
 use Rattle.bl_proc_unique.specs.Frames.{op_of}
 use Rattle.bl_index_rule.specs.declared.known.Mine.{Mine}
-use Rattle.bl_index_rule.specs.Noting.{trail_of}
 use Rattle.bl_claims.specs.Seeing.{Holds, name}
 use Rattle.bl_index.specs.Calls.{Answers, InCall}
 use Rattle.bl_index.specs.Held.{own_marks}
@@ -211,24 +210,24 @@ pub done_first : (pass : ℕ) (old e : Mine) (first last : Proc) → IsDone pass
 done_first pass old e first last d = d.told.notes.first ∙ d.since.beginning
 
 -- the hint beside its reply means what it has put
-pub op_beside : (pass : ℕ) (old e : Mine) (first last : Proc) (reply : Reply) (hint : Option Hint) → IsDone pass old e first last → answer_of last ≡ Some (Op reply hint) → MeansBeside last reply hint (marks_of (name pass (old.number + 1)) (trail_of e.trail))
-op_beside pass old e first last reply hint d answer = beside_means last reply hint (marks_of (name pass (old.number + 1)) (trail_of e.trail)) answer d.log
+pub op_beside : (pass : ℕ) (old e : Mine) (first last : Proc) (reply : Reply) (hint : Option Hint) → IsDone pass old e first last → answer_of last ≡ Some (Op reply hint) → MeansBeside last reply hint (marks_of (name pass (old.number + 1)) e.trail)
+op_beside pass old e first last reply hint d answer = beside_means last reply hint (marks_of (name pass (old.number + 1)) e.trail) answer d.log
 
-abbrev pub op_answered : (from : List (Option Page)) (pass : ℕ) (old e : Mine) (first last : Proc) (o : Operation) (reply : Reply) (hint : Option Hint) → IsDone pass old e first last → old.first ≡ from → op_of first ≡ Some o → answer_of last ≡ Some (Op reply hint) → Answers from pass o reply (trail_of old.trail) (trail_of e.trail)
+abbrev pub op_answered : (from : List (Option Page)) (pass : ℕ) (old e : Mine) (first last : Proc) (o : Operation) (reply : Reply) (hint : Option Hint) → IsDone pass old e first last → old.first ≡ from → op_of first ≡ Some o → answer_of last ≡ Some (Op reply hint) → Answers from pass o reply old.trail e.trail
 op_answered from pass old e first last o reply hint d begins is answer =
     let s = end_says d.before last o reply hint (d.op ∙ is) d.at_end d.takes answer in
     record {
       number = old.number + 1;
-      holds = subst (λ (z : Option Reply). Holds (name pass (old.number + 1)) z (trail_of old.trail) (trail_of e.trail)) s.end (since_end pass (end_of_proc d.before) old d.d e d.since d.told);
+      holds = subst (λ (z : Option Reply). Holds (name pass (old.number + 1)) z old.trail e.trail) s.end (since_end pass (end_of_proc d.before) old d.d e d.since d.told);
       seen = (end_seen pass (end_of_proc d.before) old d.d e from d.since d.told begins).1;
       once = since_said pass (end_of_proc d.before) old d.d e (Some (record { op = o; reply = reply })) d.since d.told (λ r h. s.said r (h ∙ d.state));
     }
 
 -- what its process has done, by its name in the call
-pub own_done : (pass : ℕ) (old e : Mine) (first last : Proc) → IsDone pass old e first last → own_marks e ≡ marks_of (name pass (old.number + 1)) (trail_of e.trail)
-own_done pass old e first last d = ap (λ (z : ℕ × ℕ). marks_of (name z.0 z.1) (trail_of e.trail)) (λ i. ((d.told.notes.pass ∙ d.since.named) i, (d.told.notes.number ∙ d.since.number) i))
+pub own_done : (pass : ℕ) (old e : Mine) (first last : Proc) → IsDone pass old e first last → own_marks e ≡ marks_of (name pass (old.number + 1)) e.trail
+own_done pass old e first last d = ap (λ (z : ℕ × ℕ). marks_of (name z.0 z.1) e.trail) (λ i. ((d.told.notes.pass ∙ d.since.named) i, (d.told.notes.number ∙ d.since.number) i))
 
-pub op_in_call : (from : List (Option Page)) (pass : ℕ) (old e : Mine) (first last : Proc) (o : Operation) (reply : Reply) (hint : Option Hint) (IsSo : Trail → Type 0) → IsDone pass old e first last → old.first ≡ from → op_of first ≡ Some o → answer_of last ≡ Some (Op reply hint) → IsSo (own_marks e) → InCall pass (Some reply) (trail_of old.trail) (trail_of e.trail) IsSo
+pub op_in_call : (from : List (Option Page)) (pass : ℕ) (old e : Mine) (first last : Proc) (o : Operation) (reply : Reply) (hint : Option Hint) (IsSo : Trail → Type 0) → IsDone pass old e first last → old.first ≡ from → op_of first ≡ Some o → answer_of last ≡ Some (Op reply hint) → IsSo (own_marks e) → InCall pass (Some reply) old.trail e.trail IsSo
 op_in_call from pass old e first last o reply hint IsSo d begins is answer so = record {
   number = old.number + 1;
   holds = (op_answered from pass old e first last o reply hint d begins is answer).holds;

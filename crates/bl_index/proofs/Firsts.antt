@@ -16,7 +16,6 @@ use Rattle.bl_index_rule.proofs.Bounds.{first_anchor}
 use Rattle.bl_index_rule.proofs.Starts.{first_leaf, starts}
 use Rattle.bl_store.specs.declared.store.Hand.{Hand}
 use Rattle.bl_index_rule.specs.declared.known.Mine.{Mine}
-use Rattle.bl_index_rule.specs.Noting.{trail_of}
 use Rattle.bl_claims.specs.Seeing.{IsSeen}
 use Rattle.bl_index.specs.declared.index.Index.{Index}
 use Rattle.bl_index.specs.declared.index.Pass.{Pass}
@@ -68,7 +67,7 @@ is_begun first image pages among index hands passes pages_are passes_are many ar
   pages = pages_are;
   passes_are = passes_are;
   count = are.count ∙ many;
-  each = λ n pass at. (let is = are.each n pass at in ((is.1, ap (λ (v : View Mine). v.layout) is.2, ap (λ (v : View Mine). v.known.first) is.2 ∙ sym begins), is.0, ap (λ (v : View Mine). trail_of v.known.trail) is.2));
+  each = λ n pass at. (let is = are.each n pass at in ((is.1, ap (λ (v : View Mine). v.layout) is.2, ap (λ (v : View Mine). v.known.first) is.2 ∙ sym begins), is.0, ap (λ (v : View Mine). v.known.trail) is.2));
   first = begins ∙ same;
   seen = subst (λ (z : List (Option Page)). IsSeen z []) (sym (begins ∙ same)) seen;
 }

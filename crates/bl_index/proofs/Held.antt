@@ -18,7 +18,6 @@ use Rattle.bl_proc.specs.Processes.{next_of}
 use Rattle.bl_proc_invariant.specs.Turns.{event_of}
 use Rattle.bl_proc_invariant.specs.Knowing.{end_of_proc}
 use Rattle.bl_index_rule.specs.declared.known.Mine.{Mine}
-use Rattle.bl_index_rule.specs.Noting.{trail_of}
 use Rattle.bl_index_rule.specs.Told.{Notes, Begins, Goes, Finishes}
 use Rattle.bl_index_rule.proofs.Marks.{no_marks}
 use Rattle.bl_index.specs.Refused.{GotHeld, GotAnchor}
@@ -31,13 +30,13 @@ marks_past p [] ys h = no_marks p ys (Each-map _ _ ys (λ (m : Mark) (ne : m.eve
 marks_past p (m ∷ ms) ys h = ap (λ (z : Trail). if same_name m.event.process p then m ∷ z else z) (marks_past p ms ys h)
 
 -- one event of the process
-pub own_noted : (by count : ℕ) (act : Act Page Reply) (d e : Mine) (n : Notes by count act d e) → own_marks e ≡ marks_of (name by count) (trail_of d.trail) ++ n.last ∷ []
+pub own_noted : (by count : ℕ) (act : Act Page Reply) (d e : Mine) (n : Notes by count act d e) → own_marks e ≡ marks_of (name by count) d.trail ++ n.last ∷ []
 own_noted by count act d e n =
     let p : Name = name by count in
-    let named : own_marks e ≡ marks_of p (trail_of e.trail) = ap (λ (z : Name). marks_of z (trail_of e.trail)) (λ i. name (n.pass i) (n.number i)) in
-    let apart : trail_of e.trail ≡ (trail_of d.trail ++ n.between) ++ n.last ∷ [] = n.trail ∙ sym (append_assoc (trail_of d.trail) n.between (n.last ∷ [])) in
-    let last : marks_of p ((trail_of d.trail ++ n.between) ++ n.last ∷ []) ≡ marks_of p (trail_of d.trail ++ n.between) ++ n.last ∷ [] = marks_of-own p (trail_of d.trail ++ n.between) n.last (ap (λ v. v.process) n.event) in
-    named ∙ (ap (marks_of p) apart ∙ (last ∙ ap (λ (z : Trail). z ++ n.last ∷ []) (marks_past p (trail_of d.trail) n.between n.others)))
+    let named : own_marks e ≡ marks_of p e.trail = ap (λ (z : Name). marks_of z e.trail) (λ i. name (n.pass i) (n.number i)) in
+    let apart : e.trail ≡ (d.trail ++ n.between) ++ n.last ∷ [] = n.trail ∙ sym (append_assoc d.trail n.between (n.last ∷ [])) in
+    let last : marks_of p ((d.trail ++ n.between) ++ n.last ∷ []) ≡ marks_of p (d.trail ++ n.between) ++ n.last ∷ [] = marks_of-own p (d.trail ++ n.between) n.last (ap (λ v. v.process) n.event) in
+    named ∙ (ap (marks_of p) apart ∙ (last ∙ ap (λ (z : Trail). z ++ n.last ∷ []) (marks_past p d.trail n.between n.others)))
 
 -- a turn of it
 pub goes_held : (what : Seen) (d e : Mine) → Goes what d e → proc_held d.state (own_marks d) → proc_held e.state (own_marks e)
@@ -51,7 +50,7 @@ goes_held what d e goes held =
 pub begins_held : (pass pages passes : ℕ) (process : Proc) (d e : Mine) → Begins pass pages passes process d e → next_of process ≡ act.Begin → proc_held e.state (own_marks e)
 begins_held pass pages passes process d e told next =
     let n = told.notes in
-    let marks : Trail = marks_of (name pass (d.number + 1)) (trail_of d.trail) in
+    let marks : Trail = marks_of (name pass (d.number + 1)) d.trail in
     let did : n.last.event.act ≡ Act.Begin = ap (λ v. v.act) n.event in
     let action : event_of (end_of_proc process) (next_of process) seen.Done ≡ Act.Begin = ap (λ (a : Action). event_of (end_of_proc process) a seen.Done) next in
     let on : proc_held told.course.new (marks ++ n.last ∷ []) = held_turn process told.course.new seen.Done marks n.last told.course.takes (did ∙ sym action) (λ x c get words. absurd (let f : seen.Done ≡ seen.Words c = words in cc)) (waiting_held process next marks) in

@@ -19,10 +19,8 @@ use Rattle.bl_proc_invariant.proofs.Middles.{KeepsLogs}
 use Rattle.bl_layout.specs.declared.layout.Layout.{Layout}
 use Rattle.bl_store.specs.Pages.{Stage, Idle, Running, Pages, Stands, told, Meets}
 use Rattle.bl_index_rule.specs.declared.known.Mine.{Mine}
-use Rattle.bl_index_rule.specs.Noting.{trail_of, all_noted}
 use Rattle.bl_claims.specs.Seeing.{IsSeen, AreWithin, AreElse, own, GoesOnFrom, name}
 use Rattle.bl_index_rule.specs.Fitting.{AreUpTo, IsAtStage, IsHand, IsRun, Fits}
-use Rattle.bl_index_rule.proofs.Notings.{trail_back}
 use Rattle.bl_index_rule.proofs.Entries.{own-other}
 use Rattle.bl_index_rule.proofs.Marks.{each_append}
 use Rattle.bl_index_rule.proofs.Sights.{world_seen}
@@ -101,7 +99,7 @@ module _ (s : Pages Mine) (f : Fits s) (n : ℕ) (st : Stage) (d : Mine) (at : S
   }
 
 -- a hand that knows the trail up to a place behind which no event is of its pass
-module _ (w : World Run) (n : ℕ) (d : Mine) (trail : List _) (more : Trail) (is : trail_of trail ≡ trail_of d.trail ++ more) (rest : Trail) (all : w.trail ≡ trail_of trail ++ rest) (other : AreElse n more) (behind : AreElse n rest) where
+module _ (w : World Run) (n : ℕ) (d : Mine) (trail : Trail) (more : Trail) (is : trail ≡ d.trail ++ more) (rest : Trail) (all : w.trail ≡ trail ++ rest) (other : AreElse n more) (behind : AreElse n rest) where
   stage_same : (st : Stage) → IsAtStage w n st d → IsAtStage w n st (record d { trail = trail })
   stage_same Idle h = h
   stage_same (Running since) h = h
@@ -112,47 +110,47 @@ module _ (w : World Run) (n : ℕ) (d : Mine) (trail : List _) (more : Trail) (i
     stage = stage_same st h.stage;
     later = h.later;
     begins = (rest, all, behind);
-    counted = subst (AreUpTo n d.number) (sym is) (up_to_more n d.number (trail_of d.trail) more h.counted other);
-    mine = ap (own n) all ∙ own_else n (trail_of trail) rest behind;
+    counted = subst (AreUpTo n d.number) (sym is) (up_to_more n d.number d.trail more h.counted other);
+    mine = ap (own n) all ∙ own_else n trail rest behind;
   }
 
 -- ---- it learns all that has happened
 
 pub learns_all : (l : Layout) (n m : ℕ) (d e : Mine) → Meets Fits l n d m e (learned n m l.passes)
 learns_all l n m d e s st f o at at_m ne =
-    let w = f.world in let h = f.hands n st d at in let k = f.hands m Idle e at_m in let whole : trail_of (all_noted w.trail) ≡ w.trail = trail_back w.trail in
-    let mine : trail_of (all_noted w.trail) ≡ trail_of d.trail ++ h.begins.0 = whole ∙ h.begins.1 in
-    let theirs : trail_of (all_noted w.trail) ≡ trail_of e.trail ++ k.begins.0 = whole ∙ k.begins.1 in
-    let d' : Mine = record d { trail = all_noted w.trail } in (
+    let w = f.world in let h = f.hands n st d at in let k = f.hands m Idle e at_m in
+    let mine : w.trail ≡ d.trail ++ h.begins.0 = h.begins.1 in
+    let theirs : w.trail ≡ e.trail ++ k.begins.0 = k.begins.1 in
+    let d' : Mine = record d { trail = w.trail } in (
       d',
-      knows_more s f n st d at d' refl refl refl (hand_more w n d (all_noted w.trail) h.begins.0 mine [] (sym (append-nil (trail_of (all_noted w.trail)) ∙ whole)) h.begins.2 tt st h),
+      knows_more s f n st d at d' refl refl refl (hand_more w n d w.trail h.begins.0 mine [] (sym (append-nil w.trail)) h.begins.2 tt st h),
       record {
         learns = record {
           begins = (h.begins.0, mine);
           begins_theirs = (k.begins.0, theirs);
-          none = ap (own n) whole ∙ h.mine;
-          none_theirs = ap (own m) whole ∙ k.mine;
+          none = h.mine;
+          none_theirs = k.mine;
         };
         first = refl;
-        seen = subst (λ (z : List (Option Page)). IsSeen z (trail_of (all_noted w.trail))) (sym (f.firsts n st d at)) (subst (IsSeen f.image) (sym whole) (world_seen w f.image f.good f.opening f.first f.moments));
-        within = subst (λ (z : ℕ). AreWithin z (trail_of (all_noted w.trail))) o.hands (subst (AreWithin (length s.hands)) (sym whole) f.within);
+        seen = subst (λ (z : List (Option Page)). IsSeen z w.trail) (sym (f.firsts n st d at)) (world_seen w f.image f.good f.opening f.first f.moments);
+        within = subst (λ (z : ℕ). AreWithin z w.trail) o.hands f.within;
         runs = refl;
       },
     )
 
 -- ---- it is told what another knows
 
-pub hears_all : (l : Layout) (n m : ℕ) (d e : Mine) → GoesOnFrom (trail_of d.trail) (trail_of e.trail) → Meets Fits l n d m e (heard n)
+pub hears_all : (l : Layout) (n m : ℕ) (d e : Mine) → GoesOnFrom d.trail e.trail → Meets Fits l n d m e (heard n)
 hears_all l n m d e on s st f o at at_m ne =
     let w = f.world in let h = f.hands n st d at in let k = f.hands m Idle e at_m in let more : Trail = on.0 in
-    let rest : h.begins.0 ≡ more ++ k.begins.0 = append_cancel_left (trail_of d.trail) h.begins.0 (more ++ k.begins.0)
-    (sym h.begins.1 ∙ (k.begins.1 ∙ (ap (λ (z : Trail). z ++ k.begins.0) on.1 ∙ append_assoc (trail_of d.trail) more k.begins.0))) in
+    let rest : h.begins.0 ≡ more ++ k.begins.0 = append_cancel_left d.trail h.begins.0 (more ++ k.begins.0)
+    (sym h.begins.1 ∙ (k.begins.1 ∙ (ap (λ (z : Trail). z ++ k.begins.0) on.1 ∙ append_assoc d.trail more k.begins.0))) in
     let parts = each_parts _ more k.begins.0 (subst (AreElse n) rest h.begins.2) in
     let d' : Mine = record d { trail = e.trail } in (
       d',
       knows_more s f n st d at d' refl refl refl (hand_more w n d e.trail more on.1 k.begins.0 k.begins.1 parts.0 parts.1 st h),
       record {
-        hears = record { is = refl; none = ap (own n) on.1 ∙ own_else n (trail_of d.trail) more parts.0 };
+        hears = record { is = refl; none = ap (own n) on.1 ∙ own_else n d.trail more parts.0 };
         first = refl;
         runs = refl;
       },

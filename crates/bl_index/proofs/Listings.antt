@@ -28,7 +28,6 @@ use Rattle.bl_store.specs.declared.store.Glance.{Glance}
 use Rattle.bl_store.specs.declared.view.View.{View}
 use Rattle.bl_store.specs.Hands.{known, read_words, ReadsFrom}
 use Rattle.bl_index_rule.specs.declared.known.Mine.{Mine}
-use Rattle.bl_index_rule.specs.Noting.{trail_of}
 use Rattle.bl_claims.specs.Seeing.{name}
 use Rattle.bl_index_rule.specs.Told.{Finishes, Goes, MayGiveUp, ends}
 use Rattle.bl_index.specs.declared.listing.Ahead.{Ahead}
@@ -111,8 +110,8 @@ module _ (l : Layout) (pass from : ℕ) (old : Mine) (h h' : Seat (Unit {0}) (Vi
       let done = ended.1 in
       done.state ∙ sym (done.course.only (listing from (Over rows)) (subst (λ (z : Proc). Takes z seen.Done (listing from (Over rows))) (sym has.leaf.state) (refl, refl)))
 
-  looks : OnlyLooks (marks_of (name (known h).pass (known h).number) (trail_of (known h').trail))
-  looks = subst (λ (z : Proc). IsTidy z (marks_of (name (known h).pass (known h).number) (trail_of (known h').trail))) over ended.0.notes.tidy
+  looks : OnlyLooks (marks_of (name (known h).pass (known h).number) (known h').trail)
+  looks = subst (λ (z : Proc). IsTidy z (marks_of (name (known h).pass (known h).number) (known h').trail)) over ended.0.notes.tidy
 
   told : Finishes (end_of_proc (listing from (Ending rows))) (known h) (known h')
   told = subst (λ (z : Proc). Finishes (end_of_proc z) (known h) (known h')) has.leaf.state ended.0
@@ -129,12 +128,12 @@ module _ (l : Layout) (pass from : ℕ) (old : Mine) (h h' : Seat (Unit {0}) (Vi
     op = refl;
     work = refl;
     log = tt;
-    tidy = own_looks pass old (known h) (trail_of (known h').trail) has.since looks;
+    tidy = own_looks pass old (known h) (known h').trail has.since looks;
   }
 
-  pub part_finds : Finds old.first l.pages pass (op.Part from) (Rows rows.rows rows.next) (trail_of old.trail) (trail_of (known h').trail)
+  pub part_finds : Finds old.first l.pages pass (op.Part from) (Rows rows.rows rows.next) old.trail (known h').trail
   part_finds = record {
     answers = op_answered old.first pass old (known h') (listing from (Ending rows)) (listing from (Over rows)) (op.Part from) (Rows rows.rows rows.next) None part_done refl refl refl;
     bounded = at_answer l.pages pass (old.number + 1) _ (known h) (known h') has.since.named has.since.number has.last ended.0;
-    looks = own_looks pass old (known h) (trail_of (known h').trail) has.since looks;
+    looks = own_looks pass old (known h) (known h').trail has.since looks;
   }

@@ -24,7 +24,6 @@ use Rattle.bl_proc_invariant.specs.Knowing.{know_of, know_post}
 use Rattle.bl_proc_invariant.proofs.Answered.{stage_means, stage_hints}
 use Rattle.bl_proc_unique.specs.Frames.{work_of}
 use Rattle.bl_index_rule.specs.declared.known.Mine.{Mine}
-use Rattle.bl_index_rule.specs.Noting.{trail_of}
 use Rattle.bl_claims.specs.Seeing.{name}
 use Rattle.bl_index.specs.Calls.{Posts, InCall}
 use Rattle.bl_index.specs.Held.{own_marks}
@@ -97,10 +96,10 @@ post_has_answer pass old e first q level key d is what a =
     let p = posting d.before q level key (d.work ∙ is) d.at_end d.takes in
     subst IsPostAnswer (sym a) (answers_at_end q.level p.old.level p.old.key p.old.stage q.stage p.at_end p.goes)
 
-pub post_answered : (from : List (Option Page)) (pass : ℕ) (old e : Mine) (first : Proc) (q : Post) (level key : ℕ) (what : Posted) (next : Option Hint) → IsDone pass old e first (proc.Post q) → old.first ≡ from → work_of first ≡ Some (level, key) → post_answer q ≡ Some (answer.Post what next) → Posts from pass level key what next (trail_of old.trail) (trail_of e.trail)
+pub post_answered : (from : List (Option Page)) (pass : ℕ) (old e : Mine) (first : Proc) (q : Post) (level key : ℕ) (what : Posted) (next : Option Hint) → IsDone pass old e first (proc.Post q) → old.first ≡ from → work_of first ≡ Some (level, key) → post_answer q ≡ Some (answer.Post what next) → Posts from pass level key what next old.trail e.trail
 post_answered from pass old e first q level key what next d begins is a =
     let p = posting d.before q level key (d.work ∙ is) d.at_end d.takes in
-    let marks : Trail = marks_of (name pass (old.number + 1)) (trail_of e.trail) in
+    let marks : Trail = marks_of (name pass (old.number + 1)) e.trail in
     record {
       adds = quiet_adds from pass old e first (proc.Post q) (proc.Post p.old) d begins p.before_is refl (λ r h. ap (λ (z : Proc). (know_of r.got r.child r.time z).said) h ∙ silent_at_end p.old.level p.old.key r.got r.child p.old.stage p.at_end);
       means = subst (λ (z : ℕ × ℕ). MeansPosted z.0 z.1 what marks) (λ i. (p.level_is i, p.key_is i)) (stage_means q.level q.key q.stage what next marks a d.log);
@@ -112,7 +111,7 @@ post_answered from pass old e first q level key what next d begins is a =
 pub post_named : (pass : ℕ) (old e : Mine) (first : Proc) (q : Post) (level key : ℕ) → IsDone pass old e first (proc.Post q) → work_of first ≡ Some (level, key) → (q.level ≡ level) × (q.key ≡ key)
 post_named pass old e first q level key d is = let p = posting d.before q level key (d.work ∙ is) d.at_end d.takes in (p.level_is, p.key_is)
 
-pub post_in_call : (from : List (Option Page)) (pass : ℕ) (old e : Mine) (first : Proc) (q : Post) (level key : ℕ) (IsSo : Trail → Type 0) → IsDone pass old e first (proc.Post q) → old.first ≡ from → work_of first ≡ Some (level, key) → IsSo (own_marks e) → InCall pass None (trail_of old.trail) (trail_of e.trail) IsSo
+pub post_in_call : (from : List (Option Page)) (pass : ℕ) (old e : Mine) (first : Proc) (q : Post) (level key : ℕ) (IsSo : Trail → Type 0) → IsDone pass old e first (proc.Post q) → old.first ≡ from → work_of first ≡ Some (level, key) → IsSo (own_marks e) → InCall pass None old.trail e.trail IsSo
 post_in_call from pass old e first q level key IsSo d begins is so =
     let p = posting d.before q level key (d.work ∙ is) d.at_end d.takes in
     let adds = quiet_adds from pass old e first (proc.Post q) (proc.Post p.old) d begins p.before_is refl (λ r h. ap (λ (z : Proc). (know_of r.got r.child r.time z).said) h ∙ silent_at_end p.old.level p.old.key r.got r.child p.old.stage p.at_end) in

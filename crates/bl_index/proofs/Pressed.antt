@@ -28,7 +28,6 @@ use Rattle.bl_proc_unique.specs.Frames.{work_of}
 use Rattle.bl_proc_unique.specs.Retirements.{IsPutDone}
 use Rattle.bl_proc_unique.proofs.Retirements.{put_done}
 use Rattle.bl_index_rule.specs.declared.known.Mine.{Mine}
-use Rattle.bl_index_rule.specs.Noting.{trail_of}
 use Rattle.bl_claims.specs.Seeing.{name}
 use Rattle.bl_index.specs.Calls.{Compresses}
 use Rattle.bl_index.specs.Runs.{IsDone}
@@ -101,10 +100,10 @@ compress_has_answer pass old e first q level key d is what a =
     let p = pressing d.before q level key (d.work ∙ is) d.at_end d.takes in
     subst IsCompressAnswer (sym a) (answers_at_end p.old.level p.old.key p.old.stage q.stage p.at_end p.goes)
 
-pub compress_answered : (from : List (Option Page)) (pass : ℕ) (old e : Mine) (first : Proc) (q : Compress) (level key : ℕ) (what : Squeezed) (next : Option Hint) → IsDone pass old e first (proc.Compress q) → old.first ≡ from → work_of first ≡ Some (level, key) → compress_answer q ≡ Some (answer.Compress what next) → Compresses from pass level key what next (trail_of old.trail) (trail_of e.trail)
+pub compress_answered : (from : List (Option Page)) (pass : ℕ) (old e : Mine) (first : Proc) (q : Compress) (level key : ℕ) (what : Squeezed) (next : Option Hint) → IsDone pass old e first (proc.Compress q) → old.first ≡ from → work_of first ≡ Some (level, key) → compress_answer q ≡ Some (answer.Compress what next) → Compresses from pass level key what next old.trail e.trail
 compress_answered from pass old e first q level key what next d begins is a =
     let p = pressing d.before q level key (d.work ∙ is) d.at_end d.takes in
-    let marks : Trail = marks_of (name pass (old.number + 1)) (trail_of e.trail) in
+    let marks : Trail = marks_of (name pass (old.number + 1)) e.trail in
     record {
       adds = quiet_adds from pass old e first (proc.Compress q) (proc.Compress p.old) d begins p.before_is refl (λ r h. ap (λ (z : Proc). (know_of r.got r.child r.time z).said) h ∙ silent_at_end p.old.level p.old.key r.got p.old.stage p.at_end);
       latches = subst (λ (z : ℕ × ℕ). LatchesBeside z.0 z.1 marks) (λ i. (p.level_is i, p.key_is i)) d.tidy;

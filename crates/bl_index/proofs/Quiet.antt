@@ -5,7 +5,6 @@ use Rattle.bl_page.specs.declared.page.Page.{Page}
 use Rattle.bl_proc.specs.declared.kinds.Proc.{Proc}
 use Rattle.bl_proc_invariant.specs.Knowing.{Run, bare as know, end_of_proc}
 use Rattle.bl_index_rule.specs.declared.known.Mine.{Mine}
-use Rattle.bl_index_rule.specs.Noting.{trail_of}
 use Rattle.bl_claims.specs.Seeing.{own}
 use Rattle.bl_index_rule.specs.Told.{Finishes}
 use Rattle.bl_index.specs.Calls.{Adds}
@@ -19,12 +18,12 @@ first_of {a} {b} {c} {d} e = (let both : ◌≡◌ {A = ℕ × ℕ} (a, b) (c, d
 pub second_of : {a b c d : ℕ} → ◌≡◌ {A = Option (ℕ × ℕ)} (Some (a, b)) (Some (c, d)) → b ≡ d
 second_of {a} {b} {c} {d} e = (let both : ◌≡◌ {A = ℕ × ℕ} (a, b) (c, d) = cc in ap (λ (z : ℕ × ℕ). z.1) both)
 
-abbrev pub quiet_adds : (from : List (Option Page)) (pass : ℕ) (old e : Mine) (first last before : Proc) (d : IsDone pass old e first last) → old.first ≡ from → d.before ≡ before → end_of_proc before ≡ None → ((r : Run) → r.state ≡ before → (know r).said ≡ None) → Adds from pass (trail_of old.trail) (trail_of e.trail)
+abbrev pub quiet_adds : (from : List (Option Page)) (pass : ℕ) (old e : Mine) (first last before : Proc) (d : IsDone pass old e first last) → old.first ≡ from → d.before ≡ before → end_of_proc before ≡ None → ((r : Run) → r.state ≡ before → (know r).said ≡ None) → Adds from pass old.trail e.trail
 quiet_adds from pass old e first last before d begins is end silent =
     let told : Finishes None d.d e = subst (λ (z : Option Reply). Finishes z d.d e) (ap end_of_proc is ∙ end) d.told in
     record {
       number = old.number + 1;
       holds = since_end pass None old d.d e d.since told;
       seen = (end_seen pass None old d.d e from d.since told begins).1;
-      none = since_said pass None old d.d e None d.since told (λ r h. silent r (h ∙ (d.state ∙ is))) ∙ append-nil (own pass (trail_of old.trail));
+      none = since_said pass None old d.d e None d.since told (λ r h. silent r (h ∙ (d.state ∙ is))) ∙ append-nil (own pass old.trail);
     }

@@ -5,14 +5,13 @@ use Rattle.bl_page.specs.Machine.{Name}
 use Rattle.bl_claims.specs.Trails.{Mark, Trail}
 use Rattle.bl_claims.specs.Walks.{Each}
 use Rattle.bl_index_rule.specs.declared.known.Mine.{Mine}
-use Rattle.bl_index_rule.specs.Noting.{trail_of}
 use Rattle.bl_claims.specs.Seeing.{IsSeen, own, name}
 use Rattle.bl_index_rule.specs.Told.{sweeps}
 use Rattle.bl_index.specs.Calls.{Sweeps}
 
 -- the same of what it began with and of what the pass has seen; it runs no process
-pub swept_seen : (pass count among released : ℕ) (d e : Mine) → ∥ IsSeen d.first (trail_of d.trail) ∥₁ → d.runs ≡ false → sweeps pass count among d released e → (e.first ≡ d.first) × ∥ IsSeen e.first (trail_of e.trail) ∥₁ × (e.runs ≡ false)
-swept_seen pass count among released d e seen rests (inl is) = subst (λ (z : Mine). (z.first ≡ d.first) × ∥ IsSeen z.first (trail_of z.trail) ∥₁ × (z.runs ≡ false)) (sym is.0) (refl, seen, rests)
+pub swept_seen : (pass count among released : ℕ) (d e : Mine) → ∥ IsSeen d.first d.trail ∥₁ → d.runs ≡ false → sweeps pass count among d released e → (e.first ≡ d.first) × ∥ IsSeen e.first e.trail ∥₁ × (e.runs ≡ false)
+swept_seen pass count among released d e seen rests (inl is) = subst (λ (z : Mine). (z.first ≡ d.first) × ∥ IsSeen z.first z.trail ∥₁ × (z.runs ≡ false)) (sym is.0) (refl, seen, rests)
 swept_seen pass count among released d e seen rests (inr t) = (t.first, ∣ t.seen ∣₁, t.runs)
 
 -- more than the number of each process in a trail
@@ -28,16 +27,16 @@ fresh_from pass k (m ∷ ms) le =
       fresh_from pass k ms (omega arith),
     )
 
-pub sweep_tells : (from : List (Option Page)) (pass count among released answer : ℕ) (d e : Mine) → d.first ≡ from → d.number + 1 ≡ count → released ≤ answer → sweeps pass count among d released e → Sweeps from pass answer (trail_of d.trail) (trail_of e.trail)
+pub sweep_tells : (from : List (Option Page)) (pass count among released answer : ℕ) (d e : Mine) → d.first ≡ from → d.number + 1 ≡ count → released ≤ answer → sweeps pass count among d released e → Sweeps from pass answer d.trail e.trail
 sweep_tells from pass count among released answer d e begins next few (inl is) = record {
-  number = above (trail_of d.trail);
-  fresh = fresh_from pass (above (trail_of d.trail)) (trail_of d.trail) (le_refl (above (trail_of d.trail)));
+  number = above d.trail;
+  fresh = fresh_from pass (above d.trail) d.trail (le_refl (above d.trail));
   more = [];
   few = omega arith;
-  begins = ap (λ (z : Mine). trail_of z.trail) is.0 ∙ sym (append-nil (trail_of d.trail));
+  begins = ap (λ (z : Mine). z.trail) is.0 ∙ sym (append-nil d.trail);
   mine = tt;
-  seen = subst (λ (z : Mine). IsSeen from (trail_of z.trail)) (sym is.0);
-  none = ap (λ (z : Mine). own pass (trail_of z.trail)) is.0;
+  seen = subst (λ (z : Mine). IsSeen from z.trail) (sym is.0);
+  none = ap (λ (z : Mine). own pass z.trail) is.0;
 }
 sweep_tells from pass count among released answer d e begins next few (inr t) = record {
   few = subst (λ (z : ℕ). z ≤ answer) (sym t.many) few;
@@ -46,6 +45,6 @@ sweep_tells from pass count among released answer d e begins next few (inr t) = 
   more = t.more;
   begins = t.trail;
   mine = t.mine;
-  seen = λ old. subst (λ (z : List (Option Page)). IsSeen z (trail_of e.trail)) (t.first ∙ begins) t.seen;
+  seen = λ old. subst (λ (z : List (Option Page)). IsSeen z e.trail) (t.first ∙ begins) t.seen;
   none = t.own;
 }

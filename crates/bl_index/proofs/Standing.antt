@@ -20,7 +20,6 @@ use Rattle.bl_proc_bounds.specs.Latches.{IsTidy}
 use Rattle.bl_proc_invariant.specs.Knowing.{end_of_proc}
 use Rattle.bl_proc_invariant.specs.Logs.{proc_log}
 use Rattle.bl_index_rule.specs.declared.known.Mine.{Mine}
-use Rattle.bl_index_rule.specs.Noting.{trail_of}
 use Rattle.bl_claims.specs.Seeing.{name}
 use Rattle.bl_index_rule.specs.Told.{Goes, Finishes, ends}
 use Rattle.bl_index.specs.Held.{own_marks, proc_held}
@@ -139,8 +138,8 @@ concluded pass page old d e f first ending last since opens goes told op work =
       takes = opens.ended;
       op = op;
       work = work;
-      log = subst (λ (z : Proc × Name). proc_log z.0 (marks_of z.1 (trail_of f.trail))) (λ i. (is_last i, name (after.named i) (after.number i))) done.log;
-      tidy = subst (λ (z : Proc × Name). IsTidy z.0 (marks_of z.1 (trail_of f.trail))) (λ i. ((done.state ∙ is_last) i, name (after.named i) (after.number i))) told.0.notes.tidy;
+      log = subst (λ (z : Proc × Name). proc_log z.0 (marks_of z.1 f.trail)) (λ i. (is_last i, name (after.named i) (after.number i))) done.log;
+      tidy = subst (λ (z : Proc × Name). IsTidy z.0 (marks_of z.1 f.trail)) (λ i. ((done.state ∙ is_last) i, name (after.named i) (after.number i))) told.0.notes.tidy;
     }
 
 -- the same, from an earlier state of the process on

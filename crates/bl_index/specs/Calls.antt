@@ -19,7 +19,6 @@ use Rattle.bl_proc_meanings.specs.Answers.{MeansPosted, MeansHint}
 use Rattle.bl_proc_meanings.specs.Hinted.{MeansInserted, MeansDeleted}
 use Rattle.bl_proc_meanings.specs.Squeezed.{MeansSqueezed}
 use Rattle.bl_store.specs.Hands.{WasRefused}
-use Rattle.bl_index_rule.specs.Noting.{trail_of}
 use Rattle.bl_claims.specs.Seeing.{first_map, IsSeen, own, Holds, name}
 use Rattle.bl_index_rule.specs.Told.{IsRelease}
 use Rattle.bl_index.specs.Refused.{LacksForPage, LacksForPost}
@@ -46,7 +45,7 @@ number_of pass = pass.hand.number
 
 -- all that has happened in the index, up to the pass's own last event
 abbrev pub trail : Pass → Trail
-trail pass = trail_of pass.hand.seat.me.0.known.trail
+trail pass = pass.hand.seat.me.0.known.trail
 
 -- the map after all that a trail tells, of an index that began so
 abbrev pub map_after : List (Option Page) → Trail → Map

@@ -23,12 +23,11 @@ use Rattle.bl_proc.specs.declared.posting.PostStage.TheVariants as post
 use Rattle.bl_proc.specs.declared.kinds.Proc.{Proc}
 use Rattle.bl_proc.specs.declared.kinds.Proc.TheVariants as proc
 use Rattle.bl_index_rule.specs.declared.known.Mine.{Mine}
-use Rattle.bl_index_rule.specs.Noting.{trail_of}
 use Rattle.bl_index.specs.Refused.{GotLatched, HasRoom, IsFull, GotHeld, GotAnchor}
 
 -- what the last process of the pass has done
 abbrev pub own_marks : Mine → Trail
-own_marks d = marks_of (name d.pass d.number) (trail_of d.trail)
+own_marks d = marks_of (name d.pass d.number) d.trail
 
 -- the process has done more since, and has latched nothing
 abbrev pub KeepsLatch : Mine → Mine → Type 0

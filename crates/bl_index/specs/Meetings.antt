@@ -3,7 +3,6 @@ use Rattle.std.specs.Prelude.{◌≡◌, ℕ, List, Option}
 use Rattle.bl_page.specs.declared.page.Page.{Page}
 use Rattle.bl_claims.specs.Trails.{Trail}
 use Rattle.bl_index_rule.specs.declared.known.Mine.{Mine}
-use Rattle.bl_index_rule.specs.Noting.{trail_of}
 use Rattle.bl_claims.specs.Seeing.{IsSeen, AreWithin, own, GoesOnFrom}
 
 -- What the pass has seen begins with what both had seen, and has the entries of these two passes that they knew, and no
@@ -31,17 +30,17 @@ pub record Meet (first : List (Option Page)) (one two : ℕ) (old_one old_two ne
 
 -- of what the pass knew, what the other knows, and what the pass knows then
 pub record Learned (pass other among : ℕ) (d e f : Mine) : Type 0 where
-  pub learns : Learns pass other (trail_of d.trail) (trail_of e.trail) (trail_of f.trail)
+  pub learns : Learns pass other d.trail e.trail f.trail
   pub first : f.first ≡ d.first
-  pub seen : IsSeen f.first (trail_of f.trail)
-  pub within : AreWithin among (trail_of f.trail)
+  pub seen : IsSeen f.first f.trail
+  pub within : AreWithin among f.trail
   pub runs : f.runs ≡ d.runs
 
 abbrev pub learned : ℕ → ℕ → ℕ → Mine → Mine → Mine → Type 0
 learned pass other among d e f = Learned pass other among d e f
 
 pub record Heard (pass : ℕ) (d e f : Mine) : Type 0 where
-  pub hears : Hears pass (trail_of d.trail) (trail_of e.trail) (trail_of f.trail)
+  pub hears : Hears pass d.trail e.trail f.trail
   pub first : f.first ≡ d.first
   pub runs : f.runs ≡ d.runs
 

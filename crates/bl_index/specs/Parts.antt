@@ -16,7 +16,6 @@ use Rattle.bl_store.specs.declared.store.Glance.{Glance}
 use Rattle.bl_store.specs.declared.view.View.{View}
 use Rattle.bl_store.specs.Hands.{known, read_words, IsIdle, IsRunning, ReadsFrom}
 use Rattle.bl_index_rule.specs.declared.known.Mine.{Mine}
-use Rattle.bl_index_rule.specs.Noting.{trail_of}
 use Rattle.bl_claims.specs.Seeing.{IsSeen}
 use Rattle.bl_index.specs.declared.listing.Ahead.{Ahead}
 use Rattle.bl_index.specs.declared.listing.Ahead.TheVariants as ahead
@@ -54,7 +53,7 @@ pub record HasLeaf (l : Layout) (pass from : ℕ) (old : Mine) (h : Seat (Unit {
   pub leaf : IsAtLeaf from (read_words h) (known h)
   pub process : IsOn l (known h) (known h).state
   pub since : IsSince pass old (known h)
-  pub last : IsAtLast l.pages pass (old.number + 1) (trail_of (known h).trail)
+  pub last : IsAtLast l.pages pass (old.number + 1) (known h).trail
 
 -- It has run out of turns, and has ended.
 pub record HasGivenUp (l : Layout) (pass turns : ℕ) (old : Mine) (h : Seat (Unit {0}) (View Mine)) : Type 0 where
@@ -62,5 +61,5 @@ pub record HasGivenUp (l : Layout) (pass turns : ℕ) (old : Mine) (h : Seat (Un
   pub within : IsWithin h
   pub rests : (known h).runs ≡ false
   pub first : (known h).first ≡ old.first
-  pub seen : IsSeen (known h).first (trail_of (known h).trail)
-  pub out : RunsOut old.first l.pages pass turns (trail_of old.trail) (trail_of (known h).trail)
+  pub seen : IsSeen (known h).first (known h).trail
+  pub out : RunsOut old.first l.pages pass turns old.trail (known h).trail

@@ -20,7 +20,6 @@ use Rattle.bl_proc_bounds.specs.Latches.{IsTidy}
 use Rattle.bl_proc.specs.declared.kinds.Proc.{Proc}
 use Rattle.bl_proc.specs.Processes.{next_of, Takes}
 use Rattle.bl_index_rule.specs.declared.known.Mine.{Mine}
-use Rattle.bl_index_rule.specs.Noting.{trail_of}
 use Rattle.bl_claims.specs.Seeing.{own, AreWithin, AreElse, AreOnlyOf, name}
 use Rattle.bl_index_rule.specs.Told.{IsNear, HasOwn, Goes, Finishes}
 use Rattle.bl_index.specs.Held.{own_marks, proc_held}
@@ -40,19 +39,19 @@ pub record IsSince (pass : ℕ) (old d : Mine) : Type 0 where
   pub named : d.pass ≡ pass
   pub number : d.number ≡ old.number + 1
   pub beginning : d.first ≡ old.first
-  pub past : d.past ≡ own pass (trail_of old.trail)
+  pub past : d.past ≡ own pass old.trail
   pub own : HasOwn d
   pub before : Trail
   pub first : Mark
   pub since : Trail
-  pub begins : trail_of d.trail ≡ trail_of old.trail ++ (before ++ first ∷ since)
+  pub begins : d.trail ≡ old.trail ++ (before ++ first ∷ since)
   pub begun : first.event ≡ record { process = name pass (old.number + 1); act = Begin }
   pub none : AreElse pass before
   pub only : AreOnlyOf (name pass (old.number + 1)) since
 
 -- all that its pass has seen was done by the passes of its layout
 abbrev pub IsWithin : Seat (Unit {0}) (View Mine) → Type 0
-IsWithin h = AreWithin h.me.0.layout.passes (trail_of (known h).trail)
+IsWithin h = AreWithin h.me.0.layout.passes (known h).trail
 
 -- one event of the process
 abbrev pub Moves : Mine → Mine → Type 0
@@ -75,8 +74,8 @@ pub record IsDone (pass : ℕ) (old e : Mine) (first last : Proc) : Type 0 where
   pub takes : Takes before seen.Done last
   pub op : op_of before ≡ op_of first
   pub work : work_of before ≡ work_of first
-  pub log : proc_log last (marks_of (name pass (old.number + 1)) (trail_of e.trail))
-  pub tidy : IsTidy last (marks_of (name pass (old.number + 1)) (trail_of e.trail))
+  pub log : proc_log last (marks_of (name pass (old.number + 1)) e.trail)
+  pub tidy : IsTidy last (marks_of (name pass (old.number + 1)) e.trail)
 
 -- After a step of the process p, which is then q: it has gone on by one event; or it is to end, and nothing has happened.
 abbrev pub IsAfter : Layout → Seat (Unit {0}) (View Mine) → Seat (Unit {0}) (View Mine) → Proc → Proc → Stepped → Type 0

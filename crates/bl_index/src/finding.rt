@@ -4,7 +4,6 @@ ghost use Rattle.std.specs.Prelude.{◌≡◌, None, false, IfOk};
 ghost use Rattle.bl_model.specs.declared.operation.Op.TheVariants as op;
 ghost use Rattle.bl_proc_invariant.specs.Knowing.{found_reply};
 ghost use Rattle.bl_store.specs.Hands.{known, IsOf, IsIdle, IsSameHand, IsSameStock};
-ghost use Rattle.bl_index_rule.specs.Noting.{trail_of};
 ghost use Rattle.bl_claims.specs.Seeing.{IsSeen};
 ghost use Rattle.bl_proc_base.specs.declared.acts.Action.TheVariants as act;
 ghost use Rattle.bl_proc.specs.Searches.{find_next_in};
@@ -66,8 +65,8 @@ impl Index {
         ensures within { IsWithin hand.new.seat }
         ensures rests { (known hand.new.seat).runs ≡ false }
         ensures first { (known hand.new.seat).first ≡ (known hand.old.seat).first }
-        ensures seen { IsSeen (known hand.new.seat).first (trail_of (known hand.new.seat).trail) }
-        ensures answers { AnswersOrRunsOut (known hand.old.seat).first self.now.store.layout.pages hand.old.number turns (op.Find key) (found_of result) (trail_of (known hand.old.seat).trail) (trail_of (known hand.new.seat).trail) }
+        ensures seen { IsSeen (known hand.new.seat).first (known hand.new.seat).trail }
+        ensures answers { AnswersOrRunsOut (known hand.old.seat).first self.now.store.layout.pages hand.old.number turns (op.Find key) (found_of result) (known hand.old.seat).trail (known hand.new.seat).trail }
     {
         let mut process = Find::new(key);
         self.begin(hand, &mut process);

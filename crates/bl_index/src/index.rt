@@ -2,7 +2,6 @@
 
 ghost use Rattle.std.specs.Prelude.{◌≡◌, false};
 ghost use Rattle.bl_store.specs.Hands.{known, IsIdle, HasNoStock};
-ghost use Rattle.bl_index_rule.specs.Noting.{trail_of};
 ghost use Rattle.bl_claims.specs.Seeing.{IsSeen};
 ghost use Rattle.bl_index.specs.Runs.{IsWithin};
 
@@ -28,7 +27,7 @@ pub struct Pass {
     pub ghost empty: { HasNoStock hand.seat },
     pub ghost within: { IsWithin hand.seat },
     pub ghost rests: { (known hand.seat).runs ≡ false },
-    pub ghost seen: { ∥ IsSeen (known hand.seat).first (trail_of (known hand.seat).trail) ∥₁ },
+    pub ghost seen: { ∥ IsSeen (known hand.seat).first (known hand.seat).trail ∥₁ },
 }
 
 impl Pass {

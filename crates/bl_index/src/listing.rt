@@ -9,7 +9,6 @@ ghost use Rattle.bl_proc.specs.declared.parts.PartStage.TheVariants as part_stag
 ghost use Rattle.bl_proc.specs.Processes.{next_of};
 ghost use Rattle.bl_proc_unique.specs.Courses.{GoesOn};
 ghost use Rattle.bl_store.specs.Hands.{known, IsOf, IsIdle, IsRunning, IsSameHand, IsSameStage, IsSameStock};
-ghost use Rattle.bl_index_rule.specs.Noting.{trail_of};
 ghost use Rattle.bl_claims.specs.Seeing.{IsSeen};
 ghost use Rattle.bl_index_rule.specs.Told.{Begins, Steps, ends, IsUnborn};
 ghost use Rattle.bl_index.specs.declared.listing.Ahead.TheVariants as ahead;
@@ -64,8 +63,8 @@ impl Index {
         ensures within { IsWithin hand.new.seat }
         ensures rests { (known hand.new.seat).runs ≡ false }
         ensures first { (known hand.new.seat).first ≡ (known hand.old.seat).first }
-        ensures seen { IsSeen (known hand.new.seat).first (trail_of (known hand.new.seat).trail) }
-        ensures answers { AnswersOrRunsOut (known hand.old.seat).first self.now.store.layout.pages hand.old.number turns (op.Part from) result (trail_of (known hand.old.seat).trail) (trail_of (known hand.new.seat).trail) }
+        ensures seen { IsSeen (known hand.new.seat).first (known hand.new.seat).trail }
+        ensures answers { AnswersOrRunsOut (known hand.old.seat).first self.now.store.layout.pages hand.old.number turns (op.Part from) result (known hand.old.seat).trail (known hand.new.seat).trail }
     {
         let Some(glance) = self.come_to_leaf(hand, from, turns) else {
             return Err(OutOfTurns);

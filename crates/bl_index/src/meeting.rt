@@ -2,7 +2,6 @@
 
 ghost use Rattle.std.specs.Prelude.{◌≡◌, ℕ, false};
 ghost use Rattle.bl_store.specs.Hands.{known, IsOf, IsIdle, HasNoStock, IsSameHand, IsSameStage, IsSameStock};
-ghost use Rattle.bl_index_rule.specs.Noting.{trail_of};
 ghost use Rattle.bl_claims.specs.Seeing.{GoesOnFrom};
 ghost use Rattle.bl_index.specs.Runs.{IsWithin};
 ghost use Rattle.bl_index.specs.Meetings.{learned, heard};
@@ -99,7 +98,7 @@ impl Index {
         requires own { IsOf self.now.store.table.shared.table_id self.now.store.layout hand.old.seat × IsOf self.now.store.table.shared.table_id self.now.store.layout other.old.seat }
         requires idle { IsIdle other.old.seat × HasNoStock other.old.seat }
         requires names { hand.old.number ≡ J.pass }
-        requires begins { GoesOnFrom (trail_of (known hand.old.seat).trail) (trail_of (known other.old.seat).trail) }
+        requires begins { GoesOnFrom (known hand.old.seat).trail (known other.old.seat).trail }
         ensures same { IsSameHand hand.old.seat hand.new.seat × IsSameStage hand.old.seat hand.new.seat × IsSameStock hand.old.seat hand.new.seat }
         ensures other { IsSameHand other.old.seat other.new.seat × IsIdle other.new.seat × HasNoStock other.new.seat × (known other.new.seat ≡ known other.old.seat) }
         ensures told { heard J.pass (known hand.old.seat) (known other.old.seat) (known hand.new.seat) }

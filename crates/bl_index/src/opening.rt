@@ -10,7 +10,7 @@ use crate::config::{Config, OpenFault};
 use crate::index::{Index, Pass};
 use arrayvec::ArrayVec;
 use bl_check::Quiet;
-use bl_index_rule::{Beginning, Mine, Passes};
+use bl_index_rule::{Beginning, Happened, Mine, Passes};
 use bl_page::{Anchor, Leaf, Page};
 use bl_proc::{Find, FindStage, Proc};
 use bl_store::{Hand, Store};
@@ -83,7 +83,7 @@ fn beginner(alloc: Global, first: Beginning<Page>) -> Mine
         }),
         first,
         past: LinkedList::new(alloc),
-        trail: LinkedList::new(alloc),
+        trail: Happened::nothing(),
     }
 }
 

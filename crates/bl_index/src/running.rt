@@ -12,7 +12,6 @@ ghost use Rattle.bl_proc_invariant.specs.Logs.{proc_log};
 ghost use Rattle.bl_claims.specs.Latches.{OnlyLooks};
 ghost use Rattle.bl_proc_bounds.specs.Latches.{IsTidy};
 ghost use Rattle.bl_claims.specs.Trails.{marks_of};
-ghost use Rattle.bl_index_rule.specs.Noting.{trail_of};
 ghost use Rattle.bl_claims.specs.Seeing.{name};
 ghost use Rattle.bl_store.specs.Hands.{known, IsOf, IsIdle, IsRunning, IsSameHand, IsSameStage, IsSameStock, IsSameRefusal};
 ghost use Rattle.bl_index_rule.specs.Told.{Begins, Steps, Finishes, IsUnborn, MayGiveUp};
@@ -95,8 +94,8 @@ impl Index {
         ensures same { IsSameHand hand.old.seat hand.new.seat × IsSameStock hand.old.seat hand.new.seat }
         ensures idle { IsIdle hand.new.seat }
         ensures told { Finishes (end_of_proc (P.proc_of process.old)) (known hand.old.seat) (known hand.new.seat) }
-        ensures tidy { IsTidy (P.proc_of process.new) (marks_of (name (known hand.old.seat).pass (known hand.old.seat).number) (trail_of (known hand.new.seat).trail)) }
-        ensures log { proc_log (P.proc_of process.new) (marks_of (name (known hand.old.seat).pass (known hand.old.seat).number) (trail_of (known hand.new.seat).trail)) }
+        ensures tidy { IsTidy (P.proc_of process.new) (marks_of (name (known hand.old.seat).pass (known hand.old.seat).number) (known hand.new.seat).trail) }
+        ensures log { proc_log (P.proc_of process.new) (marks_of (name (known hand.old.seat).pass (known hand.old.seat).number) (known hand.new.seat).trail) }
         ensures takes { P.Takes process.old seen.Done process.new }
         ensures within { IsWithin hand.new.seat }
         ensures refusal { IsSameRefusal hand.old.seat hand.new.seat }
@@ -115,7 +114,7 @@ impl Index {
         ensures same { IsSameHand hand.old.seat hand.new.seat × IsSameStock hand.old.seat hand.new.seat }
         ensures idle { IsIdle hand.new.seat }
         ensures told { Finishes None (known hand.old.seat) (known hand.new.seat) }
-        ensures looks { OnlyLooks (marks_of (name (known hand.old.seat).pass (known hand.old.seat).number) (trail_of (known hand.new.seat).trail)) }
+        ensures looks { OnlyLooks (marks_of (name (known hand.old.seat).pass (known hand.old.seat).number) (known hand.new.seat).trail) }
         ensures within { IsWithin hand.new.seat }
     {
         self.store.end::<GaveUp>(hand);

@@ -3,7 +3,6 @@
 ghost use Rattle.std.specs.Prelude.{◌≡◌, ◌-◌, Some, false, vec_len};
 ghost use Rattle.std.specs.Vec.{vec_capacity};
 ghost use Rattle.bl_store.specs.Hands.{known, IsOf, IsIdle, IsSameHand, IsSameStock};
-ghost use Rattle.bl_index_rule.specs.Noting.{trail_of};
 ghost use Rattle.bl_claims.specs.Seeing.{IsSeen};
 ghost use Rattle.bl_index.specs.Runs.{IsWithin};
 ghost use Rattle.bl_index.specs.Scans.{is_below as below, IsOver, MayAppend, MayScan};
@@ -97,8 +96,8 @@ impl Index {
         ensures within { IsWithin hand.new.seat }
         ensures rests { (known hand.new.seat).runs ≡ false }
         ensures first { (known hand.new.seat).first ≡ (known hand.old.seat).first }
-        ensures seen { IsSeen (known hand.new.seat).first (trail_of (known hand.new.seat).trail) }
-        ensures appends { MayAppend (known hand.old.seat).first self.now.store.layout.pages hand.old.number turns from to (vec_capacity rows.new - vec_len rows.new) result rows.old.items rows.new.items (trail_of (known hand.old.seat).trail) (trail_of (known hand.new.seat).trail) }
+        ensures seen { IsSeen (known hand.new.seat).first (known hand.new.seat).trail }
+        ensures appends { MayAppend (known hand.old.seat).first self.now.store.layout.pages hand.old.number turns from to (vec_capacity rows.new - vec_len rows.new) result rows.old.items rows.new.items (known hand.old.seat).trail (known hand.new.seat).trail }
     {
         let Some(glance) = self.come_to_leaf(hand, from, turns) else {
             return Err(ScanFault::OutOfTurns(from));

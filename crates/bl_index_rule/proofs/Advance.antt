@@ -25,11 +25,9 @@ use Rattle.bl_proc_bounds.specs.Paces.{AllKept}
 use Rattle.bl_proc_bounds.proofs.Bounded.{search_within, search_below}
 use Rattle.bl_store.specs.Pages.{Owner, Stage, Running, Pages, Stands}
 use Rattle.bl_index_rule.specs.declared.known.Mine.{Mine}
-use Rattle.bl_index_rule.specs.Noting.{trail_of}
 use Rattle.bl_claims.specs.Seeing.{first_map, BeginsFrom, IsSeen, AreWithin, own, name}
 use Rattle.bl_index_rule.specs.Fitting.{Shows, owner_in, IsAtStage, IsHand, IsRun, Fits}
 use Rattle.bl_index_rule.specs.Told.{IsNear, HasOwn, Notes}
-use Rattle.bl_index_rule.proofs.Notings.{trail_back}
 use Rattle.bl_index_rule.proofs.Stages.{turn_mark, after, own_after, hand_self, hand_else}
 use Rattle.bl_index_rule.proofs.Sights.{world_moment, world_seen, near_pages}
 use Rattle.bl_index_rule.proofs.Shown.{at_below}
@@ -88,10 +86,10 @@ module _ (s : Pages Mine) (f : Fits s) (n m : ℕ) (st : Stage) (d : Mine) (at :
     busy = λ p since runs. subst (λ (z : List (Stage × Mine)). IsRun z p since) (sym hands) (runs_after s.hands n m st st' d next_known at refl f.world.now.phase s1.phase others f.busy current on p since (ap (λ (z : State Page). z.phase p) (sym t.now) ∙ runs));
   }
 
-  pub next_seen : KeepsLogs t.next → IsSeen d.first (trail_of next_known.trail)
+  pub next_seen : KeepsLogs t.next → IsSeen d.first next_known.trail
   next_seen logs =
       let seen : IsSeen f.image t.next.trail = world_seen t.next f.image t.good (subst (BeginsFrom f.image) (sym t.extends.start) f.opening) (t.extends.first ∙ f.first) (next_moments logs) in
-      subst (λ (z : List (Option Page)). IsSeen z (trail_of next_known.trail)) (sym (f.firsts n st d at)) (subst (IsSeen f.image) (sym (trail_back t.next.trail)) seen)
+      subst (λ (z : List (Option Page)). IsSeen z next_known.trail) (sym (f.firsts n st d at)) seen
 
   pub next_notes : KeepsLogs t.next → AllKept t.next → Notes n m a d next_known
   next_notes logs all_kept =
@@ -100,17 +98,17 @@ module _ (s : Pages Mine) (f : Fits s) (n m : ℕ) (st : Stage) (d : Mine) (at :
       record {
         between = h.begins.0;
         last = mk;
-        trail = trail_back t.next.trail ∙ (t.extends.trail ∙ (ap (λ (l : Trail). l ++ mk ∷ []) h.begins.1 ∙ append_assoc (trail_of d.trail) h.begins.0 (mk ∷ [])));
+        trail = t.extends.trail ∙ (ap (λ (l : Trail). l ++ mk ∷ []) h.begins.1 ∙ append_assoc d.trail h.begins.0 (mk ∷ []));
         event = refl;
         first = refl;
         seen = next_seen logs;
-        within = subst (AreWithin (length s.hands)) (sym (trail_back t.next.trail)) next_within;
+        within = next_within;
         pass = refl;
         number = refl;
         others = h.begins.2;
-        bounded = λ search. subst (IsWithinBound f.world.size (name n m)) (sym (trail_back t.next.trail)) (subst (λ (z : ℕ). IsWithinBound z (name n m) t.next.trail) t.extends.size (search_within t.next (name n m) t.good all_kept.paced (subst (λ (r : Run). IsSearch r.state) (sym t.extends.proc.at) search)));
-        below = λ search. subst (IsBelowBound f.world.size (name n m)) (sym (trail_back t.next.trail)) (subst (λ (z : ℕ). IsBelowBound z (name n m) t.next.trail) t.extends.size (search_below t.next (name n m) all_kept.paced (subst (λ (r : Run). IsUnderWay r.state) (sym t.extends.proc.at) search)));
-        tidy = subst (λ (r : Run). IsTidy r.state (marks_of (name n m) (trail_of next_known.trail))) t.extends.proc.at (subst (λ (l : Trail). IsTidy (t.next.proc (name n m)).state (marks_of (name n m) l)) (sym (trail_back t.next.trail)) (all_kept.tidy (name n m)));
+        bounded = λ search. subst (λ (z : ℕ). IsWithinBound z (name n m) t.next.trail) t.extends.size (search_within t.next (name n m) t.good all_kept.paced (subst (λ (r : Run). IsSearch r.state) (sym t.extends.proc.at) search));
+        below = λ search. subst (λ (z : ℕ). IsBelowBound z (name n m) t.next.trail) t.extends.size (search_below t.next (name n m) all_kept.paced (subst (λ (r : Run). IsUnderWay r.state) (sym t.extends.proc.at) search));
+        tidy = subst (λ (r : Run). IsTidy r.state (marks_of (name n m) next_known.trail)) t.extends.proc.at (all_kept.tidy (name n m));
       }
 
   -- the mark of the event shows what it saw
@@ -129,7 +127,7 @@ module _ (s : Pages Mine) (f : Fits s) (n m : ℕ) (st : Stage) (d : Mine) (at :
   next_own was = record {
     run = t.next.proc (name n m);
     state = ap (λ (r : Run). r.state) t.extends.proc.at;
-    own = ap (own n) (trail_back t.next.trail) ∙ own_after f.world f.good n m a s1 b t past was;
+    own = own_after f.world f.good n m a s1 b t past was;
   }
 
   -- where it runs on

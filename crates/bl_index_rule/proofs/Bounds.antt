@@ -37,11 +37,9 @@ use Rattle.bl_proc_unique.specs.Courses.{GoesOn}
 use Rattle.bl_layout.specs.declared.layout.Layout.{Layout}
 use Rattle.bl_store.specs.Pages.{Held, Stage, Idle, Running, Pages, Stands, IsOrderly, HoldsNone, told, Begins as BeginsIn, Ends}
 use Rattle.bl_index_rule.specs.declared.known.Mine.{Mine}
-use Rattle.bl_index_rule.specs.Noting.{trail_of}
 use Rattle.bl_claims.specs.Seeing.{own, name}
 use Rattle.bl_index_rule.specs.Fitting.{owner_in, IsAtStage, IsHand, Fits}
 use Rattle.bl_index_rule.specs.Told.{MayGiveUp, IsUnborn, Notes, Finishes, begins, ends, gives_up}
-use Rattle.bl_index_rule.proofs.Notings.{trail_back}
 use Rattle.bl_index_rule.proofs.Entries.{own-mine}
 use Rattle.bl_index_rule.proofs.Marks.{each_append, no_marks}
 use Rattle.bl_index_rule.proofs.Stages.{pass_of, number_of, turn_mark}
@@ -92,8 +90,8 @@ module _ (s : Pages Mine) (f : Fits s) (n : ℕ) (d : Mine) (at : Stands s n Idl
   none_yet : marks_of next_name f.world.trail ≡ []
   none_yet =
       let h = f.hands n Idle d at in
-      no_marks next_name f.world.trail (subst (Each (λ (m : Mark). m.event.process ≢ next_name)) (sym h.begins.1) (each_append _ (trail_of d.trail) h.begins.0
-      (Each-map _ _ (trail_of d.trail) (λ (m : Mark) (up : m.event.process.pass ≡ n → m.event.process.number ≤ d.number) (e : m.event.process ≡ next_name). (let few = up (pass_of _ _ e) in let is : m.event.process.number ≡ d.number + 1 = number_of _ _ e in absurd (omega arith))) h.counted)
+      no_marks next_name f.world.trail (subst (Each (λ (m : Mark). m.event.process ≢ next_name)) (sym h.begins.1) (each_append _ d.trail h.begins.0
+      (Each-map _ _ d.trail (λ (m : Mark) (up : m.event.process.pass ≡ n → m.event.process.number ≤ d.number) (e : m.event.process ≡ next_name). (let few = up (pass_of _ _ e) in let is : m.event.process.number ≡ d.number + 1 = number_of _ _ e in absurd (omega arith))) h.counted)
       (Each-map _ _ h.begins.0 (λ (m : Mark) (ne : m.event.process.pass ≢ n) (e : m.event.process ≡ next_name). ne (pass_of _ _ e)) h.begins.2)))
 
   pub entered : Fits s
@@ -150,7 +148,7 @@ begins_process l n d process next unborn course s g o at =
     let early : proc_log process (marks_of p w.trail) = early_log b blank.stage (marks_of p w.trail) in
     let kept : AllKept t.next = state_kept w t.next p process b' seen.Done act.Begin _ refl (ap (λ (r : Run). r.state) here) next t.extends f.good t.good early course.takes tt f.kept in
     let log : proc_log course.new (marks_of p t.next.trail) = log_after w p process seen.Done course act.Begin s1 b' t next tt early in
-    let past : List Entry = own n (trail_of d.trail) in
+    let past : List Entry = own n d.trail in
     let silent : entries_at p (know (w.proc p)).said ≡ [] = ap (entries_at p) (ap (λ (r : Run). (know r).said) here ∙ blank.said) in
     let was : own n w.trail ≡ past ++ entries_at p (know (w.proc p)).said = h.mine ∙ (sym (append-nil past) ∙ ap (λ (z : List Entry). past ++ z) (sym silent)) in
     let e : Mine = next_known s f n m Idle d at Act.Begin s1 b' t true past in
@@ -187,7 +185,7 @@ end_silent trail m answer is marked (Some said) e = (
 
 module _ (l : Layout) (n : ℕ) (d : Mine) (s : Pages Mine) (since : ℕ) (f : Fits s) (o : IsOrderly l s) (at : Stands s n (Running since) d) (answer : Option Reply) (b : Run)
     (t : Turned know f.world (name n d.number) (Act.End answer) (record f.world.now { phase = put_name (name n d.number) machine.Ended f.world.now.phase }) b) where
-  pub finishes : AllKept t.next → HoldsNone s n × (e : Mine) × Fits (told s n Idle e) × Finishes answer d e × (trail_of e.trail ≡ t.next.trail) × (e.state ≡ b.state)
+  pub finishes : AllKept t.next → HoldsNone s n × (e : Mine) × Fits (told s n Idle e) × Finishes answer d e × (e.trail ≡ t.next.trail) × (e.state ≡ b.state)
   finishes all_kept =
       let w = f.world in
       let p = name n d.number in
@@ -201,7 +199,7 @@ module _ (l : Layout) (n : ℕ) (d : Mine) (s : Pages Mine) (since : ℕ) (f : F
       let notes : Notes n d.number (Act.End answer) d e = next_notes s f n d.number (Running since) d at (Act.End answer) s1 b t false d.past logs all_kept in
       let mk = turn_mark w f.good n d.number (Act.End answer) s1 b t in
       let silent : t.said ≡ None = end_silent w.trail mk answer refl (subst IsMarked t.extends.trail t.good.recorded.marked) t.said refl in
-      let kept : own n (trail_of e.trail) ≡ own n (trail_of d.trail) = ap (own n) (trail_back t.next.trail ∙ t.extends.trail) ∙ (own-mine n w.trail mk refl ∙ (ap (λ (z : Option Said). own n w.trail ++ entries_at p z) silent ∙ (append-nil (own n w.trail) ∙ h.mine))) in (
+      let kept : own n e.trail ≡ own n d.trail = ap (own n) t.extends.trail ∙ (own-mine n w.trail mk refl ∙ (ap (λ (z : Option Said). own n w.trail ++ entries_at p z) silent ∙ (append-nil (own n w.trail) ∙ h.mine))) in (
         λ x z. can.1 x (f.owners x (Held n) z ∙ held_by s.hands n (Running since, d) at),
         e,
         advance s f n d.number (Running since) d at (Act.End answer) s1 b t false d.past logs all_kept (told s n Idle e) Idle refl refl (omega arith) f.clock
@@ -215,9 +213,9 @@ module _ (l : Layout) (n : ℕ) (d : Mine) (s : Pages Mine) (since : ℕ) (f : F
           runs = refl;
           pages = sym named.1;
           passes = sym (f.counts n (Running since) d at (standing s f n since d at).1);
-          own = subst (λ (z : ℕ). own z (trail_of e.trail) ≡ own z (trail_of d.trail)) (sym named.0) kept;
+          own = subst (λ (z : ℕ). own z e.trail ≡ own z d.trail) (sym named.0) kept;
         },
-        trail_back t.next.trail,
+        refl,
         refl,
       )
 
@@ -251,5 +249,5 @@ gives_up_process l n d may s since f o at =
     let z = finishes l n d s since f o at None _ t (left_kept w t.next _ (given_up r) _ t.extends f.good t.good refl refl search ends f.kept) in
     let mk = turn_mark w f.good n d.number (Act.End None) s1 (given_up r) t in
     let looks : OnlyLooks (marks_of p w.trail ++ mk ∷ []) = looks_up w p r.state mk f.kept.tidy refl search ends in
-    let marks : marks_of p (trail_of z.1.trail) ≡ marks_of p w.trail ++ mk ∷ [] = ap (marks_of p) (z.4 ∙ t.extends.trail) ∙ marks_of-own p w.trail mk refl in
-    (z.0, z.1, z.2, (z.3, subst (λ (q : Name). OnlyLooks (marks_of q (trail_of z.1.trail))) (λ i. name (sym named.0 i) d.number) (subst OnlyLooks (sym marks) looks)))
+    let marks : marks_of p z.1.trail ≡ marks_of p w.trail ++ mk ∷ [] = ap (marks_of p) (z.4 ∙ t.extends.trail) ∙ marks_of-own p w.trail mk refl in
+    (z.0, z.1, z.2, (z.3, subst (λ (q : Name). OnlyLooks (marks_of q z.1.trail)) (λ i. name (sym named.0 i) d.number) (subst OnlyLooks (sym marks) looks)))

@@ -1,4 +1,3 @@
-pub mod Notings
 pub mod Entries
 pub mod Within
 pub mod Marks

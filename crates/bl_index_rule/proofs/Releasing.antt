@@ -21,11 +21,9 @@ use Rattle.bl_proc_bounds.proofs.Kept.{idle_kept}
 use Rattle.bl_layout.specs.declared.layout.Layout.{Layout}
 use Rattle.bl_store.specs.Pages.{Owner, Released, Held, Retired, Stage, Idle, Running, Pages, Stands, IsPage, AllBeganAfter, told, owned, Releases, ReleasesMany as SweepsIn}
 use Rattle.bl_index_rule.specs.declared.known.Mine.{Mine}
-use Rattle.bl_index_rule.specs.Noting.{trail_of}
 use Rattle.bl_claims.specs.Seeing.{own, name}
 use Rattle.bl_index_rule.specs.Fitting.{owner_in, Fits}
 use Rattle.bl_index_rule.specs.Told.{ReleasesPages, sweeps}
-use Rattle.bl_index_rule.proofs.Notings.{trail_back}
 use Rattle.bl_index_rule.proofs.Entries.{own-mine}
 use Rattle.bl_index_rule.proofs.Marks.{each_append, no_marks, many-append}
 use Rattle.bl_index_rule.proofs.Stages.{turn_mark, pass_of, number_of}
@@ -109,13 +107,13 @@ module _ (s : Pages Mine) (f : Fits s) (n m : ℕ) (d : Mine) (at : Stands s n I
         let h = f.hands n Idle d at in
         let mk = turn_mark f.world f.good n m (Act.Release x) freed (f.world.proc p) turned in
         let silent : turned.said ≡ None = (release f.world p x freed f.good can does).1 in
-        let trail : trail_of then_known.trail ≡ f.world.trail ++ mk ∷ [] = trail_back turned.next.trail ∙ turned.extends.trail in
+        let trail : then_known.trail ≡ f.world.trail ++ mk ∷ [] = turned.extends.trail in
         record {
           more = h.begins.0 ++ mk ∷ [];
-          trail = trail ∙ (ap (λ (l : Trail). l ++ mk ∷ []) h.begins.1 ∙ append_assoc (trail_of d.trail) h.begins.0 (mk ∷ []));
+          trail = trail ∙ (ap (λ (l : Trail). l ++ mk ∷ []) h.begins.1 ∙ append_assoc d.trail h.begins.0 (mk ∷ []));
           many = ap (λ (l : Trail). length l) (marks_of-own p h.begins.0 mk refl) ∙ ap (λ (l : Trail). length (l ++ mk ∷ [])) (no_marks p h.begins.0 (Each-map _ _ h.begins.0 (λ (k : Mark) (ne : k.event.process.pass ≢ n) (e : k.event.process ≡ p). ne (pass_of _ _ e)) h.begins.2));
           mine = each_append _ h.begins.0 (mk ∷ []) (Each-map _ _ h.begins.0 (λ (k : Mark) (ne : k.event.process.pass ≢ n) (e : k.event.process.pass ≡ n). absurd (ne e)) h.begins.2) ((λ e. (x, refl, silent)), tt);
-          fresh = λ low. Each-map _ _ (trail_of d.trail) (λ (k : Mark) (up : k.event.process.pass ≡ n → k.event.process.number ≤ d.number) (e : k.event.process ≡ p). (let few = up (pass_of _ _ e) in let is : k.event.process.number ≡ m = number_of _ _ e in omega arith)) h.counted;
+          fresh = λ low. Each-map _ _ d.trail (λ (k : Mark) (up : k.event.process.pass ≡ n → k.event.process.number ≤ d.number) (e : k.event.process ≡ p). (let few = up (pass_of _ _ e) in let is : k.event.process.number ≡ m = number_of _ _ e in omega arith)) h.counted;
           first = refl;
           seen = next_seen s f n m Idle d at (Act.Release x) freed (f.world.proc p) turned false d.past then_logs;
           within = (next_notes s f n m Idle d at (Act.Release x) freed (f.world.proc p) turned false d.past then_logs then_kept).within;
@@ -135,7 +133,7 @@ releases_page l n m d x time rests next s (Running since) words f o at page all 
 sweeps_more : (n m k i j : ℕ) (d e g : Mine) → ReleasesPages n m k i d e → ReleasesPages n m k j e g → ReleasesPages n m k (i + j) d g
 sweeps_more n m k i j d e g a b = record {
   more = a.more ++ b.more;
-  trail = b.trail ∙ (ap (λ (l : Trail). l ++ b.more) a.trail ∙ append_assoc (trail_of d.trail) a.more b.more);
+  trail = b.trail ∙ (ap (λ (l : Trail). l ++ b.more) a.trail ∙ append_assoc d.trail a.more b.more);
   many = many-append (name n m) a.more b.more ∙ ap (λ (z : ℕ × ℕ). z.0 + z.1) (λ t. (a.many t, b.many t));
   mine = each_append _ a.more b.more a.mine b.mine;
   fresh = a.fresh;

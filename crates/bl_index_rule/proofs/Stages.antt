@@ -12,10 +12,8 @@ use Rattle.bl_proc_invariant.specs.Turns.{Turned}
 use Rattle.bl_proc_invariant.specs.Knowing.{Run, bare as know}
 use Rattle.bl_store.specs.Pages.{Stage, Idle, Running}
 use Rattle.bl_index_rule.specs.declared.known.Mine.{Mine}
-use Rattle.bl_index_rule.specs.Noting.{trail_of, all_noted}
 use Rattle.bl_claims.specs.Seeing.{own, name}
 use Rattle.bl_index_rule.specs.Fitting.{IsAtStage, AreUpTo, IsHand}
-use Rattle.bl_index_rule.proofs.Notings.{trail_back}
 use Rattle.bl_index_rule.proofs.Doings.{log_else}
 use Rattle.bl_index_rule.proofs.Entries.{own-other, own-mine, said_grows}
 use Rattle.bl_index_rule.proofs.Marks.{each_append, up_to_on}
@@ -33,7 +31,7 @@ module _ (w : World Run) (good : IsGood know w) (n m : ℕ) (a : Act Page Reply)
 
   -- what the acting hand knows then
   abbrev pub after : ℕ → List (Option Page) → Bool → List Entry → Mine
-  after passes first runs past = record { pass = n; pages = w.size; passes = passes; number = m; runs = runs; state = b.state; first = first; past = past; trail = all_noted t.next.trail }
+  after passes first runs past = record { pass = n; pages = w.size; passes = passes; number = m; runs = runs; state = b.state; first = first; past = past; trail = t.next.trail }
 
   -- what it has said by then
   pub own_after : (past : List Entry) → own n w.trail ≡ past ++ entries_at (name n m) (know (w.proc (name n m))).said → own n t.next.trail ≡ past ++ entries_at (name n m) (know (t.next.proc (name n m))).said
@@ -57,9 +55,9 @@ module _ (w : World Run) (good : IsGood know w) (n m : ℕ) (a : Act Page Reply)
       named = λ begun. (refl, sym t.extends.size);
       stage = stage;
       later = λ j l. later_on n j (λ e. let f = number_of _ _ e in absurd (omega arith)) (h.later j (omega arith));
-      begins = ([], sym (append-nil (trail_of (all_noted t.next.trail)) ∙ trail_back t.next.trail), tt);
-      counted = subst (AreUpTo n m) (sym (trail_back t.next.trail ∙ (t.extends.trail ∙ ap (λ (l : Trail). l ++ turn_mark ∷ []) h.begins.1))) (up_to_on n d.number m (trail_of d.trail) h.begins.0 turn_mark h.counted h.begins.2 le (λ e. le_refl m));
-      mine = ap (own n) (sym (trail_back t.next.trail));
+      begins = ([], sym (append-nil t.next.trail), tt);
+      counted = subst (AreUpTo n m) (sym (t.extends.trail ∙ ap (λ (l : Trail). l ++ turn_mark ∷ []) h.begins.1)) (up_to_on n d.number m d.trail h.begins.0 turn_mark h.counted h.begins.2 le (λ e. le_refl m));
+      mine = refl;
     }
 
     own_else : (k : ℕ) → k ≢ n → own k t.next.trail ≡ own k w.trail
@@ -86,7 +84,7 @@ module _ (w : World Run) (good : IsGood know w) (n m : ℕ) (a : Act Page Reply)
       later = λ j l. later_on k j (λ e. ne (pass_of _ _ e)) (h.later j l);
       begins = (
         h.begins.0 ++ turn_mark ∷ [],
-        t.extends.trail ∙ (ap (λ (l : Trail). l ++ turn_mark ∷ []) h.begins.1 ∙ append_assoc (trail_of d.trail) h.begins.0 (turn_mark ∷ [])),
+        t.extends.trail ∙ (ap (λ (l : Trail). l ++ turn_mark ∷ []) h.begins.1 ∙ append_assoc d.trail h.begins.0 (turn_mark ∷ [])),
         each_append _ h.begins.0 (turn_mark ∷ []) h.begins.2 ((λ e. ne (sym e)), tt),
       );
       counted = h.counted;

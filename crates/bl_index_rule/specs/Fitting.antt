@@ -20,7 +20,6 @@ use Rattle.bl_proc_invariant.specs.Logs.{proc_log}
 use Rattle.bl_proc_bounds.specs.Paces.{AllKept}
 use Rattle.bl_store.specs.Pages.{Owner, Released, Open, Held, Retired, Stage, Idle, Running, Pages, Stands}
 use Rattle.bl_index_rule.specs.declared.known.Mine.{Mine}
-use Rattle.bl_index_rule.specs.Noting.{trail_of}
 use Rattle.bl_claims.specs.Seeing.{name, first_map, BeginsFrom, own, AreWithin, AreElse}
 
 -- a process that is to look a key up
@@ -73,9 +72,9 @@ pub record IsHand (w : World Run) (n : ℕ) (st : Stage) (d : Mine) : Type 0 whe
   pub named : d.number ≢ 0 → (d.pass ≡ n) × (d.pages ≡ w.size)
   pub stage : IsAtStage w n st d
   pub later : (m : ℕ) → d.number < m → (w.now.phase (name n m) ≡ machine.Waiting) × IsBlank (know (w.proc (name n m)))
-  pub begins : (rest : Trail) × (w.trail ≡ trail_of d.trail ++ rest) × AreElse n rest
-  pub counted : AreUpTo n d.number (trail_of d.trail)
-  pub mine : own n w.trail ≡ own n (trail_of d.trail)
+  pub begins : (rest : Trail) × (w.trail ≡ d.trail ++ rest) × AreElse n rest
+  pub counted : AreUpTo n d.number d.trail
+  pub mine : own n w.trail ≡ own n d.trail
 
 -- the hand that the process names runs it, since that time
 abbrev pub IsRun : List (Stage × Mine) → Name → ℕ → Type 0

@@ -1,3 +1,2 @@
-pub mod Noting
 pub mod Fitting
 pub mod Told

@@ -24,7 +24,6 @@ use Rattle.bl_core.specs.Blank.{IsBlank}
 use Rattle.bl_proc_unique.specs.Courses.{GoesOn}
 use Rattle.bl_store.specs.Pages.{Owner, Open}
 use Rattle.bl_index_rule.specs.declared.known.Mine.{Mine}
-use Rattle.bl_index_rule.specs.Noting.{trail_of}
 use Rattle.bl_claims.specs.Seeing.{IsSeen, AreWithin, AreElse, own, name}
 use Rattle.bl_index_rule.specs.Fitting.{AreUpTo}
 
@@ -46,7 +45,7 @@ IsNear pages (action.Release x) = Unit {0}
 pub record HasOwn (d : Mine) : Type 0 where
   pub run : Run
   pub state : run.state ≡ d.state
-  pub own : own d.pass (trail_of d.trail) ≡ d.past ++ entries_at (name d.pass d.number) (know run).said
+  pub own : own d.pass d.trail ≡ d.past ++ entries_at (name d.pass d.number) (know run).said
 
 -- One event of the pass's process of that count, after all that the pass knew and events of others: e is what it knows then.
 -- Where the process is a search, it has been within its bound at every moment, and below it while it is to get another page.
@@ -54,17 +53,17 @@ pub record HasOwn (d : Mine) : Type 0 where
 pub record Notes (by count : ℕ) (act : Act Page Reply) (d e : Mine) : Type 0 where
   pub between : Trail
   pub last : Mark
-  pub trail : trail_of e.trail ≡ trail_of d.trail ++ (between ++ last ∷ [])
+  pub trail : e.trail ≡ d.trail ++ (between ++ last ∷ [])
   pub event : last.event ≡ record { process = name by count; act = act }
   pub first : e.first ≡ d.first
-  pub seen : IsSeen e.first (trail_of e.trail)
-  pub within : AreWithin e.passes (trail_of e.trail)
+  pub seen : IsSeen e.first e.trail
+  pub within : AreWithin e.passes e.trail
   pub pass : e.pass ≡ by
   pub number : e.number ≡ count
   pub others : AreElse by between
-  pub bounded : IsSearch e.state → IsWithinBound e.pages (name by count) (trail_of e.trail)
-  pub below : IsUnderWay e.state → IsBelowBound e.pages (name by count) (trail_of e.trail)
-  pub tidy : IsTidy e.state (marks_of (name by count) (trail_of e.trail))
+  pub bounded : IsSearch e.state → IsWithinBound e.pages (name by count) e.trail
+  pub below : IsUnderWay e.state → IsBelowBound e.pages (name by count) e.trail
+  pub tidy : IsTidy e.state (marks_of (name by count) e.trail)
 
 -- the process goes on by one event
 pub record Steps (act : Act Page Reply) (d e : Mine) : Type 0 where
@@ -110,8 +109,8 @@ pub record Begins (by many among : ℕ) (process : Proc) (d e : Mine) : Type 0 w
   pub runs : e.runs ≡ true
   pub pages : e.pages ≡ many
   pub passes : e.passes ≡ among
-  pub past : e.past ≡ own by (trail_of d.trail)
-  pub fresh : AreUpTo by d.number (trail_of d.trail)
+  pub past : e.past ≡ own by d.trail
+  pub fresh : AreUpTo by d.number d.trail
   pub own : HasOwn e
   pub near : IsNear e.pages (next_of e.state)
   pub course : GoesOn process seen.Done
@@ -126,19 +125,19 @@ pub record Finishes (answer : Option Reply) (d e : Mine) : Type 0 where
   pub runs : e.runs ≡ false
   pub pages : e.pages ≡ d.pages
   pub passes : e.passes ≡ d.passes
-  pub own : own d.pass (trail_of e.trail) ≡ own d.pass (trail_of d.trail)
+  pub own : own d.pass e.trail ≡ own d.pass d.trail
 
 -- it has answered, and has done what its answer means
 pub record HasDone (d e : Mine) : Type 0 where
   pub course : GoesOn d.state seen.Done
   pub state : e.state ≡ course.new
-  pub log : proc_log course.new (marks_of (name d.pass d.number) (trail_of e.trail))
+  pub log : proc_log course.new (marks_of (name d.pass d.number) e.trail)
 
 abbrev pub ends : Mine → ℕ → Mine → Type 0
 ends d now e = Finishes (end_of_proc d.state) d e × HasDone d e
 
 abbrev pub gives_up : Mine → ℕ → Mine → Type 0
-gives_up d now e = Finishes None d e × OnlyLooks (marks_of (name d.pass d.number) (trail_of e.trail))
+gives_up d now e = Finishes None d e × OnlyLooks (marks_of (name d.pass d.number) e.trail)
 
 -- p released a page there, and said nothing
 abbrev pub IsRelease : Name → Mark → Type 0
@@ -148,14 +147,14 @@ IsRelease p m = (x : ℕ) × (m.event ≡ record { process = p; act = Act.Releas
 -- had none of it, and all that the pass does meanwhile is to release so many pages.
 pub record ReleasesPages (by count among released : ℕ) (d e : Mine) : Type 0 where
   pub more : Trail
-  pub trail : trail_of e.trail ≡ trail_of d.trail ++ more
+  pub trail : e.trail ≡ d.trail ++ more
   pub many : length (marks_of (name by count) more) ≡ released
   pub mine : Each (λ (m : Mark). m.event.process.pass ≡ by → IsRelease (name by count) m) more
-  pub fresh : d.number < count → Each (λ (m : Mark). m.event.process ≢ name by count) (trail_of d.trail)
+  pub fresh : d.number < count → Each (λ (m : Mark). m.event.process ≢ name by count) d.trail
   pub first : e.first ≡ d.first
-  pub seen : IsSeen e.first (trail_of e.trail)
-  pub within : AreWithin among (trail_of e.trail)
-  pub own : own by (trail_of e.trail) ≡ own by (trail_of d.trail)
+  pub seen : IsSeen e.first e.trail
+  pub within : AreWithin among e.trail
+  pub own : own by e.trail ≡ own by d.trail
   pub number : e.number ≡ count
   pub runs : e.runs ≡ false
 

@@ -1,56 +1,13 @@
 //! What a pass knows, as plain data.
 
-ghost use Rattle.std.specs.Prelude.{◌≡◌};
+ghost use Rattle.std.specs.Prelude.{◌≡◌, []};
 
-use bl_model::{Entry, Op, Reply};
-use bl_page::{Missed, Page};
+use bl_model::Entry;
+use bl_page::Page;
 use bl_proc::Proc;
 use std::collections::LinkedList;
 use std::marker::Model;
 use std::snapshot::Snapshot;
-
-/// A process: the pass that runs it, and its number among that pass's processes, from 1.
-#[derive(Drop)]
-pub struct Who {
-    pub pass: u32,
-    pub number: u64,
-}
-
-/// What one event did.
-#[derive(Drop)]
-pub enum Deed {
-    Begin,
-    /// An end, and what was answered, if anything.
-    End(Option<Reply>),
-    Get(u32),
-    Put(u32, Page),
-    Take(u32),
-    Latch(u32),
-    Open(u32),
-    Retire(u32),
-    /// A look at a process.
-    Look(Who),
-    /// A look at the owner of a page.
-    See(u32),
-    Release(u32),
-    Miss(Missed),
-}
-
-/// An answered operation.
-#[derive(Drop)]
-pub struct Spoken {
-    pub op: Op,
-    pub reply: Reply,
-}
-
-/// One event, the page that it saw, if it is a get, and the operation that has its point there, if one has.
-#[derive(Drop)]
-pub struct Noted {
-    pub who: Who,
-    pub deed: Deed,
-    pub saw: Option<Page>,
-    pub spoken: Option<Spoken>,
-}
 
 /// What an index began with: the pages of an image, or no pages where it was opened empty. It takes no room.
 #[derive(Drop)]
@@ -82,6 +39,44 @@ impl<P> Beginning<P> {
     }
 }
 
+/// Nothing has happened: the one trail of which a program makes a value.
+#[derive(Drop)]
+struct Nothing;
+
+impl Model for Nothing {
+    ghost use Rattle.std.specs.Prelude.{[]};
+    ghost use Rattle.bl_claims.specs.Trails.{Trail};
+
+    ghost Value = { Trail };
+
+    ghost view = { λ nothing. [] };
+}
+
+/// What has happened, as a trail: event by event. It takes no room, and only clauses see it.
+#[derive(Drop)]
+pub struct Happened {
+    trail: Snapshot<Nothing>,
+}
+
+impl Model for Happened {
+    ghost use Rattle.bl_claims.specs.Trails.{Trail};
+
+    ghost Value = { Trail };
+
+    ghost view = { λ happened. happened.trail.value };
+}
+
+impl Happened {
+    /// The trail before the first event.
+    pub fn nothing() -> Happened
+        ensures { result ≡ [] }
+    {
+        Happened {
+            trail: Snapshot::of(&Nothing),
+        }
+    }
+}
+
 /// What a pass knows.
 #[derive(Drop)]
 pub struct Mine {
@@ -102,5 +97,5 @@ pub struct Mine {
     /// The entries of the pass before that process.
     pub past: LinkedList<Entry>,
     /// All that had happened up to its own last event.
-    pub trail: LinkedList<Noted>,
+    pub trail: Happened,
 }

@@ -15,5 +15,5 @@ mod rule;
 pub use events::{
     Began, Ended, GaveUp, Got, Launch, Opened, Put, Refused, Retired, Sweeper, Swept, Took, Tried,
 };
-pub use known::{Beginning, Deed, Mine, Noted, Spoken, Who};
+pub use known::{Beginning, Happened, Mine};
 pub use rule::Passes;

@@ -6,7 +6,6 @@ use Rattle.bl_proc.specs.Processes.{next_of}
 use Rattle.bl_proc_unique.specs.Frames.{op_of, work_of}
 use Rattle.bl_store.specs.Hands.{known}
 use Rattle.bl_index_rule.specs.declared.known.Mine.{Mine}
-use Rattle.bl_index_rule.specs.Noting.{trail_of}
 use Rattle.bl_claims.specs.Seeing.{name}
 use Rattle.bl_index.specs.Runs.{IsSince}
 use Rattle.bl_index.proofs.Calls.{since_step}
@@ -49,8 +48,8 @@ returns-in-AtEnd-clause-done g c = λ pass old begun.
       takes = g.met.P.Kind.goes _ _ _ c.finish.ensures.takes;
       op = ap op_of after.1 ∙ inv.op;
       work = ap work_of after.1 ∙ inv.work;
-      log = subst (λ (z : ℕ × ℕ). proc_log (g.P.Kind.proc_of c.finish.new.process) (marks_of (name z.0 z.1) (trail_of (known c.finish.new.hand.seat).trail))) (λ i. (since.named i, since.number i)) c.finish.ensures.log;
-      tidy = subst (λ (z : ℕ × ℕ). IsTidy (g.P.Kind.proc_of c.finish.new.process) (marks_of (name z.0 z.1) (trail_of (known c.finish.new.hand.seat).trail))) (λ i. (since.named i, since.number i)) c.finish.ensures.tidy;
+      log = subst (λ (z : ℕ × ℕ). proc_log (g.P.Kind.proc_of c.finish.new.process) (marks_of (name z.0 z.1) (known c.finish.new.hand.seat).trail)) (λ i. (since.named i, since.number i)) c.finish.ensures.log;
+      tidy = subst (λ (z : ℕ × ℕ). IsTidy (g.P.Kind.proc_of c.finish.new.process) (marks_of (name z.0 z.1) (known c.finish.new.hand.seat).trail)) (λ i. (since.named i, since.number i)) c.finish.ensures.tidy;
     }
 
 pub returns-in-AtEnd-clause-no_room : goal.returns-in-AtEnd-clause-no_room

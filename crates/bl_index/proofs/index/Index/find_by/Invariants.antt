@@ -1,7 +1,6 @@
 use Rattle.std.proofs.Common.{◌≡◌, ◌+◌}
 use Rattle.bl_store.specs.Hands.{known, IsRunning, IsSameHand, IsSameStock}
 use Rattle.bl_proc.specs.declared.kinds.Proc.TheVariants as proc
-use Rattle.bl_index_rule.specs.Noting.{trail_of}
 use Rattle.bl_index.specs.Runs.{IsOn, IsSince, IsAtTurn}
 use Rattle.bl_index.specs.Searching.{IsSearching}
 use Rattle.bl_index.proofs.index.Index.find_by.Given as goal
@@ -14,5 +13,5 @@ invariant-loop-turn l = record {
   since : IsSince l.fn.hand.number (known l.fn.hand.seat) (known l.hand.seat);
   key : l.process.key ≡ l.fn.key;
   going : IsSearching l.process.stage;
-  turn : IsAtTurn l.self.store.layout.pages l.fn.hand.number ((known l.fn.hand.seat).number + 1) l._turn (trail_of (known l.hand.seat).trail);
+  turn : IsAtTurn l.self.store.layout.pages l.fn.hand.number ((known l.fn.hand.seat).number + 1) l._turn (known l.hand.seat).trail;
 }

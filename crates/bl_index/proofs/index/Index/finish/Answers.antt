@@ -6,7 +6,6 @@ use Rattle.bl_claims.specs.Trails.{marks_of}
 use Rattle.bl_proc_bounds.specs.Latches.{IsTidy}
 use Rattle.bl_proc_unique.specs.Courses.{GoesOn}
 use Rattle.bl_store.specs.Hands.{known}
-use Rattle.bl_index_rule.specs.Noting.{trail_of}
 use Rattle.bl_claims.specs.Seeing.{name}
 use Rattle.bl_index_rule.proofs.Bounds.{ends_process}
 use Rattle.bl_index.proofs.Withins.{ends_within}
@@ -26,7 +25,7 @@ returns-clause-tidy g c =
     let ended = c.end.ensures.told.1 in
     let goes = g.met.P.Kind.goes c.args.process.now c.took.new.self seen.Done c.took.ensures in
     let takes : Takes (known c.args.hand.now.seat).state seen.Done (g.P.Kind.proc_of c.took.new.self) = subst (λ (z : Proc). Takes z seen.Done (g.P.Kind.proc_of c.took.new.self)) (sym c.requires.process.state) goes in
-    subst (λ (z : Proc). IsTidy z (marks_of (name (known c.args.hand.now.seat).pass (known c.args.hand.now.seat).number) (trail_of (known c.end.new.hand.seat).trail))) (ended.1.state ∙ sym (ended.1.course.only _ takes)) ended.0.notes.tidy
+    subst (λ (z : Proc). IsTidy z (marks_of (name (known c.args.hand.now.seat).pass (known c.args.hand.now.seat).number) (known c.end.new.hand.seat).trail)) (ended.1.state ∙ sym (ended.1.course.only _ takes)) ended.0.notes.tidy
 
 pub end-requires-clause-own : goal.end-requires-clause-own
 end-requires-clause-own g c = c.requires.own

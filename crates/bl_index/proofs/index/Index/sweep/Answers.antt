@@ -1,7 +1,6 @@
 use Rattle.std.proofs.Common.{List, Option, refl, subst, ◌∙◌}
 use Rattle.bl_page.specs.declared.page.Page.{Page}
 use Rattle.bl_store.specs.Hands.{known}
-use Rattle.bl_index_rule.specs.Noting.{trail_of}
 use Rattle.bl_claims.specs.Seeing.{IsSeen}
 use Rattle.bl_index.proofs.Taken.{same_pass}
 use Rattle.bl_index.proofs.Released.{sweep_tells, swept_seen}
@@ -16,7 +15,7 @@ returns-clause-same c = let p = c.args.pass.now in same_pass c.args.pass.now.han
 pub returns-clause-seen : goal.returns-clause-seen
 returns-clause-seen c =
     let p = c.args.pass.now in let swept = swept_seen _ _ _ _ _ _ p.seen p.rests c.release.ensures.told.2 in
-    subst (λ (z : List (Option Page)). ∥ IsSeen z (trail_of (known c.release.new.hand.seat).trail) ∥₁) (swept.0 ∙ c.requires.2) swept.1
+    subst (λ (z : List (Option Page)). ∥ IsSeen z (known c.release.new.hand.seat).trail ∥₁) (swept.0 ∙ c.requires.2) swept.1
 
 pub invariant_of-pass : goal.invariant_of-pass
 invariant_of-pass c =

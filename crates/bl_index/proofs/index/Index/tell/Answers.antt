@@ -3,7 +3,6 @@ use Rattle.bl_layout.specs.declared.layout.Layout.{Layout}
 use Rattle.bl_page.specs.declared.page.Page.{Page}
 use Rattle.bl_claims.specs.Trails.{Trail}
 use Rattle.bl_index_rule.specs.declared.known.Mine.{Mine}
-use Rattle.bl_index_rule.specs.Noting.{trail_of}
 use Rattle.bl_claims.specs.Seeing.{IsSeen, AreWithin}
 use Rattle.bl_index.proofs.Taken.{same_pass}
 use Rattle.bl_index.proofs.index.Index.tell.Goals as goal
@@ -21,9 +20,9 @@ pub invariant_of-other : goal.invariant_of-other
 invariant_of-other c = let e = c.tell_by.ensures in record {
   idle = e.other.1;
   empty = e.other.2;
-  within = subst (λ (z : Layout × Mine). AreWithin z.0.passes (trail_of z.1.trail)) (λ i. (sym e.other.0.1 i, sym e.other.3 i)) c.args.other.now.within;
+  within = subst (λ (z : Layout × Mine). AreWithin z.0.passes z.1.trail) (λ i. (sym e.other.0.1 i, sym e.other.3 i)) c.args.other.now.within;
   rests = ap (λ (z : Mine). z.runs) e.other.3 ∙ c.args.other.now.rests;
-  seen = subst (λ (z : Mine). ∥ IsSeen z.first (trail_of z.trail) ∥₁) (sym e.other.3) c.args.other.now.seen;
+  seen = subst (λ (z : Mine). ∥ IsSeen z.first z.trail ∥₁) (sym e.other.3) c.args.other.now.seen;
 }
 
 pub returns-clause-hears : goal.returns-clause-hears
@@ -33,4 +32,4 @@ pub returns-clause-same : goal.returns-clause-same
 returns-clause-same c = same_pass c.args.pass.now.hand c.tell_by.new.hand c.tell_by.ensures.same.0 c.tell_by.ensures.told.first
 
 pub returns-clause-other : goal.returns-clause-other
-returns-clause-other c = let e = c.tell_by.ensures in (same_pass c.args.other.now.hand c.tell_by.new.other e.other.0 (ap (λ (z : Mine). z.first) e.other.3), ap (λ (z : Mine). trail_of z.trail) e.other.3)
+returns-clause-other c = let e = c.tell_by.ensures in (same_pass c.args.other.now.hand c.tell_by.new.other e.other.0 (ap (λ (z : Mine). z.first) e.other.3), ap (λ (z : Mine). z.trail) e.other.3)
