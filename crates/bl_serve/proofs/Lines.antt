@@ -117,9 +117,6 @@ all_lines first pass number i lines text old new is a = subst (λ (z : List (Opt
 pub no_logs : (first : List (Option Page)) (number : ℕ) (lines : List (Option Request)) (pass : ℕ) (old : Trail) (log : List Written) → Logs first number lines pass old old log log
 no_logs first number lines pass old log = record { pieces = []; log = sym (append-nil log); each = All-nil (IsPiece number lines); begins = stays old; seen = λ s. s; mine = sym (append-nil (own pass old)) }
 
-pub no_logs_in : (first : List (Option Page)) (number : ℕ) (lines : List (Option Request)) (pass : ℕ) (old : Trail) (log : List Written) → log ≡ [] → Logs first number lines pass old old [] log
-no_logs_in first number lines pass old log is = subst (λ (z : List Written). Logs first number lines pass old old [] z) (sym is) (no_logs first number lines pass old [])
-
 pub one_log : (first : List (Option Page)) (number n : ℕ) (lines : List (Option Request)) (pass : ℕ) (old new : Trail) (log log' : List Written) (w : Written) → w.from < w.upto → w.upto ≤ length lines → n ≡ number + w.from
     → AnswersLines first pass n (lines_in lines w.from w.upto) w.text.items old new → log' ≡ log ++ w ∷ [] → Logs first number lines pass old new log log'
 one_log first number n lines pass old new log log' w order within at_number a is = let piece : Piece = record { written = w; answers = a.answers } in record {

@@ -10,6 +10,7 @@ ghost use Rattle.bl_serve.specs.Answering.{AnswersLine, AnswersLines, WritesPart
 use crate::compressing::{leave, post};
 use crate::gate::Gate;
 use crate::printing::{push_key_line, push_word_line};
+use crate::room::make_room;
 use bl_hints::Hints;
 use bl_index::{Index, KeyReply, Pass};
 use bl_model::{Next, Op, Reply};
@@ -17,10 +18,6 @@ use bl_serve_lines::print::{Response, push_line, push_number, push_rows_below};
 use bl_serve_lines::request::Request;
 use std::alloc::{AllocError, Global};
 use std::sync::Wait;
-use std::thread;
-
-/// How often a worker looks for room before a change at most.
-const ROUNDS: u32 = 64;
 
 /// A worker looks each so many lines whether a sweep is due, and behind a batch of one line. With few pages for each pass one is
 /// due after each put; but a sweep reads words that the other workers write, and what it releases is no longer at hand for the next
@@ -58,22 +55,6 @@ fn part<R: Wait>(rt: &R, index: &Index, pass: &mut Pass, from: u64) -> Reply
         }
     }
     unreachable!()
-}
-
-/// Makes room for a change, where it may find too few frames while some wait to be released: others may hold back what is
-/// retired, for as long as they run a process. It sweeps and lets others run, so many times at most.
-fn make_room(index: &Index, pass: &mut Pass)
-    requires { IsPassOf index.now pass.old }
-    ensures same { IsSamePass pass.old pass.new }
-    ensures adds { Adds (first_of index.now) (number_of pass.old) (trail pass.old) (trail pass.new) }
-{
-    for _ in 0..ROUNDS {
-        if !index.lacks_frames(pass) {
-            return;
-        }
-        index.sweep(pass);
-        thread::yield_now();
-    }
 }
 
 /// Gives back what the pass has retired, where it is time to look and a sweep is due. A search retires nothing.

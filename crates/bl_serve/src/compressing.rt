@@ -4,6 +4,7 @@ ghost use Rattle.std.specs.Prelude.{◌≡◌};
 ghost use Rattle.bl_index.specs.Calls.{first_of, IsPassOf, IsSamePass, number_of, trail};
 ghost use Rattle.bl_serve.specs.Works.{Adds};
 
+use crate::room::make_room;
 use bl_hints::Hints;
 use bl_index::{Index, Pass};
 use bl_proc_base::{Hint, Posted};
@@ -44,7 +45,7 @@ fn post_once<R: Wait>(
     more
 }
 
-/// Posts, and goes on with the hints that posting gives.
+/// Posts, and goes on with the hints that posting gives. Before each post it makes room.
 pub fn post<R: Wait>(rt: &R, index: &Index, hints: &Hints, pass: &mut Pass, hint: Option<Hint>)
     requires { IsPassOf index.now pass.old }
     ensures same { IsSamePass pass.old pass.new }
@@ -55,6 +56,7 @@ pub fn post<R: Wait>(rt: &R, index: &Index, hints: &Hints, pass: &mut Pass, hint
         let Some(next) = hint else {
             return;
         };
+        make_room(index, pass);
         hint = post_once(rt, index, hints, pass, next);
     }
 }
@@ -77,7 +79,7 @@ fn follow<R: Wait>(rt: &R, index: &Index, hints: &Hints, pass: &mut Pass, hint: 
     }
 }
 
-/// Follows one hint, where one waits, and sweeps.
+/// Follows one hint, where one waits, for which it makes room, and sweeps.
 pub fn follow_hint<R: Wait>(rt: &R, index: &Index, hints: &Hints, pass: &mut Pass) -> bool
     requires { IsPassOf index.now pass.old }
     ensures same { IsSamePass pass.old pass.new }
@@ -86,6 +88,7 @@ pub fn follow_hint<R: Wait>(rt: &R, index: &Index, hints: &Hints, pass: &mut Pas
     let Some(hint) = hints.next(rt) else {
         return false;
     };
+    make_room(index, pass);
     follow(rt, index, hints, pass, hint);
     index.sweep(pass);
     true

@@ -16,6 +16,7 @@ mod meeting;
 mod origin;
 mod printing;
 mod reading;
+mod room;
 mod rounds;
 mod serving;
 mod starting;

@@ -73,48 +73,23 @@ fn batches<R: Wait>(
     Ok(receiver)
 }
 
-/// Which passes work in a section. The others rest.
-#[derive(Clone, Copy, Debug, PartialEq, Eq)]
-pub struct Crew {
-    pub workers: usize,
-    pub compressors: usize,
-    /// The number of the first pass that works.
-    pub first: usize,
-    /// The numbers of the others follow in steps of this, at least 1: those of the workers, and then those of the compressors.
-    pub apart: usize,
-}
-
-impl Crew {
-    /// How many work.
-    fn size(&self) -> usize {
-        self.workers.saturating_add(self.compressors)
-    }
-
-    /// The duty of the pass of that number.
-    fn duty(&self, number: usize) -> Duty {
-        let apart = self.apart.max(1);
-        if number < self.first || (number - self.first) % apart != 0 {
-            return Duty::Rest;
-        }
-        let place = (number - self.first) / apart;
-        if place < self.workers {
-            Duty::Serve
-        } else if place < self.size() {
-            Duty::Compress
-        } else {
-            Duty::Rest
-        }
+/// What the pass of that number does: the first so many serve, the others compress.
+fn duty_of(number: usize, workers: usize) -> Duty {
+    if number < workers {
+        Duty::Serve
+    } else {
+        Duty::Compress
     }
 }
 
-/// A desk for each of so many passes.
-pub fn desks(alloc: Global, count: usize, crew: Crew) -> Result<Vec<Desk>, AllocError>
+/// A desk for each of so many passes, of which the first so many serve.
+pub fn desks(alloc: Global, count: usize, workers: usize) -> Result<Vec<Desk>, AllocError>
     ensures { IfOk result (λ v. vec_len v ≡ count) }
 {
     let mut desks = Vec::with_capacity(alloc, count)?;
     for number in 0..count {
         desks.push(Desk {
-            duty: crew.duty(number),
+            duty: duty_of(number, workers),
             log: Vec::new(alloc),
             failed: false,
         })?;
@@ -123,9 +98,8 @@ pub fn desks(alloc: Global, count: usize, crew: Crew) -> Result<Vec<Desk>, Alloc
 }
 
 /// How many threads are worth their time. A lone request is answered by this thread; else there are two at least, and more where
-/// there are more requests, up to the number of workers. Where there are many, and deletions among them, compressors work beside
-/// them.
-fn threads_for(lines: &[Option<Request>], crew: Crew) -> usize {
+/// there are more requests, up to the number of workers. Where there are many, and deletions among them, all passes work at once.
+fn threads_for(lines: &[Option<Request>], workers: usize, passes: usize) -> usize {
     let asked = lines
         .iter()
         .filter(|asked| matches!(asked, Some(Request::Ask(_) | Request::Scan(..))))
@@ -137,29 +111,16 @@ fn threads_for(lines: &[Option<Request>], crew: Crew) -> usize {
     if asked < 2 {
         1
     } else if asked >= MANY && deleted > 0 {
-        crew.size()
+        passes
     } else {
-        (asked / REQUESTS_A_THREAD).max(2).min(crew.workers)
+        (asked / REQUESTS_A_THREAD).max(2).min(workers)
     }
 }
 
-/// Where the share of the last one of so many threads begins: it has as many desks with work as any other, or one more. 0 where one
+/// Where the share of the last one of so many threads begins: it has as many of the passes as any other, or one more. 0 where one
 /// thread has them all.
-fn last_share(desks: &[Desk], threads: usize) -> usize {
-    let working = desks.iter().filter(|desk| desk.duty != Duty::Rest).count();
-    let mut left = working.div_ceil(threads.max(1));
-    let mut place = desks.len();
-    for back in 0..desks.len() {
-        let number = desks.len() - 1 - back;
-        if desks[number].duty != Duty::Rest {
-            if left == 0 {
-                return place;
-            }
-            left -= 1;
-            place = number;
-        }
-    }
-    0
+fn last_share(passes: usize, threads: usize) -> usize {
+    passes.saturating_sub(passes.div_ceil(threads.max(1)))
 }
 
 /// The passes take their turns one after another, each at its desk.
@@ -222,7 +183,7 @@ fn work_abreast<R: Threads + Wait + Sync, G: Gate + Sync, I: Read>(
     ensures turns { TakeTurns (first_of index.now) (suc done) lines.now passes.old passes.new desks.new }
     ensures reads { ReadsOn ahead.old ahead.new (I.remaining reader.old.inner) (I.remaining reader.new.inner) (reader.new.failed ≡ true) }
 {
-    let place = last_share(desks, threads);
+    let place = last_share(desks.len(), threads);
     if place == 0 || passes.len() <= place {
         read_on(reader, ahead);
         work_in_turn(
@@ -297,7 +258,7 @@ pub fn answer_section<R: Threads + Wait + Sync, G: Gate + Sync, I: Read>(
     index: &Index,
     hints: &Hints,
     gate: &G,
-    crew: Crew,
+    workers: usize,
     passes: Vec<Pass>,
     desks: &mut Vec<Desk>,
     done: u64,
@@ -316,9 +277,9 @@ pub fn answer_section<R: Threads + Wait + Sync, G: Gate + Sync, I: Read>(
     ensures round { IfOk result (λ t. IsRound (first_of index.now) (suc done) lines.now t.1.items passes.items t.0.items) }
 {
     let mut passes = passes;
-    let batches = batches(rt, alloc, lines.len(), crew.workers)?;
-    let shift = Shift::new(crew.workers as u64);
-    let threads = threads_for(lines, crew);
+    let batches = batches(rt, alloc, lines.len(), workers)?;
+    let shift = Shift::new(workers as u64);
+    let threads = threads_for(lines, workers, passes.len());
     work_abreast(
         rt,
         alloc,
@@ -347,7 +308,7 @@ pub fn hold_section<R: Threads + Wait + Sync, G: Gate + Sync, I: Read>(
     index: &Index,
     hints: &Hints,
     gate: &G,
-    crew: Crew,
+    workers: usize,
     passes: Vec<Pass>,
     desks: &mut Vec<Desk>,
     done: u64,
@@ -366,7 +327,7 @@ pub fn hold_section<R: Threads + Wait + Sync, G: Gate + Sync, I: Read>(
     ensures fault { IfErr result (IsInside done (length lines.now)) }
 {
     let (back, text) = answer_section(
-        rt, alloc, index, hints, gate, crew, passes, desks, done, lines, reader, ahead,
+        rt, alloc, index, hints, gate, workers, passes, desks, done, lines, reader, ahead,
     )?;
     let mut passes = back;
     meet_all(index, passes.as_mut_slice());

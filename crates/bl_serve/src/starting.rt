@@ -9,8 +9,7 @@ ghost use Rattle.bl_serve.specs.Origins.{HasPages, ServedFrom, StopsFrom};
 
 use crate::gate::OpenGate;
 use crate::origin::Origin;
-use crate::rounds::Crew;
-use crate::serving::serve_with;
+use crate::serving::serve;
 use bl_check::Quiet;
 use bl_index::{Config, Index, OpenFault, Pass};
 use bl_model::Watched;
@@ -19,18 +18,6 @@ use std::alloc::{AllocError, Global};
 use std::io::{Read, Write};
 use std::sync::Wait;
 use std::thread::Threads;
-
-/// So many passes has an index whose passes do not all work.
-const SPREAD: u32 = 61;
-
-/// The number of the last pass of them that works.
-const LAST: u32 = 53;
-
-/// The first one has a number that is less by so many, about.
-const REACH: u32 = 32;
-
-/// They are no further apart than this.
-const MOST_APART: u32 = 10;
 
 /// An index without rows, of so many pages, with so many passes.
 fn open_empty(alloc: Global, pages: u32, passes: u32) -> Result<(Index, Vec<Pass>), AllocError>
@@ -73,33 +60,6 @@ pub fn open_index(
     }
 }
 
-/// The crew of so many workers and compressors, and how many passes its index has. Most of these rest. Each brings eight frames, and
-/// three to the number of free ones below which changes wait, so that there are enough for all that work when one of them has lost
-/// its processor within a process and holds back what the others have retired.
-pub fn crew_of(workers: u32, compressors: u32) -> (Crew, u32)
-    requires { (1 ≤ workers) × (workers + compressors ≤ 64) }
-    ensures { (1 ≤ result.1) × (result.1 ≤ 64) }
-{
-    let size = workers + compressors;
-    let crew = Crew {
-        workers: workers as usize,
-        compressors: compressors as usize,
-        first: 0,
-        apart: 1,
-    };
-    if size < 2 || size > LAST {
-        return (crew, size);
-    }
-    let apart = (REACH / (size - 1)).max(1).min(MOST_APART);
-    let first = LAST.saturating_sub((size - 1).saturating_mul(apart));
-    let spread = Crew {
-        first: first as usize,
-        apart: apart as usize,
-        ..crew
-    };
-    (spread, SPREAD)
-}
-
 /// Serves the request lines of the reader over an index of its own, which begins without rows or with those of a sound image,
 /// by so many workers (at least 1) and compressors, 64 of both at most. What was written is served for what was read, from the
 /// map of those rows on; after a fault the output of the finished sections is written, and no other but a beginning of the open
@@ -122,9 +82,17 @@ pub fn serve_index<T: Threads + Wait + Sync, R: Read, W: Write>(
         (λ totals. ServedFrom origin input output totals × EndsRead input ahead (IsAtEnd (R.remaining reader.new.inner)))
         (λ fault. StopsFrom origin (input ++ ahead) output fault (reader.new.failed ≡ true) (writer.new.failed ≡ true)) }
 {
-    let (crew, many) = crew_of(workers, compressors);
-    let (index, passes) = open_index(alloc, origin, many)?;
-    match serve_with(rt, alloc, &index, passes, reader, writer, &OpenGate, crew) {
+    let (index, passes) = open_index(alloc, origin, workers + compressors)?;
+    match serve(
+        rt,
+        alloc,
+        &index,
+        passes,
+        reader,
+        writer,
+        &OpenGate,
+        workers as usize,
+    ) {
         Ok((totals, _)) => Ok(totals),
         Err(fault) => Err(fault),
     }

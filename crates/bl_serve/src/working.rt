@@ -37,8 +37,6 @@ pub enum Duty {
     Serve,
     /// It follows hints.
     Compress,
-    /// Nothing.
-    Rest,
 }
 
 /// Where a pass works in a section: what it is to do, and what it has written.
@@ -187,6 +185,5 @@ pub fn take_turn<R: Wait, G: Gate>(
             rt, alloc, index, hints, gate, shift, batches, done, lines, pass, desk,
         ),
         Duty::Compress => compress_at(rt, index, hints, shift, pass, desk),
-        Duty::Rest => desk.log.clear(),
     }
 }

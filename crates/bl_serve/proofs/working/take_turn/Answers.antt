@@ -1,9 +1,5 @@
-use Rattle.std.proofs.Common.{refl}
-use Rattle.bl_serve.proofs.Lines.{idle_logs, no_logs_in}
+use Rattle.bl_serve.proofs.Lines.{idle_logs}
 use Rattle.bl_serve.proofs.working.take_turn.Goals as goal
 
 pub returns-in-Compress : goal.returns-in-Compress
 returns-in-Compress g c = (c.compress_at.ensures.same, λ ok. idle_logs _ _ _ _ _ _ _ c.compress_at.ensures.empty c.compress_at.ensures.adds)
-
-pub returns-in-Rest : goal.returns-in-Rest
-returns-in-Rest g c = ((refl, refl, refl, refl), λ ok. no_logs_in _ _ _ _ _ _ c.clear.ensures.items)

@@ -1,6 +1,6 @@
 use Rattle.bl_index.specs.Calls.{first_of, IsSamePass, number_of, trail}
 use Rattle.bl_serve.specs.Works.{Adds}
-use Rattle.bl_serve.proofs.answering.make_room.Given as goal
+use Rattle.bl_serve.proofs.room.make_room.Given as goal
 
 abbrev pub invariant-loop : goal.invariant-loop
 invariant-loop l = record {

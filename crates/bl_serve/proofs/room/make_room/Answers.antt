@@ -1,6 +1,6 @@
 use Rattle.std.proofs.Common.{rules}
 use Rattle.bl_serve.proofs.Requests.{nothing, then_adds, sweep_adds}
-use Rattle.bl_serve.proofs.answering.make_room.Goals as goal
+use Rattle.bl_serve.proofs.room.make_room.Goals as goal
 
 pub loop-init : goal.loop-init
 loop-init c = record { same = search rules; adds = nothing _ _ _ }
