@@ -1,3 +1,4 @@
+pub mod Hands
 pub mod Replies
 pub mod Calls
 pub mod Runs

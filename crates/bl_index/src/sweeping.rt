@@ -1,7 +1,8 @@
 //! Sweeps.
 
 ghost use Rattle.std.specs.Prelude.{◌≡◌, ℕ, ◌+◌, ◌≤◌, false};
-ghost use Rattle.bl_store.specs.Hands.{known, IsOf, IsSameHand, IsSameStage, IsSameStock};
+ghost use Rattle.bl_store.specs.Hands.{known, IsSameHand, IsSameStage, IsSameStock};
+ghost use Rattle.bl_index.specs.Hands.{IsHandOf};
 ghost use Rattle.bl_index_rule.specs.Told.{sweeps};
 ghost use Rattle.bl_index.specs.Runs.{IsWithin};
 
@@ -33,7 +34,7 @@ impl Index {
 
     // The releases of a sweep, by the process that the bound names beside its pass.
     fn release<J: Sweeper>(&self, hand: &mut Hand<Mine>) -> u32
-        requires own { IsOf self.now.store.table.shared.table_id self.now.store.layout hand.old.seat }
+        requires own { IsHandOf self.now hand.old }
         requires rests { (known hand.old.seat).runs ≡ false }
         requires names { (hand.old.number ≡ J.pass) × ((known hand.old.seat).number + 1 ≡ J.number) × (self.now.store.layout.passes ≡ J.passes) }
         requires within { IsWithin hand.old.seat }

@@ -4,7 +4,7 @@ ghost use Rattle.std.specs.Prelude.{◌≡◌, ◌⊎◌, ◌≤◌, ◌+◌, �
 ghost use Rattle.bl_model.specs.Stream.{StartsOut};
 ghost use Rattle.bl_replay_script.specs.Commands.{MayStart, MayStand, starts};
 ghost use Rattle.bl_replay_script.specs.declared.command.Command.TheVariants as command;
-ghost use Rattle.bl_world.specs.Views.{View, view_of, number_in};
+ghost use Rattle.bl_world.specs.Views.{View, number_in};
 ghost use Rattle.bl_world.specs.Turns.{IsStarted};
 ghost use Rattle.bl_world.specs.Deeds.{MayStart as MayBegin};
 ghost use Rattle.bl_replay.specs.declared.fault.ReplayFault.TheVariants as fault;
@@ -39,10 +39,10 @@ fn process_of(start: Start) -> Proc
 
 /// Starts a process.
 fn start(world: &mut World, start: Start) -> Result<(), ReplayFault>
-    requires { MayStart all_kinds (length world.old.lists.pages.items) start }
-    ensures ok { OnOk result (Does (view_of world.old.lists) (command.Start start) [] (view_of world.new.lists)) }
-    ensures count { OnOk result (length world.new.lists.processes.items ≡ length world.old.lists.processes.items + 1) }
-    ensures size { OnOk result (length world.new.lists.pages.items ≡ length world.old.lists.pages.items) }
+    requires { MayStart all_kinds (length world.old.pages) start }
+    ensures ok { OnOk result (Does world.old (command.Start start) [] world.new) }
+    ensures count { OnOk result (length world.new.processes ≡ length world.old.processes + 1) }
+    ensures size { OnOk result (length world.new.pages ≡ length world.old.pages) }
     ensures err { IfErr result (λ why. why ≡ fault.Memory) }
 {
     match world.start(process_of(start)) {
@@ -59,15 +59,15 @@ fn play_turn<W: Write>(
     pending: &mut Vec<u8>,
     writer: &mut Watched<W>,
 ) -> Result<(), ReplayFault>
-    requires started { IsStarted (view_of world.old.lists) number }
+    requires started { IsStarted world.old number }
     requires same { number_in turn ≡ number }
     ensures ok { OnOk result ((text : List ℕ)
-        × Prints (view_of world.old.lists) number turn text (view_of world.new.lists)
+        × Prints world.old number turn text world.new
         × Emits (W.contents writer.old.inner) (W.contents writer.new.inner) pending.old.items pending.new.items text) }
-    ensures count { OnOk result (length world.new.lists.processes.items ≡ length world.old.lists.processes.items) }
-    ensures size { OnOk result (length world.new.lists.pages.items ≡ length world.old.lists.pages.items) }
+    ensures count { OnOk result (length world.new.processes ≡ length world.old.processes) }
+    ensures size { OnOk result (length world.new.pages ≡ length world.old.pages) }
     ensures err { OnErr result ((text : List ℕ)
-        × ((text ≡ []) ⊎ ((after : View) × Prints (view_of world.old.lists) number turn text after))
+        × ((text ≡ []) ⊎ ((after : View) × Prints world.old number turn text after))
         × StartsOut (W.contents writer.old.inner) (W.contents writer.new.inner) (pending.old.items ++ text)) }
     ensures write { result ≡ Err fault.Write → writer.new.failed ≡ true }
 {
@@ -83,14 +83,14 @@ fn play_chosen<W: Write>(
     pending: &mut Vec<u8>,
     writer: &mut Watched<W>,
 ) -> Result<(), ReplayFault>
-    requires { IsStarted (view_of world.old.lists) number }
+    requires { IsStarted world.old number }
     ensures ok { OnOk result ((text : List ℕ)
-        × PrintsChosen (view_of world.old.lists) number page text (view_of world.new.lists)
+        × PrintsChosen world.old number page text world.new
         × Emits (W.contents writer.old.inner) (W.contents writer.new.inner) pending.old.items pending.new.items text) }
-    ensures count { OnOk result (length world.new.lists.processes.items ≡ length world.old.lists.processes.items) }
-    ensures size { OnOk result (length world.new.lists.pages.items ≡ length world.old.lists.pages.items) }
+    ensures count { OnOk result (length world.new.processes ≡ length world.old.processes) }
+    ensures size { OnOk result (length world.new.pages ≡ length world.old.pages) }
     ensures err { OnErr result ((text : List ℕ)
-        × ((text ≡ []) ⊎ ((after : View) × PrintsChosen (view_of world.old.lists) number page text after))
+        × ((text ≡ []) ⊎ ((after : View) × PrintsChosen world.old number page text after))
         × StartsOut (W.contents writer.old.inner) (W.contents writer.new.inner) (pending.old.items ++ text)) }
     ensures write { result ≡ Err fault.Write → writer.new.failed ≡ true }
 {
@@ -106,14 +106,14 @@ fn play_run<W: Write>(
     pending: &mut Vec<u8>,
     writer: &mut Watched<W>,
 ) -> Result<(), ReplayFault>
-    requires { IsStarted (view_of world.old.lists) number }
+    requires { IsStarted world.old number }
     ensures ok { OnOk result ((text : List ℕ)
-        × Does (view_of world.old.lists) (command.Run number most) text (view_of world.new.lists)
+        × Does world.old (command.Run number most) text world.new
         × Emits (W.contents writer.old.inner) (W.contents writer.new.inner) pending.old.items pending.new.items text) }
-    ensures count { OnOk result (length world.new.lists.processes.items ≡ length world.old.lists.processes.items) }
-    ensures size { OnOk result (length world.new.lists.pages.items ≡ length world.old.lists.pages.items) }
+    ensures count { OnOk result (length world.new.processes ≡ length world.old.processes) }
+    ensures size { OnOk result (length world.new.pages ≡ length world.old.pages) }
     ensures err { OnErr result ((text : List ℕ) × (count : ℕ) × (after : View)
-        × (count ≤ most) × PrintsTurns number (view_of world.old.lists) count text after
+        × (count ≤ most) × PrintsTurns number world.old count text after
         × StartsOut (W.contents writer.old.inner) (W.contents writer.new.inner) (pending.old.items ++ text)) }
     ensures write { result ≡ Err fault.Write → writer.new.failed ≡ true }
 {
@@ -133,13 +133,13 @@ pub fn play_command<W: Write>(
     pending: &mut Vec<u8>,
     writer: &mut Watched<W>,
 ) -> Result<(), ReplayFault>
-    requires { MayStand all_kinds (length world.old.lists.pages.items) (length world.old.lists.processes.items) command }
+    requires { MayStand all_kinds (length world.old.pages) (length world.old.processes) command }
     ensures ok { OnOk result ((text : List ℕ)
-        × Does (view_of world.old.lists) command text (view_of world.new.lists)
+        × Does world.old command text world.new
         × Emits (W.contents writer.old.inner) (W.contents writer.new.inner) pending.old.items pending.new.items text) }
-    ensures count { OnOk result (length world.new.lists.processes.items ≡ length world.old.lists.processes.items + starts command) }
-    ensures size { OnOk result (length world.new.lists.pages.items ≡ length world.old.lists.pages.items) }
-    ensures err { OnErr result ((text : List ℕ) × Partly (view_of world.old.lists) command text
+    ensures count { OnOk result (length world.new.processes ≡ length world.old.processes + starts command) }
+    ensures size { OnOk result (length world.new.pages ≡ length world.old.pages) }
+    ensures err { OnErr result ((text : List ℕ) × Partly world.old command text
         × StartsOut (W.contents writer.old.inner) (W.contents writer.new.inner) (pending.old.items ++ text)) }
     ensures write { result ≡ Err fault.Write → writer.new.failed ≡ true }
 {

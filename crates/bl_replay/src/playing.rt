@@ -4,7 +4,6 @@ ghost use Rattle.std.specs.Prelude.{◌≡◌, ◌++◌, true, ℕ, List, Err, l
 ghost use Rattle.std.specs.Io.KnownBytes.{Appends};
 ghost use Rattle.bl_model.specs.Stream.{StartsOut};
 ghost use Rattle.bl_replay_script.specs.Scripts.{AllStand};
-ghost use Rattle.bl_world.specs.Views.{view_of};
 ghost use Rattle.bl_world.specs.Accounts.{Account};
 ghost use Rattle.bl_replay.specs.declared.fault.ReplayFault.TheVariants as fault;
 ghost use Rattle.bl_replay.specs.Plays.{Plays, BreaksOff, PlaysOut, PlaysInto, MayPlay, all_kinds};
@@ -33,12 +32,12 @@ fn play_all<W: Write>(
     pending: &mut Vec<u8>,
     writer: &mut Watched<W>,
 ) -> Result<(), ReplayFault>
-    requires { AllStand all_kinds (length world.old.lists.pages.items) (length world.old.lists.processes.items) commands.now }
+    requires { AllStand all_kinds (length world.old.pages) (length world.old.processes) commands.now }
     ensures ok { OnOk result ((text : List ℕ)
-        × Plays (view_of world.old.lists) commands.now text (view_of world.new.lists)
+        × Plays world.old commands.now text world.new
         × Emits (W.contents writer.old.inner) (W.contents writer.new.inner) pending.old.items pending.new.items text) }
-    ensures account { OnOk result (∥ Account (view_of world.new.lists) ∥₁) }
-    ensures err { OnErr result ((text : List ℕ) × BreaksOff (view_of world.old.lists) commands.now text
+    ensures account { OnOk result (∥ Account world.new ∥₁) }
+    ensures err { OnErr result ((text : List ℕ) × BreaksOff world.old commands.now text
         × StartsOut (W.contents writer.old.inner) (W.contents writer.new.inner) (pending.old.items ++ text)) }
     ensures write { result ≡ Err fault.Write → writer.new.failed ≡ true }
 {

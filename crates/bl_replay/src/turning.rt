@@ -3,7 +3,7 @@
 ghost use Rattle.std.specs.Prelude.{◌≡◌, ◌++◌, ◌∷◌, [], ℕ, List, length, OnOk, IfOk, IfErr};
 ghost use Rattle.bl_replay.specs.declared.fault.ReplayFault.TheVariants as fault;
 ghost use Rattle.bl_world.specs.declared.turns.Event.{Event as AnyEvent};
-ghost use Rattle.bl_world.specs.Views.{view_of, number_in};
+ghost use Rattle.bl_world.specs.Views.{number_in};
 ghost use Rattle.bl_world.specs.Turns.{TurnsTo, IsStarted};
 ghost use Rattle.bl_replay.specs.Plays.{HasAnswer, Prints, new_answer};
 
@@ -15,16 +15,16 @@ use std::alloc::AllocError;
 
 /// The answer of a process that was started.
 pub fn answer_of(world: &World, number: usize) -> Option<Answer>
-    requires { IsStarted (view_of world.now.lists) number }
-    ensures { HasAnswer (view_of world.now.lists) number result }
+    requires { IsStarted world.now number }
+    ensures { HasAnswer world.now number result }
 {
     world.answer(number)
 }
 
 /// The last event of a world.
 fn last_event(world: &World) -> Event
-    requires { (events : List AnyEvent) × (last : AnyEvent) × (world.now.lists.events.items ≡ events ++ last ∷ []) }
-    ensures { (events : List AnyEvent) (last : AnyEvent) → world.now.lists.events.items ≡ events ++ last ∷ [] → result ≡ last }
+    requires { (events : List AnyEvent) × (last : AnyEvent) × (world.now.events ≡ events ++ last ∷ []) }
+    ensures { (events : List AnyEvent) (last : AnyEvent) → world.now.events ≡ events ++ last ∷ [] → result ≡ last }
 {
     let steps = world.steps();
     steps[steps.len() - 1]
@@ -32,10 +32,10 @@ fn last_event(world: &World) -> Event
 
 /// Gives a process a turn, and finds the event that it was.
 fn take_turn(world: &mut World, turn: Turn) -> Result<Event, ReplayFault>
-    requires { IsStarted (view_of world.old.lists) (number_in turn) }
-    ensures turned { OnOk result (TurnsTo (view_of world.old.lists) turn (view_of world.new.lists)) }
+    requires { IsStarted world.old (number_in turn) }
+    ensures turned { OnOk result (TurnsTo world.old turn world.new) }
     ensures err { IfErr result (λ why. why ≡ fault.Memory) }
-    ensures event { IfOk result (λ event. world.new.lists.events.items ≡ world.old.lists.events.items ++ event ∷ []) }
+    ensures event { IfOk result (λ event. world.new.events ≡ world.old.events ++ event ∷ []) }
 {
     match world.run(&[turn]) {
         Ok(()) => Ok(last_event(world)),
@@ -66,14 +66,14 @@ pub fn print_turn(
     turn: Turn,
     out: &mut Vec<u8>,
 ) -> Result<(), ReplayFault>
-    requires started { IsStarted (view_of world.old.lists) number }
+    requires started { IsStarted world.old number }
     requires same { number_in turn ≡ number }
     ensures ok { OnOk result ((text : List ℕ)
-        × Prints (view_of world.old.lists) number turn text (view_of world.new.lists)
+        × Prints world.old number turn text world.new
         × (out.new.items ≡ out.old.items ++ text)) }
     ensures err { IfErr result (λ why. why ≡ fault.Memory) }
-    ensures count { OnOk result (length world.new.lists.processes.items ≡ length world.old.lists.processes.items) }
-    ensures size { OnOk result (length world.new.lists.pages.items ≡ length world.old.lists.pages.items) }
+    ensures count { OnOk result (length world.new.processes ≡ length world.old.processes) }
+    ensures size { OnOk result (length world.new.pages ≡ length world.old.pages) }
 {
     let before = answer_of(world, number);
     let event = take_turn(world, turn)?;

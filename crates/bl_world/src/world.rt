@@ -1,15 +1,14 @@
 //! Worlds.
 
 ghost use Rattle.std.specs.Prelude.{◌≡◌, ℕ};
-ghost use Rattle.bl_world.specs.Views.{view_of};
-ghost use Rattle.bl_world.specs.Deeds.{Way};
-ghost use Rattle.bl_world.specs.Worlds.{IsWorld, key_in};
+ghost use Rattle.bl_world.specs.Worlds.{key_in};
 
 use crate::lists::Lists;
 use crate::opening::opening;
 use crate::turns::{Event, Turn, WorldFault};
 use bl_proc::{Answer, Proc, Process};
 use std::alloc::Global;
+use std::marker::Model;
 
 /// An index of plain pages, with the processes that were started on it. Whoever has a world gives the turns: at each
 /// moment any process may be the next. What a list of turns does is `RunsTo` of `specs/Turns.antt`; what may be believed of
@@ -17,8 +16,19 @@ use std::alloc::Global;
 #[derive(Drop)]
 pub struct World {
     lists: Lists,
-    ghost world: { IsWorld (view_of lists) },
-    ghost way: { ∥ Way (view_of lists) ∥₁ },
+}
+
+// A clause sees what stands in the world.
+impl Model for World {
+    ghost use Rattle.bl_world.specs.Views.{View, view_of};
+    ghost use Rattle.bl_world.specs.Deeds.{Way};
+    ghost use Rattle.bl_world.specs.Worlds.{IsWorld};
+
+    ghost Value = { View };
+
+    ghost view = { λ world. view_of world.lists };
+
+    ghost invariant = { λ world. IsWorld (view_of world.lists) × ∥ Way (view_of world.lists) ∥₁ };
 }
 
 /// The key of a process.
@@ -50,8 +60,8 @@ impl World {
     /// A world with the opening index of that many pages, 4 to 65,536: page 0 names one level, page 1 is an empty leaf, and
     /// all other pages are released. Any other number is `BadPages`.
     pub fn open(alloc: Global, pages: u32) -> Result<World, WorldFault>
-        ensures ok { IfOk result (λ world. IsOpening pages (view_of world.lists)) }
-        ensures account { IfOk result (λ world. ∥ Account (view_of world.lists) ∥₁) }
+        ensures ok { IfOk result (λ world. IsOpening pages world) }
+        ensures account { IfOk result (λ world. ∥ Account world ∥₁) }
         ensures bad { (pages < 4) ⊎ (65536 < pages) → result ≡ Err fault.BadPages }
         ensures memory { 4 ≤ pages → pages ≤ 65536 → IfErr result (λ why. why ≡ fault.Memory) }
     {
@@ -67,11 +77,11 @@ impl World {
     /// Adds a process that is to begin, or that is to release a page of this world, and gives its number; they count from 1.
     /// Without memory nothing changes.
     pub fn start(&mut self, process: Proc) -> Result<usize, WorldFault>
-        requires { MayStart (view_of self.old.lists) process }
-        ensures ok { OnOk result (Starts (view_of self.old.lists) process (view_of self.new.lists)) }
-        ensures number { IfOk result (λ number. number ≡ length self.new.lists.processes.items) }
-        ensures err { IfErr result (λ why. (why ≡ fault.Memory) × (view_of self.new.lists ≡ view_of self.old.lists)) }
-        ensures account { ∥ Continues (view_of self.old.lists) (view_of self.new.lists) ∥₁ }
+        requires { MayStart self.old process }
+        ensures ok { OnOk result (Starts self.old process self.new) }
+        ensures number { IfOk result (λ number. number ≡ length self.new.processes) }
+        ensures err { IfErr result (λ why. (why ≡ fault.Memory) × (self.new ≡ self.old)) }
+        ensures account { ∥ Continues self.old self.new ∥₁ }
     {
         let _key = key_of(&process);
         if self.lists.enter(process).is_err() {
@@ -83,12 +93,12 @@ impl World {
     /// Carries out turns in their order. Where memory fails, what stands is what stood after the turns before; where a turn
     /// is of a process that was not started, none is carried out.
     pub fn run(&mut self, turns: &[Turn]) -> Result<(), WorldFault>
-        ensures ok { OnOk result (RunsTo (view_of self.old.lists) turns.now (view_of self.new.lists)) }
-        ensures memory { result ≡ Err fault.Memory → RunsInto (view_of self.old.lists) turns.now (view_of self.new.lists) }
-        ensures unknown { HasUnknown (view_of self.old.lists) turns.now → result ≡ Err fault.NoSuchProcess }
-        ensures none { result ≡ Err fault.NoSuchProcess → HasUnknown (view_of self.old.lists) turns.now × (view_of self.new.lists ≡ view_of self.old.lists) }
+        ensures ok { OnOk result (RunsTo self.old turns.now self.new) }
+        ensures memory { result ≡ Err fault.Memory → RunsInto self.old turns.now self.new }
+        ensures unknown { HasUnknown self.old turns.now → result ≡ Err fault.NoSuchProcess }
+        ensures none { result ≡ Err fault.NoSuchProcess → HasUnknown self.old turns.now × (self.new ≡ self.old) }
         ensures never { result ≢ Err fault.BadPages }
-        ensures account { ∥ Continues (view_of self.old.lists) (view_of self.new.lists) ∥₁ }
+        ensures account { ∥ Continues self.old self.new ∥₁ }
     {
         if !self.lists.has_all(turns) {
             return Err(WorldFault::NoSuchProcess);
@@ -103,15 +113,15 @@ impl World {
     /// is to take a page, the take of this page, or of the least released one where none is given; or, where no page is
     /// released then, a refusal.
     pub fn turn_of(&self, number: usize, page: Option<u32>) -> Turn
-        ensures { Chooses (view_of self.now.lists) number page result }
+        ensures { Chooses self.now number page result }
     {
         self.lists.choose(number, page)
     }
 
     /// The events so far, one for each turn.
     pub fn steps(&self) -> &[Event]
-        ensures events { result.now ≡ self.now.lists.events.items }
-        ensures account { ∥ Account (view_of self.now.lists) ∥₁ }
+        ensures events { result.now ≡ self.now.events }
+        ensures account { ∥ Account self.now ∥₁ }
     {
         self.lists.events.as_slice()
     }
@@ -119,16 +129,16 @@ impl World {
     /// The leaf at which a search for the key would end if nothing changed meanwhile, and how many pages it would get, page 0
     /// included.
     pub fn lone_walk(&self, key: u64) -> (u32, u32)
-        ensures { ∥ IsLoneWalk (view_of self.now.lists) key result.0 result.1 ∥₁ }
+        ensures { ∥ IsLoneWalk self.now key result.0 result.1 ∥₁ }
     {
         self.lists.walk(key)
     }
 
     /// The answer of the process with that number, if it was started and has ended.
     pub fn answer(&self, number: usize) -> Option<Answer>
-        ensures started { (n : ℕ) (p : AnyProc) → number ≡ n + 1 → slice_get self.now.lists.processes.items n ≡ Some p → result ≡ answer_of p }
-        ensures unknown { (¬ IsStarted (view_of self.now.lists) number) → result ≡ None }
-        ensures account { ∥ Account (view_of self.now.lists) ∥₁ }
+        ensures started { (n : ℕ) (p : AnyProc) → number ≡ n + 1 → slice_get self.now.processes n ≡ Some p → result ≡ answer_of p }
+        ensures unknown { (¬ IsStarted self.now number) → result ≡ None }
+        ensures account { ∥ Account self.now ∥₁ }
     {
         if number == 0 || number > self.lists.processes.len() {
             return None;

@@ -13,7 +13,7 @@ use std::alloc::Global;
 pub struct SizedWorld {
     world: World,
     pages: u32,
-    ghost size: { length world.lists.pages.items ≡ pages },
+    ghost size: { length world.pages ≡ pages },
 }
 
 impl SizedWorld {

@@ -1,5 +1,4 @@
 use Rattle.std.proofs.Common.{[]}
-use Rattle.bl_world.specs.Views.{view_of}
 use Rattle.bl_replay_script.specs.declared.command.Command.TheVariants as command
 use Rattle.bl_replay.proofs.Emitting.{emits_start, ok_map, err_map}
 use Rattle.bl_replay.proofs.Following.{partly_one}
@@ -9,10 +8,10 @@ pub returns-in-Start-clause-ok : goal.returns-in-Start-clause-ok
 returns-in-Start-clause-ok g c = rw c.in-Start.is (ok_map c.start.result (λ h. ([], h, emits_start _ c.args.pending.now.items)) c.start.ensures.ok)
 
 pub returns-in-Turn-clause-err : goal.returns-in-Turn-clause-err
-returns-in-Turn-clause-err g c = rw c.in-Turn.is (err_map c.play_chosen.result (λ e. (e.0, partly_one (view_of c.args.world.now.lists) (command.Turn c.in-Turn.number) e.0 e.1, e.2)) c.play_chosen.ensures.err)
+returns-in-Turn-clause-err g c = rw c.in-Turn.is (err_map c.play_chosen.result (λ e. (e.0, partly_one c.args.world.now (command.Turn c.in-Turn.number) e.0 e.1, e.2)) c.play_chosen.ensures.err)
 
 pub returns-in-TurnAt-clause-err : goal.returns-in-TurnAt-clause-err
-returns-in-TurnAt-clause-err g c = rw c.in-TurnAt.is (err_map c.play_chosen-in-TurnAt.result (λ e. (e.0, partly_one (view_of c.args.world.now.lists) (command.TurnAt c.in-TurnAt.number c.in-TurnAt.page) e.0 e.1, e.2)) c.play_chosen-in-TurnAt.ensures.err)
+returns-in-TurnAt-clause-err g c = rw c.in-TurnAt.is (err_map c.play_chosen-in-TurnAt.result (λ e. (e.0, partly_one c.args.world.now (command.TurnAt c.in-TurnAt.number c.in-TurnAt.page) e.0 e.1, e.2)) c.play_chosen-in-TurnAt.ensures.err)
 
 pub returns-in-Refuse-clause-err : goal.returns-in-Refuse-clause-err
-returns-in-Refuse-clause-err g c = rw c.in-Refuse.is (err_map c.play_turn.result (λ e. (e.0, partly_one (view_of c.args.world.now.lists) (command.Refuse c.in-Refuse.number) e.0 e.1, e.2)) c.play_turn.ensures.err)
+returns-in-Refuse-clause-err g c = rw c.in-Refuse.is (err_map c.play_turn.result (λ e. (e.0, partly_one c.args.world.now (command.Refuse c.in-Refuse.number) e.0 e.1, e.2)) c.play_turn.ensures.err)

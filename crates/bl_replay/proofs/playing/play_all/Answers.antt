@@ -3,7 +3,6 @@ use Rattle.std.proofs.lemmas.Option.{slice_get-get_or}
 use Rattle.bl_model.specs.declared.operation.Op.TheVariants as op
 use Rattle.bl_replay_script.specs.declared.command.Start.TheVariants as start
 use Rattle.bl_replay_script.specs.declared.command.Command.TheVariants as command
-use Rattle.bl_world.specs.Views.{view_of}
 use Rattle.bl_replay.specs.Plays.{all_kinds}
 use Rattle.bl_replay.specs.Plays.Plays.{Nothing}
 use Rattle.bl_replay.proofs.Emitting.{emits_start, emits_more, emits_stop, err_of}
@@ -18,7 +17,7 @@ play_command-requires g c =
     let i = c.loop-command.command-index in
     let commands = c.args.commands.now in
     let at = slice_get-get_or commands i (command.Start (start.Operation (op.Find 0))) (omega (arith, c.loop-command-test.true)) in
-    stands_sized all_kinds (length c.args.world.now.lists.pages.items) _ (length c.args.world.now.lists.processes.items) _ commands i _ c.loop-command.invariant.size c.loop-command.invariant.count c.requires at
+    stands_sized all_kinds (length c.args.world.now.pages) _ (length c.args.world.now.processes) _ commands i _ c.loop-command.invariant.size c.loop-command.invariant.count c.requires at
 
 pub returns-in_err-play_command-clause-err : goal.returns-in_err-play_command-clause-err
 returns-in_err-play_command-clause-err g c =
@@ -29,7 +28,7 @@ returns-in_err-play_command-clause-err g c =
     let e = c.in_err-play_command.ensures.err in
     err_of c.from_residual.result (
       n.text ++ e.0,
-      breaks_off (view_of c.args.world.now.lists) (view_of c.loop-command.world.lists) commands i _ n.text e.0 at n.played e.1,
+      breaks_off c.args.world.now c.loop-command.world commands i _ n.text e.0 at n.played e.1,
       emits_stop _ _ _ c.args.pending.now.items c.loop-command.pending.items n.text e.0 n.emitted e.2,
     )
 
@@ -43,7 +42,7 @@ loop-command-preserved g c =
     let more = started_further commands i _ at in
     record {
       text = n.text ++ e.0;
-      played = plays_further (view_of c.args.world.now.lists) (view_of c.loop-command.world.lists) (view_of c.play_command.new.world.lists) commands i _ n.text e.0 at n.played e.1;
+      played = plays_further c.args.world.now c.loop-command.world c.play_command.new.world commands i _ n.text e.0 at n.played e.1;
       emitted = emits_more _ _ _ c.args.pending.now.items c.loop-command.pending.items c.play_command.new.pending.items n.text e.0 n.emitted e.2;
       count = omega (arith, more, n.count, c.in_ok-play_command.ensures.count);
       size = c.in_ok-play_command.ensures.size ∙ n.size;

@@ -1,6 +1,5 @@
 use Rattle.std.proofs.Common.{◌≡◌, ◌+◌, ℕ, List, length, take}
 use Rattle.bl_replay_script.specs.Commands.{started_by}
-use Rattle.bl_world.specs.Views.{view_of}
 use Rattle.bl_replay.specs.Plays.{Plays}
 use Rattle.bl_replay.specs.Emits.{Emits}
 use Rattle.bl_replay.proofs.playing.play_all.Given as goal
@@ -8,8 +7,8 @@ use Rattle.bl_replay.proofs.playing.play_all.Given as goal
 abbrev pub invariant-loop-command : goal.invariant-loop-command
 invariant-loop-command g l = record {
   text : List ℕ;
-  played : Plays (view_of l.fn.world.lists) (take l.command-index l.commands) text (view_of l.world.lists);
+  played : Plays l.fn.world (take l.command-index l.commands) text l.world;
   emitted : Emits (g.W.Write.contents l.fn.writer.inner) (g.W.Write.contents l.writer.inner) l.fn.pending.items l.pending.items text;
-  count : length l.world.lists.processes.items ≡ length l.fn.world.lists.processes.items + started_by (take l.command-index l.commands);
-  size : length l.world.lists.pages.items ≡ length l.fn.world.lists.pages.items;
+  count : length l.world.processes ≡ length l.fn.world.processes + started_by (take l.command-index l.commands);
+  size : length l.world.pages ≡ length l.fn.world.pages;
 }

@@ -1,5 +1,4 @@
 use Rattle.std.proofs.Common.{◌++◌, [], inr, subst, sym, append-nil}
-use Rattle.bl_world.specs.Views.{view_of}
 use Rattle.bl_replay.specs.Plays.{Plays, BreaksOff}
 use Rattle.bl_replay.specs.Plays.BreaksOff.{Behind}
 use Rattle.bl_replay.proofs.Emitting.{ok_map, err_map, err_of, emits_all, emits_last, stops_first}
@@ -8,7 +7,7 @@ use Rattle.bl_replay.proofs.playing.replay.Goals as goal
 pub returns-in_err-play_all-clause-err : goal.returns-in_err-play_all-clause-err
 returns-in_err-play_all-clause-err g c =
     let e = c.in_err-play_all.ensures.err in
-    let start = view_of c.in-Ok.world.lists in
+    let start = c.in-Ok.world in
     err_of c.from_residual.result (
       e.0,
       inr (start, c.in-Ok.ensures.ok, subst (λ z. BreaksOff start z e.0) c.as_slice.ensures.value e.1),
@@ -18,8 +17,8 @@ returns-in_err-play_all-clause-err g c =
 pub returns-clause-ok : goal.returns-clause-ok
 returns-clause-ok g c =
     let e = c.in_ok-play_all.ensures.ok in
-    let start = view_of c.in-Ok.world.lists in
-    let end = view_of c.play_all.new.world.lists in
+    let start = c.in-Ok.world in
+    let end = c.play_all.new.world in
     ok_map c.write_last.result (λ h. (
       e.0,
       (start, end, c.in-Ok.ensures.ok, subst (λ z. Plays start z e.0 end) c.as_slice.ensures.value e.1, c.in_ok-play_all.ensures.account),
@@ -29,8 +28,8 @@ returns-clause-ok g c =
 pub returns-clause-err : goal.returns-clause-err
 returns-clause-err g c =
     let e = c.in_ok-play_all.ensures.ok in
-    let start = view_of c.in-Ok.world.lists in
-    let end = view_of c.play_all.new.world.lists in
+    let start = c.in-Ok.world in
+    let end = c.play_all.new.world in
     let commands = c.args.script.now.commands.items in
     err_map c.write_last.result (λ h. (
       e.0,
