@@ -45,9 +45,14 @@ struct Nothing;
 
 impl Model for Nothing {
     ghost use Rattle.std.specs.Prelude.{[]};
+    ghost use Rattle.std.specs.Coded.{codes};
+    ghost use Rattle.bl_page.specs.contracts.page.Page as page;
+    ghost use Rattle.bl_model.specs.contracts.operation.Reply as reply;
     ghost use Rattle.bl_claims.specs.Trails.{Trail};
 
     ghost Value = { Trail };
+
+    ghost coded = { Prim.hlevel (codes, page.the_row.coded, reply.the_row.coded) };
 
     ghost view = { λ nothing. [] };
 }
@@ -59,9 +64,14 @@ pub struct Happened {
 }
 
 impl Model for Happened {
+    ghost use Rattle.std.specs.Coded.{codes};
+    ghost use Rattle.bl_page.specs.contracts.page.Page as page;
+    ghost use Rattle.bl_model.specs.contracts.operation.Reply as reply;
     ghost use Rattle.bl_claims.specs.Trails.{Trail};
 
     ghost Value = { Trail };
+
+    ghost coded = { Prim.hlevel (codes, page.the_row.coded, reply.the_row.coded) };
 
     ghost view = { λ happened. happened.trail.value };
 }

@@ -14,8 +14,8 @@ ghost use Rattle.bl_serve.specs.Serving.{AreTogether, seen_by};
 
 use crate::gate::OpenGate;
 use crate::origin::Origin;
-use crate::serving::serve;
-use crate::starting::open_index;
+use crate::serving::serve_with;
+use crate::starting::{crew_of, open_index};
 use bl_check::Quiet;
 use bl_index::{CloseFault, Index, Pass};
 use bl_model::Watched;
@@ -63,17 +63,9 @@ pub fn dump_index<T: Threads + Wait + Sync, R: Read, W: Write>(
         × EndsRead input ahead (IsAtEnd (R.remaining reader.new.inner)))
         (λ fault. StopsFrom origin (input ++ ahead) output fault (reader.new.failed ≡ true) (writer.new.failed ≡ true)) }
 {
+    let crew = crew_of(workers);
     let (index, passes) = open_index(alloc, origin, workers + compressors)?;
-    match serve(
-        rt,
-        alloc,
-        &index,
-        passes,
-        reader,
-        writer,
-        &OpenGate,
-        workers as usize,
-    ) {
+    match serve_with(rt, alloc, &index, passes, reader, writer, &OpenGate, crew) {
         Ok((totals, passes)) => Ok((totals, shut(alloc, index, passes))),
         Err(fault) => Err(fault),
     }

@@ -73,6 +73,15 @@ fn batches<R: Wait>(
     Ok(receiver)
 }
 
+/// Who works in a section.
+#[derive(Clone, Copy, Debug, PartialEq, Eq)]
+pub struct Crew {
+    /// So many passes answer lines, the first ones. The others follow hints.
+    pub workers: usize,
+    /// Fewer requests than this are answered by one thread: another one would cost more time than it spares.
+    pub alone: usize,
+}
+
 /// What the pass of that number does: the first so many serve, the others compress.
 fn duty_of(number: usize, workers: usize) -> Duty {
     if number < workers {
@@ -97,9 +106,9 @@ pub fn desks(alloc: Global, count: usize, workers: usize) -> Result<Vec<Desk>, A
     Ok(desks)
 }
 
-/// How many threads are worth their time. A lone request is answered by this thread; else there are two at least, and more where
+/// How many threads are worth their time. Few requests are answered by this thread; else there are two at least, and more where
 /// there are more requests, up to the number of workers. Where there are many, and deletions among them, all passes work at once.
-fn threads_for(lines: &[Option<Request>], workers: usize, passes: usize) -> usize {
+fn threads_for(lines: &[Option<Request>], crew: Crew, passes: usize) -> usize {
     let asked = lines
         .iter()
         .filter(|asked| matches!(asked, Some(Request::Ask(_) | Request::Scan(..))))
@@ -108,12 +117,12 @@ fn threads_for(lines: &[Option<Request>], workers: usize, passes: usize) -> usiz
         .iter()
         .filter(|asked| matches!(asked, Some(Request::Ask(Op::Delete(_)))))
         .count();
-    if asked < 2 {
+    if asked < crew.alone {
         1
     } else if asked >= MANY && deleted > 0 {
         passes
     } else {
-        (asked / REQUESTS_A_THREAD).max(2).min(workers)
+        (asked / REQUESTS_A_THREAD).max(2).min(crew.workers)
     }
 }
 
@@ -258,7 +267,7 @@ pub fn answer_section<R: Threads + Wait + Sync, G: Gate + Sync, I: Read>(
     index: &Index,
     hints: &Hints,
     gate: &G,
-    workers: usize,
+    crew: Crew,
     passes: Vec<Pass>,
     desks: &mut Vec<Desk>,
     done: u64,
@@ -277,9 +286,9 @@ pub fn answer_section<R: Threads + Wait + Sync, G: Gate + Sync, I: Read>(
     ensures round { IfOk result (λ t. IsRound (first_of index.now) (suc done) lines.now t.1.items passes.items t.0.items) }
 {
     let mut passes = passes;
-    let batches = batches(rt, alloc, lines.len(), workers)?;
-    let shift = Shift::new(workers as u64);
-    let threads = threads_for(lines, workers, passes.len());
+    let batches = batches(rt, alloc, lines.len(), crew.workers)?;
+    let shift = Shift::new(crew.workers as u64);
+    let threads = threads_for(lines, crew, passes.len());
     work_abreast(
         rt,
         alloc,
@@ -308,7 +317,7 @@ pub fn hold_section<R: Threads + Wait + Sync, G: Gate + Sync, I: Read>(
     index: &Index,
     hints: &Hints,
     gate: &G,
-    workers: usize,
+    crew: Crew,
     passes: Vec<Pass>,
     desks: &mut Vec<Desk>,
     done: u64,
@@ -327,7 +336,7 @@ pub fn hold_section<R: Threads + Wait + Sync, G: Gate + Sync, I: Read>(
     ensures fault { IfErr result (IsInside done (length lines.now)) }
 {
     let (back, text) = answer_section(
-        rt, alloc, index, hints, gate, workers, passes, desks, done, lines, reader, ahead,
+        rt, alloc, index, hints, gate, crew, passes, desks, done, lines, reader, ahead,
     )?;
     let mut passes = back;
     meet_all(index, passes.as_mut_slice());

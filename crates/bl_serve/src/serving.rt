@@ -11,7 +11,7 @@ ghost use Rattle.bl_serve.specs.Serving.{AreTogether, FailsSection, IsInside, Se
 
 use crate::gate::Gate;
 use crate::reading::{Ahead, SectionEnd, read_on};
-use crate::rounds::{desks, hold_section};
+use crate::rounds::{Crew, desks, hold_section};
 use crate::working::Desk;
 use bl_hints::Hints;
 use bl_index::{Index, Pass};
@@ -75,7 +75,7 @@ fn serve_round<T: Threads + Wait + Sync, R: Read, G: Gate + Sync>(
     index: &Index,
     hints: &Hints,
     gate: &G,
-    workers: usize,
+    crew: Crew,
     passes: Vec<Pass>,
     desks: &mut Vec<Desk>,
     lines: &[Option<Request>],
@@ -103,7 +103,7 @@ fn serve_round<T: Threads + Wait + Sync, R: Read, G: Gate + Sync>(
         index,
         hints,
         gate,
-        workers,
+        crew,
         passes,
         desks,
         totals.requests,
@@ -128,7 +128,7 @@ fn serve_section<T: Threads + Wait + Sync, R: Read, G: Gate + Sync>(
     index: &Index,
     hints: &Hints,
     gate: &G,
-    workers: usize,
+    crew: Crew,
     passes: Vec<Pass>,
     desks: &mut Vec<Desk>,
     lines: &mut Vec<Option<Request>>,
@@ -171,7 +171,7 @@ fn serve_section<T: Threads + Wait + Sync, R: Read, G: Gate + Sync>(
             index,
             hints,
             gate,
-            workers,
+            crew,
             passes,
             desks,
             lines.as_slice(),
@@ -221,8 +221,35 @@ pub fn serve<T: Threads + Wait + Sync, R: Read, W: Write, G: Gate + Sync>(
         (λ fault. Stops (map_after (first_of index.now) (seen_by passes.items)) (input ++ ahead) output fault
         (reader.new.failed ≡ true) (writer.new.failed ≡ true)) }
 {
+    // A gate may hold the first of two requests until the second one has been carried out.
+    let crew = Crew { workers, alone: 2 };
+    serve_with(rt, alloc, index, passes, reader, writer, gate, crew)
+}
+
+/// The same by a crew, which may have fewer threads for few requests.
+pub fn serve_with<T: Threads + Wait + Sync, R: Read, W: Write, G: Gate + Sync>(
+    rt: &T,
+    alloc: Global,
+    index: &Index,
+    passes: Vec<Pass>,
+    reader: &mut Watched<R>,
+    writer: &mut Watched<W>,
+    gate: &G,
+    crew: Crew,
+) -> Result<(Totals, Vec<Pass>), ServeFault>
+    requires together { AreTogether index.now (seen_by passes.items) passes.items }
+    requires some { 0 < vec_len passes }
+    ensures { (input : List ℕ) × (ahead : List ℕ) × (output : List ℕ)
+        × Consumes (R.remaining reader.old.inner) (R.remaining reader.new.inner) (input ++ ahead)
+        × Appends (W.contents writer.old.inner) (W.contents writer.new.inner) output
+        × MatchResult result
+        (λ t. Serves index.now passes.items t.1.items input output t.0
+        × EndsRead input ahead (IsAtEnd (R.remaining reader.new.inner)))
+        (λ fault. Stops (map_after (first_of index.now) (seen_by passes.items)) (input ++ ahead) output fault
+        (reader.new.failed ≡ true) (writer.new.failed ≡ true)) }
+{
     let hints = Hints::new(alloc)?;
-    let mut desks = desks(alloc, passes.len(), workers)?;
+    let mut desks = desks(alloc, passes.len(), crew.workers)?;
     let mut ahead = Ahead::new(alloc)?;
     let mut lines = Vec::new(alloc);
     let mut text = Vec::new(alloc);
@@ -239,7 +266,7 @@ pub fn serve<T: Threads + Wait + Sync, R: Read, W: Write, G: Gate + Sync>(
             index,
             &hints,
             gate,
-            workers,
+            crew,
             passes,
             &mut desks,
             &mut lines,

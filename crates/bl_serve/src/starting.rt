@@ -9,7 +9,8 @@ ghost use Rattle.bl_serve.specs.Origins.{HasPages, ServedFrom, StopsFrom};
 
 use crate::gate::OpenGate;
 use crate::origin::Origin;
-use crate::serving::serve;
+use crate::rounds::Crew;
+use crate::serving::serve_with;
 use bl_check::Quiet;
 use bl_index::{Config, Index, OpenFault, Pass};
 use bl_model::Watched;
@@ -18,6 +19,10 @@ use std::alloc::{AllocError, Global};
 use std::io::{Read, Write};
 use std::sync::Wait;
 use std::thread::Threads;
+
+/// Fewer requests than this, of an index that only the server uses, are answered by one thread: to start and to join another takes
+/// about as long as they do.
+const ALONE: usize = 1_024;
 
 /// An index without rows, of so many pages, with so many passes.
 fn open_empty(alloc: Global, pages: u32, passes: u32) -> Result<(Index, Vec<Pass>), AllocError>
@@ -60,6 +65,14 @@ pub fn open_index(
     }
 }
 
+/// So many workers, none of whom a gate holds.
+pub fn crew_of(workers: u32) -> Crew {
+    Crew {
+        workers: workers as usize,
+        alone: ALONE,
+    }
+}
+
 /// Serves the request lines of the reader over an index of its own, which begins without rows or with those of a sound image,
 /// by so many workers (at least 1) and compressors, 64 of both at most. What was written is served for what was read, from the
 /// map of those rows on; after a fault the output of the finished sections is written, and no other but a beginning of the open
@@ -82,17 +95,9 @@ pub fn serve_index<T: Threads + Wait + Sync, R: Read, W: Write>(
         (λ totals. ServedFrom origin input output totals × EndsRead input ahead (IsAtEnd (R.remaining reader.new.inner)))
         (λ fault. StopsFrom origin (input ++ ahead) output fault (reader.new.failed ≡ true) (writer.new.failed ≡ true)) }
 {
+    let crew = crew_of(workers);
     let (index, passes) = open_index(alloc, origin, workers + compressors)?;
-    match serve(
-        rt,
-        alloc,
-        &index,
-        passes,
-        reader,
-        writer,
-        &OpenGate,
-        workers as usize,
-    ) {
+    match serve_with(rt, alloc, &index, passes, reader, writer, &OpenGate, crew) {
         Ok((totals, _)) => Ok(totals),
         Err(fault) => Err(fault),
     }

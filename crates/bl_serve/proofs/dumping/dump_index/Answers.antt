@@ -15,19 +15,16 @@ pub returns-in_err-index : goal.returns-in_err-index
 returns-in_err-index g c = let p = err_from_is_err_and c.from_residual.result c.from_residual.ensures.1 in
     rw (p.1, p.2) ([], [], [], consumes_start _, appends_start _, Unopened refl refl refl)
 
-pub serve-requires-clause-workers : goal.serve-requires-clause-workers
-serve-requires-clause-workers g c = let least = c.requires.passes.0 in let many = c.in_ok-index.ensures.many in let d = c.in_ok-index.passes.ok in omega (arith, least, many, d)
-
 pub shut-requires-clause-some : goal.shut-requires-clause-some
 shut-requires-clause-some g c =
-    let h = c.serve.ensures in
+    let h = c.serve_with.ensures in
     let s = rw c.in-Ok.is at h.5 in
     let now = s.0.together.count in let before = c.in_ok-index.ensures.together.count in let many = c.in_ok-index.ensures.many in let least = c.requires.passes.0 in
     let b = c.in-Ok.passes.ok in omega (arith, now, before, many, least, b)
 
 pub shut-requires-clause-together : goal.shut-requires-clause-together
 shut-requires-clause-together g c =
-    let h = c.serve.ensures in
+    let h = c.serve_with.ensures in
     let s = rw c.in-Ok.is at h.5 in
     let any : 0 < length c.in-Ok.passes.items = (let now = s.0.together.count in let before = c.in_ok-index.ensures.together.count in let many = c.in_ok-index.ensures.many in let least = c.requires.passes.0 in
     omega (arith, now, before, many, least)) in
@@ -35,7 +32,7 @@ shut-requires-clause-together g c =
 
 pub returns-in-Ok : goal.returns-in-Ok
 returns-in-Ok g c =
-    let h = c.serve.ensures in
+    let h = c.serve_with.ensures in
     let s = rw c.in-Ok.is at h.5 in
     let any : 0 < length c.in-Ok.passes.items = (let now = s.0.together.count in let before = c.in_ok-index.ensures.together.count in let many = c.in_ok-index.ensures.many in let least = c.requires.passes.0 in
     omega (arith, now, before, many, least)) in
@@ -47,6 +44,6 @@ returns-in-Ok g c =
 
 pub returns-in-Err : goal.returns-in-Err
 returns-in-Err g c =
-    let h = c.serve.ensures in
+    let h = c.serve_with.ensures in
     let s = rw c.in-Err.is at h.5 in
-    (h.0, h.1, h.2, h.3, h.4, stops_from c.args.origin _ c.in_ok-index.index c.in_ok-index.passes.items c.in_ok-index.ensures (h.0 ++ h.1) h.2 c.in-Err.fault (c.serve.new.reader.failed ≡ true) (c.serve.new.writer.failed ≡ true) s)
+    (h.0, h.1, h.2, h.3, h.4, stops_from c.args.origin _ c.in_ok-index.index c.in_ok-index.passes.items c.in_ok-index.ensures (h.0 ++ h.1) h.2 c.in-Err.fault (c.serve_with.new.reader.failed ≡ true) (c.serve_with.new.writer.failed ≡ true) s)

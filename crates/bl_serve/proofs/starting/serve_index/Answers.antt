@@ -1,4 +1,4 @@
-use Rattle.std.proofs.Common.{◌≡◌, [], ◌++◌, refl, true, arith}
+use Rattle.std.proofs.Common.{◌≡◌, [], ◌++◌, refl, true}
 use Rattle.std.proofs.lemmas.Result.{err_from_is_err_and}
 use Rattle.bl_serve_lines.proofs.Known.{consumes_start, appends_start}
 use Rattle.bl_serve.specs.Origins.{Unopened}
@@ -10,17 +10,14 @@ pub returns-in_err-index : goal.returns-in_err-index
 returns-in_err-index g c = let p = err_from_is_err_and c.from_residual.result c.from_residual.ensures.1 in
     rw (p.1, p.2) ([], [], [], consumes_start _, appends_start _, Unopened refl refl refl)
 
-pub serve-requires-clause-workers : goal.serve-requires-clause-workers
-serve-requires-clause-workers g c = let least = c.requires.passes.0 in let many = c.in_ok-index.ensures.many in let d = c.in_ok-index.passes.ok in omega (arith, least, many, d)
-
 pub returns-in-Ok : goal.returns-in-Ok
 returns-in-Ok g c =
-    let h = c.serve.ensures in
+    let h = c.serve_with.ensures in
     let s = rw c.in-Ok.is at h.5 in
     (h.0, h.1, h.2, h.3, h.4, (served_from c.args.origin _ c.in_ok-index.index c.in_ok-index.passes.items c.in_ok-index.ensures c.in-Ok.field-0-1.items h.0 h.2 c.in-Ok.totals s.0, s.1))
 
 pub returns : goal.returns
 returns g c =
-    let h = c.serve.ensures in
+    let h = c.serve_with.ensures in
     let s = rw c.in-Err.is at h.5 in
-    (h.0, h.1, h.2, h.3, h.4, stops_from c.args.origin _ c.in_ok-index.index c.in_ok-index.passes.items c.in_ok-index.ensures (h.0 ++ h.1) h.2 c.in-Err.fault (c.serve.new.reader.failed ≡ true) (c.serve.new.writer.failed ≡ true) s)
+    (h.0, h.1, h.2, h.3, h.4, stops_from c.args.origin _ c.in_ok-index.index c.in_ok-index.passes.items c.in_ok-index.ensures (h.0 ++ h.1) h.2 c.in-Err.fault (c.serve_with.new.reader.failed ≡ true) (c.serve_with.new.writer.failed ≡ true) s)

@@ -9,7 +9,7 @@ use Rattle.bl_serve.specs.Serving.{seen_by}
 use Rattle.bl_serve.proofs.Advance.{no_progress, stops_inside}
 use Rattle.bl_serve.proofs.Holding.{together_by_first}
 use Rattle.bl_serve.proofs.Faults.{room, stops_at_section, now_seen, together_now, some_now, stops_at_write, goes_on_at_sync, serves_at_end, serves_no_more}
-use Rattle.bl_serve.proofs.serving.serve.Goals as goal
+use Rattle.bl_serve.proofs.serving.serve_with.Goals as goal
 
 -- no memory at the start
 pub returns-in_err-hints : goal.returns-in_err-hints
@@ -33,7 +33,7 @@ loop-section-init g c = record {
   wrote = appends_start _;
   progress = no_progress _;
   together = c.requires.together;
-  some = (let a = c.requires.workers in let d = c.args.passes.ok in omega (arith, a.0, a.1, d));
+  some = (let a = c.requires.some in let d = c.args.passes.ok in omega (arith, a, d));
   room = omega arith;
   malformed = omega arith;
   sections = omega arith;

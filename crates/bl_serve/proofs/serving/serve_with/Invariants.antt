@@ -5,7 +5,7 @@ use Rattle.bl_claims.specs.Trails.{Trail}
 use Rattle.bl_index.specs.Calls.{passes_of}
 use Rattle.bl_serve.specs.Serving.{AreTogether, seen_by}
 use Rattle.bl_serve.proofs.Advance.{Progress}
-use Rattle.bl_serve.proofs.serving.serve.Given as goal
+use Rattle.bl_serve.proofs.serving.serve_with.Given as goal
 
 abbrev pub invariant-loop-section : goal.invariant-loop-section
 invariant-loop-section g l = record {
