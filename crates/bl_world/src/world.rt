@@ -20,11 +20,16 @@ pub struct World {
 
 // A clause sees what stands in the world.
 impl Model for World {
+    ghost use Rattle.std.specs.Coded.{codes};
+    ghost use Rattle.bl_page.specs.contracts.page.Page as page;
+    ghost use Rattle.bl_proc.specs.contracts.kinds.Proc as proc;
     ghost use Rattle.bl_world.specs.Views.{View, view_of};
     ghost use Rattle.bl_world.specs.Deeds.{Way};
     ghost use Rattle.bl_world.specs.Worlds.{IsWorld};
 
     ghost Value = { View };
+
+    ghost coded = { Prim.hlevel (codes, page.the_row.coded, proc.the_row.coded) };
 
     ghost view = { λ world. view_of world.lists };
 

@@ -1,9 +1,10 @@
-use Rattle.bl_world.specs.Views.{view_of}
+use Rattle.std.proofs.Common.{subst}
+use Rattle.bl_world.specs.Views.{View, view_of}
 use Rattle.bl_world.proofs.Accounting.{lone}
 use Rattle.bl_world.proofs.world.World.lone_walk.Goals as goal
 
 pub walk-requires : goal.walk-requires
-walk-requires c = c.args.self.now.world
+walk-requires c = c.self.invariant.0
 
 pub returns : goal.returns
-returns c = lone (view_of c.args.self.now.lists) c.args.key c.walk.result.0 c.walk.result.1 c.walk.ensures c.args.self.now.way
+returns c = rw (← c.self.view_is) (lone (view_of c.self.inside.lists) c.args.key c.walk.result.0 c.walk.result.1 c.walk.ensures c.self.invariant.1)

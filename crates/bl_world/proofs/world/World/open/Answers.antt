@@ -8,7 +8,7 @@ use Rattle.bl_world.proofs.world.World.open.Goals as goal
 pub invariant_of-result : goal.invariant_of-result
 invariant_of-result c =
     let v = view_of c.in-Ok.lists in
-    record { world = ∣ opens c.args.pages v (omega arith) c.in-Ok.ensures ∣₁; way = ∣ way_first c.args.pages v c.in-Ok.ensures ∣₁ }
+    (∣ opens c.args.pages v (omega arith) c.in-Ok.ensures ∣₁, ∣ way_first c.args.pages v c.in-Ok.ensures ∣₁)
 
 pub returns-in-Ok-clause-account : goal.returns-in-Ok-clause-account
 returns-in-Ok-clause-account c =
