@@ -4,7 +4,7 @@ ghost use Rattle.std.specs.Prelude.{◌≤◌};
 ghost use Rattle.bl_layout.specs.Words.{frame_count};
 
 use crate::rule::PageRule;
-use crate::store::{Hand, Store};
+use crate::store::{Hand, RING, Store};
 use std::alloc::Allocator;
 
 /// How many frames a reservation asks for at most.
@@ -12,10 +12,10 @@ const MOST: u32 = 3;
 
 impl<D, R: PageRule<D>, A: Allocator> Store<D, R, A> {
     /// Whether a reservation may find too few frames now while some wait to be released: fewer are free than all hands together
-    /// may ask for at once, and some are retired. It looks from the frame that the hand would try first, and no further than it
+    /// may ask for at once, and some are retired. It looks at the frames that the hand would try first, and no further than it
     /// has to. It is a hint of which nothing is promised: others reserve and release meanwhile.
     pub fn lacks_frames(&self, hand: &Hand<D>) -> bool {
-        if hand.ready >= MOST {
+        if self.has_ready(hand) {
             return false;
         }
         let total = self.layout.frames();
@@ -27,6 +27,28 @@ impl<D, R: PageRule<D>, A: Allocator> Store<D, R, A> {
         }
         let (more, others) = self.look_over(0, first, wanted - free);
         more < wanted - free && (retired || others)
+    }
+
+    // Whether the hand has released as many frames as a reservation asks for, and nobody has taken those that it would try first.
+    fn has_ready(&self, hand: &Hand<D>) -> bool {
+        let ready = hand.ready.min(RING as u32);
+        if ready < MOST {
+            return false;
+        }
+        for place in ready - MOST..ready {
+            if !self.is_free(hand.released[place as usize]) {
+                return false;
+            }
+        }
+        true
+    }
+
+    // Whether the number is that of a free frame.
+    fn is_free(&self, frame: u32) -> bool {
+        if frame >= self.layout.frames() {
+            return false;
+        }
+        self.table.shared.peek(self.layout.frame_owner_cell(frame)) == 0
     }
 
     // How many of the frames of a range are free, so many at most, and whether one that it looked at is retired.
