@@ -1,4 +1,3 @@
-pub mod Hands
 pub mod Replies
 pub mod Calls
 pub mod Runs

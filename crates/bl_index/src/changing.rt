@@ -8,7 +8,7 @@ ghost use Rattle.bl_index.specs.Replies.{reply_of};
 ghost use Rattle.bl_proc_base.specs.declared.answers.Answer.{Answer as AnswerIs};
 ghost use Rattle.bl_proc_unique.specs.Refusals.{IsNoRoom, IsRefused, PutsRefused};
 ghost use Rattle.bl_store.specs.Hands.{known, IsIdle, IsRunning, IsSameHand, HasNoStock};
-ghost use Rattle.bl_index.specs.Hands.{IsHandOf};
+ghost use Rattle.bl_store.specs.Owners.{IsHandOf};
 ghost use Rattle.bl_index_rule.specs.Told.{IsUnborn};
 ghost use Rattle.bl_index_rule.specs.declared.known.Mine.{Mine as Knows};
 ghost use Rattle.bl_index.specs.Runs.{IsOn, IsSince, IsDone, IsWithin, HasReserved};
@@ -57,7 +57,7 @@ impl Index {
 
     /// Carries the process out, from its begin to its end.
     pub(crate) fn carry_out<P: Kind, R: Wait>(&self, rt: &R, hand: &mut Hand<Mine>, process: P) -> P
-        requires own { IsHandOf self.now hand.old }
+        requires own { IsHandOf self.now.store hand.old }
         requires idle { IsIdle hand.old.seat × HasNoStock hand.old.seat }
         requires new { (P.answer_of process ≡ None) × (P.next_of process ≡ act.Begin) × IsUnborn (P.proc_of process) }
         requires free { (IsRefused (P.proc_of process) → ⊥) × (PutsRefused (P.proc_of process) → ⊥) }
@@ -75,7 +75,7 @@ impl Index {
 
     /// Carries the process on to its end. It has nothing reserved.
     pub(crate) fn carry_on<P: Kind, R: Wait>(&self, rt: &R, hand: &mut Hand<Mine>, process: P) -> P
-        requires own { IsHandOf self.now hand.old }
+        requires own { IsHandOf self.now.store hand.old }
         requires running { IsRunning hand.old.seat }
         requires process { IsOn self.now.store.layout (known hand.old.seat) (P.proc_of process) }
         requires going { (P.answer_of process ≡ None) × (P.next_of process ≢ act.Begin) }

@@ -5,7 +5,7 @@ ghost use Rattle.bl_page.specs.declared.page.Page.{Page};
 ghost use Rattle.bl_proc_base.specs.declared.acts.Action.TheVariants as act;
 ghost use Rattle.bl_proc_base.specs.declared.approaching.Approach.TheVariants as approach;
 ghost use Rattle.bl_store.specs.Hands.{known, read_words, IsIdle, IsRunning, IsSameHand, IsSameStage, IsSameStock, ReadsFrom};
-ghost use Rattle.bl_index.specs.Hands.{IsHandOf};
+ghost use Rattle.bl_store.specs.Owners.{IsHandOf};
 ghost use Rattle.bl_proc_base.specs.declared.acts.Seen.TheVariants as seen;
 ghost use Rattle.bl_proc.specs.Processes.{next_of};
 ghost use Rattle.bl_proc_unique.specs.Courses.{GoesOn};
@@ -36,7 +36,7 @@ impl Index {
     // The process with this errand begins, which the first bound names beside its pass.
     #[inline(always)]
     fn set_out<L: Launch, J: Errand>(&self, hand: &mut Hand<Mine>, errand: &J)
-        requires own { IsHandOf self.now hand.old }
+        requires own { IsHandOf self.now.store hand.old }
         requires idle { IsIdle hand.old.seat }
         requires names { (hand.old.number ≡ L.pass) × (self.now.store.layout.pages ≡ L.pages) × (self.now.store.layout.passes ≡ L.passes) × (J.unborn errand.now ≡ L.process) }
         requires next { next_of L.process ≡ act.Begin }
@@ -53,7 +53,7 @@ impl Index {
     /// The process with this errand begins.
     #[inline(always)]
     pub(crate) fn depart<J: Errand>(&self, hand: &mut Hand<Mine>, errand: &J)
-        requires own { IsHandOf self.now hand.old }
+        requires own { IsHandOf self.now.store hand.old }
         requires idle { IsIdle hand.old.seat }
         requires unborn { IsUnborn (J.unborn errand.now) }
         ensures same { IsSameHand hand.old.seat hand.new.seat × IsSameStock hand.old.seat hand.new.seat }
@@ -67,7 +67,7 @@ impl Index {
     /// It gets the anchor, and goes on by its words.
     #[inline(always)]
     fn look_first<J: Errand>(&self, hand: &mut Hand<Mine>, errand: &J) -> Approach
-        requires own { IsHandOf self.now hand.old }
+        requires own { IsHandOf self.now.store hand.old }
         requires running { IsRunning hand.old.seat }
         requires process { IsOn self.now.store.layout (known hand.old.seat) (J.at errand.now approach.Start) }
         requires led { (c : Page) → J.IsLedBy errand.now c }
@@ -87,7 +87,7 @@ impl Index {
     /// It gets the page on its way, and goes on by its words.
     #[inline(always)]
     fn look_on<J: Errand>(&self, hand: &mut Hand<Mine>, errand: &J, page: u32) -> Approach
-        requires own { IsHandOf self.now hand.old }
+        requires own { IsHandOf self.now.store hand.old }
         requires running { IsRunning hand.old.seat }
         requires process { IsOn self.now.store.layout (known hand.old.seat) (J.at errand.now (approach.At page)) }
         ensures same { IsSameHand hand.old.seat hand.new.seat × IsSameStage hand.old.seat hand.new.seat × IsSameStock hand.old.seat hand.new.seat }
@@ -112,7 +112,7 @@ impl Index {
         errand: &J,
         from: Approach,
     ) -> Option<u32>
-        requires own { IsHandOf self.now hand.old }
+        requires own { IsHandOf self.now.store hand.old }
         requires running { IsRunning hand.old.seat }
         requires process { IsOn self.now.store.layout (known hand.old.seat) (J.at errand.now from) }
         requires free { HoldsNone from }
@@ -135,7 +135,7 @@ impl Index {
     /// It tries to latch the page that it has come to.
     #[inline(always)]
     fn latch_there<J: Errand>(&self, hand: &mut Hand<Mine>, errand: &J, page: u32) -> bool
-        requires own { IsHandOf self.now hand.old }
+        requires own { IsHandOf self.now.store hand.old }
         requires running { IsRunning hand.old.seat }
         requires process { IsOn self.now.store.layout (known hand.old.seat) (J.at errand.now (approach.Latching page)) }
         ensures same { IsSameHand hand.old.seat hand.new.seat × IsSameStage hand.old.seat hand.new.seat × IsSameStock hand.old.seat hand.new.seat }
@@ -150,7 +150,7 @@ impl Index {
     /// It gets the page that it holds, and sees by its words whether it is there.
     #[inline(always)]
     fn look_there<J: Errand>(&self, hand: &mut Hand<Mine>, errand: &J, page: u32) -> Arrived
-        requires own { IsHandOf self.now hand.old }
+        requires own { IsHandOf self.now.store hand.old }
         requires running { IsRunning hand.old.seat }
         requires process { IsOn self.now.store.layout (known hand.old.seat) (J.at errand.now (approach.Latched page)) }
         ensures same { IsSameHand hand.old.seat hand.new.seat × IsSameStage hand.old.seat hand.new.seat × IsSameStock hand.old.seat hand.new.seat }
@@ -178,7 +178,7 @@ impl Index {
         page: u32,
         to: Option<u32>,
     ) -> Approach
-        requires own { IsHandOf self.now hand.old }
+        requires own { IsHandOf self.now.store hand.old }
         requires running { IsRunning hand.old.seat }
         requires process { IsOn self.now.store.layout (known hand.old.seat) (J.at errand.now (approach.Leaving page to)) }
         ensures same { IsSameHand hand.old.seat hand.new.seat × IsSameStage hand.old.seat hand.new.seat × IsSameStock hand.old.seat hand.new.seat }
@@ -204,7 +204,7 @@ impl Index {
         errand: &J,
         from: Approach,
     ) -> Option<(u32, Glance)>
-        requires own { IsHandOf self.now hand.old }
+        requires own { IsHandOf self.now.store hand.old }
         requires running { IsRunning hand.old.seat }
         requires process { IsOn self.now.store.layout (known hand.old.seat) (J.at errand.now from) }
         requires free { HoldsNone from }
@@ -241,7 +241,7 @@ impl Index {
         hand: &mut Hand<Mine>,
         errand: &J,
     ) -> (u32, Glance)
-        requires own { IsHandOf self.now hand.old }
+        requires own { IsHandOf self.now.store hand.old }
         requires running { IsRunning hand.old.seat }
         requires process { IsOn self.now.store.layout (known hand.old.seat) (J.at errand.now approach.Start) }
         requires led { (c : Page) → J.IsLedBy errand.now c }

@@ -18,7 +18,7 @@ ghost use Rattle.bl_proc.specs.declared.deleting.DeleteReply.TheVariants as remo
 ghost use Rattle.bl_proc.specs.declared.deleting.DeleteStage.TheVariants as delete;
 ghost use Rattle.bl_proc.specs.declared.kinds.Proc.TheVariants as proc;
 ghost use Rattle.bl_store.specs.Hands.{known, read_words, IsIdle, IsRunning, IsSameHand, HasNoStock, ReadsFrom, WasRefused};
-ghost use Rattle.bl_index.specs.Hands.{IsHandOf};
+ghost use Rattle.bl_store.specs.Owners.{IsHandOf};
 ghost use Rattle.bl_index_rule.specs.declared.known.Mine.{Mine as Knows};
 ghost use Rattle.bl_index.specs.Runs.{IsOn, IsSince, IsWithin};
 ghost use Rattle.bl_index.specs.Events.{IsThere, HasDeleted, HasDeletedBy};
@@ -60,7 +60,7 @@ fn answer_of(reply: DeleteReply) -> (KeyReply, Option<Hint>)
 impl Index {
     /// The leaf that it holds does not have the key.
     fn keep_absent(&self, hand: &mut Hand<Mine>, at: u32, errand: Deleting) -> DeleteReply
-        requires own { IsHandOf self.now hand.old }
+        requires own { IsHandOf self.now.store hand.old }
         requires running { IsRunning hand.old.seat × HasNoStock hand.old.seat }
         requires process { IsOn self.now.store.layout (known hand.old.seat) (proc.Delete (record { key = errand.key; stage = delete.Absent at })) }
         ensures same { IsSameHand hand.old.seat hand.new.seat }
@@ -85,7 +85,7 @@ impl Index {
         value: u64,
         glance: Glance,
     ) -> DeleteReply
-        requires own { IsHandOf self.now hand.old }
+        requires own { IsHandOf self.now.store hand.old }
         requires running { IsRunning hand.old.seat × HasNoStock hand.old.seat }
         requires reads { ReadsFrom hand.old.seat glance }
         requires page { (c : Page) × (p : Page) × IsTreePage c × IsTreePage p × (read_words hand.old.seat ≡ words_of c) × (map_of (pairs_of c) errand.key ≡ Some value) × (words_of p ≡ words_by c (dropped errand.key (pairs_of c))) × IsOn self.now.store.layout (known hand.old.seat) (proc.Delete (record { key = errand.key; stage = delete.Changing (record { value = value; thin = thin_low p }) (change.Putting at p) })) }
@@ -121,7 +121,7 @@ impl Index {
         errand: Deleting,
         glance: Glance,
     ) -> DeleteReply
-        requires own { IsHandOf self.now hand.old }
+        requires own { IsHandOf self.now.store hand.old }
         requires running { IsRunning hand.old.seat × HasNoStock hand.old.seat }
         requires reads { ReadsFrom hand.old.seat glance }
         requires process { IsOn self.now.store.layout (known hand.old.seat) (known hand.old.seat).state }
@@ -150,7 +150,7 @@ impl Index {
         hand: &mut Hand<Mine>,
         key: u64,
     ) -> (KeyReply, Option<Hint>)
-        requires own { IsHandOf self.now hand.old }
+        requires own { IsHandOf self.now.store hand.old }
         requires idle { IsIdle hand.old.seat × HasNoStock hand.old.seat }
         ensures same { IsSameHand hand.old.seat hand.new.seat }
         ensures idle { IsIdle hand.new.seat × HasNoStock hand.new.seat }

@@ -12,7 +12,7 @@ ghost use Rattle.bl_proc_unique.specs.Courses.{GoesOn};
 ghost use Rattle.bl_proc_unique.specs.Frames.{op_of, work_of};
 ghost use Rattle.bl_store.specs.Drafts.{IsSpread};
 ghost use Rattle.bl_store.specs.Hands.{known, read_words, IsIdle, IsRunning, IsSameHand, IsSameStage, IsSameStock, HasNoStock, IsStockOf, ReadsFrom, WasRefused, IsSameRefusal};
-ghost use Rattle.bl_index.specs.Hands.{IsHandOf};
+ghost use Rattle.bl_store.specs.Owners.{IsHandOf};
 ghost use Rattle.bl_index_rule.specs.declared.known.Mine.{Mine as Knows};
 ghost use Rattle.bl_index_rule.specs.Told.{Goes};
 ghost use Rattle.bl_index.specs.Held.{KeepsLatch};
@@ -27,7 +27,7 @@ impl Index {
     /// The process gets the page.
     #[inline(always)]
     pub(crate) fn look(&self, hand: &mut Hand<Mine>, page: u32) -> Glance
-        requires own { IsHandOf self.now hand.old }
+        requires own { IsHandOf self.now.store hand.old }
         requires running { IsRunning hand.old.seat }
         requires process { IsOn self.now.store.layout (known hand.old.seat) (known hand.old.seat).state }
         requires next { next_of (known hand.old.seat).state ≡ act.Get page }
@@ -45,7 +45,7 @@ impl Index {
     /// The process tries to latch the page.
     #[inline(always)]
     pub(crate) fn try_latch(&self, hand: &mut Hand<Mine>, page: u32) -> bool
-        requires own { IsHandOf self.now hand.old }
+        requires own { IsHandOf self.now.store hand.old }
         requires running { IsRunning hand.old.seat }
         requires process { IsOn self.now.store.layout (known hand.old.seat) (known hand.old.seat).state }
         requires next { next_of (known hand.old.seat).state ≡ act.Latch page }
@@ -60,7 +60,7 @@ impl Index {
     /// The process opens the page.
     #[inline(always)]
     pub(crate) fn reopen(&self, hand: &mut Hand<Mine>, page: u32)
-        requires own { IsHandOf self.now hand.old }
+        requires own { IsHandOf self.now.store hand.old }
         requires running { IsRunning hand.old.seat }
         requires process { IsOn self.now.store.layout (known hand.old.seat) (known hand.old.seat).state }
         requires next { next_of (known hand.old.seat).state ≡ act.Open page }
@@ -75,7 +75,7 @@ impl Index {
     /// The process reserves a frame and puts the page with these words, or is refused.
     #[inline(always)]
     pub(crate) fn replace(&self, hand: &mut Hand<Mine>, page: u32, words: &[u64; 32]) -> bool
-        requires own { IsHandOf self.now hand.old }
+        requires own { IsHandOf self.now.store hand.old }
         requires running { IsRunning hand.old.seat }
         requires process { IsOn self.now.store.layout (known hand.old.seat) (known hand.old.seat).state }
         requires next { (c : Page) × (next_of (known hand.old.seat).state ≡ act.Put page c) × (words.now ≡ words_of c) }
@@ -106,7 +106,7 @@ impl Index {
         glance: Glance,
         change: Spread,
     ) -> bool
-        requires own { IsHandOf self.now hand.old }
+        requires own { IsHandOf self.now.store hand.old }
         requires running { IsRunning hand.old.seat }
         requires process { IsOn self.now.store.layout (known hand.old.seat) (known hand.old.seat).state }
         requires reads { ReadsFrom hand.old.seat glance }
@@ -133,7 +133,7 @@ impl Index {
 
     /// The process reserves a page and two frames, and takes the page, or is refused.
     pub(crate) fn take_page(&self, hand: &mut Hand<Mine>) -> Option<(u32, Stock)>
-        requires own { IsHandOf self.now hand.old }
+        requires own { IsHandOf self.now.store hand.old }
         requires running { IsRunning hand.old.seat }
         requires process { IsOn self.now.store.layout (known hand.old.seat) (known hand.old.seat).state }
         requires next { next_of (known hand.old.seat).state ≡ act.Take }
@@ -160,7 +160,7 @@ impl Index {
         words: &[u64; 32],
         stock: &mut Stock,
     )
-        requires own { IsHandOf self.now hand.old }
+        requires own { IsHandOf self.now.store hand.old }
         requires running { IsRunning hand.old.seat }
         requires process { IsOn self.now.store.layout (known hand.old.seat) (known hand.old.seat).state }
         requires next { (c : Page) × (next_of (known hand.old.seat).state ≡ act.Put page c) × (words.now ≡ words_of c) }
@@ -176,7 +176,7 @@ impl Index {
     /// The process opens the only page that it holds, and ends.
     #[inline(always)]
     pub(crate) fn conclude(&self, hand: &mut Hand<Mine>, page: u32)
-        requires own { IsHandOf self.now hand.old }
+        requires own { IsHandOf self.now.store hand.old }
         requires running { IsRunning hand.old.seat }
         requires process { IsOn self.now.store.layout (known hand.old.seat) (known hand.old.seat).state }
         requires opens { (ending : Proc) × (last : Proc) × OpensLast (known hand.old.seat).state page ending last }

@@ -15,7 +15,7 @@ ghost use Rattle.bl_proc.specs.Inserts.{insert_reply, inserted_answer};
 ghost use Rattle.bl_proc.specs.declared.kinds.Proc.TheVariants as proc;
 ghost use Rattle.bl_store.specs.Drafts.{IsSpread};
 ghost use Rattle.bl_store.specs.Hands.{known, read_words, IsIdle, IsRunning, IsSameHand, HasNoStock, ReadsFrom};
-ghost use Rattle.bl_index.specs.Hands.{IsHandOf};
+ghost use Rattle.bl_store.specs.Owners.{IsHandOf};
 ghost use Rattle.bl_index_rule.specs.declared.known.Mine.{Mine as Knows};
 ghost use Rattle.bl_index.specs.Runs.{IsOn, IsSince, IsWithin};
 ghost use Rattle.bl_index.specs.Events.{IsThere, HasInserted, HasInsertedBy};
@@ -74,7 +74,7 @@ impl Index {
         errand: Inserting,
         there: u64,
     ) -> InsertReply
-        requires own { IsHandOf self.now hand.old }
+        requires own { IsHandOf self.now.store hand.old }
         requires running { IsRunning hand.old.seat × HasNoStock hand.old.seat }
         requires process { IsOn self.now.store.layout (known hand.old.seat) (proc.Insert (record { key = errand.key; value = errand.value; stage = insert.Present at there })) }
         ensures same { IsSameHand hand.old.seat hand.new.seat }
@@ -99,7 +99,7 @@ impl Index {
         glance: Glance,
         spread: Spread,
     ) -> InsertReply
-        requires own { IsHandOf self.now hand.old }
+        requires own { IsHandOf self.now.store hand.old }
         requires running { IsRunning hand.old.seat × HasNoStock hand.old.seat }
         requires reads { ReadsFrom hand.old.seat glance }
         requires place { spread.place < 14 }
@@ -130,7 +130,7 @@ impl Index {
         errand: Inserting,
         glance: Glance,
     ) -> InsertReply
-        requires own { IsHandOf self.now hand.old }
+        requires own { IsHandOf self.now.store hand.old }
         requires running { IsRunning hand.old.seat × HasNoStock hand.old.seat }
         requires reads { ReadsFrom hand.old.seat glance }
         requires full { (f : Full) × (f.at ≡ at) × (f.key ≡ errand.key) × (f.word ≡ errand.value) × (read_words hand.old.seat ≡ words_of f.page) × IsOn self.now.store.layout (known hand.old.seat) (proc.Insert (record { key = errand.key; value = errand.value; stage = insert.Changing (change.Taking f) })) }
@@ -160,7 +160,7 @@ impl Index {
         errand: Inserting,
         glance: Glance,
     ) -> InsertReply
-        requires own { IsHandOf self.now hand.old }
+        requires own { IsHandOf self.now.store hand.old }
         requires running { IsRunning hand.old.seat × HasNoStock hand.old.seat }
         requires reads { ReadsFrom hand.old.seat glance }
         requires process { IsOn self.now.store.layout (known hand.old.seat) (known hand.old.seat).state }
@@ -203,7 +203,7 @@ impl Index {
         key: u64,
         value: u64,
     ) -> (KeyReply, Option<Hint>)
-        requires own { IsHandOf self.now hand.old }
+        requires own { IsHandOf self.now.store hand.old }
         requires idle { IsIdle hand.old.seat × HasNoStock hand.old.seat }
         ensures same { IsSameHand hand.old.seat hand.new.seat }
         ensures idle { IsIdle hand.new.seat × HasNoStock hand.new.seat }

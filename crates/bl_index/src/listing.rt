@@ -9,7 +9,7 @@ ghost use Rattle.bl_proc.specs.declared.parts.PartStage.TheVariants as part_stag
 ghost use Rattle.bl_proc.specs.Processes.{next_of};
 ghost use Rattle.bl_proc_unique.specs.Courses.{GoesOn};
 ghost use Rattle.bl_store.specs.Hands.{known, IsIdle, IsRunning, IsSameHand, IsSameStage, IsSameStock};
-ghost use Rattle.bl_index.specs.Hands.{IsHandOf};
+ghost use Rattle.bl_store.specs.Owners.{IsHandOf};
 ghost use Rattle.bl_claims.specs.Seeing.{IsSeen};
 ghost use Rattle.bl_index_rule.specs.Told.{Begins, Steps, ends, IsUnborn};
 ghost use Rattle.bl_index.specs.declared.listing.Ahead.TheVariants as ahead;
@@ -57,7 +57,7 @@ impl Index {
     }
 
     fn part_by(&self, hand: &mut Hand<Mine>, from: u64, turns: u32) -> Result<Reply, OutOfTurns>
-        requires own { IsHandOf self.now hand.old }
+        requires own { IsHandOf self.now.store hand.old }
         requires idle { IsIdle hand.old.seat }
         ensures same { IsSameHand hand.old.seat hand.new.seat × IsSameStock hand.old.seat hand.new.seat }
         ensures idle { IsIdle hand.new.seat }
@@ -83,7 +83,7 @@ impl Index {
     // The part from that key on begins, which the bound names beside its pass.
     #[inline(always)]
     fn launch_part<J: Launch>(&self, hand: &mut Hand<Mine>, from: u64)
-        requires own { IsHandOf self.now hand.old }
+        requires own { IsHandOf self.now.store hand.old }
         requires idle { IsIdle hand.old.seat }
         requires names { (hand.old.number ≡ J.pass) × (self.now.store.layout.pages ≡ J.pages) × (self.now.store.layout.passes ≡ J.passes) × (listing from part_stage.New ≡ J.process) }
         requires next { next_of J.process ≡ act.Begin }
@@ -100,7 +100,7 @@ impl Index {
     /// A part from that key on begins.
     #[inline(always)]
     fn begin_part(&self, hand: &mut Hand<Mine>, from: u64)
-        requires own { IsHandOf self.now hand.old }
+        requires own { IsHandOf self.now.store hand.old }
         requires idle { IsIdle hand.old.seat }
         ensures same { IsSameHand hand.old.seat hand.new.seat × IsSameStock hand.old.seat hand.new.seat }
         ensures running { IsRunning hand.new.seat }
@@ -114,7 +114,7 @@ impl Index {
     /// The part gets the anchor, and goes on by its words.
     #[inline(always)]
     fn list_anchor(&self, hand: &mut Hand<Mine>, from: u64) -> u32
-        requires own { IsHandOf self.now hand.old }
+        requires own { IsHandOf self.now.store hand.old }
         requires running { IsRunning hand.old.seat }
         requires process { IsOn self.now.store.layout (known hand.old.seat) (part_at from ahead.Anchor) }
         ensures same { IsSameHand hand.old.seat hand.new.seat × IsSameStage hand.old.seat hand.new.seat × IsSameStock hand.old.seat hand.new.seat }
@@ -133,7 +133,7 @@ impl Index {
     /// The part gets the page, and goes on by its words.
     #[inline(always)]
     fn list_page(&self, hand: &mut Hand<Mine>, from: u64, page: u32) -> Reached
-        requires own { IsHandOf self.now hand.old }
+        requires own { IsHandOf self.now.store hand.old }
         requires running { IsRunning hand.old.seat }
         requires process { IsOn self.now.store.layout (known hand.old.seat) (part_at from (ahead.Page page)) }
         ensures same { IsSameHand hand.old.seat hand.new.seat × IsSameStage hand.old.seat hand.new.seat × IsSameStock hand.old.seat hand.new.seat }
@@ -155,7 +155,7 @@ impl Index {
     /// The part gets the page that is next.
     #[inline(always)]
     fn list_on(&self, hand: &mut Hand<Mine>, from: u64, ahead: Ahead) -> Reached
-        requires own { IsHandOf self.now hand.old }
+        requires own { IsHandOf self.now.store hand.old }
         requires running { IsRunning hand.old.seat }
         requires process { IsOn self.now.store.layout (known hand.old.seat) (part_at from ahead) }
         ensures same { IsSameHand hand.old.seat hand.new.seat × IsSameStage hand.old.seat hand.new.seat × IsSameStock hand.old.seat hand.new.seat }
@@ -176,7 +176,7 @@ impl Index {
         from: u64,
         turns: u32,
     ) -> Option<Glance>
-        requires own { IsHandOf self.now hand.old }
+        requires own { IsHandOf self.now.store hand.old }
         requires idle { IsIdle hand.old.seat }
         ensures same { IsSameHand hand.old.seat hand.new.seat × IsSameStock hand.old.seat hand.new.seat }
         ensures came { MatchOption result (HasGivenUp self.now.store.layout hand.old.number turns (known hand.old.seat) hand.new.seat) (HasLeaf self.now.store.layout hand.old.number from (known hand.old.seat) hand.new.seat) }
@@ -196,7 +196,7 @@ impl Index {
     /// The part, which has its leaf, ends.
     #[inline(always)]
     pub(crate) fn end_part(&self, hand: &mut Hand<Mine>)
-        requires own { IsHandOf self.now hand.old }
+        requires own { IsHandOf self.now.store hand.old }
         requires running { IsRunning hand.old.seat }
         requires process { IsOn self.now.store.layout (known hand.old.seat) (known hand.old.seat).state }
         requires leaf { (from : ℕ) × (words : List ℕ) × IsAtLeaf from words (known hand.old.seat) }

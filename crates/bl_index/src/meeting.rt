@@ -2,7 +2,7 @@
 
 ghost use Rattle.std.specs.Prelude.{◌≡◌, ℕ, false};
 ghost use Rattle.bl_store.specs.Hands.{known, IsIdle, HasNoStock, IsSameHand, IsSameStage, IsSameStock};
-ghost use Rattle.bl_index.specs.Hands.{IsHandOf};
+ghost use Rattle.bl_store.specs.Owners.{IsHandOf};
 ghost use Rattle.bl_claims.specs.Seeing.{GoesOnFrom};
 ghost use Rattle.bl_index.specs.Runs.{IsWithin};
 ghost use Rattle.bl_index.specs.Meetings.{learned, heard};
@@ -74,7 +74,7 @@ impl Index {
     }
 
     fn learn_by<J: Meeting>(&self, hand: &mut Hand<Mine>, other: &mut Hand<Mine>)
-        requires own { IsHandOf self.now hand.old × IsHandOf self.now other.old }
+        requires own { IsHandOf self.now.store hand.old × IsHandOf self.now.store other.old }
         requires idle { IsIdle other.old.seat × HasNoStock other.old.seat }
         requires names { (hand.old.number ≡ J.pass) × (other.old.number ≡ J.other) × (self.now.store.layout.passes ≡ J.passes) }
         ensures same { IsSameHand hand.old.seat hand.new.seat × IsSameStage hand.old.seat hand.new.seat × IsSameStock hand.old.seat hand.new.seat }
@@ -96,7 +96,7 @@ impl Index {
     }
 
     fn tell_by<J: Meeting>(&self, hand: &mut Hand<Mine>, other: &mut Hand<Mine>)
-        requires own { IsHandOf self.now hand.old × IsHandOf self.now other.old }
+        requires own { IsHandOf self.now.store hand.old × IsHandOf self.now.store other.old }
         requires idle { IsIdle other.old.seat × HasNoStock other.old.seat }
         requires names { hand.old.number ≡ J.pass }
         requires begins { GoesOnFrom (known hand.old.seat).trail (known other.old.seat).trail }

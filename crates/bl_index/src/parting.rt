@@ -8,7 +8,7 @@ ghost use Rattle.bl_proc_base.specs.declared.changing.Full.{Full};
 ghost use Rattle.bl_proc_base.specs.declared.changing.Change.{Change};
 ghost use Rattle.bl_proc_base.specs.declared.changing.Change.TheVariants as change;
 ghost use Rattle.bl_store.specs.Hands.{known, IsRunning, IsSameHand, IsSameStage, IsStockOf, HasNoStock, WasRefused};
-ghost use Rattle.bl_index.specs.Hands.{IsHandOf};
+ghost use Rattle.bl_store.specs.Owners.{IsHandOf};
 ghost use Rattle.bl_index.specs.Runs.{IsOn};
 ghost use Rattle.bl_index.specs.Events.{IsSameProcess, IsToEnter};
 ghost use Rattle.bl_index.specs.Halves.{AreParts};
@@ -37,7 +37,7 @@ impl Index {
         entries: &[u64; 30],
         stock: Stock,
     ) -> Outcome
-        requires own { IsHandOf self.now hand.old }
+        requires own { IsHandOf self.now.store hand.old }
         requires running { IsRunning hand.old.seat }
         requires stock { IsStockOf hand.old.seat stock × (stock.count ≡ 2) }
         requires process { (left : Page) × (right : Page) × AreParts new words.now entries.now left right × IsOn self.now.store.layout (known hand.old.seat) (J.changing changer.now (change.PuttingNew (record { at = at; new = new; left = left; right = right; separator = slice_index entries.now 16 }))) }
@@ -77,7 +77,7 @@ impl Index {
         key: u64,
         word: u64,
     ) -> Outcome
-        requires own { IsHandOf self.now hand.old }
+        requires own { IsHandOf self.now.store hand.old }
         requires running { IsRunning hand.old.seat × HasNoStock hand.old.seat }
         requires full { (f : Full) × (f.at ≡ at) × (f.key ≡ key) × (f.word ≡ word) × (words.now ≡ words_of f.page) × IsOn self.now.store.layout (known hand.old.seat) (J.changing changer.now (change.Taking f)) }
         ensures same { IsSameHand hand.old.seat hand.new.seat × IsSameStage hand.old.seat hand.new.seat }
@@ -106,7 +106,7 @@ impl Index {
         key: u64,
         word: u64,
     ) -> Outcome
-        requires own { IsHandOf self.now hand.old }
+        requires own { IsHandOf self.now.store hand.old }
         requires running { IsRunning hand.old.seat × HasNoStock hand.old.seat }
         requires page { (c : Change) × IsToEnter at key word words.now c × IsOn self.now.store.layout (known hand.old.seat) (J.changing changer.now c) }
         ensures same { IsSameHand hand.old.seat hand.new.seat × IsSameStage hand.old.seat hand.new.seat }

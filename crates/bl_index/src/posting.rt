@@ -18,7 +18,7 @@ ghost use Rattle.bl_proc.specs.Posts.{post_reply, posted_answer};
 ghost use Rattle.bl_proc.specs.Processes.{Takes};
 ghost use Rattle.bl_proc_unique.specs.Frames.{work_of};
 ghost use Rattle.bl_store.specs.Hands.{known, read_words, IsIdle, IsRunning, IsSameHand, IsSameStage, IsSameStock, HasNoStock, ReadsFrom};
-ghost use Rattle.bl_index.specs.Hands.{IsHandOf};
+ghost use Rattle.bl_store.specs.Owners.{IsHandOf};
 ghost use Rattle.bl_index_rule.specs.declared.known.Mine.{Mine as Knows};
 ghost use Rattle.bl_index.specs.Runs.{IsOn, IsSince, IsWithin};
 ghost use Rattle.bl_index.specs.Events.{posting, IsThere, IsToEnter, IsWalking, HasWalked, HasPosted, IsPostOver, IsSameProcess};
@@ -139,7 +139,7 @@ impl Index {
         at: u32,
         reply: PostReply,
     ) -> (Posted, Option<Hint>)
-        requires own { IsHandOf self.now hand.old }
+        requires own { IsHandOf self.now.store hand.old }
         requires running { IsRunning hand.old.seat × HasNoStock hand.old.seat }
         requires reply { reply ≢ replies.NoRoom }
         requires process { (below : MayReply errand.level reply) × IsOn self.now.store.layout (known hand.old.seat) (posting errand (post.Staying at reply) below) }
@@ -159,7 +159,7 @@ impl Index {
         parent: &[u64; 32],
         child: u32,
     ) -> (Posted, Option<Hint>)
-        requires own { IsHandOf self.now hand.old }
+        requires own { IsHandOf self.now.store hand.old }
         requires running { IsRunning hand.old.seat × HasNoStock hand.old.seat }
         requires page { (below : errand.level < 12) × (c : Change) × IsToEnter at errand.key child parent.now c × IsOn self.now.store.layout (known hand.old.seat) (posting errand (post.Changing c) below) }
         ensures same { IsSameHand hand.old.seat hand.new.seat }
@@ -180,7 +180,7 @@ impl Index {
         parent: &[u64; 32],
         child: u32,
     ) -> Walked
-        requires own { IsHandOf self.now hand.old }
+        requires own { IsHandOf self.now.store hand.old }
         requires running { IsRunning hand.old.seat }
         requires process { IsOn self.now.store.layout (known hand.old.seat) (known hand.old.seat).state }
         requires walking { IsWalking errand at parent.now child (known hand.old.seat).state }
@@ -226,7 +226,7 @@ impl Index {
         parent: &[u64; 32],
         child: u32,
     ) -> Option<(Posted, Option<Hint>)>
-        requires own { IsHandOf self.now hand.old }
+        requires own { IsHandOf self.now.store hand.old }
         requires running { IsRunning hand.old.seat × HasNoStock hand.old.seat }
         requires process { IsOn self.now.store.layout (known hand.old.seat) (known hand.old.seat).state }
         requires walking { IsWalking errand at parent.now child (known hand.old.seat).state }
@@ -257,7 +257,7 @@ impl Index {
         at: u32,
         glance: Glance,
     ) -> Option<(Posted, Option<Hint>)>
-        requires own { IsHandOf self.now hand.old }
+        requires own { IsHandOf self.now.store hand.old }
         requires running { IsRunning hand.old.seat × HasNoStock hand.old.seat }
         requires reads { ReadsFrom hand.old.seat glance }
         requires process { IsOn self.now.store.layout (known hand.old.seat) (known hand.old.seat).state }
@@ -286,7 +286,7 @@ impl Index {
         errand: Posting,
         glance: Glance,
     ) -> (Posted, Option<Hint>)
-        requires own { IsHandOf self.now hand.old }
+        requires own { IsHandOf self.now.store hand.old }
         requires running { IsRunning hand.old.seat × HasNoStock hand.old.seat }
         requires reads { ReadsFrom hand.old.seat glance }
         requires process { IsOn self.now.store.layout (known hand.old.seat) (known hand.old.seat).state }
@@ -316,7 +316,7 @@ impl Index {
         hand: &mut Hand<Mine>,
         errand: Posting,
     ) -> Option<(Posted, Option<Hint>)>
-        requires own { IsHandOf self.now hand.old }
+        requires own { IsHandOf self.now.store hand.old }
         requires running { IsRunning hand.old.seat × HasNoStock hand.old.seat }
         requires process { IsOn self.now.store.layout (known hand.old.seat) (posting errand (post.Coming approach.Start) tt) }
         requires since { (pass : ℕ) × (old : Knows) × IsSince pass old (known hand.old.seat) }
@@ -345,7 +345,7 @@ impl Index {
         hand: &mut Hand<Mine>,
         errand: Posting,
     ) -> (Posted, Option<Hint>)
-        requires own { IsHandOf self.now hand.old }
+        requires own { IsHandOf self.now.store hand.old }
         requires running { IsRunning hand.old.seat × HasNoStock hand.old.seat }
         requires process { IsOn self.now.store.layout (known hand.old.seat) (posting errand (post.Coming approach.Start) tt) }
         requires since { (pass : ℕ) × (old : Knows) × IsSince pass old (known hand.old.seat) }
@@ -369,7 +369,7 @@ impl Index {
         level: u32,
         key: u64,
     ) -> (Posted, Option<Hint>)
-        requires own { IsHandOf self.now hand.old }
+        requires own { IsHandOf self.now.store hand.old }
         requires idle { IsIdle hand.old.seat × HasNoStock hand.old.seat }
         requires least { 0 < level }
         requires most { level ≤ 12 }

@@ -14,7 +14,7 @@ ghost use Rattle.bl_proc_bounds.specs.Latches.{IsTidy};
 ghost use Rattle.bl_claims.specs.Trails.{marks_of};
 ghost use Rattle.bl_claims.specs.Seeing.{name};
 ghost use Rattle.bl_store.specs.Hands.{known, IsIdle, IsRunning, IsSameHand, IsSameStage, IsSameStock, IsSameRefusal};
-ghost use Rattle.bl_index.specs.Hands.{IsHandOf};
+ghost use Rattle.bl_store.specs.Owners.{IsHandOf};
 ghost use Rattle.bl_index_rule.specs.Told.{Begins, Steps, Finishes, IsUnborn, MayGiveUp};
 ghost use Rattle.bl_index.specs.Runs.{IsOn, IsSince, IsWithin, Moves};
 
@@ -30,7 +30,7 @@ impl Index {
     // Begins the process, which the first bound names beside its pass.
     #[inline(always)]
     fn launch<J: Launch, P: Kind>(&self, hand: &mut Hand<Mine>, process: &P)
-        requires own { IsHandOf self.now hand.old }
+        requires own { IsHandOf self.now.store hand.old }
         requires idle { IsIdle hand.old.seat }
         requires names { (hand.old.number ≡ J.pass) × (self.now.store.layout.pages ≡ J.pages) × (self.now.store.layout.passes ≡ J.passes) × (P.proc_of process.now ≡ J.process) }
         requires next { next_of J.process ≡ act.Begin }
@@ -46,7 +46,7 @@ impl Index {
     /// Begins the process.
     #[inline(always)]
     pub(crate) fn begin<P: Kind>(&self, hand: &mut Hand<Mine>, process: &mut P)
-        requires own { IsHandOf self.now hand.old }
+        requires own { IsHandOf self.now.store hand.old }
         requires idle { IsIdle hand.old.seat }
         requires new { (P.answer_of process.old ≡ None) × (P.next_of process.old ≡ act.Begin) × IsUnborn (P.proc_of process.old) }
         ensures same { IsSameHand hand.old.seat hand.new.seat × IsSameStock hand.old.seat hand.new.seat }
@@ -63,7 +63,7 @@ impl Index {
     /// The process gets the page, and reads the words that it needs.
     #[inline(always)]
     pub(crate) fn read<P: Kind>(&self, hand: &mut Hand<Mine>, process: &mut P, page: u32)
-        requires own { IsHandOf self.now hand.old }
+        requires own { IsHandOf self.now.store hand.old }
         requires running { IsRunning hand.old.seat }
         requires process { IsOn self.now.store.layout (known hand.old.seat) (P.proc_of process.old) }
         requires next { (P.answer_of process.old ≡ None) × (P.next_of process.old ≡ act.Get page) }
@@ -88,7 +88,7 @@ impl Index {
     /// The process ends.
     #[inline(always)]
     pub(crate) fn finish<P: Kind>(&self, hand: &mut Hand<Mine>, process: &mut P)
-        requires own { IsHandOf self.now hand.old }
+        requires own { IsHandOf self.now.store hand.old }
         requires running { IsRunning hand.old.seat }
         requires process { IsOn self.now.store.layout (known hand.old.seat) (P.proc_of process.old) }
         requires next { (P.answer_of process.old ≡ None) × (P.next_of process.old ≡ act.End) }
@@ -108,7 +108,7 @@ impl Index {
     /// A search that has said nothing ends at once.
     #[inline(always)]
     pub(crate) fn give_up(&self, hand: &mut Hand<Mine>)
-        requires own { IsHandOf self.now hand.old }
+        requires own { IsHandOf self.now.store hand.old }
         requires running { IsRunning hand.old.seat }
         requires may { MayGiveUp (known hand.old.seat).state }
         requires passes { (known hand.old.seat).passes ≡ self.now.store.layout.passes }

@@ -14,13 +14,14 @@ pub(crate) struct Shown<'a> {
 }
 
 impl Words for Shown<'_> {
-    ghost use Rattle.bl_store.specs.Hands.{read_words, IsOf, ReadsFrom};
+    ghost use Rattle.bl_store.specs.Hands.{read_words, ReadsFrom};
+    ghost use Rattle.bl_store.specs.Owners.{IsHandOf};
 
     type Hand = Hand<Mine>;
 
     ghost shown = { λ source hand. read_words hand.seat };
 
-    ghost Sees = { λ source hand. IsOf source.store.now.table.shared.table_id source.store.now.layout hand.seat × ReadsFrom hand.seat source.glance };
+    ghost Sees = { λ source hand. IsHandOf source.store.now hand × ReadsFrom hand.seat source.glance };
 
     ghost long = { λ source hand sees. sees.1.3 };
 

@@ -5,7 +5,7 @@ ghost use Rattle.bl_proc_base.specs.declared.acts.Action.TheVariants as act;
 ghost use Rattle.bl_proc_base.specs.declared.acts.Seen.{Seen as SeenIs};
 ghost use Rattle.bl_proc_base.specs.declared.acts.Seen.TheVariants as seen;
 ghost use Rattle.bl_store.specs.Hands.{known, IsRunning, IsSameHand, IsSameStage, IsSameStock, HasNoStock, IsStockOf, MayRetire};
-ghost use Rattle.bl_index.specs.Hands.{IsHandOf};
+ghost use Rattle.bl_store.specs.Owners.{IsHandOf};
 ghost use Rattle.bl_index.specs.Runs.{IsOn, Moves, HasReserved, IsAfter};
 ghost use Rattle.bl_index.specs.Rooms.{TellsRoom};
 
@@ -29,7 +29,7 @@ impl Index {
     /// The process tries to latch the page. After a miss the thread pauses.
     #[inline(never)]
     fn latch<P: Kind>(&self, hand: &mut Hand<Mine>, process: &mut P, page: u32, backoff: &Backoff)
-        requires own { IsHandOf self.now hand.old }
+        requires own { IsHandOf self.now.store hand.old }
         requires running { IsRunning hand.old.seat }
         requires process { IsOn self.now.store.layout (known hand.old.seat) (P.proc_of process.old) }
         requires next { (P.answer_of process.old ≡ None) × (P.next_of process.old ≡ act.Latch page) }
@@ -51,7 +51,7 @@ impl Index {
     /// The process opens the page.
     #[inline(never)]
     fn open_page<P: Kind>(&self, hand: &mut Hand<Mine>, process: &mut P, page: u32)
-        requires own { IsHandOf self.now hand.old }
+        requires own { IsHandOf self.now.store hand.old }
         requires running { IsRunning hand.old.seat }
         requires process { IsOn self.now.store.layout (known hand.old.seat) (P.proc_of process.old) }
         requires next { (P.answer_of process.old ≡ None) × (P.next_of process.old ≡ act.Open page) }
@@ -68,7 +68,7 @@ impl Index {
     /// The process retires the page, with the leave that it has from its reservation.
     #[inline(never)]
     fn retire_page<P: Kind>(&self, hand: &mut Hand<Mine>, process: &mut P, page: u32)
-        requires own { IsHandOf self.now hand.old }
+        requires own { IsHandOf self.now.store hand.old }
         requires running { IsRunning hand.old.seat }
         requires process { IsOn self.now.store.layout (known hand.old.seat) (P.proc_of process.old) }
         requires next { (P.answer_of process.old ≡ None) × (P.next_of process.old ≡ act.Retire page) }
@@ -93,7 +93,7 @@ impl Index {
         contents: &Page,
         stock: Stock,
     ) -> Stock
-        requires own { IsHandOf self.now hand.old }
+        requires own { IsHandOf self.now.store hand.old }
         requires running { IsRunning hand.old.seat }
         requires process { IsOn self.now.store.layout (known hand.old.seat) (P.proc_of process.old) }
         requires next { (P.answer_of process.old ≡ None) × (P.next_of process.old ≡ act.Put page contents.now) }
@@ -120,7 +120,7 @@ impl Index {
         contents: &Page,
         frames: u32,
     ) -> Option<Stock>
-        requires own { IsHandOf self.now hand.old }
+        requires own { IsHandOf self.now.store hand.old }
         requires running { IsRunning hand.old.seat }
         requires process { IsOn self.now.store.layout (known hand.old.seat) (P.proc_of process.old) }
         requires next { (P.answer_of process.old ≡ None) × (P.next_of process.old ≡ act.Put page contents.now) }
@@ -144,7 +144,7 @@ impl Index {
     /// The process reserves a page and two frames, or is refused.
     #[inline(never)]
     fn take<P: Kind>(&self, hand: &mut Hand<Mine>, process: &mut P) -> Option<Stock>
-        requires own { IsHandOf self.now hand.old }
+        requires own { IsHandOf self.now.store hand.old }
         requires running { IsRunning hand.old.seat }
         requires process { IsOn self.now.store.layout (known hand.old.seat) (P.proc_of process.old) }
         requires next { (P.answer_of process.old ≡ None) × (P.next_of process.old ≡ act.Take) }
@@ -181,7 +181,7 @@ impl Index {
         contents: &Page,
         held: Option<Stock>,
     ) -> Option<Stock>
-        requires own { IsHandOf self.now hand.old }
+        requires own { IsHandOf self.now.store hand.old }
         requires running { IsRunning hand.old.seat }
         requires process { IsOn self.now.store.layout (known hand.old.seat) (P.proc_of process.old) }
         requires next { (P.answer_of process.old ≡ None) × (P.next_of process.old ≡ act.Put page contents.now) }
@@ -209,7 +209,7 @@ impl Index {
         held: Option<Stock>,
         backoff: &Backoff,
     ) -> Stepped
-        requires own { IsHandOf self.now hand.old }
+        requires own { IsHandOf self.now.store hand.old }
         requires running { IsRunning hand.old.seat }
         requires process { IsOn self.now.store.layout (known hand.old.seat) (P.proc_of process.old) }
         requires going { (P.answer_of process.old ≡ None) × (P.next_of process.old ≢ act.Begin) }

@@ -2,7 +2,7 @@
 
 ghost use Rattle.std.specs.Prelude.{◌≡◌, ℕ, ◌+◌, ◌≤◌, false};
 ghost use Rattle.bl_store.specs.Hands.{known, IsSameHand, IsSameStage, IsSameStock};
-ghost use Rattle.bl_index.specs.Hands.{IsHandOf};
+ghost use Rattle.bl_store.specs.Owners.{IsHandOf};
 ghost use Rattle.bl_index_rule.specs.Told.{sweeps};
 ghost use Rattle.bl_index.specs.Runs.{IsWithin};
 
@@ -34,7 +34,7 @@ impl Index {
 
     // The releases of a sweep, by the process that the bound names beside its pass.
     fn release<J: Sweeper>(&self, hand: &mut Hand<Mine>) -> u32
-        requires own { IsHandOf self.now hand.old }
+        requires own { IsHandOf self.now.store hand.old }
         requires rests { (known hand.old.seat).runs ≡ false }
         requires names { (hand.old.number ≡ J.pass) × ((known hand.old.seat).number + 1 ≡ J.number) × (self.now.store.layout.passes ≡ J.passes) }
         requires within { IsWithin hand.old.seat }

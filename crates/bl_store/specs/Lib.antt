@@ -4,4 +4,5 @@ pub mod Opening
 pub mod Told
 pub mod Drafts
 pub mod Hands
+pub mod Owners
 pub mod Closing

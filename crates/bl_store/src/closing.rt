@@ -6,7 +6,7 @@ ghost use lib.ListN.{get_elem?};
 ghost use Rattle.bl_layout.specs.Words.{frame_count};
 ghost use Rattle.bl_layout.specs.Cells.{cell_count};
 ghost use Rattle.bl_store.specs.Frames.{page_at, owner_at, place_at};
-ghost use Rattle.bl_store.specs.Hands.{IsOf, IsIdle};
+ghost use Rattle.bl_store.specs.Hands.{IsIdle};
 ghost use Rattle.bl_store.specs.Closing.{HasEach, IsClosed, IsGone};
 
 use crate::meeting::TakeIn;
@@ -17,10 +17,12 @@ use bl_layout::Layout;
 use std::alloc::Allocator;
 
 impl<D, R: PageRule<D>, A: Allocator> Store<D, R, A> {
+    ghost use Rattle.bl_store.specs.Owners.{IsHandOf};
+
     /// The words of each page, and zeros for one that is released or retired. It takes all hands, each outside a
     /// process, and a vector with room for all pages.
     pub fn close(self, mut hands: Vec<Hand<D>>, mut room: Vec<[u64; 32]>) -> Vec<[u64; 32]>
-        requires own { (k : ℕ) (hand : Hand D) → get_elem? hands.items k ≡ some hand → IsOf self.table.shared.table_id self.layout hand.seat × IsIdle hand.seat }
+        requires own { (k : ℕ) (hand : Hand D) → get_elem? hands.items k ≡ some hand → IsHandOf self hand × IsIdle hand.seat }
         requires all { HasEach self.layout.passes hands.items }
         requires room { (room.items ≡ []) × (self.layout.pages ≤ vec_capacity room) }
         ensures { IsClosed R.holds self.layout hands.items result.items }

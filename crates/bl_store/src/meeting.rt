@@ -1,7 +1,7 @@
 //! One hand learns of another: the other's seat is taken in for the time of a load, and given back.
 ghost use Rattle.std.specs.Prelude.{◌≡◌};
 ghost use Rattle.bl_store.specs.Pages.{Meets};
-ghost use Rattle.bl_store.specs.Hands.{known, IsOf, IsIdle, IsSameHand, IsSameStage, IsSameStock, HasNoStock};
+ghost use Rattle.bl_store.specs.Hands.{known, IsIdle, IsSameHand, IsSameStage, IsSameStock, HasNoStock};
 
 use crate::plays::Met;
 use crate::rule::{MeetPlay, PageRule};
@@ -48,10 +48,12 @@ impl<D> Split<View<D>> for GiveBack {
 }
 
 impl<D, R: PageRule<D>, A: Allocator> Store<D, R, A> {
+    ghost use Rattle.bl_store.specs.Owners.{IsHandOf};
+
     /// A hand learns of another, which is outside a process and has nothing reserved. It is no event, and the other
     /// hand knows what it knew.
     pub fn meet<M: MeetPlay<D>>(&self, hand: &mut Hand<D>, other: &mut Hand<D>)
-        requires own { IsOf self.now.table.shared.table_id self.now.layout hand.old.seat × IsOf self.now.table.shared.table_id self.now.layout other.old.seat }
+        requires own { IsHandOf self.now hand.old × IsHandOf self.now other.old }
         requires other { IsIdle other.old.seat × HasNoStock other.old.seat }
         requires rule { Meets R.holds self.now.layout hand.old.number (known hand.old.seat) other.old.number (known other.old.seat) M.then }
         ensures same { IsSameHand hand.old.seat hand.new.seat × IsSameStage hand.old.seat hand.new.seat × IsSameStock hand.old.seat hand.new.seat }

@@ -14,9 +14,11 @@ use std::alloc::Allocator;
 use std::marker::Brand;
 
 impl<D, R: PageRule<D>, A: Allocator> Store<D, R, A> {
+    ghost use Rattle.bl_store.specs.Owners.{IsHandOf};
+
     /// Latches a page, where it is open.
     pub fn try_latch<M: PagePlay<D>>(&self, hand: &mut Hand<D>, page: u32) -> bool
-        requires own { IsOf self.now.table.shared.table_id self.now.layout hand.old.seat }
+        requires own { IsHandOf self.now hand.old }
         requires page { page < self.now.layout.pages }
         requires latches { Latches R.holds self.now.layout hand.old.number (known hand.old.seat) page M.then }
         requires misses { Misses R.holds self.now.layout hand.old.number (known hand.old.seat) page M.then }
@@ -33,7 +35,7 @@ impl<D, R: PageRule<D>, A: Allocator> Store<D, R, A> {
 
     /// Opens a page that the hand holds.
     pub fn open<M: PagePlay<D>>(&self, hand: &mut Hand<D>, page: u32)
-        requires own { IsOf self.now.table.shared.table_id self.now.layout hand.old.seat }
+        requires own { IsHandOf self.now hand.old }
         requires page { page < self.now.layout.pages }
         requires rule { Opens R.holds self.now.layout hand.old.number (known hand.old.seat) page M.then }
         ensures same { IsSameHand hand.old.seat hand.new.seat × IsSameStage hand.old.seat hand.new.seat × IsSameStock hand.old.seat hand.new.seat }
@@ -46,7 +48,7 @@ impl<D, R: PageRule<D>, A: Allocator> Store<D, R, A> {
 
     /// Retires a page that the hand holds. No process that begins later may come to it.
     pub fn retire<M: TimePlay<D>>(&self, hand: &mut Hand<D>, page: u32)
-        requires own { IsOf self.now.table.shared.table_id self.now.layout hand.old.seat }
+        requires own { IsHandOf self.now hand.old }
         requires page { page < self.now.layout.pages }
         requires leave { MayRetire hand.old.seat }
         requires rule { Retires R.holds self.now.layout hand.old.number (known hand.old.seat) page M.then }

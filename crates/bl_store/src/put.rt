@@ -4,7 +4,7 @@ ghost use Rattle.bl_layout.specs.Words.{frame_count};
 ghost use Rattle.bl_store.specs.Drafts.{draft_words, other_drafts, HasDraft, IsSpread};
 ghost use Rattle.bl_store.specs.Frames.{place_at};
 ghost use Rattle.bl_store.specs.Pages.{Held, Puts};
-ghost use Rattle.bl_store.specs.Hands.{known, read_words, IsOf, IsSameHand, IsSameReading, IsSameStage, IsQuiet, IsStockOf, HasRetired, ReadsFrom};
+ghost use Rattle.bl_store.specs.Hands.{known, read_words, IsSameHand, IsSameReading, IsSameStage, IsQuiet, IsStockOf, HasRetired, ReadsFrom};
 ghost use Rattle.bl_store.specs.Told.{draft};
 ghost use Rattle.bl_store.specs.declared.view.Draft.{Draft};
 ghost use Rattle.bl_store.specs.declared.view.Dropping.TheVariants.{Dropped};
@@ -33,6 +33,8 @@ const PUTS_TO_SWEEP: u32 = 64;
 const SPARE_PAGES: u32 = 256;
 
 impl<D, R: PageRule<D>, A: Allocator> Store<D, R, A> {
+    ghost use Rattle.bl_store.specs.Owners.{IsHandOf};
+
     /// Gives a page that the hand holds its words, at one event. It takes a frame of the stock, and the frame that the
     /// page had is retired.
     pub fn put<M: PagePlay<D>>(
@@ -42,7 +44,7 @@ impl<D, R: PageRule<D>, A: Allocator> Store<D, R, A> {
         words: &[u64; 32],
         stock: &mut Stock,
     )
-        requires own { IsOf self.now.table.shared.table_id self.now.layout hand.old.seat }
+        requires own { IsHandOf self.now hand.old }
         requires page { page < self.now.layout.pages }
         requires stock { IsStockOf hand.old.seat stock.old × (0 < stock.old.count) }
         requires rule { Puts R.holds self.now.layout hand.old.number (known hand.old.seat) page words.now M.then }
@@ -69,7 +71,7 @@ impl<D, R: PageRule<D>, A: Allocator> Store<D, R, A> {
         change: Spread,
         stock: &mut Stock,
     )
-        requires own { IsOf self.now.table.shared.table_id self.now.layout hand.old.seat }
+        requires own { IsHandOf self.now hand.old }
         requires page { page < self.now.layout.pages }
         requires reads { ReadsFrom hand.old.seat glance }
         requires place { change.place < 14 }
@@ -88,7 +90,7 @@ impl<D, R: PageRule<D>, A: Allocator> Store<D, R, A> {
 
     // The page gets the frame that was written last, at one event, and the frame that it had is retired.
     fn name_frame<M: PagePlay<D>>(&self, hand: &mut Hand<D>, page: u32, frame: u32)
-        requires own { IsOf self.now.table.shared.table_id self.now.layout hand.old.seat }
+        requires own { IsHandOf self.now hand.old }
         requires page { page < self.now.layout.pages }
         requires frame { frame < frame_count self.now.layout }
         requires ticks { 0 < hand.old.seat.me.0.puts }
@@ -111,7 +113,7 @@ impl<D, R: PageRule<D>, A: Allocator> Store<D, R, A> {
 
     // Writes the words into the frame that was reserved last, of which those behind the pairs are zeros.
     fn write(&self, hand: &mut Hand<D>, frame: u32, words: &[u64; 32])
-        requires own { IsOf self.now.table.shared.table_id self.now.layout hand.old.seat }
+        requires own { IsHandOf self.now hand.old }
         requires frame { frame < frame_count self.now.layout }
         requires stock { (ds : List Draft) × (hand.old.seat.me.0.stock ≡ draft frame [] ∷ ds) }
         ensures same { IsQuiet hand.old.seat hand.new.seat }
@@ -129,7 +131,7 @@ impl<D, R: PageRule<D>, A: Allocator> Store<D, R, A> {
     // there in the table.
     #[inline(always)]
     fn write_next(&self, hand: &mut Hand<D>, frame: u32, first: usize, at: usize, word: u64)
-        requires own { IsOf self.now.table.shared.table_id self.now.layout hand.old.seat }
+        requires own { IsHandOf self.now hand.old }
         requires frame { (frame < frame_count self.now.layout) × (first ≡ place_at self.now.layout frame 0) }
         requires draft { (at < 32) × HasDraft hand.old.seat frame at }
         ensures same { IsQuiet hand.old.seat hand.new.seat × IsSameReading hand.old.seat hand.new.seat }
@@ -146,7 +148,7 @@ impl<D, R: PageRule<D>, A: Allocator> Store<D, R, A> {
     // some ten loads.
     #[inline(always)]
     fn write_blank(&self, hand: &mut Hand<D>, frame: u32, first: usize, at: usize)
-        requires own { IsOf self.now.table.shared.table_id self.now.layout hand.old.seat }
+        requires own { IsHandOf self.now hand.old }
         requires frame { (frame < frame_count self.now.layout) × (first ≡ place_at self.now.layout frame 0) }
         requires draft { (at < 32) × HasDraft hand.old.seat frame at }
         ensures same { IsQuiet hand.old.seat hand.new.seat × IsSameReading hand.old.seat hand.new.seat }
@@ -167,7 +169,7 @@ impl<D, R: PageRule<D>, A: Allocator> Store<D, R, A> {
     // The next word of the frame that was reserved last, which is 0 mostly.
     #[inline(always)]
     fn write_sparse(&self, hand: &mut Hand<D>, frame: u32, first: usize, at: usize, word: u64)
-        requires own { IsOf self.now.table.shared.table_id self.now.layout hand.old.seat }
+        requires own { IsHandOf self.now hand.old }
         requires frame { (frame < frame_count self.now.layout) × (first ≡ place_at self.now.layout frame 0) }
         requires draft { (at < 32) × HasDraft hand.old.seat frame at }
         ensures same { IsQuiet hand.old.seat hand.new.seat × IsSameReading hand.old.seat hand.new.seat }
@@ -195,7 +197,7 @@ impl<D, R: PageRule<D>, A: Allocator> Store<D, R, A> {
         pairs: usize,
         source: usize,
     )
-        requires own { IsOf self.now.table.shared.table_id self.now.layout hand.old.seat }
+        requires own { IsHandOf self.now hand.old }
         requires frame { (frame < frame_count self.now.layout) × (first ≡ place_at self.now.layout frame 0) }
         requires reads { ReadsFrom hand.old.seat glance }
         requires range { (from + 2 * pairs ≤ 32) × (source ≤ from) }
@@ -224,7 +226,7 @@ impl<D, R: PageRule<D>, A: Allocator> Store<D, R, A> {
         from: usize,
         source: usize,
     )
-        requires own { IsOf self.now.table.shared.table_id self.now.layout hand.old.seat }
+        requires own { IsHandOf self.now hand.old }
         requires frame { (frame < frame_count self.now.layout) × (first ≡ place_at self.now.layout frame 0) }
         requires reads { ReadsFrom hand.old.seat glance }
         requires range { (from ≤ 32) × (source ≤ from) }
@@ -243,7 +245,7 @@ impl<D, R: PageRule<D>, A: Allocator> Store<D, R, A> {
     // Writes the words into the frame that was reserved last, from those of the page that the hand looked at last.
     #[inline(always)]
     fn write_spread(&self, hand: &mut Hand<D>, frame: u32, glance: Glance, change: Spread)
-        requires own { IsOf self.now.table.shared.table_id self.now.layout hand.old.seat }
+        requires own { IsHandOf self.now hand.old }
         requires frame { frame < frame_count self.now.layout }
         requires reads { ReadsFrom hand.old.seat glance }
         requires place { change.place < 14 }
@@ -265,7 +267,7 @@ impl<D, R: PageRule<D>, A: Allocator> Store<D, R, A> {
 
     // The frame that the hand took from a page is retired, at a time that no other has.
     fn retire_frame(&self, hand: &mut Hand<D>, frame: u32)
-        requires own { IsOf self.now.table.shared.table_id self.now.layout hand.old.seat }
+        requires own { IsHandOf self.now hand.old }
         requires frame { (frame < frame_count self.now.layout) × (hand.old.seat.me.0.dropping ≡ Dropped frame) }
         requires ticks { 0 < hand.old.seat.me.0.puts }
         ensures same { IsSameHand hand.old.seat hand.new.seat × IsSameStage hand.old.seat hand.new.seat × (known hand.new.seat ≡ known hand.old.seat) }
@@ -287,7 +289,7 @@ impl<D, R: PageRule<D>, A: Allocator> Store<D, R, A> {
     // again.
     #[inline(always)]
     fn note_retired(&self, hand: &mut Hand<D>, frame: u32)
-        requires own { IsOf self.now.table.shared.table_id self.now.layout hand.old.seat }
+        requires own { IsHandOf self.now hand.old }
         ensures same { hand.new.seat ≡ hand.old.seat }
     {
         hand.untried = hand.untried.saturating_add(1);

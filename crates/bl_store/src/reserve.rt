@@ -3,7 +3,7 @@ ghost use Rattle.std.specs.Prelude.{◌≡◌, ◌≢◌, ◌⊎◌, ℕ, ◌+�
 ghost use Rattle.bl_layout.specs.Words.{frame_count};
 ghost use Rattle.bl_store.specs.Pages.{Released, Takes, Refuses};
 ghost use Rattle.bl_store.specs.Frames.{owner_at};
-ghost use Rattle.bl_store.specs.Hands.{known, IsOf, IsSameHand, IsSameReading, IsSameStage, IsSameStock, IsQuiet, HasNoStock, IsStockOf, MayRetire, SawTaken, IsTried, IsWhy, WasRefused};
+ghost use Rattle.bl_store.specs.Hands.{known, IsSameHand, IsSameReading, IsSameStage, IsSameStock, IsQuiet, HasNoStock, IsStockOf, MayRetire, SawTaken, IsTried, IsWhy, WasRefused};
 
 use crate::plays::{Allot, Ask, Note, Refuse, Reserve, Return, Take};
 use crate::rule::{PagePlay, PageRule, TimePlay};
@@ -20,6 +20,8 @@ const END_OF_TIME: u64 = 1 << 60;
 const RETIRED_TO_TRY: u32 = 64;
 
 impl<D, R: PageRule<D>, A: Allocator> Store<D, R, A> {
+    ghost use Rattle.bl_store.specs.Owners.{IsHandOf};
+
     /// Reserves as many frames, and as many pages. Each frame and each page from 1 upward is tried once. A refused
     /// reservation is one event, and leaves nothing reserved.
     pub fn reserve<T: PagePlay<D>, M: TimePlay<D>>(
@@ -28,7 +30,7 @@ impl<D, R: PageRule<D>, A: Allocator> Store<D, R, A> {
         pages: u32,
         frames: u32,
     ) -> Result<Stock, NoRoom>
-        requires own { IsOf self.now.table.shared.table_id self.now.layout hand.old.seat }
+        requires own { IsHandOf self.now hand.old }
         requires few { (pages ≤ 1) × (frames ≤ 3) }
         requires empty { HasNoStock hand.old.seat }
         requires takes { pages ≡ 1 → (x : ℕ) → Takes R.holds self.now.layout hand.old.number (known hand.old.seat) x T.then }
@@ -75,7 +77,7 @@ impl<D, R: PageRule<D>, A: Allocator> Store<D, R, A> {
 
     // The reservation's one event, where it is refused.
     fn refuse<M: TimePlay<D>, J: Ask>(&self, hand: &mut Hand<D>, pages: u32, frames: u32)
-        requires own { IsOf self.now.table.shared.table_id self.now.layout hand.old.seat }
+        requires own { IsHandOf self.now hand.old }
         requires asked { (pages ≡ J.pages) × (frames ≡ J.frames) }
         requires refuses { Refuses R.holds self.now.layout hand.old.number (known hand.old.seat) M.then }
         ensures same { IsSameHand hand.old.seat hand.new.seat × IsSameStage hand.old.seat hand.new.seat }
@@ -91,7 +93,7 @@ impl<D, R: PageRule<D>, A: Allocator> Store<D, R, A> {
     // Tries the frames that it has released itself, then each frame once, until there are enough.
     #[inline(always)]
     fn reserve_frames(&self, hand: &mut Hand<D>, stock: &mut Stock, wanted: u32)
-        requires own { IsOf self.now.table.shared.table_id self.now.layout hand.old.seat }
+        requires own { IsHandOf self.now hand.old }
         requires wanted { (wanted ≤ 3) × (wanted ≤ hand.old.seat.me.0.puts) }
         requires stock { IsStockOf hand.old.seat stock.old × (stock.old.count ≤ wanted) }
         ensures same { IsQuiet hand.old.seat hand.new.seat × (stock.new.page ≡ stock.old.page) }
@@ -110,7 +112,7 @@ impl<D, R: PageRule<D>, A: Allocator> Store<D, R, A> {
     // is, as most of those around them are in use.
     #[inline(never)]
     fn search_frames(&self, hand: &mut Hand<D>, stock: &mut Stock, wanted: u32)
-        requires own { IsOf self.now.table.shared.table_id self.now.layout hand.old.seat }
+        requires own { IsHandOf self.now hand.old }
         requires wanted { (wanted ≤ 3) × (wanted ≤ hand.old.seat.me.0.puts) }
         requires stock { IsStockOf hand.old.seat stock.old × (stock.old.count < wanted) }
         ensures same { IsQuiet hand.old.seat hand.new.seat × (stock.new.page ≡ stock.old.page) }
@@ -132,7 +134,7 @@ impl<D, R: PageRule<D>, A: Allocator> Store<D, R, A> {
     // Releases what it has retired, where it has too few frames at hand. This is no part of the reservation, and comes before it.
     #[inline(always)]
     fn prepare(&self, hand: &mut Hand<D>, frames: u32)
-        requires own { IsOf self.now.table.shared.table_id self.now.layout hand.old.seat }
+        requires own { IsHandOf self.now hand.old }
         ensures same { IsSameHand hand.old.seat hand.new.seat × IsSameStage hand.old.seat hand.new.seat × IsSameStock hand.old.seat hand.new.seat × (known hand.new.seat ≡ known hand.old.seat) }
         ensures reads { IsSameReading hand.old.seat hand.new.seat }
     {
@@ -143,7 +145,7 @@ impl<D, R: PageRule<D>, A: Allocator> Store<D, R, A> {
 
     // Tries the frames that it has released itself, the last one first.
     fn try_released(&self, hand: &mut Hand<D>, stock: &mut Stock, wanted: u32)
-        requires own { IsOf self.now.table.shared.table_id self.now.layout hand.old.seat }
+        requires own { IsHandOf self.now hand.old }
         requires wanted { (wanted ≤ 3) × (wanted ≤ hand.old.seat.me.0.puts) }
         requires stock { IsStockOf hand.old.seat stock.old × (stock.old.count ≤ wanted) }
         ensures same { IsQuiet hand.old.seat hand.new.seat × (stock.new.page ≡ stock.old.page) }
@@ -166,7 +168,7 @@ impl<D, R: PageRule<D>, A: Allocator> Store<D, R, A> {
 
     // Tries the frames of a range, until there are enough.
     fn try_frames(&self, hand: &mut Hand<D>, stock: &mut Stock, from: u32, to: u32, wanted: u32)
-        requires own { IsOf self.now.table.shared.table_id self.now.layout hand.old.seat }
+        requires own { IsHandOf self.now hand.old }
         requires range { (from ≤ to) × (to ≤ frame_count self.now.layout) }
         requires wanted { (wanted ≤ 3) × (wanted ≤ hand.old.seat.me.0.puts) }
         requires stock { IsStockOf hand.old.seat stock.old × (stock.old.count ≤ wanted) }
@@ -188,7 +190,7 @@ impl<D, R: PageRule<D>, A: Allocator> Store<D, R, A> {
 
     // Reserves a frame, where it is free.
     fn try_frame(&self, hand: &mut Hand<D>, stock: &mut Stock, frame: u32)
-        requires own { IsOf self.now.table.shared.table_id self.now.layout hand.old.seat }
+        requires own { IsHandOf self.now hand.old }
         requires frame { frame < frame_count self.now.layout }
         requires stock { IsStockOf hand.old.seat stock.old × (stock.old.count < 3) × (stock.old.count < hand.old.seat.me.0.puts) }
         ensures same { IsQuiet hand.old.seat hand.new.seat × (stock.new.page ≡ stock.old.page) }
@@ -215,7 +217,7 @@ impl<D, R: PageRule<D>, A: Allocator> Store<D, R, A> {
 
     // All frames of the stock are free again.
     fn give_back(&self, hand: &mut Hand<D>, stock: &mut Stock)
-        requires own { IsOf self.now.table.shared.table_id self.now.layout hand.old.seat }
+        requires own { IsHandOf self.now hand.old }
         requires stock { IsStockOf hand.old.seat stock.old }
         ensures same { IsQuiet hand.old.seat hand.new.seat × (hand.new.seat.me.0.seen ≡ hand.old.seat.me.0.seen) × (hand.new.seat.me.0.got ≡ hand.old.seat.me.0.got) }
         ensures stock { HasNoStock hand.new.seat }
@@ -235,7 +237,7 @@ impl<D, R: PageRule<D>, A: Allocator> Store<D, R, A> {
 
     // Takes the least page that is released, as far as the hint goes that all hands share. Each is tried once.
     fn take<T: PagePlay<D>>(&self, hand: &mut Hand<D>) -> Option<u32>
-        requires own { IsOf self.now.table.shared.table_id self.now.layout hand.old.seat }
+        requires own { IsHandOf self.now hand.old }
         requires takes { (x : ℕ) → Takes R.holds self.now.layout hand.old.number (known hand.old.seat) x T.then }
         ensures same { IsSameHand hand.old.seat hand.new.seat × IsSameStage hand.old.seat hand.new.seat × IsSameStock hand.old.seat hand.new.seat }
         ensures page { IfSome result (λ x. (0 < x) × (x < self.now.layout.pages) × ((words : List ℕ) × T.then (known hand.old.seat) x Released words (known hand.new.seat))) }
@@ -255,7 +257,7 @@ impl<D, R: PageRule<D>, A: Allocator> Store<D, R, A> {
     }
 
     fn take_from<T: PagePlay<D>>(&self, hand: &mut Hand<D>, from: u32, to: u32) -> Option<u32>
-        requires own { IsOf self.now.table.shared.table_id self.now.layout hand.old.seat }
+        requires own { IsHandOf self.now hand.old }
         requires range { (0 < from) × (from ≤ to) × (to ≤ self.now.layout.pages) }
         requires takes { (x : ℕ) → Takes R.holds self.now.layout hand.old.number (known hand.old.seat) x T.then }
         ensures same { IsSameHand hand.old.seat hand.new.seat × IsSameStage hand.old.seat hand.new.seat × IsSameStock hand.old.seat hand.new.seat }
@@ -273,7 +275,7 @@ impl<D, R: PageRule<D>, A: Allocator> Store<D, R, A> {
 
     // Takes a page, where it is released.
     fn try_page<T: PagePlay<D>>(&self, hand: &mut Hand<D>, page: u32) -> bool
-        requires own { IsOf self.now.table.shared.table_id self.now.layout hand.old.seat }
+        requires own { IsHandOf self.now hand.old }
         requires page { page < self.now.layout.pages }
         requires takes { Takes R.holds self.now.layout hand.old.number (known hand.old.seat) page T.then }
         ensures same { IsSameHand hand.old.seat hand.new.seat × IsSameStage hand.old.seat hand.new.seat × IsSameStock hand.old.seat hand.new.seat }

@@ -4,7 +4,7 @@ ghost use Rattle.bl_layout.specs.Words.{frame_count};
 ghost use Rattle.bl_layout.specs.Cells.{cell_count};
 ghost use Rattle.bl_store.specs.Frames.{process_at, page_at, place_at};
 ghost use Rattle.bl_store.specs.Pages.{Owner, Begins, Ends, Gets};
-ghost use Rattle.bl_store.specs.Hands.{known, read_words, IsOf, IsIdle, IsRunning, IsSameHand, IsSameStage, IsSameStock, IsSameRefusal, IsSameLook, ReadsFrom, HasSeen};
+ghost use Rattle.bl_store.specs.Hands.{known, read_words, IsIdle, IsRunning, IsSameHand, IsSameStage, IsSameStock, IsSameRefusal, IsSameLook, ReadsFrom, HasSeen};
 ghost use Rattle.bl_store.specs.declared.view.Reading.TheVariants.{At};
 ghost use Rattle.bl_store.specs.declared.view.Sealing.TheVariants.{Unsealed};
 
@@ -107,9 +107,11 @@ impl<D> Hand<D> {
 }
 
 impl<D, R: PageRule<D>, A: Allocator> Store<D, R, A> {
+    ghost use Rattle.bl_store.specs.Owners.{IsHandOf};
+
     /// Begins a process of the hand.
     pub fn begin<M: TimePlay<D>>(&self, hand: &mut Hand<D>)
-        requires own { IsOf self.now.table.shared.table_id self.now.layout hand.old.seat }
+        requires own { IsHandOf self.now hand.old }
         requires idle { IsIdle hand.old.seat }
         requires rule { Begins R.holds self.now.layout hand.old.number (known hand.old.seat) M.then }
         ensures same { IsSameHand hand.old.seat hand.new.seat × IsSameStock hand.old.seat hand.new.seat }
@@ -129,7 +131,7 @@ impl<D, R: PageRule<D>, A: Allocator> Store<D, R, A> {
 
     /// Ends the hand's process, which holds no page.
     pub fn end<M: TimePlay<D>>(&self, hand: &mut Hand<D>)
-        requires own { IsOf self.now.table.shared.table_id self.now.layout hand.old.seat }
+        requires own { IsHandOf self.now hand.old }
         requires running { IsRunning hand.old.seat }
         requires rule { Ends R.holds self.now.layout hand.old.number (known hand.old.seat) M.then }
         ensures same { IsSameHand hand.old.seat hand.new.seat × IsSameStock hand.old.seat hand.new.seat }
@@ -147,7 +149,7 @@ impl<D, R: PageRule<D>, A: Allocator> Store<D, R, A> {
     /// There is nothing to see of a page that was never put: its words are zeros.
     #[inline(always)]
     pub fn glance<M: PagePlay<D>>(&self, hand: &mut Hand<D>, page: u32) -> Option<Glance>
-        requires own { IsOf self.now.table.shared.table_id self.now.layout hand.old.seat }
+        requires own { IsHandOf self.now hand.old }
         requires running { IsRunning hand.old.seat }
         requires page { page < self.now.layout.pages }
         requires rule { Gets R.holds self.now.layout hand.old.number (known hand.old.seat) page M.then }
@@ -170,7 +172,7 @@ impl<D, R: PageRule<D>, A: Allocator> Store<D, R, A> {
     /// The word at a place of the page that the hand looked at last. The glance counts it.
     #[inline(always)]
     pub fn word(&self, hand: &mut Hand<D>, glance: &mut Glance, place: usize) -> u64
-        requires own { IsOf self.now.table.shared.table_id self.now.layout hand.old.seat }
+        requires own { IsHandOf self.now hand.old }
         requires reads { ReadsFrom hand.old.seat glance.old }
         requires place { place < 32 }
         requires room { glance.old.used < 4294967295 }
@@ -186,7 +188,7 @@ impl<D, R: PageRule<D>, A: Allocator> Store<D, R, A> {
     /// The same, without a count.
     #[inline(always)]
     pub(crate) fn seen_word(&self, hand: &mut Hand<D>, glance: Glance, place: usize) -> u64
-        requires own { IsOf self.now.table.shared.table_id self.now.layout hand.old.seat }
+        requires own { IsHandOf self.now hand.old }
         requires reads { ReadsFrom hand.old.seat glance }
         requires place { place < 32 }
         ensures same { hand.new ≡ hand.old }
@@ -199,7 +201,7 @@ impl<D, R: PageRule<D>, A: Allocator> Store<D, R, A> {
 
     /// The words of a page, which are those that it had at one event. A page that was never put has zeros.
     pub fn get<M: PagePlay<D>>(&self, hand: &mut Hand<D>, page: u32) -> [u64; 32]
-        requires own { IsOf self.now.table.shared.table_id self.now.layout hand.old.seat }
+        requires own { IsHandOf self.now hand.old }
         requires running { IsRunning hand.old.seat }
         requires page { page < self.now.layout.pages }
         requires rule { Gets R.holds self.now.layout hand.old.number (known hand.old.seat) page M.then }
@@ -213,7 +215,7 @@ impl<D, R: PageRule<D>, A: Allocator> Store<D, R, A> {
 
     /// The same, into a buffer of the caller's.
     pub fn get_into<M: PagePlay<D>>(&self, hand: &mut Hand<D>, page: u32, words: &mut [u64; 32])
-        requires own { IsOf self.now.table.shared.table_id self.now.layout hand.old.seat }
+        requires own { IsHandOf self.now hand.old }
         requires running { IsRunning hand.old.seat }
         requires page { page < self.now.layout.pages }
         requires rule { Gets R.holds self.now.layout hand.old.number (known hand.old.seat) page M.then }
@@ -232,7 +234,7 @@ impl<D, R: PageRule<D>, A: Allocator> Store<D, R, A> {
     }
 
     fn gather(&self, hand: &mut Hand<D>, frame: u32, words: &mut [u64; 32])
-        requires own { IsOf self.now.table.shared.table_id self.now.layout hand.old.seat }
+        requires own { IsHandOf self.now hand.old }
         requires frame { frame < frame_count self.now.layout }
         requires reads { (xs : List ℕ) × (length xs ≡ 32) × (hand.old.seat.me.0.reading ≡ At frame xs) }
         ensures same { (hand.new.seat.table_id ≡ hand.old.seat.table_id) × (hand.new.seat.me ≡ hand.old.seat.me) }

@@ -2,7 +2,7 @@
 ghost use Rattle.std.specs.Prelude.{◌≡◌, ◌⊎◌, ℕ, ◌+◌, ◌*◌, ◌/◌, ◌%◌, ◌<◌, ◌≤◌, true, false, List, length};
 ghost use Rattle.bl_layout.specs.Words.{frame_count};
 ghost use Rattle.bl_store.specs.Pages.{Releases, ReleasesMany};
-ghost use Rattle.bl_store.specs.Hands.{known, IsOf, IsSameHand, IsSameReading, IsSameStage, IsSameStock};
+ghost use Rattle.bl_store.specs.Hands.{known, IsSameHand, IsSameReading, IsSameStage, IsSameStock};
 ghost use Rattle.bl_store.specs.declared.view.Sweep.TheVariants.{Over};
 
 use crate::plays::{Free, Horizon, Pass, Release};
@@ -29,13 +29,15 @@ fn behind(first: u32, steps: u32, many: u32) -> u32
 }
 
 impl<D, R: PageRule<D>, A: Allocator> Store<D, R, A> {
+    ghost use Rattle.bl_store.specs.Owners.{IsHandOf};
+
     /// Releases pages and frames that were retired before each process began that still runs. Returns how many; so the pages
     /// of which the hand is told are no more.
     ///
     /// It looks at 64 owner words, or all where there are fewer, from where the hand's last sweep ended, and then
     /// once at each process word, if it found anything retired.
     pub fn sweep<M: SweepPlay<D>>(&self, hand: &mut Hand<D>) -> u32
-        requires own { IsOf self.now.table.shared.table_id self.now.layout hand.old.seat }
+        requires own { IsHandOf self.now hand.old }
         requires rule { ReleasesMany R.holds self.now.layout hand.old.number (known hand.old.seat) M.then }
         ensures same { IsSameHand hand.old.seat hand.new.seat × IsSameStage hand.old.seat hand.new.seat × IsSameStock hand.old.seat hand.new.seat }
         ensures told { (pages : ℕ) × (pages ≤ result) × M.then (known hand.old.seat) pages (known hand.new.seat) }
@@ -77,7 +79,7 @@ impl<D, R: PageRule<D>, A: Allocator> Store<D, R, A> {
 
     // A time at which or after which each process began that still runs.
     fn oldest(&self, hand: &mut Hand<D>) -> u64
-        requires own { IsOf self.now.table.shared.table_id self.now.layout hand.old.seat }
+        requires own { IsHandOf self.now hand.old }
         ensures same { IsSameHand hand.old.seat hand.new.seat × IsSameStage hand.old.seat hand.new.seat × IsSameStock hand.old.seat hand.new.seat × (known hand.new.seat ≡ known hand.old.seat) × (hand.new.seat.me.0.releases ≡ hand.old.seat.me.0.releases) }
         ensures swept { hand.new.seat.me.0.sweep ≡ Over result self.now.layout.passes }
         ensures reads { IsSameReading hand.old.seat hand.new.seat }
@@ -101,7 +103,7 @@ impl<D, R: PageRule<D>, A: Allocator> Store<D, R, A> {
     // Releases those of the frames in the ring that no process can read any more, and keeps the others.
     #[inline(never)]
     pub(crate) fn recycle(&self, hand: &mut Hand<D>)
-        requires own { IsOf self.now.table.shared.table_id self.now.layout hand.old.seat }
+        requires own { IsHandOf self.now hand.old }
         ensures same { IsSameHand hand.old.seat hand.new.seat × IsSameStage hand.old.seat hand.new.seat × IsSameStock hand.old.seat hand.new.seat × (known hand.new.seat ≡ known hand.old.seat) }
         ensures reads { IsSameReading hand.old.seat hand.new.seat }
     {
@@ -132,7 +134,7 @@ impl<D, R: PageRule<D>, A: Allocator> Store<D, R, A> {
 
     // Releases a frame, where it is still in that state of retirement.
     fn recycle_frame(&self, hand: &mut Hand<D>, frame: u32, state: u64, oldest: u64)
-        requires own { IsOf self.now.table.shared.table_id self.now.layout hand.old.seat }
+        requires own { IsHandOf self.now hand.old }
         requires frame { frame < frame_count self.now.layout }
         requires state { (state % 4 ≡ 3) × (state / 4 < oldest) }
         requires swept { hand.old.seat.me.0.sweep ≡ Over oldest self.now.layout.passes }
@@ -153,7 +155,7 @@ impl<D, R: PageRule<D>, A: Allocator> Store<D, R, A> {
 
     // Releases the page or the frame that has the owner word, where it is still in that state of retirement.
     fn release<M: SweepPlay<D>>(&self, hand: &mut Hand<D>, at: u32, state: u64, oldest: u64) -> bool
-        requires own { IsOf self.now.table.shared.table_id self.now.layout hand.old.seat }
+        requires own { IsHandOf self.now hand.old }
         requires at { at < self.now.layout.pages + frame_count self.now.layout }
         requires state { (state % 4 ≡ 3) × (state / 4 < oldest) }
         requires swept { hand.old.seat.me.0.sweep ≡ Over oldest self.now.layout.passes }
