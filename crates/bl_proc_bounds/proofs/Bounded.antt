@@ -7,6 +7,7 @@ use Rattle.bl_claims.specs.Trails.{Mark, Trail, IsPhase}
 use Rattle.bl_core.proofs.Pushes.{name_cases}
 use Rattle.bl_core.specs.Worlds.{Stage, World, IsGood, Extends}
 use Rattle.bl_core.proofs.After.{is_put_name}
+use Rattle.bl_proc_base.specs.declared.descent.Descent.{Descent}
 use Rattle.bl_proc.specs.declared.searching.FindStage.{FindStage}
 use Rattle.bl_proc.specs.declared.searching.FindStage.TheVariants as find
 use Rattle.bl_proc.specs.declared.parts.PartStage.{PartStage}
@@ -19,8 +20,8 @@ use Rattle.bl_claims.specs.Bounds.{gets_in, puts_in, IsWithinBound, IsBelowBound
 use Rattle.bl_proc_bounds.specs.Searches.{IsSearch, IsUnderWay}
 use Rattle.bl_proc_bounds.proofs.Counts.{own_gets_own, within_none}
 use Rattle.bl_proc_bounds.proofs.Ahead.{ahead_some}
-use Rattle.bl_proc_bounds.specs.Paces.{find_place, part_place, place_of, sought, IsKept, AllPaced}
-use Rattle.bl_proc_bounds.specs.Paces.Place.{Nowhere}
+use Rattle.bl_proc_bounds.specs.Paces.{Spends, find_place, part_place, place_of, sought, IsKept, AllPaced}
+use Rattle.bl_proc_bounds.specs.Paces.Place.{Nowhere, Going}
 use Rattle.bl_proc_bounds.proofs.Keeping.{Knows, knows, IsKeptThen, stays, then_paced}
 
 -- A turn at which the process stays as it is, and neither gets nor puts.
@@ -77,15 +78,13 @@ not_begun w p g phase = (let none : IsPhase w.trail p Waiting = subst (IsPhase w
 
 find_within : (w : World Run) (p : Name) (k : ℕ) (a : FindStage) → IsGood bare w → Knows w p k (find_place a) → IsKept w.size w.now.contents w.trail p k (find_place a) → IsWithinBound w.size p w.trail
 find_within w p k find.New g is h = not_begun w p g is.0
-find_within w p k find.AtAnchor g is h = h.within
-find_within w p k (find.At x) g is h = h.within
+find_within w p k (find.Descending d) g is h = h.within
 find_within w p k (find.Ending v) g is h = h.within
 find_within w p k (find.Over v) g is h = h.within
 
 part_within : (w : World Run) (p : Name) (k : ℕ) (a : PartStage) → IsGood bare w → Knows w p k (part_place a) → IsKept w.size w.now.contents w.trail p k (part_place a) → IsWithinBound w.size p w.trail
 part_within w p k part.New g is h = not_begun w p g is.0
-part_within w p k part.AtAnchor g is h = h.within
-part_within w p k (part.At x) g is h = h.within
+part_within w p k (part.Descending d) g is h = h.within
 part_within w p k (part.Ending r) g is h = h.within
 part_within w p k (part.Over r) g is h = h.within
 
@@ -98,14 +97,15 @@ within_of w p old g is h s = absurd s
 pub search_within : (w : World Run) (p : Name) → IsGood bare w → AllPaced w → IsSearch (w.proc p).state → IsWithinBound w.size p w.trail
 search_within w p g all s = within_of w p (w.proc p).state g (knows w p g) (all p) s
 
+going_below : (w : World Run) (p : Name) (k : ℕ) (d : Descent) → Spends w.size w.now.contents w.trail p k (Going d) → IsBelowBound w.size p w.trail
+going_below w p k d h = (let enough = h.enough in let some = ahead_some w.now.contents k d h.left h.ahead in omega arith)
+
 find_below : (w : World Run) (p : Name) (k : ℕ) (a : FindStage) → IsKept w.size w.now.contents w.trail p k (find_place a) → IsUnderWay (proc.Find (record { key = k; stage = a })) → IsBelowBound w.size p w.trail
-find_below w p k find.AtAnchor h s = (let enough = h.enough in let some = h.ahead.2 in omega arith)
-find_below w p k (find.At x) h s = (let enough = h.enough in let some = ahead_some w.now.contents k x h.left h.ahead in omega arith)
+find_below w p k (find.Descending d) h s = going_below w p k d h
 find_below w p k old h s = absurd s
 
 part_below : (w : World Run) (p : Name) (k : ℕ) (a : PartStage) → IsKept w.size w.now.contents w.trail p k (part_place a) → IsUnderWay (proc.Part (record { from = k; stage = a })) → IsBelowBound w.size p w.trail
-part_below w p k part.AtAnchor h s = (let enough = h.enough in let some = h.ahead.2 in omega arith)
-part_below w p k (part.At x) h s = (let enough = h.enough in let some = ahead_some w.now.contents k x h.left h.ahead in omega arith)
+part_below w p k (part.Descending d) h s = going_below w p k d h
 part_below w p k old h s = absurd s
 
 below_of : (w : World Run) (p : Name) (a : Proc) → IsKept w.size w.now.contents w.trail p (sought a) (place_of a) → IsUnderWay a → IsBelowBound w.size p w.trail

@@ -211,15 +211,13 @@ compress_few level key got old x marks e log h = absurd (cc e)
 
 find_looks : (a : FindStage) → ((x : ℕ) → find_next_in a ≢ act.Latch x) × (find_next_in a ≢ act.Take) × ((x : ℕ) (c : Page) → find_next_in a ≢ act.Put x c)
 find_looks find.New = (λ x e. cc, λ e. cc, λ x c e. cc)
-find_looks find.AtAnchor = (λ x e. cc, λ e. cc, λ x c e. cc)
-find_looks (find.At y) = (λ x e. cc, λ e. cc, λ x c e. cc)
+find_looks (find.Descending d) = (λ x e. cc, λ e. cc, λ x c e. cc)
 find_looks (find.Ending v) = (λ x e. cc, λ e. cc, λ x c e. cc)
 find_looks (find.Over v) = (λ x e. cc, λ e. cc, λ x c e. cc)
 
 part_looks : (a : PartStage) → ((x : ℕ) → part_next_in a ≢ act.Latch x) × (part_next_in a ≢ act.Take) × ((x : ℕ) (c : Page) → part_next_in a ≢ act.Put x c)
 part_looks part.New = (λ x e. cc, λ e. cc, λ x c e. cc)
-part_looks part.AtAnchor = (λ x e. cc, λ e. cc, λ x c e. cc)
-part_looks (part.At y) = (λ x e. cc, λ e. cc, λ x c e. cc)
+part_looks (part.Descending d) = (λ x e. cc, λ e. cc, λ x c e. cc)
 part_looks (part.Ending r) = (λ x e. cc, λ e. cc, λ x c e. cc)
 part_looks (part.Over r) = (λ x e. cc, λ e. cc, λ x c e. cc)
 

@@ -18,15 +18,13 @@ IsSearch (proc.Reclaim p) = ⊥
 
 abbrev FindsOn : FindStage → Type 0
 FindsOn find.New = ⊥
-FindsOn find.AtAnchor = Unit {0}
-FindsOn (find.At x) = Unit {0}
+FindsOn (find.Descending d) = Unit {0}
 FindsOn (find.Ending value) = ⊥
 FindsOn (find.Over value) = ⊥
 
 abbrev ListsOn : PartStage → Type 0
 ListsOn part.New = ⊥
-ListsOn part.AtAnchor = Unit {0}
-ListsOn (part.At x) = Unit {0}
+ListsOn (part.Descending d) = Unit {0}
 ListsOn (part.Ending r) = ⊥
 ListsOn (part.Over r) = ⊥
 
