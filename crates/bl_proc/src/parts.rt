@@ -5,7 +5,6 @@ ghost use Rattle.bl_model.specs.Map.{ListsPairs};
 ghost use Rattle.bl_model.specs.Rows.{map_of};
 ghost use Rattle.bl_model.proofs.Parts.{IsPlaceOf};
 ghost use Rattle.bl_page.specs.Pairs.{RisesFrom, end_of};
-ghost use Rattle.bl_proc_base.specs.declared.acts.Seen.TheVariants as seen;
 ghost use Rattle.bl_proc_base.specs.declared.onwards.Step.TheVariants as onward;
 ghost use Rattle.bl_proc.specs.declared.parts.PartStage.TheVariants as part_stage;
 ghost use Rattle.bl_proc_base.specs.Given.{Gives};
@@ -100,16 +99,6 @@ fn part_of(page: &Page, from: u64) -> PartRows
     }
 }
 
-/// From a page that was got.
-fn went_on(from: u64, descent: Descent, page: &Page) -> PartStage
-    ensures { PartGoes from (part_stage.Descending descent) (seen.Words page.now) result }
-{
-    match descent.took(from, page) {
-        Descended::On(next) => PartStage::Descending(next),
-        Descended::Here => PartStage::Ending(part_of(page, from)),
-    }
-}
-
 fn went(from: u64, stage: PartStage, seen: &Seen) -> PartStage
     requires running { part_answer_in stage ≡ None }
     requires given { Gives (part_next_in stage) None seen.now }
@@ -117,7 +106,10 @@ fn went(from: u64, stage: PartStage, seen: &Seen) -> PartStage
 {
     match (stage, seen) {
         (PartStage::New, Seen::Done) => PartStage::Descending(Descent::AtAnchor),
-        (PartStage::Descending(descent), Seen::Words(page)) => went_on(from, descent, page),
+        (PartStage::Descending(descent), Seen::Words(page)) => match descent.took(from, page) {
+            Descended::On(next) => PartStage::Descending(next),
+            Descended::Here => PartStage::Ending(part_of(page, from)),
+        },
         (PartStage::Ending(part), Seen::Done) => PartStage::Over(part),
         _ => unreachable!(),
     }

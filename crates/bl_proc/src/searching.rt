@@ -1,15 +1,12 @@
 //! The search for a key's value.
 
 ghost use Rattle.std.specs.Prelude.{◌≡◌, None};
-ghost use Rattle.bl_proc_base.specs.declared.acts.Seen.TheVariants as seen;
 ghost use Rattle.bl_proc.specs.declared.searching.FindStage.TheVariants as find_stage;
-ghost use Rattle.bl_page.specs.declared.page.Page.{Page as PageIs};
-ghost use Rattle.bl_page.specs.Words.{words_of};
 ghost use Rattle.bl_proc_base.specs.Given.{Gives};
 ghost use Rattle.bl_proc.specs.Searches.{find_next_in, find_answer_in, find_next, find_needs, find_answer, FindGoes, FindTakes};
 
 use bl_model::Reply;
-use bl_page::{Page, Words};
+use bl_page::Words;
 use bl_proc_base::{Action, Answer, Descended, Descent, Process, Reader, Seen, listed, row_in};
 
 /// A search for the value of a key.
@@ -32,30 +29,6 @@ pub enum FindStage {
     Over(Option<u64>),
 }
 
-/// From a page that was got.
-fn went_on(key: u64, descent: Descent, page: &Page) -> FindStage
-    ensures { FindGoes key (find_stage.Descending descent) (seen.Words page.now) result }
-{
-    match descent.took(key, page) {
-        Descended::On(next) => FindStage::Descending(next),
-        Descended::Here => FindStage::Ending(listed(page, key)),
-    }
-}
-
-/// The same by the page's words.
-#[inline(always)]
-fn went_on_in<W: Words>(source: &W, hand: &mut W::Hand, key: u64, descent: Descent) -> FindStage
-    requires sees { W.Sees source.now hand.old }
-    requires page { (c : PageIs) × (W.shown source.now hand.old ≡ words_of c) }
-    ensures same { hand.new ≡ hand.old }
-    ensures goes { (c : PageIs) → W.shown source.now hand.old ≡ words_of c → FindGoes key (find_stage.Descending descent) (seen.Words c) result }
-{
-    match descent.took_words(source, hand, key) {
-        Descended::On(next) => FindStage::Descending(next),
-        Descended::Here => FindStage::Ending(row_in(source, hand, &mut 0, key)),
-    }
-}
-
 #[inline(always)]
 fn went(key: u64, stage: FindStage, seen: &Seen) -> FindStage
     requires running { find_answer_in stage ≡ None }
@@ -64,7 +37,10 @@ fn went(key: u64, stage: FindStage, seen: &Seen) -> FindStage
 {
     match (stage, seen) {
         (FindStage::New, Seen::Done) => FindStage::Descending(Descent::AtAnchor),
-        (FindStage::Descending(descent), Seen::Words(page)) => went_on(key, descent, page),
+        (FindStage::Descending(descent), Seen::Words(page)) => match descent.took(key, page) {
+            Descended::On(next) => FindStage::Descending(next),
+            Descended::Here => FindStage::Ending(listed(page, key)),
+        },
         (FindStage::Ending(value), Seen::Done) => FindStage::Over(value),
         _ => unreachable!(),
     }
@@ -122,9 +98,12 @@ impl Reader for Find {
     // A search makes no page of the words, and reads only those that it needs: most of its time would go there.
     #[inline(always)]
     fn took_words<W: Words>(&mut self, source: &W, hand: &mut W::Hand) {
-        self.stage = match self.stage {
-            FindStage::Descending(descent) => went_on_in(source, hand, self.key, descent),
-            _ => unreachable!(),
+        let FindStage::Descending(descent) = self.stage else {
+            unreachable!()
+        };
+        self.stage = match descent.took_words(source, hand, self.key) {
+            Descended::On(next) => FindStage::Descending(next),
+            Descended::Here => FindStage::Ending(row_in(source, hand, &mut 0, self.key)),
         };
     }
 }

@@ -1,5 +1,5 @@
 -- Every get of a descent keeps a world good.
-use Rattle.std.proofs.Common.{ℕ, ◌≡◌, ◌≢◌, ◌-◌, Option, Some, arith, refl, inl, inr, subst}
+use Rattle.std.proofs.Common.{ℕ, ◌≡◌, ◌≢◌, ◌-◌, Option, Some, arith, refl, inl, inr}
 use Rattle.bl_page.specs.declared.page.Page.{Page}
 use Rattle.bl_page.specs.Machine.{Name, Owner, State}
 use Rattle.bl_page.specs.Machine.Act.{Get}
@@ -14,7 +14,6 @@ use Rattle.bl_proc_base.specs.declared.descent.Descent.TheVariants.{AtAnchor, At
 use Rattle.bl_proc_base.specs.declared.descent.Descended.TheVariants.{On, Here}
 use Rattle.bl_proc_base.specs.Onwards.{Leads}
 use Rattle.bl_proc_base.specs.Descents.{descent_page, Descends}
-use Rattle.bl_proc_base.proofs.Descents.{here_leads}
 use Rattle.bl_proc_invariant.specs.Turns.{Does, Turned}
 use Rattle.bl_proc_invariant.specs.Tables.{goes_to, descent_goes, know_descent}
 use Rattle.bl_proc_invariant.specs.Knowing.{ending}
@@ -54,26 +53,24 @@ module _ {P : Type 0} (know : P → Know) (w : World P) (g : IsGood know w) (p :
       ] in
       (goes, tt)
 
-  -- at its leaf
-  pub descent_may : (key : ℕ) (d : Descent) (c : Page) → IsSure w p (know_descent key d) → Descends key d c Here → MayGet w p (descent_page d)
-  descent_may key AtAnchor c is t = absurd t
-  descent_may key (At x) c is t = is.goes.0.may
+  -- its leaf, by what it got
+  leaf_got : (key : ℕ) (d : Descent) (c : Page) → IsSure w p (know_descent key d) → Descends key d c Here → c ≡ w.now.contents (descent_page d) → MayGet w p (descent_page d) × Leads (w.now.contents (descent_page d)) key 0 onward.Here
+  leaf_got key AtAnchor c is t told = absurd t
+  leaf_got key (At x) c is t told = (is.goes.0.may, rw told at t)
 
-  pub descent_leaf : (key : ℕ) (d : Descent) (c : Page) → Descends key d c Here → c ≡ w.now.contents (descent_page d) → Leads (w.now.contents (descent_page d)) key 0 onward.Here
-  descent_leaf key d c t told = subst (λ z. Leads z key 0 onward.Here) told (here_leads key d c t)
-
-  module _ (b : P) (key : ℕ) (d : Descent) (s : State Page) (before : know (w.proc p) ≡ know_descent key d) (does : Does w.now p (Get (descent_page d)) s) where
-    pub descent_turn : (e : Descent) (c : Page) → know b ≡ know_descent key e → Descends key d c (On e) → c ≡ w.now.contents (descent_page d) → Turned know w p (Get (descent_page d)) s b
-    descent_turn e c then t told =
+  module _ (b : P) (key : ℕ) (d : Descent) (c : Page) (s : State Page) (before : know (w.proc p) ≡ know_descent key d) (told : c ≡ w.now.contents (descent_page d)) (does : Does w.now p (Get (descent_page d)) s) where
+    pub descent_turn : (e : Descent) → know b ≡ know_descent key e → Descends key d c (On e) → Turned know w p (Get (descent_page d)) s b
+    descent_turn e then t =
         let is : IsSure w p (know_descent key d) = rw before at (g.sure p) in
         got_goes know w g p b 0 key _ (descent_page d) s (descent_goes e) before refl refl then is.stage is.said (descent_there key d is) does is.sound (goes_on key d e c is t told)
 
-    -- at the get of the leaf that covers the key, it says what is true of the map
-    pub told_turn : (said : Option Said) → know b ≡ ending said → MapsTo (w.map 0) (w.map 0) said → Turned know w p (Get (descent_page d)) s b
-    told_turn said then maps =
+    -- at the get of its leaf it says what is true of the map
+    pub leaf_turn : (said : Option Said) → know b ≡ ending said → Descends key d c Here → (MayGet w p (descent_page d) → Leads (w.now.contents (descent_page d)) key 0 onward.Here → MapsTo (w.map 0) (w.map 0) said) → Turned know w p (Get (descent_page d)) s b
+    leaf_turn said then t maps =
         let is : IsSure w p (know_descent key d) = rw before at (g.sure p) in
         let x = descent_page d in
+        let leaf = leaf_got key d c is t told in
         let m : Mark = record { event = record { process = p; act = Get x }; saw = Some (w.now.contents x); said = said } in
         watched know w g p b _ _ before then (Get x) (Some (w.now.contents x)) said s tt (is.stage, descent_there key d is) does refl refl (λ y h. h) (λ it e. (is.stage, is.said))
-        maps
+        (maps leaf.0 leaf.1)
         (record { stage = is.stage; said = says w m is.said; holds = tt; goes = tt; children = tt; passed = tt; sound = tt; log = tt })

@@ -2,41 +2,30 @@
 use Rattle.std.proofs.Common.{ℕ, ◌≡◌, Option, Some, None, sym, ◌∙◌, refl}
 use Rattle.bl_page.specs.declared.page.Page.{Page}
 use Rattle.bl_page.specs.Machine.{Name, State}
-use Rattle.bl_page.specs.Machine.Act.{Get}
-use Rattle.bl_claims.specs.Pages.{node_of}
-use Rattle.bl_core.specs.Worlds.{Know, World, nodes, MapsTo, IsSure, IsGood}
+use Rattle.bl_core.specs.Worlds.{Know, World, nodes, MapsTo, IsGood}
 use Rattle.bl_core.proofs.Descents.{leaf_says}
 use Rattle.bl_proc_base.specs.declared.acts.Seen.{Seen}
 use Rattle.bl_proc_base.specs.declared.acts.Seen.TheVariants as seen
-use Rattle.bl_proc_base.specs.declared.descent.Descent.{Descent}
-use Rattle.bl_proc_base.specs.declared.descent.Descended.TheVariants.{Here}
 use Rattle.bl_proc.specs.declared.searching.FindStage.{FindStage}
 use Rattle.bl_proc.specs.declared.searching.FindStage.TheVariants.{New, Descending, Ending, Over}
-use Rattle.bl_proc_base.specs.Descents.{descent_page, Descends}
+use Rattle.bl_proc_base.specs.Descents.{descent_page}
 use Rattle.bl_proc.specs.Searches.{find_next_in, FindGoes}
 use Rattle.bl_proc_invariant.specs.Turns.{event_of, IsTold, Does, Turned}
-use Rattle.bl_proc_invariant.specs.Tables.{know_descent}
-use Rattle.bl_proc_invariant.specs.Knowing.{ending, found, know_find, find_end}
-use Rattle.bl_proc_invariant.proofs.Descending.{descent_may, descent_leaf, descent_turn, told_turn}
+use Rattle.bl_proc_invariant.specs.Knowing.{found, know_find, find_end}
+use Rattle.bl_proc_invariant.proofs.Descending.{descent_turn, leaf_turn}
 use Rattle.bl_proc_invariant.proofs.Ends.{begin_turn, end_turn}
 
 module _ {P : Type 0} (know : P → Know) (w : World P) (g : IsGood know w) (p : Name) (b : P) (key : ℕ) where
-  -- at the get of the leaf that covers its key
-  found_turn : (d : Descent) (value : Option ℕ) (c : Page) (s : State Page) → know (w.proc p) ≡ know_descent key d → know b ≡ ending (found key value) → Descends key d c Here → value ≡ (node_of c).look key → c ≡ w.now.contents (descent_page d) → Does w.now p (Get (descent_page d)) s → Turned know w p (Get (descent_page d)) s b
-  found_turn d value c s before then t lists told does =
-      let is : IsSure w p (know_descent key d) = rw before at (g.sure p) in
-      let l = descent_leaf know w g p key d c t told in
-      let look : value ≡ (nodes w.now (descent_page d)).look key = rw told at lists in
-      told_turn know w g p b key d s before does (found key value) then (answers value (look ∙ leaf_says know w g p (descent_page d) key (descent_may know w g p key d c is t) l.0 l.2 l.1))
-    where
-      answers : (value : Option ℕ) → value ≡ w.map 0 key → MapsTo (w.map 0) (w.map 0) (found key value)
-      answers (Some v) e = (sym e, λ k. refl)
-      answers None e = (sym e, λ k. refl)
+  answers : (value : Option ℕ) → value ≡ w.map 0 key → MapsTo (w.map 0) (w.map 0) (found key value)
+  answers (Some v) e = (sym e, λ k. refl)
+  answers None e = (sym e, λ k. refl)
 
   pub find_turn : (a a' : FindStage) (what : Seen) (s : State Page) → know (w.proc p) ≡ know_find key a → know b ≡ know_find key a' → FindGoes key a what a' → IsTold w.now w.size (find_next_in a) what → Does w.now p (event_of (find_end a) (find_next_in a) what) s → Turned know w p (event_of (find_end a) (find_next_in a) what) s b
   find_turn New (Descending d) seen.Done s before then t told does = begin_turn know w g p b key s before (rw t at then) does
-  find_turn (Descending d) (Descending e) (seen.Words c) s before then t told does = descent_turn know w g p b key d s before does e c then t told
-  find_turn (Descending d) (Ending value) (seen.Words c) s before then t told does = found_turn d value c s before then t.0 t.1 told does
+  find_turn (Descending d) (Descending e) (seen.Words c) s before then t told does = descent_turn know w g p b key d c s before told does e then t
+  find_turn (Descending d) (Ending value) (seen.Words c) s before then t told does =
+      let look : value ≡ (nodes w.now (descent_page d)).look key = rw told at t.1 in
+      leaf_turn know w g p b key d c s before told does (found key value) then t.0 (λ may l. answers value (look ∙ leaf_says know w g p (descent_page d) key may l.0 l.2 l.1))
   find_turn (Ending value) (Over last) seen.Done s before then t told does =
       end_turn know w g p b (found key value) s before (rw t at then) does
   find_turn a a' (seen.Words page) s before then t told does = absurd t

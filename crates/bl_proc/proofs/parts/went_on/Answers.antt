@@ -1,5 +1,0 @@
-use Rattle.bl_proc_base.proofs.Descents.{here_leads}
-use Rattle.bl_proc.proofs.parts.went_on.Goals as goal
-
-pub part_of-requires : goal.part_of-requires
-part_of-requires c = here_leads _ c.args.descent _ c.in-Here.ensures
