@@ -1,5 +1,5 @@
 -- A search goes on, and in one way.
-use Rattle.std.proofs.Common.{ℕ, ◌≡◌, None, ap, sym, ◌∙◌, refl, subst, Some}
+use Rattle.std.proofs.Common.{ℕ, ◌≡◌, None, ap, sym, ◌∙◌, refl, Some}
 use Rattle.bl_page.specs.declared.page.Page.{Page}
 use Rattle.bl_claims.specs.Pages.{node_of}
 use Rattle.bl_proc_base.specs.declared.acts.Seen.{Seen}

@@ -1,4 +1,4 @@
-use Rattle.std.proofs.Common.{◌≡◌, ap, ◌∙◌}
+use Rattle.std.proofs.Common.{ap, ◌∙◌}
 use Rattle.bl_proc_base.proofs.Descents.{here_leads}
 use Rattle.bl_proc.proofs.searching.FindReader.took_words.Goals as goal
 
