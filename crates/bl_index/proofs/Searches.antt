@@ -45,18 +45,8 @@ silent key (Over v) is = absurd is
 pub find_may_give_up : (p : FindState) (state : Proc) → state ≡ Find p → IsSearching p.stage → MayGiveUp state
 find_may_give_up p state e is = may_give_up state (Find p) e tt (λ got child time. silent p.key p.stage is)
 
--- and it is under way
-finds_on : (p : FindState) → IsSearching p.stage → IsUnderWay (Find p)
-finds_on p is = by_stage p p.stage refl is
-  where
-    by_stage : (p : FindState) (a : FindStage) → p.stage ≡ a → IsSearching p.stage → IsUnderWay (Find p)
-    by_stage p New e is = absurd (rw e at is)
-    by_stage p (Descending d) e is = rw e tt
-    by_stage p (Ending v) e is = absurd (rw e at is)
-    by_stage p (Over v) e is = absurd (rw e at is)
-
 pub find_under_way : (p : FindState) (state : Proc) → state ≡ Find p → IsSearching p.stage → IsUnderWay state
-find_under_way p state e is = subst IsUnderWay (sym e) (finds_on p is)
+find_under_way p state e is = subst IsUnderWay (sym e) is
 
 pub find_is_search : (p : FindState) (state : Proc) → state ≡ Find p → IsSearch state
 find_is_search p state e = subst IsSearch (sym e) tt

@@ -7,7 +7,6 @@ use Rattle.bl_claims.specs.Trails.{Mark, Trail, IsPhase}
 use Rattle.bl_core.proofs.Pushes.{name_cases}
 use Rattle.bl_core.specs.Worlds.{Stage, World, IsGood, Extends}
 use Rattle.bl_core.proofs.After.{is_put_name}
-use Rattle.bl_proc_base.specs.declared.descent.Descent.{Descent}
 use Rattle.bl_proc.specs.declared.searching.FindStage.{FindStage}
 use Rattle.bl_proc.specs.declared.searching.FindStage.TheVariants as find
 use Rattle.bl_proc.specs.declared.parts.PartStage.{PartStage}
@@ -17,10 +16,10 @@ use Rattle.bl_proc.specs.declared.kinds.Proc.TheVariants as proc
 use Rattle.bl_proc_invariant.specs.Knowing.{Run, know_find, know_part, know_of, bare}
 use Rattle.bl_proc_invariant.proofs.Starting.{with_proc}
 use Rattle.bl_claims.specs.Bounds.{gets_in, puts_in, IsWithinBound, IsBelowBound}
-use Rattle.bl_proc_bounds.specs.Searches.{IsSearch, IsUnderWay}
+use Rattle.bl_proc_bounds.specs.Searches.{IsSearch, IsGoing, IsUnderWay}
 use Rattle.bl_proc_bounds.proofs.Counts.{own_gets_own, within_none}
 use Rattle.bl_proc_bounds.proofs.Ahead.{ahead_some}
-use Rattle.bl_proc_bounds.specs.Paces.{Spends, find_place, part_place, place_of, sought, IsKept, AllPaced}
+use Rattle.bl_proc_bounds.specs.Paces.{Place, find_place, part_place, place_of, sought, IsKept, AllPaced}
 use Rattle.bl_proc_bounds.specs.Paces.Place.{Nowhere, Going}
 use Rattle.bl_proc_bounds.proofs.Keeping.{Knows, knows, IsKeptThen, stays, then_paced}
 
@@ -97,22 +96,10 @@ within_of w p old g is h s = absurd s
 pub search_within : (w : World Run) (p : Name) → IsGood bare w → AllPaced w → IsSearch (w.proc p).state → IsWithinBound w.size p w.trail
 search_within w p g all s = within_of w p (w.proc p).state g (knows w p g) (all p) s
 
-going_below : (w : World Run) (p : Name) (k : ℕ) (d : Descent) → Spends w.size w.now.contents w.trail p k (Going d) → IsBelowBound w.size p w.trail
-going_below w p k d h = (let enough = h.enough in let some = ahead_some w.now.contents k d h.left h.ahead in omega arith)
-
-find_below : (w : World Run) (p : Name) (k : ℕ) (a : FindStage) → IsKept w.size w.now.contents w.trail p k (find_place a) → IsUnderWay (proc.Find (record { key = k; stage = a })) → IsBelowBound w.size p w.trail
-find_below w p k (find.Descending d) h s = going_below w p k d h
-find_below w p k old h s = absurd s
-
-part_below : (w : World Run) (p : Name) (k : ℕ) (a : PartStage) → IsKept w.size w.now.contents w.trail p k (part_place a) → IsUnderWay (proc.Part (record { from = k; stage = a })) → IsBelowBound w.size p w.trail
-part_below w p k (part.Descending d) h s = going_below w p k d h
-part_below w p k old h s = absurd s
-
-below_of : (w : World Run) (p : Name) (a : Proc) → IsKept w.size w.now.contents w.trail p (sought a) (place_of a) → IsUnderWay a → IsBelowBound w.size p w.trail
-below_of w p (proc.Find a) h s = find_below w p a.key a.stage h s
-below_of w p (proc.Part a) h s = part_below w p a.from a.stage h s
-below_of w p old h s = absurd s
+below_at : (w : World Run) (p : Name) (k : ℕ) (place : Place) → IsKept w.size w.now.contents w.trail p k place → IsGoing place → IsBelowBound w.size p w.trail
+below_at w p k (Going d) h s = (let enough = h.enough in let some = ahead_some w.now.contents k d h.left h.ahead in omega arith)
+below_at w p k old h s = absurd s
 
 -- and below it, while it is to get another page
 pub search_below : (w : World Run) (p : Name) → AllPaced w → IsUnderWay (w.proc p).state → IsBelowBound w.size p w.trail
-search_below w p all s = below_of w p (w.proc p).state (all p) s
+search_below w p all s = below_at w p (sought (w.proc p).state) (place_of (w.proc p).state) (all p) s
