@@ -114,12 +114,10 @@ find_reply_said None reply hint e = cc
 
 find_ends : (key : ℕ) (a b : FindStage) (reply : Reply) (hint : Option Hint) → find_next_in a ≡ act.End → FindGoes key a seen.Done b → find_answer_in b ≡ Some (Op reply hint) → (find_end a ≡ Some reply) × ((know_find key a).said ≡ Some (record { op = op.Find key; reply = reply }))
 find_ends key find.New b reply hint e t h = cc
-find_ends key find.AtAnchor b reply hint e t h = cc
-find_ends key (find.At x) b reply hint e t h = cc
+find_ends key (find.Descending d) b reply hint e t h = cc
 find_ends key (find.Over v) b reply hint e t h = absurd t
 find_ends key (find.Ending v) find.New reply hint e t h = absurd t
-find_ends key (find.Ending v) find.AtAnchor reply hint e t h = absurd t
-find_ends key (find.Ending v) (find.At x) reply hint e t h = absurd t
+find_ends key (find.Ending v) (find.Descending d) reply hint e t h = absurd t
 find_ends key (find.Ending v) (find.Ending u) reply hint e t h = absurd t
 find_ends key (find.Ending v) (find.Over u) reply hint e t h =
     let some : found_answer u ≡ Op reply hint = some_one h in
@@ -134,12 +132,10 @@ rows_of r = Rows r.rows r.next
 
 part_ends : (from : ℕ) (a b : PartStage) (reply : Reply) (hint : Option Hint) → part_next_in a ≡ act.End → PartGoes from a seen.Done b → part_answer_in b ≡ Some (Op reply hint) → (part_end a ≡ Some reply) × ((know_part from a).said ≡ Some (record { op = op.Part from; reply = reply }))
 part_ends from part.New b reply hint e t h = cc
-part_ends from part.AtAnchor b reply hint e t h = cc
-part_ends from (part.At x) b reply hint e t h = cc
+part_ends from (part.Descending d) b reply hint e t h = cc
 part_ends from (part.Over r) b reply hint e t h = absurd t
 part_ends from (part.Ending r) part.New reply hint e t h = absurd t
-part_ends from (part.Ending r) part.AtAnchor reply hint e t h = absurd t
-part_ends from (part.Ending r) (part.At x) reply hint e t h = absurd t
+part_ends from (part.Ending r) (part.Descending d) reply hint e t h = absurd t
 part_ends from (part.Ending r) (part.Ending q) reply hint e t h = absurd t
 part_ends from (part.Ending r) (part.Over q) reply hint e t h =
     let some : Op (rows_of q) None ≡ Op reply hint = some_one h in

@@ -76,15 +76,13 @@ squeeze_holds level key got (compression.OpeningParent x fate) = refl
 
 find_holds : (key : ℕ) (a : FindStage) → MayHold (know_find key a)
 find_holds key find.New = inr refl
-find_holds key find.AtAnchor = inr refl
-find_holds key (find.At x) = inr refl
+find_holds key (find.Descending d) = inr refl
 find_holds key (find.Ending value) = inr refl
 find_holds key (find.Over value) = inr refl
 
 part_holds : (key : ℕ) (a : PartStage) → MayHold (know_part key a)
 part_holds key part.New = inr refl
-part_holds key part.AtAnchor = inr refl
-part_holds key (part.At x) = inr refl
+part_holds key (part.Descending d) = inr refl
 part_holds key (part.Ending r) = inr refl
 part_holds key (part.Over r) = inr refl
 

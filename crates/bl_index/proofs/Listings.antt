@@ -1,20 +1,21 @@
 -- What a part tells its caller.
-use Rattle.std.proofs.Common.{ℕ, ◌≡◌, ◌+◌, None, refl, sym, subst, ◌∙◌, inl, inr}
+use Rattle.std.proofs.Common.{ℕ, ◌≡◌, ◌+◌, None, refl, sym, subst, ◌∙◌}
 use Rattle.atomic_table.specs.declared.shared.Seat.{Seat}
 use Rattle.bl_layout.specs.declared.layout.Layout.{Layout}
 use Rattle.bl_model.specs.declared.operation.Op.TheVariants as op
 use Rattle.bl_model.specs.declared.operation.Reply.TheVariants.{Rows}
 use Rattle.bl_page.specs.declared.page.Page.{Page}
 use Rattle.bl_page.specs.Words.{words_of}
-use Rattle.bl_claims.specs.Pages.{roots_of}
 use Rattle.bl_proc_base.specs.declared.acts.Seen.TheVariants as seen
-use Rattle.bl_proc_base.specs.declared.onwards.Step.{Step}
-use Rattle.bl_proc_base.specs.declared.onwards.Step.TheVariants.{Again, Right, Down, Here}
-use Rattle.bl_proc_base.specs.Onwards.{Leads, top_of}
+use Rattle.bl_proc_base.specs.declared.descent.Descent.{Descent}
+use Rattle.bl_proc_base.specs.declared.descent.Descended.{Descended}
+use Rattle.bl_proc_base.specs.declared.descent.Descended.TheVariants.{On, Here}
+use Rattle.bl_proc_base.specs.Descents.{Descends}
+use Rattle.bl_proc_base.proofs.Descents.{here_leads}
 use Rattle.bl_proc.specs.declared.kinds.Proc.{Proc}
 use Rattle.bl_proc.specs.declared.parts.PartRows.{PartRows}
 use Rattle.bl_proc.specs.declared.parts.PartStage.{PartStage}
-use Rattle.bl_proc.specs.declared.parts.PartStage.TheVariants.{AtAnchor, At, Ending, Over}
+use Rattle.bl_proc.specs.declared.parts.PartStage.TheVariants.{Descending, Ending, Over}
 use Rattle.bl_proc.specs.Processes.{Takes}
 use Rattle.bl_claims.specs.Latches.{OnlyLooks}
 use Rattle.bl_proc_bounds.specs.Latches.{IsTidy}
@@ -30,8 +31,6 @@ use Rattle.bl_store.specs.Hands.{known, read_words, ReadsFrom}
 use Rattle.bl_index_rule.specs.declared.known.Mine.{Mine}
 use Rattle.bl_claims.specs.Seeing.{name}
 use Rattle.bl_index_rule.specs.Told.{Finishes, Goes, MayGiveUp, ends}
-use Rattle.bl_index.specs.declared.listing.Ahead.{Ahead}
-use Rattle.bl_index.specs.declared.listing.Ahead.TheVariants as ahead
 use Rattle.bl_index.specs.declared.listing.Reached.{Reached}
 use Rattle.bl_index.specs.declared.listing.Reached.TheVariants as reached
 use Rattle.bl_index.specs.Calls.{Finds}
@@ -45,59 +44,35 @@ use Rattle.bl_index.proofs.Standing.{on_goes, on_after}
 
 -- ---- a part that is to get a page
 
-searches : (from : ℕ) (a : Ahead) → IsSearch (part_at from a)
-searches from ahead.Anchor = tt
-searches from (ahead.Page x) = tt
+pub part_is_search : (from : ℕ) (stage : PartStage) (state : Proc) → state ≡ listing from stage → IsSearch state
+part_is_search from stage state e = subst IsSearch (sym e) tt
 
-goes_further : (from : ℕ) (a : Ahead) → IsUnderWay (part_at from a)
-goes_further from ahead.Anchor = tt
-goes_further from (ahead.Page x) = tt
+pub part_under_way : (from : ℕ) (d : Descent) (state : Proc) → state ≡ part_at from d → IsUnderWay state
+part_under_way from d state e = subst IsUnderWay (sym e) tt
 
-pub part_is_search : (from : ℕ) (a : Ahead) (state : Proc) → state ≡ part_at from a → IsSearch state
-part_is_search from a state e = subst IsSearch (sym e) (searches from a)
-
-pub part_under_way : (from : ℕ) (a : Ahead) (state : Proc) → state ≡ part_at from a → IsUnderWay state
-part_under_way from a state e = subst IsUnderWay (sym e) (goes_further from a)
-
-pub leaf_is_search : (from : ℕ) (rows : PartRows) (state : Proc) → state ≡ listing from (Ending rows) → IsSearch state
-leaf_is_search from rows state e = subst IsSearch (sym e) tt
-
-pub part_may_give_up : (from : ℕ) (a : Ahead) (state : Proc) → state ≡ part_at from a → MayGiveUp state
-part_may_give_up from ahead.Anchor state e = may_give_up state (listing from AtAnchor) e tt (λ got child time. record { busy = refl; silent = refl; empty = refl; no_middle = refl })
-part_may_give_up from (ahead.Page x) state e = may_give_up state (listing from (At x)) e tt (λ got child time. record { busy = refl; silent = refl; empty = refl; no_middle = refl })
+pub part_may_give_up : (from : ℕ) (d : Descent) (state : Proc) → state ≡ part_at from d → MayGiveUp state
+part_may_give_up from d state e = may_give_up state (part_at from d) e tt (λ got child time. record { busy = refl; silent = refl; empty = refl; no_middle = refl })
 
 -- it goes on whatever page it gets, and ends
-pub anchor_course : (from : ℕ) (c : Page) (state : Proc) → state ≡ part_at from ahead.Anchor → GoesOn state (seen.Words c)
-anchor_course from c state e = subst (λ (z : Proc). GoesOn z (seen.Words c)) (sym e) (part_goes (record { from = from; stage = AtAnchor }) (seen.Words c) refl tt)
-
-pub page_course : (from x : ℕ) (c : Page) (state : Proc) → state ≡ part_at from (ahead.Page x) → GoesOn state (seen.Words c)
-page_course from x c state e = subst (λ (z : Proc). GoesOn z (seen.Words c)) (sym e) (part_goes (record { from = from; stage = At x }) (seen.Words c) refl tt)
+pub descent_course : (from : ℕ) (d : Descent) (c : Page) (state : Proc) → state ≡ part_at from d → GoesOn state (seen.Words c)
+descent_course from d c state e = subst (λ (z : Proc). GoesOn z (seen.Words c)) (sym e) (part_goes (record { from = from; stage = Descending d }) (seen.Words c) refl tt)
 
 pub leaf_course : (from : ℕ) (rows : PartRows) (state : Proc) → state ≡ listing from (Ending rows) → GoesOn state seen.Done
 leaf_course from rows state e = subst (λ (z : Proc). GoesOn z seen.Done) (sym e) (part_goes (record { from = from; stage = Ending rows }) seen.Done refl tt)
 
 -- ---- where it goes by the page that it got
 
-pub anchor_on : (l : Layout) (from x : ℕ) (c : Page) (d e : Mine) → IsOn l d (part_at from ahead.Anchor) → Goes (seen.Words c) d e → x ≡ top_of (roots_of c) → IsOn l e (part_at from (ahead.Page x))
-anchor_on l from x c d e on goes top = on_goes l (seen.Words c) d e (part_at from ahead.Anchor) (part_at from (ahead.Page x)) on goes (refl, top)
-
-abbrev pub reached_by : Step → Glance → Reached
-reached_by Again glance = reached.Further ahead.Anchor
-reached_by (Right y) glance = reached.Further (ahead.Page y)
-reached_by (Down y) glance = reached.Further (ahead.Page y)
+abbrev pub reached_by : Descended → Glance → Reached
+reached_by (On e) glance = reached.Further e
 reached_by Here glance = reached.Leaf glance
 
-module _ (l : Layout) (from x : ℕ) (c : Page) (d : Mine) (h : Seat (Unit {0}) (View Mine)) (glance : Glance) (on : IsOn l d (part_at from (ahead.Page x))) (goes : Goes (seen.Words c) d (known h)) (reads : ReadsFrom h glance) (is : read_words h ≡ words_of c) where
-  stands : (stage : PartStage) → Takes (listing from (At x)) (seen.Words c) (listing from stage) → IsOn l (known h) (listing from stage)
-  stands stage takes = on_goes l (seen.Words c) d (known h) (listing from (At x)) (listing from stage) on goes takes
-
-  pub page_reached : (o : Step) → Leads c from 0 o → HasReached from l h (reached_by o glance)
-  page_reached Again leads = stands AtAnchor (refl, leads)
-  page_reached (Right y) leads = stands (At y) (refl, inl leads)
-  page_reached (Down y) leads = stands (At y) (refl, inr leads)
-  page_reached Here leads =
-      let part = part_some c from leads in
-      (reads, record { page = c; is = is; leads = leads; rows = part.0; lists = part.1; state = (stands (Ending part.0) (refl, (leads, part.1))).state }, on_after l (seen.Words c) d (known h) (listing from (At x)) on goes)
+pub page_reached : (l : Layout) (from : ℕ) (a : Descent) (c : Page) (d : Mine) (h : Seat (Unit {0}) (View Mine)) (glance : Glance) → IsOn l d (part_at from a) → Goes (seen.Words c) d (known h) → ReadsFrom h glance → read_words h ≡ words_of c → (o : Descended) → Descends from a c o → HasReached from l h (reached_by o glance)
+page_reached l from a c d h glance on goes reads is (On e) t = on_goes l (seen.Words c) d (known h) (part_at from a) (part_at from e) on goes (refl, t)
+page_reached l from a c d h glance on goes reads is Here t =
+    let leads = here_leads from a c t in
+    let part = part_some c from leads in
+    let at_leaf : IsOn l (known h) (listing from (Ending part.0)) = on_goes l (seen.Words c) d (known h) (part_at from a) (listing from (Ending part.0)) on goes (refl, (t, part.1)) in
+    (reads, record { page = c; is = is; leads = leads; rows = part.0; lists = part.1; state = at_leaf.state }, on_after l (seen.Words c) d (known h) (part_at from a) on goes)
 
 -- ---- a part that has its leaf, and has ended
 

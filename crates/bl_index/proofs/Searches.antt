@@ -10,7 +10,7 @@ use Rattle.bl_proc.specs.declared.kinds.Proc.{Proc}
 use Rattle.bl_proc.specs.declared.kinds.Proc.TheVariants.{Find}
 use Rattle.bl_proc.specs.declared.searching.Find.{Find as FindState}
 use Rattle.bl_proc.specs.declared.searching.FindStage.{FindStage}
-use Rattle.bl_proc.specs.declared.searching.FindStage.TheVariants.{New, AtAnchor, At, Ending, Over}
+use Rattle.bl_proc.specs.declared.searching.FindStage.TheVariants.{New, Descending, Ending, Over}
 use Rattle.bl_proc.specs.Searches.{FindGoes}
 use Rattle.bl_proc_bounds.specs.Searches.{IsSearch, IsUnderWay}
 use Rattle.bl_proc_invariant.specs.Knowing.{Run, bare as know, know_of, know_find, found, found_reply, end_of_proc}
@@ -25,16 +25,10 @@ use Rattle.bl_index.proofs.Silent.{IsSilent, may_give_up}
 
 -- a search that goes on is where it may get a page
 pub searches_on : (key : ℕ) (old new : FindStage) (c : Page) → IsSearching old → FindGoes key old (seen.Words c) new → ((v : Option ℕ) → new ≢ Ending v) → IsSearching new
-searches_on key AtAnchor New c is t ne = absurd t
-searches_on key AtAnchor AtAnchor c is t ne = absurd t
-searches_on key AtAnchor (At y) c is t ne = tt
-searches_on key AtAnchor (Ending v) c is t ne = absurd t
-searches_on key AtAnchor (Over v) c is t ne = absurd t
-searches_on key (At x) New c is t ne = absurd t
-searches_on key (At x) AtAnchor c is t ne = tt
-searches_on key (At x) (At y) c is t ne = tt
-searches_on key (At x) (Ending v) c is t ne = absurd (ne v refl)
-searches_on key (At x) (Over v) c is t ne = absurd t
+searches_on key (Descending d) New c is t ne = absurd t
+searches_on key (Descending d) (Descending e) c is t ne = tt
+searches_on key (Descending d) (Ending v) c is t ne = absurd (ne v refl)
+searches_on key (Descending d) (Over v) c is t ne = absurd t
 searches_on key New new c is t ne = absurd is
 searches_on key (Ending v) new c is t ne = absurd is
 searches_on key (Over v) new c is t ne = absurd is
@@ -43,8 +37,7 @@ pub knows : (p : FindState) (r : Run) → r.state ≡ Find p → know r ≡ know
 knows p r e = ap (know_of r.got r.child r.time) e
 
 silent : (key : ℕ) (a : FindStage) → IsSearching a → IsSilent (know_find key a)
-silent key AtAnchor is = record { busy = refl; silent = refl; empty = refl; no_middle = refl }
-silent key (At x) is = record { busy = refl; silent = refl; empty = refl; no_middle = refl }
+silent key (Descending d) is = record { busy = refl; silent = refl; empty = refl; no_middle = refl }
 silent key New is = absurd is
 silent key (Ending v) is = absurd is
 silent key (Over v) is = absurd is
@@ -52,19 +45,8 @@ silent key (Over v) is = absurd is
 pub find_may_give_up : (p : FindState) (state : Proc) → state ≡ Find p → IsSearching p.stage → MayGiveUp state
 find_may_give_up p state e is = may_give_up state (Find p) e tt (λ got child time. silent p.key p.stage is)
 
--- and it is under way
-finds_on : (p : FindState) → IsSearching p.stage → IsUnderWay (Find p)
-finds_on p is = by_stage p p.stage refl is
-  where
-    by_stage : (p : FindState) (a : FindStage) → p.stage ≡ a → IsSearching p.stage → IsUnderWay (Find p)
-    by_stage p New e is = absurd (rw e at is)
-    by_stage p AtAnchor e is = rw e tt
-    by_stage p (At x) e is = rw e tt
-    by_stage p (Ending v) e is = absurd (rw e at is)
-    by_stage p (Over v) e is = absurd (rw e at is)
-
 pub find_under_way : (p : FindState) (state : Proc) → state ≡ Find p → IsSearching p.stage → IsUnderWay state
-find_under_way p state e is = subst IsUnderWay (sym e) (finds_on p is)
+find_under_way p state e is = subst IsUnderWay (sym e) is
 
 pub find_is_search : (p : FindState) (state : Proc) → state ≡ Find p → IsSearch state
 find_is_search p state e = subst IsSearch (sym e) tt

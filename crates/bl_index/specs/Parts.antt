@@ -5,10 +5,11 @@ use Rattle.bl_layout.specs.declared.layout.Layout.{Layout}
 use Rattle.bl_page.specs.declared.page.Page.{Page}
 use Rattle.bl_page.specs.Words.{words_of}
 use Rattle.bl_proc_base.specs.declared.onwards.Step.TheVariants.{Here}
+use Rattle.bl_proc_base.specs.declared.descent.Descent.{Descent}
 use Rattle.bl_proc_base.specs.Onwards.{Leads}
 use Rattle.bl_proc.specs.declared.parts.PartRows.{PartRows}
 use Rattle.bl_proc.specs.declared.parts.PartStage.{PartStage}
-use Rattle.bl_proc.specs.declared.parts.PartStage.TheVariants.{AtAnchor, At, Ending}
+use Rattle.bl_proc.specs.declared.parts.PartStage.TheVariants.{Descending, Ending}
 use Rattle.bl_proc.specs.declared.kinds.Proc.{Proc}
 use Rattle.bl_proc.specs.declared.kinds.Proc.TheVariants as proc
 use Rattle.bl_proc.specs.Parts.{IsPartOf}
@@ -17,8 +18,6 @@ use Rattle.bl_store.specs.declared.view.View.{View}
 use Rattle.bl_store.specs.Hands.{known, read_words, IsIdle, IsRunning, ReadsFrom}
 use Rattle.bl_index_rule.specs.declared.known.Mine.{Mine}
 use Rattle.bl_claims.specs.Seeing.{IsSeen}
-use Rattle.bl_index.specs.declared.listing.Ahead.{Ahead}
-use Rattle.bl_index.specs.declared.listing.Ahead.TheVariants as ahead
 use Rattle.bl_index.specs.declared.listing.Reached.{Reached}
 use Rattle.bl_index.specs.declared.listing.Reached.TheVariants as reached
 use Rattle.bl_index.specs.Calls.{RunsOut}
@@ -27,10 +26,9 @@ use Rattle.bl_index.specs.Runs.{IsOn, IsSince, IsWithin, IsAtLast}
 abbrev pub listing : ℕ → PartStage → Proc
 listing from stage = proc.Part (record { from = from; stage = stage })
 
--- a part that is to get that page
-abbrev pub part_at : ℕ → Ahead → Proc
-part_at from ahead.Anchor = listing from AtAnchor
-part_at from (ahead.Page x) = listing from (At x)
+-- a part that has come so far on its way
+abbrev pub part_at : ℕ → Descent → Proc
+part_at from d = listing from (Descending d)
 
 -- The part has got its leaf, which has these words, and is to end with its rows.
 pub record IsAtLeaf (from : ℕ) (words : List ℕ) (d : Mine) : Type 0 where

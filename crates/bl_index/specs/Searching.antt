@@ -3,14 +3,11 @@ use Rattle.std.specs.Prelude.{Option, None, Some}
 use Rattle.bl_proc_base.specs.declared.answers.Answer.{Answer}
 use Rattle.bl_proc_base.specs.declared.answers.Answer.TheVariants.{Op, Post, Compress, Reclaim}
 use Rattle.bl_proc.specs.declared.searching.FindStage.{FindStage}
-use Rattle.bl_proc.specs.declared.searching.FindStage.TheVariants.{New, AtAnchor, At, Ending, Over}
+use Rattle.bl_proc_bounds.specs.Paces.{find_place}
+use Rattle.bl_proc_bounds.specs.Searches.{IsGoing}
 
 abbrev pub IsSearching : FindStage → Type 0
-IsSearching New = ⊥
-IsSearching AtAnchor = Unit {0}
-IsSearching (At x) = Unit {0}
-IsSearching (Ending v) = ⊥
-IsSearching (Over v) = ⊥
+IsSearching stage = IsGoing (find_place stage)
 
 -- the answer of a post
 abbrev pub IsPostAnswer : Option Answer → Type 0

@@ -37,8 +37,7 @@ fn page_of(stage: FindStage) -> u32
     ensures { find_next_in stage ≡ act.Get result }
 {
     match stage {
-        FindStage::AtAnchor => 0,
-        FindStage::At(page) => page,
+        FindStage::Descending(descent) => descent.page(),
         _ => unreachable!(),
     }
 }

@@ -5,6 +5,8 @@ ghost use Rattle.bl_model.specs.declared.operation.Op.TheVariants as op;
 ghost use Rattle.bl_page.specs.Machine.Act.{Get};
 ghost use Rattle.bl_proc_base.specs.declared.acts.Action.TheVariants as act;
 ghost use Rattle.bl_proc_base.specs.declared.acts.Seen.TheVariants as seen;
+ghost use Rattle.bl_proc_base.specs.declared.descent.Descent.TheVariants as descent;
+ghost use Rattle.bl_proc_base.specs.Descents.{descent_page};
 ghost use Rattle.bl_proc.specs.declared.parts.PartStage.TheVariants as part_stage;
 ghost use Rattle.bl_proc.specs.Processes.{next_of};
 ghost use Rattle.bl_proc_unique.specs.Courses.{GoesOn};
@@ -12,7 +14,6 @@ ghost use Rattle.bl_store.specs.Hands.{known, IsIdle, IsRunning, IsSameHand, IsS
 ghost use Rattle.bl_store.specs.Owners.{IsHandOf};
 ghost use Rattle.bl_claims.specs.Seeing.{IsSeen};
 ghost use Rattle.bl_index_rule.specs.Told.{Begins, Steps, ends, IsUnborn};
-ghost use Rattle.bl_index.specs.declared.listing.Ahead.TheVariants as ahead;
 ghost use Rattle.bl_index.specs.Runs.{IsOn, IsSince, IsWithin};
 ghost use Rattle.bl_index.specs.Parts.{listing, part_at, IsAtLeaf, HasReached, HasLeaf, HasGivenUp};
 
@@ -22,22 +23,15 @@ use crate::leaf_rows::{next_in, rows_in};
 use crate::shown::Shown;
 use bl_index_rule::{Began, Ended, Launch, Mine};
 use bl_model::Reply;
-use bl_proc_base::{Step, step_in, top_in};
+use bl_proc_base::{Descended, Descent};
 use bl_store::{Glance, Hand};
 use std::marker::Brand;
-
-/// The page that a part is to get next.
-#[derive(Clone, Copy)]
-pub(crate) enum Ahead {
-    Anchor,
-    Page(u32),
-}
 
 /// Where a part has come by a get.
 #[derive(Clone, Copy)]
 pub(crate) enum Reached {
     /// It is to get another page.
-    Further(Ahead),
+    Further(Descent),
     /// It has its leaf, whose rows it lists.
     Leaf(Glance),
 }
@@ -104,67 +98,31 @@ impl Index {
         requires idle { IsIdle hand.old.seat }
         ensures same { IsSameHand hand.old.seat hand.new.seat × IsSameStock hand.old.seat hand.new.seat }
         ensures running { IsRunning hand.new.seat }
-        ensures process { IsOn self.now.store.layout (known hand.new.seat) (part_at from ahead.Anchor) }
+        ensures process { IsOn self.now.store.layout (known hand.new.seat) (part_at from descent.AtAnchor) }
         ensures begun { IsSince hand.old.number (known hand.old.seat) (known hand.new.seat) }
         ensures told { Begins hand.old.number self.now.store.layout.pages self.now.store.layout.passes (listing from part_stage.New) (known hand.old.seat) (known hand.new.seat) }
     {
         self.launch_part::<Brand>(hand, from);
     }
 
-    /// The part gets the anchor, and goes on by its words.
+    /// The part gets the page that is next, and goes on by its words.
     #[inline(always)]
-    fn list_anchor(&self, hand: &mut Hand<Mine>, from: u64) -> u32
+    fn list_on(&self, hand: &mut Hand<Mine>, from: u64, descent: Descent) -> Reached
         requires own { IsHandOf self.now.store hand.old }
         requires running { IsRunning hand.old.seat }
-        requires process { IsOn self.now.store.layout (known hand.old.seat) (part_at from ahead.Anchor) }
+        requires process { IsOn self.now.store.layout (known hand.old.seat) (part_at from descent) }
         ensures same { IsSameHand hand.old.seat hand.new.seat × IsSameStage hand.old.seat hand.new.seat × IsSameStock hand.old.seat hand.new.seat }
-        ensures process { IsOn self.now.store.layout (known hand.new.seat) (part_at from (ahead.Page result)) }
-        ensures got { Steps (Get 0) (known hand.old.seat) (known hand.new.seat) }
+        ensures reached { HasReached from self.now.store.layout hand.new.seat result }
+        ensures got { Steps (Get (descent_page descent)) (known hand.old.seat) (known hand.new.seat) }
     {
-        let _ = from;
-        let glance = self.look(hand, 0);
+        let glance = self.look(hand, descent.page());
         let shown = Shown {
             store: &self.store,
             glance,
         };
-        top_in(&shown, hand)
-    }
-
-    /// The part gets the page, and goes on by its words.
-    #[inline(always)]
-    fn list_page(&self, hand: &mut Hand<Mine>, from: u64, page: u32) -> Reached
-        requires own { IsHandOf self.now.store hand.old }
-        requires running { IsRunning hand.old.seat }
-        requires process { IsOn self.now.store.layout (known hand.old.seat) (part_at from (ahead.Page page)) }
-        ensures same { IsSameHand hand.old.seat hand.new.seat × IsSameStage hand.old.seat hand.new.seat × IsSameStock hand.old.seat hand.new.seat }
-        ensures reached { HasReached from self.now.store.layout hand.new.seat result }
-        ensures got { Steps (Get page) (known hand.old.seat) (known hand.new.seat) }
-    {
-        let glance = self.look(hand, page);
-        let shown = Shown {
-            store: &self.store,
-            glance,
-        };
-        match step_in(&shown, hand, &mut 0, from, 0) {
-            Step::Again => Reached::Further(Ahead::Anchor),
-            Step::Right(next) | Step::Down(next) => Reached::Further(Ahead::Page(next)),
-            Step::Here => Reached::Leaf(glance),
-        }
-    }
-
-    /// The part gets the page that is next.
-    #[inline(always)]
-    fn list_on(&self, hand: &mut Hand<Mine>, from: u64, ahead: Ahead) -> Reached
-        requires own { IsHandOf self.now.store hand.old }
-        requires running { IsRunning hand.old.seat }
-        requires process { IsOn self.now.store.layout (known hand.old.seat) (part_at from ahead) }
-        ensures same { IsSameHand hand.old.seat hand.new.seat × IsSameStage hand.old.seat hand.new.seat × IsSameStock hand.old.seat hand.new.seat }
-        ensures reached { HasReached from self.now.store.layout hand.new.seat result }
-        ensures got { (x : ℕ) × Steps (Get x) (known hand.old.seat) (known hand.new.seat) }
-    {
-        match ahead {
-            Ahead::Anchor => Reached::Further(Ahead::Page(self.list_anchor(hand, from))),
-            Ahead::Page(page) => self.list_page(hand, from, page),
+        match descent.took_words(&shown, hand, from) {
+            Descended::On(next) => Reached::Further(next),
+            Descended::Here => Reached::Leaf(glance),
         }
     }
 
@@ -182,10 +140,10 @@ impl Index {
         ensures came { MatchOption result (HasGivenUp self.now.store.layout hand.old.number turns (known hand.old.seat) hand.new.seat) (HasLeaf self.now.store.layout hand.old.number from (known hand.old.seat) hand.new.seat) }
     {
         self.begin_part(hand, from);
-        let mut ahead = Ahead::Anchor;
+        let mut descent = Descent::AtAnchor;
         for _turn in 0..turns {
-            match self.list_on(hand, from, ahead) {
-                Reached::Further(next) => ahead = next,
+            match self.list_on(hand, from, descent) {
+                Reached::Further(next) => descent = next,
                 Reached::Leaf(glance) => return Some(glance),
             }
         }

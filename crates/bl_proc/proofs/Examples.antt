@@ -10,6 +10,7 @@ use Rattle.bl_proc_base.specs.declared.answers.Posted.TheVariants as posted
 use Rattle.bl_proc_base.specs.declared.answers.Hint.TheVariants as hint
 use Rattle.bl_model.specs.declared.operation.Reply.TheVariants as reply
 use Rattle.bl_proc_base.specs.declared.onwards.Step.TheVariants as onward
+use Rattle.bl_proc_base.specs.declared.descent.Descent.TheVariants as descent
 use Rattle.bl_proc.specs.declared.searching.FindStage.TheVariants as find
 use Rattle.bl_proc_base.specs.declared.approaching.Approach.TheVariants as approach
 use Rattle.bl_proc_base.specs.declared.approaching.Approached.TheVariants as came
@@ -75,10 +76,10 @@ low_above_key : Leads right_leaf 5 0 onward.Again
 low_above_key = ((λ h. h), λ h. inl (omega arith))
 
 -- a search for 12, and what it answers
-find_goes_right : FindGoes 12 (find.At 1) (seen.Words left_leaf) (find.At 2)
+find_goes_right : FindGoes 12 (find.Descending (descent.At 1)) (seen.Words left_leaf) (find.Descending (descent.At 2))
 find_goes_right = inl leaf_leads_right
 
-find_ends : FindGoes 12 (find.At 2) (seen.Words right_leaf) (find.Ending (Some 120))
+find_ends : FindGoes 12 (find.Descending (descent.At 2)) (seen.Words right_leaf) (find.Ending (Some 120))
 find_ends = (leaf_is_here, refl)
 
 found_it : found_answer (Some 120) ≡ answer.Op (reply.Found 120) None

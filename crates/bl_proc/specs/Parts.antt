@@ -13,14 +13,13 @@ use Rattle.bl_proc_base.specs.declared.acts.Seen.{Seen}
 use Rattle.bl_proc_base.specs.declared.acts.Seen.TheVariants as seen
 use Rattle.bl_proc_base.specs.declared.answers.Answer.{Answer}
 use Rattle.bl_proc_base.specs.declared.answers.Answer.TheVariants.{Op}
-use Rattle.bl_proc_base.specs.declared.onwards.Step.TheVariants.{Here}
-use Rattle.bl_proc.specs.declared.searching.FindStage.TheVariants as find
+use Rattle.bl_proc_base.specs.declared.descent.Descent.TheVariants.{AtAnchor}
+use Rattle.bl_proc_base.specs.declared.descent.Descended.TheVariants.{On, Here}
 use Rattle.bl_proc.specs.declared.parts.Part.{Part}
 use Rattle.bl_proc.specs.declared.parts.PartRows.{PartRows}
 use Rattle.bl_proc.specs.declared.parts.PartStage.{PartStage}
-use Rattle.bl_proc.specs.declared.parts.PartStage.TheVariants.{New, AtAnchor, At, Ending, Over}
-use Rattle.bl_proc_base.specs.Onwards.{Leads}
-use Rattle.bl_proc.specs.Searches.{FindGoes}
+use Rattle.bl_proc.specs.declared.parts.PartStage.TheVariants.{New, Descending, Ending, Over}
+use Rattle.bl_proc_base.specs.Descents.{descent_next, Descends}
 
 -- The next part begins where the page ends. Past a page without a bound there is none.
 abbrev pub GoesOnAt : ℕ → Next → Type 0
@@ -35,25 +34,21 @@ pub record IsPartOf (c : Page) (from : ℕ) (part : PartRows) : Type 0 where
 -- An ended process has no next action: it is not asked for one.
 abbrev pub part_next_in : PartStage → Action
 part_next_in New = act.Begin
-part_next_in AtAnchor = act.Get 0
-part_next_in (At x) = act.Get x
+part_next_in (Descending d) = descent_next d
 part_next_in (Ending part) = act.End
 part_next_in (Over part) = act.End
 
 abbrev pub part_answer_in : PartStage → Option Answer
 part_answer_in New = None
-part_answer_in AtAnchor = None
-part_answer_in (At x) = None
+part_answer_in (Descending d) = None
 part_answer_in (Ending part) = None
 part_answer_in (Over part) = Some (Op (reply.Rows part.rows part.next) None)
 
--- It goes down as a search for its first key does, until a leaf covers that key; that leaf gives the part.
+-- It descends to the leaf that covers its first key, which gives the part.
 abbrev pub PartGoes : ℕ → PartStage → Seen → PartStage → Type 0
-PartGoes from New seen.Done AtAnchor = FindGoes from find.New seen.Done find.AtAnchor
-PartGoes from AtAnchor (seen.Words c) (At x) = FindGoes from find.AtAnchor (seen.Words c) (find.At x)
-PartGoes from (At x) (seen.Words c) AtAnchor = FindGoes from (find.At x) (seen.Words c) find.AtAnchor
-PartGoes from (At x) (seen.Words c) (At y) = FindGoes from (find.At x) (seen.Words c) (find.At y)
-PartGoes from (At x) (seen.Words c) (Ending part) = Leads c from 0 Here × IsPartOf c from part
+PartGoes from New seen.Done (Descending d) = d ≡ AtAnchor
+PartGoes from (Descending d) (seen.Words c) (Descending e) = Descends from d c (On e)
+PartGoes from (Descending d) (seen.Words c) (Ending part) = Descends from d c Here × IsPartOf c from part
 PartGoes from (Ending part) seen.Done (Over last) = last ≡ part
 PartGoes from old what new = ⊥
 

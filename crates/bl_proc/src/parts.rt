@@ -5,7 +5,6 @@ ghost use Rattle.bl_model.specs.Map.{ListsPairs};
 ghost use Rattle.bl_model.specs.Rows.{map_of};
 ghost use Rattle.bl_model.proofs.Parts.{IsPlaceOf};
 ghost use Rattle.bl_page.specs.Pairs.{RisesFrom, end_of};
-ghost use Rattle.bl_proc_base.specs.declared.acts.Seen.TheVariants as seen;
 ghost use Rattle.bl_proc_base.specs.declared.onwards.Step.TheVariants as onward;
 ghost use Rattle.bl_proc.specs.declared.parts.PartStage.TheVariants as part_stage;
 ghost use Rattle.bl_proc_base.specs.Given.{Gives};
@@ -15,9 +14,7 @@ ghost use Rattle.bl_proc.specs.Parts.{GoesOnAt, IsPartOf, part_next_in, part_ans
 use arrayvec::ArrayVec;
 use bl_model::{Next, Reply};
 use bl_page::{Page, Pairs, Words};
-use bl_proc_base::{
-    Action, Answer, Process, Reader, Seen, Step, step_in, took_page, top_in, top_page, way_from,
-};
+use bl_proc_base::{Action, Answer, Descended, Descent, Process, Reader, Seen, took_page};
 use std::mem;
 
 /// A process that lists the pairs of one leaf from a key on.
@@ -33,10 +30,8 @@ pub struct Part {
 pub enum PartStage {
     /// It is to begin.
     New,
-    /// It is to get the anchor.
-    AtAnchor,
-    /// It is to get that page.
-    At(u32),
+    /// It is on its way to the leaf that covers its key.
+    Descending(Descent),
     /// It is to end, with these rows.
     Ending(PartRows),
     /// It has ended, with these rows.
@@ -104,26 +99,17 @@ fn part_of(page: &Page, from: u64) -> PartRows
     }
 }
 
-/// From a page that was got.
-fn went_on(from: u64, at: u32, page: &Page) -> PartStage
-    ensures { PartGoes from (part_stage.At at) (seen.Words page.now) result }
-{
-    match way_from(page, from, 0) {
-        Step::Again => PartStage::AtAnchor,
-        Step::Right(next) | Step::Down(next) => PartStage::At(next),
-        Step::Here => PartStage::Ending(part_of(page, from)),
-    }
-}
-
 fn went(from: u64, stage: PartStage, seen: &Seen) -> PartStage
     requires running { part_answer_in stage ≡ None }
     requires given { Gives (part_next_in stage) None seen.now }
     ensures { PartGoes from stage seen.now result }
 {
     match (stage, seen) {
-        (PartStage::New, Seen::Done) => PartStage::AtAnchor,
-        (PartStage::AtAnchor, Seen::Words(anchor)) => PartStage::At(top_page(anchor)),
-        (PartStage::At(at), Seen::Words(page)) => went_on(from, at, page),
+        (PartStage::New, Seen::Done) => PartStage::Descending(Descent::AtAnchor),
+        (PartStage::Descending(descent), Seen::Words(page)) => match descent.took(from, page) {
+            Descended::On(next) => PartStage::Descending(next),
+            Descended::Here => PartStage::Ending(part_of(page, from)),
+        },
         (PartStage::Ending(part), Seen::Done) => PartStage::Over(part),
         _ => unreachable!(),
     }
@@ -164,8 +150,7 @@ impl Process for Part {
     fn next(&self) -> Action {
         match &self.stage {
             PartStage::New => Action::Begin,
-            PartStage::AtAnchor => Action::Get(0),
-            PartStage::At(page) => Action::Get(*page),
+            PartStage::Descending(descent) => descent.next(),
             PartStage::Ending(_) | PartStage::Over(_) => Action::End,
         }
     }
@@ -195,11 +180,9 @@ impl Reader for Part {
     #[inline(always)]
     fn took_words<W: Words>(&mut self, source: &W, hand: &mut W::Hand) {
         match &self.stage {
-            PartStage::AtAnchor => self.stage = PartStage::At(top_in(source, hand)),
-            PartStage::At(_) => match step_in(source, hand, &mut 0, self.from, 0) {
-                Step::Again => self.stage = PartStage::AtAnchor,
-                Step::Right(next) | Step::Down(next) => self.stage = PartStage::At(next),
-                Step::Here => took_page(self, source, hand),
+            PartStage::Descending(descent) => match descent.took_words(source, hand, self.from) {
+                Descended::On(next) => self.stage = PartStage::Descending(next),
+                Descended::Here => took_page(self, source, hand),
             },
             _ => unreachable!(),
         }

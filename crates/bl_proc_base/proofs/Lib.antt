@@ -1,3 +1,4 @@
+pub mod Descents
 pub mod Spellings
 pub mod Shifts
 pub mod Respellings

@@ -3,6 +3,7 @@ pub mod Props
 pub mod Onwards
 pub mod Approaches
 pub mod Changes
+pub mod Descents
 pub mod Growths
 pub mod Hints
 pub mod Thin

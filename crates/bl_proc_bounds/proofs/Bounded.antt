@@ -16,11 +16,11 @@ use Rattle.bl_proc.specs.declared.kinds.Proc.TheVariants as proc
 use Rattle.bl_proc_invariant.specs.Knowing.{Run, know_find, know_part, know_of, bare}
 use Rattle.bl_proc_invariant.proofs.Starting.{with_proc}
 use Rattle.bl_claims.specs.Bounds.{gets_in, puts_in, IsWithinBound, IsBelowBound}
-use Rattle.bl_proc_bounds.specs.Searches.{IsSearch, IsUnderWay}
+use Rattle.bl_proc_bounds.specs.Searches.{IsSearch, IsGoing, IsUnderWay}
 use Rattle.bl_proc_bounds.proofs.Counts.{own_gets_own, within_none}
 use Rattle.bl_proc_bounds.proofs.Ahead.{ahead_some}
-use Rattle.bl_proc_bounds.specs.Paces.{find_place, part_place, place_of, sought, IsKept, AllPaced}
-use Rattle.bl_proc_bounds.specs.Paces.Place.{Nowhere}
+use Rattle.bl_proc_bounds.specs.Paces.{Place, find_place, part_place, place_of, sought, IsKept, AllPaced}
+use Rattle.bl_proc_bounds.specs.Paces.Place.{Nowhere, Going}
 use Rattle.bl_proc_bounds.proofs.Keeping.{Knows, knows, IsKeptThen, stays, then_paced}
 
 -- A turn at which the process stays as it is, and neither gets nor puts.
@@ -77,15 +77,13 @@ not_begun w p g phase = (let none : IsPhase w.trail p Waiting = subst (IsPhase w
 
 find_within : (w : World Run) (p : Name) (k : ℕ) (a : FindStage) → IsGood bare w → Knows w p k (find_place a) → IsKept w.size w.now.contents w.trail p k (find_place a) → IsWithinBound w.size p w.trail
 find_within w p k find.New g is h = not_begun w p g is.0
-find_within w p k find.AtAnchor g is h = h.within
-find_within w p k (find.At x) g is h = h.within
+find_within w p k (find.Descending d) g is h = h.within
 find_within w p k (find.Ending v) g is h = h.within
 find_within w p k (find.Over v) g is h = h.within
 
 part_within : (w : World Run) (p : Name) (k : ℕ) (a : PartStage) → IsGood bare w → Knows w p k (part_place a) → IsKept w.size w.now.contents w.trail p k (part_place a) → IsWithinBound w.size p w.trail
 part_within w p k part.New g is h = not_begun w p g is.0
-part_within w p k part.AtAnchor g is h = h.within
-part_within w p k (part.At x) g is h = h.within
+part_within w p k (part.Descending d) g is h = h.within
 part_within w p k (part.Ending r) g is h = h.within
 part_within w p k (part.Over r) g is h = h.within
 
@@ -98,21 +96,10 @@ within_of w p old g is h s = absurd s
 pub search_within : (w : World Run) (p : Name) → IsGood bare w → AllPaced w → IsSearch (w.proc p).state → IsWithinBound w.size p w.trail
 search_within w p g all s = within_of w p (w.proc p).state g (knows w p g) (all p) s
 
-find_below : (w : World Run) (p : Name) (k : ℕ) (a : FindStage) → IsKept w.size w.now.contents w.trail p k (find_place a) → IsUnderWay (proc.Find (record { key = k; stage = a })) → IsBelowBound w.size p w.trail
-find_below w p k find.AtAnchor h s = (let enough = h.enough in let some = h.ahead.2 in omega arith)
-find_below w p k (find.At x) h s = (let enough = h.enough in let some = ahead_some w.now.contents k x h.left h.ahead in omega arith)
-find_below w p k old h s = absurd s
-
-part_below : (w : World Run) (p : Name) (k : ℕ) (a : PartStage) → IsKept w.size w.now.contents w.trail p k (part_place a) → IsUnderWay (proc.Part (record { from = k; stage = a })) → IsBelowBound w.size p w.trail
-part_below w p k part.AtAnchor h s = (let enough = h.enough in let some = h.ahead.2 in omega arith)
-part_below w p k (part.At x) h s = (let enough = h.enough in let some = ahead_some w.now.contents k x h.left h.ahead in omega arith)
-part_below w p k old h s = absurd s
-
-below_of : (w : World Run) (p : Name) (a : Proc) → IsKept w.size w.now.contents w.trail p (sought a) (place_of a) → IsUnderWay a → IsBelowBound w.size p w.trail
-below_of w p (proc.Find a) h s = find_below w p a.key a.stage h s
-below_of w p (proc.Part a) h s = part_below w p a.from a.stage h s
-below_of w p old h s = absurd s
+below_at : (w : World Run) (p : Name) (k : ℕ) (place : Place) → IsKept w.size w.now.contents w.trail p k place → IsGoing place → IsBelowBound w.size p w.trail
+below_at w p k (Going d) h s = (let enough = h.enough in let some = ahead_some w.now.contents k d h.left h.ahead in omega arith)
+below_at w p k old h s = absurd s
 
 -- and below it, while it is to get another page
 pub search_below : (w : World Run) (p : Name) → AllPaced w → IsUnderWay (w.proc p).state → IsBelowBound w.size p w.trail
-search_below w p all s = below_of w p (w.proc p).state (all p) s
+search_below w p all s = below_at w p (sought (w.proc p).state) (place_of (w.proc p).state) (all p) s

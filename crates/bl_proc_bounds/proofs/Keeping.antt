@@ -7,14 +7,15 @@ use Rattle.bl_page.specs.Machine.{Name, State, Act, Changes}
 use Rattle.bl_page.specs.Machine.Act.{Begin, End, Get, Put, Take, Latch, Retire, Look, Release, Miss}
 use Rattle.bl_page.specs.Machine.Phase.{Waiting}
 use Rattle.bl_claims.specs.Nodes.{unbounded}
-use Rattle.bl_claims.specs.Pages.{roots_of}
 use Rattle.bl_claims.specs.Trails.{Mark, IsPhase}
+use Rattle.bl_claims.specs.Walks.{Each}
 use Rattle.bl_core.proofs.Pushes.{name_cases}
-use Rattle.bl_core.specs.Worlds.{World, MayGet, IsSure, IsGood, Extends}
+use Rattle.bl_core.specs.Worlds.{World, IsGoes, IsSure, IsGood, Extends}
 use Rattle.bl_proc_base.specs.declared.acts.Seen.{Seen}
 use Rattle.bl_proc_base.specs.declared.acts.Seen.TheVariants as seen
-use Rattle.bl_proc_base.specs.declared.onwards.Step.TheVariants as onward
-use Rattle.bl_proc_base.specs.Onwards.{top_of, Leads}
+use Rattle.bl_proc_base.specs.declared.descent.Descent.TheVariants.{AtAnchor}
+use Rattle.bl_proc_base.specs.declared.descent.Descended.TheVariants as descended
+use Rattle.bl_proc_base.specs.Descents.{descent_page, Descends}
 use Rattle.bl_proc.specs.declared.searching.FindStage.{FindStage}
 use Rattle.bl_proc.specs.declared.searching.FindStage.TheVariants as find
 use Rattle.bl_proc.specs.declared.parts.PartStage.{PartStage}
@@ -25,13 +26,14 @@ use Rattle.bl_proc.specs.Searches.{find_next_in, FindGoes}
 use Rattle.bl_proc.specs.Parts.{part_next_in, PartGoes}
 use Rattle.bl_proc.specs.Processes.{next_of, Takes}
 use Rattle.bl_proc_invariant.specs.Turns.{event_of, IsTold}
+use Rattle.bl_proc_invariant.specs.Tables.{descent_goes}
 use Rattle.bl_proc_invariant.specs.Knowing.{Run, know_find, know_part, know_of, bare, find_end, part_end, end_of_proc}
 use Rattle.bl_claims.specs.Bounds.{gets_in, puts_in}
 use Rattle.bl_proc_bounds.proofs.Counts.{own_gets, other_puts, own_gets_own, own_gets_other, other_puts_own, other_puts_other}
-use Rattle.bl_proc_bounds.specs.Paces.{IsAhead, Place, AreLeft, Spends, find_place, part_place, place_of, sought, IsKept, AllPaced}
-use Rattle.bl_proc_bounds.specs.Paces.Place.{Nowhere, Before, Top, On, After}
-use Rattle.bl_proc_bounds.proofs.Ahead.{ahead_some, ahead_right, ahead_down, ahead_again}
-use Rattle.bl_proc_bounds.proofs.Reach.{top_near, page_near}
+use Rattle.bl_proc_bounds.specs.Paces.{Place, AreLeft, Spends, find_place, part_place, place_of, sought, IsKept, AllPaced}
+use Rattle.bl_proc_bounds.specs.Paces.Place.{Nowhere, Before, Going, After}
+use Rattle.bl_proc_bounds.proofs.Ahead.{ahead_some, ahead_on}
+use Rattle.bl_proc_bounds.proofs.Reach.{anchor_near, descent_near}
 use Rattle.bl_proc_bounds.proofs.Spending.{spends_still, spends_put, spends_get, spends_begin}
 
 -- What a good world knows of a search
@@ -39,21 +41,18 @@ use Rattle.bl_proc_bounds.proofs.Spending.{spends_still, spends_put, spends_get,
 abbrev pub Knows : World Run → Name → ℕ → Place → Type 0
 Knows w p k Nowhere = Unit {0}
 Knows w p k Before = (w.now.phase p ≡ Waiting) × (k < unbounded)
-Knows w p k Top = k < unbounded
-Knows w p k (On x) = MayGet w p x × (k < unbounded)
+Knows w p k (Going d) = Each (IsGoes w p) (descent_goes d) × (k < unbounded)
 Knows w p k After = Unit {0}
 
 find_knows : (w : World Run) (p : Name) (k : ℕ) (a : FindStage) → IsSure w p (know_find k a) → Knows w p k (find_place a)
 find_knows w p k find.New is = (is.stage, is.sound)
-find_knows w p k find.AtAnchor is = is.sound
-find_knows w p k (find.At x) is = (is.goes.0.may, is.sound)
+find_knows w p k (find.Descending d) is = (is.goes, is.sound)
 find_knows w p k (find.Ending v) is = tt
 find_knows w p k (find.Over v) is = tt
 
 part_knows : (w : World Run) (p : Name) (k : ℕ) (a : PartStage) → IsSure w p (know_part k a) → Knows w p k (part_place a)
 part_knows w p k part.New is = (is.stage, is.sound)
-part_knows w p k part.AtAnchor is = is.sound
-part_knows w p k (part.At x) is = (is.goes.0.may, is.sound)
+part_knows w p k (part.Descending d) is = (is.goes, is.sound)
 part_knows w p k (part.Ending r) is = tt
 part_knows w p k (part.Over r) is = tt
 
@@ -73,24 +72,20 @@ knows w p g = knows_of w p (w.proc p).got (w.proc p).child (w.proc p).time (w.pr
 
 abbrev PlaceGoes : ℕ → Place → Seen → Place → Type 0
 PlaceGoes k Nowhere what Nowhere = Unit {0}
-PlaceGoes k Before seen.Done Top = Unit {0}
-PlaceGoes k Top (seen.Words c) (On x) = x ≡ top_of (roots_of c)
-PlaceGoes k (On x) (seen.Words c) Top = Leads c k 0 onward.Again
-PlaceGoes k (On x) (seen.Words c) (On y) = Leads c k 0 (onward.Right y) ⊎ Leads c k 0 (onward.Down y)
-PlaceGoes k (On x) (seen.Words c) After = Unit {0}
+PlaceGoes k Before seen.Done (Going d) = d ≡ AtAnchor
+PlaceGoes k (Going d) (seen.Words c) (Going e) = Descends k d c (descended.On e)
+PlaceGoes k (Going d) (seen.Words c) After = Unit {0}
 PlaceGoes k After seen.Done After = Unit {0}
 PlaceGoes k old what new = ⊥
 
 abbrev PlaceAct : Place → Act Page Reply → Type 0
 PlaceAct Nowhere a = Unit {0}
 PlaceAct Before a = a ≡ Begin
-PlaceAct Top a = a ≡ Get 0
-PlaceAct (On x) a = a ≡ Get x
+PlaceAct (Going d) a = a ≡ Get (descent_page d)
 PlaceAct After a = (reply : Option Reply) × (a ≡ End reply)
 
 abbrev PlaceTold : (ℕ → Page) → Place → Seen → Type 0
-PlaceTold contents Top (seen.Words c) = c ≡ contents 0
-PlaceTold contents (On x) (seen.Words c) = c ≡ contents x
+PlaceTold contents (Going d) (seen.Words c) = c ≡ contents (descent_page d)
 PlaceTold contents place what = Unit {0}
 
 record Moved (contents : ℕ → Page) (k : ℕ) (old : Place) (what : Seen) (a : Act Page Reply) (new : Place) : Type 0 where
@@ -99,20 +94,16 @@ record Moved (contents : ℕ → Page) (k : ℕ) (old : Place) (what : Seen) (a 
   pub told : PlaceTold contents old what
 
 find_moved : (s : State Page) (size k : ℕ) (old : FindStage) (what : Seen) (new : FindStage) → FindGoes k old what new → IsTold s size (find_next_in old) what → Moved s.contents k (find_place old) what (event_of (find_end old) (find_next_in old) what) (find_place new)
-find_moved s size k find.New seen.Done find.AtAnchor h told = record { goes = tt; act = refl; told = tt }
-find_moved s size k find.AtAnchor (seen.Words c) (find.At x) h told = record { goes = h; act = refl; told = told }
-find_moved s size k (find.At x) (seen.Words c) find.AtAnchor h told = record { goes = h; act = refl; told = told }
-find_moved s size k (find.At x) (seen.Words c) (find.At y) h told = record { goes = h; act = refl; told = told }
-find_moved s size k (find.At x) (seen.Words c) (find.Ending v) h told = record { goes = tt; act = refl; told = told }
+find_moved s size k find.New seen.Done (find.Descending d) h told = record { goes = h; act = refl; told = tt }
+find_moved s size k (find.Descending d) (seen.Words c) (find.Descending e) h told = record { goes = h; act = refl; told = told }
+find_moved s size k (find.Descending d) (seen.Words c) (find.Ending v) h told = record { goes = tt; act = refl; told = told }
 find_moved s size k (find.Ending v) seen.Done (find.Over u) h told = record { goes = tt; act = (_, refl); told = tt }
 find_moved s size k old what new h told = absurd h
 
 part_moved : (s : State Page) (size k : ℕ) (old : PartStage) (what : Seen) (new : PartStage) → PartGoes k old what new → IsTold s size (part_next_in old) what → Moved s.contents k (part_place old) what (event_of (part_end old) (part_next_in old) what) (part_place new)
-part_moved s size k part.New seen.Done part.AtAnchor h told = record { goes = tt; act = refl; told = tt }
-part_moved s size k part.AtAnchor (seen.Words c) (part.At x) h told = record { goes = h; act = refl; told = told }
-part_moved s size k (part.At x) (seen.Words c) part.AtAnchor h told = record { goes = h; act = refl; told = told }
-part_moved s size k (part.At x) (seen.Words c) (part.At y) h told = record { goes = h; act = refl; told = told }
-part_moved s size k (part.At x) (seen.Words c) (part.Ending v) h told = record { goes = tt; act = refl; told = told }
+part_moved s size k part.New seen.Done (part.Descending d) h told = record { goes = h; act = refl; told = tt }
+part_moved s size k (part.Descending d) (seen.Words c) (part.Descending e) h told = record { goes = h; act = refl; told = told }
+part_moved s size k (part.Descending d) (seen.Words c) (part.Ending v) h told = record { goes = tt; act = refl; told = told }
 part_moved s size k (part.Ending v) seen.Done (part.Over u) h told = record { goes = tt; act = (_, refl); told = tt }
 part_moved s size k old what new h told = absurd h
 
@@ -167,21 +158,12 @@ module _ (w w' : World Run) (m : Mark) (b : Run) (e : Extends w w' m b) (g : IsG
   stays p k Nowhere none put sure h = tt
   stays p k Before none put sure h = tt
   stays p k After none put sure h = spends_still w.size w.now.contents w'.now.contents w.trail m p k After h none h.ahead
-  stays p k Top none put sure h = elim (put_cases m.event.act) [
-    | inl same ↦ spends_still w.size w.now.contents w'.now.contents w.trail m p k Top h none (subst (λ c. AreLeft c k Top h.left) (sym (unchanged same)) h.ahead)
+  stays p k (Going d) none put sure h = elim (put_cases m.event.act) [
+    | inl same ↦ spends_still w.size w.now.contents w'.now.contents w.trail m p k (Going d) h none (subst (λ c. AreLeft c k (Going d) h.left) (sym (unchanged same)) h.ahead)
     | inr changed ↦
-        let t = top_near bare w' g' k sure in
-        let few = t.few in
-        let some = g'.owned.small 0 (λ i. (let a = g'.tree.anchored in cc)) in
-        let size = e.size in
-        spends_put w.size w.now.contents w'.now.contents w.trail m p k Top h none (put changed) (suc t.gets) (omega arith) (t.gets, t.ahead, refl)
-  ]
-  stays p k (On x) none put sure h = elim (put_cases m.event.act) [
-    | inl same ↦ spends_still w.size w.now.contents w'.now.contents w.trail m p k (On x) h none (subst (λ c. AreLeft c k (On x) h.left) (sym (unchanged same)) h.ahead)
-    | inr changed ↦
-        let t = page_near bare w' g' k sure.1 p x sure.0 in
+        let t = descent_near bare w' g' k sure.1 p d sure.0 in
         let few : t.gets ≤ 2 * w.size = subst (λ n. t.gets ≤ 2 * n) e.size t.few in
-        spends_put w.size w.now.contents w'.now.contents w.trail m p k (On x) h none (put changed) t.gets few t.ahead
+        spends_put w.size w.now.contents w'.now.contents w.trail m p k (Going d) h none (put changed) t.gets few t.ahead
   ]
 
   -- its own get
@@ -193,28 +175,15 @@ module _ (w w' : World Run) (m : Mark) (b : Run) (e : Extends w w' m b) (g : IsG
   -- its own turn
   goes : (p : Name) (k : ℕ) (old : Place) (what : Seen) (new : Place) → m.event.process ≡ p → Moved w.now.contents k old what m.event.act new → Knows w p k old → IsKept w.size w.now.contents w.trail p k old → IsKeptThen p k new
   goes p k Nowhere what Nowhere own d sure h = tt
-  goes p k Before seen.Done Top own d sure h =
+  goes p k Before seen.Done (Going to) own d sure h =
       let phase : IsPhase w.trail p Waiting = subst (IsPhase w.trail p) sure.0 (g.recorded.phases p) in
-      let t = top_near bare w' g' k sure.1 in
-      let few = t.few in
-      let some = g'.owned.small 0 (λ i. (let a = g'.tree.anchored in cc)) in
-      let size = e.size in
-      spends_begin w.size w'.now.contents w.trail m p k Top (suc t.gets) own d.act phase.0 (omega arith) (t.gets, t.ahead, refl)
-  goes p k Top (seen.Words c) (On x) own d sure h =
-      let to : top_of (roots_of (w.now.contents 0)) ≡ x = ap (λ v. top_of (roots_of v)) (sym d.told) ∙ sym d.goes in
-      gets p k Top (On x) 0 h.ahead.0 own d.act h (let l = h.ahead.2 in omega arith) (subst (λ v. IsAhead w.now.contents k v h.ahead.0) to h.ahead.1)
-  goes p k (On x) (seen.Words c) Top own d sure h =
-      let r = ahead_again w.now.contents k x h.left (subst (λ v. Leads v k 0 onward.Again) d.told d.goes) h.ahead in
-      gets p k (On x) Top x (suc r.0) own d.act h (let l = r.1 in omega arith) (r.0, r.2, refl)
-  goes p k (On x) (seen.Words c) (On y) own d sure h = elim d.goes [
-    | inl i ↦
-        let r = ahead_right w.now.contents k x y h.left (subst (λ v. Leads v k 0 (onward.Right y)) d.told i) h.ahead in
-        gets p k (On x) (On y) x r.left own d.act h (let l = r.less in omega arith) r.ahead
-    | inr i ↦
-        let r = ahead_down w.now.contents k x y h.left (subst (λ v. Leads v k 0 (onward.Down y)) d.told i) h.ahead in
-        gets p k (On x) (On y) x r.left own d.act h (let l = r.less in omega arith) r.ahead
-  ]
-  goes p k (On x) (seen.Words c) After own d sure h = gets p k (On x) After x 0 own d.act h (ahead_some w.now.contents k x h.left h.ahead) refl
+      let t = anchor_near bare w' g' k sure.1 in
+      let few : t.gets ≤ w.size = subst (λ n. t.gets ≤ n) e.size t.few in
+      subst (λ v. IsKeptThen p k (Going v)) (sym d.goes) (spends_begin w.size w'.now.contents w.trail m p k (Going AtAnchor) t.gets own d.act phase.0 few t.ahead)
+  goes p k (Going from) (seen.Words c) (Going to) own d sure h =
+      let r = ahead_on w.now.contents k from to h.left (subst (λ v. Descends k from v (descended.On to)) d.told d.goes) h.ahead in
+      gets p k (Going from) (Going to) (descent_page from) r.left own d.act h (let l = r.less in omega arith) r.ahead
+  goes p k (Going from) (seen.Words c) After own d sure h = gets p k (Going from) After (descent_page from) 0 own d.act h (ahead_some w.now.contents k from h.left h.ahead) refl
   goes p k After seen.Done After own d sure h = spends_still w.size w.now.contents w'.now.contents w.trail m p k After h (own_gets_own p m own ∙ ap gets_in d.act.1) h.ahead
   goes p k old what new own d sure h = absurd d.goes
 

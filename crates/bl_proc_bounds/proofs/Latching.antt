@@ -24,7 +24,7 @@ use Rattle.bl_rearrange.specs.declared.sides.Side.{Side}
 use Rattle.bl_rearrange.specs.declared.sides.Side.TheVariants as side
 use Rattle.bl_proc_compress.specs.declared.compressing.Puts.{Puts}
 use Rattle.bl_proc_compress.specs.declared.compressing.Compression.{Compression}
-use Rattle.bl_proc_compress.specs.declared.compressing.Compression.TheVariants.{LatchingLeft, LatchedLeft, LatchingRight, LatchedRight, PuttingFirst, PuttingParent, PuttingLast, Retiring, OpeningRight, OpeningLeft, OpeningParent}
+use Rattle.bl_proc_compress.specs.declared.compressing.Compression.TheVariants.{LatchingLeft, LatchingRight, PuttingFirst, PuttingLast}
 use Rattle.bl_proc_compress.specs.declared.squeezing.CompressStage.{CompressStage}
 use Rattle.bl_proc_compress.specs.declared.squeezing.CompressStage.TheVariants as compress
 use Rattle.bl_proc_compress.specs.Compressions.{put_of, other, compression_next}
@@ -211,15 +211,13 @@ compress_few level key got old x marks e log h = absurd (cc e)
 
 find_looks : (a : FindStage) → ((x : ℕ) → find_next_in a ≢ act.Latch x) × (find_next_in a ≢ act.Take) × ((x : ℕ) (c : Page) → find_next_in a ≢ act.Put x c)
 find_looks find.New = (λ x e. cc, λ e. cc, λ x c e. cc)
-find_looks find.AtAnchor = (λ x e. cc, λ e. cc, λ x c e. cc)
-find_looks (find.At y) = (λ x e. cc, λ e. cc, λ x c e. cc)
+find_looks (find.Descending d) = (λ x e. cc, λ e. cc, λ x c e. cc)
 find_looks (find.Ending v) = (λ x e. cc, λ e. cc, λ x c e. cc)
 find_looks (find.Over v) = (λ x e. cc, λ e. cc, λ x c e. cc)
 
 part_looks : (a : PartStage) → ((x : ℕ) → part_next_in a ≢ act.Latch x) × (part_next_in a ≢ act.Take) × ((x : ℕ) (c : Page) → part_next_in a ≢ act.Put x c)
 part_looks part.New = (λ x e. cc, λ e. cc, λ x c e. cc)
-part_looks part.AtAnchor = (λ x e. cc, λ e. cc, λ x c e. cc)
-part_looks (part.At y) = (λ x e. cc, λ e. cc, λ x c e. cc)
+part_looks (part.Descending d) = (λ x e. cc, λ e. cc, λ x c e. cc)
 part_looks (part.Ending r) = (λ x e. cc, λ e. cc, λ x c e. cc)
 part_looks (part.Over r) = (λ x e. cc, λ e. cc, λ x c e. cc)
 

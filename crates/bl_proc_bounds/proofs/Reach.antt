@@ -14,13 +14,16 @@ use Rattle.bl_claims.specs.Pages.{node_of, roots_of, IsTreePage}
 use Rattle.bl_claims.specs.Walks.{Each, IsNoneOf, NoneTwice}
 use Rattle.bl_core_tree.proofs.LawsHold.{live}
 use Rattle.bl_core_tree.proofs.WalksEnd.{After, Walked, walk_from, at_most}
-use Rattle.bl_core.specs.Worlds.{Know, World, nodes, tree_of, was_in, MayGet, IsGood}
+use Rattle.bl_core.specs.Worlds.{Know, World, nodes, tree_of, was_in, MayGet, IsGoes, IsGood}
 use Rattle.bl_core.proofs.Steady.{free_not, fresh_not, anchored_not}
 use Rattle.bl_core.proofs.WorldLaws.{tree_page, all_sound}
 use Rattle.bl_proc_base.specs.declared.onwards.Step.TheVariants as onward
+use Rattle.bl_proc_base.specs.declared.descent.Descent.{Descent}
+use Rattle.bl_proc_base.specs.declared.descent.Descent.TheVariants.{AtAnchor, At}
 use Rattle.bl_proc_base.specs.Onwards.{top_of, Leads}
+use Rattle.bl_proc_invariant.specs.Tables.{descent_goes}
 use Rattle.bl_proc_bounds.specs.Paces.{IsAhead}
-use Rattle.bl_proc_bounds.specs.Paces.IsAhead.{On, Again}
+use Rattle.bl_proc_bounds.specs.Paces.IsAhead.{On}
 use Rattle.bl_proc_bounds.proofs.Ahead.{walk_ahead}
 
 -- a page that was in the tree is live or dead
@@ -73,7 +76,7 @@ record Buried (contents : ℕ → Page) (owner : ℕ → Owner) (status : ℕ �
   pub rest : List ℕ
   pub gets : ℕ
   pub more : ℕ
-  pub ahead : IsAhead contents k x gets
+  pub ahead : IsAhead contents k (At x) gets
   pub count : gets ≡ suc (length rest) + more
   pub few : more ≤ suc size
   pub dead : Each (λ y. status y ≡ Gone) rest
@@ -81,10 +84,10 @@ record Buried (contents : ℕ → Page) (owner : ℕ → Owner) (status : ℕ �
   pub alone : (q : Name) → owner x ≡ Held q → rest ≡ []
   pub once : NoneTwice (x ∷ rest)
 
--- so many gets are ahead of a search that is to get page x, at most so many
-pub record Near (contents : ℕ → Page) (k x most : ℕ) : Type 0 where
+-- so many gets are ahead of a search, at most so many
+pub record Near (contents : ℕ → Page) (k : ℕ) (d : Descent) (most : ℕ) : Type 0 where
   pub gets : ℕ
-  pub ahead : IsAhead contents k x gets
+  pub ahead : IsAhead contents k d gets
   pub few : gets ≤ most
 
 module _ {P : Type 0} (know : P → Know) (w : World P) (g : IsGood know w) (k : ℕ) (b : k < unbounded) where
@@ -104,11 +107,11 @@ module _ {P : Type 0} (know : P → Know) (w : World P) (g : IsGood know w) (k :
       ((live_other x v.begins, none_each (live (tree_of w)) 0 v.rest live_other v.lives), (none_of (nodes w.now) x v.rest v.after, v.once))
       (anchor_small, (live_small x v.begins, each_map (live (tree_of w)) (λ y. y < w.size) v.rest live_small v.lives))
 
-  walked : (x : ℕ) → (v : Walked (tree_of w) k x) → IsAhead w.now.contents k x (suc (length v.rest))
+  walked : (x : ℕ) → (v : Walked (tree_of w) k x) → IsAhead w.now.contents k (At x) (suc (length v.rest))
   walked x v = walk_ahead w.now.contents k x v.leaf (x ∷ v.rest) (tree_page know w x g v.begins, each_map (live (tree_of w)) (λ y. IsTreePage (w.now.contents y)) v.rest (λ y h. tree_page know w y g h) v.lives) v.walk
 
   -- from the leftmost page of the top level
-  pub top_near : Near w.now.contents k (top_of (roots_of (w.now.contents 0))) (w.size - 1)
+  top_near : Near w.now.contents k (At (top_of (roots_of (w.now.contents 0)))) (w.size - 1)
   top_near =
       let some = g.tree.some_level in
       let x = top_of (roots_of (w.now.contents 0)) in
@@ -117,16 +120,23 @@ module _ {P : Type 0} (know : P → Know) (w : World P) (g : IsGood know w) (k :
       let v : Walked (tree_of w) k x = walk_from k ((roots_of (w.now.contents 0)).levels - 1) x g.tree (all_sound know w g) b o.alive o.level_is (omega (arith, o.sep_is)) in
       record { gets = suc (length v.rest); ahead = walked x v; few = (let s = walk_short x v in omega arith) }
 
+  -- from the anchor
+  pub anchor_near : Near w.now.contents k AtAnchor w.size
+  anchor_near =
+      let t = top_near in
+      let few = t.few in
+      let some = anchor_small in
+      record { gets = suc t.gets; ahead = On refl t.ahead; few = omega arith }
+
   -- from a live page
-  live_near : (x : ℕ) → live (tree_of w) x → Near w.now.contents k x (suc w.size)
+  live_near : (x : ℕ) → live (tree_of w) x → Near w.now.contents k (At x) (suc w.size)
   live_near x h = elim (cases_lt k (nodes w.now x).shape.low) [
     | inl below ↦
-        let t = top_near in
+        let t = anchor_near in
         let few = t.few in
-        let some = anchor_small in
         let page = tree_page know w x g h in
         let not_dead_page : Leads (w.now.contents x) k 0 onward.Again = again (w.now.contents x) page below in
-        record { gets = suc (suc t.gets); ahead = Again not_dead_page t.ahead; few = omega arith }
+        record { gets = suc t.gets; ahead = On not_dead_page t.ahead; few = omega arith }
     | inr from ↦
         let v : Walked (tree_of w) k x = walk_from k (nodes w.now x).shape.level x g.tree (all_sound know w g) b h refl from in
         record { gets = suc (length v.rest); ahead = walked x v; few = (let s = walk_short x v in omega arith) }
@@ -151,9 +161,9 @@ module _ {P : Type 0} (know : P → Know) (w : World P) (g : IsGood know w) (k :
   -- a dead page from which the way begins again, or that leads to a page of the tree
   buried_again : (x : ℕ) → Leads (w.now.contents x) k 0 onward.Again → Buried w.now.contents w.now.owner w.status w.size k x
   buried_again x h =
-      let t = top_near in
+      let t = anchor_near in
       let few = t.few in
-      record { rest = []; gets = suc (suc t.gets); more = suc t.gets; ahead = Again h t.ahead; count = omega arith; few = omega arith; dead = tt; later = λ time o. tt; alone = λ q o. refl; once = (tt, tt) }
+      record { rest = []; gets = suc t.gets; more = t.gets; ahead = On h t.ahead; count = omega arith; few = omega arith; dead = tt; later = λ time o. tt; alone = λ q o. refl; once = (tt, tt) }
 
   buried_last : (x y : ℕ) → Leads (w.now.contents x) k 0 (onward.Right y) → live (tree_of w) y → Buried w.now.contents w.now.owner w.status w.size k x
   buried_last x y h l =
@@ -217,7 +227,7 @@ module _ {P : Type 0} (know : P → Know) (w : World P) (g : IsGood know w) (k :
   gone_other x h i = (let a = g.tree.anchored in let e : w.status x ≡ Anchored = ap w.status (sym i) ∙ a in cc)
 
   -- from any page that it may get
-  pub page_near : (p : Name) (x : ℕ) → MayGet w p x → Near w.now.contents k x (2 * w.size)
+  page_near : (p : Name) (x : ℕ) → MayGet w p x → Near w.now.contents k (At x) (2 * w.size)
   page_near p x may = elim (live_or_gone (w.status x) may.was) [
     | inl l ↦ (let n = live_near x l in let few = n.few in let some = anchor_small in record { gets = n.gets; ahead = n.ahead; few = omega arith })
     | inr gone ↦
@@ -230,3 +240,8 @@ module _ {P : Type 0} (know : P → Know) (w : World P) (g : IsGood know w) (k :
         let few = r.few in
         record { gets = r.gets; ahead = r.ahead; few = omega arith }
   ]
+
+  -- from wherever a search may be
+  pub descent_near : (p : Name) (d : Descent) → Each (IsGoes w p) (descent_goes d) → Near w.now.contents k d (2 * w.size)
+  descent_near p AtAnchor goes = (let t = anchor_near in let few = t.few in record { gets = t.gets; ahead = t.ahead; few = omega arith })
+  descent_near p (At x) goes = page_near p x goes.0.may

@@ -1,14 +1,14 @@
 -- How each search keeps its bound: so many gets are ahead of it, if nothing changes any more, that with those that it has
 -- done they are within the bound. Each turn of each process keeps that, and what the processes hold as they latch.
-use Rattle.std.specs.Prelude.{ℕ, suc, ◌≡◌, ◌⊎◌, ◌+◌, ◌≤◌}
+use Rattle.std.specs.Prelude.{ℕ, suc, ◌≡◌, ◌+◌, ◌≤◌}
 use Rattle.bl_page.specs.declared.page.Page.{Page}
 use Rattle.bl_page.specs.Machine.{Name}
 use Rattle.bl_page.specs.Machine.Act.{Begin}
-use Rattle.bl_claims.specs.Pages.{roots_of}
 use Rattle.bl_claims.specs.Trails.{Trail, DoesAt}
 use Rattle.bl_core.specs.Worlds.{World}
-use Rattle.bl_proc_base.specs.declared.onwards.Step.TheVariants as onward
-use Rattle.bl_proc_base.specs.Onwards.{top_of, Leads}
+use Rattle.bl_proc_base.specs.declared.descent.Descent.{Descent}
+use Rattle.bl_proc_base.specs.declared.descent.Descended.TheVariants as descended
+use Rattle.bl_proc_base.specs.Descents.{descent_page, Descends}
 use Rattle.bl_proc.specs.declared.searching.FindStage.{FindStage}
 use Rattle.bl_proc.specs.declared.searching.FindStage.TheVariants as find
 use Rattle.bl_proc.specs.declared.parts.PartStage.{PartStage}
@@ -19,28 +19,23 @@ use Rattle.bl_proc_invariant.specs.Knowing.{Run}
 use Rattle.bl_proc_bounds.specs.Latches.{AllOwned, AllTidy}
 use Rattle.bl_claims.specs.Bounds.{gets_of, puts_near, most_gets, IsWithinBound}
 
--- From page x on so many gets lead to the leaf that covers the key: each page leads on, or to the anchor again, and from there
--- to the leftmost page of the top level.
-pub data IsAhead (contents : ℕ → Page) (k : ℕ) : ℕ → ℕ → Type 0 where
-  Last : {x : ℕ} → Leads (contents x) k 0 onward.Here → IsAhead contents k x 1
-  On : {x y n : ℕ} → Leads (contents x) k 0 (onward.Right y) ⊎ Leads (contents x) k 0 (onward.Down y) → IsAhead contents k y n → IsAhead contents k x (suc n)
-  Again : {x n : ℕ} → Leads (contents x) k 0 onward.Again → IsAhead contents k (top_of (roots_of (contents 0))) n → IsAhead contents k x (suc (suc n))
+-- From there on so many gets lead to the leaf that covers the key.
+pub data IsAhead (contents : ℕ → Page) (k : ℕ) : Descent → ℕ → Type 0 where
+  Last : {d : Descent} → Descends k d (contents (descent_page d)) descended.Here → IsAhead contents k d 1
+  On : {d e : Descent} {n : ℕ} → Descends k d (contents (descent_page d)) (descended.On e) → IsAhead contents k e n → IsAhead contents k d (suc n)
 
--- Where a process stands that searches: it is to begin, to get the anchor, to get that page, or has found its leaf. Others
--- search nowhere.
+-- Where a process stands that searches: it is to begin, is on its way, or has found its leaf. Others search nowhere.
 pub data Place : Type 0 where
   Nowhere : Place
   Before : Place
-  Top : Place
-  On : ℕ → Place
+  Going : Descent → Place
   After : Place
 
 -- so many gets are ahead of a search at that place
 abbrev pub AreLeft : (ℕ → Page) → ℕ → Place → ℕ → Type 0
 AreLeft contents k Nowhere n = ⊥
 AreLeft contents k Before n = ⊥
-AreLeft contents k Top n = (m : ℕ) × IsAhead contents k (top_of (roots_of (contents 0))) m × (n ≡ suc m)
-AreLeft contents k (On x) n = IsAhead contents k x n
+AreLeft contents k (Going d) n = IsAhead contents k d n
 AreLeft contents k After n = n ≡ 0
 
 -- p has begun, has kept the bound so far, and keeps it if nothing changes any more
@@ -54,15 +49,13 @@ pub record Spends (size : ℕ) (contents : ℕ → Page) (trail : Trail) (p : Na
 
 abbrev pub find_place : FindStage → Place
 find_place find.New = Before
-find_place find.AtAnchor = Top
-find_place (find.At x) = On x
+find_place (find.Descending d) = Going d
 find_place (find.Ending value) = After
 find_place (find.Over value) = After
 
 abbrev pub part_place : PartStage → Place
 part_place part.New = Before
-part_place part.AtAnchor = Top
-part_place (part.At x) = On x
+part_place (part.Descending d) = Going d
 part_place (part.Ending r) = After
 part_place (part.Over r) = After
 
@@ -89,8 +82,7 @@ sought (proc.Reclaim p) = 0
 abbrev pub IsKept : ℕ → (ℕ → Page) → Trail → Name → ℕ → Place → Type 0
 IsKept size contents trail p k Nowhere = Unit {0}
 IsKept size contents trail p k Before = Unit {0}
-IsKept size contents trail p k Top = Spends size contents trail p k Top
-IsKept size contents trail p k (On x) = Spends size contents trail p k (On x)
+IsKept size contents trail p k (Going d) = Spends size contents trail p k (Going d)
 IsKept size contents trail p k After = Spends size contents trail p k After
 
 -- each search keeps its bound

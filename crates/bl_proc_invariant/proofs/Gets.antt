@@ -6,6 +6,8 @@ use Rattle.bl_page.specs.Machine.{Name}
 use Rattle.bl_core.specs.Worlds.{World, MayGet, IsSure, IsGood}
 use Rattle.bl_proc_base.specs.declared.acts.Action.{Action}
 use Rattle.bl_proc_base.specs.declared.acts.Action.TheVariants as act
+use Rattle.bl_proc_base.specs.declared.descent.Descent.{Descent}
+use Rattle.bl_proc_base.specs.declared.descent.Descent.TheVariants as descent
 use Rattle.bl_proc_base.specs.declared.approaching.Approach.{Approach}
 use Rattle.bl_proc_base.specs.declared.approaching.Approach.TheVariants as way
 use Rattle.bl_proc_base.specs.declared.changing.Change.{Change}
@@ -30,6 +32,7 @@ use Rattle.bl_proc_compress.specs.declared.squeezing.CompressStage.{CompressStag
 use Rattle.bl_proc_compress.specs.declared.squeezing.CompressStage.TheVariants as compress
 use Rattle.bl_proc.specs.declared.kinds.Proc.{Proc}
 use Rattle.bl_proc.specs.declared.kinds.Proc.TheVariants.{Find, Insert, Delete, Post, Part, Compress, Reclaim}
+use Rattle.bl_proc_base.specs.Descents.{descent_next}
 use Rattle.bl_proc_base.specs.Approaches.{approach_next}
 use Rattle.bl_proc_base.specs.Changes.{change_next}
 use Rattle.bl_proc_compress.specs.Compressions.{put_of, other, compression_next}
@@ -46,7 +49,7 @@ use Rattle.bl_proc_compress.specs.Compresses.{compress_next_in}
 use Rattle.bl_proc.specs.Reclaims.{reclaim_next_in}
 use Rattle.bl_proc.specs.Processes.{next_of}
 use Rattle.bl_proc_invariant.specs.Compressing.{know_squeeze}
-use Rattle.bl_proc_invariant.specs.Tables.{Aim, know_approach, know_change}
+use Rattle.bl_proc_invariant.specs.Tables.{Aim, know_descent, know_approach, know_change}
 use Rattle.bl_proc_invariant.specs.Knowing.{know_growth, know_find, know_part, know_insert, know_delete, know_post, know_compress, know_reclaim, know_of, Run, bare}
 
 -- page 0, or one that it may get
@@ -81,17 +84,19 @@ module _ {P : Type 0} (w : World P) (p : Name) where
   growth_got level key got growth.OpeningGrown is = tt
   growth_got level key got growth.OpeningRefused is = tt
 
+  descent_got : (key : ℕ) (d : Descent) → IsSure w p (know_descent key d) → IsGot w p (descent_next d)
+  descent_got key descent.AtAnchor is = inl refl
+  descent_got key (descent.At x) is = inr is.goes.0.may
+
   find_got : (key : ℕ) (a : FindStage) → IsSure w p (know_find key a) → IsGot w p (find_next_in a)
   find_got key find.New is = tt
-  find_got key find.AtAnchor is = inl refl
-  find_got key (find.At x) is = inr is.goes.0.may
+  find_got key (find.Descending d) is = descent_got key d is
   find_got key (find.Ending v) is = tt
   find_got key (find.Over v) is = tt
 
   part_got : (from : ℕ) (a : PartStage) → IsSure w p (know_part from a) → IsGot w p (part_next_in a)
-  part_got from part.New is = find_got from find.New is
-  part_got from part.AtAnchor is = find_got from find.AtAnchor is
-  part_got from (part.At x) is = find_got from (find.At x) is
+  part_got from part.New is = tt
+  part_got from (part.Descending d) is = descent_got from d is
   part_got from (part.Ending r) is = tt
   part_got from (part.Over r) is = tt
 

@@ -4,6 +4,7 @@ pub mod Acts
 pub mod Approaching
 pub mod Changing
 pub mod Ends
+pub mod Descending
 pub mod Finding
 pub mod Listing
 pub mod Entering

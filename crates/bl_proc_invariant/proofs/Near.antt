@@ -53,6 +53,7 @@ use Rattle.bl_proc.specs.Processes.{next_of}
 use Rattle.bl_proc_invariant.specs.Compressing.{know_squeeze}
 use Rattle.bl_proc_invariant.specs.Tables.{Aim, know_approach, know_change}
 use Rattle.bl_proc_invariant.specs.Knowing.{know_growth, know_find, know_part, know_insert, know_delete, know_post, know_compress, know_reclaim, know_of, Run, bare, know}
+use Rattle.bl_proc_invariant.proofs.Descending.{descent_there}
 use Rattle.bl_proc_invariant.proofs.Logged.{bare_good}
 
 abbrev pub IsNear : {P : Type 0} → World P → Name → Action → Type 0
@@ -98,15 +99,13 @@ module _ {P : Type 0} (know : P → Know) (w : World P) (g : IsGood know w) (p :
 
   find_near : (key : ℕ) (a : FindStage) → IsSure w p (know_find key a) → IsNear w p (find_next_in a)
   find_near key find.New is = tt
-  find_near key find.AtAnchor is = anchor_not_released know w g
-  find_near key (find.At x) is = not_released know w g p x is.goes.0.may
+  find_near key (find.Descending d) is = descent_there know w g p key d is
   find_near key (find.Ending v) is = tt
   find_near key (find.Over v) is = tt
 
   part_near : (from : ℕ) (a : PartStage) → IsSure w p (know_part from a) → IsNear w p (part_next_in a)
-  part_near from part.New is = find_near from find.New is
-  part_near from part.AtAnchor is = find_near from find.AtAnchor is
-  part_near from (part.At x) is = find_near from (find.At x) is
+  part_near from part.New is = tt
+  part_near from (part.Descending d) is = descent_there know w g p from d is
   part_near from (part.Ending r) is = tt
   part_near from (part.Over r) is = tt
 

@@ -68,15 +68,13 @@ growth_plain level key got growth.OpeningRefused = record { middle = refl; log =
 
 find_plain : (key : ℕ) (a : FindStage) → IsPlain (know_find key a)
 find_plain key find.New = record { middle = refl; log = λ marks. tt }
-find_plain key find.AtAnchor = record { middle = refl; log = λ marks. tt }
-find_plain key (find.At x) = record { middle = refl; log = λ marks. tt }
+find_plain key (find.Descending d) = record { middle = refl; log = λ marks. tt }
 find_plain key (find.Ending v) = record { middle = refl; log = λ marks. tt }
 find_plain key (find.Over v) = record { middle = refl; log = λ marks. tt }
 
 part_plain : (from : ℕ) (a : PartStage) → IsPlain (know_part from a)
-part_plain from part.New = find_plain from find.New
-part_plain from part.AtAnchor = find_plain from find.AtAnchor
-part_plain from (part.At x) = find_plain from (find.At x)
+part_plain from part.New = record { middle = refl; log = λ marks. tt }
+part_plain from (part.Descending d) = record { middle = refl; log = λ marks. tt }
 part_plain from (part.Ending r) = record { middle = refl; log = λ marks. tt }
 part_plain from (part.Over r) = record { middle = refl; log = λ marks. tt }
 

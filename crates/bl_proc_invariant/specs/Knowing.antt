@@ -43,7 +43,7 @@ use Rattle.bl_proc.specs.Deletes.{delete_reply}
 use Rattle.bl_proc_base.specs.Growths.{Raises, IsAnchor}
 use Rattle.bl_proc_invariant.specs.Logs.{proc_log}
 use Rattle.bl_proc_invariant.specs.Compressing.{know_squeeze, compression_got}
-use Rattle.bl_proc_invariant.specs.Tables.{idle, holds_live, holds_known, goes_to, know_approach, Aim, IsDue, know_change}
+use Rattle.bl_proc_invariant.specs.Tables.{idle, holds_live, holds_known, goes_to, know_descent, know_approach, Aim, IsDue, know_change}
 
 -- it is to begin; it is to end, or has ended, with what it said
 abbrev pub early : ℕ → Know
@@ -66,20 +66,18 @@ found key value = Some (record { op = op.Find key; reply = found_reply value })
 
 abbrev pub know_find : ℕ → FindStage → Know
 know_find key find.New = early key
-know_find key find.AtAnchor = record (idle Stage.Busy) { sound = key < unbounded }
-know_find key (find.At x) = record (idle Stage.Busy) { goes = goes_to x 0 12 ∷ []; sound = key < unbounded }
+know_find key (find.Descending d) = know_descent key d
 know_find key (find.Ending value) = ending (found key value)
 know_find key (find.Over value) = late (found key value)
 
--- Parts: on its way down a part knows what a search for its first key knows
+-- Parts
 
 abbrev pub listed : ℕ → PartRows → Option Said
 listed from r = Some (record { op = op.Part from; reply = reply.Rows r.rows r.next })
 
 abbrev pub know_part : ℕ → PartStage → Know
-know_part from part.New = know_find from find.New
-know_part from part.AtAnchor = know_find from find.AtAnchor
-know_part from (part.At x) = know_find from (find.At x)
+know_part from part.New = early from
+know_part from (part.Descending d) = know_descent from d
 know_part from (part.Ending r) = ending (listed from r)
 know_part from (part.Over r) = late (listed from r)
 
@@ -218,15 +216,13 @@ know r = record (bare r) { log = proc_log r.state }
 -- what is answered at an end
 abbrev pub find_end : FindStage → Option Reply
 find_end find.New = None
-find_end find.AtAnchor = None
-find_end (find.At x) = None
+find_end (find.Descending d) = None
 find_end (find.Ending value) = Some (found_reply value)
 find_end (find.Over value) = None
 
 abbrev pub part_end : PartStage → Option Reply
 part_end part.New = None
-part_end part.AtAnchor = None
-part_end (part.At x) = None
+part_end (part.Descending d) = None
 part_end (part.Ending r) = Some (reply.Rows r.rows r.next)
 part_end (part.Over r) = None
 

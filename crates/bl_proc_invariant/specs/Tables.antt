@@ -10,6 +10,8 @@ use Rattle.bl_model.specs.Map.{Map}
 use Rattle.bl_page.specs.Machine.{Name}
 use Rattle.bl_core.specs.Worlds.{Hold, Goes, Child, Stage, Know, World, IsRelied, MapsTo, nodes, tree_of}
 use Rattle.bl_claims.specs.Walks.{Each}
+use Rattle.bl_proc_base.specs.declared.descent.Descent.{Descent}
+use Rattle.bl_proc_base.specs.declared.descent.Descent.TheVariants as descent
 use Rattle.bl_proc_base.specs.declared.approaching.Approach.{Approach}
 use Rattle.bl_proc_base.specs.declared.approaching.Approach.TheVariants.{Start, At, Latching, Latched, Leaving}
 use Rattle.bl_proc_base.specs.declared.changing.Outcome.{Outcome}
@@ -31,6 +33,14 @@ holds_known x c = record { at = x; status = Live; sep = None; page = Some c }
 -- it may go to the page, of a level within these bounds
 abbrev pub goes_to : ℕ → ℕ → ℕ → Goes
 goes_to x least most = record { page = x; least = least; most = most }
+
+-- A search on its way, which may go to a page of any level.
+abbrev pub descent_goes : Descent → List Goes
+descent_goes descent.AtAnchor = []
+descent_goes (descent.At x) = goes_to x 0 12 ∷ []
+
+abbrev pub know_descent : ℕ → Descent → Know
+know_descent key d = record (idle Stage.Busy) { goes = descent_goes d; sound = key < unbounded }
 
 -- A writer on its way. Every page that it may get is of its level or above; those that it latches are of its level.
 abbrev pub know_approach : ℕ → ℕ → Approach → Know

@@ -50,8 +50,7 @@ find_wants p = wants p.stage
   where
     wants : (a : FindStage) → Wants (find_next_in a) None 0
     wants find.New = refl
-    wants find.AtAnchor = refl
-    wants (find.At x) = refl
+    wants (find.Descending d) = refl
     wants (find.Ending v) = refl
     wants (find.Over v) = refl
 
@@ -159,13 +158,12 @@ delete_running other ne = refl
 
 find_leaves : (a : FindStage) (what : Seen) → Leaves (find_next_in a) None what 0 0
 find_leaves find.New what = refl
-find_leaves find.AtAnchor what = refl
-find_leaves (find.At y) what = refl
+find_leaves (find.Descending d) what = refl
 find_leaves (find.Ending v) what = refl
 find_leaves (find.Over v) what = refl
 
 find_begun : {key : ℕ} {a b : FindStage} {what : Seen} → FindCase key a what b → find_next_in b ≢ act.Begin
-find_begun FindCase.Began = λ z. cc
+find_begun (FindCase.Began d t) = λ z. cc
 find_begun other = λ z. cc
 
 find_running : {key : ℕ} {a b : FindStage} {what : Seen} → FindCase key a what b → find_next_in a ≢ act.End → find_answer_in b ≡ None

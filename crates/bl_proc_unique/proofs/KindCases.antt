@@ -1,6 +1,6 @@
 -- Which turns a process of each kind can take, each with what it gives. Whoever takes a turn of a process apart has one
 -- clause for each of them, and none for what cannot be.
-use Rattle.std.proofs.Common.{ℕ, ◌≡◌, ◌≢◌, ◌⊎◌, ◌-◌, ◌<◌, ◌≤◌, true, false, Option, Some, None, subst}
+use Rattle.std.proofs.Common.{ℕ, ◌≡◌, ◌≢◌, ◌-◌, ◌<◌, ◌≤◌, true, false, Option, Some, None, subst}
 use Rattle.bl_page.specs.declared.page.Page.{Page}
 use Rattle.bl_page.specs.declared.page.Page.TheVariants.{Inner as InnerPage}
 use Rattle.bl_page.specs.declared.page.Inner.{Inner}
@@ -10,7 +10,10 @@ use Rattle.bl_proc_base.specs.declared.acts.Seen.TheVariants as seen
 use Rattle.bl_proc_base.specs.declared.answers.Reclaimed.{Reclaimed}
 use Rattle.bl_proc_base.specs.declared.answers.Reclaimed.TheVariants.{Released, Kept}
 use Rattle.bl_proc_base.specs.declared.onwards.Step.{Step}
-use Rattle.bl_proc_base.specs.declared.onwards.Step.TheVariants.{Again, Right, Down, Here}
+use Rattle.bl_proc_base.specs.declared.onwards.Step.TheVariants.{Right, Here}
+use Rattle.bl_proc_base.specs.declared.descent.Descent.{Descent}
+use Rattle.bl_proc_base.specs.declared.descent.Descent.TheVariants as descent
+use Rattle.bl_proc_base.specs.declared.descent.Descended.TheVariants as descended
 use Rattle.bl_proc_base.specs.declared.approaching.Approach.{Approach}
 use Rattle.bl_proc_base.specs.declared.approaching.Approach.TheVariants as way
 use Rattle.bl_proc_base.specs.declared.approaching.Approached.TheVariants as came
@@ -53,7 +56,8 @@ use Rattle.bl_proc.specs.declared.searching.FindStage.TheVariants as find
 use Rattle.bl_proc.specs.declared.parts.PartRows.{PartRows}
 use Rattle.bl_proc.specs.declared.parts.PartStage.{PartStage}
 use Rattle.bl_proc.specs.declared.parts.PartStage.TheVariants as part
-use Rattle.bl_proc_base.specs.Onwards.{top_of, Leads}
+use Rattle.bl_proc_base.specs.Onwards.{Leads}
+use Rattle.bl_proc_base.specs.Descents.{Descends}
 use Rattle.bl_proc_base.specs.Approaches.{Approaches}
 use Rattle.bl_proc_base.specs.Changes.{EntersPair, DropsPair, Changes}
 use Rattle.bl_proc_base.specs.Growths.{Grows}
@@ -74,37 +78,29 @@ at_page {level = level} {key = key} {y = y} {a = a} {what = what} {d = d} P Q h 
     by (Arrived x c z e is) at = then x c is.2 (subst (λ u. P u c) is.0 (subst (λ u. P z u) is.1 at))
 
 pub data FindCase (key : ℕ) : FindStage → Seen → FindStage → Type 0 where
-  Began : FindCase key find.New seen.Done find.AtAnchor
-  Entered : (c : Page) (x : ℕ) → x ≡ top_of (roots_of c) → FindCase key find.AtAnchor (seen.Words c) (find.At x)
-  Back : (x : ℕ) (c : Page) → Leads c key 0 Again → FindCase key (find.At x) (seen.Words c) find.AtAnchor
-  Moved : (x : ℕ) (c : Page) (y : ℕ) → (Leads c key 0 (Right y)) ⊎ (Leads c key 0 (Down y)) → FindCase key (find.At x) (seen.Words c) (find.At y)
-  Found : (x : ℕ) (c : Page) (value : Option ℕ) → Leads c key 0 Here × (value ≡ (node_of c).look key) → FindCase key (find.At x) (seen.Words c) (find.Ending value)
+  Began : (d : Descent) → d ≡ descent.AtAnchor → FindCase key find.New seen.Done (find.Descending d)
+  Went : (d : Descent) (c : Page) (e : Descent) → Descends key d c (descended.On e) → FindCase key (find.Descending d) (seen.Words c) (find.Descending e)
+  Found : (d : Descent) (c : Page) (value : Option ℕ) → Descends key d c descended.Here × (value ≡ (node_of c).look key) → FindCase key (find.Descending d) (seen.Words c) (find.Ending value)
   Ended : (value last : Option ℕ) → last ≡ value → FindCase key (find.Ending value) seen.Done (find.Over last)
 
 pub find_case : (key : ℕ) (a : FindStage) (what : Seen) (b : FindStage) → FindGoes key a what b → FindCase key a what b
-find_case key find.New seen.Done find.AtAnchor t = Began
-find_case key find.AtAnchor (seen.Words c) (find.At x) t = Entered c x t
-find_case key (find.At x) (seen.Words c) find.AtAnchor t = Back x c t
-find_case key (find.At x) (seen.Words c) (find.At y) t = Moved x c y t
-find_case key (find.At x) (seen.Words c) (find.Ending value) t = Found x c value t
+find_case key find.New seen.Done (find.Descending d) t = Began d t
+find_case key (find.Descending d) (seen.Words c) (find.Descending e) t = Went d c e t
+find_case key (find.Descending d) (seen.Words c) (find.Ending value) t = Found d c value t
 find_case key (find.Ending value) seen.Done (find.Over last) t = Ended value last t
 find_case key a what b t = absurd t
 
 -- on its way as a search is
 pub data PartCase (from : ℕ) : PartStage → Seen → PartStage → Type 0 where
-  Began : PartCase from part.New seen.Done part.AtAnchor
-  Entered : (c : Page) (x : ℕ) → x ≡ top_of (roots_of c) → PartCase from part.AtAnchor (seen.Words c) (part.At x)
-  Back : (x : ℕ) (c : Page) → Leads c from 0 Again → PartCase from (part.At x) (seen.Words c) part.AtAnchor
-  Moved : (x : ℕ) (c : Page) (y : ℕ) → (Leads c from 0 (Right y)) ⊎ (Leads c from 0 (Down y)) → PartCase from (part.At x) (seen.Words c) (part.At y)
-  Listed : (x : ℕ) (c : Page) (r : PartRows) → Leads c from 0 Here × IsPartOf c from r → PartCase from (part.At x) (seen.Words c) (part.Ending r)
+  Began : (d : Descent) → d ≡ descent.AtAnchor → PartCase from part.New seen.Done (part.Descending d)
+  Went : (d : Descent) (c : Page) (e : Descent) → Descends from d c (descended.On e) → PartCase from (part.Descending d) (seen.Words c) (part.Descending e)
+  Listed : (d : Descent) (c : Page) (r : PartRows) → Descends from d c descended.Here × IsPartOf c from r → PartCase from (part.Descending d) (seen.Words c) (part.Ending r)
   Ended : (r last : PartRows) → last ≡ r → PartCase from (part.Ending r) seen.Done (part.Over last)
 
 pub part_case : (from : ℕ) (a : PartStage) (what : Seen) (b : PartStage) → PartGoes from a what b → PartCase from a what b
-part_case from part.New seen.Done part.AtAnchor t = Began
-part_case from part.AtAnchor (seen.Words c) (part.At x) t = Entered c x t
-part_case from (part.At x) (seen.Words c) part.AtAnchor t = Back x c t
-part_case from (part.At x) (seen.Words c) (part.At y) t = Moved x c y t
-part_case from (part.At x) (seen.Words c) (part.Ending r) t = Listed x c r t
+part_case from part.New seen.Done (part.Descending d) t = Began d t
+part_case from (part.Descending d) (seen.Words c) (part.Descending e) t = Went d c e t
+part_case from (part.Descending d) (seen.Words c) (part.Ending r) t = Listed d c r t
 part_case from (part.Ending r) seen.Done (part.Over last) t = Ended r last t
 part_case from a what b t = absurd t
 

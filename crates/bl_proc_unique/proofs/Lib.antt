@@ -2,6 +2,7 @@ pub mod Onwards
 pub mod Cases
 pub mod WayCases
 pub mod KindCases
+pub mod Descents
 pub mod Searches
 pub mod Rows
 pub mod Listings

@@ -6,7 +6,7 @@ use Rattle.bl_proc_base.specs.declared.acts.Seen.{Seen}
 use Rattle.bl_proc.specs.declared.kinds.Proc.TheVariants as proc
 use Rattle.bl_proc.specs.declared.parts.Part.{Part}
 use Rattle.bl_proc.specs.declared.parts.PartStage.{PartStage}
-use Rattle.bl_proc.specs.declared.parts.PartStage.TheVariants.{New, AtAnchor, At, Ending, Over}
+use Rattle.bl_proc.specs.declared.parts.PartStage.TheVariants.{New, Descending, Ending, Over}
 use Rattle.bl_proc.specs.Parts.{part_next_in, part_answer_in}
 use Rattle.bl_proc.specs.Processes.{next_of, Takes}
 use Rattle.bl_proc_unique.specs.Frames.{Wants, Leaves, Follows}
@@ -17,20 +17,18 @@ part_wants p = wants p.stage
   where
     wants : (a : PartStage) → Wants (part_next_in a) None 0
     wants New = refl
-    wants AtAnchor = refl
-    wants (At x) = refl
+    wants (Descending d) = refl
     wants (Ending r) = refl
     wants (Over r) = refl
 
 part_leaves : (a : PartStage) (what : Seen) → Leaves (part_next_in a) None what 0 0
 part_leaves New what = refl
-part_leaves AtAnchor what = refl
-part_leaves (At y) what = refl
+part_leaves (Descending d) what = refl
 part_leaves (Ending r) what = refl
 part_leaves (Over r) what = refl
 
 part_begun : {from : ℕ} {a b : PartStage} {what : Seen} → PartCase from a what b → part_next_in b ≢ act.Begin
-part_begun PartCase.Began = λ z. cc
+part_begun (PartCase.Began d t) = λ z. cc
 part_begun other = λ z. cc
 
 part_running : {from : ℕ} {a b : PartStage} {what : Seen} → PartCase from a what b → part_next_in a ≢ act.End → part_answer_in b ≡ None

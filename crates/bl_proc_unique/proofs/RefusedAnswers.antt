@@ -41,16 +41,14 @@ no_room a b e r = (let f : b ≡ a = cc in subst IsNoRoom f r)
 
 find_answers : (a : FindStage) (b : Answer) → find_answer_in a ≡ Some b → IsNoRoom b → ⊥
 find_answers find.New b e r = none_answer b e
-find_answers find.AtAnchor b e r = none_answer b e
-find_answers (find.At x) b e r = none_answer b e
+find_answers (find.Descending d) b e r = none_answer b e
 find_answers (find.Ending v) b e r = none_answer b e
 find_answers (find.Over None) b e r = no_room _ b e r
 find_answers (find.Over (Some v)) b e r = no_room _ b e r
 
 part_answers : (a : PartStage) (b : Answer) → part_answer_in a ≡ Some b → IsNoRoom b → ⊥
 part_answers part.New b e r = none_answer b e
-part_answers part.AtAnchor b e r = none_answer b e
-part_answers (part.At x) b e r = none_answer b e
+part_answers (part.Descending d) b e r = none_answer b e
 part_answers (part.Ending q) b e r = none_answer b e
 part_answers (part.Over q) b e r = no_room _ b e r
 

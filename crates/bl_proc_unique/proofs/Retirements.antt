@@ -79,8 +79,7 @@ module _ (old : Action) (what : Seen) where
 
   find_none : (a : FindStage) → RetiresAfter old what (find_next_in a)
   find_none find.New = tt
-  find_none find.AtAnchor = tt
-  find_none (find.At x) = tt
+  find_none (find.Descending d) = tt
   find_none (find.Ending v) = tt
   find_none (find.Over v) = tt
 
@@ -112,8 +111,7 @@ module _ (old : Action) (what : Seen) where
 
   part_none : (a : PartStage) → RetiresAfter old what (part_next_in a)
   part_none part.New = tt
-  part_none part.AtAnchor = tt
-  part_none (part.At x) = tt
+  part_none (part.Descending d) = tt
   part_none (part.Ending r) = tt
   part_none (part.Over r) = tt
 

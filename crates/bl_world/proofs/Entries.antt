@@ -99,15 +99,13 @@ squeeze_said level key got (OpeningParent x end) = refl
 
 find_op : (k : ℕ) (a : FindStage) (s : Said) → (know_find k a).said ≡ Some s → Some (op.Find k) ≡ Some s.op
 find_op k find.New s e = none_said s e
-find_op k find.AtAnchor s e = none_said s e
-find_op k (find.At x) s e = none_said s e
+find_op k (find.Descending d) s e = none_said s e
 find_op k (find.Ending v) s e = same_op _ s e
 find_op k (find.Over v) s e = same_op _ s e
 
 part_op : (k : ℕ) (a : PartStage) (s : Said) → (know_part k a).said ≡ Some s → Some (op.Part k) ≡ Some s.op
 part_op k part.New s e = none_said s e
-part_op k part.AtAnchor s e = none_said s e
-part_op k (part.At x) s e = none_said s e
+part_op k (part.Descending d) s e = none_said s e
 part_op k (part.Ending r) s e = same_op _ s e
 part_op k (part.Over r) s e = same_op _ s e
 
@@ -191,16 +189,14 @@ pub record HasAnswered (said : Option Said) (reply : Reply) : Type 0 where
 
 find_answered : (k : ℕ) (a : FindStage) (reply : Reply) (hint : Option Hint) → find_answer_in a ≡ Some (answer.Op reply hint) → HasAnswered (know_find k a).said reply
 find_answered k find.New reply hint e = none_answer _ e
-find_answered k find.AtAnchor reply hint e = none_answer _ e
-find_answered k (find.At x) reply hint e = none_answer _ e
+find_answered k (find.Descending d) reply hint e = none_answer _ e
 find_answered k (find.Ending v) reply hint e = none_answer _ e
 find_answered k (find.Over None) reply hint e = record { it = _; is = refl; reply_is = same_reply _ _ _ _ e }
 find_answered k (find.Over (Some v)) reply hint e = record { it = _; is = refl; reply_is = same_reply _ _ _ _ e }
 
 part_answered : (k : ℕ) (a : PartStage) (reply : Reply) (hint : Option Hint) → part_answer_in a ≡ Some (answer.Op reply hint) → HasAnswered (know_part k a).said reply
 part_answered k part.New reply hint e = none_answer _ e
-part_answered k part.AtAnchor reply hint e = none_answer _ e
-part_answered k (part.At x) reply hint e = none_answer _ e
+part_answered k (part.Descending d) reply hint e = none_answer _ e
 part_answered k (part.Ending r) reply hint e = none_answer _ e
 part_answered k (part.Over r) reply hint e = record { it = _; is = refl; reply_is = same_reply _ _ _ _ e }
 
@@ -270,15 +266,13 @@ answered_said got child time (proc.Reclaim p) reply hint e = reclaim_answered p.
 
 find_late : (k : ℕ) (a : FindStage) (b : Answer) → find_answer_in a ≡ Some b → (know_find k a).stage ≡ Stage.Late
 find_late k find.New b e = none_answer _ e
-find_late k find.AtAnchor b e = none_answer _ e
-find_late k (find.At x) b e = none_answer _ e
+find_late k (find.Descending d) b e = none_answer _ e
 find_late k (find.Ending v) b e = none_answer _ e
 find_late k (find.Over v) b e = refl
 
 part_late : (k : ℕ) (a : PartStage) (b : Answer) → part_answer_in a ≡ Some b → (know_part k a).stage ≡ Stage.Late
 part_late k part.New b e = none_answer _ e
-part_late k part.AtAnchor b e = none_answer _ e
-part_late k (part.At x) b e = none_answer _ e
+part_late k (part.Descending d) b e = none_answer _ e
 part_late k (part.Ending r) b e = none_answer _ e
 part_late k (part.Over r) b e = refl
 

@@ -102,15 +102,13 @@ squeeze_tree (OpeningParent x end) = tt
 
 find_tree : (a : FindStage) → IsOfTree (find_next_in a)
 find_tree find.New = tt
-find_tree find.AtAnchor = tt
-find_tree (find.At x) = tt
+find_tree (find.Descending d) = tt
 find_tree (find.Ending v) = tt
 find_tree (find.Over v) = tt
 
 part_tree : (a : PartStage) → IsOfTree (part_next_in a)
 part_tree part.New = tt
-part_tree part.AtAnchor = tt
-part_tree (part.At x) = tt
+part_tree (part.Descending d) = tt
 part_tree (part.Ending r) = tt
 part_tree (part.Over r) = tt
 

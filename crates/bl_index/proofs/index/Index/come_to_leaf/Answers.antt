@@ -1,8 +1,9 @@
 use Rattle.std.proofs.Common.{rules, refl, ◌≡◌, ◌∙◌, None, arith}
-use Rattle.bl_index.specs.declared.listing.Ahead.TheVariants as ahead
+use Rattle.bl_proc_base.specs.declared.descent.Descent.TheVariants.{AtAnchor}
+use Rattle.bl_proc.specs.declared.parts.PartStage.TheVariants.{Descending, Ending}
 use Rattle.bl_index.proofs.Calls.{since_step, own_looks}
 use Rattle.bl_index.proofs.Silent.{gives_up}
-use Rattle.bl_index.proofs.Listings.{part_under_way, part_is_search, part_may_give_up, leaf_is_search}
+use Rattle.bl_index.proofs.Listings.{part_under_way, part_is_search, part_may_give_up}
 use Rattle.bl_index.proofs.Paces.{at_begin, at_step, at_last, at_end}
 use Rattle.bl_index.proofs.index.Index.come_to_leaf.Goals as goal
 
@@ -14,7 +15,7 @@ loop-turn-init c =
       running = search rules;
       process = c.begin_part.ensures.process;
       since = c.begin_part.ensures.begun;
-      turn = at_begin _ _ _ _ _ _ c.begin_part.ensures.told (part_is_search c.args.from ahead.Anchor _ state) (part_under_way c.args.from ahead.Anchor _ state);
+      turn = at_begin _ _ _ _ _ _ c.begin_part.ensures.told (part_is_search c.args.from (Descending AtAnchor) _ state) (part_under_way c.args.from AtAnchor _ state);
     }
 
 pub loop-turn-preserved : goal.loop-turn-preserved
@@ -26,8 +27,8 @@ loop-turn-preserved c =
       same = search rules;
       running = search rules;
       process = process;
-      since = since_step _ _ _ _ _ inv.since got.1;
-      turn = at_step _ _ _ _ _ inv.since.named inv.since.number inv.turn _ _ process.pages got.1 (part_is_search c.args.from c.in-Further.next _ process.state) (part_under_way c.args.from c.in-Further.next _ process.state);
+      since = since_step _ _ _ _ _ inv.since got;
+      turn = at_step _ _ _ _ _ inv.since.named inv.since.number inv.turn _ _ process.pages got (part_is_search c.args.from (Descending c.in-Further.next) _ process.state) (part_under_way c.args.from c.in-Further.next _ process.state);
     }
 
 pub returns-in-Leaf-clause-came : goal.returns-in-Leaf-clause-came
@@ -40,12 +41,12 @@ returns-in-Leaf-clause-came c =
       reads = at.0;
       leaf = at.1;
       process = at.2;
-      since = since_step _ _ _ _ _ inv.since got.1;
-      last = at_last _ _ _ _ _ inv.since.named inv.since.number inv.turn _ _ at.2.pages got.1 (leaf_is_search c.args.from at.1.rows _ at.1.state);
+      since = since_step _ _ _ _ _ inv.since got;
+      last = at_last _ _ _ _ _ inv.since.named inv.since.number inv.turn _ _ at.2.pages got (part_is_search c.args.from (Ending at.1.rows) _ at.1.state);
     }
 
 pub give_up-requires-clause-may : goal.give_up-requires-clause-may
-give_up-requires-clause-may c = part_may_give_up c.args.from c.loop-turn.ahead _ c.loop-turn.invariant.process.state
+give_up-requires-clause-may c = part_may_give_up c.args.from c.loop-turn.descent _ c.loop-turn.invariant.process.state
 
 pub returns-clause-came : goal.returns-clause-came
 returns-clause-came c =
@@ -60,7 +61,7 @@ returns-clause-came c =
       first = told.notes.first ∙ inv.since.beginning;
       seen = told.notes.seen;
       out = record {
-        adds = gives_up _ _ _ _ _ refl inv.since (part_may_give_up c.args.from c.loop-turn.ahead _ inv.process.state) told;
+        adds = gives_up _ _ _ _ _ refl inv.since (part_may_give_up c.args.from c.loop-turn.descent _ inv.process.state) told;
         bounded = end.0;
         gets = end.1 ∙ all;
         below = end.2;

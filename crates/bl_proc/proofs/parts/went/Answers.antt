@@ -1,0 +1,5 @@
+use Rattle.bl_proc_base.proofs.Descents.{here_leads}
+use Rattle.bl_proc.proofs.parts.went.Goals as goal
+
+pub part_of-requires : goal.part_of-requires
+part_of-requires c = here_leads _ _ _ c.in-Here.ensures

@@ -1,5 +1,0 @@
-use Rattle.std.proofs.Common.{◌≡◌, ap, ◌∙◌}
-use Rattle.bl_proc.proofs.searching.went_on_in.Goals as goal
-
-pub row_in-requires-clause-page : goal.row_in-requires-clause-page
-row_in-requires-clause-page g c = (c.requires.page.0, (c.in-Here.ensures.leads c.requires.page.0 c.requires.page.1).0, ap (λ hand. g.W.Words.shown c.args.source.now hand) c.in-Here.ensures.same ∙ c.requires.page.1)
