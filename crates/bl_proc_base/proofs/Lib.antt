@@ -1,3 +1,4 @@
 pub mod Spellings
 pub mod Shifts
 pub mod Respellings
+pub mod Ways

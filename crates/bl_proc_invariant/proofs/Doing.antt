@@ -3,10 +3,12 @@ use Rattle.std.proofs.Common.{ℕ, ◌≡◌, ◌⊎◌, ◌<◌, ◌++◌, List
 use Rattle.bl_model.specs.declared.operation.Reply.{Reply}
 use Rattle.bl_page.specs.declared.page.Page.{Page}
 use Rattle.bl_page.specs.declared.page.Page.TheVariants.{Inner as InnerPage}
+use Rattle.bl_page.specs.declared.page.Inner.{Inner}
 use Rattle.bl_page.specs.declared.machine.Missed.{Missed}
 use Rattle.bl_page.specs.declared.machine.Missed.TheVariants as missed
 use Rattle.bl_page.specs.Machine.{Act}
 use Rattle.bl_page.specs.Machine.Act.{Get, Put, Latch, Retire, Miss}
+use Rattle.bl_claims.specs.Nodes.{Covers}
 use Rattle.bl_claims.specs.Pages.{node_of}
 use Rattle.bl_rearrange.specs.declared.sides.Side.{Side}
 use Rattle.bl_rearrange.specs.declared.sides.Side.TheVariants as side
@@ -239,10 +241,10 @@ module _ (ms : Trail) (m : Mark) where
     over_on (SqueezeCase.OpenedParent x ended _ t) did h = subst (λ z. fate_log level key z more) (sym t) (fate_on ended (ap writes_in did) h)
 
     -- at the parent
-    met_on : (x : ℕ) (c : Page) (f : Family) → CompressArrives key x c (compress.Compressing (LatchingLeft f)) → Leads c key level Here → m.event.act ≡ Get x → m.saw ≡ Some c → Since ms x [] → compress_log level key (compress.Compressing (LatchingLeft f)) more
-    met_on x c f (parent, page, siblings) l did saw h =
+    met_on : (x : ℕ) (parent : Inner) (f : Family) → CompressArrives key x parent (compress.Compressing (LatchingLeft f)) → Leads (InnerPage parent) key level Here → m.event.act ≡ Get x → m.saw ≡ Some (InnerPage parent) → Since ms x [] → compress_log level key (compress.Compressing (LatchingLeft f)) more
+    met_on x parent f siblings l did saw h =
         let family = siblings.1 in
-        let here : c ≡ InnerPage f.parent = page ∙ ap InnerPage (sym family.parent_is) in
+        let here : InnerPage parent ≡ InnerPage f.parent = ap InnerPage (sym family.parent_is) in
         let e : x ≡ f.at.parent = sym family.parent_at in
         let now : Since ms f.at.parent [] = subst (λ z. Since ms z []) e h in
         let get : m.event.act ≡ Get f.at.parent = did ∙ ap Get e in
@@ -250,19 +252,19 @@ module _ (ms : Trail) (m : Mark) where
           since = since_on (Get f.at.parent ∷ []) (ap acts_in get) now;
           got = got_last now.during m get (saw ∙ ap Some here);
           level_is = ap (λ v. (node_of v).shape.level) (sym here) ∙ l.2;
-          covers = rw here at l.1;
+          covers = subst (λ z. Covers (node_of z).shape key) here l.1;
           siblings = subst (λ z. AreSiblings z key f.parent (Some f)) e (subst (λ z. AreSiblings x key z (Some f)) (sym family.parent_is) siblings);
         }
 
-    single_on : (x : ℕ) (c : Page) (y : ℕ) → CompressArrives key x c (compress.Staying y) → Leads c key level Here → m.event.act ≡ Get x → m.saw ≡ Some c → Since ms x [] → compress_log level key (compress.Staying y) more
-    single_on x c y t l did saw h = once_now (inr (record {
+    single_on : (x : ℕ) (parent : Inner) (y : ℕ) → CompressArrives key x parent (compress.Staying y) → Leads (InnerPage parent) key level Here → m.event.act ≡ Get x → m.saw ≡ Some (InnerPage parent) → Since ms x [] → compress_log level key (compress.Staying y) more
+    single_on x parent y t l did saw h = once_now (inr (record {
       at = x;
-      parent = t.1.0;
+      parent = parent;
       since = since_on (Get x ∷ []) (ap acts_in did) h;
-      got = got_last h.during m did (saw ∙ ap Some t.1.1);
-      level_is = ap (λ v. (node_of v).shape.level) (sym t.1.1) ∙ l.2;
-      covers = rw t.1.1 at l.1;
-      siblings = t.1.2;
+      got = got_last h.during m did saw;
+      level_is = l.2;
+      covers = l.1;
+      siblings = t.1;
     }))
 
     module _ (least : 0 < level) where
@@ -291,8 +293,8 @@ module _ (ms : Trail) (m : Mark) where
       compress_on (CompressCase.Began a t) did saw h = subst (λ z. way_log z more) (sym t) (begun_now ms m (λ acts. acts ≡ []) did refl)
       compress_on (CompressCase.NoLevel c t) did saw h = once_now (inl (record { first = unwritten_on (ap writes_in did) h; anchor = c; got = got_last ms m did (saw 0 c did refl); few = t }))
       compress_on (CompressCase.Came a what b t) did saw h = way_on a b what t did h
-      compress_on (CompressCase.Met x c f l t) did saw h = met_on x c f t l did (saw x c did refl) h
-      compress_on (CompressCase.Single x c y l t) did saw h = single_on x c y t l did (saw x c did refl) h
+      compress_on (CompressCase.Met x parent f l t) did saw h = met_on x parent f t l did (saw x (InnerPage parent) did refl) h
+      compress_on (CompressCase.Single x parent y l t) did saw h = single_on x parent y t l did (saw x (InnerPage parent) did refl) h
       compress_on (CompressCase.Squeezed c what d t) did saw h = squeeze_on (squeeze_case c what _ t) did saw h
       compress_on (CompressCase.Lost c what a (ended, t, none, start)) did saw h = subst (λ z. way_log z more) (sym start) (lost_unwritten ended none (over_on (squeeze_case c what _ t) did h))
       compress_on (CompressCase.Finished c what r (ended, t, some)) did saw h = fate_pressed ended r some (over_on (squeeze_case c what _ t) did h)

@@ -2,7 +2,8 @@
 use Rattle.std.proofs.Common.{ℕ, ◌≡◌, ◌≢◌, ◌<◌, ◌-◌, ◌++◌, List, [], ◌∷◌, None, Some, arith, ap, sym, ◌∙◌, refl, subst, inl, inr, append_assoc, append-nil}
 use Rattle.bl_model.specs.declared.operation.Reply.{Reply}
 use Rattle.bl_page.specs.declared.page.Page.{Page}
-use Rattle.bl_page.specs.declared.page.Page.TheVariants.{Inner}
+use Rattle.bl_page.specs.declared.page.Page.TheVariants.{Inner as InnerPage}
+use Rattle.bl_page.specs.declared.page.Inner.{Inner}
 use Rattle.bl_page.specs.Machine.{Act}
 use Rattle.bl_page.specs.Machine.Act.{Get, Put, Latch}
 use Rattle.bl_claims.specs.Pages.{node_of, roots_of}
@@ -138,18 +139,18 @@ module _ (marks : Trail) (m : Mark) (level key : ℕ) (least : 0 < level) where
       (λ x e. held_now marks m x (latched_on m level key (approach_case level key a what _ (subst (λ z. Approaches level key a what (came.On z)) e t)) did) (approach_raised a h))
 
   -- at the parent
-  to_walk_on : (x : ℕ) (c : Page) (v : Walk) → Leads c key level Here → PostArrives key x c (post.Walking v) → m.event.act ≡ Get x → m.saw ≡ Some c → Holding level marks x [] → post_log level key (post.Walking v) more
-  to_walk_on x c v l t did saw h =
-      let unlisted : (node_of c).look key ≡ None = subst (λ z. (node_of z).look key ≡ None) (sym t.2) (subst (λ z. (node_of (Inner v.parent)).look z ≡ None) t.1 v.unlisted) in
-      let here : HoldsParent level key more x c [] = parent_got marks m c did saw h l.2 l.1 unlisted in
-      (subst (λ z. HoldsParent level key more z (Inner v.parent) []) (sym t.0) (subst (λ z. HoldsParent level key more x z []) t.2 here), t.1)
+  to_walk_on : (x : ℕ) (parent : Inner) (v : Walk) → Leads (InnerPage parent) key level Here → PostArrives key x parent (post.Walking v) → m.event.act ≡ Get x → m.saw ≡ Some (InnerPage parent) → Holding level marks x [] → post_log level key (post.Walking v) more
+  to_walk_on x parent v l t did saw h =
+      let unlisted : (node_of (InnerPage parent)).look key ≡ None = subst (λ (z : Inner × ℕ). (node_of (InnerPage z.0)).look z.1 ≡ None) (λ i. (t.2 i, t.1 i)) v.unlisted in
+      let here : HoldsParent level key more x (InnerPage parent) [] = parent_got marks m (InnerPage parent) did saw h l.2 l.1 unlisted in
+      (subst (λ (z : ℕ × Inner). HoldsParent level key more z.0 (InnerPage z.1) []) (λ i. (sym t.0 i, sym t.2 i)) here, t.1)
 
-  listed_on : (x : ℕ) (c : Page) (y : ℕ) → Leads c key level Here → PostArrives key x c (post.Staying y reply.Already) → m.event.act ≡ Get x → m.saw ≡ Some c → Holding level marks x [] → post_log level key (post.Staying y reply.Already) more
-  listed_on x c y l t did saw h = record {
+  listed_on : (x : ℕ) (parent : Inner) (y : ℕ) → Leads (InnerPage parent) key level Here → PostArrives key x parent (post.Staying y reply.Already) → m.event.act ≡ Get x → m.saw ≡ Some (InnerPage parent) → Holding level marks x [] → post_log level key (post.Staying y reply.Already) more
+  listed_on x parent y l t did saw h = record {
     parent = record {
       at = x;
       under = under (held_on marks m [] (λ o. (let e = sym did ∙ o in cc)) (subst (λ a. ArePuts (writes_in a) []) (sym did) tt) h);
-      parent = c;
+      parent = InnerPage parent;
       got = got_last h.during m did saw;
       level_is = l.2;
       covers = l.1;
@@ -165,7 +166,7 @@ module _ (marks : Trail) (m : Mark) (level key : ℕ) (least : 0 < level) where
       subst (RaisesOnly level) (sym (ap (λ z. acts ++ writes_in z) did ∙ (ap (λ z. z ++ Put 0 anchor ∷ []) same ∙ append_assoc before (Put x top ∷ []) (Put 0 anchor ∷ [])))) (RaisesOnly.Again x top anchor raises above)
 
   top_level : (above below : ℕ) (c : Page) → IsTop above below c → (node_of c).shape.level ≡ above
-  top_level above below (Inner i) t = t.0
+  top_level above below (InnerPage i) t = t.0
   top_level above below old t = absurd t
 
   grow_on : {g h : Growth} {what : Seen} → GrowthCase level g what (grew.On h) → m.event.act ≡ event_of None (growth_next g) what → growth_log level g marks → growth_log level h more
@@ -231,23 +232,23 @@ module _ (marks : Trail) (m : Mark) (level key : ℕ) (least : 0 < level) where
   post_on (PostCase.Tallest c t) did saw h = record { last = t.1; first = raised_on (ap writes_in did) h; anchor = c; got = got_last marks m did (saw 0 c did refl); full = t.0 ∙ t.1 }
   post_on (PostCase.ToGrow c t) did saw h = raised_on (ap writes_in did) h
   post_on (PostCase.Came a what b t) did saw h = approach_on a b what t did h
-  post_on (PostCase.Listed x c y l t) did saw h = listed_on x c y l t did (saw x c did refl) h
-  post_on (PostCase.ToWalk x c v l t) did saw h = to_walk_on x c v l t did (saw x c did refl) h
+  post_on (PostCase.Listed x parent y l t) did saw h = listed_on x parent y l t did (saw x (InnerPage parent) did refl) h
+  post_on (PostCase.ToWalk x parent v l t) did saw h = to_walk_on x parent v l t did (saw x (InnerPage parent) did refl) h
   post_on (PostCase.Grew g what k t) did saw h = grow_on (growth_case level g what _ t) did h
   post_on (PostCase.Grown g what b t) did saw h = subst (λ z. approach_log level z more) (sym t.1) (grown_on (growth_case level g what _ t.0) did h)
   post_on (PostCase.NoRoom g what last t) did saw h = subst (λ z. reply_log level key z more) (sym t.1) (grow_end (growth_case level g what _ t.0) did h)
   post_on (PostCase.Walked v c u t) did saw (h, same) =
-      let on : HoldsParent level key more v.at (Inner v.parent) [] = parent_held_on marks m [] (λ o. (let e = sym did ∙ o in cc)) (subst (λ a. ArePuts (writes_in a) []) (sym did) tt) h in
-      (subst (λ z. HoldsParent level key more z (Inner u.parent) []) (sym t.0) (subst (λ z. HoldsParent level key more v.at (Inner z) []) (sym t.2) on), t.1 ∙ same)
+      let on : HoldsParent level key more v.at (InnerPage v.parent) [] = parent_held_on marks m [] (λ o. (let e = sym did ∙ o in cc)) (subst (λ a. ArePuts (writes_in a) []) (sym did) tt) h in
+      (subst (λ z. HoldsParent level key more z (InnerPage u.parent) []) (sym t.0) (subst (λ z. HoldsParent level key more v.at (InnerPage z) []) (sym t.2) on), t.1 ∙ same)
   post_on (PostCase.Entered v c d t) did saw (h, same) =
       let l : Leads c key (level - 1) Here = subst (λ z. Leads c z (level - 1) Here) same t.0 in
-      let both : HoldsBoth level key more v.at (Inner v.parent) v.child [] = child_got marks m v.child c did (saw v.child c did refl) h (let e = l.2 in omega (arith, least)) l.1 (t.1 ∙ same) in
-      enter_on v.at (Inner v.parent) v.child d (subst (λ z. EntersPair v.at (Inner v.parent) z v.child d) same t.2) both
+      let both : HoldsBoth level key more v.at (InnerPage v.parent) v.child [] = child_got marks m v.child c did (saw v.child c did refl) h (let e = l.2 in omega (arith, least)) l.1 (t.1 ∙ same) in
+      enter_on v.at (InnerPage v.parent) v.child d (subst (λ z. EntersPair v.at (InnerPage v.parent) z v.child d) same t.2) both
   post_on (PostCase.Stale v c x t) did saw (h, same) =
       let l : Leads c key (level - 1) Here = subst (λ z. Leads c z (level - 1) Here) same t.1 in
       let on = held_on marks m [] (λ o. (let e = sym did ∙ o in cc)) (subst (λ a. ArePuts (writes_in a) []) (sym did) tt) h.holding in
       inr (record {
-        parent = record { at = v.at; under = under on; parent = Inner v.parent; got = got_on h.holding.during m h.got; level_is = h.level_is; covers = h.covers };
+        parent = record { at = v.at; under = under on; parent = InnerPage v.parent; got = got_on h.holding.during m h.got; level_is = h.level_is; covers = h.covers };
         child = record { at = v.child; child = c; got = got_last h.holding.during m did (saw v.child c did refl); level_is = (let e = l.2 in omega (arith, least)); covers = l.1 };
         none = refl;
         low = subst (λ z. (node_of c).shape.low ≢ z) same t.2;

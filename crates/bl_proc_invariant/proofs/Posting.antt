@@ -2,12 +2,14 @@
 use Rattle.std.proofs.Common.{ℕ, ◌≡◌, ◌≤◌, ◌<◌, ◌-◌, Some, None, suc, [], ◌∷◌, arith, ap, sym, ◌∙◌, refl, subst, inl, inr}
 use Rattle.std.proofs.lemmas.Bool.{cases_eq}
 use Rattle.bl_page.specs.declared.page.Page.{Page}
-use Rattle.bl_page.specs.declared.page.Page.TheVariants.{Inner}
+use Rattle.bl_page.specs.declared.page.Page.TheVariants.{Inner as InnerPage}
+use Rattle.bl_page.specs.declared.page.Inner.{Inner}
 use Rattle.bl_page.specs.Machine.{Name, State, Act}
 use Rattle.bl_page.specs.Machine.Act.{Get}
 use Rattle.bl_claims.specs.Nodes.{Covers, unbounded}
 use Rattle.bl_core_tree.specs.Trees.{IsChild}
 use Rattle.bl_claims.specs.Pages.{node_of}
+use Rattle.bl_claims.specs.Walks.{IsChildOf}
 use Rattle.bl_claims.specs.Trails.{Mark}
 use Rattle.bl_core.proofs.Pushes.{HasSaid-silent}
 use Rattle.bl_core.specs.Worlds.{HoldsPage, Stage, Know, World, nodes, tree_of, IsGoes, IsSure, IsGood}
@@ -63,15 +65,16 @@ module _ {P : Type 0} (know : P → Know) (w : World P) (g : IsGood know w) (p :
       watched know w g p b _ _ before then (Get x) (Some (w.now.contents x)) None s tt (is.stage, not_released know w g p x is.goes.0.may) does refl refl (λ y h. h) (λ it e. cc) (λ j. refl)
       (walks_held w _ p (Get x) (Some (w.now.contents x)) x [] (Unit {0}) is.stage is.said (does.changes.1 x ∙ is.holds.0.owner) is.holds.0.status tt tt)
 
-  walk_turn : (x : ℕ) (v : Walk) (got : ℕ → Page) (child : ℕ) (s : State Page) → know (w.proc p) ≡ know_approach level key (way.Latched x) → know b ≡ know_post level key got child (post.Walking v) → Leads (w.now.contents x) key level Here → PostArrives key x (w.now.contents x) (post.Walking v) → Does w.now p (Get x) s → Turned know w p (Get x) s b
-  walk_turn x v got child s before then l t does =
+  walk_turn : (x : ℕ) (parent : Inner) (v : Walk) (got : ℕ → Page) (child : ℕ) (s : State Page) → know (w.proc p) ≡ know_approach level key (way.Latched x) → know b ≡ know_post level key got child (post.Walking v) → InnerPage parent ≡ w.now.contents x → Leads (InnerPage parent) key level Here → PostArrives key x parent (post.Walking v) → Does w.now p (Get x) s → Turned know w p (Get x) s b
+  walk_turn x parent v got child s before then told leads t does =
       let is : IsSure w p (know_approach level key (way.Latched x)) = rw before at (g.sure p) in
       let held = is.holds.0 in
       let may = is.goes.0.may in
       let m : Mark = record { event = record { process = p; act = Get x }; saw = Some (w.now.contents x); said = None } in
-      let page : w.now.contents x ≡ Inner v.parent = t.2 in
-      let unlisted : (node_of (Inner v.parent)).look key ≡ None = rw t.1 at v.unlisted in
-      let to : IsGoes w p (goes_to v.child (level - 1) (level - 1)) = goes_down know w g p x (level - 1) key v.child may l.0 (let e = l.2 in omega (arith, least)) t.3 in
+      let l = subst (λ z. Leads z key level Here) told leads in
+      let page : w.now.contents x ≡ InnerPage v.parent = sym told ∙ ap InnerPage (sym t.2) in
+      let unlisted : (node_of (InnerPage v.parent)).look key ≡ None = rw t.1 at v.unlisted in
+      let to : IsGoes w p (goes_to v.child (level - 1) (level - 1)) = goes_down know w g p x (level - 1) key v.child may l.0 (let e = l.2 in omega (arith, least)) (subst (λ z. IsChildOf (node_of z).look key v.child) told t.3) in
       watched know w g p b _ _ before then (Get x) (Some (w.now.contents x)) None s tt (is.stage, not_released know w g p x may) does refl refl
       (λ y h. elim h [ inl e ↦ inl (t.0 ∙ e) | inr u ↦ absurd u ]) (λ it e. cc) (λ j. refl)
       (record {
@@ -96,7 +99,7 @@ module _ {P : Type 0} (know : P → Know) (w : World P) (g : IsGood know w) (p :
         let held = is.holds.0 in
         let to = is.goes.0 in
         let m : Mark = record { event = record { process = p; act = Get v.child }; saw = Some (w.now.contents v.child); said = None } in
-        let parent : Inner v.parent ≡ Inner u.parent = ap Inner (sym t.2) in
+        let parent : InnerPage v.parent ≡ InnerPage u.parent = ap InnerPage (sym t.2) in
         let key_is : v.key ≡ key = is.sound.2 in
         let below : v.key < unbounded = rw key_is is.sound.0 in
         let goes : IsGoes w p (goes_to u.child (level - 1) (level - 1)) = rw t.3.0 (wider know w g p _ _ _ (level - 1) (level - 1) to.least to.most (to_right know w g p v.child v.key to.may t.3.1 below)) in
@@ -125,13 +128,13 @@ module _ {P : Type 0} (know : P → Know) (w : World P) (g : IsGood know w) (p :
         watched know w g p b _ _ before then (Get v.child) (Some (w.now.contents v.child)) None s tt (is.stage, not_released know w g p v.child is.goes.0.may) does refl refl (λ y h. h) (λ it e. cc) (λ j. refl)
         (walks_held w _ p (Get v.child) (Some (w.now.contents v.child)) v.at [] (key < unbounded) is.stage is.said (does.changes.1 v.at ∙ is.holds.0.owner) is.holds.0.status tt is.sound.0)
 
-    list_turn : (c : Change) → know b ≡ know_change (post_aim level key v.child) (λ z. Inner v.parent) c → PostWalks level v (w.now.contents v.child) (post.Changing c) → Turned know w p (Get v.child) s b
+    list_turn : (c : Change) → know b ≡ know_change (post_aim level key v.child) (λ z. InnerPage v.parent) c → PostWalks level v (w.now.contents v.child) (post.Changing c) → Turned know w p (Get v.child) s b
     list_turn c then t =
         let is = walking in
         let held = is.holds.0 in
         let to = is.goes.0 in
         let aim = post_aim level key v.child in
-        let page = Inner v.parent in
+        let page = InnerPage v.parent in
         let key_is : v.key ≡ key = is.sound.2 in
         let due : IsDue aim page = record { level = is.sound.1.level; covers = is.sound.1.covers; was = is.sound.1.was } in
         let enters : EntersPair v.at page key v.child c = subst (λ z. EntersPair v.at page z v.child c) key_is t.2 in
@@ -168,12 +171,12 @@ module _ {P : Type 0} (know : P → Know) (w : World P) (g : IsGood know w) (p :
       let is : IsSure w p (know_approach level key way.Start) = rw before at (g.sure p) in
       got_goes know w g p b level key _ 0 s [] before refl refl then is.stage is.said (anchor_not_released know w g) does is.sound tt
   post_turn (PostCase.Came a what a' t) got child s before then told does = approach_turn know w g p b level key a a' what s limit before then t told does
-  post_turn (PostCase.Listed x c y l t) got child s before then told does = listed_turn x s before (rw t.0 at then) does
-  post_turn (PostCase.ToWalk x c v l t) got child s before then told does = walk_turn x v got child s before then (rw told at l) (subst (λ z. PostArrives key x z (post.Walking v)) told t) does
+  post_turn (PostCase.Listed x parent y l t) got child s before then told does = listed_turn x s before (rw t.0 at then) does
+  post_turn (PostCase.ToWalk x parent v l t) got child s before then told does = walk_turn x parent v got child s before then told l t does
   post_turn (PostCase.Grew h what d t) got child s before then told does = growing.growth_turn know w g p b level key (growth_case level h what _ t) got s before then told does
   post_turn (PostCase.Grown h what a t) got child s before then told does = growing.over_turn know w g p b level key (growth_case level h what _ t.0) got s before (rw t.1 at then) does
   post_turn (PostCase.NoRoom h what r t) got child s before then told does = growing.no_room_turn know w g p b level key (growth_case level h what _ t.0) got s before then does
-  post_turn (PostCase.Walked v c u t) got child s before then told does = step_turn v got child s before does u (λ z. Inner v.parent) v.child then (subst (λ z. PostWalks level v z (post.Walking u)) told t)
+  post_turn (PostCase.Walked v c u t) got child s before then told does = step_turn v got child s before does u (λ z. InnerPage v.parent) v.child then (subst (λ z. PostWalks level v z (post.Walking u)) told t)
   post_turn (PostCase.Entered v c d t) got child s before then told does = list_turn v got child s before does d then (subst (λ z. PostWalks level v z (post.Changing d)) told t)
   post_turn (PostCase.Stale v c x t) got child s before then told does = lost_turn v got child s before does (rw t.0 at then)
   post_turn (PostCase.Lost v c a t) got child s before then told does = again_turn v got child s before does (rw t.0 at then)

@@ -16,14 +16,12 @@ use Rattle.bl_core.proofs.Pushes.{HasSaid-silent}
 use Rattle.bl_core.specs.Worlds.{Stage, Know, World, MayGet, IsGoes, IsSure, IsGood, silent}
 use Rattle.bl_core.proofs.Descents.{goes_down, not_released, anchor_not_released}
 use Rattle.bl_proc_base.specs.declared.acts.Seen.{Seen}
-use Rattle.bl_proc_base.specs.declared.onwards.Step.TheVariants.{Here}
 use Rattle.bl_proc_base.specs.declared.approaching.Approach.TheVariants as way
 use Rattle.bl_proc_compress.specs.declared.compressing.Family.{Family}
 use Rattle.bl_proc_compress.specs.declared.compressing.Fate.{Fate}
 use Rattle.bl_proc_compress.specs.declared.compressing.Compression.{Compression}
 use Rattle.bl_proc_compress.specs.declared.compressing.Compression.TheVariants.{LatchingLeft}
 use Rattle.bl_proc_compress.specs.declared.compressing.Compressed.TheVariants as step
-use Rattle.bl_proc_base.specs.Onwards.{Leads}
 use Rattle.bl_proc_compress.specs.Compressions.{right_place, AreSiblings, compression_next}
 use Rattle.bl_proc_compress.proofs.Places.{listed_at}
 use Rattle.bl_proc_compress.specs.declared.squeezing.CompressStage.{CompressStage}
@@ -60,8 +58,8 @@ module _ {P : Type 0} (know : P → Know) (w : World P) (g : IsGood know w) (p :
       goes_down know w g p x (level - 1) k c may (subst IsTreePage (sym page) tt) (ap (λ v. (node_of v).shape.level) page ∙ (at ∙ (let e : level ≡ suc (level - 1) = omega (arith, least) in e)))
       (record { key = k; listed = ap (λ v. (node_of v).look k) page ∙ listed; reached = omega arith; greatest = λ j other e le. le })
 
-  family_turn : (x : ℕ) (f : Family) (got : ℕ → Page) (s : State Page) → know (w.proc p) ≡ know_approach level key (way.Latched x) → know b ≡ know_squeeze level key got (LatchingLeft f) → Leads (w.now.contents x) key level Here → (parent : Inner) × (w.now.contents x ≡ InnerPage parent) × AreSiblings x key parent (Some f) → Does w.now p (Get x) s → Turned know w p (Get x) s b
-  family_turn x f got s before then l (parent, page, siblings) does =
+  family_turn : (x : ℕ) (parent : Inner) (f : Family) (got : ℕ → Page) (s : State Page) → know (w.proc p) ≡ know_approach level key (way.Latched x) → know b ≡ know_squeeze level key got (LatchingLeft f) → w.now.contents x ≡ InnerPage parent → parent.level ≡ level → AreSiblings x key parent (Some f) → Does w.now p (Get x) s → Turned know w p (Get x) s b
+  family_turn x parent f got s before then page at_level siblings does =
       let two = siblings.0 in
       let family = siblings.1 in
       let is : IsSure w p (know_approach level key (way.Latched x)) = rw before at (g.sure p) in
@@ -70,7 +68,6 @@ module _ {P : Type 0} (know : P → Know) (w : World P) (g : IsGood know w) (p :
       let m : Mark = record { event = record { process = p; act = Get x }; saw = Some (w.now.contents x); said = None } in
       let items = parent.children.items in
       let i = right_place key items - 1 in
-      let at_level : parent.level ≡ level = ap (λ v. (node_of v).shape.level) (sym page) ∙ l.2 in
       let left : map_of items (get_or items i (0, 0)).0 ≡ Some f.at.left = listed_at 0 i items parent.order (left_within key items two) ∙ ap Some family.left in
       let right : map_of items f.key ≡ Some f.at.right = ap (λ (v : Inner). map_of v.children.items f.key) (sym family.parent_is) ∙ f.lists in
       watched know w g p b _ _ before then (Get x) (Some (w.now.contents x)) None s tt (is.stage, not_released know w g p x may) does refl refl
@@ -108,8 +105,8 @@ module _ {P : Type 0} (know : P → Know) (w : World P) (g : IsGood know w) (p :
   compress_turn (CompressCase.Began a t) got s before then told does = begin_turn know w g p b key s before (rw t at then) does
   compress_turn (CompressCase.NoLevel c t) got s before then told does = alone_turn s before then does
   compress_turn (CompressCase.Came a what a' t) got s before then told does = approach_turn know w g p b level key a a' what s limit before then t told does
-  compress_turn (CompressCase.Met x c f l t) got s before then told does = family_turn x f got s before then (rw told at l) (subst (λ z. (parent : Inner) × (z ≡ InnerPage parent) × AreSiblings x key parent (Some f)) told t) does
-  compress_turn (CompressCase.Single x c y l t) got s before then told does = one_turn x s before (rw t.0 at then) does
+  compress_turn (CompressCase.Met x parent f l t) got s before then told does = family_turn x parent f got s before then (sym told) l.2 t does
+  compress_turn (CompressCase.Single x parent y l t) got s before then told does = one_turn x s before (rw t.0 at then) does
   compress_turn (CompressCase.Squeezed c what d t) got s before then told does = compression_turn know w g p b level key least got c d what s before then t told does
   compress_turn (CompressCase.Lost c what a (fate, t, none, start)) got s before then told does = over_turn (squeeze_case c what _ t) (key < unbounded) got s before (rw start at then) (λ e. e) does
   compress_turn (CompressCase.Finished c what r (fate, t, some)) got s before then told does = over_turn (squeeze_case c what _ t) (Unit {0}) got s before then (λ e. tt) does

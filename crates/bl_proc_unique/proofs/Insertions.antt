@@ -19,10 +19,11 @@ use Rattle.bl_proc_base.specs.Changes.{EntersPair, Changes}
 use Rattle.bl_proc.specs.declared.kinds.Proc.{Proc}
 use Rattle.bl_proc.specs.declared.kinds.Proc.TheVariants as proc
 use Rattle.bl_proc.specs.Processes.{Takes}
+use Rattle.bl_proc_base.proofs.Ways.{here_leads}
 use Rattle.bl_proc_unique.specs.Courses.{GoesOn}
 use Rattle.bl_proc_unique.specs.One.{One}
 use Rattle.bl_proc_unique.proofs.Cases.{came_on, came_at, came_as, not_both}
-use Rattle.bl_proc_unique.proofs.Ways.{approach_one, here_leads}
+use Rattle.bl_proc_unique.proofs.Ways.{approach_one}
 use Rattle.bl_proc_unique.proofs.Changes.{enter_one, change_one}
 use Rattle.bl_proc_unique.proofs.Leaves.{leaf_covers, leaf_lists, leaf_holds}
 use Rattle.bl_proc.specs.declared.inserting.Insert.{Insert}
