@@ -40,7 +40,7 @@ use Rattle.bl_proc_base.specs.Changes.{change_next, EntersPair}
 use Rattle.bl_proc_base.specs.Growths.{growth_next, IsTop}
 use Rattle.bl_proc.specs.Posts.{post_reply, post_next_in, PostArrives}
 use Rattle.bl_proc_invariant.specs.Turns.{event_of}
-use Rattle.bl_proc_invariant.specs.Logs.{Holding, HoldsParent, HoldsBoth, IsToPut, approach_log, outcome_log, change_log, growth_log, reply_log, post_log}
+use Rattle.bl_proc_invariant.specs.Logs.{Holding, HoldsParent, HoldsBoth, IsToPut, on_way, approach_log, outcome_log, change_log, growth_log, reply_log, post_log}
 use Rattle.bl_proc_invariant.proofs.Holdings.{held_raised, held_now, held_on, parent_held_on, both_held_on, child_got, parent_got, refused_while, under, is_parted, cut_low, row_together, cut_together}
 use Rattle.bl_proc_unique.proofs.WayCases.{ApproachCase, approach_case, ChangeCase, change_case, GrowthCase, growth_case}
 use Rattle.bl_proc_unique.proofs.KindCases.{PostCase}
@@ -93,6 +93,33 @@ module _ (m : Mark) (level key : ℕ) where
   latched_on (ApproachCase.OpenedFor x z _ t) did = absurd (let e = t in cc)
   latched_on (ApproachCase.OpenedLost x _ t) did = absurd (let e = t in cc)
 
+-- A writer on its way, and one mark more.
+way_off : {Off : Type 0} {Held : ℕ → Type 0} → ((x : ℕ) → Held x → Off) → (a : Approach) → on_way Off Held a → Off
+way_off off way.Start h = h
+way_off off (way.At x) h = h
+way_off off (way.Latching x) h = h
+way_off off (way.Latched x) h = off x h
+way_off off (way.Leaving x to) h = h
+
+way_to : {Off : Type 0} {Held : ℕ → Type 0} → Off → (b : Approach) → ((x : ℕ) → b ≡ way.Latched x → Held x) → on_way Off Held b
+way_to first way.Start latched = first
+way_to first (way.At x) latched = first
+way_to first (way.Latching x) latched = first
+way_to first (way.Latched x) latched = latched x refl
+way_to first (way.Leaving x to) latched = first
+
+pub way_stays : {Off Off' : Type 0} {Held Held' : ℕ → Type 0} → (Off → Off') → ((x : ℕ) → Held x → Held' x) → (a : Approach) → on_way Off Held a → on_way Off' Held' a
+way_stays off held way.Start h = off h
+way_stays off held (way.At x) h = off h
+way_stays off held (way.Latching x) h = off h
+way_stays off held (way.Latched x) h = held x h
+way_stays off held (way.Leaving x to) h = off h
+
+pub way_goes : {Off Off' : Type 0} {Held Held' : ℕ → Type 0} (m : Mark) (level key : ℕ) → ((x : ℕ) → Held x → Off) → (writes_in m.event.act ≡ [] → Off → Off') → ((x : ℕ) → m.event.act ≡ Latch x → Off → Held' x) → (a b : Approach) (what : Seen) → Approaches level key a what (came.On b) → m.event.act ≡ event_of None (approach_next a) what → on_way Off Held a → on_way Off' Held' b
+way_goes m level key off on held a b what t did h =
+    let was = way_off off a h in
+    way_to (on (ap writes_in did ∙ approach_writes a what) was) b (λ x e. held x (latched_on m level key (approach_case level key a what _ (subst (λ z. Approaches level key a what (came.On z)) e t)) did) was)
+
 module _ (marks : Trail) (m : Mark) (level key : ℕ) (least : 0 < level) where
   abbrev more : Trail
   more = marks ++ m ∷ []
@@ -118,25 +145,6 @@ module _ (marks : Trail) (m : Mark) (level key : ℕ) (least : 0 < level) where
   outcome_reply outcome.Changed h = h
   outcome_reply (outcome.Parted s) h = h
   outcome_reply outcome.Refused h = h
-
-  approach_raised : (a : Approach) → approach_log level a marks → HasRaised level marks
-  approach_raised way.Start h = h
-  approach_raised (way.At x) h = h
-  approach_raised (way.Latching x) h = h
-  approach_raised (way.Latched x) h = held_raised h
-  approach_raised (way.Leaving x to) h = h
-
-  -- wherever it goes on its way
-  off_on : (b : Approach) → (y : ℕ) → HasRaised level more → ((x : ℕ) → b ≡ way.Latched x → Holding level more x []) → approach_log level b more
-  off_on way.Start y first latched = first
-  off_on (way.At x) y first latched = first
-  off_on (way.Latching x) y first latched = first
-  off_on (way.Latched x) y first latched = latched x refl
-  off_on (way.Leaving x to) y first latched = first
-
-  approach_on : (a b : Approach) (what : Seen) → Approaches level key a what (came.On b) → m.event.act ≡ event_of None (approach_next a) what → approach_log level a marks → approach_log level b more
-  approach_on a b what t did h = off_on b 0 (raised_on (ap writes_in did ∙ approach_writes a what) (approach_raised a h))
-      (λ x e. held_now marks m x (latched_on m level key (approach_case level key a what _ (subst (λ z. Approaches level key a what (came.On z)) e t)) did) (approach_raised a h))
 
   -- at the parent
   to_walk_on : (x : ℕ) (parent : Inner) (v : Walk) → Leads (InnerPage parent) key level Here → PostArrives key x parent (post.Walking v) → m.event.act ≡ Get x → m.saw ≡ Some (InnerPage parent) → Holding level marks x [] → post_log level key (post.Walking v) more
@@ -231,7 +239,7 @@ module _ (marks : Trail) (m : Mark) (level key : ℕ) (least : 0 < level) where
   post_on (PostCase.NoLevel c t) did saw h = inl (record { first = raised_on (ap writes_in did) h; anchor = c; got = got_last marks m did (saw 0 c did refl); few = t })
   post_on (PostCase.Tallest c t) did saw h = record { last = t.1; first = raised_on (ap writes_in did) h; anchor = c; got = got_last marks m did (saw 0 c did refl); full = t.0 ∙ t.1 }
   post_on (PostCase.ToGrow c t) did saw h = raised_on (ap writes_in did) h
-  post_on (PostCase.Came a what b t) did saw h = approach_on a b what t did h
+  post_on (PostCase.Came a what b t) did saw h = way_goes m level key (λ x k. held_raised k) raised_on (held_now marks m) a b what t did h
   post_on (PostCase.Listed x parent y l t) did saw h = listed_on x parent y l t did (saw x (InnerPage parent) did refl) h
   post_on (PostCase.ToWalk x parent v l t) did saw h = to_walk_on x parent v l t did (saw x (InnerPage parent) did refl) h
   post_on (PostCase.Grew g what k t) did saw h = grow_on (growth_case level g what _ t) did h
@@ -270,13 +278,6 @@ module _ (marks : Trail) (m : Mark) (level key : ℕ) (least : 0 < level) where
     to_put_stays : {x : ℕ} (puts pages : _) → IsToPut level key marks x puts pages → IsToPut level key more x puts pages
     to_put_stays puts pages h = record { parent = h.parent; child = h.child; both = both_stay puts h.both; together = h.together }
 
-    approach_stays : (a : Approach) → approach_log level a marks → approach_log level a more
-    approach_stays way.Start h = raised_on quiet h
-    approach_stays (way.At x) h = raised_on quiet h
-    approach_stays (way.Latching x) h = raised_on quiet h
-    approach_stays (way.Latched x) h = held_on marks m [] (shut x) put h
-    approach_stays (way.Leaving x to) h = raised_on quiet h
-
     growth_stays : (g : Growth) → growth_log level g marks → growth_log level g more
     growth_stays growth.Latching h = raised_on quiet h
     growth_stays growth.Latched h = held_on marks m [] (shut 0) put h
@@ -297,7 +298,7 @@ module _ (marks : Trail) (m : Mark) (level key : ℕ) (least : 0 < level) where
 
     pub post_stays : (old : PostStage) → post_log level key old marks → post_log level key old more
     post_stays post.New h = tt
-    post_stays (post.Coming a) h = approach_stays a h
+    post_stays (post.Coming a) h = way_stays (raised_on quiet) (λ x k. held_on marks m [] (shut x) put k) a h
     post_stays (post.Growing g) h = growth_stays g h
     post_stays (post.Walking v) h = (parent_held_on marks m [] (shut v.at) put h.0, h.1)
     post_stays (post.Changing c) h = change_stays c h

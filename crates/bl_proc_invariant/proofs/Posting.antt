@@ -4,7 +4,7 @@ use Rattle.std.proofs.lemmas.Bool.{cases_eq}
 use Rattle.bl_page.specs.declared.page.Page.{Page}
 use Rattle.bl_page.specs.declared.page.Page.TheVariants.{Inner as InnerPage}
 use Rattle.bl_page.specs.declared.page.Inner.{Inner}
-use Rattle.bl_page.specs.Machine.{Name, State, Act}
+use Rattle.bl_page.specs.Machine.{Name, State}
 use Rattle.bl_page.specs.Machine.Act.{Get}
 use Rattle.bl_claims.specs.Nodes.{Covers, unbounded}
 use Rattle.bl_core_tree.specs.Trees.{IsChild}
@@ -27,9 +27,9 @@ use Rattle.bl_proc_base.specs.Changes.{EntersPair}
 use Rattle.bl_proc.specs.Posts.{post_next_in, PostArrives, PostWalks}
 use Rattle.bl_proc_invariant.specs.Turns.{event_of, IsTold, Does, Turned}
 use Rattle.bl_proc_invariant.specs.Tables.{idle, holds_live, goes_to, IsAim, IsDue, know_approach, know_change}
-use Rattle.bl_proc_invariant.specs.Knowing.{ending, post_aim, know_post, post_got, post_child}
-use Rattle.bl_proc_invariant.proofs.Acts.{watched, opened}
-use Rattle.bl_proc_invariant.proofs.Approaching.{walks, walks_held, wider, to_right, got_goes, approach_turn}
+use Rattle.bl_proc_invariant.specs.Knowing.{post_aim, know_post, post_got, post_child}
+use Rattle.bl_proc_invariant.proofs.Acts.{watched}
+use Rattle.bl_proc_invariant.proofs.Approaching.{walks_held, wider, to_right, got_goes, approach_turn, give_up_turn, kept_turn, stay_turn}
 use Rattle.bl_proc_invariant.proofs.Changing.{change_turn, finish_turn}
 use Rattle.bl_proc_invariant.proofs.Entering.{enters_learns, enters_places, change_middle}
 use Rattle.bl_proc_invariant.proofs.Ends.{begin_turn, end_turn}
@@ -51,20 +51,7 @@ post_fine level key child above = record {
     same a c f = cc
 
 module _ {P : Type 0} (know : P → Know) (w : World P) (g : IsGood know w) (p : Name) (b : P) (level key : ℕ) (least : 0 < level) (limit : level ≤ 12) where
-  -- at the anchor
-  give_up_turn : (s : State Page) → know (w.proc p) ≡ know_approach level key way.Start → know b ≡ ending None → Does w.now p (Get 0) s → Turned know w p (Get 0) s b
-  give_up_turn s before then does =
-      let is : IsSure w p (know_approach level key way.Start) = rw before at (g.sure p) in
-      watched know w g p b _ _ before then (Get 0) (Some (w.now.contents 0)) None s tt (is.stage, anchor_not_released know w g) does refl refl (λ y h. h) (λ it e. cc) (λ j. refl)
-      (walks w _ p (Get 0) (Some (w.now.contents 0)) [] (Unit {0}) is.stage is.said tt tt)
-
   -- at the parent
-  listed_turn : (x : ℕ) (s : State Page) → know (w.proc p) ≡ know_approach level key (way.Latched x) → know b ≡ record (idle Stage.Busy) { holds = holds_live x ∷ [] } → Does w.now p (Get x) s → Turned know w p (Get x) s b
-  listed_turn x s before then does =
-      let is : IsSure w p (know_approach level key (way.Latched x)) = rw before at (g.sure p) in
-      watched know w g p b _ _ before then (Get x) (Some (w.now.contents x)) None s tt (is.stage, not_released know w g p x is.goes.0.may) does refl refl (λ y h. h) (λ it e. cc) (λ j. refl)
-      (walks_held w _ p (Get x) (Some (w.now.contents x)) x [] (Unit {0}) is.stage is.said (does.changes.1 x ∙ is.holds.0.owner) is.holds.0.status tt tt)
-
   walk_turn : (x : ℕ) (parent : Inner) (v : Walk) (got : ℕ → Page) (child : ℕ) (s : State Page) → know (w.proc p) ≡ know_approach level key (way.Latched x) → know b ≡ know_post level key got child (post.Walking v) → InnerPage parent ≡ w.now.contents x → Leads (InnerPage parent) key level Here → PostArrives key x parent (post.Walking v) → Does w.now p (Get x) s → Turned know w p (Get x) s b
   walk_turn x parent v got child s before then told leads t does =
       let is : IsSure w p (know_approach level key (way.Latched x)) = rw before at (g.sure p) in
@@ -154,24 +141,16 @@ module _ {P : Type 0} (know : P → Know) (w : World P) (g : IsGood know w) (p :
           children = ((does.changes.1 v.at ∙ held.owner, found), tt);
         }) refl enters)
 
-  -- the parent stays as it is, and is opened
-  stay_turn : (x : ℕ) (s : State Page) → know (w.proc p) ≡ record (idle Stage.Busy) { holds = holds_live x ∷ [] } → know b ≡ ending None → Does w.now p (Act.Open x) s → Turned know w p (Act.Open x) s b
-  stay_turn x s before then does =
-      let is : IsSure w p (record (idle Stage.Busy) { holds = holds_live x ∷ [] }) = rw before at (g.sure p) in
-      opened know w g p b _ _ before then x s is.holds.0.owner does (inl is.holds.0.status) refl refl (λ e. cc, tt)
-      (λ z n h. elim h [ inl e ↦ absurd (n (sym e)) | inr u ↦ absurd u ])
-      (walks w _ p (Act.Open x) None [] (Unit {0}) is.stage is.said tt tt)
-
   -- every turn of a post
   pub post_turn : {a a' : PostStage} {what : Seen} → PostCase level key a what a' → (got : ℕ → Page) (child : ℕ) (s : State Page) → know (w.proc p) ≡ know_post level key got child a → know b ≡ know_post level key (post_got got a what) (post_child child a) a' → IsTold w.now w.size (post_next_in a) what → Does w.now p (event_of None (post_next_in a) what) s → Turned know w p (event_of None (post_next_in a) what) s b
   post_turn (PostCase.Began a t) got child s before then told does = begin_turn know w g p b key s before (rw t at then) does
-  post_turn (PostCase.NoLevel c t) got child s before then told does = give_up_turn s before then does
-  post_turn (PostCase.Tallest c t) got child s before then told does = give_up_turn s before then does
+  post_turn (PostCase.NoLevel c t) got child s before then told does = give_up_turn know w g p b level key s before then does
+  post_turn (PostCase.Tallest c t) got child s before then told does = give_up_turn know w g p b level key s before then does
   post_turn (PostCase.ToGrow c t) got child s before then told does =
       let is : IsSure w p (know_approach level key way.Start) = rw before at (g.sure p) in
       got_goes know w g p b level key _ 0 s [] before refl refl then is.stage is.said (anchor_not_released know w g) does is.sound tt
   post_turn (PostCase.Came a what a' t) got child s before then told does = approach_turn know w g p b level key a a' what s limit before then t told does
-  post_turn (PostCase.Listed x parent y l t) got child s before then told does = listed_turn x s before (rw t.0 at then) does
+  post_turn (PostCase.Listed x parent y l t) got child s before then told does = kept_turn know w g p b level key x s before (rw t.0 at then) does
   post_turn (PostCase.ToWalk x parent v l t) got child s before then told does = walk_turn x parent v got child s before then told l t does
   post_turn (PostCase.Grew h what d t) got child s before then told does = growing.growth_turn know w g p b level key (growth_case level h what _ t) got s before then told does
   post_turn (PostCase.Grown h what a t) got child s before then told does = growing.over_turn know w g p b level key (growth_case level h what _ t.0) got s before (rw t.1 at then) does
@@ -182,5 +161,5 @@ module _ {P : Type 0} (know : P → Know) (w : World P) (g : IsGood know w) (p :
   post_turn (PostCase.Lost v c a t) got child s before then told does = again_turn v got child s before does (rw t.0 at then)
   post_turn (PostCase.Changed c what d t) got child s before then told does = change_turn know w g p b (post_aim level key child) (post_fine level key child least) got (change_case c what _ t) s before then told does
   post_turn (PostCase.Finished c what r (o, t, same)) got child s before then told does = finish_turn know w g p b (post_aim level key child) (post_fine level key child least) got (change_case c what _ t) _ s before then tt does
-  post_turn (PostCase.Opened x r last t) got child s before then told does = stay_turn x s before then does
+  post_turn (PostCase.Opened x r last t) got child s before then told does = stay_turn know w g p b level key x s before then does
   post_turn (PostCase.Ended r last t) got child s before then told does = end_turn know w g p b None s before then does

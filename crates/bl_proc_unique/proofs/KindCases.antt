@@ -14,7 +14,7 @@ use Rattle.bl_proc_base.specs.declared.onwards.Step.TheVariants.{Again, Right, D
 use Rattle.bl_proc_base.specs.declared.approaching.Approach.{Approach}
 use Rattle.bl_proc_base.specs.declared.approaching.Approach.TheVariants as way
 use Rattle.bl_proc_base.specs.declared.approaching.Approached.TheVariants as came
-use Rattle.bl_proc_base.specs.declared.approaching.Came.{Came}
+use Rattle.bl_proc_base.specs.declared.approaching.Came.{Came as Became}
 use Rattle.bl_proc_base.specs.declared.approaching.Came.TheVariants as come
 use Rattle.bl_proc_base.specs.declared.changing.Outcome.{Outcome}
 use Rattle.bl_proc_base.specs.declared.changing.Change.{Change}
@@ -77,7 +77,7 @@ at_page {level = level} {key = key} {y = y} {a = a} {what = what} {d = d} P Q h 
 
 -- On the way to a parent the tree lacks its level, or the way goes on, or the process got the parent under its latch; and what
 -- is said of what became of the way is said of what was got.
-came_by : (level key : ℕ) (a : Approach) (what : Seen) (m : Came) (P : Came → Type 0) (Q : Approach → Seen → Type 0) → Comes level key a what m → P m
+came_by : (level key : ℕ) (a : Approach) (what : Seen) (m : Became) (P : Became → Type 0) (Q : Approach → Seen → Type 0) → Comes level key a what m → P m
     → ((c : Page) → (roots_of c).levels ≤ level → P (come.NoLevel (roots_of c).levels) → Q way.Start (seen.Words c))
     → ((b : Approach) → Approaches level key a what (came.On b) → P (come.On b) → Q a what)
     → ((x : ℕ) (parent : Inner) → Leads (InnerPage parent) key level Here → P (come.ToParent x parent) → Q (way.Latched x) (seen.Words (InnerPage parent)))
