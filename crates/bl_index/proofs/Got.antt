@@ -131,10 +131,10 @@ module _ (marks : Trail) (m : Mark) where
   posting (PostCase.Tallest c t) did saw h = tt
   posting (PostCase.ToGrow c t) did saw h = tt
   posting {level = level} {key = key} (PostCase.Came a what b t) did saw h = coming level key a b what t did
-  posting (PostCase.Listed x c y l t) did saw h = tt
-  posting {level = level} {key = key} (PostCase.ToWalk x c v l t) did saw h =
-      let here : GotAt level key more x c = record { got = got_now x c did (saw x c did refl) h; level_is = l.2; covers = l.1 } in
-      (t.1, subst (λ (z : ℕ × Page). GotAt level key more z.0 z.1) (λ i. (sym t.0 i, t.2 i)) here)
+  posting (PostCase.Listed x parent y l t) did saw h = tt
+  posting {level = level} {key = key} (PostCase.ToWalk x parent v l t) did saw h =
+      let here : GotAt level key more x (Inner parent) = record { got = got_now x (Inner parent) did (saw x (Inner parent) did refl) h; level_is = l.2; covers = l.1 } in
+      (t.1, subst (λ (z : ℕ × Page). GotAt level key more z.0 z.1) (λ i. (sym t.0 i, Inner (sym t.2 i))) here)
   posting {level = level} (PostCase.Grew g what k t) did saw h = growing level (growth_case level g what _ t) did saw h
   posting (PostCase.Grown g what a t) did saw h = subst (λ (z : Approach). approach_held z more) (sym t.1) tt
   posting (PostCase.NoRoom g what last t) did saw h = tt

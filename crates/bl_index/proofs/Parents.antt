@@ -9,6 +9,7 @@ use Rattle.bl_rearrange.specs.Rearranged.{pairs_of}
 use Rattle.bl_rearrange.proofs.EnteredLemmas.{RisesFrom-entered, map_of-entered}
 use Rattle.bl_proc_base.specs.declared.acts.Seen.TheVariants as seen
 use Rattle.bl_proc_base.specs.declared.approaching.Approach.TheVariants as approach
+use Rattle.bl_proc_base.specs.declared.approaching.Came.TheVariants as come
 use Rattle.bl_proc_base.specs.declared.changing.Change.{Change}
 use Rattle.bl_proc_base.specs.declared.changing.Change.TheVariants as change
 use Rattle.bl_proc_base.specs.declared.changing.Full.{Full}
@@ -78,11 +79,13 @@ nonzero (suc z) some = omega arith
 
 module _ (j : Posting) where
   -- where a post stands that has got its parent
-  module _ (x : ℕ) (c : Page) (state : Proc) (takes : Takes (posting j (post.Coming (approach.Latched x)) tt) (seen.Words c) state) (leads : Leads c j.key j.level Here) where
-    pub stands_already : (child : ℕ) → Some child ≡ (node_of c).look j.key → state ≡ posting j (post.Staying x reply.Already) tt
-    stands_already child e =
-        let course = post_goes (record { level = j.level; key = j.key; stage = post.Coming (approach.Latched x); least = j.least; most = j.most; below = tt }) (seen.Words c) refl tt in
-        course.only state takes ∙ sym (course.only (posting j (post.Staying x reply.Already) tt) (refl, refl, (x, c, (refl, refl, leads), (refl, (child, sym e)))))
+  pub stands_already : (x : ℕ) (c : Page) (state : Proc) → Takes (posting j (post.Coming (approach.Latched x)) tt) (seen.Words c) state → Leads c j.key j.level Here → (child : ℕ) → Some child ≡ (node_of c).look j.key → state ≡ posting j (post.Staying x reply.Already) tt
+  stands_already x (page.Anchor a) state takes leads child e = absurd leads.0
+  stands_already x (page.Leaf l) state takes leads child e = absurd (let is = leads.2 in let least = j.least in omega arith)
+  stands_already x (page.Dead d) state takes leads child e = absurd leads.0
+  stands_already x (page.Inner i) state takes leads child e =
+      let course = post_goes (record { level = j.level; key = j.key; stage = post.Coming (approach.Latched x); least = j.least; most = j.most; below = tt }) (seen.Words (page.Inner i)) refl tt in
+      course.only state takes ∙ sym (course.only (posting j (post.Staying x reply.Already) tt) (refl, refl, (come.ToParent x i, (refl, refl, leads), (refl, (child, sym e)))))
 
   pub stands_walking : (x child : ℕ) (c : Page) (words : List ℕ) (state : Proc) → Takes (posting j (post.Coming (approach.Latched x)) tt) (seen.Words c) state → words ≡ words_of c → Leads c j.key j.level Here → None ≡ (node_of c).look j.key → Leads c j.key (j.level - 1) (Down child) → IsWalking j x words child state
   stands_walking x child (page.Anchor a) words state takes is leads none down = absurd leads.0
@@ -96,7 +99,7 @@ module _ (j : Posting) where
       record {
         walk = w;
         below = below;
-        is = course.only state takes ∙ sym (course.only (posting j (post.Walking w) below) (refl, refl, (x, c, (refl, refl, leads), (refl, refl, refl, down.3))));
+        is = course.only state takes ∙ sym (course.only (posting j (post.Walking w) below) (refl, refl, (come.ToParent x i, (refl, refl, leads), (refl, refl, refl, down.3))));
         at = refl;
         key = refl;
         parent = is;
@@ -167,7 +170,7 @@ module _ (j : Posting) where
 
   -- it has opened its parent, and begins again
   pub lost_again : (x : ℕ) → Takes (posting j (post.Coming (approach.Leaving x None)) tt) seen.Done (posting j (post.Coming approach.Start) tt)
-  lost_again x = (refl, refl, refl)
+  lost_again x = (refl, refl, (come.On approach.Start, (tt, refl), refl))
 
 -- what became of a post, from an earlier state of its pass on
 pub over_since : (l : Layout) (j : Posting) (d e : Mine) (h : Seat (Unit {0}) (View Mine)) (t : Option (Posted × Option Hint)) → IsSameProcess d e → IsPostOver l j e h t → IsPostOver l j d h t

@@ -1,12 +1,13 @@
 -- How far a writer has come on its way.
-use Rattle.std.specs.Prelude.{ℕ}
+use Rattle.std.specs.Prelude.{ℕ, refl}
 use Rattle.bl_proc_base.specs.declared.acts.Seen.{Seen}
 use Rattle.bl_proc_base.specs.declared.approaching.Approach.{Approach}
 use Rattle.bl_proc_base.specs.declared.approaching.Approach.TheVariants.{Start, At, Latching, Latched, Leaving}
 use Rattle.bl_proc_base.specs.declared.approaching.Approached.TheVariants as came
+use Rattle.bl_proc_base.specs.declared.approaching.Came.TheVariants as come
 use Rattle.bl_proc_base.specs.Approaches.{Approaches}
 use Rattle.bl_proc.specs.declared.posting.PostStage.TheVariants as post
-use Rattle.bl_proc.specs.Posts.{PostComes}
+use Rattle.bl_proc.specs.Posts.{PostGoes}
 
 -- it is past the anchor
 abbrev pub IsPast : Approach → Type 0
@@ -17,9 +18,9 @@ IsPast (Latched x) = Unit {0}
 IsPast (Leaving x to) = Unit {0}
 
 -- a post goes on as any writer then
-pub nears : (level key : ℕ) (a b : Approach) (what : Seen) → IsPast a → Approaches level key a what (came.On b) → PostComes level key a what (post.Coming b)
+pub nears : (level key : ℕ) (a b : Approach) (what : Seen) → IsPast a → Approaches level key a what (came.On b) → PostGoes level key (post.Coming a) what (post.Coming b)
 nears level key Start b what past t = absurd past
-nears level key (At x) b what past t = t
-nears level key (Latching x) b what past t = t
-nears level key (Latched x) b what past t = t
-nears level key (Leaving x to) b what past t = t
+nears level key (At x) b what past t = (come.On b, (tt, t), refl)
+nears level key (Latching x) b what past t = (come.On b, (tt, t), refl)
+nears level key (Latched x) b what past t = (come.On b, (tt, t), refl)
+nears level key (Leaving x to) b what past t = (come.On b, (tt, t), refl)

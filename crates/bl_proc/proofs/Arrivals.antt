@@ -8,12 +8,9 @@ use Rattle.bl_proc.specs.declared.inserting.InsertStage.{InsertStage}
 use Rattle.bl_proc.specs.declared.inserting.InsertStage.TheVariants as insert
 use Rattle.bl_proc.specs.declared.deleting.DeleteStage.{DeleteStage}
 use Rattle.bl_proc.specs.declared.deleting.DeleteStage.TheVariants as delete
-use Rattle.bl_proc.specs.declared.posting.PostStage.{PostStage}
-use Rattle.bl_proc.specs.declared.posting.PostStage.TheVariants as post
 use Rattle.bl_proc_base.specs.Approaches.{Approaches}
 use Rattle.bl_proc.specs.Inserts.{InsertArrives, InsertGoes}
 use Rattle.bl_proc.specs.Deletes.{DeleteArrives, DeleteGoes}
-use Rattle.bl_proc.specs.Posts.{PostArrives, PostNears}
 
 pub insert_arrives : (key value : ℕ) (a : Approach) (what : Seen) (x : ℕ) (c : Page) (new : InsertStage) → Approaches 0 key a what (came.Here x c) → InsertArrives key value x c new → InsertGoes key value (insert.Coming a) what new
 insert_arrives key value a what x c insert.New way at = absurd at
@@ -30,13 +27,3 @@ delete_arrives key a what x c (delete.Absent y) way at = (x, c, way, at)
 delete_arrives key a what x c (delete.Changing value change) way at = (x, c, way, at)
 delete_arrives key a what x c (delete.Ending r) way at = absurd at
 delete_arrives key a what x c (delete.Over r) way at = absurd at
-
-pub post_arrives : (level key : ℕ) (a : Approach) (what : Seen) (x : ℕ) (c : Page) (new : PostStage) → Approaches level key a what (came.Here x c) → PostArrives key x c new → PostNears level key a what new
-post_arrives level key a what x c post.New way at = absurd at
-post_arrives level key a what x c (post.Coming b) way at = absurd at
-post_arrives level key a what x c (post.Growing g) way at = absurd at
-post_arrives level key a what x c (post.Walking w) way at = (x, c, way, at)
-post_arrives level key a what x c (post.Changing change) way at = absurd at
-post_arrives level key a what x c (post.Staying y r) way at = (x, c, way, at)
-post_arrives level key a what x c (post.Ending r) way at = absurd at
-post_arrives level key a what x c (post.Over r) way at = absurd at

@@ -1,62 +1,41 @@
 -- A post that changes its parent, or has parted it, is to a level below the last one: its parent is an inner page.
-use Rattle.std.proofs.Common.{ℕ, suc, ◌≡◌, ◌<◌, Option, None, Some, sym, ap, subst, ◌∙◌, arith}
+use Rattle.std.proofs.Common.{ℕ, ◌≡◌, ◌<◌, sym, subst, arith}
 use Rattle.bl_page.specs.declared.page.Page.{Page}
-use Rattle.bl_page.specs.declared.page.Page.TheVariants.{Inner}
-use Rattle.bl_claims.specs.Pages.{node_of}
+use Rattle.bl_page.specs.declared.page.Page.TheVariants.{Inner as InnerPage}
+use Rattle.bl_page.specs.declared.page.Inner.{Inner}
 use Rattle.bl_proc_base.specs.declared.acts.Seen.{Seen}
 use Rattle.bl_proc_base.specs.declared.acts.Seen.TheVariants as seen
-use Rattle.bl_proc_base.specs.declared.onwards.Step.TheVariants.{Here}
 use Rattle.bl_proc_base.specs.declared.approaching.Approach.{Approach}
-use Rattle.bl_proc_base.specs.declared.approaching.Approach.TheVariants as way
-use Rattle.bl_proc_base.specs.declared.approaching.Approached.TheVariants as came
+use Rattle.bl_proc_base.specs.declared.approaching.Came.{Came}
+use Rattle.bl_proc_base.specs.declared.approaching.Came.TheVariants as come
 use Rattle.bl_proc_base.specs.declared.changing.Outcome.{Outcome}
 use Rattle.bl_proc_base.specs.declared.changing.Outcome.TheVariants as outcome
 use Rattle.bl_proc_base.specs.declared.growing.Growth.TheVariants as growth
-use Rattle.bl_proc_base.specs.Onwards.{Leads}
-use Rattle.bl_proc_base.specs.Approaches.{Approaches}
+use Rattle.bl_proc_base.specs.Approaches.{Comes}
+use Rattle.bl_proc_base.proofs.Ways.{here_leads}
 use Rattle.bl_proc.specs.declared.walking.Walk.{Walk}
 use Rattle.bl_proc.specs.declared.posting.PostStage.{PostStage}
 use Rattle.bl_proc.specs.declared.posting.PostStage.TheVariants.{New, Coming, Growing, Walking, Changing, Staying, Ending, Over}
 use Rattle.bl_proc.specs.declared.posting.PostReply.{PostReply}
 use Rattle.bl_proc.specs.declared.posting.PostReply.TheVariants as reply
 use Rattle.bl_proc.specs.Levels.{MayReply, IsBelowTop}
-use Rattle.bl_proc.specs.Posts.{post_reply, PostStarts, PostArrives, PostWalks, PostNears, PostComes, PostGoes}
+use Rattle.bl_proc.specs.Posts.{post_reply, PostLacks, PostArrives, PostWalks, PostComes, PostGoes}
 
-pub here_is : (level key : ℕ) (a : Approach) (what : Seen) (x : ℕ) (c : Page) → Approaches level key a what (came.Here x c) → (node_of c).shape.level ≡ level
-here_is level key way.Start seen.Done x c t = absurd t
-here_is level key (way.At y) seen.Done x c t = absurd t
-here_is level key (way.Latching y) seen.Done x c t = absurd t
-here_is level key (way.Latched y) (seen.Words d) x c t = ap (λ p. (node_of p).shape.level) t.1 ∙ t.2.2
-here_is level key (way.Leaving y None) seen.Done x c t = absurd t
-here_is level key (way.Leaving y (Some to)) seen.Done x c t = absurd t
-here_is level key old what x c t = absurd t
+lacks_below : (level levels : ℕ) (new : PostStage) → PostLacks level levels new → IsBelowTop level new
+lacks_below level levels (Growing growth.Latching) t = tt
+lacks_below level levels (Ending reply.Stale) t = tt
+lacks_below level levels (Ending reply.TooTall) t = tt
+lacks_below level levels new t = absurd t
 
-inner_below : (level : ℕ) (c : Page) (w : Walk) → (node_of c).shape.level ≡ level → c ≡ Inner w.parent → level < 12
-inner_below level c w is same = (let low = w.parent.below_limit in let e : w.parent.level ≡ level = sym (ap (λ p. (node_of p).shape.level) same) ∙ is in omega (arith, low, e))
+arrives_below : (level key x : ℕ) (parent : Inner) (new : PostStage) → parent.level ≡ level → PostArrives key x parent new → IsBelowTop level new
+arrives_below level key x parent (Walking v) is t = (let low = parent.below_limit in omega (arith, low, is))
+arrives_below level key x parent (Staying y reply.Already) is t = tt
+arrives_below level key x parent new is t = absurd t
 
-starts_below : (level key : ℕ) (c : Page) (new : PostStage) → PostStarts level key c new → IsBelowTop level new
-starts_below level key c New t = tt
-starts_below level key c (Coming b) t = tt
-starts_below level key c (Growing g) t = tt
-starts_below level key c (Ending reply.Already) t = tt
-starts_below level key c (Ending reply.Stale) t = tt
-starts_below level key c (Ending reply.NoRoom) t = tt
-starts_below level key c (Ending reply.TooTall) t = tt
-starts_below level key c old t = absurd t
-
-nears_below : (level key : ℕ) (a : Approach) (what : Seen) (new : PostStage) → PostNears level key a what new → IsBelowTop level new
-nears_below level key a what New t = tt
-nears_below level key a what (Coming b) t = tt
-nears_below level key a what (Growing g) t = tt
-nears_below level key a what (Walking v) t = inner_below level t.1 v (here_is level key a what t.0 t.1 t.2) t.3.2
-nears_below level key a what (Changing d) t = absurd t.3
-nears_below level key a what (Staying y (reply.Done s)) t = absurd t.3
-nears_below level key a what (Staying y reply.Already) t = tt
-nears_below level key a what (Staying y reply.Stale) t = tt
-nears_below level key a what (Staying y reply.NoRoom) t = tt
-nears_below level key a what (Staying y reply.TooTall) t = tt
-nears_below level key a what (Ending r) t = absurd t.3
-nears_below level key a what (Over r) t = absurd t.3
+comes_below : (level key : ℕ) (a : Approach) (what : Seen) (m : Came) (new : PostStage) → Comes level key a what m → PostComes level key m new → IsBelowTop level new
+comes_below level key a what (come.NoLevel levels) new h t = lacks_below level levels new t
+comes_below level key a what (come.On b) new h t = subst (IsBelowTop level) (sym t) tt
+comes_below level key a what (come.ToParent x parent) new h t = arrives_below level key x parent new (here_leads level key a what x (InnerPage parent) h).2 t
 
 walks_below : (level : ℕ) (w : Walk) (c : Page) (new : PostStage) → level < 12 → PostWalks level w c new → IsBelowTop level new
 walks_below level w c New h t = tt
@@ -79,11 +58,7 @@ pub goes_below : (level key : ℕ) (old : PostStage) (what : Seen) (new : PostSt
 goes_below level key New seen.Done New h t = tt
 goes_below level key New seen.Done (Coming b) h t = tt
 goes_below level key New seen.Done (Growing g) h t = tt
-goes_below level key (Coming way.Start) (seen.Words c) new h t = starts_below level key c new t
-goes_below level key (Coming (way.At x)) what new h t = nears_below level key (way.At x) what new t
-goes_below level key (Coming (way.Latching x)) what new h t = nears_below level key (way.Latching x) what new t
-goes_below level key (Coming (way.Latched x)) what new h t = nears_below level key (way.Latched x) what new t
-goes_below level key (Coming (way.Leaving x to)) what new h t = nears_below level key (way.Leaving x to) what new t
+goes_below level key (Coming a) what new h (m, comes, t) = comes_below level key a what m new comes t
 goes_below level key (Growing k) what New h t = tt
 goes_below level key (Growing k) what (Coming b) h t = tt
 goes_below level key (Growing k) what (Growing g) h t = tt

@@ -14,6 +14,7 @@ use Rattle.bl_proc_base.specs.declared.descent.Descent.TheVariants as descent
 use Rattle.bl_proc.specs.declared.searching.FindStage.TheVariants as find
 use Rattle.bl_proc_base.specs.declared.approaching.Approach.TheVariants as approach
 use Rattle.bl_proc_base.specs.declared.approaching.Approached.TheVariants as came
+use Rattle.bl_proc_base.specs.declared.approaching.Came.TheVariants as come
 use Rattle.bl_proc_base.specs.declared.changing.Outcome.TheVariants as outcome
 use Rattle.bl_proc_base.specs.declared.changing.Change.TheVariants as change
 use Rattle.bl_proc_base.specs.declared.changing.Changed.TheVariants as changed
@@ -129,13 +130,13 @@ other_was_faster few same = absurd (omega arith)
 
 -- posts to level 1 and to level 2
 post_grows : PostGoes 1 9 (post.Coming approach.Start) (seen.Words low_anchor) (post.Growing growth.Latching)
-post_grows = (refl, λ same. absurd (omega arith))
+post_grows = (come.NoLevel 1, (omega arith, refl), (refl, λ same. absurd (omega arith)))
 
 post_is_stale : PostGoes 2 9 (post.Coming approach.Start) (seen.Words low_anchor) (post.Ending listed.Stale)
-post_is_stale = omega arith
+post_is_stale = (come.NoLevel 1, (omega arith, refl), omega arith)
 
 post_goes_to_the_parent : PostGoes 1 9 (post.Coming approach.Start) (seen.Words high_anchor) (post.Coming (approach.Latching 3))
-post_goes_to_the_parent = (omega arith, (refl, refl))
+post_goes_to_the_parent = (come.On (approach.Latching 3), (omega arith, (refl, refl)), refl)
 
 post_of_a_parent : posted_answer 1 (listed.Done (Some 40)) ≡ answer.Post posted.Done (Some (hint.Post 2 40))
 post_of_a_parent = refl

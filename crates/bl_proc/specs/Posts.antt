@@ -1,8 +1,9 @@
 -- A post, by its state.
 use Rattle.std.specs.Prelude.{◌≡◌, ◌≢◌, ℕ, ◌+◌, ◌-◌, ◌<◌, Option, None, Some}
 use Rattle.bl_page.specs.declared.page.Page.{Page}
-use Rattle.bl_page.specs.declared.page.Page.TheVariants.{Inner}
-use Rattle.bl_claims.specs.Pages.{node_of, roots_of}
+use Rattle.bl_page.specs.declared.page.Page.TheVariants.{Inner as InnerPage}
+use Rattle.bl_page.specs.declared.page.Inner.{Inner}
+use Rattle.bl_claims.specs.Pages.{node_of}
 use Rattle.bl_claims.specs.Walks.{IsChildOf}
 use Rattle.bl_proc_base.specs.declared.acts.Action.{Action}
 use Rattle.bl_proc_base.specs.declared.acts.Action.TheVariants as act
@@ -13,9 +14,9 @@ use Rattle.bl_proc_base.specs.declared.answers.Answer.TheVariants as answer
 use Rattle.bl_proc_base.specs.declared.answers.Posted.TheVariants as posted
 use Rattle.bl_proc_base.specs.declared.onwards.Step.{Step}
 use Rattle.bl_proc_base.specs.declared.onwards.Step.TheVariants.{Again, Right, Down, Here}
-use Rattle.bl_proc_base.specs.declared.approaching.Approach.{Approach}
-use Rattle.bl_proc_base.specs.declared.approaching.Approach.TheVariants.{Start, At, Latching, Latched, Leaving}
-use Rattle.bl_proc_base.specs.declared.approaching.Approached.TheVariants as came
+use Rattle.bl_proc_base.specs.declared.approaching.Approach.TheVariants.{Start, Leaving}
+use Rattle.bl_proc_base.specs.declared.approaching.Came.{Came}
+use Rattle.bl_proc_base.specs.declared.approaching.Came.TheVariants as come
 use Rattle.bl_proc_base.specs.declared.changing.Outcome.{Outcome}
 use Rattle.bl_proc_base.specs.declared.changing.Outcome.TheVariants as outcome
 use Rattle.bl_proc_base.specs.declared.changing.Changed.TheVariants as change
@@ -28,7 +29,7 @@ use Rattle.bl_proc.specs.declared.posting.PostStage.TheVariants.{New, Coming, Gr
 use Rattle.bl_proc.specs.declared.posting.PostReply.{PostReply}
 use Rattle.bl_proc.specs.declared.posting.PostReply.TheVariants as reply
 use Rattle.bl_proc_base.specs.Onwards.{Leads}
-use Rattle.bl_proc_base.specs.Approaches.{approach_next, Approaches}
+use Rattle.bl_proc_base.specs.Approaches.{approach_next, Comes}
 use Rattle.bl_proc_base.specs.Changes.{change_next, change_needs, EntersPair, Changes}
 use Rattle.bl_proc_base.specs.Growths.{growth_next, growth_needs, Grows}
 use Rattle.bl_proc.specs.Inserts.{post_hint}
@@ -77,20 +78,19 @@ post_answer_in level (Staying x r) = None
 post_answer_in level (Ending r) = None
 post_answer_in level (Over r) = Some (posted_answer level r)
 
--- At the anchor of a tree with that many levels: too few levels have no such parent; where one level is missing, it is
--- made, if the tree may have it; else the way leads to the parent.
-abbrev pub PostStarts : ℕ → ℕ → Page → PostStage → Type 0
-PostStarts level key c (Ending reply.Stale) = (roots_of c).levels < level
-PostStarts level key c (Ending reply.TooTall) = ((roots_of c).levels ≡ level) × (level ≡ 12)
-PostStarts level key c (Growing growth.Latching) = ((roots_of c).levels ≡ level) × (level ≢ 12)
-PostStarts level key c (Coming a) = (level < (roots_of c).levels) × Approaches level key Start (seen.Words c) (came.On a)
-PostStarts level key c stage = ⊥
+-- In a tree that has only that many levels: too few levels have no such parent; where one level is missing, it is made, if
+-- the tree may have it.
+abbrev pub PostLacks : ℕ → ℕ → PostStage → Type 0
+PostLacks level levels (Ending reply.Stale) = levels < level
+PostLacks level levels (Ending reply.TooTall) = (levels ≡ level) × (level ≡ 12)
+PostLacks level levels (Growing growth.Latching) = (levels ≡ level) × (level ≢ 12)
+PostLacks level levels stage = ⊥
 
--- At the parent x, which is c: it lists the key, or the walk to the child that covers the key begins with the key's child.
-abbrev pub PostArrives : ℕ → ℕ → Page → PostStage → Type 0
-PostArrives key x c (Staying y reply.Already) = (y ≡ x) × ((child : ℕ) × ((node_of c).look key ≡ Some child))
-PostArrives key x c (Walking w) = (w.at ≡ x) × (w.key ≡ key) × (c ≡ Inner w.parent) × IsChildOf (node_of c).look key w.child
-PostArrives key x c stage = ⊥
+-- At the parent x: it lists the key, or the walk to the child that covers the key begins with the key's child.
+abbrev pub PostArrives : ℕ → ℕ → Inner → PostStage → Type 0
+PostArrives key x parent (Staying y reply.Already) = (y ≡ x) × ((child : ℕ) × ((node_of (InnerPage parent)).look key ≡ Some child))
+PostArrives key x parent (Walking w) = (w.at ≡ x) × (w.key ≡ key) × (w.parent ≡ parent) × IsChildOf (node_of (InnerPage parent)).look key w.child
+PostArrives key x parent stage = ⊥
 
 -- the walk cannot go on to the page that covers the key
 abbrev pub IsLost : Step → Type 0
@@ -104,29 +104,21 @@ IsLost Here = ⊥
 -- parent and begins again.
 abbrev pub PostWalks : ℕ → Walk → Page → PostStage → Type 0
 PostWalks level w c (Walking v) = (v.at ≡ w.at) × (v.key ≡ w.key) × (v.parent ≡ w.parent) × Leads c w.key (level - 1) (Right v.child)
-PostWalks level w c (Changing change) = Leads c w.key (level - 1) Here × ((node_of c).shape.low ≡ w.key) × EntersPair w.at (Inner w.parent) w.key w.child change
+PostWalks level w c (Changing change) = Leads c w.key (level - 1) Here × ((node_of c).shape.low ≡ w.key) × EntersPair w.at (InnerPage w.parent) w.key w.child change
 PostWalks level w c (Staying x reply.Stale) = (x ≡ w.at) × Leads c w.key (level - 1) Here × ((node_of c).shape.low ≢ w.key)
 PostWalks level w c (Coming a) = (a ≡ Leaving w.at None) × ((o : Step) × Leads c w.key (level - 1) o × IsLost o)
 PostWalks level w c stage = ⊥
 
--- On the way, past the anchor.
-abbrev pub PostNears : ℕ → ℕ → Approach → Seen → PostStage → Type 0
-PostNears level key a what (Coming b) = Approaches level key a what (came.On b)
-PostNears level key a what new = (x : ℕ) × (c : Page) × Approaches level key a what (came.Here x c) × PostArrives key x c new
-
--- The post itself looks at the anchor, and the approach does all else, until it is at the parent.
-abbrev pub PostComes : ℕ → ℕ → Approach → Seen → PostStage → Type 0
-PostComes level key Start (seen.Words c) new = PostStarts level key c new
-PostComes level key Start what new = ⊥
-PostComes level key (At x) what new = PostNears level key (At x) what new
-PostComes level key (Latching x) what new = PostNears level key (Latching x) what new
-PostComes level key (Latched x) what new = PostNears level key (Latched x) what new
-PostComes level key (Leaving x to) what new = PostNears level key (Leaving x to) what new
+-- By what became of the way to the parent.
+abbrev pub PostComes : ℕ → ℕ → Came → PostStage → Type 0
+PostComes level key (come.NoLevel levels) new = PostLacks level levels new
+PostComes level key (come.On a) new = new ≡ Coming a
+PostComes level key (come.ToParent x parent) new = PostArrives key x parent new
 
 -- When a growth is over, the way begins again; where there was no room, the post ends.
 abbrev pub PostGoes : ℕ → ℕ → PostStage → Seen → PostStage → Type 0
 PostGoes level key New seen.Done (Coming a) = a ≡ Start
-PostGoes level key (Coming a) what new = PostComes level key a what new
+PostGoes level key (Coming a) what new = (m : Came) × Comes level key a what m × PostComes level key m new
 PostGoes level key (Growing g) what (Growing h) = Grows level g what (grew.On h)
 PostGoes level key (Growing g) what (Coming a) = Grows level g what grew.Grown × (a ≡ Start)
 PostGoes level key (Growing g) what (Ending r) = Grows level g what grew.Refused × (r ≡ reply.NoRoom)

@@ -2,22 +2,21 @@
 
 ghost use Rattle.std.specs.Prelude.{◌≡◌, ◌<◌, ◌≤◌, ◌-◌, None};
 ghost use Rattle.bl_page.specs.Pairs.{IsWithin};
-ghost use Rattle.bl_page.specs.declared.page.Page.TheVariants as page;
 ghost use Rattle.bl_proc_base.specs.declared.approaching.Approach.TheVariants as approach;
 ghost use Rattle.bl_proc_base.specs.declared.onwards.Step.TheVariants as onward;
 ghost use Rattle.bl_proc.specs.declared.posting.PostStage.TheVariants as post_stage;
 ghost use Rattle.bl_proc_base.specs.Given.{Gives};
 ghost use Rattle.bl_proc_base.specs.Onwards.{Leads};
 ghost use Rattle.bl_proc.specs.Levels.{MayReply};
-ghost use Rattle.bl_proc.specs.Posts.{post_reply, posted_answer, post_next_in, post_needs_in, post_answer_in, PostStarts, PostArrives, PostWalks, PostNears, PostComes, PostGoes, post_next, post_needs, post_answer, PostTakes};
+ghost use Rattle.bl_proc.specs.Posts.{post_reply, posted_answer, post_next_in, post_needs_in, post_answer_in, PostLacks, PostArrives, PostWalks, PostGoes, post_next, post_needs, post_answer, PostTakes};
 
 use crate::inserting::hint_to_post;
 use crate::posting::{Post, PostReply, PostStage};
 use crate::walking::Walk;
 use bl_page::{Inner, Page, Words, listed_with};
 use bl_proc_base::{
-    Action, Answer, Approach, Approached, Change, Changed, Grew, Growth, Level, Outcome, Posted,
-    Process, Reader, Seen, Step, entered, entering, levels_of, low_of, took_page, way_from,
+    Action, Answer, Approach, Came, Change, Changed, Grew, Growth, Level, Outcome, Posted, Process,
+    Reader, Seen, Step, entering, low_of, took_page, way_from,
 };
 use std::mem;
 
@@ -32,15 +31,13 @@ fn reply_of(outcome: Outcome) -> PostReply
     }
 }
 
-/// At the anchor.
-fn started(level: u32, key: u64, anchor: Page) -> PostStage
-    ensures { PostStarts level key anchor result }
+/// In a tree that has only that many levels.
+fn lacked(level: u32, levels: u32) -> PostStage
+    requires { levels ≤ level }
+    ensures { PostLacks level levels result }
 {
-    let levels = levels_of(&anchor);
     if levels < level {
         PostStage::Ending(PostReply::Stale)
-    } else if level < levels {
-        PostStage::Coming(entered(level, &anchor))
     } else if level == 12 {
         PostStage::Ending(PostReply::TooTall)
     } else {
@@ -48,10 +45,10 @@ fn started(level: u32, key: u64, anchor: Page) -> PostStage
     }
 }
 
-/// At a parent that is an inner page.
-fn arrived_at_inner(key: u64, at: u32, parent: Inner) -> PostStage
+/// At the parent.
+fn arrived(key: u64, at: u32, parent: Inner) -> PostStage
     requires { IsWithin parent.low parent.high key }
-    ensures { PostArrives key at (page.Inner parent) result }
+    ensures { PostArrives key at parent result }
 {
     match listed_with(parent.children.as_slice(), key) {
         Some(_) => PostStage::Staying(at, PostReply::Already),
@@ -67,43 +64,16 @@ fn arrived_at_inner(key: u64, at: u32, parent: Inner) -> PostStage
     }
 }
 
-/// At the parent.
-fn arrived(level: u32, key: u64, at: u32, page: Page) -> PostStage
-    requires above_leaves { 0 < level }
-    requires here { Leads page key level onward.Here }
-    ensures { PostArrives key at page result }
-{
-    match page {
-        Page::Inner(parent) => arrived_at_inner(key, at, parent),
-        _ => unreachable!(),
-    }
-}
-
-/// On the way to the parent, past the anchor.
-fn neared(level: u32, key: u64, approach: Approach, seen: Seen) -> PostStage
-    requires above_leaves { 0 < level }
-    requires given { Gives (post_next_in (post_stage.Coming approach)) None seen }
-    ensures { PostNears level key approach seen result }
-{
-    match approach.took(level, key, seen) {
-        Approached::On(approach) => PostStage::Coming(approach),
-        Approached::Here(at, page) => arrived(level, key, at, page),
-    }
-}
-
 /// On the way to the parent.
 fn came(level: u32, key: u64, approach: Approach, seen: Seen) -> PostStage
     requires above_leaves { 0 < level }
     requires given { Gives (post_next_in (post_stage.Coming approach)) None seen }
-    ensures { PostComes level key approach seen result }
+    ensures { PostGoes level key (post_stage.Coming approach) seen result }
 {
-    match approach {
-        Approach::Start => match seen {
-            Seen::Words(anchor) => started(level, key, anchor),
-            _ => unreachable!(),
-        },
-        Approach::At(_) | Approach::Latching(_) | Approach::Latched(_) | Approach::Leaving(_, _) =>
-            neared(level, key, approach, seen),
+    match approach.came(level, key, seen) {
+        Came::NoLevel(levels) => lacked(level, levels),
+        Came::On(approach) => PostStage::Coming(approach),
+        Came::ToParent(at, parent) => arrived(key, at, parent),
     }
 }
 

@@ -2,3 +2,4 @@ pub mod Descents
 pub mod Spellings
 pub mod Shifts
 pub mod Respellings
+pub mod Ways

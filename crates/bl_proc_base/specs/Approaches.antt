@@ -1,6 +1,7 @@
 -- The way of a writer to the page of its level that covers its key.
 use Rattle.std.specs.Prelude.{◌≡◌, ◌≢◌, ℕ, suc, ◌<◌, ◌≤◌, Option, None, Some}
 use Rattle.bl_page.specs.declared.page.Page.{Page}
+use Rattle.bl_page.specs.declared.page.Page.TheVariants.{Inner}
 use Rattle.bl_claims.specs.Nodes.{Roots}
 use Rattle.bl_claims.specs.Pages.{node_of, roots_of}
 use Rattle.bl_proc_base.specs.declared.acts.Action.{Action}
@@ -13,6 +14,8 @@ use Rattle.bl_proc_base.specs.declared.approaching.Approach.{Approach}
 use Rattle.bl_proc_base.specs.declared.approaching.Approach.TheVariants.{Start, At, Latching, Latched, Leaving}
 use Rattle.bl_proc_base.specs.declared.approaching.Approached.{Approached}
 use Rattle.bl_proc_base.specs.declared.approaching.Approached.TheVariants as came
+use Rattle.bl_proc_base.specs.declared.approaching.Came.{Came}
+use Rattle.bl_proc_base.specs.declared.approaching.Came.TheVariants.{NoLevel, On, ToParent}
 use Rattle.bl_proc_base.specs.Onwards.{top_of, Leads}
 
 abbrev pub approach_next : Approach → Action
@@ -68,3 +71,19 @@ Approaches level key (Latched x) (seen.Words c) (came.Here y page) = (y ≡ x) �
 Approaches level key (Leaving x (Some y)) seen.Done (came.On a) = a ≡ Latching y
 Approaches level key (Leaving x None) seen.Done (came.On a) = a ≡ Start
 Approaches level key old what new = ⊥
+
+-- the anchor, where it was got, is of a tree that has the level
+abbrev pub HasLevel : ℕ → Approach → Seen → Type 0
+HasLevel level Start (seen.Words c) = level < (roots_of c).levels
+HasLevel level a what = Unit {0}
+
+-- the anchor was got, and is of a tree with that many levels
+abbrev pub CountsLevels : Approach → Seen → ℕ → Type 0
+CountsLevels Start (seen.Words c) n = n ≡ (roots_of c).levels
+CountsLevels a what n = ⊥
+
+-- On the way to the parent of that level that covers the key: an approach, as long as the tree has the level.
+abbrev pub Comes : ℕ → ℕ → Approach → Seen → Came → Type 0
+Comes level key a what (NoLevel n) = (n ≤ level) × CountsLevels a what n
+Comes level key a what (On b) = HasLevel level a what × Approaches level key a what (came.On b)
+Comes level key a what (ToParent x parent) = Approaches level key a what (came.Here x (Inner parent))

@@ -1,18 +1,18 @@
 //! The way of a writer to the page of its level that covers its key.
 
-ghost use Rattle.std.specs.Prelude.{◌≡◌, ℕ, None};
+ghost use Rattle.std.specs.Prelude.{◌≡◌, ◌<◌, ℕ, None};
 ghost use Rattle.bl_claims.specs.Pages.{roots_of};
 ghost use Rattle.bl_proc_base.specs.declared.acts.Seen.TheVariants as seen;
 ghost use Rattle.bl_proc_base.specs.declared.approaching.Approach.TheVariants as approach;
 ghost use Rattle.bl_proc_base.specs.declared.approaching.Approached.TheVariants as approached;
 ghost use Rattle.bl_proc_base.specs.Given.{Gives};
 ghost use Rattle.bl_proc_base.specs.Onwards.{Leads};
-ghost use Rattle.bl_proc_base.specs.Approaches.{approach_next, Enters, Turns, Quits, Approaches};
+ghost use Rattle.bl_proc_base.specs.Approaches.{approach_next, Enters, Turns, Quits, Approaches, HasLevel, Comes};
 
 use crate::acts::{Action, Seen};
 use crate::onwards::{Step, way_from};
-use crate::reading::level_of;
-use bl_page::Page;
+use crate::reading::{level_of, levels_of};
+use bl_page::{Inner, Page};
 
 /// How far a writer has come on its way. It holds a page only where it says so.
 #[derive(Clone, Copy)]
@@ -39,8 +39,19 @@ pub enum Approached {
     Here(u32, Page),
 }
 
+/// What became of the way to a parent.
+#[derive(Drop)]
+pub enum Came {
+    /// The tree has only that many levels, so it has no such parent.
+    NoLevel(u32),
+    /// It goes on.
+    On(Approach),
+    /// It is there: it holds the parent with that number, which is as it got it and covers the key.
+    ToParent(u32, Inner),
+}
+
 /// From the anchor.
-pub fn entered(level: u32, anchor: &Page) -> Approach
+fn entered(level: u32, anchor: &Page) -> Approach
     ensures { Enters level (roots_of anchor.now) result }
 {
     match anchor {
@@ -130,6 +141,34 @@ fn missed(approach: Approach) -> Approach
     }
 }
 
+/// From the anchor, to a parent.
+fn began(level: u32, anchor: &Page) -> Came
+    ensures { (key : ℕ) → Comes level key approach.Start (seen.Words anchor.now) result }
+{
+    let levels = levels_of(anchor);
+    if levels <= level {
+        Came::NoLevel(levels)
+    } else {
+        Came::On(entered(level, anchor))
+    }
+}
+
+/// On the way to a parent, in a tree that has its level as far as the approach has seen.
+fn neared(approach: Approach, level: u32, key: u64, seen: Seen) -> Came
+    requires above_leaves { 0 < level }
+    requires level { HasLevel level approach seen }
+    requires given { Gives (approach_next approach) None seen }
+    ensures { Comes level key approach seen result }
+{
+    match approach.took(level, key, seen) {
+        Approached::On(approach) => Came::On(approach),
+        Approached::Here(at, page) => match page {
+            Page::Inner(parent) => Came::ToParent(at, parent),
+            _ => unreachable!(),
+        },
+    }
+}
+
 impl Approach {
     /// The next action.
     pub fn next(self) -> Action
@@ -153,6 +192,21 @@ impl Approach {
             Seen::Done => Approached::On(done(self)),
             Seen::Missed => Approached::On(missed(self)),
             _ => unreachable!(),
+        }
+    }
+    /// What becomes of the way to the parent of that level that covers the key, by what its action gave.
+    pub fn came(self, level: u32, key: u64, seen: Seen) -> Came
+        requires above_leaves { 0 < level }
+        requires given { Gives (approach_next self) None seen }
+        ensures { Comes level key self seen result }
+    {
+        match self {
+            Approach::Start => match seen {
+                Seen::Words(anchor) => began(level, &anchor),
+                _ => unreachable!(),
+            },
+            Approach::At(_) | Approach::Latching(_) | Approach::Latched(_) | Approach::Leaving(_, _) =>
+                neared(self, level, key, seen),
         }
     }
 }

@@ -25,7 +25,7 @@ mod thin;
 
 pub use acts::{Action, Seen};
 pub use answers::{Answer, Hint, Level, Posted, Reclaimed, Squeezed};
-pub use approaching::{Approach, Approached, entered};
+pub use approaching::{Approach, Approached, Came};
 pub use changes::{dropping, entering};
 pub use changing::{Change, Changed, Full, Outcome, Parting};
 pub use descent::{Descended, Descent};

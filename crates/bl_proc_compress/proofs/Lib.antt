@@ -1,3 +1,2 @@
 pub mod Looks
 pub mod Places
-pub mod Arrivals

@@ -1,9 +1,6 @@
 -- A compression, by its state.
-use Rattle.std.specs.Prelude.{◌≡◌, ℕ, ◌<◌, ◌≤◌, Option, None, Some}
-use Rattle.bl_page.specs.declared.page.Page.{Page}
-use Rattle.bl_page.specs.declared.page.Page.TheVariants.{Inner as InnerPage}
+use Rattle.std.specs.Prelude.{◌≡◌, ℕ, Option, None, Some}
 use Rattle.bl_page.specs.declared.page.Inner.{Inner}
-use Rattle.bl_claims.specs.Pages.{roots_of}
 use Rattle.bl_proc_base.specs.declared.acts.Action.{Action}
 use Rattle.bl_proc_base.specs.declared.acts.Action.TheVariants as act
 use Rattle.bl_proc_base.specs.declared.acts.Seen.{Seen}
@@ -11,9 +8,9 @@ use Rattle.bl_proc_base.specs.declared.acts.Seen.TheVariants as seen
 use Rattle.bl_proc_base.specs.declared.answers.Answer.{Answer}
 use Rattle.bl_proc_base.specs.declared.answers.Answer.TheVariants as answer
 use Rattle.bl_proc_base.specs.declared.answers.Squeezed.TheVariants as squeezed
-use Rattle.bl_proc_base.specs.declared.approaching.Approach.{Approach}
-use Rattle.bl_proc_base.specs.declared.approaching.Approach.TheVariants.{Start, At, Latching, Latched, Leaving}
-use Rattle.bl_proc_base.specs.declared.approaching.Approached.TheVariants as came
+use Rattle.bl_proc_base.specs.declared.approaching.Approach.TheVariants.{Start}
+use Rattle.bl_proc_base.specs.declared.approaching.Came.{Came}
+use Rattle.bl_proc_base.specs.declared.approaching.Came.TheVariants as come
 use Rattle.bl_proc_compress.specs.declared.compressing.Family.{Family}
 use Rattle.bl_proc_compress.specs.declared.compressing.Fate.{Fate}
 use Rattle.bl_proc_compress.specs.declared.compressing.Fate.TheVariants as fate
@@ -24,7 +21,7 @@ use Rattle.bl_proc_compress.specs.declared.squeezing.CompressStage.{CompressStag
 use Rattle.bl_proc_compress.specs.declared.squeezing.CompressStage.TheVariants.{New, Coming, Compressing, Staying, Ending, Over}
 use Rattle.bl_proc_compress.specs.declared.squeezing.CompressReply.{CompressReply}
 use Rattle.bl_proc_compress.specs.declared.squeezing.CompressReply.TheVariants as reply
-use Rattle.bl_proc_base.specs.Approaches.{approach_next, Approaches}
+use Rattle.bl_proc_base.specs.Approaches.{approach_next, Comes}
 use Rattle.bl_proc_compress.specs.Compressions.{AreSiblings, compression_next, compression_needs, Compresses}
 
 -- what a compression answers by what became of the children, if it does not begin again
@@ -68,36 +65,22 @@ compress_answer_in (Staying x) = None
 compress_answer_in (Ending r) = None
 compress_answer_in (Over r) = Some (compressed_answer r)
 
--- At the anchor: a tree without that level has no such parent.
-abbrev pub CompressStarts : ℕ → ℕ → Page → CompressStage → Type 0
-CompressStarts level key c (Ending reply.Alone) = (roots_of c).levels ≤ level
-CompressStarts level key c (Coming a) = (level < (roots_of c).levels) × Approaches level key Start (seen.Words c) (came.On a)
-CompressStarts level key c stage = ⊥
+-- At the parent x: two of its children are compressed, or it has but one.
+abbrev pub CompressArrives : ℕ → ℕ → Inner → CompressStage → Type 0
+CompressArrives key x parent (Compressing (LatchingLeft f)) = AreSiblings x key parent (Some f)
+CompressArrives key x parent (Staying y) = (y ≡ x) × AreSiblings x key parent None
+CompressArrives key x parent stage = ⊥
 
--- At the parent x, which is c: two of its children are compressed, or it has but one.
-abbrev pub CompressArrives : ℕ → ℕ → Page → CompressStage → Type 0
-CompressArrives key x c (Compressing (LatchingLeft f)) = (parent : Inner) × (c ≡ InnerPage parent) × AreSiblings x key parent (Some f)
-CompressArrives key x c (Staying y) = (y ≡ x) × ((parent : Inner) × (c ≡ InnerPage parent) × AreSiblings x key parent None)
-CompressArrives key x c stage = ⊥
-
--- On the way, past the anchor.
-abbrev pub CompressNears : ℕ → ℕ → Approach → Seen → CompressStage → Type 0
-CompressNears level key a what (Coming b) = Approaches level key a what (came.On b)
-CompressNears level key a what new = (x : ℕ) × (c : Page) × Approaches level key a what (came.Here x c) × CompressArrives key x c new
-
--- The compression itself looks at the anchor, and the approach does all else, until it is at the parent.
-abbrev pub CompressComes : ℕ → ℕ → Approach → Seen → CompressStage → Type 0
-CompressComes level key Start (seen.Words c) new = CompressStarts level key c new
-CompressComes level key Start what new = ⊥
-CompressComes level key (At x) what new = CompressNears level key (At x) what new
-CompressComes level key (Latching x) what new = CompressNears level key (Latching x) what new
-CompressComes level key (Latched x) what new = CompressNears level key (Latched x) what new
-CompressComes level key (Leaving x to) what new = CompressNears level key (Leaving x to) what new
+-- By what became of the way to the parent: a tree without that level has no such parent.
+abbrev pub CompressComes : ℕ → Came → CompressStage → Type 0
+CompressComes key (come.NoLevel levels) new = new ≡ Ending reply.Alone
+CompressComes key (come.On a) new = new ≡ Coming a
+CompressComes key (come.ToParent x parent) new = CompressArrives key x parent new
 
 -- Where what it got is not what the parent lists, it begins again.
 abbrev pub CompressGoes : ℕ → ℕ → CompressStage → Seen → CompressStage → Type 0
 CompressGoes level key New seen.Done (Coming a) = a ≡ Start
-CompressGoes level key (Coming a) what new = CompressComes level key a what new
+CompressGoes level key (Coming a) what new = (m : Came) × Comes level key a what m × CompressComes key m new
 CompressGoes level key (Compressing c) what (Compressing d) = Compresses c what (step.On d)
 CompressGoes level key (Compressing c) what (Coming a) = (last : Fate) × Compresses c what (step.Over last) × (compress_reply last ≡ None) × (a ≡ Start)
 CompressGoes level key (Compressing c) what (Ending r) = (last : Fate) × Compresses c what (step.Over last) × (compress_reply last ≡ Some r)

@@ -1,21 +1,16 @@
 //! The steps of a compression.
 
 ghost use Rattle.std.specs.Prelude.{◌≡◌, ◌<◌, ◌≤◌, None};
-ghost use Rattle.bl_page.specs.declared.page.Page.TheVariants as page;
 ghost use Rattle.bl_page.specs.Pairs.{IsWithin};
-ghost use Rattle.bl_proc_base.specs.declared.onwards.Step.TheVariants as onward;
 ghost use Rattle.bl_proc_compress.specs.declared.squeezing.CompressStage.TheVariants as compress_stage;
 ghost use Rattle.bl_proc_base.specs.Given.{Gives};
-ghost use Rattle.bl_proc_base.specs.Onwards.{Leads};
-ghost use Rattle.bl_proc_compress.specs.Compresses.{compress_reply, compressed_answer, compress_next_in, compress_needs_in, compress_answer_in, CompressStarts, CompressArrives, CompressNears, CompressComes, CompressGoes, compress_next, compress_needs, compress_answer, CompressTakes};
+ghost use Rattle.bl_proc_compress.specs.Compresses.{compress_reply, compressed_answer, compress_next_in, compress_needs_in, compress_answer_in, CompressArrives, CompressGoes, compress_next, compress_needs, compress_answer, CompressTakes};
 
 use crate::compressing::{Compressed, Compression, Fate};
 use crate::families::siblings;
 use crate::squeezing::{Compress, CompressReply, CompressStage};
-use bl_page::{Inner, Page};
-use bl_proc_base::{
-    Action, Answer, Approach, Approached, Process, Reader, Seen, Squeezed, entered, levels_of,
-};
+use bl_page::Inner;
+use bl_proc_base::{Action, Answer, Approach, Came, Process, Reader, Seen, Squeezed};
 use std::mem;
 
 /// What a compression answers by what became of the children, if it does not begin again.
@@ -32,21 +27,10 @@ fn reply_of(fate: Fate) -> Option<CompressReply>
     }
 }
 
-/// At the anchor.
-fn started(level: u32, key: u64, anchor: Page) -> CompressStage
-    ensures { CompressStarts level key anchor result }
-{
-    if levels_of(&anchor) <= level {
-        CompressStage::Ending(CompressReply::Alone)
-    } else {
-        CompressStage::Coming(entered(level, &anchor))
-    }
-}
-
-/// At a parent that is an inner page.
-fn arrived_at_inner(key: u64, at: u32, parent: Inner) -> CompressStage
+/// At the parent.
+fn arrived(key: u64, at: u32, parent: Inner) -> CompressStage
     requires { IsWithin parent.low parent.high key }
-    ensures { CompressArrives key at (page.Inner parent) result }
+    ensures { CompressArrives key at parent result }
 {
     match siblings(at, parent, key) {
         Some(family) => CompressStage::Compressing(Compression::LatchingLeft(family)),
@@ -54,43 +38,16 @@ fn arrived_at_inner(key: u64, at: u32, parent: Inner) -> CompressStage
     }
 }
 
-/// At the parent.
-fn arrived(level: u32, key: u64, at: u32, page: Page) -> CompressStage
-    requires above_leaves { 0 < level }
-    requires here { Leads page key level onward.Here }
-    ensures { CompressArrives key at page result }
-{
-    match page {
-        Page::Inner(parent) => arrived_at_inner(key, at, parent),
-        _ => unreachable!(),
-    }
-}
-
-/// On the way to the parent, past the anchor.
-fn neared(level: u32, key: u64, approach: Approach, seen: Seen) -> CompressStage
-    requires above_leaves { 0 < level }
-    requires given { Gives (compress_next_in (compress_stage.Coming approach)) None seen }
-    ensures { CompressNears level key approach seen result }
-{
-    match approach.took(level, key, seen) {
-        Approached::On(approach) => CompressStage::Coming(approach),
-        Approached::Here(at, page) => arrived(level, key, at, page),
-    }
-}
-
 /// On the way to the parent.
 fn came(level: u32, key: u64, approach: Approach, seen: Seen) -> CompressStage
     requires above_leaves { 0 < level }
     requires given { Gives (compress_next_in (compress_stage.Coming approach)) None seen }
-    ensures { CompressComes level key approach seen result }
+    ensures { CompressGoes level key (compress_stage.Coming approach) seen result }
 {
-    match approach {
-        Approach::Start => match seen {
-            Seen::Words(anchor) => started(level, key, anchor),
-            _ => unreachable!(),
-        },
-        Approach::At(_) | Approach::Latching(_) | Approach::Latched(_) | Approach::Leaving(_, _) =>
-            neared(level, key, approach, seen),
+    match approach.came(level, key, seen) {
+        Came::NoLevel(_) => CompressStage::Ending(CompressReply::Alone),
+        Came::On(approach) => CompressStage::Coming(approach),
+        Came::ToParent(at, parent) => arrived(key, at, parent),
     }
 }
 

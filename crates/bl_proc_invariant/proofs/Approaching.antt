@@ -26,6 +26,7 @@ use Rattle.bl_proc_base.specs.Onwards.{IsDead, Leads}
 use Rattle.bl_proc_base.specs.Approaches.{approach_next, Enters, Turns, Quits, Approaches}
 use Rattle.bl_proc_invariant.specs.Turns.{event_of, IsTold, Does, Turned}
 use Rattle.bl_proc_invariant.specs.Tables.{idle, holds_live, goes_to, know_approach}
+use Rattle.bl_proc_invariant.specs.Knowing.{ending}
 use Rattle.bl_proc_invariant.proofs.Acts.{watched, latched, opened}
 
 pub dead_end : (c : Page) → IsDead c → (node_of c).shape.end ≡ 0
@@ -201,3 +202,24 @@ module _ {P : Type 0} (know : P → Know) (w : World P) (g : IsGood know w) (p :
     approach_turn (Leaving x to) a' what s low before then t told does = leaving_turn x to a' what s before then t does
     approach_turn a a' (seen.Words c) s low before then t told does = absurd t
     approach_turn a a' what s low before then t told does = absurd t
+
+    -- A process on its way to a parent gives up at the anchor.
+    pub give_up_turn : (s : State Page) → know (w.proc p) ≡ know_approach level key Start → know b ≡ ending None → Does w.now p (Get 0) s → Turned know w p (Get 0) s b
+    give_up_turn s before then does =
+        let is : IsSure w p (know_approach level key Start) = rw before at (g.sure p) in
+        watched know w g p b _ _ before then (Get 0) (Some (w.now.contents 0)) None s tt (is.stage, anchor_not_released know w g) does refl refl (λ y h. h) (λ it e. cc) (λ j. refl)
+        (walks w _ p (Get 0) (Some (w.now.contents 0)) [] (Unit {0}) is.stage is.said tt tt)
+
+    -- The parent is to stay as it is, and is opened.
+    pub kept_turn : (x : ℕ) (s : State Page) → know (w.proc p) ≡ know_approach level key (Latched x) → know b ≡ record (idle Stage.Busy) { holds = holds_live x ∷ [] } → Does w.now p (Get x) s → Turned know w p (Get x) s b
+    kept_turn x s before then does =
+        let is : IsSure w p (know_approach level key (Latched x)) = rw before at (g.sure p) in
+        watched know w g p b _ _ before then (Get x) (Some (w.now.contents x)) None s tt (is.stage, not_released know w g p x is.goes.0.may) does refl refl (λ y h. h) (λ it e. cc) (λ j. refl)
+        (walks_held w _ p (Get x) (Some (w.now.contents x)) x [] (Unit {0}) is.stage is.said (does.changes.1 x ∙ is.holds.0.owner) is.holds.0.status tt tt)
+
+    pub stay_turn : (x : ℕ) (s : State Page) → know (w.proc p) ≡ record (idle Stage.Busy) { holds = holds_live x ∷ [] } → know b ≡ ending None → Does w.now p (Act.Open x) s → Turned know w p (Act.Open x) s b
+    stay_turn x s before then does =
+        let is : IsSure w p (record (idle Stage.Busy) { holds = holds_live x ∷ [] }) = rw before at (g.sure p) in
+        opened know w g p b _ _ before then x s is.holds.0.owner does (inl is.holds.0.status) refl refl (λ e. cc, tt)
+        (λ z n h. elim h [ inl e ↦ absurd (n (sym e)) | inr u ↦ absurd u ])
+        (walks w _ p (Act.Open x) None [] (Unit {0}) is.stage is.said tt tt)

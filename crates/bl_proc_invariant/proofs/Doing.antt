@@ -3,10 +3,12 @@ use Rattle.std.proofs.Common.{ℕ, ◌≡◌, ◌⊎◌, ◌<◌, ◌++◌, List
 use Rattle.bl_model.specs.declared.operation.Reply.{Reply}
 use Rattle.bl_page.specs.declared.page.Page.{Page}
 use Rattle.bl_page.specs.declared.page.Page.TheVariants.{Inner as InnerPage}
+use Rattle.bl_page.specs.declared.page.Inner.{Inner}
 use Rattle.bl_page.specs.declared.machine.Missed.{Missed}
 use Rattle.bl_page.specs.declared.machine.Missed.TheVariants as missed
 use Rattle.bl_page.specs.Machine.{Act}
 use Rattle.bl_page.specs.Machine.Act.{Get, Put, Latch, Retire, Miss}
+use Rattle.bl_claims.specs.Nodes.{Covers}
 use Rattle.bl_claims.specs.Pages.{node_of}
 use Rattle.bl_rearrange.specs.declared.sides.Side.{Side}
 use Rattle.bl_rearrange.specs.declared.sides.Side.TheVariants as side
@@ -17,9 +19,6 @@ use Rattle.bl_proc_base.specs.declared.acts.Seen.{Seen}
 use Rattle.bl_proc_base.specs.declared.acts.Seen.TheVariants as seen
 use Rattle.bl_proc_base.specs.declared.answers.Hint.{Hint}
 use Rattle.bl_proc_base.specs.declared.onwards.Step.TheVariants.{Here}
-use Rattle.bl_proc_base.specs.declared.approaching.Approach.{Approach}
-use Rattle.bl_proc_base.specs.declared.approaching.Approach.TheVariants as way
-use Rattle.bl_proc_base.specs.declared.approaching.Approached.TheVariants as came
 use Rattle.bl_proc_compress.specs.declared.compressing.Trio.{Trio}
 use Rattle.bl_proc_compress.specs.declared.compressing.Family.{Family}
 use Rattle.bl_proc_compress.specs.declared.compressing.Puts.{Puts}
@@ -29,7 +28,6 @@ use Rattle.bl_proc_compress.specs.declared.compressing.Compression.{Compression}
 use Rattle.bl_proc_compress.specs.declared.compressing.Compression.TheVariants.{LatchingLeft, LatchedLeft, LatchingRight, LatchedRight, PuttingFirst, PuttingParent, PuttingLast, Retiring, OpeningRight, OpeningLeft, OpeningParent}
 use Rattle.bl_proc_compress.specs.declared.compressing.Compressed.TheVariants as step
 use Rattle.bl_proc_base.specs.Onwards.{Leads}
-use Rattle.bl_proc_base.specs.Approaches.{approach_next, Approaches}
 use Rattle.bl_proc_compress.specs.Compressions.{put_of, other, after_puts, AreSiblings, Links, Decides, compression_next}
 use Rattle.bl_proc_compress.specs.declared.squeezing.CompressReply.{CompressReply}
 use Rattle.bl_proc_compress.specs.declared.squeezing.CompressReply.TheVariants as reply
@@ -39,8 +37,8 @@ use Rattle.bl_proc_compress.specs.Compresses.{compress_reply, compress_next_in, 
 use Rattle.bl_proc_invariant.specs.Turns.{event_of}
 use Rattle.bl_proc_meanings.specs.Squeezed.{acts_in, acts_of, Unwritten, Since, AtFamily, AtLeft, AtBoth, to_right, put_act, to_last, Once, IsToSqueeze}
 use Rattle.bl_proc_invariant.specs.Logs.{way_log, fate_log, squeeze_log, pressed_log, compress_log}
-use Rattle.bl_proc_invariant.proofs.Logging.{latched_on, approach_writes}
-use Rattle.bl_proc_unique.proofs.WayCases.{approach_case, SqueezeCase, squeeze_case}
+use Rattle.bl_proc_invariant.proofs.Logging.{way_stays, way_goes}
+use Rattle.bl_proc_unique.proofs.WayCases.{SqueezeCase, squeeze_case}
 use Rattle.bl_proc_unique.proofs.KindCases.{CompressCase}
 
 acts_of-push : (ms : Trail) (m : Mark) → acts_of (ms ++ m ∷ []) ≡ acts_of ms ++ acts_in m.event.act
@@ -239,10 +237,10 @@ module _ (ms : Trail) (m : Mark) where
     over_on (SqueezeCase.OpenedParent x ended _ t) did h = subst (λ z. fate_log level key z more) (sym t) (fate_on ended (ap writes_in did) h)
 
     -- at the parent
-    met_on : (x : ℕ) (c : Page) (f : Family) → CompressArrives key x c (compress.Compressing (LatchingLeft f)) → Leads c key level Here → m.event.act ≡ Get x → m.saw ≡ Some c → Since ms x [] → compress_log level key (compress.Compressing (LatchingLeft f)) more
-    met_on x c f (parent, page, siblings) l did saw h =
+    met_on : (x : ℕ) (parent : Inner) (f : Family) → CompressArrives key x parent (compress.Compressing (LatchingLeft f)) → Leads (InnerPage parent) key level Here → m.event.act ≡ Get x → m.saw ≡ Some (InnerPage parent) → Since ms x [] → compress_log level key (compress.Compressing (LatchingLeft f)) more
+    met_on x parent f siblings l did saw h =
         let family = siblings.1 in
-        let here : c ≡ InnerPage f.parent = page ∙ ap InnerPage (sym family.parent_is) in
+        let here : InnerPage parent ≡ InnerPage f.parent = ap InnerPage (sym family.parent_is) in
         let e : x ≡ f.at.parent = sym family.parent_at in
         let now : Since ms f.at.parent [] = subst (λ z. Since ms z []) e h in
         let get : m.event.act ≡ Get f.at.parent = did ∙ ap Get e in
@@ -250,49 +248,29 @@ module _ (ms : Trail) (m : Mark) where
           since = since_on (Get f.at.parent ∷ []) (ap acts_in get) now;
           got = got_last now.during m get (saw ∙ ap Some here);
           level_is = ap (λ v. (node_of v).shape.level) (sym here) ∙ l.2;
-          covers = rw here at l.1;
+          covers = subst (λ z. Covers (node_of z).shape key) here l.1;
           siblings = subst (λ z. AreSiblings z key f.parent (Some f)) e (subst (λ z. AreSiblings x key z (Some f)) (sym family.parent_is) siblings);
         }
 
-    single_on : (x : ℕ) (c : Page) (y : ℕ) → CompressArrives key x c (compress.Staying y) → Leads c key level Here → m.event.act ≡ Get x → m.saw ≡ Some c → Since ms x [] → compress_log level key (compress.Staying y) more
-    single_on x c y t l did saw h = once_now (inr (record {
+    single_on : (x : ℕ) (parent : Inner) (y : ℕ) → CompressArrives key x parent (compress.Staying y) → Leads (InnerPage parent) key level Here → m.event.act ≡ Get x → m.saw ≡ Some (InnerPage parent) → Since ms x [] → compress_log level key (compress.Staying y) more
+    single_on x parent y t l did saw h = once_now (inr (record {
       at = x;
-      parent = t.1.0;
+      parent = parent;
       since = since_on (Get x ∷ []) (ap acts_in did) h;
-      got = got_last h.during m did (saw ∙ ap Some t.1.1);
-      level_is = ap (λ v. (node_of v).shape.level) (sym t.1.1) ∙ l.2;
-      covers = rw t.1.1 at l.1;
-      siblings = t.1.2;
+      got = got_last h.during m did saw;
+      level_is = l.2;
+      covers = l.1;
+      siblings = t.1;
     }))
 
     module _ (least : 0 < level) where
-      way_unwritten : (a : Approach) → way_log a ms → Unwritten ms
-      way_unwritten way.Start log = log
-      way_unwritten (way.At x) log = log
-      way_unwritten (way.Latching x) log = log
-      way_unwritten (way.Latched x) log = since_unwritten refl log
-      way_unwritten (way.Leaving x to) log = log
-
-      way_on : (a b : Approach) (what : Seen) → Approaches level key a what (came.On b) → m.event.act ≡ event_of None (approach_next a) what → way_log a ms → way_log b more
-      way_on a b what t did log = on b t
-        where
-          first : Unwritten more
-          first = unwritten_on (ap writes_in did ∙ approach_writes a what) (way_unwritten a log)
-
-          on : (b : Approach) → Approaches level key a what (came.On b) → way_log b more
-          on way.Start t = first
-          on (way.At x) t = first
-          on (way.Latching x) t = first
-          on (way.Latched x) t = since_now x (latched_on m level key (approach_case level key a what _ t) did) (way_unwritten a log)
-          on (way.Leaving x to) t = first
-
       -- any step of a compression
       pub compress_on : {a a' : CompressStage} {what : Seen} → CompressCase level key a what a' → m.event.act ≡ event_of None (compress_next_in a) what → ((x : ℕ) (e : Page) → m.event.act ≡ Get x → what ≡ seen.Words e → m.saw ≡ Some e) → compress_log level key a ms → compress_log level key a' more
       compress_on (CompressCase.Began a t) did saw h = subst (λ z. way_log z more) (sym t) (begun_now ms m (λ acts. acts ≡ []) did refl)
       compress_on (CompressCase.NoLevel c t) did saw h = once_now (inl (record { first = unwritten_on (ap writes_in did) h; anchor = c; got = got_last ms m did (saw 0 c did refl); few = t }))
-      compress_on (CompressCase.Came a what b t) did saw h = way_on a b what t did h
-      compress_on (CompressCase.Met x c f l t) did saw h = met_on x c f t l did (saw x c did refl) h
-      compress_on (CompressCase.Single x c y l t) did saw h = single_on x c y t l did (saw x c did refl) h
+      compress_on (CompressCase.Came a what b t) did saw h = way_goes m level key (λ x k. since_unwritten refl k) unwritten_on since_now a b what t did h
+      compress_on (CompressCase.Met x parent f l t) did saw h = met_on x parent f t l did (saw x (InnerPage parent) did refl) h
+      compress_on (CompressCase.Single x parent y l t) did saw h = single_on x parent y t l did (saw x (InnerPage parent) did refl) h
       compress_on (CompressCase.Squeezed c what d t) did saw h = squeeze_on (squeeze_case c what _ t) did saw h
       compress_on (CompressCase.Lost c what a (ended, t, none, start)) did saw h = subst (λ z. way_log z more) (sym start) (lost_unwritten ended none (over_on (squeeze_case c what _ t) did h))
       compress_on (CompressCase.Finished c what r (ended, t, some)) did saw h = fate_pressed ended r some (over_on (squeeze_case c what _ t) did h)
@@ -314,16 +292,9 @@ module _ (ms : Trail) (m : Mark) where
     squeeze_stays (OpeningLeft at ended) h = fate_on level key ended (ap writes_in did) h
     squeeze_stays (OpeningParent x ended) h = fate_on level key ended (ap writes_in did) h
 
-    way_stays : (a : Approach) → way_log a ms → way_log a more
-    way_stays way.Start h = unwritten_on (ap writes_in did) h
-    way_stays (way.At x) h = unwritten_on (ap writes_in did) h
-    way_stays (way.Latching x) h = unwritten_on (ap writes_in did) h
-    way_stays (way.Latched x) h = since_on [] (ap acts_in did) h
-    way_stays (way.Leaving x to) h = unwritten_on (ap writes_in did) h
-
     pub compress_stays : (a : CompressStage) → compress_log level key a ms → compress_log level key a more
     compress_stays compress.New h = tt
-    compress_stays (compress.Coming a) h = way_stays a h
+    compress_stays (compress.Coming a) h = way_stays (unwritten_on (ap writes_in did)) (λ x k. since_on [] (ap acts_in did) k) a h
     compress_stays (compress.Compressing c) h = squeeze_stays c h
     compress_stays (compress.Staying x) h = once_on (ap writes_in did) h
     compress_stays (compress.Ending r) h = pressed_on level key r (ap writes_in did) h

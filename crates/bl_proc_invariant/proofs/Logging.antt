@@ -2,7 +2,8 @@
 use Rattle.std.proofs.Common.{ℕ, ◌≡◌, ◌≢◌, ◌<◌, ◌-◌, ◌++◌, List, [], ◌∷◌, None, Some, arith, ap, sym, ◌∙◌, refl, subst, inl, inr, append_assoc, append-nil}
 use Rattle.bl_model.specs.declared.operation.Reply.{Reply}
 use Rattle.bl_page.specs.declared.page.Page.{Page}
-use Rattle.bl_page.specs.declared.page.Page.TheVariants.{Inner}
+use Rattle.bl_page.specs.declared.page.Page.TheVariants.{Inner as InnerPage}
+use Rattle.bl_page.specs.declared.page.Inner.{Inner}
 use Rattle.bl_page.specs.Machine.{Act}
 use Rattle.bl_page.specs.Machine.Act.{Get, Put, Latch}
 use Rattle.bl_claims.specs.Pages.{node_of, roots_of}
@@ -39,7 +40,7 @@ use Rattle.bl_proc_base.specs.Changes.{change_next, EntersPair}
 use Rattle.bl_proc_base.specs.Growths.{growth_next, IsTop}
 use Rattle.bl_proc.specs.Posts.{post_reply, post_next_in, PostArrives}
 use Rattle.bl_proc_invariant.specs.Turns.{event_of}
-use Rattle.bl_proc_invariant.specs.Logs.{Holding, HoldsParent, HoldsBoth, IsToPut, approach_log, outcome_log, change_log, growth_log, reply_log, post_log}
+use Rattle.bl_proc_invariant.specs.Logs.{Holding, HoldsParent, HoldsBoth, IsToPut, on_way, approach_log, outcome_log, change_log, growth_log, reply_log, post_log}
 use Rattle.bl_proc_invariant.proofs.Holdings.{held_raised, held_now, held_on, parent_held_on, both_held_on, child_got, parent_got, refused_while, under, is_parted, cut_low, row_together, cut_together}
 use Rattle.bl_proc_unique.proofs.WayCases.{ApproachCase, approach_case, ChangeCase, change_case, GrowthCase, growth_case}
 use Rattle.bl_proc_unique.proofs.KindCases.{PostCase}
@@ -92,6 +93,33 @@ module _ (m : Mark) (level key : ℕ) where
   latched_on (ApproachCase.OpenedFor x z _ t) did = absurd (let e = t in cc)
   latched_on (ApproachCase.OpenedLost x _ t) did = absurd (let e = t in cc)
 
+-- A writer on its way, and one mark more.
+way_off : {Off : Type 0} {Held : ℕ → Type 0} → ((x : ℕ) → Held x → Off) → (a : Approach) → on_way Off Held a → Off
+way_off off way.Start h = h
+way_off off (way.At x) h = h
+way_off off (way.Latching x) h = h
+way_off off (way.Latched x) h = off x h
+way_off off (way.Leaving x to) h = h
+
+way_to : {Off : Type 0} {Held : ℕ → Type 0} → Off → (b : Approach) → ((x : ℕ) → b ≡ way.Latched x → Held x) → on_way Off Held b
+way_to first way.Start latched = first
+way_to first (way.At x) latched = first
+way_to first (way.Latching x) latched = first
+way_to first (way.Latched x) latched = latched x refl
+way_to first (way.Leaving x to) latched = first
+
+pub way_stays : {Off Off' : Type 0} {Held Held' : ℕ → Type 0} → (Off → Off') → ((x : ℕ) → Held x → Held' x) → (a : Approach) → on_way Off Held a → on_way Off' Held' a
+way_stays off held way.Start h = off h
+way_stays off held (way.At x) h = off h
+way_stays off held (way.Latching x) h = off h
+way_stays off held (way.Latched x) h = held x h
+way_stays off held (way.Leaving x to) h = off h
+
+pub way_goes : {Off Off' : Type 0} {Held Held' : ℕ → Type 0} (m : Mark) (level key : ℕ) → ((x : ℕ) → Held x → Off) → (writes_in m.event.act ≡ [] → Off → Off') → ((x : ℕ) → m.event.act ≡ Latch x → Off → Held' x) → (a b : Approach) (what : Seen) → Approaches level key a what (came.On b) → m.event.act ≡ event_of None (approach_next a) what → on_way Off Held a → on_way Off' Held' b
+way_goes m level key off on held a b what t did h =
+    let was = way_off off a h in
+    way_to (on (ap writes_in did ∙ approach_writes a what) was) b (λ x e. held x (latched_on m level key (approach_case level key a what _ (subst (λ z. Approaches level key a what (came.On z)) e t)) did) was)
+
 module _ (marks : Trail) (m : Mark) (level key : ℕ) (least : 0 < level) where
   abbrev more : Trail
   more = marks ++ m ∷ []
@@ -118,38 +146,19 @@ module _ (marks : Trail) (m : Mark) (level key : ℕ) (least : 0 < level) where
   outcome_reply (outcome.Parted s) h = h
   outcome_reply outcome.Refused h = h
 
-  approach_raised : (a : Approach) → approach_log level a marks → HasRaised level marks
-  approach_raised way.Start h = h
-  approach_raised (way.At x) h = h
-  approach_raised (way.Latching x) h = h
-  approach_raised (way.Latched x) h = held_raised h
-  approach_raised (way.Leaving x to) h = h
-
-  -- wherever it goes on its way
-  off_on : (b : Approach) → (y : ℕ) → HasRaised level more → ((x : ℕ) → b ≡ way.Latched x → Holding level more x []) → approach_log level b more
-  off_on way.Start y first latched = first
-  off_on (way.At x) y first latched = first
-  off_on (way.Latching x) y first latched = first
-  off_on (way.Latched x) y first latched = latched x refl
-  off_on (way.Leaving x to) y first latched = first
-
-  approach_on : (a b : Approach) (what : Seen) → Approaches level key a what (came.On b) → m.event.act ≡ event_of None (approach_next a) what → approach_log level a marks → approach_log level b more
-  approach_on a b what t did h = off_on b 0 (raised_on (ap writes_in did ∙ approach_writes a what) (approach_raised a h))
-      (λ x e. held_now marks m x (latched_on m level key (approach_case level key a what _ (subst (λ z. Approaches level key a what (came.On z)) e t)) did) (approach_raised a h))
-
   -- at the parent
-  to_walk_on : (x : ℕ) (c : Page) (v : Walk) → Leads c key level Here → PostArrives key x c (post.Walking v) → m.event.act ≡ Get x → m.saw ≡ Some c → Holding level marks x [] → post_log level key (post.Walking v) more
-  to_walk_on x c v l t did saw h =
-      let unlisted : (node_of c).look key ≡ None = subst (λ z. (node_of z).look key ≡ None) (sym t.2) (subst (λ z. (node_of (Inner v.parent)).look z ≡ None) t.1 v.unlisted) in
-      let here : HoldsParent level key more x c [] = parent_got marks m c did saw h l.2 l.1 unlisted in
-      (subst (λ z. HoldsParent level key more z (Inner v.parent) []) (sym t.0) (subst (λ z. HoldsParent level key more x z []) t.2 here), t.1)
+  to_walk_on : (x : ℕ) (parent : Inner) (v : Walk) → Leads (InnerPage parent) key level Here → PostArrives key x parent (post.Walking v) → m.event.act ≡ Get x → m.saw ≡ Some (InnerPage parent) → Holding level marks x [] → post_log level key (post.Walking v) more
+  to_walk_on x parent v l t did saw h =
+      let unlisted : (node_of (InnerPage parent)).look key ≡ None = subst (λ (z : Inner × ℕ). (node_of (InnerPage z.0)).look z.1 ≡ None) (λ i. (t.2 i, t.1 i)) v.unlisted in
+      let here : HoldsParent level key more x (InnerPage parent) [] = parent_got marks m (InnerPage parent) did saw h l.2 l.1 unlisted in
+      (subst (λ (z : ℕ × Inner). HoldsParent level key more z.0 (InnerPage z.1) []) (λ i. (sym t.0 i, sym t.2 i)) here, t.1)
 
-  listed_on : (x : ℕ) (c : Page) (y : ℕ) → Leads c key level Here → PostArrives key x c (post.Staying y reply.Already) → m.event.act ≡ Get x → m.saw ≡ Some c → Holding level marks x [] → post_log level key (post.Staying y reply.Already) more
-  listed_on x c y l t did saw h = record {
+  listed_on : (x : ℕ) (parent : Inner) (y : ℕ) → Leads (InnerPage parent) key level Here → PostArrives key x parent (post.Staying y reply.Already) → m.event.act ≡ Get x → m.saw ≡ Some (InnerPage parent) → Holding level marks x [] → post_log level key (post.Staying y reply.Already) more
+  listed_on x parent y l t did saw h = record {
     parent = record {
       at = x;
       under = under (held_on marks m [] (λ o. (let e = sym did ∙ o in cc)) (subst (λ a. ArePuts (writes_in a) []) (sym did) tt) h);
-      parent = c;
+      parent = InnerPage parent;
       got = got_last h.during m did saw;
       level_is = l.2;
       covers = l.1;
@@ -165,7 +174,7 @@ module _ (marks : Trail) (m : Mark) (level key : ℕ) (least : 0 < level) where
       subst (RaisesOnly level) (sym (ap (λ z. acts ++ writes_in z) did ∙ (ap (λ z. z ++ Put 0 anchor ∷ []) same ∙ append_assoc before (Put x top ∷ []) (Put 0 anchor ∷ [])))) (RaisesOnly.Again x top anchor raises above)
 
   top_level : (above below : ℕ) (c : Page) → IsTop above below c → (node_of c).shape.level ≡ above
-  top_level above below (Inner i) t = t.0
+  top_level above below (InnerPage i) t = t.0
   top_level above below old t = absurd t
 
   grow_on : {g h : Growth} {what : Seen} → GrowthCase level g what (grew.On h) → m.event.act ≡ event_of None (growth_next g) what → growth_log level g marks → growth_log level h more
@@ -230,24 +239,24 @@ module _ (marks : Trail) (m : Mark) (level key : ℕ) (least : 0 < level) where
   post_on (PostCase.NoLevel c t) did saw h = inl (record { first = raised_on (ap writes_in did) h; anchor = c; got = got_last marks m did (saw 0 c did refl); few = t })
   post_on (PostCase.Tallest c t) did saw h = record { last = t.1; first = raised_on (ap writes_in did) h; anchor = c; got = got_last marks m did (saw 0 c did refl); full = t.0 ∙ t.1 }
   post_on (PostCase.ToGrow c t) did saw h = raised_on (ap writes_in did) h
-  post_on (PostCase.Came a what b t) did saw h = approach_on a b what t did h
-  post_on (PostCase.Listed x c y l t) did saw h = listed_on x c y l t did (saw x c did refl) h
-  post_on (PostCase.ToWalk x c v l t) did saw h = to_walk_on x c v l t did (saw x c did refl) h
+  post_on (PostCase.Came a what b t) did saw h = way_goes m level key (λ x k. held_raised k) raised_on (held_now marks m) a b what t did h
+  post_on (PostCase.Listed x parent y l t) did saw h = listed_on x parent y l t did (saw x (InnerPage parent) did refl) h
+  post_on (PostCase.ToWalk x parent v l t) did saw h = to_walk_on x parent v l t did (saw x (InnerPage parent) did refl) h
   post_on (PostCase.Grew g what k t) did saw h = grow_on (growth_case level g what _ t) did h
   post_on (PostCase.Grown g what b t) did saw h = subst (λ z. approach_log level z more) (sym t.1) (grown_on (growth_case level g what _ t.0) did h)
   post_on (PostCase.NoRoom g what last t) did saw h = subst (λ z. reply_log level key z more) (sym t.1) (grow_end (growth_case level g what _ t.0) did h)
   post_on (PostCase.Walked v c u t) did saw (h, same) =
-      let on : HoldsParent level key more v.at (Inner v.parent) [] = parent_held_on marks m [] (λ o. (let e = sym did ∙ o in cc)) (subst (λ a. ArePuts (writes_in a) []) (sym did) tt) h in
-      (subst (λ z. HoldsParent level key more z (Inner u.parent) []) (sym t.0) (subst (λ z. HoldsParent level key more v.at (Inner z) []) (sym t.2) on), t.1 ∙ same)
+      let on : HoldsParent level key more v.at (InnerPage v.parent) [] = parent_held_on marks m [] (λ o. (let e = sym did ∙ o in cc)) (subst (λ a. ArePuts (writes_in a) []) (sym did) tt) h in
+      (subst (λ z. HoldsParent level key more z (InnerPage u.parent) []) (sym t.0) (subst (λ z. HoldsParent level key more v.at (InnerPage z) []) (sym t.2) on), t.1 ∙ same)
   post_on (PostCase.Entered v c d t) did saw (h, same) =
       let l : Leads c key (level - 1) Here = subst (λ z. Leads c z (level - 1) Here) same t.0 in
-      let both : HoldsBoth level key more v.at (Inner v.parent) v.child [] = child_got marks m v.child c did (saw v.child c did refl) h (let e = l.2 in omega (arith, least)) l.1 (t.1 ∙ same) in
-      enter_on v.at (Inner v.parent) v.child d (subst (λ z. EntersPair v.at (Inner v.parent) z v.child d) same t.2) both
+      let both : HoldsBoth level key more v.at (InnerPage v.parent) v.child [] = child_got marks m v.child c did (saw v.child c did refl) h (let e = l.2 in omega (arith, least)) l.1 (t.1 ∙ same) in
+      enter_on v.at (InnerPage v.parent) v.child d (subst (λ z. EntersPair v.at (InnerPage v.parent) z v.child d) same t.2) both
   post_on (PostCase.Stale v c x t) did saw (h, same) =
       let l : Leads c key (level - 1) Here = subst (λ z. Leads c z (level - 1) Here) same t.1 in
       let on = held_on marks m [] (λ o. (let e = sym did ∙ o in cc)) (subst (λ a. ArePuts (writes_in a) []) (sym did) tt) h.holding in
       inr (record {
-        parent = record { at = v.at; under = under on; parent = Inner v.parent; got = got_on h.holding.during m h.got; level_is = h.level_is; covers = h.covers };
+        parent = record { at = v.at; under = under on; parent = InnerPage v.parent; got = got_on h.holding.during m h.got; level_is = h.level_is; covers = h.covers };
         child = record { at = v.child; child = c; got = got_last h.holding.during m did (saw v.child c did refl); level_is = (let e = l.2 in omega (arith, least)); covers = l.1 };
         none = refl;
         low = subst (λ z. (node_of c).shape.low ≢ z) same t.2;
@@ -269,13 +278,6 @@ module _ (marks : Trail) (m : Mark) (level key : ℕ) (least : 0 < level) where
     to_put_stays : {x : ℕ} (puts pages : _) → IsToPut level key marks x puts pages → IsToPut level key more x puts pages
     to_put_stays puts pages h = record { parent = h.parent; child = h.child; both = both_stay puts h.both; together = h.together }
 
-    approach_stays : (a : Approach) → approach_log level a marks → approach_log level a more
-    approach_stays way.Start h = raised_on quiet h
-    approach_stays (way.At x) h = raised_on quiet h
-    approach_stays (way.Latching x) h = raised_on quiet h
-    approach_stays (way.Latched x) h = held_on marks m [] (shut x) put h
-    approach_stays (way.Leaving x to) h = raised_on quiet h
-
     growth_stays : (g : Growth) → growth_log level g marks → growth_log level g more
     growth_stays growth.Latching h = raised_on quiet h
     growth_stays growth.Latched h = held_on marks m [] (shut 0) put h
@@ -296,7 +298,7 @@ module _ (marks : Trail) (m : Mark) (level key : ℕ) (least : 0 < level) where
 
     pub post_stays : (old : PostStage) → post_log level key old marks → post_log level key old more
     post_stays post.New h = tt
-    post_stays (post.Coming a) h = approach_stays a h
+    post_stays (post.Coming a) h = way_stays (raised_on quiet) (λ x k. held_on marks m [] (shut x) put k) a h
     post_stays (post.Growing g) h = growth_stays g h
     post_stays (post.Walking v) h = (parent_held_on marks m [] (shut v.at) put h.0, h.1)
     post_stays (post.Changing c) h = change_stays c h

@@ -2,12 +2,14 @@
 use Rattle.std.proofs.Common.{ℕ, ◌≡◌, ◌≤◌, ◌<◌, ◌-◌, Some, None, suc, [], ◌∷◌, arith, ap, sym, ◌∙◌, refl, subst, inl, inr}
 use Rattle.std.proofs.lemmas.Bool.{cases_eq}
 use Rattle.bl_page.specs.declared.page.Page.{Page}
-use Rattle.bl_page.specs.declared.page.Page.TheVariants.{Inner}
-use Rattle.bl_page.specs.Machine.{Name, State, Act}
+use Rattle.bl_page.specs.declared.page.Page.TheVariants.{Inner as InnerPage}
+use Rattle.bl_page.specs.declared.page.Inner.{Inner}
+use Rattle.bl_page.specs.Machine.{Name, State}
 use Rattle.bl_page.specs.Machine.Act.{Get}
 use Rattle.bl_claims.specs.Nodes.{Covers, unbounded}
 use Rattle.bl_core_tree.specs.Trees.{IsChild}
 use Rattle.bl_claims.specs.Pages.{node_of}
+use Rattle.bl_claims.specs.Walks.{IsChildOf}
 use Rattle.bl_claims.specs.Trails.{Mark}
 use Rattle.bl_core.proofs.Pushes.{HasSaid-silent}
 use Rattle.bl_core.specs.Worlds.{HoldsPage, Stage, Know, World, nodes, tree_of, IsGoes, IsSure, IsGood}
@@ -25,9 +27,9 @@ use Rattle.bl_proc_base.specs.Changes.{EntersPair}
 use Rattle.bl_proc.specs.Posts.{post_next_in, PostArrives, PostWalks}
 use Rattle.bl_proc_invariant.specs.Turns.{event_of, IsTold, Does, Turned}
 use Rattle.bl_proc_invariant.specs.Tables.{idle, holds_live, goes_to, IsAim, IsDue, know_approach, know_change}
-use Rattle.bl_proc_invariant.specs.Knowing.{ending, post_aim, know_post, post_got, post_child}
-use Rattle.bl_proc_invariant.proofs.Acts.{watched, opened}
-use Rattle.bl_proc_invariant.proofs.Approaching.{walks, walks_held, wider, to_right, got_goes, approach_turn}
+use Rattle.bl_proc_invariant.specs.Knowing.{post_aim, know_post, post_got, post_child}
+use Rattle.bl_proc_invariant.proofs.Acts.{watched}
+use Rattle.bl_proc_invariant.proofs.Approaching.{walks_held, wider, to_right, got_goes, approach_turn, give_up_turn, kept_turn, stay_turn}
 use Rattle.bl_proc_invariant.proofs.Changing.{change_turn, finish_turn}
 use Rattle.bl_proc_invariant.proofs.Entering.{enters_learns, enters_places, change_middle}
 use Rattle.bl_proc_invariant.proofs.Ends.{begin_turn, end_turn}
@@ -49,29 +51,17 @@ post_fine level key child above = record {
     same a c f = cc
 
 module _ {P : Type 0} (know : P → Know) (w : World P) (g : IsGood know w) (p : Name) (b : P) (level key : ℕ) (least : 0 < level) (limit : level ≤ 12) where
-  -- at the anchor
-  give_up_turn : (s : State Page) → know (w.proc p) ≡ know_approach level key way.Start → know b ≡ ending None → Does w.now p (Get 0) s → Turned know w p (Get 0) s b
-  give_up_turn s before then does =
-      let is : IsSure w p (know_approach level key way.Start) = rw before at (g.sure p) in
-      watched know w g p b _ _ before then (Get 0) (Some (w.now.contents 0)) None s tt (is.stage, anchor_not_released know w g) does refl refl (λ y h. h) (λ it e. cc) (λ j. refl)
-      (walks w _ p (Get 0) (Some (w.now.contents 0)) [] (Unit {0}) is.stage is.said tt tt)
-
   -- at the parent
-  listed_turn : (x : ℕ) (s : State Page) → know (w.proc p) ≡ know_approach level key (way.Latched x) → know b ≡ record (idle Stage.Busy) { holds = holds_live x ∷ [] } → Does w.now p (Get x) s → Turned know w p (Get x) s b
-  listed_turn x s before then does =
-      let is : IsSure w p (know_approach level key (way.Latched x)) = rw before at (g.sure p) in
-      watched know w g p b _ _ before then (Get x) (Some (w.now.contents x)) None s tt (is.stage, not_released know w g p x is.goes.0.may) does refl refl (λ y h. h) (λ it e. cc) (λ j. refl)
-      (walks_held w _ p (Get x) (Some (w.now.contents x)) x [] (Unit {0}) is.stage is.said (does.changes.1 x ∙ is.holds.0.owner) is.holds.0.status tt tt)
-
-  walk_turn : (x : ℕ) (v : Walk) (got : ℕ → Page) (child : ℕ) (s : State Page) → know (w.proc p) ≡ know_approach level key (way.Latched x) → know b ≡ know_post level key got child (post.Walking v) → Leads (w.now.contents x) key level Here → PostArrives key x (w.now.contents x) (post.Walking v) → Does w.now p (Get x) s → Turned know w p (Get x) s b
-  walk_turn x v got child s before then l t does =
+  walk_turn : (x : ℕ) (parent : Inner) (v : Walk) (got : ℕ → Page) (child : ℕ) (s : State Page) → know (w.proc p) ≡ know_approach level key (way.Latched x) → know b ≡ know_post level key got child (post.Walking v) → InnerPage parent ≡ w.now.contents x → Leads (InnerPage parent) key level Here → PostArrives key x parent (post.Walking v) → Does w.now p (Get x) s → Turned know w p (Get x) s b
+  walk_turn x parent v got child s before then told leads t does =
       let is : IsSure w p (know_approach level key (way.Latched x)) = rw before at (g.sure p) in
       let held = is.holds.0 in
       let may = is.goes.0.may in
       let m : Mark = record { event = record { process = p; act = Get x }; saw = Some (w.now.contents x); said = None } in
-      let page : w.now.contents x ≡ Inner v.parent = t.2 in
-      let unlisted : (node_of (Inner v.parent)).look key ≡ None = rw t.1 at v.unlisted in
-      let to : IsGoes w p (goes_to v.child (level - 1) (level - 1)) = goes_down know w g p x (level - 1) key v.child may l.0 (let e = l.2 in omega (arith, least)) t.3 in
+      let l = subst (λ z. Leads z key level Here) told leads in
+      let page : w.now.contents x ≡ InnerPage v.parent = sym told ∙ ap InnerPage (sym t.2) in
+      let unlisted : (node_of (InnerPage v.parent)).look key ≡ None = rw t.1 at v.unlisted in
+      let to : IsGoes w p (goes_to v.child (level - 1) (level - 1)) = goes_down know w g p x (level - 1) key v.child may l.0 (let e = l.2 in omega (arith, least)) (subst (λ z. IsChildOf (node_of z).look key v.child) told t.3) in
       watched know w g p b _ _ before then (Get x) (Some (w.now.contents x)) None s tt (is.stage, not_released know w g p x may) does refl refl
       (λ y h. elim h [ inl e ↦ inl (t.0 ∙ e) | inr u ↦ absurd u ]) (λ it e. cc) (λ j. refl)
       (record {
@@ -96,7 +86,7 @@ module _ {P : Type 0} (know : P → Know) (w : World P) (g : IsGood know w) (p :
         let held = is.holds.0 in
         let to = is.goes.0 in
         let m : Mark = record { event = record { process = p; act = Get v.child }; saw = Some (w.now.contents v.child); said = None } in
-        let parent : Inner v.parent ≡ Inner u.parent = ap Inner (sym t.2) in
+        let parent : InnerPage v.parent ≡ InnerPage u.parent = ap InnerPage (sym t.2) in
         let key_is : v.key ≡ key = is.sound.2 in
         let below : v.key < unbounded = rw key_is is.sound.0 in
         let goes : IsGoes w p (goes_to u.child (level - 1) (level - 1)) = rw t.3.0 (wider know w g p _ _ _ (level - 1) (level - 1) to.least to.most (to_right know w g p v.child v.key to.may t.3.1 below)) in
@@ -125,13 +115,13 @@ module _ {P : Type 0} (know : P → Know) (w : World P) (g : IsGood know w) (p :
         watched know w g p b _ _ before then (Get v.child) (Some (w.now.contents v.child)) None s tt (is.stage, not_released know w g p v.child is.goes.0.may) does refl refl (λ y h. h) (λ it e. cc) (λ j. refl)
         (walks_held w _ p (Get v.child) (Some (w.now.contents v.child)) v.at [] (key < unbounded) is.stage is.said (does.changes.1 v.at ∙ is.holds.0.owner) is.holds.0.status tt is.sound.0)
 
-    list_turn : (c : Change) → know b ≡ know_change (post_aim level key v.child) (λ z. Inner v.parent) c → PostWalks level v (w.now.contents v.child) (post.Changing c) → Turned know w p (Get v.child) s b
+    list_turn : (c : Change) → know b ≡ know_change (post_aim level key v.child) (λ z. InnerPage v.parent) c → PostWalks level v (w.now.contents v.child) (post.Changing c) → Turned know w p (Get v.child) s b
     list_turn c then t =
         let is = walking in
         let held = is.holds.0 in
         let to = is.goes.0 in
         let aim = post_aim level key v.child in
-        let page = Inner v.parent in
+        let page = InnerPage v.parent in
         let key_is : v.key ≡ key = is.sound.2 in
         let due : IsDue aim page = record { level = is.sound.1.level; covers = is.sound.1.covers; was = is.sound.1.was } in
         let enters : EntersPair v.at page key v.child c = subst (λ z. EntersPair v.at page z v.child c) key_is t.2 in
@@ -151,33 +141,25 @@ module _ {P : Type 0} (know : P → Know) (w : World P) (g : IsGood know w) (p :
           children = ((does.changes.1 v.at ∙ held.owner, found), tt);
         }) refl enters)
 
-  -- the parent stays as it is, and is opened
-  stay_turn : (x : ℕ) (s : State Page) → know (w.proc p) ≡ record (idle Stage.Busy) { holds = holds_live x ∷ [] } → know b ≡ ending None → Does w.now p (Act.Open x) s → Turned know w p (Act.Open x) s b
-  stay_turn x s before then does =
-      let is : IsSure w p (record (idle Stage.Busy) { holds = holds_live x ∷ [] }) = rw before at (g.sure p) in
-      opened know w g p b _ _ before then x s is.holds.0.owner does (inl is.holds.0.status) refl refl (λ e. cc, tt)
-      (λ z n h. elim h [ inl e ↦ absurd (n (sym e)) | inr u ↦ absurd u ])
-      (walks w _ p (Act.Open x) None [] (Unit {0}) is.stage is.said tt tt)
-
   -- every turn of a post
   pub post_turn : {a a' : PostStage} {what : Seen} → PostCase level key a what a' → (got : ℕ → Page) (child : ℕ) (s : State Page) → know (w.proc p) ≡ know_post level key got child a → know b ≡ know_post level key (post_got got a what) (post_child child a) a' → IsTold w.now w.size (post_next_in a) what → Does w.now p (event_of None (post_next_in a) what) s → Turned know w p (event_of None (post_next_in a) what) s b
   post_turn (PostCase.Began a t) got child s before then told does = begin_turn know w g p b key s before (rw t at then) does
-  post_turn (PostCase.NoLevel c t) got child s before then told does = give_up_turn s before then does
-  post_turn (PostCase.Tallest c t) got child s before then told does = give_up_turn s before then does
+  post_turn (PostCase.NoLevel c t) got child s before then told does = give_up_turn know w g p b level key s before then does
+  post_turn (PostCase.Tallest c t) got child s before then told does = give_up_turn know w g p b level key s before then does
   post_turn (PostCase.ToGrow c t) got child s before then told does =
       let is : IsSure w p (know_approach level key way.Start) = rw before at (g.sure p) in
       got_goes know w g p b level key _ 0 s [] before refl refl then is.stage is.said (anchor_not_released know w g) does is.sound tt
   post_turn (PostCase.Came a what a' t) got child s before then told does = approach_turn know w g p b level key a a' what s limit before then t told does
-  post_turn (PostCase.Listed x c y l t) got child s before then told does = listed_turn x s before (rw t.0 at then) does
-  post_turn (PostCase.ToWalk x c v l t) got child s before then told does = walk_turn x v got child s before then (rw told at l) (subst (λ z. PostArrives key x z (post.Walking v)) told t) does
+  post_turn (PostCase.Listed x parent y l t) got child s before then told does = kept_turn know w g p b level key x s before (rw t.0 at then) does
+  post_turn (PostCase.ToWalk x parent v l t) got child s before then told does = walk_turn x parent v got child s before then told l t does
   post_turn (PostCase.Grew h what d t) got child s before then told does = growing.growth_turn know w g p b level key (growth_case level h what _ t) got s before then told does
   post_turn (PostCase.Grown h what a t) got child s before then told does = growing.over_turn know w g p b level key (growth_case level h what _ t.0) got s before (rw t.1 at then) does
   post_turn (PostCase.NoRoom h what r t) got child s before then told does = growing.no_room_turn know w g p b level key (growth_case level h what _ t.0) got s before then does
-  post_turn (PostCase.Walked v c u t) got child s before then told does = step_turn v got child s before does u (λ z. Inner v.parent) v.child then (subst (λ z. PostWalks level v z (post.Walking u)) told t)
+  post_turn (PostCase.Walked v c u t) got child s before then told does = step_turn v got child s before does u (λ z. InnerPage v.parent) v.child then (subst (λ z. PostWalks level v z (post.Walking u)) told t)
   post_turn (PostCase.Entered v c d t) got child s before then told does = list_turn v got child s before does d then (subst (λ z. PostWalks level v z (post.Changing d)) told t)
   post_turn (PostCase.Stale v c x t) got child s before then told does = lost_turn v got child s before does (rw t.0 at then)
   post_turn (PostCase.Lost v c a t) got child s before then told does = again_turn v got child s before does (rw t.0 at then)
   post_turn (PostCase.Changed c what d t) got child s before then told does = change_turn know w g p b (post_aim level key child) (post_fine level key child least) got (change_case c what _ t) s before then told does
   post_turn (PostCase.Finished c what r (o, t, same)) got child s before then told does = finish_turn know w g p b (post_aim level key child) (post_fine level key child least) got (change_case c what _ t) _ s before then tt does
-  post_turn (PostCase.Opened x r last t) got child s before then told does = stay_turn x s before then does
+  post_turn (PostCase.Opened x r last t) got child s before then told does = stay_turn know w g p b level key x s before then does
   post_turn (PostCase.Ended r last t) got child s before then told does = end_turn know w g p b None s before then does

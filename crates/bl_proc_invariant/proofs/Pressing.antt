@@ -1,11 +1,11 @@
 -- Every turn of a process that compresses keeps a world good.
-use Rattle.std.proofs.Common.{ℕ, suc, ◌≡◌, ◌-◌, ◌<◌, ◌≤◌, List, length, get_or, Some, None, [], ◌∷◌, arith, ap, sym, ◌∙◌, refl, subst, inl, inr}
+use Rattle.std.proofs.Common.{ℕ, suc, ◌≡◌, ◌-◌, ◌<◌, ◌≤◌, List, length, get_or, Some, None, arith, ap, sym, ◌∙◌, refl, subst, inl, inr}
 use Rattle.std.proofs.lemmas.Bool.{cases_lt}
 use Rattle.bl_model.specs.Rows.{map_of}
 use Rattle.bl_page.specs.declared.page.Page.{Page}
 use Rattle.bl_page.specs.declared.page.Page.TheVariants.{Inner as InnerPage}
 use Rattle.bl_page.specs.declared.page.Inner.{Inner}
-use Rattle.bl_page.specs.Machine.{Name, State, Act}
+use Rattle.bl_page.specs.Machine.{Name, State}
 use Rattle.bl_page.specs.Machine.Act.{Get}
 use Rattle.bl_page.specs.Pairs.{place}
 use Rattle.bl_page.proofs.Lookups.{place-le}
@@ -13,27 +13,25 @@ use Rattle.bl_claims.specs.Nodes.{unbounded}
 use Rattle.bl_claims.specs.Pages.{node_of, IsTreePage}
 use Rattle.bl_claims.specs.Trails.{Mark}
 use Rattle.bl_core.proofs.Pushes.{HasSaid-silent}
-use Rattle.bl_core.specs.Worlds.{Stage, Know, World, MayGet, IsGoes, IsSure, IsGood, silent}
-use Rattle.bl_core.proofs.Descents.{goes_down, not_released, anchor_not_released}
+use Rattle.bl_core.specs.Worlds.{Stage, Know, World, MayGet, IsGoes, IsSure, IsGood}
+use Rattle.bl_core.proofs.Descents.{goes_down, not_released}
 use Rattle.bl_proc_base.specs.declared.acts.Seen.{Seen}
-use Rattle.bl_proc_base.specs.declared.onwards.Step.TheVariants.{Here}
 use Rattle.bl_proc_base.specs.declared.approaching.Approach.TheVariants as way
 use Rattle.bl_proc_compress.specs.declared.compressing.Family.{Family}
 use Rattle.bl_proc_compress.specs.declared.compressing.Fate.{Fate}
 use Rattle.bl_proc_compress.specs.declared.compressing.Compression.{Compression}
 use Rattle.bl_proc_compress.specs.declared.compressing.Compression.TheVariants.{LatchingLeft}
 use Rattle.bl_proc_compress.specs.declared.compressing.Compressed.TheVariants as step
-use Rattle.bl_proc_base.specs.Onwards.{Leads}
 use Rattle.bl_proc_compress.specs.Compressions.{right_place, AreSiblings, compression_next}
 use Rattle.bl_proc_compress.proofs.Places.{listed_at}
 use Rattle.bl_proc_compress.specs.declared.squeezing.CompressStage.{CompressStage}
 use Rattle.bl_proc_compress.specs.Compresses.{compress_next_in}
 use Rattle.bl_proc_invariant.specs.Turns.{event_of, IsTold, Does, Turned}
-use Rattle.bl_proc_invariant.specs.Tables.{idle, holds_live, goes_to, know_approach}
+use Rattle.bl_proc_invariant.specs.Tables.{idle, goes_to, know_approach}
 use Rattle.bl_proc_invariant.specs.Compressing.{know_squeeze}
-use Rattle.bl_proc_invariant.specs.Knowing.{ending, know_compress, compress_got}
-use Rattle.bl_proc_invariant.proofs.Acts.{watched, opened}
-use Rattle.bl_proc_invariant.proofs.Approaching.{walks, walks_held, approach_turn}
+use Rattle.bl_proc_invariant.specs.Knowing.{know_compress, compress_got}
+use Rattle.bl_proc_invariant.proofs.Acts.{watched}
+use Rattle.bl_proc_invariant.proofs.Approaching.{approach_turn, give_up_turn, kept_turn, stay_turn}
 use Rattle.bl_proc_invariant.proofs.Compressing.{open_parent_turn}
 use Rattle.bl_proc_invariant.proofs.Squeezing.{compression_turn}
 use Rattle.bl_proc_invariant.proofs.Ends.{begin_turn, end_turn}
@@ -47,21 +45,14 @@ left_within key pairs two =
     elim (cases_lt (place key pairs) (length pairs)) [ inl lt ↦ grind (arith, lt, two) | inr ge ↦ grind (arith, ge, most, two) ]
 
 module _ {P : Type 0} (know : P → Know) (w : World P) (g : IsGood know w) (p : Name) (b : P) (level key : ℕ) (least : 0 < level) (limit : level ≤ 12) where
-  -- at the anchor
-  alone_turn : (s : State Page) → know (w.proc p) ≡ know_approach level key way.Start → know b ≡ ending None → Does w.now p (Get 0) s → Turned know w p (Get 0) s b
-  alone_turn s before then does =
-      let is : IsSure w p (know_approach level key way.Start) = rw before at (g.sure p) in
-      watched know w g p b _ _ before then (Get 0) (Some (w.now.contents 0)) None s tt (is.stage, anchor_not_released know w g) does refl refl (λ y h. h) (λ it e. cc) (λ j. refl)
-      (walks w _ p (Get 0) (Some (w.now.contents 0)) [] (Unit {0}) is.stage is.said tt tt)
-
   -- at the parent: it lists these children
   child_goes : (x k c : ℕ) (parent : Inner) → MayGet w p x → w.now.contents x ≡ InnerPage parent → parent.level ≡ level → map_of parent.children.items k ≡ Some c → IsGoes w p (goes_to c (level - 1) (level - 1))
   child_goes x k c parent may page at listed =
       goes_down know w g p x (level - 1) k c may (subst IsTreePage (sym page) tt) (ap (λ v. (node_of v).shape.level) page ∙ (at ∙ (let e : level ≡ suc (level - 1) = omega (arith, least) in e)))
       (record { key = k; listed = ap (λ v. (node_of v).look k) page ∙ listed; reached = omega arith; greatest = λ j other e le. le })
 
-  family_turn : (x : ℕ) (f : Family) (got : ℕ → Page) (s : State Page) → know (w.proc p) ≡ know_approach level key (way.Latched x) → know b ≡ know_squeeze level key got (LatchingLeft f) → Leads (w.now.contents x) key level Here → (parent : Inner) × (w.now.contents x ≡ InnerPage parent) × AreSiblings x key parent (Some f) → Does w.now p (Get x) s → Turned know w p (Get x) s b
-  family_turn x f got s before then l (parent, page, siblings) does =
+  family_turn : (x : ℕ) (parent : Inner) (f : Family) (got : ℕ → Page) (s : State Page) → know (w.proc p) ≡ know_approach level key (way.Latched x) → know b ≡ know_squeeze level key got (LatchingLeft f) → w.now.contents x ≡ InnerPage parent → parent.level ≡ level → AreSiblings x key parent (Some f) → Does w.now p (Get x) s → Turned know w p (Get x) s b
+  family_turn x parent f got s before then page at_level siblings does =
       let two = siblings.0 in
       let family = siblings.1 in
       let is : IsSure w p (know_approach level key (way.Latched x)) = rw before at (g.sure p) in
@@ -70,7 +61,6 @@ module _ {P : Type 0} (know : P → Know) (w : World P) (g : IsGood know w) (p :
       let m : Mark = record { event = record { process = p; act = Get x }; saw = Some (w.now.contents x); said = None } in
       let items = parent.children.items in
       let i = right_place key items - 1 in
-      let at_level : parent.level ≡ level = ap (λ v. (node_of v).shape.level) (sym page) ∙ l.2 in
       let left : map_of items (get_or items i (0, 0)).0 ≡ Some f.at.left = listed_at 0 i items parent.order (left_within key items two) ∙ ap Some family.left in
       let right : map_of items f.key ≡ Some f.at.right = ap (λ (v : Inner). map_of v.children.items f.key) (sym family.parent_is) ∙ f.lists in
       watched know w g p b _ _ before then (Get x) (Some (w.now.contents x)) None s tt (is.stage, not_released know w g p x may) does refl refl
@@ -86,32 +76,18 @@ module _ {P : Type 0} (know : P → Know) (w : World P) (g : IsGood know w) (p :
         log = tt;
       })
 
-  -- it has one child
-  one_turn : (x : ℕ) (s : State Page) → know (w.proc p) ≡ know_approach level key (way.Latched x) → know b ≡ record (idle Stage.Busy) { holds = holds_live x ∷ [] } → Does w.now p (Get x) s → Turned know w p (Get x) s b
-  one_turn x s before then does =
-      let is : IsSure w p (know_approach level key (way.Latched x)) = rw before at (g.sure p) in
-      watched know w g p b _ _ before then (Get x) (Some (w.now.contents x)) None s tt (is.stage, not_released know w g p x is.goes.0.may) does refl refl (λ y h. h) (λ it e. cc) (λ j. refl)
-      (walks_held w _ p (Get x) (Some (w.now.contents x)) x [] (Unit {0}) is.stage is.said (does.changes.1 x ∙ is.holds.0.owner) is.holds.0.status tt tt)
-
-  open_turn : (x : ℕ) (s : State Page) → know (w.proc p) ≡ record (idle Stage.Busy) { holds = holds_live x ∷ [] } → know b ≡ ending None → Does w.now p (Act.Open x) s → Turned know w p (Act.Open x) s b
-  open_turn x s before then does =
-      let is : IsSure w p (record (idle Stage.Busy) { holds = holds_live x ∷ [] }) = rw before at (g.sure p) in
-      opened know w g p b _ _ before then x s is.holds.0.owner does (inl is.holds.0.status) refl refl (λ e. cc, tt)
-      (λ z n h. elim h [ inl e ↦ absurd (n (sym e)) | inr u ↦ absurd u ])
-      (record { stage = is.stage; said = HasSaid-silent w.trail (silent p (Act.Open x)) p None refl is.said; holds = tt; goes = tt; children = tt; passed = tt; sound = tt; log = tt })
-
   -- the compression is over
   over_turn : {c : Compression} {what : Seen} {fate : Fate} → SqueezeCase c what (step.Over fate) → (S : Type 0) (got : ℕ → Page) (s : State Page) → know (w.proc p) ≡ know_squeeze level key got c → know b ≡ record (idle Stage.Busy) { sound = S } → (key < unbounded → S) → Does w.now p (event_of None (compression_next c) what) s → Turned know w p (event_of None (compression_next c) what) s b
   over_turn (SqueezeCase.OpenedParent x f _ t) S got s before then on does = open_parent_turn know w g p b level key got 0 0 x f S s before then on does
 
   pub compress_turn : {a a' : CompressStage} {what : Seen} → CompressCase level key a what a' → (got : ℕ → Page) (s : State Page) → know (w.proc p) ≡ know_compress level key got a → know b ≡ know_compress level key (compress_got got a what) a' → IsTold w.now w.size (compress_next_in a) what → Does w.now p (event_of None (compress_next_in a) what) s → Turned know w p (event_of None (compress_next_in a) what) s b
   compress_turn (CompressCase.Began a t) got s before then told does = begin_turn know w g p b key s before (rw t at then) does
-  compress_turn (CompressCase.NoLevel c t) got s before then told does = alone_turn s before then does
+  compress_turn (CompressCase.NoLevel c t) got s before then told does = give_up_turn know w g p b level key s before then does
   compress_turn (CompressCase.Came a what a' t) got s before then told does = approach_turn know w g p b level key a a' what s limit before then t told does
-  compress_turn (CompressCase.Met x c f l t) got s before then told does = family_turn x f got s before then (rw told at l) (subst (λ z. (parent : Inner) × (z ≡ InnerPage parent) × AreSiblings x key parent (Some f)) told t) does
-  compress_turn (CompressCase.Single x c y l t) got s before then told does = one_turn x s before (rw t.0 at then) does
+  compress_turn (CompressCase.Met x parent f l t) got s before then told does = family_turn x parent f got s before then (sym told) l.2 t does
+  compress_turn (CompressCase.Single x parent y l t) got s before then told does = kept_turn know w g p b level key x s before (rw t.0 at then) does
   compress_turn (CompressCase.Squeezed c what d t) got s before then told does = compression_turn know w g p b level key least got c d what s before then t told does
   compress_turn (CompressCase.Lost c what a (fate, t, none, start)) got s before then told does = over_turn (squeeze_case c what _ t) (key < unbounded) got s before (rw start at then) (λ e. e) does
   compress_turn (CompressCase.Finished c what r (fate, t, some)) got s before then told does = over_turn (squeeze_case c what _ t) (Unit {0}) got s before then (λ e. tt) does
-  compress_turn (CompressCase.Opened x r t) got s before then told does = open_turn x s before then does
+  compress_turn (CompressCase.Opened x r t) got s before then told does = stay_turn know w g p b level key x s before then does
   compress_turn (CompressCase.Ended r last t) got s before then told does = end_turn know w g p b None s before then does

@@ -9,7 +9,6 @@ use Rattle.bl_claims.specs.Meanings.{put_in}
 use Rattle.bl_core.proofs.Meant.{puts_of-push}
 use Rattle.bl_proc_base.specs.declared.acts.Seen.{Seen}
 use Rattle.bl_proc_base.specs.declared.approaching.Approach.{Approach}
-use Rattle.bl_proc_base.specs.declared.approaching.Approach.TheVariants as way
 use Rattle.bl_proc_base.specs.declared.approaching.Approached.TheVariants as came
 use Rattle.bl_proc_base.specs.declared.changing.Outcome.{Outcome}
 use Rattle.bl_proc_base.specs.declared.changing.Outcome.TheVariants as outcome
@@ -34,8 +33,8 @@ use Rattle.bl_proc_meanings.specs.Hinted.{PutSince, HasParted}
 use Rattle.bl_proc_invariant.specs.Logs.{put_log, entry_log, coming_log, AnyPage, inserted_log, insert_log, IsThinAs, deleted_log, delete_log}
 use Rattle.bl_proc_invariant.specs.Knowing.{insert_end, delete_end}
 use Rattle.bl_proc_invariant.proofs.Holdings.{none_of, cut_low}
-use Rattle.bl_proc_invariant.proofs.Logging.{latched_on}
-use Rattle.bl_proc_unique.proofs.WayCases.{approach_case, ChangeCase, change_case}
+use Rattle.bl_proc_invariant.proofs.Logging.{way_stays, way_goes}
+use Rattle.bl_proc_unique.proofs.WayCases.{ChangeCase, change_case}
 use Rattle.bl_proc_unique.proofs.KindCases.{InsertCase, DeleteCase}
 
 module _ (marks : Trail) (m : Mark) where
@@ -83,13 +82,6 @@ module _ (marks : Trail) (m : Mark) where
     entry_stays Whole Parts (change.OpeningNew x new separator) h = outcome_stays Whole Parts (outcome.Parted separator) h
     entry_stays Whole Parts (change.Opening x o) h = outcome_stays Whole Parts o h
 
-    coming_stays : (a : Approach) → coming_log a marks → coming_log a more
-    coming_stays way.Start h = tt
-    coming_stays (way.At x) h = tt
-    coming_stays (way.Latching x) h = tt
-    coming_stays (way.Latched x) h = put_stays h
-    coming_stays (way.Leaving x to) h = tt
-
     inserted_stays : (r : InsertReply) → inserted_log r marks → inserted_log r more
     inserted_stays (inserted.Inserted separator) h = parted_stays separator h
     inserted_stays (inserted.Present there) h = tt
@@ -102,7 +94,7 @@ module _ (marks : Trail) (m : Mark) where
 
     pub insert_stays : (a : InsertStage) → insert_log a marks → insert_log a more
     insert_stays insert.New h = tt
-    insert_stays (insert.Coming a) h = coming_stays a h
+    insert_stays (insert.Coming a) h = way_stays (λ u. u) (λ x k. put_stays k) a h
     insert_stays (insert.Present x there) h = tt
     insert_stays (insert.Changing c) h = entry_stays AnyPage (Unit {0}) c h
     insert_stays (insert.Ending r) h = inserted_stays r h
@@ -110,19 +102,15 @@ module _ (marks : Trail) (m : Mark) where
 
     pub delete_stays : (a : DeleteStage) → delete_log a marks → delete_log a more
     delete_stays delete.New h = tt
-    delete_stays (delete.Coming a) h = coming_stays a h
+    delete_stays (delete.Coming a) h = way_stays (λ u. u) (λ x k. put_stays k) a h
     delete_stays (delete.Absent x) h = tt
     delete_stays (delete.Changing removed c) h = entry_stays (IsThinAs removed) ⊥ c h
     delete_stays (delete.Ending r) h = deleted_stays r h
     delete_stays (delete.Over r) h = deleted_stays r h
 
   -- on the way, and at the leaf
-  coming_on : (key : ℕ) (a b : Approach) (what : Seen) → Approaches 0 key a what (came.On b) → m.event.act ≡ event_of None (approach_next a) what → coming_log b more
-  coming_on key a way.Start what t did = tt
-  coming_on key a (way.At x) what t did = tt
-  coming_on key a (way.Latching x) what t did = tt
-  coming_on key a (way.Latched x) what t did = put_now x (latched_on m 0 key (approach_case 0 key a what _ t) did)
-  coming_on key a (way.Leaving x to) what t did = tt
+  coming_on : (key : ℕ) (a b : Approach) (what : Seen) → Approaches 0 key a what (came.On b) → m.event.act ≡ event_of None (approach_next a) what → coming_log a marks → coming_log b more
+  coming_on key a b what t did h = way_goes m 0 key (λ x k. tt) (λ e u. tt) (λ x e u. put_now x e) a b what t did h
 
   -- a change
   module _ (Whole : Page → Type 0) (Parts : Type 0) where
@@ -154,7 +142,7 @@ module _ (marks : Trail) (m : Mark) where
 
   pub insert_on : {key value : ℕ} {old new : InsertStage} {what : Seen} → InsertCase key value old what new → m.event.act ≡ event_of (insert_end old) (insert_next_in old) what → insert_log old marks → insert_log new more
   insert_on (InsertCase.Began a t) did h = subst (λ z. coming_log z more) (sym t) tt
-  insert_on {key = key} (InsertCase.Came a what b t) did h = coming_on key a b what t did
+  insert_on {key = key} (InsertCase.Came a what b t) did h = coming_on key a b what t did h
   insert_on (InsertCase.Found x c y there l t) did h = tt
   insert_on {key = key} {value = value} (InsertCase.Entered x c d l t) did h = arrived_insert key value x c d t (put_stays (λ z l. (let e = sym did ∙ l in cc)) (ap put_in did) h)
   insert_on (InsertCase.Opened x there last t) did h = subst (λ z. inserted_log z more) (sym t) tt
@@ -174,7 +162,7 @@ module _ (marks : Trail) (m : Mark) where
 
   pub delete_on : {key : ℕ} {old new : DeleteStage} {what : Seen} → DeleteCase key old what new → m.event.act ≡ event_of (delete_end old) (delete_next_in old) what → delete_log old marks → delete_log new more
   delete_on (DeleteCase.Began a t) did h = subst (λ z. coming_log z more) (sym t) tt
-  delete_on {key = key} (DeleteCase.Came a what b t) did h = coming_on key a b what t did
+  delete_on {key = key} (DeleteCase.Came a what b t) did h = coming_on key a b what t did h
   delete_on (DeleteCase.Missing x c y l t) did h = tt
   delete_on {key = key} (DeleteCase.Dropped x c v d l t) did h = arrived_delete key x c v d t (put_stays (λ z l. (let e = sym did ∙ l in cc)) (ap put_in did) h)
   delete_on (DeleteCase.Opened x last t) did h = subst (λ z. deleted_log z more) (sym t) tt

@@ -75,12 +75,16 @@ pub record HoldsBoth (level key : ℕ) (marks : Trail) (x : ℕ) (parent : Page)
   pub child_covers : Covers (node_of child).shape key
   pub low : (node_of child).shape.low ≡ key
 
+-- What is told of a writer on its way: Held of one that holds its page and has not got it yet, Off of any other.
+abbrev pub on_way : Type 0 → (ℕ → Type 0) → Approach → Type 0
+on_way Off Held way.Start = Off
+on_way Off Held (way.At x) = Off
+on_way Off Held (way.Latching x) = Off
+on_way Off Held (way.Latched x) = Held x
+on_way Off Held (way.Leaving x to) = Off
+
 abbrev pub approach_log : ℕ → Approach → Trail → Type 0
-approach_log level way.Start marks = HasRaised level marks
-approach_log level (way.At x) marks = HasRaised level marks
-approach_log level (way.Latching x) marks = HasRaised level marks
-approach_log level (way.Latched x) marks = Holding level marks x []
-approach_log level (way.Leaving x to) marks = HasRaised level marks
+approach_log level a marks = on_way (HasRaised level marks) (λ x. Holding level marks x []) a
 
 -- What a change is to put, when it has put these pages: all that lists together what it is to list.
 pub record IsToPut (level key : ℕ) (marks : Trail) (x : ℕ) (puts pages : List Page) : Type 0 where
@@ -150,11 +154,7 @@ entry_log Whole Parts (change.OpeningNew x new separator) marks = put_log Whole 
 entry_log Whole Parts (change.Opening x o) marks = put_log Whole Parts o marks
 
 abbrev pub coming_log : Approach → Trail → Type 0
-coming_log way.Start marks = Unit {0}
-coming_log (way.At x) marks = Unit {0}
-coming_log (way.Latching x) marks = Unit {0}
-coming_log (way.Latched x) marks = PutSince marks []
-coming_log (way.Leaving x to) marks = Unit {0}
+coming_log a marks = on_way (Unit {0}) (λ x. PutSince marks []) a
 
 abbrev pub AnyPage : Page → Type 0
 AnyPage page = Unit {0}
@@ -192,11 +192,7 @@ delete_log (delete.Over r) marks = deleted_log r marks
 -- Compressions
 
 abbrev pub way_log : Approach → Trail → Type 0
-way_log way.Start marks = Unwritten marks
-way_log (way.At x) marks = Unwritten marks
-way_log (way.Latching x) marks = Unwritten marks
-way_log (way.Latched x) marks = Since marks x []
-way_log (way.Leaving x to) marks = Unwritten marks
+way_log a marks = on_way (Unwritten marks) (λ x. Since marks x []) a
 
 abbrev pub fate_log : ℕ → ℕ → Fate → Trail → Type 0
 fate_log level key (fate.Merged hint) marks = MeansMerged level key hint marks

@@ -1,13 +1,9 @@
 -- What is told of two outcomes that are the same.
-use Rattle.std.proofs.Common.{ℕ, ◌≡◌}
+use Rattle.std.proofs.Common.{ℕ, ◌≡◌, subst}
 use Rattle.bl_page.specs.declared.page.Page.{Page}
-use Rattle.bl_page.specs.declared.page.Page.TheVariants as page
-use Rattle.bl_page.specs.declared.page.Inner.{Inner}
 use Rattle.bl_proc_base.specs.declared.approaching.Approach.{Approach}
 use Rattle.bl_proc_base.specs.declared.approaching.Approached.TheVariants as came
-
-pub inner_one : (a b : Inner) → page.Inner a ≡ page.Inner b → a ≡ b
-inner_one a b e = cc
+use Rattle.bl_proc_unique.specs.One.{One}
 
 pub came_on : (a b : Approach) → came.On a ≡ came.On b → a ≡ b
 came_on a b e = cc
@@ -20,3 +16,7 @@ came_as x y c d e = cc
 
 pub not_both : (a : Approach) (x : ℕ) (c : Page) → came.On a ≡ came.Here x c → ⊥
 not_both a x c e = cc
+
+-- there is one after one
+pub one_after : {A B : Type 0} {R : A → Type 0} {S : A → B → Type 0} (first : One R) → One (S first.new) → One (λ b. (a : A) × R a × S a b)
+one_after {S = S} first then = record { new = then.new; goes = (first.new, first.goes, then.goes); only = λ b t. then.only b (subst (λ a. S a b) (first.only t.0 t.1) t.2) }

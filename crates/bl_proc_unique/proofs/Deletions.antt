@@ -19,10 +19,12 @@ use Rattle.bl_proc_base.specs.Changes.{DropsPair, Changes}
 use Rattle.bl_proc.specs.declared.kinds.Proc.{Proc}
 use Rattle.bl_proc.specs.declared.kinds.Proc.TheVariants as proc
 use Rattle.bl_proc.specs.Processes.{Takes}
+use Rattle.bl_proc_base.proofs.Ways.{here_leads}
+use Rattle.bl_proc.proofs.Arrivals.{delete_arrives}
 use Rattle.bl_proc_unique.specs.Courses.{GoesOn}
 use Rattle.bl_proc_unique.specs.One.{One}
 use Rattle.bl_proc_unique.proofs.Cases.{came_on, came_at, came_as, not_both}
-use Rattle.bl_proc_unique.proofs.Ways.{approach_one, here_leads}
+use Rattle.bl_proc_unique.proofs.Ways.{approach_one}
 use Rattle.bl_proc_unique.proofs.Changes.{drop_one, change_one}
 use Rattle.bl_proc_unique.proofs.Leaves.{leaf_covers, leaf_loses}
 use Rattle.bl_proc.specs.declared.deleting.Removed.{Removed}
@@ -65,17 +67,9 @@ module _ (key : ℕ) (a : Approach) (what : Seen) where
   here_only x c is one (Ending r) t = (let e = is (came.Here t.0 t.1) t.2 in one.only (Ending r) (subst (λ (z : ℕ × Page). DeleteArrives key z.0 z.1 (Ending r)) (λ i. (came_at t.0 x t.1 c e i, came_as t.0 x t.1 c e i)) t.3))
   here_only x c is one (Over r) t = (let e = is (came.Here t.0 t.1) t.2 in one.only (Over r) (subst (λ (z : ℕ × Page). DeleteArrives key z.0 z.1 (Over r)) (λ i. (came_at t.0 x t.1 c e i, came_as t.0 x t.1 c e i)) t.3))
 
-  here_goes : (x : ℕ) (c : Page) → Approaches 0 key a what (came.Here x c) → (new : DeleteStage) → DeleteArrives key x c new → DeleteGoes key (Coming a) what new
-  here_goes x c h New u = (x, c, h, u)
-  here_goes x c h (Coming b) u = absurd u
-  here_goes x c h (Absent m) u = (x, c, h, u)
-  here_goes x c h (Changing v d) u = (x, c, h, u)
-  here_goes x c h (Ending r) u = (x, c, h, u)
-  here_goes x c h (Over r) u = (x, c, h, u)
-
   coming_by : (came_to : Approached) → Approaches 0 key a what came_to → ((o : Approached) → Approaches 0 key a what o → o ≡ came_to) → One (DeleteGoes key (Coming a) what)
   coming_by (came.On b) h only = record { new = Coming b; goes = h; only = on_only b only }
-  coming_by (came.Here x c) h only = (let one = arrive_one key x c (here_leads 0 key a what x c h) in record { new = one.new; goes = here_goes x c h one.new one.goes; only = here_only x c only one })
+  coming_by (came.Here x c) h only = (let one = arrive_one key x c (here_leads 0 key a what x c h) in record { new = one.new; goes = delete_arrives key a what x c one.new h one.goes; only = here_only x c only one })
 
 -- by what becomes of its change
 abbrev after_change : Removed → Changed → DeleteStage

@@ -1,6 +1,6 @@
 -- Which turns a process of each kind can take, each with what it gives. Whoever takes a turn of a process apart has one
 -- clause for each of them, and none for what cannot be.
-use Rattle.std.proofs.Common.{ℕ, ◌≡◌, ◌≢◌, ◌-◌, ◌<◌, ◌≤◌, true, false, Option, Some, None, subst}
+use Rattle.std.proofs.Common.{ℕ, ◌≡◌, ◌≢◌, ◌-◌, ◌<◌, ◌≤◌, true, false, Option, Some, None, refl, sym, subst}
 use Rattle.bl_page.specs.declared.page.Page.{Page}
 use Rattle.bl_page.specs.declared.page.Page.TheVariants.{Inner as InnerPage}
 use Rattle.bl_page.specs.declared.page.Inner.{Inner}
@@ -17,6 +17,8 @@ use Rattle.bl_proc_base.specs.declared.descent.Descended.TheVariants as descende
 use Rattle.bl_proc_base.specs.declared.approaching.Approach.{Approach}
 use Rattle.bl_proc_base.specs.declared.approaching.Approach.TheVariants as way
 use Rattle.bl_proc_base.specs.declared.approaching.Approached.TheVariants as came
+use Rattle.bl_proc_base.specs.declared.approaching.Came.{Came as Became}
+use Rattle.bl_proc_base.specs.declared.approaching.Came.TheVariants as come
 use Rattle.bl_proc_base.specs.declared.changing.Outcome.{Outcome}
 use Rattle.bl_proc_base.specs.declared.changing.Change.{Change}
 use Rattle.bl_proc_base.specs.declared.changing.Changed.TheVariants as changed
@@ -33,7 +35,7 @@ use Rattle.bl_proc_compress.specs.declared.squeezing.CompressStage.TheVariants a
 use Rattle.bl_proc_compress.specs.declared.squeezing.CompressReply.{CompressReply}
 use Rattle.bl_proc_compress.specs.declared.squeezing.CompressReply.TheVariants as pressed
 use Rattle.bl_proc_compress.specs.Compressions.{AreSiblings, Compresses}
-use Rattle.bl_proc_compress.specs.Compresses.{compress_reply, CompressArrives, CompressNears, CompressGoes}
+use Rattle.bl_proc_compress.specs.Compresses.{compress_reply, CompressArrives, CompressComes, CompressGoes}
 use Rattle.bl_proc.specs.declared.inserting.InsertStage.{InsertStage}
 use Rattle.bl_proc.specs.declared.inserting.InsertStage.TheVariants as insert
 use Rattle.bl_proc.specs.declared.inserting.InsertReply.{InsertReply}
@@ -58,14 +60,14 @@ use Rattle.bl_proc.specs.declared.parts.PartStage.{PartStage}
 use Rattle.bl_proc.specs.declared.parts.PartStage.TheVariants as part
 use Rattle.bl_proc_base.specs.Onwards.{Leads}
 use Rattle.bl_proc_base.specs.Descents.{Descends}
-use Rattle.bl_proc_base.specs.Approaches.{Approaches}
+use Rattle.bl_proc_base.specs.Approaches.{Approaches, Comes}
 use Rattle.bl_proc_base.specs.Changes.{EntersPair, DropsPair, Changes}
 use Rattle.bl_proc_base.specs.Growths.{Grows}
 use Rattle.bl_proc.specs.Searches.{FindGoes}
 use Rattle.bl_proc.specs.Parts.{IsPartOf, PartGoes}
 use Rattle.bl_proc.specs.Inserts.{insert_reply, InsertArrives, InsertGoes}
 use Rattle.bl_proc.specs.Deletes.{thin_after, delete_reply, DeleteArrives, DeleteGoes}
-use Rattle.bl_proc.specs.Posts.{post_reply, IsLost, PostArrives, PostNears, PostGoes}
+use Rattle.bl_proc.specs.Posts.{post_reply, IsLost, PostLacks, PostArrives, PostComes, PostGoes}
 use Rattle.bl_proc.specs.Reclaims.{GoesPast, ReclaimGoes}
 use Rattle.bl_proc_unique.proofs.WayCases.{ApproachCase, approach_case}
 use Rattle.bl_proc_unique.proofs.WayCases.ApproachCase.{Arrived}
@@ -76,6 +78,20 @@ at_page {level = level} {key = key} {y = y} {a = a} {what = what} {d = d} P Q h 
   where
     by : {b : Approach} {w : Seen} {z : ℕ} {c : Page} → ApproachCase level key b w (came.Here z c) → P z c → Q b w
     by (Arrived x c z e is) at = then x c is.2 (subst (λ u. P u c) is.0 (subst (λ u. P z u) is.1 at))
+
+-- On the way to a parent the tree lacks its level, or the way goes on, or the process got the parent under its latch; and what
+-- is said of what became of the way is said of what was got.
+came_by : (level key : ℕ) (a : Approach) (what : Seen) (m : Became) (P : Became → Type 0) (Q : Approach → Seen → Type 0) → Comes level key a what m → P m
+    → ((c : Page) → (roots_of c).levels ≤ level → P (come.NoLevel (roots_of c).levels) → Q way.Start (seen.Words c))
+    → ((b : Approach) → Approaches level key a what (came.On b) → P (come.On b) → Q a what)
+    → ((x : ℕ) (parent : Inner) → Leads (InnerPage parent) key level Here → P (come.ToParent x parent) → Q (way.Latched x) (seen.Words (InnerPage parent)))
+    → Q a what
+came_by level key a what (come.On b) P Q h t lacks on there = on b h.1 t
+came_by level key a what (come.ToParent y parent) P Q h t lacks on there =
+    at_page (λ z d. (p : Inner) × (d ≡ InnerPage p) × P (come.ToParent z p)) Q h (parent, refl, t)
+    (λ x c l at. subst (λ d. Q (way.Latched x) (seen.Words d)) (sym at.1) (there x at.0 (subst (λ d. Leads d key level Here) at.1 l) at.2))
+came_by level key way.Start (seen.Words c) (come.NoLevel n) P Q h t lacks on there = lacks c (subst (λ k. k ≤ level) h.1 h.0) (subst (λ k. P (come.NoLevel k)) h.1 t)
+came_by level key a what m P Q h t lacks on there = absurd h.1
 
 pub data FindCase (key : ℕ) : FindStage → Seen → FindStage → Type 0 where
   Began : (d : Descent) → d ≡ descent.AtAnchor → FindCase key find.New seen.Done (find.Descending d)
@@ -161,8 +177,8 @@ pub data PostCase (level key : ℕ) : PostStage → Seen → PostStage → Type 
   Tallest : (c : Page) → ((roots_of c).levels ≡ level) × (level ≡ 12) → PostCase level key (post.Coming way.Start) (seen.Words c) (post.Ending listed.TooTall)
   ToGrow : (c : Page) → ((roots_of c).levels ≡ level) × (level ≢ 12) → PostCase level key (post.Coming way.Start) (seen.Words c) (post.Growing growth.Latching)
   Came : (a : Approach) (what : Seen) (b : Approach) → Approaches level key a what (came.On b) → PostCase level key (post.Coming a) what (post.Coming b)
-  Listed : (x : ℕ) (c : Page) (y : ℕ) → Leads c key level Here → PostArrives key x c (post.Staying y listed.Already) → PostCase level key (post.Coming (way.Latched x)) (seen.Words c) (post.Staying y listed.Already)
-  ToWalk : (x : ℕ) (c : Page) (v : Walk) → Leads c key level Here → PostArrives key x c (post.Walking v) → PostCase level key (post.Coming (way.Latched x)) (seen.Words c) (post.Walking v)
+  Listed : (x : ℕ) (parent : Inner) (y : ℕ) → Leads (InnerPage parent) key level Here → PostArrives key x parent (post.Staying y listed.Already) → PostCase level key (post.Coming (way.Latched x)) (seen.Words (InnerPage parent)) (post.Staying y listed.Already)
+  ToWalk : (x : ℕ) (parent : Inner) (v : Walk) → Leads (InnerPage parent) key level Here → PostArrives key x parent (post.Walking v) → PostCase level key (post.Coming (way.Latched x)) (seen.Words (InnerPage parent)) (post.Walking v)
   Grew : (g : Growth) (what : Seen) (h : Growth) → Grows level g what (grew.On h) → PostCase level key (post.Growing g) what (post.Growing h)
   Grown : (g : Growth) (what : Seen) (a : Approach) → Grows level g what grew.Grown × (a ≡ way.Start) → PostCase level key (post.Growing g) what (post.Coming a)
   NoRoom : (g : Growth) (what : Seen) (r : PostReply) → Grows level g what grew.Refused × (r ≡ listed.NoRoom) → PostCase level key (post.Growing g) what (post.Ending r)
@@ -175,25 +191,24 @@ pub data PostCase (level key : ℕ) : PostStage → Seen → PostStage → Type 
   Opened : (x : ℕ) (r last : PostReply) → last ≡ r → PostCase level key (post.Staying x r) seen.Done (post.Ending last)
   Ended : (r last : PostReply) → last ≡ r → PostCase level key (post.Ending r) seen.Done (post.Over last)
 
--- past the anchor
-post_near : (level key : ℕ) (a : Approach) (what : Seen) (b : PostStage) → PostNears level key a what b → PostCase level key (post.Coming a) what b
-post_near level key a what (post.Coming b) t = Came a what b t
-post_near level key a what (post.Staying y listed.Already) (x, c, h, t) =
-    at_page (λ z d. PostArrives key z d (post.Staying y listed.Already)) (λ b w. PostCase level key (post.Coming b) w (post.Staying y listed.Already)) h t (λ z d l u. Listed z d y l u)
-post_near level key a what (post.Walking v) (x, c, h, t) =
-    at_page (λ z d. PostArrives key z d (post.Walking v)) (λ b w. PostCase level key (post.Coming b) w (post.Walking v)) h t (λ z d l u. ToWalk z d v l u)
-post_near level key a what b t = absurd t.3
+post_lacks : (level key : ℕ) (c : Page) (b : PostStage) → PostLacks level (roots_of c).levels b → PostCase level key (post.Coming way.Start) (seen.Words c) b
+post_lacks level key c (post.Ending listed.Stale) t = NoLevel c t
+post_lacks level key c (post.Ending listed.TooTall) t = Tallest c t
+post_lacks level key c (post.Growing growth.Latching) t = ToGrow c t
+post_lacks level key c b t = absurd t
+
+post_arrives : (level key x : ℕ) (parent : Inner) (b : PostStage) → Leads (InnerPage parent) key level Here → PostArrives key x parent b → PostCase level key (post.Coming (way.Latched x)) (seen.Words (InnerPage parent)) b
+post_arrives level key x parent (post.Staying y listed.Already) l t = Listed x parent y l t
+post_arrives level key x parent (post.Walking v) l t = ToWalk x parent v l t
+post_arrives level key x parent b l t = absurd t
 
 pub post_case : (level key : ℕ) (a : PostStage) (what : Seen) (b : PostStage) → PostGoes level key a what b → PostCase level key a what b
 post_case level key post.New seen.Done (post.Coming a) t = Began a t
-post_case level key (post.Coming way.Start) (seen.Words c) (post.Ending listed.Stale) t = NoLevel c t
-post_case level key (post.Coming way.Start) (seen.Words c) (post.Ending listed.TooTall) t = Tallest c t
-post_case level key (post.Coming way.Start) (seen.Words c) (post.Growing growth.Latching) t = ToGrow c t
-post_case level key (post.Coming way.Start) (seen.Words c) (post.Coming b) t = Came way.Start (seen.Words c) b t.1
-post_case level key (post.Coming (way.At x)) what b t = post_near level key (way.At x) what b t
-post_case level key (post.Coming (way.Latching x)) what b t = post_near level key (way.Latching x) what b t
-post_case level key (post.Coming (way.Latched x)) what b t = post_near level key (way.Latched x) what b t
-post_case level key (post.Coming (way.Leaving x to)) what b t = post_near level key (way.Leaving x to) what b t
+post_case level key (post.Coming a) what b (m, h, t) =
+    came_by level key a what m (λ n. PostComes level key n b) (λ d w. PostCase level key (post.Coming d) w b) h t
+    (λ c few u. post_lacks level key c b u)
+    (λ d u e. subst (PostCase level key (post.Coming a) what) (sym e) (Came a what d u))
+    (λ x parent l u. post_arrives level key x parent b l u)
 post_case level key (post.Growing g) what (post.Growing h) t = Grew g what h t
 post_case level key (post.Growing g) what (post.Coming a) t = Grown g what a t
 post_case level key (post.Growing g) what (post.Ending r) t = NoRoom g what r t
@@ -212,31 +227,26 @@ pub data CompressCase (level key : ℕ) : CompressStage → Seen → CompressSta
   Began : (a : Approach) → a ≡ way.Start → CompressCase level key compress.New seen.Done (compress.Coming a)
   NoLevel : (c : Page) → (roots_of c).levels ≤ level → CompressCase level key (compress.Coming way.Start) (seen.Words c) (compress.Ending pressed.Alone)
   Came : (a : Approach) (what : Seen) (b : Approach) → Approaches level key a what (came.On b) → CompressCase level key (compress.Coming a) what (compress.Coming b)
-  Met : (x : ℕ) (c : Page) (f : Family) → Leads c key level Here → (parent : Inner) × (c ≡ InnerPage parent) × AreSiblings x key parent (Some f) → CompressCase level key (compress.Coming (way.Latched x)) (seen.Words c) (compress.Compressing (LatchingLeft f))
-  Single : (x : ℕ) (c : Page) (y : ℕ) → Leads c key level Here → (y ≡ x) × ((parent : Inner) × (c ≡ InnerPage parent) × AreSiblings x key parent None) → CompressCase level key (compress.Coming (way.Latched x)) (seen.Words c) (compress.Staying y)
+  Met : (x : ℕ) (parent : Inner) (f : Family) → Leads (InnerPage parent) key level Here → AreSiblings x key parent (Some f) → CompressCase level key (compress.Coming (way.Latched x)) (seen.Words (InnerPage parent)) (compress.Compressing (LatchingLeft f))
+  Single : (x : ℕ) (parent : Inner) (y : ℕ) → Leads (InnerPage parent) key level Here → (y ≡ x) × AreSiblings x key parent None → CompressCase level key (compress.Coming (way.Latched x)) (seen.Words (InnerPage parent)) (compress.Staying y)
   Squeezed : (c : Compression) (what : Seen) (d : Compression) → Compresses c what (step.On d) → CompressCase level key (compress.Compressing c) what (compress.Compressing d)
   Lost : (c : Compression) (what : Seen) (a : Approach) → (last : Fate) × Compresses c what (step.Over last) × (compress_reply last ≡ None) × (a ≡ way.Start) → CompressCase level key (compress.Compressing c) what (compress.Coming a)
   Finished : (c : Compression) (what : Seen) (r : CompressReply) → (last : Fate) × Compresses c what (step.Over last) × (compress_reply last ≡ Some r) → CompressCase level key (compress.Compressing c) what (compress.Ending r)
   Opened : (x : ℕ) (r : CompressReply) → r ≡ pressed.Alone → CompressCase level key (compress.Staying x) seen.Done (compress.Ending r)
   Ended : (r last : CompressReply) → last ≡ r → CompressCase level key (compress.Ending r) seen.Done (compress.Over last)
 
--- past the anchor
-compress_near : (level key : ℕ) (a : Approach) (what : Seen) (b : CompressStage) → CompressNears level key a what b → CompressCase level key (compress.Coming a) what b
-compress_near level key a what (compress.Coming b) t = Came a what b t
-compress_near level key a what (compress.Compressing (LatchingLeft f)) (x, c, h, t) =
-    at_page (λ z d. CompressArrives key z d (compress.Compressing (LatchingLeft f))) (λ b w. CompressCase level key (compress.Coming b) w (compress.Compressing (LatchingLeft f))) h t (λ z d l u. Met z d f l u)
-compress_near level key a what (compress.Staying y) (x, c, h, t) =
-    at_page (λ z d. CompressArrives key z d (compress.Staying y)) (λ b w. CompressCase level key (compress.Coming b) w (compress.Staying y)) h t (λ z d l u. Single z d y l u)
-compress_near level key a what b t = absurd t.3
+compress_arrives : (level key x : ℕ) (parent : Inner) (b : CompressStage) → Leads (InnerPage parent) key level Here → CompressArrives key x parent b → CompressCase level key (compress.Coming (way.Latched x)) (seen.Words (InnerPage parent)) b
+compress_arrives level key x parent (compress.Compressing (LatchingLeft f)) l t = Met x parent f l t
+compress_arrives level key x parent (compress.Staying y) l t = Single x parent y l t
+compress_arrives level key x parent b l t = absurd t
 
 pub compress_case : (level key : ℕ) (a : CompressStage) (what : Seen) (b : CompressStage) → CompressGoes level key a what b → CompressCase level key a what b
 compress_case level key compress.New seen.Done (compress.Coming a) t = Began a t
-compress_case level key (compress.Coming way.Start) (seen.Words c) (compress.Ending pressed.Alone) t = NoLevel c t
-compress_case level key (compress.Coming way.Start) (seen.Words c) (compress.Coming b) t = Came way.Start (seen.Words c) b t.1
-compress_case level key (compress.Coming (way.At x)) what b t = compress_near level key (way.At x) what b t
-compress_case level key (compress.Coming (way.Latching x)) what b t = compress_near level key (way.Latching x) what b t
-compress_case level key (compress.Coming (way.Latched x)) what b t = compress_near level key (way.Latched x) what b t
-compress_case level key (compress.Coming (way.Leaving x to)) what b t = compress_near level key (way.Leaving x to) what b t
+compress_case level key (compress.Coming a) what b (m, h, t) =
+    came_by level key a what m (λ n. CompressComes key n b) (λ d w. CompressCase level key (compress.Coming d) w b) h t
+    (λ c few e. subst (CompressCase level key (compress.Coming way.Start) (seen.Words c)) (sym e) (NoLevel c few))
+    (λ d u e. subst (CompressCase level key (compress.Coming a) what) (sym e) (Came a what d u))
+    (λ x parent l u. compress_arrives level key x parent b l u)
 compress_case level key (compress.Compressing c) what (compress.Compressing d) t = Squeezed c what d t
 compress_case level key (compress.Compressing c) what (compress.Coming a) t = Lost c what a t
 compress_case level key (compress.Compressing c) what (compress.Ending r) t = Finished c what r t

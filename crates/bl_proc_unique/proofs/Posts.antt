@@ -9,16 +9,16 @@ use Rattle.bl_page.specs.declared.page.Page.{Page}
 use Rattle.bl_page.specs.declared.page.Page.TheVariants as page
 use Rattle.bl_page.specs.declared.page.Inner.{Inner}
 use Rattle.bl_page.specs.Pairs.{IsChild, IsWithin, IsWithin-prop, IsChild-prop}
-use Rattle.bl_claims.specs.Pages.{node_of, roots_of}
+use Rattle.bl_claims.specs.Pages.{node_of}
 use Rattle.bl_claims.specs.Walks.{IsChildOf}
 use Rattle.bl_proc_base.specs.declared.acts.Seen.{Seen}
 use Rattle.bl_proc_base.specs.declared.acts.Seen.TheVariants as seen
 use Rattle.bl_proc_base.specs.declared.onwards.Step.{Step}
 use Rattle.bl_proc_base.specs.declared.onwards.Step.TheVariants.{Again, Right, Down, Here}
 use Rattle.bl_proc_base.specs.declared.approaching.Approach.{Approach}
-use Rattle.bl_proc_base.specs.declared.approaching.Approach.TheVariants.{Start, At, Latching, Latched, Leaving}
-use Rattle.bl_proc_base.specs.declared.approaching.Approached.{Approached}
-use Rattle.bl_proc_base.specs.declared.approaching.Approached.TheVariants as came
+use Rattle.bl_proc_base.specs.declared.approaching.Approach.TheVariants.{Start, Leaving}
+use Rattle.bl_proc_base.specs.declared.approaching.Came.{Came}
+use Rattle.bl_proc_base.specs.declared.approaching.Came.TheVariants as come
 use Rattle.bl_proc_base.specs.declared.growing.Growth.{Growth}
 use Rattle.bl_proc_base.specs.declared.growing.Growth.TheVariants as growth
 use Rattle.bl_proc_base.specs.declared.growing.Grew.{Grew}
@@ -28,7 +28,7 @@ use Rattle.bl_proc_base.specs.declared.changing.Changed.{Changed}
 use Rattle.bl_proc_base.specs.declared.changing.Changed.TheVariants as change
 use Rattle.bl_proc_base.specs.Given.{Gives}
 use Rattle.bl_proc_base.specs.Onwards.{Leads}
-use Rattle.bl_proc_base.specs.Approaches.{approach_next, Approaches}
+use Rattle.bl_proc_base.specs.Approaches.{Comes}
 use Rattle.bl_proc_base.specs.Changes.{EntersPair, Changes}
 use Rattle.bl_proc_base.specs.Growths.{Grows}
 use Rattle.bl_proc.specs.declared.kinds.Proc.{Proc}
@@ -41,14 +41,15 @@ use Rattle.bl_proc.specs.declared.posting.PostStage.{PostStage}
 use Rattle.bl_proc.specs.declared.posting.PostStage.TheVariants.{New, Coming, Growing, Walking, Changing, Staying, Ending, Over}
 use Rattle.bl_proc.specs.declared.posting.PostReply.{PostReply}
 use Rattle.bl_proc.specs.declared.posting.PostReply.TheVariants as reply
-use Rattle.bl_proc.specs.Posts.{post_reply, post_next_in, post_needs_in, post_answer_in, PostStarts, PostArrives, IsLost, PostWalks, PostNears, PostComes, PostGoes}
+use Rattle.bl_proc.specs.Posts.{post_reply, post_next_in, post_needs_in, post_answer_in, PostLacks, PostArrives, IsLost, PostWalks, PostComes, PostGoes}
 use Rattle.bl_proc.specs.Processes.{Takes}
 use Rattle.bl_proc.proofs.Named.{listed-child}
+use Rattle.bl_proc_base.proofs.Ways.{here_leads}
 use Rattle.bl_proc_unique.specs.Courses.{GoesOn}
 use Rattle.bl_proc_unique.specs.One.{One}
-use Rattle.bl_proc_unique.proofs.Cases.{inner_one, came_on, came_at, came_as, not_both}
+use Rattle.bl_proc_unique.proofs.Cases.{one_after}
 use Rattle.bl_proc_unique.proofs.Onwards.{leads_some, leads_one, child_of, child_one, right_small}
-use Rattle.bl_proc_unique.proofs.Ways.{approach_one, here_leads}
+use Rattle.bl_proc_unique.proofs.Ways.{come_one}
 use Rattle.bl_proc_unique.proofs.Changes.{enter_one, change_one}
 use Rattle.bl_proc_unique.proofs.Growths.{growth_one}
 use Rattle.bl_proc_unique.proofs.KindCases.{PostCase, post_case}
@@ -64,118 +65,47 @@ walk_same a b at key parent child = λ i. record {
   names = is_prop→PathP (λ i. IsChild (child i)) (λ i. IsChild-prop (child i)) a.names b.names i;
 }
 
--- At the anchor.
-module _ (level key : ℕ) (c : Page) where
-  stale_only : (roots_of c).levels < level → (other : PostStage) → PostStarts level key c other → other ≡ Ending reply.Stale
-  stale_only lt (Coming b) t = absurd (let e = t.0 in omega arith)
-  stale_only lt (Growing growth.Latching) t = absurd (let e = t.0 in omega arith)
-  stale_only lt (Ending reply.Stale) t = refl
-  stale_only lt (Ending reply.TooTall) t = absurd (let e = t.0 in omega arith)
-  stale_only lt old t = absurd t
+-- In a tree that has only that many levels.
+module _ (level levels : ℕ) where
+  lacks_by : (Goal : PostStage → Type 0) → (levels < level → Goal (Ending reply.Stale)) → (levels ≡ level → level ≡ 12 → Goal (Ending reply.TooTall)) → (levels ≡ level → level ≢ 12 → Goal (Growing growth.Latching)) → (other : PostStage) → PostLacks level levels other → Goal other
+  lacks_by Goal stale tall grow (Ending reply.Stale) t = stale t
+  lacks_by Goal stale tall grow (Ending reply.TooTall) t = tall t.0 t.1
+  lacks_by Goal stale tall grow (Growing growth.Latching) t = grow t.0 t.1
+  lacks_by Goal stale tall grow old t = absurd t
 
-  tall_only : (roots_of c).levels ≡ level → level ≡ 12 → (other : PostStage) → PostStarts level key c other → other ≡ Ending reply.TooTall
-  tall_only is top (Coming b) t = absurd (let e = t.0 in omega arith)
-  tall_only is top (Growing growth.Latching) t = absurd (t.1 top)
-  tall_only is top (Ending reply.Stale) t = absurd (omega arith)
-  tall_only is top (Ending reply.TooTall) t = refl
-  tall_only is top old t = absurd t
-
-  grow_only : (roots_of c).levels ≡ level → level ≢ 12 → (other : PostStage) → PostStarts level key c other → other ≡ Growing growth.Latching
-  grow_only is low (Coming b) t = absurd (let e = t.0 in omega arith)
-  grow_only is low (Growing growth.Latching) t = refl
-  grow_only is low (Ending reply.Stale) t = absurd (omega arith)
-  grow_only is low (Ending reply.TooTall) t = absurd (low t.1)
-  grow_only is low old t = absurd t
-
-  come_only : (a : Approach) → level < (roots_of c).levels → ((o : Approached) → Approaches level key Start (seen.Words c) o → o ≡ came.On a) → (other : PostStage) → PostStarts level key c other → other ≡ Coming a
-  come_only a more is (Coming b) t = ap Coming (came_on b a (is (came.On b) t.1))
-  come_only a more is (Growing growth.Latching) t = absurd (let e = t.0 in omega arith)
-  come_only a more is (Ending reply.Stale) t = absurd (omega arith)
-  come_only a more is (Ending reply.TooTall) t = absurd (let e = t.0 in omega arith)
-  come_only a more is old t = absurd t
-
-  come_by : level < (roots_of c).levels → (o : Approached) → Approaches level key Start (seen.Words c) o → ((z : Approached) → Approaches level key Start (seen.Words c) z → z ≡ o) → One (PostStarts level key c)
-  come_by more (came.On a) h is = record { new = Coming a; goes = (more, h); only = come_only a more is }
-  come_by more (came.Here x d) h is = absurd h
-
-  start_one : One (PostStarts level key c)
-  start_one = elim (cases_lt (roots_of c).levels level) [
-    | inl lt ↦ record { new = Ending reply.Stale; goes = lt; only = stale_only lt }
-    | inr ge ↦ elim (cases_lt level (roots_of c).levels) [
-      | inl more ↦ (let h = approach_one level key Start (seen.Words c) tt in come_by more h.new h.goes h.only)
-      | inr le ↦ (let is : (roots_of c).levels ≡ level = omega arith in elim (cases_eq level 12) [
-        | inl top ↦ record { new = Ending reply.TooTall; goes = (is, top); only = tall_only is top }
-        | inr low ↦ record { new = Growing growth.Latching; goes = (is, low); only = grow_only is low }
-      ])
-    ]
+  lack_one : levels ≤ level → One (PostLacks level levels)
+  lack_one few = elim (cases_lt levels level) [
+    | inl lt ↦ record { new = Ending reply.Stale; goes = lt; only = lacks_by (λ z. z ≡ Ending reply.Stale) (λ l. refl) (λ e l. absurd (omega arith)) (λ e l. absurd (omega arith)) }
+    | inr ge ↦ (let is : levels ≡ level = omega arith in elim (cases_eq level 12) [
+      | inl top ↦ record { new = Ending reply.TooTall; goes = (is, top); only = lacks_by (λ z. z ≡ Ending reply.TooTall) (λ l. absurd (omega arith)) (λ e l. refl) (λ e low. absurd (low top)) }
+      | inr low ↦ record { new = Growing growth.Latching; goes = (is, low); only = lacks_by (λ z. z ≡ Growing growth.Latching) (λ l. absurd (omega arith)) (λ e top. absurd (low top)) (λ e l. refl) }
+    ])
   ]
 
 -- At the parent.
-module _ (key x : ℕ) (c : Page) where
-  already_only : (child : ℕ) → (node_of c).look key ≡ Some child → (other : PostStage) → PostArrives key x c other → other ≡ Staying x reply.Already
-  already_only child e (Walking v) t = absurd (let same : Some child ≡ map_of v.parent.children.items key = sym e ∙ ap (λ (z : Page). (node_of z).look key) t.2 in let un : map_of v.parent.children.items key ≡ None = subst (λ (z : ℕ). map_of v.parent.children.items z ≡ None) t.1 v.unlisted in let z : Some child ≡ None = same ∙ un in cc)
+module _ (key x : ℕ) (parent : Inner) where
+  already_only : (child : ℕ) → map_of parent.children.items key ≡ Some child → (other : PostStage) → PostArrives key x parent other → other ≡ Staying x reply.Already
+  already_only child e (Walking v) t = absurd (let un : map_of parent.children.items key ≡ None = subst (λ (z : Inner × ℕ). map_of z.0.children.items z.1 ≡ None) (λ i. (t.2 i, t.1 i)) v.unlisted in let z : Some child ≡ None = sym e ∙ un in cc)
   already_only child e (Staying m reply.Already) t = λ i. Staying (t.0 i) reply.Already
   already_only child e old t = absurd t
 
-  walk_only : (w : Walk) → w.at ≡ x → w.key ≡ key → c ≡ page.Inner w.parent → IsChildOf (node_of c).look key w.child → (node_of c).look key ≡ None → (other : PostStage) → PostArrives key x c other → other ≡ Walking w
-  walk_only w at is parent child none (Walking v) t = ap Walking (walk_same v w (t.0 ∙ sym at) (t.1 ∙ sym is) (inner_one v.parent w.parent (sym t.2 ∙ parent)) (child_one (node_of c).look key v.child w.child t.3 child))
-  walk_only w at is parent child none (Staying m reply.Already) t = absurd (let z : Some t.1.0 ≡ None = sym t.1.1 ∙ none in cc)
-  walk_only w at is parent child none old t = absurd t
+  walk_only : (w : Walk) → w.at ≡ x → w.key ≡ key → w.parent ≡ parent → IsChildOf (node_of (page.Inner parent)).look key w.child → map_of parent.children.items key ≡ None → (other : PostStage) → PostArrives key x parent other → other ≡ Walking w
+  walk_only w at is same child none (Walking v) t = ap Walking (walk_same v w (t.0 ∙ sym at) (t.1 ∙ sym is) (t.2 ∙ sym same) (child_one (node_of (page.Inner parent)).look key v.child w.child t.3 child))
+  walk_only w at is same child none (Staying m reply.Already) t = absurd (let z : Some t.1.0 ≡ None = sym t.1.1 ∙ none in cc)
+  walk_only w at is same child none old t = absurd t
 
--- the parent is an inner page
-arrive_inner : (key x : ℕ) (parent : Inner) → IsWithin parent.low parent.high key → (look : Option ℕ) → map_of parent.children.items key ≡ look → One (PostArrives key x (page.Inner parent))
-arrive_inner key x parent in_it (Some child) e = record { new = Staying x reply.Already; goes = (refl, (child, e)); only = already_only key x (page.Inner parent) child e }
-arrive_inner key x parent in_it None e =
-    let child = child_of parent key in_it in
-    let w : Walk = record { at = x; key = key; parent = parent; child = child.0; covers = in_it; unlisted = e; names = listed-child child.1.key child.0 parent.children.items parent.pages child.1.listed } in
-    record { new = Walking w; goes = (refl, refl, refl, child.1); only = walk_only key x (page.Inner parent) w refl refl refl child.1 e }
+  arrive_by : IsWithin parent.low parent.high key → (look : Option ℕ) → map_of parent.children.items key ≡ look → One (PostArrives key x parent)
+  arrive_by in_it (Some child) e = record { new = Staying x reply.Already; goes = (refl, (child, e)); only = already_only child e }
+  arrive_by in_it None e =
+      let child = child_of parent key in_it in
+      let w : Walk = record { at = x; key = key; parent = parent; child = child.0; covers = in_it; unlisted = e; names = listed-child child.1.key child.0 parent.children.items parent.pages child.1.listed } in
+      record { new = Walking w; goes = (refl, refl, refl, child.1); only = walk_only w refl refl refl child.1 e }
 
-arrive_one : (level key x : ℕ) (c : Page) → 0 < level → Leads c key level Here → One (PostArrives key x c)
-arrive_one level key x (page.Anchor a) least h = absurd h.0
-arrive_one level key x (page.Leaf l) least h = absurd (let e = h.2 in omega arith)
-arrive_one level key x (page.Inner i) least h = arrive_inner key x i h.1 (map_of i.children.items key) refl
-arrive_one level key x (page.Dead d) least h = absurd h.0
-
--- On the way to the parent.
-module _ (level key : ℕ) (a : Approach) (what : Seen) where
-  on_only : (b : Approach) → ((o : Approached) → Approaches level key a what o → o ≡ came.On b) → (other : PostStage) → PostNears level key a what other → other ≡ Coming b
-  on_only b is (Coming n) t = ap Coming (came_on n b (is (came.On n) t))
-  on_only b is old t = absurd (not_both b t.0 t.1 (sym (is (came.Here t.0 t.1) t.2)))
-
-  here_only : (x : ℕ) (c : Page) → ((o : Approached) → Approaches level key a what o → o ≡ came.Here x c) → (one : One (PostArrives key x c)) → (other : PostStage) → PostNears level key a what other → other ≡ one.new
-  here_only x c is one New t = (let e = is (came.Here t.0 t.1) t.2 in one.only New (subst (λ (z : ℕ × Page). PostArrives key z.0 z.1 New) (λ i. (came_at t.0 x t.1 c e i, came_as t.0 x t.1 c e i)) t.3))
-  here_only x c is one (Coming n) t = absurd (not_both n x c (is (came.On n) t))
-  here_only x c is one (Growing g) t = (let e = is (came.Here t.0 t.1) t.2 in one.only (Growing g) (subst (λ (z : ℕ × Page). PostArrives key z.0 z.1 (Growing g)) (λ i. (came_at t.0 x t.1 c e i, came_as t.0 x t.1 c e i)) t.3))
-  here_only x c is one (Walking v) t = (let e = is (came.Here t.0 t.1) t.2 in one.only (Walking v) (subst (λ (z : ℕ × Page). PostArrives key z.0 z.1 (Walking v)) (λ i. (came_at t.0 x t.1 c e i, came_as t.0 x t.1 c e i)) t.3))
-  here_only x c is one (Changing d) t = (let e = is (came.Here t.0 t.1) t.2 in one.only (Changing d) (subst (λ (z : ℕ × Page). PostArrives key z.0 z.1 (Changing d)) (λ i. (came_at t.0 x t.1 c e i, came_as t.0 x t.1 c e i)) t.3))
-  here_only x c is one (Staying m r) t = (let e = is (came.Here t.0 t.1) t.2 in one.only (Staying m r) (subst (λ (z : ℕ × Page). PostArrives key z.0 z.1 (Staying m r)) (λ i. (came_at t.0 x t.1 c e i, came_as t.0 x t.1 c e i)) t.3))
-  here_only x c is one (Ending r) t = (let e = is (came.Here t.0 t.1) t.2 in one.only (Ending r) (subst (λ (z : ℕ × Page). PostArrives key z.0 z.1 (Ending r)) (λ i. (came_at t.0 x t.1 c e i, came_as t.0 x t.1 c e i)) t.3))
-  here_only x c is one (Over r) t = (let e = is (came.Here t.0 t.1) t.2 in one.only (Over r) (subst (λ (z : ℕ × Page). PostArrives key z.0 z.1 (Over r)) (λ i. (came_at t.0 x t.1 c e i, came_as t.0 x t.1 c e i)) t.3))
-
-  here_goes : (x : ℕ) (c : Page) → Approaches level key a what (came.Here x c) → (new : PostStage) → PostArrives key x c new → PostNears level key a what new
-  here_goes x c h New u = (x, c, h, u)
-  here_goes x c h (Coming n) u = absurd u
-  here_goes x c h (Growing g) u = (x, c, h, u)
-  here_goes x c h (Walking v) u = (x, c, h, u)
-  here_goes x c h (Changing d) u = (x, c, h, u)
-  here_goes x c h (Staying m r) u = (x, c, h, u)
-  here_goes x c h (Ending r) u = (x, c, h, u)
-  here_goes x c h (Over r) u = (x, c, h, u)
-
-  near_by : 0 < level → (came_to : Approached) → Approaches level key a what came_to → ((o : Approached) → Approaches level key a what o → o ≡ came_to) → One (PostNears level key a what)
-  near_by least (came.On b) h only = record { new = Coming b; goes = h; only = on_only b only }
-  near_by least (came.Here x c) h only = (let one = arrive_one level key x c least (here_leads level key a what x c h) in record { new = one.new; goes = here_goes x c h one.new one.goes; only = here_only x c only one })
-
-  near_one : 0 < level → Gives (approach_next a) None what → One (PostNears level key a what)
-  near_one least g = (let h = approach_one level key a what g in near_by least h.new h.goes h.only)
-
-come_one : (level key : ℕ) (a : Approach) (what : Seen) → 0 < level → Gives (approach_next a) None what → One (PostComes level key a what)
-come_one level key Start (seen.Words c) least g = start_one level key c
-come_one level key (At z) what least g = near_one level key (At z) what least g
-come_one level key (Latching z) what least g = near_one level key (Latching z) what least g
-come_one level key (Latched z) what least g = near_one level key (Latched z) what least g
-come_one level key (Leaving z to) what least g = near_one level key (Leaving z to) what least g
-come_one level key old what least g = absurd g
+-- By what became of the way to the parent.
+after_way : (level key : ℕ) (a : Approach) (what : Seen) (m : Came) → Comes level key a what m → One (PostComes level key m)
+after_way level key a what (come.NoLevel levels) h = (let one = lack_one level levels h.0 in record { new = one.new; goes = one.goes; only = one.only })
+after_way level key a what (come.On b) h = record { new = Coming b; goes = refl; only = λ other e. e }
+after_way level key a what (come.ToParent x parent) h = (let one = arrive_by key x parent (here_leads level key a what x (page.Inner parent) h).1 (map_of parent.children.items key) refl in record { new = one.new; goes = one.goes; only = one.only })
 
 right_page : {x y : ℕ} → Right x ≡ Right y → x ≡ y
 right_page e = cc
@@ -273,7 +203,10 @@ module _ (level key : ℕ) where
   ended_only (PostCase.Ended q last t) = ap Over t
 
   stage_one : 0 < level → (a : PostStage) (what : Seen) → post_answer_in level a ≡ None → Gives (post_next_in a) (post_needs_in a) what → One (PostGoes level key a what)
-  stage_one least (Coming a) what r g = (let h = come_one level key a what least g in record { new = h.new; goes = h.goes; only = h.only })
+  stage_one least (Coming a) what r g =
+      let way = come_one level key a what least g in
+      let h = one_after way (after_way level key a what way.new way.goes) in
+      record { new = h.new; goes = h.goes; only = h.only }
   stage_one least (Growing n) what r g = (let h = growth_one level least n what g in record { new = after_growth h.new; goes = growth_goes level key n what h.new h.goes; only = λ b t. growth_only h.new h.only (post_case level key (Growing n) what b t) })
   stage_one least (Changing d) what r g = (let h = change_one d what g in record { new = after_change h.new; goes = change_goes level key d what h.new h.goes; only = λ b t. change_only h.new h.only (post_case level key (Changing d) what b t) })
   stage_one least New seen.Done r g = record { new = Coming Start; goes = refl; only = λ b t. begun_only (post_case level key New seen.Done b t) }

@@ -2,6 +2,8 @@
 use Rattle.std.proofs.Common.{ℕ, suc, ◌≡◌, ◌≢◌, ◌<◌, ◌≤◌, Some, None, refl, sym, ap, subst, inl, inr, arith, ◌∙◌, Option}
 use Rattle.std.proofs.lemmas.Bool.{cases_lt, cases_eq}
 use Rattle.bl_page.specs.declared.page.Page.{Page}
+use Rattle.bl_page.specs.declared.page.Page.TheVariants as page
+use Rattle.bl_page.specs.declared.page.Inner.{Inner}
 use Rattle.bl_claims.specs.Nodes.{Roots}
 use Rattle.bl_claims.specs.Pages.{node_of, roots_of}
 use Rattle.bl_proc_base.specs.declared.acts.Seen.{Seen}
@@ -12,10 +14,14 @@ use Rattle.bl_proc_base.specs.declared.approaching.Approach.{Approach}
 use Rattle.bl_proc_base.specs.declared.approaching.Approach.TheVariants.{Start, At, Latching, Latched, Leaving}
 use Rattle.bl_proc_base.specs.declared.approaching.Approached.{Approached}
 use Rattle.bl_proc_base.specs.declared.approaching.Approached.TheVariants as came
+use Rattle.bl_proc_base.specs.declared.approaching.Came.{Came}
+use Rattle.bl_proc_base.specs.declared.approaching.Came.TheVariants as come
 use Rattle.bl_proc_base.specs.Given.{Gives}
 use Rattle.bl_proc_base.specs.Onwards.{top_of, Leads}
-use Rattle.bl_proc_base.specs.Approaches.{approach_next, Enters, Turns, Quits, Approaches}
+use Rattle.bl_proc_base.specs.Approaches.{approach_next, Enters, Turns, Quits, Approaches, HasLevel, CountsLevels, Comes}
+use Rattle.bl_proc_base.proofs.Ways.{here_leads}
 use Rattle.bl_proc_unique.specs.One.{One}
+use Rattle.bl_proc_unique.proofs.Cases.{came_on, not_both}
 use Rattle.bl_proc_unique.proofs.Onwards.{leads_some, leads_one}
 use Rattle.bl_proc_unique.proofs.WayCases.{ApproachCase, approach_case}
 
@@ -130,9 +136,53 @@ approach_one level key (Leaving x (Some z)) seen.Done g = approaches level key (
 approach_one level key (Leaving x None) seen.Done g = approaches level key (Leaving x None) seen.Done (came.On Start) refl
 approach_one level key old what g = absurd g
 
--- a writer that is there has got a page of its level that covers its key
-pub here_leads : (level key : ℕ) (a : Approach) (what : Seen) (x : ℕ) (c : Page) → Approaches level key a what (came.Here x c) → Leads c key level Here
-here_leads level key a what x c t = by (approach_case level key a what (came.Here x c) t)
-  where
-    by : {a : Approach} {what : Seen} {x : ℕ} {c : Page} → ApproachCase level key a what (came.Here x c) → Leads c key level Here
-    by (ApproachCase.Arrived z d x c h) = subst (λ (p : Page). Leads p key level Here) (sym h.1) h.2
+-- On the way to a parent, past the anchor: it goes on as the approach does.
+came_same : (x y : ℕ) (p q : Inner) → came.Here x (page.Inner p) ≡ came.Here y (page.Inner q) → come.ToParent x p ≡ come.ToParent y q
+came_same x y p q e = cc
+
+module _ (level key : ℕ) (a : Approach) (what : Seen) (has : HasLevel level a what) (none : (n : ℕ) → CountsLevels a what n → ⊥) where
+  onward_only : (b : Approach) → ((o : Approached) → Approaches level key a what o → o ≡ came.On b) → (other : Came) → Comes level key a what other → other ≡ come.On b
+  onward_only b is (come.NoLevel n) t = absurd (none n t.1)
+  onward_only b is (come.On d) t = ap come.On (came_on d b (is (came.On d) t.1))
+  onward_only b is (come.ToParent y q) t = absurd (not_both b y (page.Inner q) (sym (is (came.Here y (page.Inner q)) t)))
+
+  there_only : (x : ℕ) (p : Inner) → ((o : Approached) → Approaches level key a what o → o ≡ came.Here x (page.Inner p)) → (other : Came) → Comes level key a what other → other ≡ come.ToParent x p
+  there_only x p is (come.NoLevel n) t = absurd (none n t.1)
+  there_only x p is (come.On d) t = absurd (not_both d x (page.Inner p) (is (came.On d) t.1))
+  there_only x p is (come.ToParent y q) t = came_same y x q p (is (came.Here y (page.Inner q)) t)
+
+  near_by : 0 < level → (o : Approached) → Approaches level key a what o → ((z : Approached) → Approaches level key a what z → z ≡ o) → One (Comes level key a what)
+  near_by least (came.On b) h is = record { new = come.On b; goes = (has, h); only = onward_only b is }
+  near_by least (came.Here x (page.Inner p)) h is = record { new = come.ToParent x p; goes = h; only = there_only x p is }
+  near_by least (came.Here x (page.Leaf l)) h is = absurd (let e = (here_leads level key a what x (page.Leaf l) h).2 in omega arith)
+  near_by least (came.Here x (page.Anchor c)) h is = absurd (here_leads level key a what x (page.Anchor c) h).0
+  near_by least (came.Here x (page.Dead d)) h is = absurd (here_leads level key a what x (page.Dead d) h).0
+
+  near_one : 0 < level → Gives (approach_next a) None what → One (Comes level key a what)
+  near_one least g = (let one = approach_one level key a what g in near_by least one.new one.goes one.only)
+
+-- At the anchor.
+module _ (level key : ℕ) (c : Page) where
+  begun_only : (b : Approach) → level < (roots_of c).levels → ((z : Approach) → Enters level (roots_of c) z → z ≡ b) → (other : Came) → Comes level key Start (seen.Words c) other → other ≡ come.On b
+  begun_only b more is (come.NoLevel n) t = absurd (let few = t.0 in let e = t.1 in omega arith)
+  begun_only b more is (come.On d) t = ap come.On (is d t.1)
+  begun_only b more is (come.ToParent y q) t = absurd t
+
+  lacking_only : (roots_of c).levels ≤ level → (other : Came) → Comes level key Start (seen.Words c) other → other ≡ come.NoLevel (roots_of c).levels
+  lacking_only few (come.NoLevel n) t = ap come.NoLevel t.1
+  lacking_only few (come.On d) t = absurd (let more = t.0 in omega arith)
+  lacking_only few (come.ToParent y q) t = absurd t
+
+  begun_one : One (Comes level key Start (seen.Words c))
+  begun_one = elim (cases_lt level (roots_of c).levels) [
+    | inl more ↦ (let one = enter_one level (roots_of c) in record { new = come.On one.new; goes = (more, one.goes); only = begun_only one.new more one.only })
+    | inr few ↦ record { new = come.NoLevel (roots_of c).levels; goes = (few, refl); only = lacking_only few }
+  ]
+
+pub come_one : (level key : ℕ) (a : Approach) (what : Seen) → 0 < level → Gives (approach_next a) None what → One (Comes level key a what)
+come_one level key Start (seen.Words c) least g = begun_one level key c
+come_one level key (At x) what least g = near_one level key (At x) what tt (λ n h. h) least g
+come_one level key (Latching x) what least g = near_one level key (Latching x) what tt (λ n h. h) least g
+come_one level key (Latched x) what least g = near_one level key (Latched x) what tt (λ n h. h) least g
+come_one level key (Leaving x to) what least g = near_one level key (Leaving x to) what tt (λ n h. h) least g
+come_one level key old what least g = absurd g

@@ -4,6 +4,7 @@ use Rattle.bl_proc.specs.declared.kinds.Proc.{Proc}
 use Rattle.bl_proc.specs.Processes.{Takes}
 use Rattle.bl_proc_base.specs.declared.acts.Seen.TheVariants as seen
 use Rattle.bl_proc_base.specs.declared.approaching.Approach.TheVariants as approach
+use Rattle.bl_proc_base.specs.declared.approaching.Came.TheVariants as come
 use Rattle.bl_proc.specs.declared.posting.PostStage.TheVariants as post
 use Rattle.bl_store.specs.Hands.{known, read_words, IsSameStage}
 use Rattle.bl_store.specs.declared.store.Hand.{Hand}
@@ -45,7 +46,7 @@ come_from-requires-clause-process g c =
     let turns = c.took_words-from.ensures.goes went.0 (ap (λ (h : Hand Mine). read_words h.seat) c.levels_in.ensures.same ∙ went.1) in
     let levels : c.levels_in.result ≡ (roots_of went.0).levels = c.levels_in.ensures.levels went.0 went.1 in
     let led : j.level < (roots_of went.0).levels = omega (arith, levels, c.if-levels_in-errand.false) in
-    let on : IsOn layout (known c.look-glance.new.hand.seat) (posting j (post.Coming c.took_words-from.result) tt) = on_goes layout (seen.Words went.0) _ _ _ _ c.requires.process went.2 (refl, refl, (led, turns)) in
+    let on : IsOn layout (known c.look-glance.new.hand.seat) (posting j (post.Coming c.took_words-from.result) tt) = on_goes layout (seen.Words went.0) _ _ _ _ c.requires.process went.2 (refl, refl, (come.On c.took_words-from.result, (led, turns), refl)) in
     subst (λ (h : Hand Mine). IsOn layout (known h.seat) (posting j (post.Coming c.took_words-from.result) tt)) (sym (c.took_words-from.ensures.same ∙ c.levels_in.ensures.same)) on
 
 pub returns-in-Some-clause-over : goal.returns-in-Some-clause-over

@@ -1,7 +1,7 @@
 use Rattle.std.proofs.Common.{sym, ◌∙◌, ap}
 use Rattle.bl_model.specs.Rows.{map_of}
 use Rattle.bl_proc.proofs.Named.{listed-child}
-use Rattle.bl_proc.proofs.posts.arrived_at_inner.Goals as goal
+use Rattle.bl_proc.proofs.posts.arrived.Goals as goal
 
 pub invariant_of-result : goal.invariant_of-result
 invariant_of-result c = record {

@@ -1,5 +1,0 @@
-use Rattle.bl_proc.proofs.Arrivals.{post_arrives}
-use Rattle.bl_proc.proofs.posts.neared.Goals as goal
-
-pub returns-in-Here : goal.returns-in-Here
-returns-in-Here c = post_arrives c.args.level c.args.key c.args.approach c.args.seen c.in-Here.at c.in-Here.page c.arrived.result c.in-Here.ensures c.arrived.ensures
