@@ -205,8 +205,10 @@ impl Approach {
                 Seen::Words(anchor) => began(level, &anchor),
                 _ => unreachable!(),
             },
-            Approach::At(_) | Approach::Latching(_) | Approach::Latched(_) | Approach::Leaving(_, _) =>
-                neared(self, level, key, seen),
+            Approach::At(_)
+            | Approach::Latching(_)
+            | Approach::Latched(_)
+            | Approach::Leaving(_, _) => neared(self, level, key, seen),
         }
     }
 }
