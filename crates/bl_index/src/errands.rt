@@ -166,6 +166,7 @@ impl Errand for Posting {
     ghost use Rattle.bl_proc.specs.declared.kinds.Proc.TheVariants as proc;
     ghost use Rattle.bl_proc.specs.declared.posting.PostStage.TheVariants as post;
     ghost use Rattle.bl_proc_base.specs.declared.acts.Seen.TheVariants as seen;
+    ghost use Rattle.bl_proc_base.specs.declared.approaching.Came.TheVariants as come;
     ghost use Rattle.bl_proc_unique.proofs.Posts.{post_goes};
     ghost use Rattle.bl_index.specs.Ways.{nears};
 
@@ -200,7 +201,7 @@ impl Errand for Posting {
 
     ghost courses = { λ j a what g. post_goes (record { level = j.level; key = j.key; stage = post.Coming a; least = j.least; most = j.most; below = tt }) what refl g };
 
-    ghost enters = { λ j a c led t. (refl, refl, (led, t)) };
+    ghost enters = { λ j a c led t. (refl, refl, (come.On a, (led, t), refl)) };
 
     ghost goes = { λ j a b what past t. (refl, refl, nears j.level j.key a b what past t) };
 }
