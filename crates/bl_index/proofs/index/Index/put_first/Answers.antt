@@ -1,4 +1,4 @@
-use Rattle.std.proofs.Common.{refl, ap, sym, ◌∙◌, subst}
+use Rattle.std.proofs.Common.{ℕ, ◌<◌, refl, ap, sym, ◌∙◌, subst}
 use Rattle.bl_proc_base.specs.declared.acts.Seen.TheVariants as seen
 use Rattle.bl_proc.specs.declared.kinds.Proc.{Proc}
 use Rattle.bl_proc.specs.Processes.{next_of}
@@ -6,6 +6,8 @@ use Rattle.bl_proc_unique.specs.Courses.{GoesOn}
 use Rattle.bl_store.specs.Hands.{known}
 use Rattle.bl_index_rule.proofs.Pages.{refuses_put}
 use Rattle.bl_index.proofs.Rooms.{tells_done, tells_refused, put_opens_not}
+use Rattle.bl_index.specs.Runs.{IsOn, Moves}
+use Rattle.bl_index.proofs.Standing.{on_goes}
 use Rattle.bl_index.proofs.index.Index.put_first.Goals as goal
 
 pub reserve-requires-clause-refuses : goal.reserve-requires-clause-refuses
@@ -34,3 +36,24 @@ took-requires-clause-given g c = rw (c.requires.next.1, c.requires.needs.0) refl
 
 pub returns-in-Err-clause-same : goal.returns-in-Err-clause-same
 returns-in-Err-clause-same g c = c.reserve.ensures.same
+
+pub put_with-requires-clause-process : goal.put_with-requires-clause-process
+put_with-requires-clause-process g c = subst (λ d. IsOn c.args.self.now.store.layout d (g.P.Kind.proc_of c.args.process.now)) (sym (c.in-Ok.ensures.no_page refl).1) c.requires.process
+
+pub put_with-requires-clause-stock : goal.put_with-requires-clause-stock
+put_with-requires-clause-stock g c = let has = c.in-Ok.ensures.stock in (has.0, subst (λ (n : ℕ). 0 < n) (sym has.1) c.requires.needs.1, has.2)
+
+pub returns-in-Ok-clause-same : goal.returns-in-Ok-clause-same
+returns-in-Ok-clause-same g c = let b = c.put_with.ensures.same in let a = c.in-Ok.ensures.same in ((b.0.0 ∙ a.0.0, b.0.1 ∙ a.0.1, b.0.2 ∙ a.0.2), b.1 ∙ a.1)
+
+pub returns-in-Ok-clause-process : goal.returns-in-Ok-clause-process
+returns-in-Ok-clause-process g c = c.put_with.ensures.process
+
+pub returns-in-Ok-clause-moves : goal.returns-in-Ok-clause-moves
+returns-in-Ok-clause-moves g c = subst (λ d. Moves d (known c.put_with.new.hand.seat)) (c.in-Ok.ensures.no_page refl).1 c.put_with.ensures.moves
+
+pub returns-in-Err-clause-process : goal.returns-in-Err-clause-process
+returns-in-Err-clause-process g c = on_goes c.args.self.now.store.layout seen.Refused (known c.args.hand.now.seat) (known c.reserve.new.hand.seat) (g.P.Kind.proc_of c.args.process.now) (g.P.Kind.proc_of c.took.new.self) c.requires.process c.in-Err.ensures.refused.1.1 (g.met.P.Kind.goes c.args.process.now c.took.new.self seen.Refused c.took.ensures)
+
+pub returns-in-Err-clause-moves : goal.returns-in-Err-clause-moves
+returns-in-Err-clause-moves g c = (seen.Refused, c.in-Err.ensures.refused.1.1)

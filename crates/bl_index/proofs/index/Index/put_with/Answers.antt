@@ -5,6 +5,7 @@ use Rattle.bl_proc.specs.Processes.{next_of}
 use Rattle.bl_proc_unique.specs.Courses.{GoesOn}
 use Rattle.bl_store.specs.Hands.{known}
 use Rattle.bl_index_rule.proofs.Pages.{puts_page}
+use Rattle.bl_index.proofs.Standing.{on_goes}
 use Rattle.bl_index.proofs.index.Index.put_with.Goals as goal
 
 pub put-requires-clause-rule : goal.put-requires-clause-rule
@@ -27,3 +28,9 @@ returns-clause-takes g c = c.took.ensures
 
 pub returns-clause-stock : goal.returns-clause-stock
 returns-clause-stock g c = (c.put.ensures.stock.0, c.put.ensures.stock.1, c.put.ensures.same.2 ∙ c.requires.stock.2)
+
+pub returns-clause-process : goal.returns-clause-process
+returns-clause-process g c = on_goes c.args.self.now.store.layout seen.Done (known c.args.hand.now.seat) (known c.put.new.hand.seat) (g.P.Kind.proc_of c.args.process.now) (g.P.Kind.proc_of c.took.new.self) c.requires.process (c.put.ensures.told.1) (g.met.P.Kind.goes c.args.process.now c.took.new.self seen.Done c.took.ensures)
+
+pub returns-clause-moves : goal.returns-clause-moves
+returns-clause-moves g c = (seen.Done, c.put.ensures.told.1)

@@ -1,5 +1,4 @@
-use Rattle.std.proofs.Common.{subst}
-use Rattle.bl_world.specs.Views.{View, view_of}
+use Rattle.bl_world.specs.Views.{view_of}
 use Rattle.bl_world.proofs.Accounting.{lone}
 use Rattle.bl_world.proofs.world.World.lone_walk.Goals as goal
 
