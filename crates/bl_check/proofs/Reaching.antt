@@ -6,7 +6,7 @@ use Rattle.std.proofs.lemmas.Bool.{cases_lt, cases_eq}
 use Rattle.bl_page.specs.declared.page.Page.{Page}
 use Rattle.bl_check.specs.declared.span.Span.{Span}
 use Rattle.bl_check.specs.Spans.{span_of, span_at, StandsAt, levels, leftmost}
-use Rattle.bl_check.specs.Rules.{HasNext, LinkFits, Reaches, OnChain, Rule, Keeps, AllKeep, IsFirst}
+use Rattle.bl_check.specs.Rules.{HasNext, LinkFits, Reaches, OnChain, Rule, Keeps, AllKeep}
 use Rattle.bl_check.specs.Rules.Reaches.{Here, Next}
 use Rattle.bl_check.specs.Walks.{FitsAt, IsMarked, MetBelow, Stops, LeastWrong, MarksChains, IsLesser}
 
@@ -198,14 +198,6 @@ on_its_chain pages y leftmost_fit some (level, lt, r) = at_span (span_at pages y
     at_span (Some s) at = subst (λ l. OnChain pages l y) (sym (chain_level pages level y (leftmost_fit 0 some refl level lt) r s at)) (lt, r)
 
 -- what the marks and the least wrong link say of the rules
-
-pub links_kept : (pages : List (Option Page)) (wrong : Option ℕ) → LeastWrong wrong pages (levels pages) → IsFirst Rule.Links pages wrong
-links_kept pages None h = λ x lt level on. h x (level, on.0, on.1)
-links_kept pages (Some x) h = (below (span_at pages x) refl, (λ keeps. h.1 (keeps h.0.0 (h.0.1, h.0.2))), λ y lt level on. h.2 y lt (level, on.0, on.1))
-  where
-    below : (o : Option Span) → span_at pages x ≡ o → x < length pages
-    below None at = absurd (h.1 (subst (λ o. IfSome o (λ s. LinkFits pages s)) (sym at) tt))
-    below (Some s) at = live_below pages x s at
 
 -- a page that is not live keeps the rule of chains
 

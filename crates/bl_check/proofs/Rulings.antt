@@ -7,21 +7,13 @@ use Rattle.bl_image.specs.declared.fault.ImageFault.TheVariants as image
 use Rattle.bl_image.proofs.Chunks.{image_same, read_fault}
 use Rattle.bl_check.specs.declared.fault.Fault.{Fault}
 use Rattle.bl_check.specs.declared.fault.Fault.TheVariants as fault
-use Rattle.bl_check.specs.Rules.{Rule, number_of, Keeps, AllKeep, AreSound, IsFirst}
+use Rattle.bl_check.specs.Rules.{Rule, number_of, Keeps, AllKeep, IsFirst}
 use Rattle.bl_check.specs.Rules.Rule.{OneAnchor, Leftmost, Links, Chains, Children, NoneDead}
 use Rattle.bl_check.specs.Faults.{KeptBefore, IsPageFault, Breaks, IsFault, AreSoundImage}
 use Rattle.bl_check.specs.Faults.Breaks.{Head, Words, Pages}
 
 pub kept : (rule : Rule) (pages : List (Option Page)) (found : Option ℕ) → IsFirst rule pages found → found ≡ None → AllKeep rule pages
 kept rule pages found h none = subst (IsFirst rule pages) none h
-
-pub before_3 : (pages : List (Option Page)) → KeptBefore 3 pages
-before_3 pages OneAnchor lt = absurd (omega arith)
-before_3 pages Leftmost lt = absurd (omega arith)
-before_3 pages Links lt = absurd (omega arith)
-before_3 pages Chains lt = absurd (omega arith)
-before_3 pages Children lt = absurd (omega arith)
-before_3 pages NoneDead lt = absurd (omega arith)
 
 pub before_4 : (pages : List (Option Page)) → AllKeep OneAnchor pages → KeptBefore 4 pages
 before_4 pages a OneAnchor lt = a
@@ -78,10 +70,6 @@ at_last (Ok u) pages found before h k = tt
 at_last (Err f) pages found before h k = refused pages NoneDead 8 found f refl before h k
 
 -- a sound image has no fault but want of memory
-
-pub sound_pages : (f : Fault) (pages : List (Option Page)) → AreSound pages → IsPageFault f pages → f ≡ fault.Memory
-sound_pages (fault.Rule number x) pages sound broken = absurd (broken.least.1 (sound broken.rule x broken.least.0))
-sound_pages fault.Memory pages sound broken = refl
 
 pub in_bytes : (f : Fault) (pages : List (Option Page)) (bytes : List ℕ) → IsImage pages bytes → IsPageFault f pages → IsFault f bytes
 in_bytes (fault.Rule number x) pages bytes whole broken = Pages pages whole broken

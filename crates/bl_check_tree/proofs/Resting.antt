@@ -1,6 +1,6 @@
 -- The pages of a good world, of which nobody holds one, are those of a sound image, whose rows are the world's map.
-use Rattle.std.proofs.Common.{◌≡◌, ◌≢◌, ℕ, suc, ◌+◌, ◌-◌, ◌<◌, ◌≤◌, ◌^◌, ◌==◌, if◌then◌else◌, List, [], ◌∷◌, length, get_or, true, false, Option, Some, None, refl, sym, subst, ap, ◌∙◌, inl, inr, ◌⊎◌, arith}
-use Rattle.std.specs.Prelude.{IsTrue, IfSome, IsSomeAnd}
+use Rattle.std.proofs.Common.{◌≡◌, ◌≢◌, ℕ, ◌+◌, ◌-◌, ◌<◌, ◌≤◌, ◌==◌, if◌then◌else◌, List, [], ◌∷◌, length, true, false, Option, Some, None, refl, sym, subst, ap, ◌∙◌, inl, inr, arith}
+use Rattle.std.specs.Prelude.{IfSome, IsSomeAnd}
 use Rattle.std.specs.List.{AllByRecursion}
 use Rattle.std.proofs.lemmas.Bool.{cases_eq, cases_lt, false≢true}
 use Rattle.bl_model.specs.Rows.{map_of}
@@ -11,7 +11,7 @@ use Rattle.bl_page.specs.Machine.{Name, Owner, State}
 use Rattle.bl_page.specs.Machine.Phase.{Waiting}
 use Rattle.bl_image.specs.Images.{IsImage, IsCount, image_bytes}
 use Rattle.bl_claims.specs.Nodes.{Node, unbounded}
-use Rattle.bl_core_tree.specs.Trees.{Status, is_live, IsLive, IsTree}
+use Rattle.bl_core_tree.specs.Trees.{is_live, IsLive}
 use Rattle.bl_core_tree.specs.Trees.Status.{Free, Live, Left, Right, Gone, Anchored}
 use Rattle.bl_core_tree.proofs.Statuses.{live_live, right_live, anchored_dead}
 use Rattle.bl_claims.specs.Laws.{IsChain}
@@ -22,10 +22,10 @@ use Rattle.bl_core.specs.Worlds.{Know, World, nodes, tree_of, IsGood}
 use Rattle.bl_core.proofs.WorldLaws.{tree_page, all_sound, live_page}
 use Rattle.bl_check.specs.declared.span.Span.{Span}
 use Rattle.bl_check.specs.Rows.{AreRowsOf}
-use Rattle.bl_check.specs.Rules.{is_anchor, is_dead, HasNext, LinkFits, Reaches, OnChain, ChildrenFit, Rule, Keeps, AllKeep, AreSound}
+use Rattle.bl_check.specs.Rules.{is_anchor, is_dead, HasNext, LinkFits, Reaches, OnChain, ChildrenFit, Rule, AllKeep, AreSound}
 use Rattle.bl_check.specs.Rules.Reaches.{Here, Next}
 use Rattle.bl_page.specs.Pages.{page_at}
-use Rattle.bl_check.specs.Spans.{span_of, span_at, StandsAt, levels, leftmost, leftmost_of as listed_roots}
+use Rattle.bl_check.specs.Spans.{span_of, span_at, StandsAt, levels, leftmost}
 use Rattle.bl_claims.specs.Opening.{node_in, roots_in, IsStored, IsOpened}
 use Rattle.bl_check_tree.specs.Begins.{IsLeft, AreLeft}
 use Rattle.bl_check_tree.proofs.Beginnings.{AllFit, says, some_bound, bound_is, fits_span, anchored}

@@ -1,12 +1,12 @@
 -- The rows of an image and the leaves of its tree: what the leaves say is the map of the rows.
-use Rattle.std.proofs.Common.{◌≡◌, ◌≢◌, ℕ, zero, suc, ◌+◌, ◌<◌, ◌≤◌, ◌^◌, List, [], ◌∷◌, ◌++◌, true, false, Option, Some, None, refl, sym, subst, ap, ◌∙◌, inl, inr, arith}
+use Rattle.std.proofs.Common.{◌≡◌, ◌≢◌, ℕ, zero, suc, ◌+◌, ◌<◌, ◌≤◌, List, [], ◌∷◌, ◌++◌, true, false, Option, Some, None, refl, sym, subst, ap, ◌∙◌, inl, inr, arith}
 use Rattle.std.specs.Prelude.{IsTrue, is_some, nat_lt, if◌then◌else◌}
 use Rattle.std.proofs.lemmas.Bool.{cases_lt, false≢true}
 use Rattle.bl_model.specs.Rows.{map_of}
 use Rattle.bl_page.specs.declared.page.Leaf.{Leaf as LeafPage}
 use Rattle.bl_page.specs.declared.page.Page.{Page}
-use Rattle.bl_page.specs.declared.page.Page.TheVariants.{Anchor, Leaf, Inner, Dead}
-use Rattle.bl_page.specs.Pairs.{end_of, IsWithin, RisesFrom, AllWithin}
+use Rattle.bl_page.specs.declared.page.Page.TheVariants.{Leaf, Inner}
+use Rattle.bl_page.specs.Pairs.{end_of, RisesFrom, AllWithin}
 use Rattle.bl_claims.specs.Nodes.{Node, Roots, unbounded}
 use Rattle.bl_claims.specs.Laws.{IsChain}
 use Rattle.bl_claims.specs.Pages.{node_of}

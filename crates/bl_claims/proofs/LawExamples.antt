@@ -1,6 +1,6 @@
 -- The laws on a small tree: an anchor, two leaves and their parent, with the keys 1 and 9 in the left leaf and the right.
-use Rattle.std.proofs.Common.{ℕ, ◌≡◌, ◌≤◌, ◌==◌, zero, suc, if◌then◌else◌, Some, None, [], ◌∷◌, arith, ap, refl, inl}
-use Rattle.bl_claims.specs.Nodes.{Node, Look, Covers, unbounded}
+use Rattle.std.proofs.Common.{ℕ, ◌≤◌, ◌==◌, zero, suc, if◌then◌else◌, Some, None, [], ◌∷◌, arith, refl, inl}
+use Rattle.bl_claims.specs.Nodes.{Node, Look, unbounded}
 use Rattle.bl_claims.specs.Laws.{Agreement, Overlap, HasChain, IsListed}
 use Rattle.bl_claims.specs.Walks.{IsWalk, NoneTwice}
 use Rattle.bl_claims.specs.Walks.IsWalk.{Ends, Right, Down}

@@ -11,7 +11,7 @@ use Rattle.bl_page.specs.Machine.Act.{Begin, End, Get, Put, Latch}
 use Rattle.bl_claims.specs.Nodes.{Covers}
 use Rattle.bl_claims.specs.Pages.{node_of, roots_of}
 use Rattle.bl_claims.specs.Trails.{Mark, Trail}
-use Rattle.bl_claims.specs.Meanings.{HasGot, RaisesOnly, HasRaised, ListTogether, MeansDone, MeansAlready, MeansStale}
+use Rattle.bl_claims.specs.Meanings.{RaisesOnly, HasRaised, MeansDone, MeansAlready, MeansStale}
 
 abbrev plain : Act Page Reply → Mark
 plain act = record { event = record { process = record { pass = 1; number = 0 }; act = act }; saw = None; said = None }

@@ -1,5 +1,5 @@
 -- What each kind of page says of the tree.
-use Rattle.std.specs.Prelude.{ℕ, None, length, get_or}
+use Rattle.std.specs.Prelude.{None, length, get_or}
 use Rattle.bl_page.specs.declared.page.Page.{Page}
 use Rattle.bl_page.specs.declared.page.Page.TheVariants.{Anchor, Leaf, Inner, Dead}
 use Rattle.bl_model.specs.Rows.{map_of}

@@ -1,14 +1,13 @@
 -- What a pass has seen: all events up to its own last one, as a trail.
 use Rattle.std.specs.Prelude.{◌≡◌, ◌≢◌, ℕ, ◌<◌, ◌++◌, Option, List, [], ◌∷◌, Contains}
 use Rattle.bl_model.specs.Map.{Map, empty}
-use Rattle.bl_model.specs.History.{IsLegalFrom, final_map, entries_of_pass}
+use Rattle.bl_model.specs.History.{IsLegalFrom, entries_of_pass}
 use Rattle.bl_model.specs.declared.operation.Entry.{Entry}
 use Rattle.bl_model.specs.declared.operation.Reply.{Reply}
 use Rattle.bl_page.specs.declared.page.Page.{Page}
 use Rattle.bl_page.specs.Machine.{Name, State}
 use Rattle.bl_page.specs.Machine.Act.{Begin, End}
 use Rattle.bl_claims.specs.Trails.{Mark, Trail, history_of, IsMarked, LeadsOn}
-use Rattle.bl_claims.specs.Moments.{HasLaws}
 use Rattle.bl_claims.specs.States.{HasMoments}
 use Rattle.bl_claims.specs.Walks.{Each}
 use Rattle.bl_claims.specs.Starts.{start_map}

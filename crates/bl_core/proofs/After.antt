@@ -1,7 +1,7 @@
 -- The world after an event, given from the world before it.
-use Rattle.std.proofs.Common.{ℕ, ◌≡◌, ◌≢◌, ◌++◌, ◌==◌, true, false, if◌then◌else◌, Option, None, [], ◌∷◌, arith, refl}
+use Rattle.std.proofs.Common.{ℕ, ◌≡◌, ◌≢◌, ◌++◌, ◌==◌, true, false, if◌then◌else◌, [], ◌∷◌, arith, refl}
 use Rattle.bl_page.specs.declared.page.Page.{Page}
-use Rattle.bl_page.specs.Machine.{Name, State, Event, Steps, IsAt}
+use Rattle.bl_page.specs.Machine.{Name, State, Steps, IsAt}
 use Rattle.bl_claims.specs.Nodes.{Look}
 use Rattle.bl_core_tree.specs.Trees.{Status}
 use Rattle.bl_core_tree.specs.Moves.{IsAtTwo}

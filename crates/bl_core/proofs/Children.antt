@@ -1,14 +1,13 @@
 -- The child of a post: a page read without a latch, under the latch of its parent.
-use Rattle.std.proofs.Common.{ℕ, ◌≡◌, ◌≢◌, ◌⊎◌, ◌≤◌, ◌<◌, Bool, true, false, Option, Some, None, suc, arith, ap, sym, ◌∙◌, refl, inl, inr}
-use Rattle.bl_page.specs.Machine.{Name, Owner}
+use Rattle.std.proofs.Common.{ℕ, ◌≡◌, ◌≢◌, None, suc, ap, sym, ◌∙◌, inl, inr}
+use Rattle.bl_page.specs.Machine.{Name}
 use Rattle.bl_page.specs.Machine.Owner.{Held}
-use Rattle.bl_claims.specs.Nodes.{Node, Covers}
-use Rattle.bl_core_tree.specs.Trees.{Status, IsLive}
-use Rattle.bl_core_tree.specs.Trees.Status.{Live, Left, Right}
-use Rattle.bl_core_tree.proofs.Statuses.{live_live, right_live}
+use Rattle.bl_claims.specs.Nodes.{Covers}
+use Rattle.bl_core_tree.specs.Trees.Status.{Live}
+use Rattle.bl_core_tree.proofs.Statuses.{live_live}
 use Rattle.bl_claims.specs.Pages.{IsTreePage}
 use Rattle.bl_core_tree.proofs.LawsHold.{right_of}
-use Rattle.bl_core.specs.Worlds.{Child, Know, World, nodes, tree_of, MayGet, HasMiddle, IsRelied, IsGood}
+use Rattle.bl_core.specs.Worlds.{Child, Know, World, nodes, MayGet, IsRelied, IsGood}
 use Rattle.bl_core.proofs.Descents.{is_live_page}
 
 -- two live pages of one level that are in no compression and cover one key are one page

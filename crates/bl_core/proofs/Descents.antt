@@ -1,17 +1,16 @@
 -- On the way down: what a page that a process may get tells it.
-use Rattle.std.proofs.Common.{ℕ, ◌≡◌, ◌≢◌, ◌⊎◌, ◌≤◌, ◌<◌, ◌-◌, Bool, true, false, Option, Some, None, suc, arith, ap, sym, ◌∙◌, refl, inl, inr}
+use Rattle.std.proofs.Common.{ℕ, ◌≡◌, ◌≢◌, ◌⊎◌, ◌≤◌, ◌<◌, true, false, suc, arith, ap, sym, ◌∙◌, refl, inl, inr}
 use Rattle.std.proofs.lemmas.Bool.{false≢true}
-use Rattle.bl_page.specs.declared.page.Page.{Page}
-use Rattle.bl_page.specs.Machine.{Name, Owner, Phase, State}
-use Rattle.bl_page.specs.Machine.Owner.{Released, Held, Retired}
+use Rattle.bl_page.specs.Machine.{Name, Owner}
+use Rattle.bl_page.specs.Machine.Owner.{Released}
 use Rattle.bl_page.specs.Machine.Phase.{Running}
-use Rattle.bl_claims.specs.Nodes.{Node, Look, Covers, unbounded}
+use Rattle.bl_claims.specs.Nodes.{Covers, unbounded}
 use Rattle.bl_core_tree.specs.Trees.{Status, is_live, IsLive}
 use Rattle.bl_core_tree.specs.Trees.Status.{Free, Fresh, Live, Left, Right, Gone, Anchored}
-use Rattle.bl_core_tree.proofs.Statuses.{live_live, left_live, right_live, gone_dead, free_dead}
-use Rattle.bl_claims.specs.Pages.{node_of, roots_of, IsTreePage}
+use Rattle.bl_core_tree.proofs.Statuses.{live_live, left_live, right_live, gone_dead}
+use Rattle.bl_claims.specs.Pages.{roots_of, IsTreePage}
 use Rattle.bl_claims.specs.Walks.{IsChildOf}
-use Rattle.bl_core.specs.Worlds.{Goes, Know, World, nodes, tree_of, was_in, MayGet, IsGoes, IsGood}
+use Rattle.bl_core.specs.Worlds.{Know, World, nodes, was_in, MayGet, IsGoes, IsGood}
 use Rattle.bl_core.proofs.Steady.{was_live, free_not, fresh_not, anchored_not}
 use Rattle.bl_core_tree.proofs.SoundPages.{sound_node}
 use Rattle.bl_core.proofs.WorldLaws.{wide_bound}

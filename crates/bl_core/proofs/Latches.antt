@@ -1,10 +1,10 @@
 -- Latches and opens keep the world good.
-use Rattle.std.proofs.Common.{Some, None, ℕ, ◌≡◌, ◌≢◌, ◌⊎◌, arith, ap, sym, ◌∙◌, inl, inr}
+use Rattle.std.proofs.Common.{None, ℕ, ◌≡◌, ◌≢◌, ◌⊎◌, arith, ap, sym, ◌∙◌, inl, inr}
 use Rattle.std.proofs.lemmas.Bool.{cases_eq}
 use Rattle.bl_page.specs.Machine.{Name, Owner, Act}
 use Rattle.bl_page.specs.Machine.Owner.{Released, Held, Retired}
 use Rattle.bl_page.specs.Machine.Act.{Latch}
-use Rattle.bl_core_tree.specs.Trees.Status.{Right, Fresh, Live, Gone, Anchored}
+use Rattle.bl_core_tree.specs.Trees.Status.{Fresh, Live, Gone, Anchored}
 use Rattle.bl_core.specs.Worlds.{Know, World, HoldsPage, IsGood, Extends, silent}
 use Rattle.bl_core.proofs.Ghosts.{Still, still_keeps, held_step}
 use Rattle.bl_core.proofs.Watches.{Learns, SameGhost, learns_sure, may_say}

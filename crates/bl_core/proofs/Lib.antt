@@ -1,6 +1,5 @@
 pub mod Pushes
 pub mod Freshness
-pub mod Middles
 pub mod Legal
 pub mod Meant
 pub mod States

@@ -1,13 +1,12 @@
 -- What a process has done stays done: what an answer means is not undone by one mark more.
 use Rattle.std.proofs.Common.{ℕ, ◌≡◌, ◌++◌, List, [], ◌∷◌, Option, Some, ap, sym, subst, ◌∙◌, refl, inl, inr, append_assoc, append-nil}
-use Rattle.std.specs.Prelude.{Contains}
 use Rattle.std.proofs.lemmas.List.Elements.{Contains-push, Contains-append_left}
 use Rattle.bl_page.specs.declared.page.Page.{Page}
 use Rattle.bl_model.specs.declared.operation.Reply.{Reply}
 use Rattle.bl_page.specs.Machine.{Act}
 use Rattle.bl_page.specs.Machine.Act.{Get}
 use Rattle.bl_claims.specs.Trails.{Mark, Trail}
-use Rattle.bl_claims.specs.Meanings.{HasGot, put_in, puts_of, writes_in, writes_of, Wrote, RaisesOnly, HasRaised, ArePuts, UnderLatch, AtParent, HasOtherLow, MeansDone, MeansParted, MeansAlready, MeansStale, MeansTooTall, MeansNoRoom}
+use Rattle.bl_claims.specs.Meanings.{HasGot, put_in, puts_of, writes_in, writes_of, Wrote, ArePuts, UnderLatch, AtParent, MeansDone, MeansParted, MeansAlready, MeansStale, MeansTooTall, MeansNoRoom}
 
 pub puts_of-push : (ms : Trail) (m : Mark) → puts_of (ms ++ m ∷ []) ≡ puts_of ms ++ put_in m.event.act
 puts_of-push [] m = append_nil (put_in m.event.act)

@@ -1,5 +1,5 @@
 -- Two neighbours that were merged or evened out, as the moves of the tree want them.
-use Rattle.std.proofs.Common.{ℕ, ◌≡◌, ◌≢◌, ◌<◌, ◌≤◌, ◌++◌, List, [], ◌∷◌, Option, Some, None, arith, ap, sym, ◌∙◌, refl, subst}
+use Rattle.std.proofs.Common.{ℕ, ◌≡◌, ◌≢◌, ◌<◌, ◌≤◌, ◌++◌, List, [], ◌∷◌, Some, None, arith, ap, sym, ◌∙◌, refl}
 use Rattle.bl_model.specs.Rows.{map_of}
 use Rattle.bl_page.specs.declared.page.Page.{Page}
 use Rattle.bl_page.specs.declared.page.Page.TheVariants.{Anchor, Leaf, Inner, Dead}
@@ -9,7 +9,7 @@ use Rattle.bl_rearrange.specs.Neighbours.{AreNeighbours, IsMerged, IsEvened}
 use Rattle.bl_rearrange.specs.declared.sides.Evened.{Evened}
 use Rattle.bl_core_tree.specs.Moves.{IsJoin, IsLeftGain, IsRightLoss, IsRightGain, IsLeftLoss}
 use Rattle.bl_claims.specs.Pages.{node_of}
-use Rattle.bl_core.proofs.Fitted.{look_of, now_bounds, own_bounds, end_is}
+use Rattle.bl_core.proofs.Fitted.{look_of, now_bounds, end_is}
 
 -- A key outside the bounds of pairs is not among them.
 

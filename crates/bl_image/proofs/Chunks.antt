@@ -107,12 +107,6 @@ no_page_fault pages bytes x image (count, head, below, other, least) =
     let lt : x < length pages = omega (arith, below, same_count bytes count (length pages) head (head_of_image pages bytes image)) in
     other (get_or pages x None, fits_at x pages image.words lt, chunk_is x pages bytes image.bytes_are lt)
 
--- words that are read from the bytes of page x are that page's
-pub words_of_page : (words : List ℕ) (x : ℕ) (pages : List (Option Page)) (bytes : List ℕ) → IsImage pages bytes → x < length pages → length words ≡ 32 → Fits64 words
-    → word_bytes words ≡ chunk bytes x → words ≡ page_words (get_or pages x None)
-words_of_page words x pages bytes image lt long small is =
-    word_bytes-same words (page_words (get_or pages x None)) (long ∙ sym (length-page_words (get_or pages x None))) small (fits_at x pages image.words lt) (is ∙ chunk_is x pages bytes image.bytes_are lt)
-
 pub take-more : (m n : ℕ) (xs : List ℕ) → take (m + n) xs ≡ take m xs ++ take n (drop m xs)
 take-more zero n xs = ap (λ k. take k xs) (let e : 0 + n ≡ n = omega arith in e)
 take-more (suc m) n [] = take_none (suc m + n) ∙ sym (take_none n)

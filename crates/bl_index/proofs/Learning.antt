@@ -1,5 +1,5 @@
 -- A pass that knows more of what has happened: this keeps the rule.
-use Rattle.std.proofs.Common.{ℕ, ◌≡◌, ◌≢◌, ◌++◌, Option, List, [], ◌∷◌, length, set, refl, sym, ap, ◌∙◌, subst, ⊎_elim, inl, inr, append-nil, append_assoc}
+use Rattle.std.proofs.Common.{ℕ, ◌≡◌, ◌≢◌, ◌++◌, Option, List, [], ◌∷◌, set, refl, sym, ap, ◌∙◌, subst, ⊎_elim, inl, inr, append-nil, append_assoc}
 use Rattle.std.proofs.lemmas.Bool.{cases_eq}
 use Rattle.std.proofs.lemmas.List.{append_cancel_left}
 use mathlib.Core.Option.{some}
@@ -8,18 +8,15 @@ use Rattle.std.proofs.Math.ListN.{length-set}
 use Rattle.atomic_table.proofs.Lists.{at_set, set_else}
 use Rattle.bl_page.specs.declared.page.Page.{Page}
 use Rattle.bl_page.specs.Machine.{Name}
-use Rattle.bl_claims.specs.Trails.{Mark, Trail, marks_of}
+use Rattle.bl_claims.specs.Trails.{Mark, Trail}
 use Rattle.bl_core.specs.Worlds.{World}
 use Rattle.bl_claims.specs.Walks.{Each}
 use Rattle.bl_core.proofs.Frames.{Each-map}
-use Rattle.bl_proc.specs.declared.kinds.Proc.{Proc}
 use Rattle.bl_proc_invariant.specs.Knowing.{Run}
-use Rattle.bl_proc_invariant.specs.Logs.{proc_log}
-use Rattle.bl_proc_invariant.proofs.Middles.{KeepsLogs}
 use Rattle.bl_layout.specs.declared.layout.Layout.{Layout}
 use Rattle.bl_store.specs.Pages.{Stage, Idle, Running, Pages, Stands, told, Meets}
 use Rattle.bl_index_rule.specs.declared.known.Mine.{Mine}
-use Rattle.bl_claims.specs.Seeing.{IsSeen, AreWithin, AreElse, own, GoesOnFrom, name}
+use Rattle.bl_claims.specs.Seeing.{IsSeen, AreWithin, AreElse, own, GoesOnFrom}
 use Rattle.bl_index_rule.specs.Fitting.{AreUpTo, IsAtStage, IsHand, IsRun, Fits}
 use Rattle.bl_index_rule.proofs.Entries.{own-other}
 use Rattle.bl_index_rule.proofs.Marks.{each_append}
@@ -40,15 +37,6 @@ each_parts P (x ∷ xs) ys h = let r = each_parts P xs ys h.1 in ((h.0, r.0), r.
 
 up_to_more : (pass number : ℕ) (old rest : Trail) → AreUpTo pass number old → AreElse pass rest → AreUpTo pass number (old ++ rest)
 up_to_more pass number old rest up other = each_append _ old rest up (Each-map _ _ rest (λ (k : Mark) (h : k.event.process.pass ≢ pass) (e : k.event.process.pass ≡ pass). absurd (h e)) other)
-
-fits_logs : (s : Pages Mine) (f : Fits s) → KeepsLogs f.world
-fits_logs s f p since runs =
-    let r = f.busy p since runs in
-    let d : Mine = r.0 in
-    let at = (f.hands p.pass (Running since) d r.1).stage in
-    let is : p ≡ name p.pass d.number = λ i. name p.pass (r.2 i) in
-    let log : proc_log (f.world.proc (name p.pass d.number)).state (marks_of (name p.pass d.number) f.world.trail) = subst (λ (z : Proc). proc_log z (marks_of (name p.pass d.number) f.world.trail)) (sym at.3) at.5 in
-    subst (λ (z : Name). proc_log (f.world.proc z).state (marks_of z f.world.trail)) (sym is) log
 
 -- ---- one hand knows more
 

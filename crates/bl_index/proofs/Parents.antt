@@ -31,7 +31,7 @@ use Rattle.bl_proc.specs.Processes.{Takes}
 use Rattle.bl_proc.proofs.Named.{listed-child}
 use Rattle.bl_proc_unique.specs.Frames.{work_of}
 use Rattle.bl_proc_unique.proofs.Changes.{enter_one}
-use Rattle.bl_proc_unique.proofs.Onwards.{leads_one, child_of, right_small}
+use Rattle.bl_proc_unique.proofs.Onwards.{right_small}
 use Rattle.bl_proc_unique.proofs.Pages.{fits_some, rising}
 use Rattle.bl_proc_unique.proofs.Posts.{post_goes}
 use Rattle.bl_proc_unique.proofs.Rows.{rows_one}
@@ -62,16 +62,6 @@ module _ (x key word : ℕ) (words : List ℕ) (c : Change) (enter : IsToEnter x
       let f : Full = record { at = x; key = key; word = word; page = enter.page; covers = enter.covers; absent = enter.absent; fits = enter.fits; full = full } in
       let one = enter_one x enter.page key word enter.covers enter.absent enter.fits in
       (f, refl, refl, refl, enter.is, one.only c enter.enters ∙ sym (one.only (change.Taking f) (refl, refl, refl, refl)))
-
--- the parent leads down to one child
-pub leads_down : (c : Page) (key level : ℕ) → 0 < level → Leads c key level Here → (child : ℕ) × Leads c key (level - 1) (Down child)
-leads_down (page.Anchor a) key level least h = absurd h.0
-leads_down (page.Leaf l) key level least h = absurd (let e = h.2 in omega arith)
-leads_down (page.Inner i) key level least h = (let child = child_of i key h.1 in let e = h.2 in (child.0, (tt, h.1, omega arith, child.1)))
-leads_down (page.Dead d) key level least h = absurd h.0
-
-pub only_down : (c : Page) (key level : ℕ) (o : Step) → 0 < level → Leads c key level Here → Leads c key (level - 1) o → ((child : ℕ) → o ≡ Down child → ⊥) → ⊥
-only_down c key level o least h leads not = (let down = leads_down c key level least h in not down.0 (leads_one c key (level - 1) o (Down down.0) leads down.1))
 
 nonzero : (z : ℕ) → z ≢ 0 → 0 < z
 nonzero zero some = absurd (some refl)

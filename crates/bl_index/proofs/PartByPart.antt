@@ -11,14 +11,13 @@ use Rattle.bl_model.specs.declared.operation.Op.TheVariants.{Part}
 use Rattle.bl_model.specs.declared.operation.Reply.{Reply}
 use Rattle.bl_model.specs.declared.operation.Reply.TheVariants.{Rows}
 use Rattle.bl_model.specs.Map.{Map, MayAnswer}
-use Rattle.bl_model.specs.Rows.{HasRisingKeys}
 use Rattle.bl_claims.specs.Trails.{Trail, history_of, entries_at}
 use Rattle.bl_page.specs.declared.page.Page.{Page}
 use Rattle.bl_claims.specs.Seeing.{first_map, own}
 use Rattle.bl_index.specs.declared.scanning.ScanFault.{ScanFault}
 use Rattle.bl_index.specs.Calls.{Finds}
 use Rattle.bl_index.specs.Scans.{IsBelow, is_below, rows_below, AreParts, AreCalls, Scans, IsOver, EndsScan, MayScan, AppendsPart, left_from}
-use Rattle.bl_model.specs.Parts.{rows_of, next_key, ended_at}
+use Rattle.bl_model.specs.Parts.{next_key, ended_at}
 use Rattle.bl_index.proofs.Scanned.{IsFrom, IsBehind, Answered, answered, part_is, only_rows, parts_push, right_more, from_more, rising_more}
 
 history_append : (xs ys : Trail) → history_of (xs ++ ys) ≡ history_of xs ++ history_of ys
@@ -53,10 +52,6 @@ module _ (first : List (Option Page)) (pages pass at : ℕ) (reply : Reply) (mid
 
   stands_there : Answered (first_map first) entry (history_of mid) (history_of new)
   stands_there = answered (first_map first) pass entry (history_of mid) (history_of more) (history_of new) (ap history_of finds.answers.holds.begins ∙ history_append mid more) finds.answers.seen.linear.legal finds.answers.once
-
-  -- the rows of a part have rising keys
-  pub part_rises : HasRisingKeys (rows_of reply)
-  part_rises = (part_is _ at reply stands_there.may).rising
 
   -- nothing but rows answers it
   pub rows_alone : ((rows : _) (next : _) → reply ≡ Rows rows next → ⊥) → ⊥

@@ -38,9 +38,6 @@ tells_done h h' p same = ((λ e. absurd (let f : seen.Done ≡ seen.Refused = e 
 pub tells_missed : (h h' : H) (p : Proc) (x : ℕ) → next_of p ≡ act.Latch x → TellsRoom h h' p seen.Missed
 tells_missed h h' p x next = ((λ e. absurd (let f : seen.Missed ≡ seen.Refused = e in cc)), λ y opens. absurd (let f : act.Latch x ≡ act.Open y = sym next ∙ opens in cc))
 
-pub tells_words : (h h' : H) (p : Proc) (x : ℕ) (c : Page) → next_of p ≡ act.Get x → TellsRoom h h' p (seen.Words c)
-tells_words h h' p x c next = ((λ e. absurd (let f : seen.Words c ≡ seen.Refused = e in cc)), λ y opens. absurd (let f : act.Get x ≡ act.Open y = sym next ∙ opens in cc))
-
 pub tells_took : (h h' : H) (p : Proc) (y : ℕ) → next_of p ≡ act.Take → TellsRoom h h' p (seen.Took y)
 tells_took h h' p y next = ((λ e. absurd (let f : seen.Took y ≡ seen.Refused = e in cc)), λ z opens. absurd (let f : act.Take ≡ act.Open z = sym next ∙ opens in cc))
 
@@ -62,9 +59,6 @@ retire_opens_not p x next y opens = (let f : act.Retire x ≡ act.Open y = sym n
 -- A process that goes on without room was refused what it had asked for.
 abbrev pub KeepsRoom : H → Proc → Type 0
 KeepsRoom h p = (IsRefused p → LacksAsked h p) × (PutsRefused p → ⊥)
-
-pub free_room : (h : H) (p : Proc) → (IsRefused p → ⊥) → (PutsRefused p → ⊥) → KeepsRoom h p
-free_room h p free puts = ((λ r. absurd (free r)), puts)
 
 pub keeps_room : (h h' : H) (p : Proc) (what : Seen) (q : Proc) → (known h).state ≡ p → proc_held p (own_marks (known h)) → Moves (known h) (known h') → Takes p what q → TellsRoom h h' p what → next_of p ≢ act.End → KeepsRoom h p → KeepsRoom h' q
 keeps_room h h' p what q is held moves takes tells going keeps = (

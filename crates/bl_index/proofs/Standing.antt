@@ -1,17 +1,10 @@
 -- What follows for a process of which a pass has no value.
 use Rattle.std.proofs.Common.{ℕ, Bool, true, false, ◌≡◌, Option, Some, None, refl, sym, ◌∙◌, subst}
 use Rattle.bl_layout.specs.declared.layout.Layout.{Layout}
-use Rattle.bl_page.specs.declared.page.Page.{Page}
 use Rattle.bl_page.specs.Machine.{Name}
 use Rattle.bl_claims.specs.Trails.{marks_of}
 use Rattle.bl_proc_base.specs.declared.acts.Seen.{Seen}
 use Rattle.bl_proc_base.specs.declared.acts.Seen.TheVariants as seen
-use Rattle.bl_proc_base.specs.declared.approaching.Approach.{Approach}
-use Rattle.bl_proc_base.specs.declared.approaching.Approach.TheVariants.{Start, At, Latching, Latched, Leaving}
-use Rattle.bl_proc_base.specs.declared.approaching.Approached.TheVariants as came
-use Rattle.bl_proc_base.specs.declared.onwards.Step.{Step}
-use Rattle.bl_proc_base.specs.declared.onwards.Step.TheVariants.{Again, Right, Down, Here}
-use Rattle.bl_proc_base.specs.Approaches.{IsToLook, Turns, Approaches}
 use Rattle.bl_proc.specs.declared.kinds.Proc.{Proc}
 use Rattle.bl_proc.specs.Processes.{Takes}
 use Rattle.bl_proc_unique.specs.Courses.{GoesOn}
@@ -24,7 +17,7 @@ use Rattle.bl_claims.specs.Seeing.{name}
 use Rattle.bl_index_rule.specs.Told.{Goes, Finishes, ends}
 use Rattle.bl_index.specs.Held.{own_marks, proc_held}
 use Rattle.bl_index.specs.Runs.{IsOn, IsSince, IsDone}
-use Rattle.bl_index.specs.Events.{IsSameProcess, HoldsNone, OpensLast}
+use Rattle.bl_index.specs.Events.{IsSameProcess, OpensLast}
 use Rattle.bl_index.proofs.Calls.{since_step}
 use Rattle.bl_index.proofs.Held.{goes_held}
 
@@ -95,31 +88,6 @@ goes_put false d e done refused = refused refl
 -- a course of the process as it stands
 pub course_at : (what : Seen) (p q : Proc) → p ≡ q → GoesOn q what → GoesOn p what
 course_at what p q is course = subst (λ (z : Proc). GoesOn z what) (sym is) course
-
--- a writer that has looked holds no page
-turned_free : (level x : ℕ) (c : Page) (o : Step) (b : Approach) → Turns level x c o b → HoldsNone b
-turned_free level x c o Start t = tt
-turned_free level x c o (At y) t = tt
-turned_free level x c o (Latching y) t = tt
-turned_free level x c Again (Latched y) t = t
-turned_free level x c (Right z) (Latched y) t = t
-turned_free level x c (Down z) (Latched y) t = t
-turned_free level x c Here (Latched y) t = t
-turned_free level x c Again (Leaving y to) t = t
-turned_free level x c (Right z) (Leaving y to) t = t
-turned_free level x c (Down z) (Leaving y to) t = t
-turned_free level x c Here (Leaving y to) t = t
-
-pub looks_free : (level key : ℕ) (a b : Approach) (c : Page) → IsToLook a → Approaches level key a (seen.Words c) (came.On b) → HoldsNone b
-looks_free level key Start Start c looks t = tt
-looks_free level key Start (At y) c looks t = tt
-looks_free level key Start (Latching y) c looks t = tt
-looks_free level key Start (Latched y) c looks t = t
-looks_free level key Start (Leaving y to) c looks t = t
-looks_free level key (At x) b c looks t = turned_free level x c t.0 b t.2
-looks_free level key (Latching x) b c looks t = absurd looks
-looks_free level key (Latched x) b c looks t = absurd looks
-looks_free level key (Leaving x to) b c looks t = absurd looks
 
 -- a process that has opened its last page and ended
 pub concluded : (pass page : ℕ) (old d e f : Mine) (first ending last : Proc) → IsSince pass old d → OpensLast d.state page ending last → Goes seen.Done d e → ends e 0 f → op_of ending ≡ op_of first → work_of ending ≡ work_of first → IsDone pass old f first last

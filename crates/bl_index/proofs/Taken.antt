@@ -1,7 +1,6 @@
 -- The passes of a new index, taken from the last one on.
-use Rattle.std.proofs.Common.{ℕ, zero, suc, ◌≡◌, ◌+◌, ◌<◌, ◌++◌, Option, List, [], ◌∷◌, All, length, get_or, sym, ap, ◌∙◌, subst, refl, arith}
+use Rattle.std.proofs.Common.{ℕ, zero, suc, ◌≡◌, ◌<◌, ◌++◌, Option, List, [], ◌∷◌, All, length, get_or, sym, ap, ◌∙◌, subst, refl, arith}
 use Rattle.std.specs.Prelude.{Result}
-use Rattle.std.proofs.lemmas.List.{length-append}
 use mathlib.Core.Option.{some}
 use lib.ListN.{get_elem?}
 use Rattle.atomic_table.proofs.Lists.{at_last, at_longer}
@@ -16,7 +15,7 @@ use Rattle.bl_index.specs.declared.config.OutOfTurns.{OutOfTurns}
 use Rattle.bl_index.specs.declared.config.Config.{Config}
 use Rattle.bl_index.specs.declared.index.Index.{Index}
 use Rattle.bl_index.specs.declared.index.Pass.{Pass}
-use Rattle.bl_index.specs.Calls.{IsPassOf, IsSamePass, number_of, trail, AnswersOrRunsOut}
+use Rattle.bl_index.specs.Calls.{IsPassOf, IsSamePass, AnswersOrRunsOut}
 use Rattle.bl_index.specs.Opened.{IsBegun, IsOpened}
 
 -- the last pass of an index, and all but the last one
@@ -28,14 +27,6 @@ last_pass config index passes rest pass o e = last_begun [] config.pages config.
 
 pub next_pass : (config : Config) (index : Index) (passes more rest : List Pass) (one two : Pass) → IsOpened config index passes → passes ≡ more ++ two ∷ [] → more ≡ rest ++ one ∷ [] → IsPassOf index one
 next_pass config index passes more rest one two o e f = (o.each (length rest) one (ap (λ (z : List Pass). get_elem? z (length rest)) e ∙ at_longer more (two ∷ []) (length rest) one (ap (λ (z : List Pass). get_elem? z (length rest)) f ∙ at_last rest one (length rest) refl))).0
-
--- the only pass of an index that has one
-pub only_pass : (config : Config) (index : Index) (passes rest : List Pass) (pass : Pass) → IsOpened config index passes → config.passes ≡ 1 → passes ≡ rest ++ pass ∷ [] → IsPassOf index pass × (number_of pass ≡ 0) × (trail pass ≡ [])
-only_pass config index passes rest pass o one e =
-    let many : length rest + 1 ≡ 1 = sym (length-append rest (pass ∷ [])) ∙ (ap length (sym e) ∙ (o.count ∙ one)) in
-    let none : length rest ≡ 0 = omega arith in
-    let is = o.each (length rest) pass (ap (λ (z : List Pass). get_elem? z (length rest)) e ∙ at_last rest pass (length rest) refl) in
-    (is.0, is.1 ∙ none, is.2)
 
 pub same_of : (index : Index) (old new : Pass) → IsSamePass old new → IsPassOf index old → IsPassOf index new
 same_of index old new same of = (same.0 ∙ of.0, same.1 ∙ of.1, same.3 ∙ of.2)

@@ -8,7 +8,7 @@ use Rattle.bl_page.specs.declared.machine.Missed.TheVariants as missed
 use Rattle.bl_page.specs.declared.page.Page.{Page}
 use Rattle.bl_page.specs.Words.{words_of}
 use Rattle.bl_page.specs.Pairs.{IsChild}
-use Rattle.bl_page.specs.Machine.{Name, State, Act, IsAt}
+use Rattle.bl_page.specs.Machine.{Name, State, Act}
 use Rattle.bl_page.specs.Machine as machine
 use Rattle.bl_core.specs.Worlds.{MayGet}
 use Rattle.bl_core.proofs.After.{put_at, is_put_at}

@@ -1,14 +1,11 @@
 -- Histories that go on: one behind another, and one more entry.
-use Rattle.std.proofs.Common.{◌≡◌, ◌≢◌, ℕ, ◌≤◌, List, [], ◌∷◌, ◌++◌, length, refl, ap, sym, subst, arith}
+use Rattle.std.proofs.Common.{◌≡◌, ℕ, List, [], ◌∷◌, ◌++◌, refl, arith}
 use Rattle.std.specs.Prelude.{All, ◌==◌}
-use Rattle.std.proofs.Math.Seq.{take-append_seam, take-length}
 use Rattle.std.proofs.lemmas.Bool.Decides.{nat_tests}
-use Rattle.std.proofs.lemmas.List.{take-append-le}
 use Rattle.std.proofs.lemmas.List.Elements.{filter-append, All-head, All-tail}
 use Rattle.bl_model.specs.declared.operation.Entry.{Entry}
-use Rattle.bl_model.specs.Map.{Map, SameMap, MayAnswer, map_step}
-use Rattle.bl_model.specs.History.{IsLegalFrom, final_map, map_after, entries_of_pass}
-use Rattle.bl_model.proofs.Maps.{map_is}
+use Rattle.bl_model.specs.Map.{Map, MayAnswer, map_step}
+use Rattle.bl_model.specs.History.{IsLegalFrom, final_map, entries_of_pass}
 
 pub final_map-append : (m : Map) (es fs : List Entry) → final_map m (es ++ fs) ≡ final_map (final_map m es) fs
 final_map-append m [] fs = refl
@@ -33,20 +30,6 @@ pub legal_rest : (m : Map) (es fs : List Entry) → IsLegalFrom m (es ++ fs) →
 legal_rest m [] fs h = h
 legal_rest m (e ∷ es) fs h = legal_rest (map_step e.op e.reply m) es fs h.1
 
--- the same from a map that agrees at every key
-pub legal_same : (m n : Map) (es : List Entry) → SameMap m n → IsLegalFrom m es → IsLegalFrom n es
-legal_same m n es same h = subst (λ x. IsLegalFrom x es) (sym (map_is m n same)) h
-
-pub map_after-all : (m : Map) (es : List Entry) → map_after m es (length es) ≡ final_map m es
-map_after-all m es = ap (final_map m) (take-length es)
-
--- what goes on behind the first i entries doesn't count
-pub map_after-append_le : (m : Map) (es fs : List Entry) (i : ℕ) → i ≤ length es → map_after m (es ++ fs) i ≡ map_after m es i
-map_after-append_le m es fs i le = ap (final_map m) (take-append-le i es fs le)
-
-pub map_after-append_seam : (m : Map) (es fs : List Entry) → map_after m (es ++ fs) (length es) ≡ final_map m es
-map_after-append_seam m es fs = ap (final_map m) (take-append_seam es fs)
-
 pub entries_of_pass-append : (pass : ℕ) (es fs : List Entry) → entries_of_pass pass (es ++ fs) ≡ entries_of_pass pass es ++ entries_of_pass pass fs
 entries_of_pass-append pass es fs = filter-append (λ e. e.pass == pass) es fs
 
@@ -54,8 +37,3 @@ pub entries_of_pass-own : (pass : ℕ) (es : List Entry) → All (λ e. e.pass �
 entries_of_pass-own pass [] h = refl
 entries_of_pass-own pass (e ∷ es) h = let here : e.pass ≡ pass = All-head (λ x. x.pass ≡ pass) e es h in
     grind (arith, nat_tests, here, entries_of_pass-own pass es (All-tail (λ x. x.pass ≡ pass) e es h))
-
-pub entries_of_pass-others : (pass : ℕ) (es : List Entry) → All (λ e. e.pass ≢ pass) es → entries_of_pass pass es ≡ []
-entries_of_pass-others pass [] h = refl
-entries_of_pass-others pass (e ∷ es) h = let here : e.pass ≢ pass = All-head (λ x. x.pass ≢ pass) e es h in
-    grind (arith, nat_tests, here, entries_of_pass-others pass es (All-tail (λ x. x.pass ≢ pass) e es h))

@@ -16,7 +16,6 @@ use Rattle.bl_proc_base.proofs.Ways.{here_leads}
 use Rattle.bl_proc.specs.declared.walking.Walk.{Walk}
 use Rattle.bl_proc.specs.declared.posting.PostStage.{PostStage}
 use Rattle.bl_proc.specs.declared.posting.PostStage.TheVariants.{New, Coming, Growing, Walking, Changing, Staying, Ending, Over}
-use Rattle.bl_proc.specs.declared.posting.PostReply.{PostReply}
 use Rattle.bl_proc.specs.declared.posting.PostReply.TheVariants as reply
 use Rattle.bl_proc.specs.Levels.{MayReply, IsBelowTop}
 use Rattle.bl_proc.specs.Posts.{post_reply, PostLacks, PostArrives, PostWalks, PostComes, PostGoes}

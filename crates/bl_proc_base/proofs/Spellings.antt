@@ -1,5 +1,5 @@
 -- What the words of a page say of it.
-use Rattle.std.proofs.Common.{◌≡◌, ℕ, ◌+◌, ◌-◌, ◌^◌, ◌<◌, List, drop, take, length, get_or, refl, ap, sym, subst, ◌∙◌, arith}
+use Rattle.std.proofs.Common.{◌≡◌, ℕ, ◌+◌, ◌-◌, ◌^◌, ◌<◌, List, drop, take, length, get_or, ap, sym, subst, ◌∙◌, arith}
 use Rattle.std.proofs.lemmas.List.{get_or-drop, get_or-take}
 use Rattle.bl_model.specs.Rows.{map_of}
 use Rattle.bl_page.specs.declared.page.Page.{Page}
@@ -47,24 +47,11 @@ bounds_are (page.Leaf l) words tree e = (ap (λ w. get_or w 1 0) e, ap (λ w. en
 bounds_are (page.Inner n) words tree e = (ap (λ w. get_or w 1 0) e, ap (λ w. end_of (get_or w 2 0)) e)
 bounds_are (page.Dead d) words tree e = absurd tree
 
--- the level of any page, and how many levels an anchor names
-pub page_level : (c : Page) (words : List ℕ) → words ≡ words_of c → level_in words ≡ (node_of c).shape.level
-page_level (page.Anchor a) words e = ap level_in e ∙ (fits (page.Anchor a)).level
-page_level (page.Leaf l) words e = ap level_in e ∙ (fits (page.Leaf l)).level
-page_level (page.Inner n) words e = level_is (page.Inner n) words tt e
-page_level (page.Dead d) words e = ap level_in e ∙ head-level 4 d.level 0 (omega (arith, d.below_limit)) (omega arith)
-
 pub levels_are : (c : Page) (words : List ℕ) → words ≡ words_of c → kind_in words ≡ 1 → count_in words ≡ (roots_of c).levels
 levels_are (page.Anchor a) words e one = ap count_in e ∙ head-count 1 0 (length a.leftmost.items) (omega arith) (omega (arith, a.few))
 levels_are (page.Leaf l) words e one = absurd (let k : kind_in words ≡ 2 = ap kind_in e ∙ (fits (page.Leaf l)).is_of in omega (arith, k, one))
 levels_are (page.Inner n) words e one = absurd (let k : kind_in words ≡ 3 = ap kind_in e ∙ (fits (page.Inner n)).is_of in omega (arith, k, one))
 levels_are (page.Dead d) words e one = absurd (let k : kind_in words ≡ 4 = ap kind_in e ∙ (fits (page.Dead d)).is_of in omega (arith, k, one))
-
-pub no_levels : (c : Page) (words : List ℕ) → words ≡ words_of c → (kind_in words ≡ 1 → ⊥) → 0 ≡ (roots_of c).levels
-no_levels (page.Anchor a) words e not = absurd (not (ap kind_in e ∙ (fits (page.Anchor a)).is_of))
-no_levels (page.Leaf l) words e not = refl
-no_levels (page.Inner n) words e not = refl
-no_levels (page.Dead d) words e not = refl
 
 -- the last entry of an anchor is the leftmost page of its top level
 pub top_is : (c : Page) (words : List ℕ) → words ≡ words_of c → kind_in words ≡ 1 → (get_or words (3 + count_in words) 0 ≡ top_of (roots_of c)) × (get_or words (3 + count_in words) 0 < 2 ^ 16)

@@ -194,6 +194,7 @@ impl Approach {
             _ => unreachable!(),
         }
     }
+
     /// What becomes of the way to the parent of that level that covers the key, by what its action gave.
     pub fn came(self, level: u32, key: u64, seen: Seen) -> Came
         requires above_leaves { 0 < level }

@@ -16,10 +16,6 @@ pub holds_push : (y : ℕ) (held : Bool) (ms : Trail) (m : Mark) → holds_on y 
 holds_push y held [] m = refl
 holds_push y held (d ∷ ms) m = holds_push y (holds_after y held d.event.act) ms m
 
-if_true : {A : Type 0} (b : Bool) (x y : A) → b ≡ true → (if b then x else y) ≡ x
-if_true true x y e = refl
-if_true false x y e = cc
-
 -- a page that it gets, or has got before
 gained : (x y : ℕ) (held : Bool) → (if x == y then true else held) ≡ true → (x ≡ y) ⊎ (held ≡ true)
 gained x y held e = elim (cases_eq x y) [ inl i ↦ inl i | inr n ↦ inr (let f : (if x == y then true else held) ≡ held = grind arith in sym f ∙ e) ]

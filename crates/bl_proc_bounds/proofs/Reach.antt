@@ -54,11 +54,6 @@ none_each : (P : ℕ → Type 0) (x : ℕ) (ys : List ℕ) → ((y : ℕ) → P 
 none_each P x [] f h = tt
 none_each P x (y ∷ ys) f h = (f y h.0, none_each P x ys f h.1)
 
--- page 0 names levels
-names_levels : (c : Page) (k : ℕ) → 0 < (roots_of c).levels → Leads c k 0 onward.Again
-names_levels (Anchor a) k h = (λ d. d, λ t. absurd t)
-names_levels old k h = absurd (omega arith)
-
 -- what covers no key leads to its right, or to the anchor
 gone_leads : (c : Page) (k : ℕ) → (node_of c).shape.end ≡ 0 → Leads c k 0 (onward.Right (node_of c).shape.right) ⊎ Leads c k 0 onward.Again
 gone_leads (Anchor a) k h = inr (λ d. d, λ t. absurd t)

@@ -11,7 +11,6 @@ use Rattle.bl_proc_base.specs.declared.answers.Squeezed.TheVariants as squeezed
 use Rattle.bl_proc_base.specs.declared.approaching.Approach.TheVariants.{Start}
 use Rattle.bl_proc_base.specs.declared.approaching.Came.{Came}
 use Rattle.bl_proc_base.specs.declared.approaching.Came.TheVariants as come
-use Rattle.bl_proc_compress.specs.declared.compressing.Family.{Family}
 use Rattle.bl_proc_compress.specs.declared.compressing.Fate.{Fate}
 use Rattle.bl_proc_compress.specs.declared.compressing.Fate.TheVariants as fate
 use Rattle.bl_proc_compress.specs.declared.compressing.Compression.TheVariants.{LatchingLeft}

@@ -45,10 +45,6 @@ acts_of-push : (ms : Trail) (m : Mark) → acts_of (ms ++ m ∷ []) ≡ acts_of 
 acts_of-push [] m = append-nil (acts_in m.event.act)
 acts_of-push (n ∷ ms) m = ap (λ z. acts_in n.event.act ++ z) (acts_of-push ms m) ∙ sym (append_assoc (acts_in n.event.act) (acts_of ms) (acts_in m.event.act))
 
-acts_of-append : (xs ys : Trail) → acts_of (xs ++ ys) ≡ acts_of xs ++ acts_of ys
-acts_of-append [] ys = refl
-acts_of-append (m ∷ ms) ys = ap (λ z. acts_in m.event.act ++ z) (acts_of-append ms ys) ∙ sym (append_assoc (acts_in m.event.act) (acts_of ms) (acts_of ys))
-
 -- what of a list of acts writes
 abbrev writes_among : List (Act Page Reply) → List (Act Page Reply)
 writes_among [] = []

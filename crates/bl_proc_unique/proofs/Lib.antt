@@ -17,7 +17,6 @@ pub mod Deletions
 pub mod Posts
 pub mod Following
 pub mod PostsFollowing
-pub mod PartsFollowing
 pub mod Neighbours
 pub mod Families
 pub mod Relistings

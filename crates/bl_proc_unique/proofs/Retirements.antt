@@ -18,18 +18,9 @@ use Rattle.bl_rearrange.specs.declared.sides.Side.TheVariants as side
 use Rattle.bl_proc.specs.declared.searching.Find.{Find}
 use Rattle.bl_proc.specs.declared.searching.FindStage.{FindStage}
 use Rattle.bl_proc.specs.declared.searching.FindStage.TheVariants as find
-use Rattle.bl_proc.specs.declared.inserting.Insert.{Insert}
-use Rattle.bl_proc.specs.declared.inserting.InsertStage.{InsertStage}
-use Rattle.bl_proc.specs.declared.inserting.InsertStage.TheVariants as insert
-use Rattle.bl_proc.specs.declared.deleting.Delete.{Delete}
-use Rattle.bl_proc.specs.declared.deleting.DeleteStage.{DeleteStage}
-use Rattle.bl_proc.specs.declared.deleting.DeleteStage.TheVariants as delete
 use Rattle.bl_proc.specs.declared.posting.Post.{Post}
 use Rattle.bl_proc.specs.declared.posting.PostStage.{PostStage}
 use Rattle.bl_proc.specs.declared.posting.PostStage.TheVariants as post
-use Rattle.bl_proc.specs.declared.parts.Part.{Part}
-use Rattle.bl_proc.specs.declared.parts.PartStage.{PartStage}
-use Rattle.bl_proc.specs.declared.parts.PartStage.TheVariants as part
 use Rattle.bl_proc_compress.specs.declared.compressing.Trio.{Trio}
 use Rattle.bl_proc_compress.specs.declared.compressing.Puts.{Puts}
 use Rattle.bl_proc_compress.specs.declared.compressing.Fate.{Fate}
@@ -42,10 +33,7 @@ use Rattle.bl_proc_compress.specs.Compressions.{put_of, other, compression_next,
 use Rattle.bl_proc_compress.specs.Compresses.{compress_next_in}
 use Rattle.bl_proc.specs.declared.kinds.Proc.TheVariants as proc
 use Rattle.bl_proc.specs.Searches.{find_next_in}
-use Rattle.bl_proc.specs.Inserts.{insert_next_in}
-use Rattle.bl_proc.specs.Deletes.{delete_next_in}
 use Rattle.bl_proc.specs.Posts.{post_next_in}
-use Rattle.bl_proc.specs.Parts.{part_next_in}
 use Rattle.bl_proc.specs.Processes.{next_of, Takes}
 use Rattle.bl_proc_unique.specs.Retirements.{IsPutDone, RetiresAfter}
 use Rattle.bl_proc_unique.proofs.WayCases.{SqueezeCase, squeeze_case}
@@ -83,22 +71,6 @@ module _ (old : Action) (what : Seen) where
   find_none (find.Ending v) = tt
   find_none (find.Over v) = tt
 
-  insert_none : (a : InsertStage) → RetiresAfter old what (insert_next_in a)
-  insert_none insert.New = tt
-  insert_none (insert.Coming w) = approach_none w
-  insert_none (insert.Present x there) = tt
-  insert_none (insert.Changing c) = change_none c
-  insert_none (insert.Ending r) = tt
-  insert_none (insert.Over r) = tt
-
-  delete_none : (a : DeleteStage) → RetiresAfter old what (delete_next_in a)
-  delete_none delete.New = tt
-  delete_none (delete.Coming w) = approach_none w
-  delete_none (delete.Absent x) = tt
-  delete_none (delete.Changing v c) = change_none c
-  delete_none (delete.Ending r) = tt
-  delete_none (delete.Over r) = tt
-
   post_none : (a : PostStage) → RetiresAfter old what (post_next_in a)
   post_none post.New = tt
   post_none (post.Coming w) = approach_none w
@@ -108,12 +80,6 @@ module _ (old : Action) (what : Seen) where
   post_none (post.Staying x r) = tt
   post_none (post.Ending r) = tt
   post_none (post.Over r) = tt
-
-  part_none : (a : PartStage) → RetiresAfter old what (part_next_in a)
-  part_none part.New = tt
-  part_none (part.Descending d) = tt
-  part_none (part.Ending r) = tt
-  part_none (part.Over r) = tt
 
   put_none : (s : Side) (p : Puts) → RetiresAfter old what (put_of s p)
   put_none side.Left p = tt
@@ -163,17 +129,8 @@ stage_after other = tt
 pub find_retires : (p q : Find) (what : Seen) → Takes (proc.Find p) what (proc.Find q) → RetiresAfter (next_of (proc.Find p)) what (next_of (proc.Find q))
 find_retires p q what t = find_none (next_of (proc.Find p)) what q.stage
 
-pub insert_retires : (p q : Insert) (what : Seen) → Takes (proc.Insert p) what (proc.Insert q) → RetiresAfter (next_of (proc.Insert p)) what (next_of (proc.Insert q))
-insert_retires p q what t = insert_none (next_of (proc.Insert p)) what q.stage
-
-pub delete_retires : (p q : Delete) (what : Seen) → Takes (proc.Delete p) what (proc.Delete q) → RetiresAfter (next_of (proc.Delete p)) what (next_of (proc.Delete q))
-delete_retires p q what t = delete_none (next_of (proc.Delete p)) what q.stage
-
 pub post_retires : (p q : Post) (what : Seen) → Takes (proc.Post p) what (proc.Post q) → RetiresAfter (next_of (proc.Post p)) what (next_of (proc.Post q))
 post_retires p q what t = post_none (next_of (proc.Post p)) what q.stage
-
-pub part_retires : (p q : Part) (what : Seen) → Takes (proc.Part p) what (proc.Part q) → RetiresAfter (next_of (proc.Part p)) what (next_of (proc.Part q))
-part_retires p q what t = part_none (next_of (proc.Part p)) what q.stage
 
 pub compress_retires : (p q : Compress) (what : Seen) → Takes (proc.Compress p) what (proc.Compress q) → RetiresAfter (next_of (proc.Compress p)) what (next_of (proc.Compress q))
 compress_retires p q what t = stage_after (compress_case p.level p.key p.stage what q.stage t.2)

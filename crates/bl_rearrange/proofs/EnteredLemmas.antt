@@ -1,5 +1,5 @@
 -- Pairs that rise, with one more or one less.
-use Rattle.std.proofs.Common.{◌≡◌, ◌≢◌, ℕ, zero, suc, ◌+◌, ◌≤◌, List, [], ◌∷◌, ◌++◌, length, take, drop, None, Some, true, false, refl, ap, add-one, inl, inr, arith}
+use Rattle.std.proofs.Common.{◌≡◌, ◌≢◌, ℕ, ◌+◌, ◌≤◌, List, [], ◌∷◌, length, None, Some, true, false, refl, ap, add-one, inl, inr, arith}
 use Rattle.std.specs.Prelude.{nat_lt, ◌==◌}
 use Rattle.std.specs.List.{insert}
 use Rattle.std.proofs.lemmas.Bool.{cases_lt, cases_eq}
@@ -65,32 +65,6 @@ NameChildren-entered key word [] is h = (is, tt)
 NameChildren-entered key word (pair ∷ pairs) is h = elim (cases_lt key pair.0) [
   | inl lt ↦ let e : nat_lt key pair.0 ≡ true = grind arith in rw e (is, h)
   | inr ge ↦ let e : nat_lt key pair.0 ≡ false = grind arith in rw e (h.0, NameChildren-entered key word pairs is h.1)
-]
-
--- the pair is entered before or behind a cut
-pub entered-lower : (key word n : ℕ) (pairs : List (ℕ × ℕ)) → place key pairs ≤ n → entered key word (take n pairs) ++ drop n pairs ≡ entered key word pairs
-entered-lower key word zero [] le = refl
-entered-lower key word (suc n) [] le = refl
-entered-lower key word zero (pair ∷ pairs) le = elim (cases_lt key pair.0) [
-  | inl lt ↦ let e : nat_lt key pair.0 ≡ true = grind arith in rw e refl
-  | inr ge ↦ let e : nat_lt key pair.0 ≡ false = grind arith in let le' = rw e at le in absurd (omega arith)
-]
-entered-lower key word (suc n) (pair ∷ pairs) le = elim (cases_lt key pair.0) [
-  | inl lt ↦ let e : nat_lt key pair.0 ≡ true = grind arith in rw e (ap (λ t. (key, word) ∷ pair ∷ t) (take-drop n pairs))
-  | inr ge ↦ let e : nat_lt key pair.0 ≡ false = grind arith in let le' = rw e at le in rw e (ap (λ t. pair ∷ t) (entered-lower key word n pairs (omega arith)))
-]
-  where
-    take-drop : (n : ℕ) (xs : List (ℕ × ℕ)) → take n xs ++ drop n xs ≡ xs
-    take-drop zero xs = refl
-    take-drop (suc n) [] = refl
-    take-drop (suc n) (x ∷ xs) = ap (λ t. x ∷ t) (take-drop n xs)
-
-pub entered-upper : (key word n : ℕ) (pairs : List (ℕ × ℕ)) → n ≤ place key pairs → take n pairs ++ entered key word (drop n pairs) ≡ entered key word pairs
-entered-upper key word zero pairs le = refl
-entered-upper key word (suc n) [] le = absurd (omega arith)
-entered-upper key word (suc n) (pair ∷ pairs) le = elim (cases_lt key pair.0) [
-  | inl lt ↦ let e : nat_lt key pair.0 ≡ true = grind arith in let le' = rw e at le in absurd (omega arith)
-  | inr ge ↦ let e : nat_lt key pair.0 ≡ false = grind arith in let le' = rw e at le in rw e (ap (λ t. pair ∷ t) (entered-upper key word n pairs (omega arith)))
 ]
 
 -- ---- one pair less

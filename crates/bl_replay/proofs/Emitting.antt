@@ -1,5 +1,5 @@
 -- Text that goes out by way of a buffer, piece by piece.
-use Rattle.std.proofs.Common.{◌≡◌, ℕ, List, [], ◌++◌, ap, sym, ◌∙◌, append_assoc, append-nil, refl, subst, Result, Ok, Err, OnOk, OnErr}
+use Rattle.std.proofs.Common.{◌≡◌, ℕ, List, [], ◌++◌, ap, sym, ◌∙◌, append_assoc, append-nil, subst, Result, Ok, Err, OnOk, OnErr}
 use Rattle.std.specs.Prelude.{Option}
 use Rattle.std.proofs.KnownBytes.{Appends-trans, Appends-nil}
 use Rattle.std.specs.Io.KnownBytes.{Appends}
@@ -8,10 +8,6 @@ use Rattle.bl_replay.specs.Emits.{Emits}
 
 pub emits_start : (a : Option (List ℕ)) (p : List ℕ) → Emits a a p p []
 emits_start a p = ([], Appends-nil a, append-nil p)
-
--- behind what is pending a piece was added, and then some was written
-pub emits_grown : (a b : Option (List ℕ)) (p grown q s : List ℕ) → grown ≡ p ++ s → Emits a b grown q [] → Emits a b p q s
-emits_grown a b p grown q s e (out, k, is) = (out, k, sym e ∙ sym (append-nil grown) ∙ is)
 
 -- two pieces, one behind the other
 both : (p q s t o r : List ℕ) → p ++ s ≡ o ++ q → q ++ t ≡ r → p ++ (s ++ t) ≡ o ++ r
@@ -23,10 +19,6 @@ emits_more a b c p q r s t (o, k, e) (o', k', e') = (o ++ o', Appends-trans a b 
 -- a beginning of what is pending and of a further piece went out
 pub emits_stop : (a b c : Option (List ℕ)) (p q s t : List ℕ) → Emits a b p q s → StartsOut b c (q ++ t) → StartsOut a c (p ++ (s ++ t))
 emits_stop a b c p q s t (o, k, e) (out, rest, is, k') = (o ++ out, rest, both p q s t o (out ++ rest) e is ∙ sym (append_assoc o out rest), Appends-trans a b c o out k k')
-
--- nothing more went out
-pub stops_here : (a : Option (List ℕ)) (text : List ℕ) → StartsOut a a text
-stops_here a text = ([], text, refl, Appends-nil a)
 
 -- what was added was still pending
 pub stops_grown : (a b : Option (List ℕ)) (p grown s : List ℕ) → grown ≡ p ++ s → StartsOut a b grown → StartsOut a b (p ++ s)

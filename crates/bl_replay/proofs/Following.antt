@@ -1,24 +1,15 @@
 -- Commands, one after the other.
-use Rattle.std.proofs.Common.{ℕ, ◌≡◌, ◌⊎◌, ◌<◌, ◌≤◌, ◌+◌, ◌++◌, zero, suc, Some, None, Option, List, [], ◌∷◌, length, take, drop, slice_get, arith, ap, sym, ◌∙◌, refl, subst, inl, inr, append_assoc, append-nil}
+use Rattle.std.proofs.Common.{ℕ, ◌≡◌, ◌⊎◌, ◌<◌, ◌≤◌, ◌+◌, ◌++◌, zero, suc, Some, None, List, [], ◌∷◌, take, drop, slice_get, arith, ap, sym, ◌∙◌, subst, inl, inr, append_assoc, append-nil}
 use Rattle.bl_replay_script.specs.declared.command.Command.{Command}
 use Rattle.bl_replay_script.specs.declared.command.Kinds.{Kinds}
 use Rattle.bl_replay_script.specs.Commands.{MayStand, starts, started_by}
 use Rattle.bl_replay_script.specs.Scripts.{AllStand}
-use Rattle.bl_world.specs.declared.turns.Turn.{Turn}
-use Rattle.bl_world.specs.declared.turns.Turn.TheVariants as turn
-use Rattle.bl_world.specs.Views.{View, number_in}
-use Rattle.bl_world.specs.Choices.{Chooses}
+use Rattle.bl_world.specs.Views.{View}
 use Rattle.bl_replay.specs.Plays.{HasAnswer, PrintsChosen, PrintsTurns, Does, Plays, BreaksOff}
 use Rattle.bl_replay.specs.Plays.PrintsTurns.{More}
-use Rattle.bl_replay.specs.Plays.Plays.{Nothing, Then}
+use Rattle.bl_replay.specs.Plays.Plays.{Then}
 use Rattle.bl_replay.specs.Plays.BreaksOff.{Behind, Within}
 use Rattle.bl_replay.specs.Emits.{Partly}
-
--- the turn that is chosen for a process is a turn of it
-pub chosen_number : (v : View) (number : ℕ) (page : Option ℕ) (t : Turn) → Chooses v number page t → number_in t ≡ number
-chosen_number v number page (turn.Step n) c = c.0
-chosen_number v number page (turn.Take n x) c = c.0
-chosen_number v number page (turn.Refuse n) c = c.0
 
 -- a list, parted at one of its places
 parted : {A : Type 0} (xs : List A) (i : ℕ) (x : A) → slice_get xs i ≡ Some x → xs ≡ take i xs ++ x ∷ drop (suc i) xs

@@ -1,14 +1,14 @@
 -- What is left of a script and begins with no line, and what a line says.
-use Rattle.std.proofs.Common.{◌≡◌, ◌≢◌, ℕ, ◌+◌, ◌<◌, ◌≤◌, List, [], ◌∷◌, ◌++◌, length, refl, ap, sym, subst, ◌∙◌, append-nil, length-append, Option, Some, None, Result, Ok, inl, inr, arith}
+use Rattle.std.proofs.Common.{◌≡◌, ◌≢◌, ℕ, ◌+◌, ◌<◌, List, ◌∷◌, ◌++◌, length, ap, sym, subst, ◌∙◌, append-nil, length-append, Option, Some, None, Ok, inl, inr, arith}
 use Rattle.std.specs.Prelude.{MatchOption}
 use Rattle.bl_serve_lines.specs.Lines.{HasNoLf}
 use Rattle.bl_serve_lines.specs.Streams.{EndsRead}
 use Rattle.bl_replay_script.specs.declared.command.Command.{Command}
 use Rattle.bl_replay_script.specs.declared.command.Kinds.{Kinds}
 use Rattle.bl_replay_script.specs.Commands.{command_text, head_text, IsPageCount, MayStand}
-use Rattle.bl_replay_script.specs.Scripts.{HasNoLine, BeginsBadly, IsHead, IsNext}
+use Rattle.bl_replay_script.specs.Scripts.{HasNoLine, BeginsBadly, IsNext}
 use Rattle.bl_replay_script.specs.Scripts.HasNoLine.{Long, Cut}
-use Rattle.bl_replay_script.specs.Scripts.BeginsBadly.{NoLine, NoSense}
+use Rattle.bl_replay_script.specs.Scripts.BeginsBadly.{NoSense}
 use Rattle.bl_replay_script.specs.Steps.{GivesHead}
 
 some_unread : (unread bytes left : List ℕ) → 0 < length bytes → unread ≡ bytes ++ left → 0 < length unread

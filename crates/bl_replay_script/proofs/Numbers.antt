@@ -1,5 +1,5 @@
 -- A text spells one number, or one pair of numbers.
-use Rattle.std.proofs.Common.{◌≡◌, ℕ, suc, ◌+◌, ◌<◌, ◌≤◌, ◌^◌, List, [], ◌∷◌, ◌++◌, length, take, drop, refl, ap, sym, ◌∙◌, decimal, codes, arith}
+use Rattle.std.proofs.Common.{◌≡◌, ℕ, ◌+◌, ◌<◌, ◌^◌, List, ◌++◌, length, take, drop, refl, ap, sym, ◌∙◌, decimal, arith}
 use Rattle.std.proofs.lemmas.List.{append_cancel_left}
 use Rattle.std.proofs.lemmas.Fmt.{digits_value-decimal}
 use Rattle.bl_serve_lines.proofs.Numbers.{own, read_on, in_two, at_middle, two_none}

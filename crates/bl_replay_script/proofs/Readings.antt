@@ -1,12 +1,12 @@
 -- Bytes are one script at most, and a script has no bad line.
-use Rattle.std.proofs.Common.{◌≡◌, ℕ, ◌+◌, ◌<◌, ◌≤◌, List, [], ◌∷◌, ◌++◌, length, refl, ap, sym, subst, ◌∙◌, append-nil, append_assoc, length-append, codes, arith}
+use Rattle.std.proofs.Common.{◌≡◌, ℕ, ◌+◌, ◌<◌, List, [], ◌∷◌, ◌++◌, length, refl, ap, sym, subst, ◌∙◌, append-nil, append_assoc, length-append, codes, arith}
 use Rattle.std.specs.Prelude.{flat_map}
 use Rattle.std.proofs.lemmas.List.{append_cancel_left}
 use Rattle.bl_serve_lines.specs.Lines.{HasNoLf}
 use Rattle.bl_replay_script.specs.declared.command.Command.{Command}
 use Rattle.bl_replay_script.specs.declared.command.Kinds.{Kinds}
 use Rattle.bl_replay_script.specs.Commands.{command_text, head_text, IsPageCount, MayStand, starts, started_by}
-use Rattle.bl_replay_script.specs.Scripts.{script_text, AllStand, IsScript, HasNoLine, BeginsBadly, IsHead, IsNext, IsBadAt}
+use Rattle.bl_replay_script.specs.Scripts.{AllStand, IsScript, BeginsBadly, IsHead, IsNext, IsBadAt}
 use Rattle.bl_replay_script.specs.Scripts.HasNoLine.{Long, Cut}
 use Rattle.bl_replay_script.specs.Scripts.BeginsBadly.{NoLine, NoSense}
 use Rattle.bl_replay_script.specs.Scripts.IsBadAt.{First, Later}

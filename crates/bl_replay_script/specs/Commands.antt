@@ -1,5 +1,5 @@
 -- The lines of a script: the text of each command, and where it is allowed.
-use Rattle.std.specs.Prelude.{◌≡◌, ℕ, ◌+◌, ◌<◌, ◌≤◌, ◌^◌, List, [], ◌∷◌, ◌++◌, codes, decimal, IsTrue}
+use Rattle.std.specs.Prelude.{ℕ, ◌+◌, ◌<◌, ◌≤◌, ◌^◌, List, [], ◌∷◌, ◌++◌, codes, decimal, IsTrue}
 use Rattle.bl_model.specs.declared.operation.Op.TheVariants.{Find, Insert, Delete, Part}
 use Rattle.bl_replay_script.specs.declared.command.Start.{Start}
 use Rattle.bl_replay_script.specs.declared.command.Start.TheVariants.{Operation, Post, Compress, Reclaim}

@@ -374,6 +374,3 @@ dealt_on {D} t l first n m hands all hand is up number table view r = let long =
       subst (λ (z : Hand D × ℕ). (z.0.number ≡ z.1) × (z.0.seat.table_id ≡ t) × (z.0.seat.me.0 ≡ share l first z.1 (z.1 + 1))) (λ i. (same i, sym e i)) (number, table, view))
       (λ ne. let c = there hands k (omega arith) in let same : c.0 ≡ h = some-injective c.0 h (sym (at_longer hands (hand ∷ []) k c.0 c.1) ∙ at') in r.each k h (c.1 ∙ ap (λ (z : Hand D). some z) same));
 }
-
-pub dealt_none : {D : Type 0} (t : TableId) (l : Layout) (first : D) → IsDealt {D = D} t l first 0 []
-dealt_none {D} t l first = record { count = refl; each = λ n hand at. absurd (some-ne-none hand (sym at)) }

@@ -3,7 +3,7 @@ use Rattle.std.proofs.Common.{◌≡◌, ◌≢◌, ℕ, ◌+◌, ◌<◌, List,
 use mathlib.Core.Option.{none, some, some-injective}
 use lib.ListN.{get_elem?}
 use Rattle.std.proofs.lemmas.Grind.{get_or-set_at}
-use Rattle.atomic_table.specs.Table.{State, Me, step, keeps, Act, Valid, carried_after, stepped, Allows}
+use Rattle.atomic_table.specs.Table.{State, Me, step, keeps, stepped, Allows}
 use Rattle.atomic_table.proofs.Lists.{at_set, set_here, set_else}
 use Rattle.bl_layout.specs.declared.layout.Layout.{Layout}
 use Rattle.bl_layout.specs.Words.{frame_count}
@@ -45,10 +45,6 @@ module _ {D : Type 0} (l : Layout) (first : D) (holds : Pages D → Type 0) wher
 
   abbrev Rule : St → Type 0
   Rule = Kept l first holds
-
-  -- a step at which the word i becomes n
-  abbrev Leads : St → ℕ → ℕ → ℕ → M → (M → Type 0) → Type 0
-  Leads s i n id me then' = (w : View D) × (a : Act (Unit {0})) × Valid s.homes me.1 a × Rule (stepped s i n id me.1 w a) × then' (w, carried_after me.1 a)
 
   -- what the words show after a put
   pub shows_put : (ws0 : List ℕ) (s : Pages D) (fs gs : List Frame) (q x f i n : ℕ) (xs : List ℕ) (ds : List Draft) → i ≡ page_at l x → n ≡ f + 1 → x < l.pages → IsOrderly l s → Shows l ws0 s fs → Passing l ws0 fs gs q x f xs ds → Shows l (set ws0 i n) (written s x xs) gs

@@ -22,10 +22,6 @@ pub drafts_pop : (fs : List ℕ) (n : ℕ) → 0 < n → drafts fs n ≡ draft (
 drafts_pop fs zero some_frame = absurd (omega arith)
 drafts_pop fs (suc n) some_frame = let e : n ≡ suc n - 1 = omega arith in λ i. draft (get_or fs (e i) 0) [] ∷ drafts fs (e i)
 
-pub drafts_none : (fs : List ℕ) (n : ℕ) → n ≤ 0 → drafts fs n ≡ []
-drafts_none fs zero low = refl
-drafts_none fs (suc n) low = absurd (omega arith)
-
 pub within_push : (fs : List ℕ) (n x total : ℕ) → n < length fs → x < total → ((k : ℕ) → k < n → get_or fs k 0 < total) → (k : ℕ) → k < n + 1 → get_or (set fs n x) k 0 < total
 within_push fs n x total low small each k less = dite (ℕ_discrete k n)
     (λ e. subst (λ (z : ℕ). z < total) (sym (get_or-set_at fs n k x 0 e low)) small)

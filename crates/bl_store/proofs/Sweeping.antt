@@ -3,7 +3,7 @@ use Rattle.std.proofs.Common.{◌≡◌, ◌≢◌, ◌⊎◌, ℕ, zero, suc, �
 use mathlib.Core.Logic.{dite}
 use mathlib.Core.Option.{none}
 use native.Mathlib.Decide.{ℕ_discrete}
-use Rattle.atomic_table.specs.Table.{State, Me, step, keeps, Act, Valid, carried_after, stepped, Allows}
+use Rattle.atomic_table.specs.Table.{State, Me, step, keeps, Allows}
 use Rattle.bl_layout.specs.declared.layout.Layout.{Layout}
 use Rattle.bl_store.specs.Pages.{Running, Pages}
 use Rattle.bl_store.specs.Frames.{process_at, ProcessIs, Swept, SweepIs, IsLive, Kept}
@@ -45,10 +45,6 @@ module _ {D : Type 0} (l : Layout) (first : D) (holds : Pages D → Type 0) wher
 
   abbrev Rule : St → Type 0
   Rule = Kept l first holds
-
-  -- a step at which the word i becomes n
-  abbrev Leads : St → ℕ → ℕ → ℕ → M → (M → Type 0) → Type 0
-  Leads s i n id me then' = (w : View D) × (a : Act (Unit {0})) × Valid s.homes me.1 a × Rule (stepped s i n id me.1 w a) × then' (w, carried_after me.1 a)
 
   -- a load of the clock by which a round of looks begins
   pub horizons : (slots id i : ℕ) (me : M) → i ≡ 0 → IsLive me.0 → Allows Rule slots id me i (λ n. n) (horizoned (step slots i 0 0 none) me)

@@ -6,7 +6,7 @@ use native.Mathlib.Decide.{ℕ_discrete}
 use lib.ListN.{get_elem?}
 use lib.Seq.{set-get_or}
 use Rattle.std.proofs.lemmas.Grind.{get_or-set_at}
-use Rattle.atomic_table.specs.Table.{State, Me, step, keeps, Act, Valid, carried_after, stepped, Allows}
+use Rattle.atomic_table.specs.Table.{State, Me, step, keeps, stepped, Allows}
 use Rattle.atomic_table.proofs.Lists.{at_set, set_else, set_again}
 use Rattle.bl_layout.specs.declared.layout.Layout.{Layout}
 use Rattle.bl_store.specs.Pages.{Owner, Held, Retired, Stage, Pages, told, owned, later, Retires}
@@ -32,10 +32,6 @@ module _ {D : Type 0} (l : Layout) (first : D) (holds : Pages D → Type 0) wher
 
   abbrev Rule : St → Type 0
   Rule = Kept l first holds
-
-  -- a step at which the word i becomes n
-  abbrev Leads : St → ℕ → ℕ → ℕ → M → (M → Type 0) → Type 0
-  Leads s i n id me then' = (w : View D) × (a : Act (Unit {0})) × Valid s.homes me.1 a × Rule (stepped s i n id me.1 w a) × then' (w, carried_after me.1 a)
 
   -- a tick of the hand q leaves the clock below its bound
   spent : (clock q a b : ℕ) (bs : List ℕ) → get_elem? bs q ≡ some a → b + 1 ≡ a → Budgeted l.passes clock bs → Budgeted l.passes (clock + 1) (set bs q b)

@@ -7,7 +7,7 @@ use mathlib.Core.Option.{Option, none, some, some-ne-none}
 use native.Mathlib.Decide.{dec_le, ℕ_discrete}
 use lib.ListN.{get_elem?}
 use Rattle.atomic_table.proofs.Lists.{set_here, set_else}
-use Rattle.bl_page.specs.Machine.{Name, Event, Steps, IsAt}
+use Rattle.bl_page.specs.Machine.{Name, IsAt}
 use Rattle.bl_page.specs.Machine as machine
 use Rattle.bl_store.specs.Pages.{Owner, Released, Open, Held, Retired, Stage, Idle, Running, Pages, Stands, AllBeganAfter, told, owned, written, later}
 use Rattle.bl_store_events.specs.Shown.{name, owner_in, phase_of, phase_in, seen, one_more, IsTied}

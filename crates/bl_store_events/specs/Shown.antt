@@ -3,7 +3,7 @@ use Rattle.std.specs.Prelude.{◌≢◌, ℕ, ◌+◌, ◌==◌, nat_lt, if◌th
 use mathlib.Core.Option.{Option, none, some}
 use lib.ListN.{get_elem?}
 use Rattle.bl_page.specs.declared.machine.Missed.{Missed}
-use Rattle.bl_page.specs.Machine.{Name, Event, Steps}
+use Rattle.bl_page.specs.Machine.{Name, Steps}
 use Rattle.bl_page.specs.Machine as machine
 use Rattle.bl_store.specs.Pages.{Owner, Released, Open, Held, Retired, Stage, Idle, Running, Pages, Stands, IsPage, HoldsNone, AllBeganAfter, told, owned, written, later}
 

@@ -1,5 +1,5 @@
 -- Each kind of turn on the lists of a world.
-use Rattle.std.proofs.Common.{ℕ, ◌≡◌, ◌≢◌, ◌⊎◌, ◌<◌, ◌++◌, zero, suc, Option, Some, None, List, [], ◌∷◌, length, get_or, slice_get, slice_set, Result, Ok, Err, OnOk, OnErr, arith, ap, sym, ◌∙◌, refl, subst, inl, inr}
+use Rattle.std.proofs.Common.{ℕ, ◌≡◌, ◌≢◌, ◌<◌, ◌++◌, zero, suc, Option, Some, None, List, [], ◌∷◌, length, get_or, slice_get, slice_set, arith, ap, sym, ◌∙◌, refl, subst, inl, inr}
 use Rattle.std.proofs.lemmas.Bool.{cases_eq}
 use Rattle.std.proofs.lemmas.Option.{slice_get_within, get_or_from_slice_get}
 use Rattle.std.proofs.lemmas.List.{length-set}
@@ -210,11 +210,6 @@ stands (x ∷ xs) (suc n) l = stands xs n (omega (arith, l))
 -- what was read at a place stands there
 pub read_at : {A : Type 0} (xs : List A) (i : ℕ) (v : A) → i < length xs → v ≡ get_or xs i v → slice_get xs i ≡ Some v
 read_at xs i v l e = let s = stands xs i l in s.1 ∙ ap Some (sym (e ∙ get_or_from_slice_get xs i s.0 v s.1))
-
--- a list has one more, or is as it was
-pub one_or_none : {A E : Type 0} (r : Result A E) (P Q : Type 0) → OnOk r P → OnErr r Q → P ⊎ Q
-one_or_none (Ok a) P Q ok err = inl ok
-one_or_none (Err e) P Q ok err = inr err
 
 -- who stands at a place is who was read there
 pub stood_is : {A : Type 0} (xs : List A) (i : ℕ) (p v : A) → slice_get xs i ≡ Some p → v ≡ get_or xs i v → p ≡ v

@@ -173,12 +173,6 @@ pub record Knows (es : List Event) (n x i : ℕ) (retired seen : Option ℕ) : T
   pub retired_is : (k : ℕ) → (retired ≡ Some k → IsRetired es x k i) × (IsRetired es x k i → retired ≡ Some k)
   pub seen_is : (k : ℕ) → (seen ≡ Some k → HasSeen es n x k i) × (HasSeen es n x k i → seen ≡ Some k)
 
-pub knows_none : (es : List Event) (n x : ℕ) → Knows es n x 0 None None
-knows_none es n x = record {
-  retired_is = λ k. (λ e. absurd (let f : None ≡ Some k = e in cc), λ r. absurd (let l = r.before in omega (arith, l)));
-  seen_is = λ k. (λ e. absurd (let f : None ≡ Some k = e in cc), λ s. absurd (let l = s.before in omega (arith, l)));
-}
-
 pub retire_cases : (a : Act) (x : ℕ) → (a ≡ shown.Retire x) ⊎ (a ≢ shown.Retire x)
 retire_cases shown.Begin x = inr (λ e. cc)
 retire_cases shown.End x = inr (λ e. cc)
