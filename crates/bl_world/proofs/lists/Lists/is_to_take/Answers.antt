@@ -12,13 +12,22 @@ returns-then-number-eq0 c = elim c.then-number-eq0.branch [
 ]
 
 pub returns-in-Some : goal.returns-in-Some
-returns-in-Some c = ((λ e. cc), λ h. absurd (none_takes (view_of c.args.self.now) c.args.number c.if-number-eq0.false (omega (arith, c.if-number-len.false, c.len.ensures)) (λ p stood may.
-    has_answered c.args.self.now.processes.items (c.args.number - 1) p c.index.result.now stood c.index.ensures c.answer.result c.in-Some.field-0 c.answer.ensures c.in-Some.is may.0) h))
+returns-in-Some c = (
+  (λ e. cc),
+  λ h. absurd (none_takes (view_of c.args.self.now) c.args.number c.if-number-eq0.false (omega (arith, c.if-number-len.false, c.len.ensures)) (λ p stood may.
+      has_answered c.args.self.now.processes.items (c.args.number - 1) p c.index.result.now stood c.index.ensures c.answer.result c.in-Some.field-0 c.answer.ensures c.in-Some.is may.0) h),
+)
 
 pub returns-in-Take : goal.returns-in-Take
-returns-in-Take c = ((λ e. is_taking (view_of c.args.self.now) c.args.number c.if-number-eq0.false (omega (arith, c.if-number-len.false, c.len.ensures)) (λ p stood.
-    goes_on c.args.self.now.processes.items (c.args.number - 1) p c.index.result.now c.index-2.result.now c.answer.result act.Take stood c.index.ensures c.answer.ensures c.in_default.not-Some c.index-2.ensures c.in-Take.ensures)), λ h. refl)
+returns-in-Take c = (
+  (λ e. is_taking (view_of c.args.self.now) c.args.number c.if-number-eq0.false (omega (arith, c.if-number-len.false, c.len.ensures)) (λ p stood.
+      goes_on c.args.self.now.processes.items (c.args.number - 1) p c.index.result.now c.index-2.result.now c.answer.result act.Take stood c.index.ensures c.answer.ensures c.in_default.not-Some c.index-2.ensures c.in-Take.ensures)),
+  λ h. refl,
+)
 
 pub returns-in_default-matches : goal.returns-in_default-matches
-returns-in_default-matches c = ((λ e. cc), λ h. absurd (none_takes (view_of c.args.self.now) c.args.number c.if-number-eq0.false (omega (arith, c.if-number-len.false, c.len.ensures)) (λ p stood may.
-    c.in_default-matches.not-Take (sym (next_told c.args.self.now.processes.items (c.args.number - 1) p c.index-2.result.now stood c.index-2.ensures c.next.result c.next.ensures) ∙ may.1)) h))
+returns-in_default-matches c = (
+  (λ e. cc),
+  λ h. absurd (none_takes (view_of c.args.self.now) c.args.number c.if-number-eq0.false (omega (arith, c.if-number-len.false, c.len.ensures)) (λ p stood may.
+      c.in_default-matches.not-Take (sym (next_told c.args.self.now.processes.items (c.args.number - 1) p c.index-2.result.now stood c.index-2.ensures c.next.result c.next.ensures) ∙ may.1)) h),
+)

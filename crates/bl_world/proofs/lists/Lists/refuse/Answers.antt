@@ -13,10 +13,17 @@ returns-then-is_none-clause-ok c = ok_map c.idle-then-is_none.result (λ e p sto
 
 pub told-requires-clause-given : goal.told-requires-clause-given
 told-requires-clause-given c = λ p stood. (
-    none_answered c.args.self.now.processes.items c.args.index p c.index.result.now stood c.index.ensures c.answer.result c.answer.ensures c.in_default.not-Some,
-    may_be_refused p (ap is_some (needs_told c.args.self.now.processes.items c.args.index p c.index-2.result.now stood c.index-2.ensures c.needs.result c.needs.ensures) ∙ c.if-is_none.ensures))
+  none_answered c.args.self.now.processes.items c.args.index p c.index.result.now stood c.index.ensures c.answer.result c.answer.ensures c.in_default.not-Some,
+  may_be_refused p (ap is_some (needs_told c.args.self.now.processes.items c.args.index p c.index-2.result.now stood c.index-2.ensures c.needs.result c.needs.ensures) ∙ c.if-is_none.ensures),
+)
 
 pub returns-clause-ok : goal.returns-clause-ok
 returns-clause-ok c = ok_map c.told.result (λ f p stood.
-    inl ((none_answered c.args.self.now.processes.items c.args.index p c.index.result.now stood c.index.ensures c.answer.result c.answer.ensures c.in_default.not-Some,
-      ap is_some (needs_told c.args.self.now.processes.items c.args.index p c.index-2.result.now stood c.index-2.ensures c.needs.result c.needs.ensures) ∙ c.if-is_none.ensures), (f p stood).0, (f p stood).1)) c.told.ensures.ok
+    inl (
+      (
+        none_answered c.args.self.now.processes.items c.args.index p c.index.result.now stood c.index.ensures c.answer.result c.answer.ensures c.in_default.not-Some,
+        ap is_some (needs_told c.args.self.now.processes.items c.args.index p c.index-2.result.now stood c.index-2.ensures c.needs.result c.needs.ensures) ∙ c.if-is_none.ensures,
+      ),
+      (f p stood).0,
+      (f p stood).1,
+    )) c.told.ensures.ok
