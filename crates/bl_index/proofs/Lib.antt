@@ -30,6 +30,7 @@ pub mod Scanned
 pub mod PartByPart
 pub mod Asked
 pub mod Rooms
+pub mod Reserved
 pub mod Holders
 pub mod Gathered
 pub mod AtRest

@@ -38,6 +38,9 @@ tells_done h h' p same = ((λ e. absurd (let f : seen.Done ≡ seen.Refused = e 
 pub tells_missed : (h h' : H) (p : Proc) (x : ℕ) → next_of p ≡ act.Latch x → TellsRoom h h' p seen.Missed
 tells_missed h h' p x next = ((λ e. absurd (let f : seen.Missed ≡ seen.Refused = e in cc)), λ y opens. absurd (let f : act.Latch x ≡ act.Open y = sym next ∙ opens in cc))
 
+pub tells_words : (h h' : H) (p : Proc) (x : ℕ) (c : Page) → next_of p ≡ act.Get x → TellsRoom h h' p (seen.Words c)
+tells_words h h' p x c next = ((λ e. absurd (let f : seen.Words c ≡ seen.Refused = e in cc)), λ y opens. absurd (let f : act.Get x ≡ act.Open y = sym next ∙ opens in cc))
+
 pub tells_took : (h h' : H) (p : Proc) (y : ℕ) → next_of p ≡ act.Take → TellsRoom h h' p (seen.Took y)
 tells_took h h' p y next = ((λ e. absurd (let f : seen.Took y ≡ seen.Refused = e in cc)), λ z opens. absurd (let f : act.Take ≡ act.Open z = sym next ∙ opens in cc))
 

@@ -6,6 +6,7 @@ use Rattle.bl_proc_unique.specs.Courses.{GoesOn}
 use Rattle.bl_store.specs.Hands.{known}
 use Rattle.bl_index_rule.proofs.Pages.{opens_page}
 use Rattle.bl_index.proofs.Rooms.{tells_done}
+use Rattle.bl_index.proofs.Standing.{on_goes}
 use Rattle.bl_index.proofs.index.Index.open_page.Goals as goal
 
 pub open-requires-clause-rule : goal.open-requires-clause-rule
@@ -25,3 +26,9 @@ returns-clause-same g c = (c.open.ensures.same.0, c.open.ensures.same.1)
 
 pub returns-clause-stock : goal.returns-clause-stock
 returns-clause-stock g c = c.open.ensures.same.2
+
+pub returns-clause-process : goal.returns-clause-process
+returns-clause-process g c = on_goes c.args.self.now.store.layout seen.Done (known c.args.hand.now.seat) (known c.open.new.hand.seat) (g.P.Kind.proc_of c.args.process.now) (g.P.Kind.proc_of c.took.new.self) c.requires.process c.open.ensures.told.1 (g.met.P.Kind.goes c.args.process.now c.took.new.self seen.Done c.took.ensures)
+
+pub returns-clause-moves : goal.returns-clause-moves
+returns-clause-moves g c = (seen.Done, c.open.ensures.told.1)

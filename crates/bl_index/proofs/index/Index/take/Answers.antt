@@ -1,4 +1,4 @@
-use Rattle.std.proofs.Common.{refl, ap, sym, ◌∙◌, subst}
+use Rattle.std.proofs.Common.{◌≡◌, Some, refl, ap, sym, ◌∙◌, subst}
 use Rattle.bl_proc_base.specs.declared.acts.Seen.TheVariants as seen
 use Rattle.bl_proc.specs.declared.kinds.Proc.{Proc}
 use Rattle.bl_proc.specs.Processes.{next_of}
@@ -6,6 +6,8 @@ use Rattle.bl_proc_unique.specs.Courses.{GoesOn}
 use Rattle.bl_store.specs.Hands.{known}
 use Rattle.bl_index_rule.proofs.Pages.{takes_page, refuses_take}
 use Rattle.bl_index.proofs.Rooms.{tells_took, tells_refused, take_opens_not}
+use Rattle.bl_index_rule.specs.Told.{Goes}
+use Rattle.bl_index.proofs.Standing.{on_goes}
 use Rattle.bl_index.proofs.index.Index.take.Goals as goal
 
 pub reserve-requires-clause-takes : goal.reserve-requires-clause-takes
@@ -40,3 +42,15 @@ returns-in-Some-clause-same g c = c.reserve.ensures.same
 
 pub returns-in-Err-clause-same : goal.returns-in-Err-clause-same
 returns-in-Err-clause-same g c = c.reserve.ensures.same
+
+pub returns-in-Some-clause-process : goal.returns-in-Some-clause-process
+returns-in-Some-clause-process g c = on_goes c.args.self.now.store.layout (seen.Took c.in-Some.page) (known c.args.hand.now.seat) (known c.reserve.new.hand.seat) (g.P.Kind.proc_of c.args.process.now) (g.P.Kind.proc_of c.took.new.self) c.requires.process (let got = c.in-Ok.ensures.page refl in subst (λ x. Goes (seen.Took x) (known c.args.hand.now.seat) (known c.reserve.new.hand.seat)) (let e : Some got.0 ≡ Some c.in-Some.page = sym got.1 ∙ sym c.in-Some.ensures in cc) got.4.1) (g.met.P.Kind.goes c.args.process.now c.took.new.self (seen.Took c.in-Some.page) c.took.ensures)
+
+pub returns-in-Some-clause-moves : goal.returns-in-Some-clause-moves
+returns-in-Some-clause-moves g c = (seen.Took c.in-Some.page, (let got = c.in-Ok.ensures.page refl in subst (λ x. Goes (seen.Took x) (known c.args.hand.now.seat) (known c.reserve.new.hand.seat)) (let e : Some got.0 ≡ Some c.in-Some.page = sym got.1 ∙ sym c.in-Some.ensures in cc) got.4.1))
+
+pub returns-in-Err-clause-process : goal.returns-in-Err-clause-process
+returns-in-Err-clause-process g c = on_goes c.args.self.now.store.layout seen.Refused (known c.args.hand.now.seat) (known c.reserve.new.hand.seat) (g.P.Kind.proc_of c.args.process.now) (g.P.Kind.proc_of c.took-in-Err.new.self) c.requires.process c.in-Err.ensures.refused.1.1 (g.met.P.Kind.goes c.args.process.now c.took-in-Err.new.self seen.Refused c.took-in-Err.ensures)
+
+pub returns-in-Err-clause-moves : goal.returns-in-Err-clause-moves
+returns-in-Err-clause-moves g c = (seen.Refused, c.in-Err.ensures.refused.1.1)
