@@ -1,6 +1,6 @@
 -- A section that was answered, after which all passes have met.
-use Rattle.std.proofs.Common.{◌≡◌, ℕ, suc, ◌<◌, List, [], ◌∷◌, ◌++◌, length, take, drop, map, refl, sym, ap, ◌∙◌, subst, arith}
-use Rattle.std.specs.Prelude.{All, Option}
+use Rattle.std.proofs.Common.{◌≡◌, ◌≢◌, ℕ, suc, ◌+◌, ◌<◌, List, [], ◌∷◌, ◌++◌, length, take, drop, map, refl, sym, ap, ◌∙◌, subst, append-nil, arith}
+use Rattle.std.specs.Prelude.{All, Option, codes}
 use Rattle.std.specs.List.{AllZip}
 use Rattle.std.proofs.Math.Seq.{take-append_seam}
 use Rattle.std.proofs.lemmas.List.{length-map}
@@ -16,7 +16,11 @@ use Rattle.bl_index.specs.Calls.{first_of, IsPassOf, number_of, trail, passes_of
 use Rattle.bl_index.proofs.Taken.{same_of}
 use Rattle.bl_serve.specs.Rounds.{Taken, IsTaken, IsRound}
 use Rattle.bl_serve.specs.Meetings.{Comes, AllMeet}
-use Rattle.bl_serve.specs.Serving.{AreFrom, AreTogether, HoldsSection, seen_by}
+use Rattle.bl_serve.specs.declared.reading.SectionEnd.{SectionEnd}
+use Rattle.bl_serve.specs.declared.reading.SectionEnd.TheVariants.{Synced, Rest, Finished}
+use Rattle.bl_serve_lines.specs.Text.{numbered}
+use Rattle.bl_serve.specs.Sections.{end_text}
+use Rattle.bl_serve.specs.Serving.{AreFrom, AreTogether, HoldsSection, ServesSection, seen_by}
 use Rattle.bl_serve.proofs.Lines.{goes_on}
 use Rattle.bl_serve.proofs.Sections.{FitsFrom, section}
 
@@ -99,3 +103,20 @@ same_many first number lines text olds news r = sym (ap length r.new_are) ∙ (l
 -- the passes that were lent to the meeting come back
 pub lent_back : (first : List (Option Page)) (n : ℕ) (news met : List Pass) → n ≡ length news → AllMeet first news met → take n (met ++ drop (length met) news) ≡ met
 lent_back first n news met many m = ap (λ (k : ℕ). take k (met ++ drop (length met) news)) (let long = zip_long (Comes m.seen) news met m.each in let e : n ≡ length met = omega (arith, many, long) in e) ∙ take-append_seam met (drop (length met) news)
+
+-- ---- how the section ended
+
+-- it ended by a sync, or with the input
+pub plain_section : (index : Index) (done : ℕ) (lines : List (Option Request)) (end : SectionEnd) (text : List ℕ) (olds news : List Pass) → end ≢ Rest → HoldsSection index done lines text olds news → ServesSection index done lines end text olds news
+plain_section index done lines Synced text olds news other h = record { answers = text; holds = h; ends = sym (append-nil text) }
+plain_section index done lines Rest text olds news other h = absurd (other refl)
+plain_section index done lines Finished text olds news other h = record { answers = text; holds = h; ends = sym (append-nil text) }
+
+-- with bytes behind the last LF, which are one line more
+pub rest_section : (index : Index) (done number : ℕ) (lines : List (Option Request)) (end : SectionEnd) (text : List ℕ) (olds news : List Pass) → end ≡ Rest → number ≡ done + length lines + 1 → HoldsSection index done lines text olds news
+    → ServesSection index done lines end (text ++ numbered number (codes "malformed")) olds news
+rest_section index done number lines end text olds news is at h = record {
+  answers = text;
+  holds = h;
+  ends = ap (λ (z : ℕ). text ++ numbered z (codes "malformed")) at ∙ ap (λ (z : SectionEnd). text ++ end_text z (done + length lines + 1)) (sym is);
+}

@@ -150,6 +150,6 @@ chain_push from mid (x ∷ ws) w c at le = (c.0, c.1, chain_push x.upto mid ws w
 pub chain_item : (from mid i : ℕ) (written : List Written) (w : Written) → i < length written → w ≡ get_or written i w → Chains from mid (take i written) → w.from ≡ mid → w.from < w.upto → Chains from w.upto (take (i + 1) written)
 chain_item from mid i written w low at c is le = subst (λ (z : List Written). Chains from w.upto z) (sym (take_more written i w low ∙ ap (λ (z : Written). take i written ++ z ∷ []) (sym at))) (chain_push from mid (take i written) w c is le)
 
-pub text_item : (i : ℕ) (written : List Written) (w : Written) (old new piece : List ℕ) → i < length written → w ≡ get_or written i w → old ≡ text_of (take i written) → new ≡ old ++ piece → piece ≡ w.text.items → new ≡ text_of (take (i + 1) written)
-text_item i written w old new piece low at so_far is same = is ∙ (ap (λ (z : List ℕ). z ++ piece) so_far ∙ (ap (λ (z : List ℕ). text_of (take i written) ++ z) same ∙ (flat_map_more (λ (z : Written). z.text.items) [] (take i written) w
-    ∙ ap text_of (sym (take_more written i w low ∙ ap (λ (z : Written). take i written ++ z ∷ []) (sym at))))))
+pub text_item : (i : ℕ) (written : List Written) (w : Written) (before old new piece : List ℕ) → i < length written → w ≡ get_or written i w → old ≡ before ++ text_of (take i written) → new ≡ old ++ piece → piece ≡ w.text.items → new ≡ before ++ text_of (take (i + 1) written)
+text_item i written w before old new piece low at so_far is same = is ∙ (ap (λ (z : List ℕ). z ++ piece) so_far ∙ (ap (λ (z : List ℕ). (before ++ text_of (take i written)) ++ z) same ∙ (append_assoc before (text_of (take i written)) w.text.items
+    ∙ ap (λ (z : List ℕ). before ++ z) (flat_map_more (λ (z : Written). z.text.items) [] (take i written) w ∙ ap text_of (sym (take_more written i w low ∙ ap (λ (z : Written). take i written ++ z ∷ []) (sym at)))))))

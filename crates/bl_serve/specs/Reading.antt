@@ -63,5 +63,5 @@ pub record ReadsOn (old new : Ahead) (before after : Option (List ℕ)) (failed 
   pub rest : List ℕ
   pub more : List ℕ
   pub consumed : Consumes before after more
-  pub reads : EndsReading new.end old.most new.lines.items rest (old.source ++ more) new.source (IsAtEnd after) failed
+  pub reads : EndsReading new.end old.most new.lines rest (old.source ++ more) new.source (IsAtEnd after) failed
   pub idle : old.most ≡ 0 → (after ≡ before) × (new.source ≡ old.source)

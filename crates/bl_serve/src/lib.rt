@@ -8,6 +8,7 @@
 #![tactic(auto)]
 
 mod answering;
+mod asked;
 mod compressing;
 mod dumping;
 mod gate;

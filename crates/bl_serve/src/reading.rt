@@ -4,6 +4,7 @@ ghost use Rattle.std.specs.Prelude.{◌≡◌, ℕ, ◌+◌, ◌≤◌, List, []
 ghost use Rattle.std.specs.Io.KnownBytes.{Consumes, IsAtEnd};
 ghost use Rattle.bl_serve.specs.Reading.{EndsReading, ReadsLine, ReadsOn};
 
+use crate::asked::Asked;
 use arrayvec::ArrayVec;
 use bl_model::{Failed, Watched};
 use bl_serve_lines::ServeFault;
@@ -30,7 +31,7 @@ pub struct Ahead {
     pub source: Source,
     /// How many lines are to be read at most.
     pub most: u64,
-    pub lines: Vec<Option<Request>>,
+    pub lines: Asked,
     /// How reading of them ended.
     pub end: Result<SectionEnd, ServeFault>,
 }
@@ -79,32 +80,24 @@ fn is_sync(asked: Option<Request>) -> bool
     matches!(asked, Some(Request::Sync))
 }
 
-/// Puts a line behind the others.
-fn keep(lines: &mut Vec<Option<Request>>, asked: Option<Request>) -> Result<(), AllocError>
-    ensures { OnOk result (lines.new.items ≡ lines.old.items ++ asked ∷ []) }
-{
-    lines.push(asked)?;
-    Ok(())
-}
-
 /// Reads the lines of a section, at most so many. Bytes after the last LF are one of them, but are not kept.
 pub fn read_section<R: Read>(
     source: &mut Source,
     reader: &mut Watched<R>,
-    lines: &mut Vec<Option<Request>>,
+    lines: &mut Asked,
     most: u64,
 ) -> Result<SectionEnd, ServeFault>
-    requires { lines.old.items ≡ [] }
+    requires { lines.old ≡ [] }
     ensures { (rest : List ℕ) × (more : List ℕ)
         × Consumes (R.remaining reader.old.inner) (R.remaining reader.new.inner) more
-        × EndsReading result most lines.new.items rest (source.old ++ more) source.new
+        × EndsReading result most lines.new rest (source.old ++ more) source.new
         (IsAtEnd (R.remaining reader.new.inner)) (reader.new.failed ≡ true) }
 {
     let mut line = ArrayVec::new();
     for _taken in 0..most {
         match read_line(source, reader, &mut line) {
             Ok(Reading::Line(asked)) => {
-                keep(lines, asked)?;
+                lines.push(asked)?;
                 let ended = is_sync(asked);
                 if ended {
                     return Ok(SectionEnd::Synced);
@@ -121,12 +114,12 @@ pub fn read_section<R: Read>(
 impl Ahead {
     /// Nothing is read yet.
     pub fn new(alloc: Global) -> Result<Ahead, AllocError>
-        ensures { IfOk result (λ ahead. (ahead.source ≡ []) × (ahead.lines.items ≡ [])) }
+        ensures { IfOk result (λ ahead. (ahead.source ≡ []) × (ahead.lines ≡ [])) }
     {
         Ok(Ahead {
             source: Source::new(alloc)?,
             most: 0,
-            lines: Vec::new(alloc),
+            lines: Asked::new(alloc),
             end: Ok(SectionEnd::Finished),
         })
     }

@@ -9,6 +9,7 @@ ghost use Rattle.bl_serve.specs.Reading.{ReadsOn};
 ghost use Rattle.bl_serve.specs.Rounds.{IsRound, Gathers};
 ghost use Rattle.bl_serve.specs.Serving.{AreTogether, HoldsSection, IsInside, seen_by};
 
+use crate::asked::Asked;
 use crate::compressing::Shift;
 use crate::gate::Gate;
 use crate::joining::collect;
@@ -17,7 +18,7 @@ use crate::reading::{Ahead, read_on};
 use crate::working::{Batch, Desk, Duty, Written, take_turn};
 use bl_hints::Hints;
 use bl_index::{Index, Pass};
-use bl_model::{Op, Watched};
+use bl_model::Watched;
 use bl_serve_lines::ServeFault;
 use bl_serve_lines::request::Request;
 use crossbeam_channel::{Receiver, unbounded};
@@ -108,15 +109,9 @@ pub fn desks(alloc: Global, count: usize, workers: usize) -> Result<Vec<Desk>, A
 
 /// How many threads are worth their time. Few requests are answered by this thread; else there are two at least, and more where
 /// there are more requests, up to the number of workers. Where there are many, and deletions among them, all passes work at once.
-fn threads_for(lines: &[Option<Request>], crew: Crew, passes: usize) -> usize {
-    let asked = lines
-        .iter()
-        .filter(|asked| matches!(asked, Some(Request::Ask(_) | Request::Scan(..))))
-        .count();
-    let deleted = lines
-        .iter()
-        .filter(|asked| matches!(asked, Some(Request::Ask(Op::Delete(_)))))
-        .count();
+fn threads_for(lines: &Asked, crew: Crew, passes: usize) -> usize {
+    let asked = lines.operations();
+    let deleted = lines.deletions();
     if asked < crew.alone {
         1
     } else if asked >= MANY && deleted > 0 {
@@ -259,8 +254,8 @@ fn gather(alloc: Global, desks: &mut Vec<Desk>) -> Result<Vec<Written>, AllocErr
     Ok(written)
 }
 
-/// Answers the lines of a section, before which so many others stood, each pass at the desk that has its place. Gives the passes back
-/// with the output.
+/// Answers the lines of a section, before which so many others stood, each pass at the desk that has its place. The output goes
+/// behind the text, and the passes are given back.
 pub fn answer_section<R: Threads + Wait + Sync, G: Gate + Sync, I: Read>(
     rt: &R,
     alloc: Global,
@@ -271,22 +266,24 @@ pub fn answer_section<R: Threads + Wait + Sync, G: Gate + Sync, I: Read>(
     passes: Vec<Pass>,
     desks: &mut Vec<Desk>,
     done: u64,
-    lines: &[Option<Request>],
+    lines: &Asked,
     reader: &mut Watched<I>,
     ahead: &mut Ahead,
-) -> Result<(Vec<Pass>, Vec<u8>), ServeFault>
+    text: &mut Vec<u8>,
+) -> Result<Vec<Pass>, ServeFault>
     requires own { All (IsPassOf index.now) passes.items }
     requires room { done + length lines.now < 2 ^ 64 }
     requires desks { vec_len desks.old ≡ vec_len passes }
     ensures desks { vec_len desks.new ≡ vec_len desks.old }
-    ensures own { IfOk result (λ t. All (IsPassOf index.now) t.0.items) }
+    ensures own { IfOk result (λ back. All (IsPassOf index.now) back.items) }
     ensures fault { IfErr result (IsInside done (length lines.now)) }
     ensures reads { OnOk result (ReadsOn ahead.old ahead.new (I.remaining reader.old.inner) (I.remaining reader.new.inner) (reader.new.failed ≡ true)) }
     ensures consumes { (more : List ℕ) × Consumes (I.remaining reader.old.inner) (I.remaining reader.new.inner) more }
-    ensures round { IfOk result (λ t. IsRound (first_of index.now) (suc done) lines.now t.1.items passes.items t.0.items) }
+    ensures round { IfOk result (λ back. (more : List ℕ) × (text.new.items ≡ text.old.items ++ more) × IsRound (first_of index.now) (suc done) lines.now more passes.items back.items) }
 {
     let mut passes = passes;
-    let batches = batches(rt, alloc, lines.len(), crew.workers)?;
+    let count = lines.len();
+    let batches = batches(rt, alloc, count, crew.workers)?;
     let shift = Shift::new(crew.workers as u64);
     let threads = threads_for(lines, crew, passes.len());
     work_abreast(
@@ -298,7 +295,7 @@ pub fn answer_section<R: Threads + Wait + Sync, G: Gate + Sync, I: Read>(
         &shift,
         &batches,
         done,
-        lines,
+        lines.as_slice(),
         threads,
         passes.as_mut_slice(),
         desks.as_mut_slice(),
@@ -306,11 +303,11 @@ pub fn answer_section<R: Threads + Wait + Sync, G: Gate + Sync, I: Read>(
         ahead,
     );
     let written = gather(alloc, desks)?;
-    let text = collect(alloc, written, done, lines.len())?;
-    Ok((passes, text))
+    collect(written, done, count, text)?;
+    Ok(passes)
 }
 
-/// Answers the lines of a section by passes that have met, and lets them meet again.
+/// Answers the lines of a section by passes that have met, and lets them meet again. The output goes behind the text.
 pub fn hold_section<R: Threads + Wait + Sync, G: Gate + Sync, I: Read>(
     rt: &R,
     alloc: Global,
@@ -321,10 +318,11 @@ pub fn hold_section<R: Threads + Wait + Sync, G: Gate + Sync, I: Read>(
     passes: Vec<Pass>,
     desks: &mut Vec<Desk>,
     done: u64,
-    lines: &[Option<Request>],
+    lines: &Asked,
     reader: &mut Watched<I>,
     ahead: &mut Ahead,
-) -> Result<(Vec<Pass>, Vec<u8>), ServeFault>
+    text: &mut Vec<u8>,
+) -> Result<Vec<Pass>, ServeFault>
     requires together { AreTogether index.now (seen_by passes.items) passes.items }
     requires some { 0 < vec_len passes }
     requires room { done + length lines.now < 2 ^ 64 }
@@ -332,13 +330,12 @@ pub fn hold_section<R: Threads + Wait + Sync, G: Gate + Sync, I: Read>(
     ensures desks { vec_len desks.new ≡ vec_len desks.old }
     ensures reads { OnOk result (ReadsOn ahead.old ahead.new (I.remaining reader.old.inner) (I.remaining reader.new.inner) (reader.new.failed ≡ true)) }
     ensures consumes { (more : List ℕ) × Consumes (I.remaining reader.old.inner) (I.remaining reader.new.inner) more }
-    ensures held { IfOk result (λ t. HoldsSection index.now done lines.now t.1.items passes.items t.0.items) }
+    ensures held { IfOk result (λ back. (more : List ℕ) × (text.new.items ≡ text.old.items ++ more) × HoldsSection index.now done lines.now more passes.items back.items) }
     ensures fault { IfErr result (IsInside done (length lines.now)) }
 {
-    let (back, text) = answer_section(
-        rt, alloc, index, hints, gate, crew, passes, desks, done, lines, reader, ahead,
+    let mut passes = answer_section(
+        rt, alloc, index, hints, gate, crew, passes, desks, done, lines, reader, ahead, text,
     )?;
-    let mut passes = back;
     meet_all(index, passes.as_mut_slice());
-    Ok((passes, text))
+    Ok(passes)
 }

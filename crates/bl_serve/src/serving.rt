@@ -9,6 +9,7 @@ ghost use Rattle.bl_serve.specs.Reading.{EndsReading, ReadsOn};
 ghost use Rattle.bl_serve.specs.Sections.{CountsSection, rests, syncs};
 ghost use Rattle.bl_serve.specs.Serving.{AreTogether, FailsSection, IsInside, Serves, ServesSection, seen_by};
 
+use crate::asked::Asked;
 use crate::gate::Gate;
 use crate::reading::{Ahead, SectionEnd, read_on};
 use crate::rounds::{Crew, desks, hold_section};
@@ -25,22 +26,15 @@ use std::mem;
 use std::sync::Wait;
 use std::thread::Threads;
 
-/// How many of the lines spell no request.
-fn malformed(lines: &[Option<Request>]) -> usize
-    ensures { result ≡ count_by is_none lines.now }
-{
-    lines.iter().filter(|asked| asked.is_none()).count()
-}
-
 /// Counts the lines of a section.
-fn count(totals: &mut Totals, lines: &[Option<Request>], end: SectionEnd)
+fn count(totals: &mut Totals, lines: &Asked, end: SectionEnd)
     requires requests { totals.old.requests + length lines.now + rests end < 2 ^ 64 }
     requires malformed { totals.old.malformed ≤ totals.old.requests }
     requires sections { totals.old.sections + syncs end < 2 ^ 64 }
     ensures { CountsSection totals.old totals.new lines.now end }
 {
     totals.requests += lines.len() as u64;
-    totals.malformed += malformed(lines) as u64;
+    totals.malformed += lines.malformed() as u64;
     match end {
         SectionEnd::Synced => totals.sections += 1,
         SectionEnd::Rest => {
@@ -68,7 +62,8 @@ fn goes_on(end: SectionEnd, count: usize) -> bool
     end == SectionEnd::Finished && ROUND <= count as u64
 }
 
-/// Answers lines that were read together, counts them, and reads on meanwhile. Bytes after the last LF are a malformed line.
+/// Answers lines that were read together, counts them, and reads on meanwhile. Bytes after the last LF are a malformed line. The output
+/// goes behind the text.
 fn serve_round<T: Threads + Wait + Sync, R: Read, G: Gate + Sync>(
     rt: &T,
     alloc: Global,
@@ -78,12 +73,13 @@ fn serve_round<T: Threads + Wait + Sync, R: Read, G: Gate + Sync>(
     crew: Crew,
     passes: Vec<Pass>,
     desks: &mut Vec<Desk>,
-    lines: &[Option<Request>],
+    lines: &Asked,
     end: SectionEnd,
     totals: &mut Totals,
     reader: &mut Watched<R>,
     ahead: &mut Ahead,
-) -> Result<(Vec<Pass>, Vec<u8>), ServeFault>
+    text: &mut Vec<u8>,
+) -> Result<Vec<Pass>, ServeFault>
     requires together { AreTogether index.now (seen_by passes.items) passes.items }
     requires some { 0 < vec_len passes }
     requires requests { totals.old.requests + length lines.now + rests end < 2 ^ 64 }
@@ -92,12 +88,12 @@ fn serve_round<T: Threads + Wait + Sync, R: Read, G: Gate + Sync>(
     requires desks { vec_len desks.old ≡ vec_len passes }
     ensures desks { vec_len desks.new ≡ vec_len desks.old }
     ensures counts { OnOk result (CountsSection totals.old totals.new lines.now end) }
-    ensures serves { IfOk result (λ t. ServesSection index.now totals.old.requests lines.now end t.1.items passes.items t.0.items) }
+    ensures serves { IfOk result (λ back. (more : List ℕ) × (text.new.items ≡ text.old.items ++ more) × ServesSection index.now totals.old.requests lines.now end more passes.items back.items) }
     ensures reads { OnOk result (ReadsOn ahead.old ahead.new (R.remaining reader.old.inner) (R.remaining reader.new.inner) (reader.new.failed ≡ true)) }
     ensures consumes { (more : List ℕ) × Consumes (R.remaining reader.old.inner) (R.remaining reader.new.inner) more }
     ensures fault { IfErr result (IsInside totals.old.requests (length lines.now)) }
 {
-    let (passes, text) = hold_section(
+    let passes = hold_section(
         rt,
         alloc,
         index,
@@ -110,14 +106,14 @@ fn serve_round<T: Threads + Wait + Sync, R: Read, G: Gate + Sync>(
         lines,
         reader,
         ahead,
+        text,
     )?;
-    let mut text = text;
     count(totals, lines, end);
     if end != SectionEnd::Rest {
-        return Ok((passes, text));
+        return Ok(passes);
     }
-    push_line(&mut text, totals.requests, &Response::Malformed)?;
-    Ok((passes, text))
+    push_line(text, totals.requests, &Response::Malformed)?;
+    Ok(passes)
 }
 
 /// Reads a section, answers it and counts its lines, in rounds: while the lines of one are answered, the next ones are read. The
@@ -131,7 +127,7 @@ fn serve_section<T: Threads + Wait + Sync, R: Read, G: Gate + Sync>(
     crew: Crew,
     passes: Vec<Pass>,
     desks: &mut Vec<Desk>,
-    lines: &mut Vec<Option<Request>>,
+    lines: &mut Asked,
     totals: &mut Totals,
     text: &mut Vec<u8>,
     reader: &mut Watched<R>,
@@ -165,23 +161,11 @@ fn serve_section<T: Threads + Wait + Sync, R: Read, G: Gate + Sync>(
         } else {
             0
         };
-        let (back, more) = serve_round(
-            rt,
-            alloc,
-            index,
-            hints,
-            gate,
-            crew,
-            passes,
-            desks,
-            lines.as_slice(),
-            end,
-            totals,
-            reader,
-            ahead,
+        let back = serve_round(
+            rt, alloc, index, hints, gate, crew, passes, desks, lines, end, totals, reader, ahead,
+            text,
         )?;
         passes = back;
-        text.extend_from_slice(more.as_slice())?;
         if !open {
             return Ok((passes, end));
         }
@@ -251,7 +235,7 @@ pub fn serve_with<T: Threads + Wait + Sync, R: Read, W: Write, G: Gate + Sync>(
     let hints = Hints::new(alloc)?;
     let mut desks = desks(alloc, passes.len(), crew.workers)?;
     let mut ahead = Ahead::new(alloc)?;
-    let mut lines = Vec::new(alloc);
+    let mut lines = Asked::new(alloc);
     let mut text = Vec::new(alloc);
     let mut passes = passes;
     let mut totals = Totals {

@@ -1,11 +1,11 @@
 -- A line, piece by piece.
-use Rattle.std.proofs.Common.{◌≡◌, ◌≢◌, ℕ, suc, ◌+◌, ◌-◌, ◌<◌, ◌≤◌, min, List, [], ◌∷◌, ◌++◌, length, take, drop, get_or, refl, ap, sym, ◌∙◌, subst, append_assoc, length-append, drop-cons, arith, inl, inr, Some, None, Result, Ok, OnOk}
+use Rattle.std.proofs.Common.{◌≡◌, ◌≢◌, ℕ, zero, suc, Bool, true, ◌+◌, ◌-◌, ◌<◌, ◌≤◌, min, List, [], ◌∷◌, ◌++◌, length, take, drop, get_or, slice_index, refl, ap, sym, ◌∙◌, subst, append_assoc, length-append, drop-cons, arith, inl, inr, Some, None, Result, Ok, OnOk}
 use Rattle.std.proofs.Math.Seq.{take-append-add}
-use Rattle.std.proofs.lemmas.Bool.{cases_lt}
+use Rattle.std.proofs.lemmas.Bool.{cases_lt, cases_eq, cases_Bool, cond-true, cond-false, false≢true}
 use Rattle.std.proofs.lemmas.Bool.Decides.{nat_tests}
 use Rattle.std.proofs.lemmas.List.{append-nil, take-append-le, take-append-drop, take_all, drop-take, get_or-take, length-take, length-take-le, length-drop, drop-drop}
 use Rattle.std.proofs.lemmas.List.Elements.{All-from_get_or, All-append, All-nil}
-use Rattle.memchr.specs.Find.{IsFirstByte, Nowhere, Passes, is_byte}
+use Rattle.memchr.specs.Find.{IsFirstByte, NoneBefore, Nowhere, Passes, is_byte, places, places_from}
 use Rattle.bl_serve_lines.specs.Lines.{HasNoLf}
 use Rattle.bl_serve_lines.specs.Streams.{IsFirstLine}
 
@@ -119,3 +119,26 @@ unfolding piece_to_lf
 first_line bytes self from upto place le inside is first =
     let cut = piece_to_lf bytes self [] (take 65 ([] ++ take place (take (upto - from) (drop from bytes)))) from upto place le inside is first refl in
     record { rest = take (upto - (from + (place + 1))) (drop (from + (place + 1)) bytes); cut = cut.1; begins = cut.3 }
+
+-- the first of the places that pass is the first place that does
+first_of_places : (test : ℕ → Bool) (hay : List ℕ) (i n end k : ℕ) (later : List ℕ) → i + n ≡ end → places_from test hay i n ≡ k ∷ later → NoneBefore (Passes test hay) i end k × Passes test hay k
+unfolding places_from
+first_of_places test hay i zero end k later fits is = absurd (let no : ⊥ = cc in no)
+first_of_places test hay i (suc n) end k later fits is = elim (cases_Bool (test (slice_index hay i))) [
+  | inl passes ↦ let here : i ∷ places_from test hay (i + 1) n ≡ k ∷ later = sym (cond-true _ _ _ passes) ∙ is in let same : i ≡ k = cc in
+      subst (λ (z : ℕ). NoneBefore (Passes test hay) i end z × Passes test hay z) same (record { low = omega arith; high = omega (arith, fits); before = λ j low high. absurd (omega (arith, low, high)) }, passes)
+  | inr fails ↦ let r = first_of_places test hay (i + 1) n end k later (omega (arith, fits)) (sym (cond-false _ _ _ fails) ∙ is) in let low = r.0.low in (
+    record {
+      low = omega (arith, low);
+      high = r.0.high;
+      before = λ j from upto hit. elim (cases_eq j i) [
+        | inl at ↦ false≢true (sym fails ∙ subst (λ (z : ℕ). test (slice_index hay z) ≡ true) at hit)
+        | inr other ↦ r.0.before j (omega (arith, from, other)) upto hit
+      ];
+    },
+    r.1,
+  )
+]
+
+pub found_first : (hay : List ℕ) (k : ℕ) (later : List ℕ) → places (is_byte 10) hay ≡ k ∷ later → IsFirstByte (is_byte 10) hay (Some k)
+found_first hay k later is = first_of_places (is_byte 10) hay 0 (length hay - 0) (length hay) k later (omega arith) is

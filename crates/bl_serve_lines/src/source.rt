@@ -10,7 +10,7 @@ ghost use Rattle.bl_serve_lines.specs.Streams.{CutsLine, GivesMore, IsFirstLine,
 use crate::request::LINE_LIMIT;
 use arrayvec::ArrayVec;
 use bl_model::{Failed, Watched};
-use memchr::memchr;
+use memchr::{memchr, memchr_iter};
 use std::alloc::{AllocError, Global};
 use std::io::{ErrorKind, Read};
 use std::marker::Model;
@@ -149,12 +149,14 @@ impl Source {
         }
     }
 
-    /// The first line of what was read ahead, without its LF, where that LF was read too.
+    /// The first line of what was read ahead, without its LF, where that LF was read too. Its end is looked for near its beginning
+    /// first, since most lines are short.
     pub fn front(&self) -> Option<&[u8]>
         ensures { IfSome result (λ line. IsFirstLine line.now self.now) }
     {
         let ahead = &self.bytes[self.from..self.upto];
-        let place = memchr(b'\n', ahead)?;
+        let mut ends = memchr_iter(b'\n', ahead);
+        let place = ends.next()?;
         Some(&ahead[..place])
     }
 

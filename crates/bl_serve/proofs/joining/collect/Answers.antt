@@ -1,7 +1,7 @@
 use Rattle.std.proofs.Common.{sym, subst, rules, List}
 use Rattle.std.specs.Prelude.{All, IsPermutation}
 use Rattle.std.specs.List.Sorted.{IsNonDecreasingBy}
-use Rattle.std.proofs.lemmas.Result.{IfOk-weaker, IfErr-weaker}
+use Rattle.std.proofs.lemmas.Result.{on_ok_weaker, IfErr-weaker}
 use Rattle.std.proofs.lemmas.List.Sorted.{All-permutation, IsNonDecreasingBy-from_sort_by_key}
 use Rattle.bl_serve.specs.declared.working.Written.{Written}
 use Rattle.bl_serve.specs.Joining.{IsWithin}
@@ -15,7 +15,7 @@ pub joined-requires-clause-sorted : goal.joined-requires-clause-sorted
 joined-requires-clause-sorted c = subst (λ (z : List Written). IsNonDecreasingBy (λ w. w.from) z) (sym c.as_slice.ensures.value) (IsNonDecreasingBy-from_sort_by_key (λ w. w.from) _ c.in_ok-sort_by_key.ensures.sorted (λ a r q k. search rules))
 
 pub returns-clause-text : goal.returns-clause-text
-returns-clause-text c = IfOk-weaker c.joined.result _ _ (λ text h. (c.as_slice.result.now, subst (IsPermutation c.args.written.items) (sym c.as_slice.ensures.value) c.sort_by_key.ensures.permutation, h.0, h.1)) c.joined.ensures.text
+returns-clause-text c = on_ok_weaker c.joined.result (λ h. (c.as_slice.result.now, subst (IsPermutation c.args.written.items) (sym c.as_slice.ensures.value) c.sort_by_key.ensures.permutation, h.0, h.1)) c.joined.ensures.text
 
 pub returns-clause-lost : goal.returns-clause-lost
 returns-clause-lost c = IfErr-weaker c.joined.result _ _ (λ fault h. lost_in_any_order c.args.written.items c.as_slice.result.now c.args.done c.args.count fault (subst (IsPermutation c.args.written.items) (sym c.as_slice.ensures.value) c.sort_by_key.ensures.permutation) h) c.joined.ensures.lost

@@ -7,7 +7,7 @@ abbrev pub invariant-loop-taken : goal.invariant-loop-taken
 invariant-loop-taken g l = record {
   more : List ℕ;
   consumed : Consumes (g.R.Read.remaining l.fn.reader.inner) (g.R.Read.remaining l.reader.inner) more;
-  reads : ReadsLines (l.fn.source ++ more) l.source l.lines.items [];
-  no_sync : AsksNoSync l.lines.items;
-  number : length l.lines.items ≡ l._taken;
+  reads : ReadsLines (l.fn.source ++ more) l.source l.lines [];
+  no_sync : AsksNoSync l.lines;
+  number : length l.lines ≡ l._taken;
 }

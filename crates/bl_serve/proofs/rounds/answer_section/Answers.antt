@@ -1,48 +1,55 @@
-use Rattle.std.proofs.Common.{ap, sym, subst, suc, length, arith, List}
+use Rattle.std.proofs.Common.{refl, ap, sym, subst, suc, length, arith, ℕ, List}
 use Rattle.bl_index.specs.declared.index.Pass.{Pass}
 use Rattle.bl_index.specs.Calls.{first_of, IsPassOf}
 use Rattle.bl_serve.specs.declared.working.Desk.{Desk}
 use Rattle.bl_serve.specs.Rounds.{IsRound, Gathers}
-use Rattle.std.specs.Prelude.{All}
+use Rattle.std.specs.Prelude.{All, Option}
+use Rattle.bl_serve_lines.specs.declared.request.Request.{Request}
+use Rattle.bl_serve.specs.Joining.{Chains, IsWithin, text_of}
+use Rattle.bl_serve.specs.Turns.{TakeTurns}
 use Rattle.bl_serve.proofs.Shares.{round, round_own, gathered_within, turns_long, lent}
 use Rattle.bl_serve.proofs.rounds.answer_section.Goals as goal
 
 pub collect-requires-clause-within : goal.collect-requires-clause-within
 collect-requires-clause-within g c =
-    let t = c.work_abreast.ensures.turns in
+    let t = subst (λ (z : List (Option Request)). TakeTurns (first_of c.args.index.now) (suc c.args.done) z c.as_mut_slice.result.now c.work_abreast.new.passes c.work_abreast.new.desks) c.as_slice.ensures c.work_abreast.ensures.turns in
     let long = (turns_long _ _ _ _ _ _ t).1 in
     let same = ap length c.as_mut_slice.ensures.value in
     let desks = c.requires.desks in
     let a = c.args.passes.ok in
-    gathered_within (first_of c.args.index.now) (suc c.args.done) c.args.lines.now c.as_mut_slice.result.now c.work_abreast.new.passes c.work_abreast.new.desks c.in_ok-written.written.items t
-    (subst (λ (z : List Desk). Gathers z c.in_ok-written.written.items) (lent _ _ c.work_abreast.new.desks (omega (arith, long, same, desks, a))) c.in_ok-written.ensures.gathers)
+    subst (λ (n : ℕ). All (IsWithin n) c.in_ok-written.written.items) (sym c.len-count.ensures)
+    (gathered_within (first_of c.args.index.now) (suc c.args.done) c.args.lines.now c.as_mut_slice.result.now c.work_abreast.new.passes c.work_abreast.new.desks c.in_ok-written.written.items t
+    (subst (λ (z : List Desk). Gathers z c.in_ok-written.written.items) (lent _ _ c.work_abreast.new.desks (omega (arith, long, same, desks, a))) c.in_ok-written.ensures.gathers))
 
 pub returns-clause-round : goal.returns-clause-round
 returns-clause-round g c =
-    let t = c.work_abreast.ensures.turns in
+    let t = subst (λ (z : List (Option Request)). TakeTurns (first_of c.args.index.now) (suc c.args.done) z c.as_mut_slice.result.now c.work_abreast.new.passes c.work_abreast.new.desks) c.as_slice.ensures c.work_abreast.ensures.turns in
     let longs = turns_long _ _ _ _ _ _ t in
     let news = longs.0 in
     let long = longs.1 in
     let same = ap length c.as_mut_slice.ensures.value in
     let desks = c.requires.desks in
     let a = c.args.passes.ok in
-    let r = round (first_of c.args.index.now) (suc c.args.done) c.args.lines.now c.in_ok-text.text.items c.as_mut_slice.result.now c.work_abreast.new.passes c.work_abreast.new.desks c.in_ok-written.written.items c.in_ok-text.ensures.text.0 t
+    let r = round (first_of c.args.index.now) (suc c.args.done) c.args.lines.now (text_of c.in_ok-collect.ensures.text.0) c.as_mut_slice.result.now c.work_abreast.new.passes c.work_abreast.new.desks c.in_ok-written.written.items c.in_ok-collect.ensures.text.0 t
     (subst (λ (z : List Desk). Gathers z c.in_ok-written.written.items) (lent _ _ c.work_abreast.new.desks (omega (arith, long, same, desks, a))) c.in_ok-written.ensures.gathers)
-    c.in_ok-text.ensures.text.1 c.in_ok-text.ensures.text.2 c.in_ok-text.ensures.text.3 in
-    subst (λ (z : List Pass). IsRound (first_of c.args.index.now) (suc c.args.done) c.args.lines.now c.in_ok-text.text.items c.args.passes.items z) (sym (lent _ c.args.passes.items c.work_abreast.new.passes (omega (arith, news, same, a))))
-    (subst (λ (z : List Pass). IsRound (first_of c.args.index.now) (suc c.args.done) c.args.lines.now c.in_ok-text.text.items z c.work_abreast.new.passes) c.as_mut_slice.ensures.value r)
+    c.in_ok-collect.ensures.text.1 (subst (λ (n : ℕ). Chains 0 n c.in_ok-collect.ensures.text.0) c.len-count.ensures c.in_ok-collect.ensures.text.2) refl in (
+      text_of c.in_ok-collect.ensures.text.0,
+      c.in_ok-collect.ensures.text.3,
+      subst (λ (z : List Pass). IsRound (first_of c.args.index.now) (suc c.args.done) c.args.lines.now (text_of c.in_ok-collect.ensures.text.0) c.args.passes.items z) (sym (lent _ c.args.passes.items c.work_abreast.new.passes (omega (arith, news, same, a))))
+          (subst (λ (z : List Pass). IsRound (first_of c.args.index.now) (suc c.args.done) c.args.lines.now (text_of c.in_ok-collect.ensures.text.0) z c.work_abreast.new.passes) c.as_mut_slice.ensures.value r),
+    )
 
 pub returns-clause-own : goal.returns-clause-own
 returns-clause-own g c =
-    let t = c.work_abreast.ensures.turns in
+    let t = subst (λ (z : List (Option Request)). TakeTurns (first_of c.args.index.now) (suc c.args.done) z c.as_mut_slice.result.now c.work_abreast.new.passes c.work_abreast.new.desks) c.as_slice.ensures c.work_abreast.ensures.turns in
     let longs = turns_long _ _ _ _ _ _ t in
     let news = longs.0 in
     let long = longs.1 in
     let same = ap length c.as_mut_slice.ensures.value in
     let desks = c.requires.desks in
     let a = c.args.passes.ok in
-    let r = round (first_of c.args.index.now) (suc c.args.done) c.args.lines.now c.in_ok-text.text.items c.as_mut_slice.result.now c.work_abreast.new.passes c.work_abreast.new.desks c.in_ok-written.written.items c.in_ok-text.ensures.text.0 t
+    let r = round (first_of c.args.index.now) (suc c.args.done) c.args.lines.now (text_of c.in_ok-collect.ensures.text.0) c.as_mut_slice.result.now c.work_abreast.new.passes c.work_abreast.new.desks c.in_ok-written.written.items c.in_ok-collect.ensures.text.0 t
     (subst (λ (z : List Desk). Gathers z c.in_ok-written.written.items) (lent _ _ c.work_abreast.new.desks (omega (arith, long, same, desks, a))) c.in_ok-written.ensures.gathers)
-    c.in_ok-text.ensures.text.1 c.in_ok-text.ensures.text.2 c.in_ok-text.ensures.text.3 in
+    c.in_ok-collect.ensures.text.1 (subst (λ (n : ℕ). Chains 0 n c.in_ok-collect.ensures.text.0) c.len-count.ensures c.in_ok-collect.ensures.text.2) refl in
     subst (All (IsPassOf c.args.index.now)) (sym (lent _ c.args.passes.items c.work_abreast.new.passes (omega (arith, news, same, a))))
     (round_own _ c.args.index.now _ _ _ c.as_mut_slice.result.now c.work_abreast.new.passes (subst (All (IsPassOf c.args.index.now)) (sym c.as_mut_slice.ensures.value) c.requires.own) r)

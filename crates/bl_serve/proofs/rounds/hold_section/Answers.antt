@@ -10,10 +10,13 @@ pub answer_section-requires-clause-own : goal.answer_section-requires-clause-own
 answer_section-requires-clause-own g c = λ κs lives. own_together c.args.index.now _ c.args.passes.items c.requires.together
 
 pub meet_all-requires-clause-some : goal.meet_all-requires-clause-some
-meet_all-requires-clause-some g c = let a = same_many _ _ _ _ c.args.passes.items c.in_ok-back.back.items c.in_ok-back.ensures.round in let b = ap length c.as_mut_slice.ensures.value in let some = c.requires.some in let d = c.args.passes.ok in omega (arith, a, b, some, d)
+meet_all-requires-clause-some g c = let a = same_many _ _ _ _ c.args.passes.items c.in_ok-passes.passes.items c.in_ok-passes.ensures.round.2 in let b = ap length c.as_mut_slice.ensures.value in let some = c.requires.some in let d = c.args.passes.ok in omega (arith, a, b, some, d)
 
 pub returns-clause-held : goal.returns-clause-held
-returns-clause-held g c = let some = c.requires.some in let d = c.args.passes.ok in let many = c.in_ok-back.back.ok in
-    let m = subst (λ (z : List Pass). AllMeet (first_of c.args.index.now) z c.meet_all.new.passes) c.as_mut_slice.ensures.value c.meet_all.ensures in
-    subst (λ (z : List Pass). HoldsSection c.args.index.now c.args.done c.args.lines.now c.in_ok-back.text.items c.args.passes.items z) (sym (lent_back (first_of c.args.index.now) c.in_ok-back.back.len c.in_ok-back.back.items c.meet_all.new.passes (omega (arith, many)) m))
-    (holds c.args.index.now c.args.done c.args.lines.now c.in_ok-back.text.items c.args.passes.items c.in_ok-back.back.items c.meet_all.new.passes (omega (arith, some, d)) c.requires.together c.in_ok-back.ensures.round m)
+returns-clause-held g c = let some = c.requires.some in let d = c.args.passes.ok in let many = c.in_ok-passes.passes.ok in
+    let m = subst (λ (z : List Pass). AllMeet (first_of c.args.index.now) z c.meet_all.new.passes) c.as_mut_slice.ensures.value c.meet_all.ensures in (
+      c.in_ok-passes.ensures.round.0,
+      c.in_ok-passes.ensures.round.1,
+      subst (λ (z : List Pass). HoldsSection c.args.index.now c.args.done c.args.lines.now c.in_ok-passes.ensures.round.0 c.args.passes.items z) (sym (lent_back (first_of c.args.index.now) c.in_ok-passes.passes.len c.in_ok-passes.passes.items c.meet_all.new.passes (omega (arith, many)) m))
+          (holds c.args.index.now c.args.done c.args.lines.now c.in_ok-passes.ensures.round.0 c.args.passes.items c.in_ok-passes.passes.items c.meet_all.new.passes (omega (arith, some, d)) c.requires.together c.in_ok-passes.ensures.round.2 m),
+    )
