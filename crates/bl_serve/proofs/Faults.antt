@@ -39,11 +39,6 @@ room section_end.Synced before asked rest unread left AtEnd Failed e low = let a
 room section_end.Rest before asked rest unread left AtEnd Failed e low = let a = e.1 in omega arith
 room section_end.Finished before asked rest unread left AtEnd Failed e low = let a = e.1 in omega arith
 
-pub few_syncs : (end : SectionEnd) (n : ℕ) → n + 1 < 2 ^ 64 → n + syncs end < 2 ^ 64
-few_syncs section_end.Synced n low = low
-few_syncs section_end.Rest n low = omega arith
-few_syncs section_end.Finished n low = omega arith
-
 -- ---- faults
 
 -- the section could not be read whole

@@ -89,12 +89,6 @@ scanned_line first pass n low high before head rows after old mid new headed is 
     line_of xs ys zs = append_assoc ((xs ++ ys) ++ codes " rows") zs (10 ∷ []) ∙ (append_assoc (xs ++ ys) (codes " rows") (zs ++ 10 ∷ []) ∙ (append_assoc xs ys (codes " rows" ++ (zs ++ 10 ∷ []))
         ∙ ap (λ (t : List ℕ). xs ++ t) (sym (append_assoc (ys ++ codes " ") (codes "rows" ++ zs) (10 ∷ []) ∙ append_assoc ys (codes " ") ((codes "rows" ++ zs) ++ 10 ∷ [])))))
 
-pub synced_line : (first : List (Option Page)) (pass n : ℕ) (before after : List ℕ) (old : Trail) → after ≡ before ++ numbered n (codes "synced") → AnswersLine first pass n (Some Sync) before after old old
-synced_line first pass n before after old is = record { answer = Synced; is_for = tt; prints = is; begins = stays old; seen = λ s. s; mine = sym (append-nil (own pass old)) }
-
-pub malformed_line : (first : List (Option Page)) (pass n : ℕ) (before after : List ℕ) (old : Trail) → after ≡ before ++ numbered n (codes "malformed") → AnswersLine first pass n None before after old old
-malformed_line first pass n before after old is = record { answer = Malformed; is_for = tt; prints = is; begins = stays old; seen = λ s. s; mine = sym (append-nil (own pass old)) }
-
 -- ---- in a loop
 
 pub no_text : (first : List (Option Page)) (pass number : ℕ) (text : List ℕ) (old : Trail) → text ≡ [] → AnswersLines first pass number [] text old old

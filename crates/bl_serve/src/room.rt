@@ -7,8 +7,9 @@ ghost use Rattle.bl_serve.specs.Works.{Adds};
 use bl_index::{Index, Pass};
 use std::thread;
 
-/// How often a pass looks for room at most before a change, a post or a compression. So many looks take a tenth of a second, about:
-/// longer than a thread waits for a processor that it has lost within a process, even where there are ten threads for each.
+/// How often a pass looks for room at most before a change, a post or a compression. With 1,024 pages so many looks take a tenth of a
+/// second, by estimate, and longer with more: longer than a thread waits for a processor that it has lost within a process, even where
+/// there are ten threads for each.
 const LOOKS: u32 = 32_768;
 
 /// Makes room for a change, a post or a compression, where it may find too few frames while some wait to be released: others may

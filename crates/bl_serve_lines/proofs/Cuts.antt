@@ -76,10 +76,6 @@ short_line bytes kept is few = let size = length-take 65 bytes in let same : len
 pub long_line_cut : (bytes kept : List ℕ) → kept ≡ take 65 bytes → 64 < length kept → 64 < length bytes
 long_line_cut bytes kept is many = let size = length-take 65 bytes in let same : length kept ≡ length (take 65 bytes) = ap length is in omega (arith, size, same)
 
-pub no_byte : (bytes kept : List ℕ) → kept ≡ take 65 bytes → length kept ≡ 0 → bytes ≡ []
-no_byte [] kept is none = refl
-no_byte (b ∷ bytes) kept is none = let same : length kept ≡ length (take 65 (b ∷ bytes)) = ap length is in let size = length-take 65 (b ∷ bytes) in absurd (omega (arith, same, size, none))
-
 pub some_byte : (bytes kept : List ℕ) → kept ≡ take 65 bytes → (length kept ≡ 0 → ⊥) → 0 < length bytes
 some_byte bytes kept is some = let size = length-take 65 bytes in let same : length kept ≡ length (take 65 bytes) = ap length is in omega (arith, size, same, some)
 

@@ -1,12 +1,10 @@
 -- Outputs that follow each other, lines without a sync, and a server that stops at once.
-use Rattle.std.proofs.Common.{◌≡◌, ◌≢◌, ℕ, suc, ◌+◌, List, [], ◌∷◌, ◌++◌, length, take, refl, ap, sym, ◌∙◌, subst, append_assoc, length-append, arith}
+use Rattle.std.proofs.Common.{◌≡◌, ◌≢◌, ℕ, suc, ◌+◌, List, [], ◌∷◌, ◌++◌, length, take, ap, sym, ◌∙◌, subst, append_assoc, length-append, arith}
 use Rattle.std.proofs.Math.Seq.{take-append_seam}
-use Rattle.std.proofs.lemmas.List.Elements.{All-nil, All-take}
-use Rattle.bl_model.specs.Map.{Map}
-use Rattle.bl_serve_lines.specs.declared.serving.ServeFault.TheVariants.{Memory}
+use Rattle.std.proofs.lemmas.List.Elements.{All-take}
 use Rattle.bl_serve_lines.specs.Text.{numbered}
-use Rattle.bl_serve_lines.specs.Lines.{Line, IsLine, Synced, answer_text, output_of}
-use Rattle.bl_serve_lines.specs.Served.{IsFinished, HasNoSync, HasNoSyncInside, Stops}
+use Rattle.bl_serve_lines.specs.Lines.{Line, Synced, answer_text, output_of}
+use Rattle.bl_serve_lines.specs.Served.{HasNoSync, HasNoSyncInside}
 
 pub output_append : (n : ℕ) (xs ys : List Line) → output_of n (xs ++ ys) ≡ output_of n xs ++ output_of (n + length xs) ys
 output_append n [] ys = ap (λ k. output_of k ys) (let e : n ≡ n + 0 = omega arith in e)
@@ -25,26 +23,3 @@ no_sync_inside lines line h front end e = subst HasNoSync (sym (front_is lines f
 
 pub no_sync_any : (lines : List Line) → HasNoSync lines → HasNoSyncInside lines
 no_sync_any lines h front end e = subst HasNoSync (take-append_seam front (end ∷ [])) (All-take (λ x. x.answer ≢ Synced) (length front) (front ++ end ∷ []) (subst HasNoSync e h))
-
--- no memory for the buffer
-pub stops_at_once : (start : Map) (ReaderFailed WriterFailed : Type 0) → Stops start [] [] Memory ReaderFailed WriterFailed
-stops_at_once start ReaderFailed WriterFailed = (
-  record {
-    sections = [];
-    last = record { lines = []; history = [] };
-    rest = [];
-    ahead = [];
-    begun = [];
-    unwritten = [];
-    each = All-nil IsFinished;
-    whole = record { lines = All-nil IsLine; history = All-nil (λ list. list ≡ []) };
-    open_lines = no_sync_any [] (All-nil (λ line. line.answer ≢ Synced));
-    cut = All-nil (λ b. b ≢ 10);
-    legal = tt;
-    read = refl;
-    open_output = refl;
-    written = refl;
-    leaves = refl;
-  },
-  tt,
-)
