@@ -24,7 +24,7 @@ use Rattle.bl_index.specs.Calls.{first_of, map_after}
 use Rattle.bl_serve.specs.declared.reading.SectionEnd.{SectionEnd}
 use Rattle.bl_serve.specs.declared.reading.SectionEnd.TheVariants as section_end
 use Rattle.bl_serve.specs.Reading.{ReadsLines, AsksSyncLast, EndsReading, IsReadAs, bytes_of}
-use Rattle.bl_serve.specs.Sections.{Held, CountsSection, end_text, rests, syncs}
+use Rattle.bl_serve.specs.Sections.{Held, CountsSection, end_text, rests}
 use Rattle.bl_serve.specs.Serving.{AreTogether, FailsSection, ServesSection, ServedBy, IsInside}
 use Rattle.bl_serve.proofs.Spelled.{lines_with}
 use Rattle.bl_serve.proofs.Advance.{Progress, add_section, serves_end, stops_inside, stops_reading, stops_writing, ends_rest, ends_finished, inside_no_sync, inside_sync_last, input_long}

@@ -1,6 +1,6 @@
 -- Lines that are answered one after another, and batches that follow each other.
 use Rattle.std.proofs.Common.{◌≡◌, ℕ, suc, ◌+◌, ◌<◌, ◌≤◌, List, [], ◌∷◌, ◌++◌, length, take, map, get_or, refl, sym, ap, ◌∙◌, subst, append_assoc, arith, append-nil}
-use Rattle.std.specs.Prelude.{Option, Some, None, flat_map, codes, decimal}
+use Rattle.std.specs.Prelude.{Option, Some, flat_map, codes, decimal}
 use Rattle.std.specs.List.{AllZip}
 use Rattle.std.proofs.lemmas.List.{flat_map_more, take_more, take_all, length-take-le, map-append}
 use Rattle.std.proofs.lemmas.List.Concat.{flat_map-append}
@@ -9,8 +9,8 @@ use Rattle.bl_model.specs.declared.operation.Entry.{Entry}
 use Rattle.bl_model.specs.declared.operation.Op.{Op}
 use Rattle.bl_model.specs.declared.operation.Reply.{Reply}
 use Rattle.bl_serve_lines.specs.declared.request.Request.{Request}
-use Rattle.bl_serve_lines.specs.declared.request.Request.TheVariants.{Ask, Scan, Sync}
-use Rattle.bl_serve_lines.specs.Lines.{Answer, Replied, Scanned, Synced, Malformed, rows_below, entries, answer_text}
+use Rattle.bl_serve_lines.specs.declared.request.Request.TheVariants.{Ask, Scan}
+use Rattle.bl_serve_lines.specs.Lines.{Answer, Replied, Scanned, rows_below, entries, answer_text}
 use Rattle.bl_model.specs.Parts.{rows_of}
 use Rattle.bl_serve_lines.specs.Text.{numbered, reply_text, row_text}
 use Rattle.bl_page.specs.declared.page.Page.{Page}
