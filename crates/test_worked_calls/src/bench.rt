@@ -2,6 +2,7 @@
 
 use crate::answers::{checked, unclosed, unopened};
 use crate::calls::{Call, PassCall, call_of};
+use crate::races::Race;
 use crate::stage::Stage;
 use bl_check::{Quiet, check};
 use bl_index::Config;
@@ -9,6 +10,7 @@ use bl_model::Watched;
 use byteorder::{ByteOrder, LittleEndian};
 use std::alloc::{AllocError, Global};
 use std::sync::Wait;
+use std::thread::Threads;
 use test_worked_lines::{count, said, shown_words};
 
 /// The index that there is, and the image that one left.
@@ -73,7 +75,7 @@ impl Bench {
     }
 
     /// What a line gets.
-    pub fn answer<R: Wait>(
+    pub fn answer<R: Threads + Wait + Sync>(
         &mut self,
         rt: &R,
         alloc: Global,
@@ -94,7 +96,7 @@ impl Bench {
     }
 
     /// What the calls get, one after another.
-    fn answer_all<R: Wait>(
+    fn answer_all<R: Threads + Wait + Sync>(
         &mut self,
         rt: &R,
         alloc: Global,
@@ -112,7 +114,7 @@ impl Bench {
     }
 
     /// What one call gets.
-    fn answer_one<R: Wait>(
+    fn answer_one<R: Threads + Wait + Sync>(
         &mut self,
         rt: &R,
         alloc: Global,
@@ -123,13 +125,14 @@ impl Bench {
     {
         match read_call(alloc, call)? {
             Some(Call::Pass(number, call)) => self.call(rt, alloc, number, call),
+            Some(Call::Race(what)) => self.race(rt, alloc, what),
             Some(call) => self.settle(alloc, call),
             None => said(alloc, "no such call"),
         }
     }
 
     /// What a call of a pass gets.
-    fn call<R: Wait>(
+    fn call<R: Threads + Wait + Sync>(
         &mut self,
         rt: &R,
         alloc: Global,
@@ -141,6 +144,22 @@ impl Bench {
     {
         match &mut self.stage {
             Some(stage) => stage.answer(rt, alloc, number, call),
+            None => said(alloc, "no index"),
+        }
+    }
+
+    /// What the passes get in a race.
+    fn race<R: Threads + Wait + Sync>(
+        &mut self,
+        rt: &R,
+        alloc: Global,
+        what: Race,
+    ) -> Result<Vec<u8>, AllocError>
+        requires { IsFit self.old }
+        ensures { IsFit self.new }
+    {
+        match &mut self.stage {
+            Some(stage) => stage.race(rt, alloc, what),
             None => said(alloc, "no index"),
         }
     }
@@ -159,9 +178,10 @@ impl Bench {
             Call::Close => self.close(alloc, false),
             Call::CloseEarly => self.close(alloc, true),
             Call::Image => self.check(alloc),
+            Call::Rows => self.rows(alloc),
             Call::Page(number) => self.page(alloc, number),
             Call::Reopen(passes) => self.reopen(alloc, passes),
-            Call::Pass(_, _) => said(alloc, "no such call"),
+            Call::Pass(_, _) | Call::Race(_) => said(alloc, "no such call"),
         }
     }
 
@@ -235,6 +255,17 @@ impl Bench {
         };
         let bytes = bytes_of(alloc, quiet)?;
         checked(alloc, bytes.len(), check(alloc, bytes.as_slice()))
+    }
+
+    /// How many rows the checker finds in the bytes of the image.
+    fn rows(&self, alloc: Global) -> Result<Vec<u8>, AllocError> {
+        let Some(quiet) = &self.image else {
+            return said(alloc, "no image");
+        };
+        match check(alloc, bytes_of(alloc, quiet)?.as_slice()) {
+            Ok(report) => count(alloc, u64::from(report.rows)),
+            Err(_) => said(alloc, "not sound"),
+        }
     }
 
     /// The words of a page in the bytes of the image.

@@ -1,5 +1,6 @@
 //! What the words of a line ask for.
 
+use crate::races::Race;
 use bl_index::{Config, Hint, Level};
 
 /// What a line asks for.
@@ -13,9 +14,13 @@ pub enum Call {
     /// A close without the last pass.
     CloseEarly,
     Image,
+    /// How many rows the image has.
+    Rows,
     /// The words of a page of the image.
     Page(usize),
     Reopen(u32),
+    /// Five passes, each in a thread of its own.
+    Race(Race),
 }
 
 /// A call of a pass.
@@ -52,6 +57,18 @@ fn lone_call(word: &str) -> Option<Call> {
         "close" => Some(Call::Close),
         "close-early" => Some(Call::CloseEarly),
         "image" => Some(Call::Image),
+        "rows" => Some(Call::Rows),
+        _ => race_of(word).map(Call::Race),
+    }
+}
+
+/// A race of a single word.
+fn race_of(word: &str) -> Option<Race> {
+    match word {
+        "fill" => Some(Race::Fill),
+        "fill-and-scan" => Some(Race::FillAndScan),
+        "shrink" => Some(Race::Shrink),
+        "clear" => Some(Race::Clear),
         _ => None,
     }
 }

@@ -18,25 +18,29 @@
 //! | `close` | `closed`: the index with all its passes leaves its image |
 //! | `close-early` | the same without the last pass, which must be refused: the index then goes on |
 //! | `image`, `page NUMBER` | how many bytes the image has, and what the checker says of them; the words of a page in it |
+//! | `rows` | how many rows the checker finds in the image |
 //! | `reopen PASSES` | an index that begins with the image, and with so many passes |
+//! | `fill`, `fill-and-scan`, `shrink`, `clear` | a race of the first four passes on keys below 80,000, each in a thread of its own: what they were answered in all, and how many keys the fifth pass finds at the end. They insert each key that is not there (while the fifth pass scans); delete all but each tenth of their keys; delete each key and search for it |
 #![tactic(auto)]
 
 mod answers;
 mod bench;
 mod calls;
+mod races;
 mod stage;
 
 ghost use Rattle.test_worked_calls.specs.Owning.{IsFit};
 
 use bench::Bench;
 use std::sync::Wait;
+use std::thread::Threads;
 
 fn main(rt: HostRuntime) -> anyhow::Result<()> {
     answer_all(&rt, &rt, &mut Bench::new())
 }
 
 /// Prints each line of the input with what it gets. The calls wait by the second handle.
-fn answer_all<W: Wait>(rt: &HostRuntime, waits: &W, bench: &mut Bench) -> anyhow::Result<()>
+fn answer_all<W: Threads + Wait + Sync>(rt: &HostRuntime, waits: &W, bench: &mut Bench) -> anyhow::Result<()>
     requires { IsFit bench.old }
 {
     for line in rt.lines(rt.alloc()) {
@@ -46,7 +50,7 @@ fn answer_all<W: Wait>(rt: &HostRuntime, waits: &W, bench: &mut Bench) -> anyhow
 }
 
 /// Prints a line with what it gets, or alone.
-fn answer<W: Wait>(rt: &HostRuntime, waits: &W, bench: &mut Bench, line: &str) -> anyhow::Result<()>
+fn answer<W: Threads + Wait + Sync>(rt: &HostRuntime, waits: &W, bench: &mut Bench, line: &str) -> anyhow::Result<()>
     requires { IsFit bench.old }
     ensures { IsFit bench.new }
 {

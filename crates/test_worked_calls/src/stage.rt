@@ -4,10 +4,12 @@ ghost use Rattle.bl_index.specs.Calls.{IsPassOf};
 
 use crate::answers::{changed, compressed, found, listed, posted, scanned, yes};
 use crate::calls::PassCall;
+use crate::races::{Race, raced};
 use bl_check::Quiet;
 use bl_index::{CloseFault, Config, Index, OpenFault, Pass};
 use std::alloc::{AllocError, Global};
 use std::sync::Wait;
+use std::thread::Threads;
 use test_worked_lines::{count, said};
 
 /// An index that calls are made of. That the passes are its own is what each call asks for and leaves.
@@ -98,6 +100,19 @@ impl Stage {
         }
         let pass = &mut self.passes[number - 1];
         answer(rt, alloc, &self.index, pass, &mut self.rows, call)
+    }
+
+    /// What the passes get in a race, each in a thread of its own.
+    pub fn race<R: Threads + Wait + Sync>(
+        &mut self,
+        rt: &R,
+        alloc: Global,
+        what: Race,
+    ) -> Result<Vec<u8>, AllocError>
+        requires { IsOwner self.old }
+        ensures { IsOwner self.new }
+    {
+        raced(rt, alloc, &self.index, self.passes.as_mut_slice(), what)
     }
 
     /// The image that the index leaves. Where it is not closed, all comes back.

@@ -1,4 +1,4 @@
-//! Calls by their words.
+//! Calls on values, by their words.
 
 use crate::checks::Draft;
 use crate::maps::{applied, op_of};

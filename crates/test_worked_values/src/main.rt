@@ -1,6 +1,7 @@
-//! Makes the calls that its input names, on pages, on images and on a plain map, and compares what each gives with what the input says. A line is
-//! a call and its answer, with ` = ` between them, as in `row 7 8589934593 0 0 0 7 70 = 70`. Lines without ` = ` are comments.
-//! Pages are given by their words, of which zeros at the end are left out; two pages have ` | ` between them.
+//! Makes the calls that its input names, and compares what each gives with what the input says: on pages, on images and on a plain
+//! map, and behind the line `processes` on processes, each of which runs alone over plain pages. A line is a call and its answer,
+//! with ` = ` between them, as in `row 7 8589934593 0 0 0 7 70 = 70` and `find 5 = begin get 0 get 1 end: absent`. Lines without
+//! ` = ` are comments. Pages are given by their words, of which zeros at the end are left out; two pages have ` | ` between them.
 //!
 //! It prints each line that is answered otherwise, with that answer, and at the end how many were right.
 //!
@@ -25,33 +26,44 @@
 //! | `cut`, `alter` | how many images are refused for their head: beginnings of it, and with one of the first 32 bytes altered in any way |
 //! | `map` | begins a map without rows |
 //! | `find KEY`, `insert KEY VALUE`, `delete KEY`, `part FROM` | what the map replies |
+//! | `processes` | from here on the calls are these |
+//! | `opening` | the pages of an opening tree, of which there are 8, in place of those before |
+//! | `page NUMBER`, `put NUMBER WORDS` | the words of a page, up to the last that is not 0; writes a page |
+//! | `find KEY`, `insert KEY VALUE`, `delete KEY`, `part KEY`, `post LEVEL KEY`, `compress LEVEL KEY` | runs such a process: its events and its answer |
+//! | `wait PROCESS` | starts one of these, which waits |
+//! | `go TURNS` | so many turns of the process that waits, and its answer if it has one |
+//! | `refuse`, `miss` | it is refused what it needs for its next action, or misses its latch |
+//! | `seek KEY`, `seek-on TURNS` | the same of a search that is told of pages by their words |
 #![tactic(auto)]
 
 mod answers;
+mod benches;
 mod calls;
 mod checks;
 mod maps;
 mod pages;
+mod processes;
+mod trees;
 mod ways;
 
-use calls::Bench;
+use benches::Benches;
 use test_worked_lines::{Tally, call_of};
 
 fn main(rt: HostRuntime) -> anyhow::Result<()> {
-    let mut bench = Bench::new(rt.alloc());
+    let mut benches = Benches::new(rt.alloc());
     let mut tally = Tally::new();
     for line in rt.lines(rt.alloc()) {
-        tally = judge(&rt, &mut bench, tally, line?.as_str())?;
+        tally = judge(&rt, &mut benches, tally, line?.as_str())?;
     }
     sum_up(&rt, tally)
 }
 
 /// The tally with this line. An answer that is another than the line's is printed.
-fn judge(rt: &HostRuntime, bench: &mut Bench, tally: Tally, line: &str) -> anyhow::Result<Tally> {
+fn judge(rt: &HostRuntime, benches: &mut Benches, tally: Tally, line: &str) -> anyhow::Result<Tally> {
     let Some((call, wanted)) = call_of(line) else {
         return Ok(tally);
     };
-    let found = bench.answer(rt.alloc(), call)?;
+    let found = benches.answer(rt.alloc(), call)?;
     let is_right = found.as_slice() == wanted.as_bytes();
     if !is_right {
         show(rt, call, found.as_slice(), wanted)?;

@@ -1,5 +1,5 @@
 use Rattle.bl_index.specs.Calls.{IsPassOf}
-use Rattle.test_index_race.proofs.scan.Given as goal
+use Rattle.test_worked_calls.proofs.races.scan.Given as goal
 
 abbrev pub invariant-loop-scan : goal.invariant-loop-scan
 invariant-loop-scan l = IsPassOf l.index l.pass

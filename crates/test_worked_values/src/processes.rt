@@ -1,4 +1,4 @@
-//! Calls by their words.
+//! Calls on processes, by their words.
 
 use crate::trees::{Tree, miss, refuse};
 use bl_proc::{Find, Proc};

@@ -1,20 +1,17 @@
-//! Four threads with a pass each share an index. They insert keys of their own, and each key is found. Then each deletes nine
-//! tenths of its keys, follows the hints that deletions and compressions give, so that pages are merged and evened out under
-//! the searches of the others, and finds the keys that it has kept. Then they insert the deleted keys again, while a fifth
-//! thread scans the whole map again and again: the keys rise, and the kept ones are all there. The index is closed, its image
-//! checked, and an index opened from it, in which each key is found. At last all four delete each key and search for it, and
-//! their replies are counted against what any order allows. What it prints is the same whatever the schedule.
+//! Four threads with a pass each share an index. They insert keys of their own; they delete nine tenths of them, follow the hints
+//! that deletions and compressions give, so that pages are merged and evened out under the searches of the others, and find the
+//! keys that they keep; they insert the deleted keys again, while a fifth thread scans the whole map again and again: the keys
+//! rise, and the kept ones are all there; or all four delete each key and search for it, and their replies are counted against
+//! what any order allows. What is counted is the same whatever the schedule.
 //!
 //! No order can answer otherwise, by the contracts of the calls: the run shows that the compiled code keeps them.
-#![tactic(auto)]
 
-ghost use Rattle.std.specs.Prelude.{◌≡◌, All, length, IfOk, IfSome};
+ghost use Rattle.std.specs.Prelude.{All};
 ghost use Rattle.bl_index.specs.Calls.{IsPassOf};
 
-use bl_check::{check, load};
-use bl_index::{Config, Index, KeyReply, Pass};
-use bl_model::Watched;
+use bl_index::{Index, KeyReply, Pass};
 use bl_proc::{Hint, Squeezed};
+use bl_serve_lines::print::push_number;
 use std::alloc::{AllocError, Global};
 use std::sync::Wait;
 use std::sync::atomic::{AtomicU64, Ordering};
@@ -36,7 +33,7 @@ const SCANS: u32 = 30;
 /// How many levels a tree may have: a split or a merge is followed by at most one on each.
 const LEVELS: u32 = 12;
 
-/// What the threads have been answered.
+/// What the threads have been answered so far.
 #[derive(Drop)]
 struct Counts {
     inserted: AtomicU64,
@@ -46,6 +43,19 @@ struct Counts {
     scanned: AtomicU64,
     // Replies that no order allows.
     wrong: AtomicU64,
+}
+
+impl Counts {
+    fn none() -> Counts {
+        Counts {
+            inserted: AtomicU64::new(0),
+            deleted: AtomicU64::new(0),
+            absent: AtomicU64::new(0),
+            merged: AtomicU64::new(0),
+            scanned: AtomicU64::new(0),
+            wrong: AtomicU64::new(0),
+        }
+    }
 }
 
 fn count(counter: &AtomicU64) {
@@ -209,21 +219,23 @@ fn found<R: Wait>(rt: &R, index: &Index, pass: &mut Pass) -> u64
     found.load(Ordering::SeqCst)
 }
 
-// What the threads do.
+/// What the threads do.
 #[derive(Clone, Copy)]
-enum Work {
+pub enum Race {
     Fill,
+    /// The same, while the fifth pass scans.
+    FillAndScan,
     Shrink,
     Clear,
 }
 
-// Each pass works in a thread of its own. The fifth, where it is there, scans.
+// The first four passes work, each in a thread of its own, and the fifth one scans where it is asked to.
 fn race<R: Threads + Wait + Sync>(
     rt: &R,
     alloc: Global,
     index: &Index,
     passes: &mut [Pass],
-    work: Work,
+    race: Race,
     counts: &Counts,
 )
     requires { All (IsPassOf index.now) passes.old }
@@ -234,131 +246,56 @@ fn race<R: Threads + Wait + Sync>(
         passes,
         5,
         &|place, pass| {
-            match work {
-                _ if place == 4 => scan(alloc, index, pass, counts),
-                Work::Fill => fill(rt, index, pass, place, counts),
-                Work::Shrink => shrink(rt, index, pass, place, counts),
-                Work::Clear => clear(rt, index, pass, counts),
+            match race {
+                Race::FillAndScan if place == 4 => scan(alloc, index, pass, counts),
+                _ if place >= 4 => {}
+                Race::Fill | Race::FillAndScan => fill(rt, index, pass, place, counts),
+                Race::Shrink => shrink(rt, index, pass, place, counts),
+                Race::Clear => clear(rt, index, pass, counts),
             }
         },
     );
 }
 
-// An index with a pass for each thread, and one more.
-fn opened(alloc: Global) -> Option<(Index, Vec<Pass>, Pass)>
-    ensures { IfSome result (λ t. All (IsPassOf t.0) t.1.items × IsPassOf t.0 t.2) }
-{
-    let config = Config {
-        pages: 65_536,
-        passes: 5,
-    };
-    match Index::open(alloc, config) {
-        Ok((index, mut passes)) => {
-            let last = passes.pop()?;
-            Some((index, passes, last))
-        }
-        Err(_) => None,
+// Appends a count, if there is any.
+fn push_count(text: &mut Vec<u8>, name: &[u8], counter: &AtomicU64) -> Result<(), AllocError> {
+    match counter.load(Ordering::SeqCst) {
+        0 => Ok(()),
+        many => push_number(text, name, many),
     }
 }
 
-// The passes with one more behind them.
-fn together(index: &Index, passes: Vec<Pass>, last: Pass) -> Result<Vec<Pass>, AllocError>
-    requires passes { All (IsPassOf index.now) passes.items }
-    requires last { IsPassOf index.now last }
-    ensures { IfOk result (λ all. All (IsPassOf index.now) all.items) }
-{
-    let mut all = passes;
-    all.push(last)?;
-    Ok(all)
-}
-
-// How many rows the checker finds in the image of the index, and an index that is opened from it.
-fn reopened(alloc: Global, index: Index, passes: Vec<Pass>) -> Option<(u32, Index, Vec<Pass>, Pass)>
-    requires { All (IsPassOf index) passes.items }
-    ensures { IfSome result (λ t. All (IsPassOf t.1) t.2.items × IsPassOf t.1 t.3) }
-{
-    let quiet = index.close(alloc, passes).ok()?;
-    let mut image = Watched::new(Vec::new(alloc));
-    quiet.image().write(&mut image).ok()?;
-    let bytes = image.into_inner();
-    let rows = check(alloc, bytes.as_slice()).ok()?.rows;
-    let quiet = load(alloc, bytes.as_slice()).ok()?;
-    match Index::open_image(alloc, quiet, 5) {
-        Ok((index, mut passes)) => {
-            let last = passes.pop()?;
-            Some((rows, index, passes, last))
-        }
-        Err(_) => None,
+// What was counted, in words.
+fn told(alloc: Global, counts: &Counts) -> Result<Vec<u8>, AllocError> {
+    let mut text = Vec::new(alloc);
+    push_count(&mut text, b"inserted ", &counts.inserted)?;
+    push_count(&mut text, b"deleted ", &counts.deleted)?;
+    push_count(&mut text, b" absent ", &counts.absent)?;
+    push_count(&mut text, b" scanned ", &counts.scanned)?;
+    push_count(&mut text, b" wrong ", &counts.wrong)?;
+    if counts.merged.load(Ordering::SeqCst) > 0 {
+        text.extend_from_slice(b" merged some")?;
     }
+    Ok(text)
 }
 
-fn main(rt: HostRuntime) -> anyhow::Result<()> {
-    let Some((index, mut passes, mut last)) = opened(rt.alloc()) else {
-        eprintln!(&rt; "out of memory")?;
-        return Ok(());
-    };
-    let counts = Counts {
-        inserted: AtomicU64::new(0),
-        deleted: AtomicU64::new(0),
-        absent: AtomicU64::new(0),
-        merged: AtomicU64::new(0),
-        scanned: AtomicU64::new(0),
-        wrong: AtomicU64::new(0),
-    };
-    race(
-        &rt,
-        rt.alloc(),
-        &index,
-        passes.as_mut_slice(),
-        Work::Fill,
-        &counts,
-    );
-    let inserted = counts.inserted.load(Ordering::SeqCst);
-    let there = found(&rt, &index, &mut last);
-    println!(rt; "inserted {inserted}, found {there}")?;
-    race(
-        &rt,
-        rt.alloc(),
-        &index,
-        passes.as_mut_slice(),
-        Work::Shrink,
-        &counts,
-    );
-    let deleted = counts.deleted.load(Ordering::SeqCst);
-    let some = counts.merged.load(Ordering::SeqCst) > 0;
-    let kept = found(&rt, &index, &mut last);
-    println!(rt; "deleted {deleted}, merged {some}, found {kept}")?;
-    let mut passes = together(&index, passes, last)?;
-    race(
-        &rt,
-        rt.alloc(),
-        &index,
-        passes.as_mut_slice(),
-        Work::Fill,
-        &counts,
-    );
-    let inserted = counts.inserted.load(Ordering::SeqCst);
-    let scanned = counts.scanned.load(Ordering::SeqCst);
-    println!(rt; "inserted {inserted}, scanned {scanned}")?;
-    let Some((rows, index, mut passes, mut last)) = reopened(rt.alloc(), index, passes) else {
-        eprintln!(&rt; "no index from the image")?;
-        return Ok(());
-    };
-    let there = found(&rt, &index, &mut last);
-    println!(rt; "rows of the image {rows}, found {there}")?;
-    race(
-        &rt,
-        rt.alloc(),
-        &index,
-        passes.as_mut_slice(),
-        Work::Clear,
-        &counts,
-    );
-    let deleted = counts.deleted.load(Ordering::SeqCst);
-    let absent = counts.absent.load(Ordering::SeqCst);
-    let left = found(&rt, &index, &mut last);
-    println!(rt; "deleted {deleted}, absent {absent}, found {left}")?;
-    let wrong = counts.wrong.load(Ordering::SeqCst);
-    println!(rt; "wrong {wrong}")?;
-    Ok(())
+/// What the threads were answered in a race, and how many keys the fifth pass finds after that.
+pub fn raced<R: Threads + Wait + Sync>(
+    rt: &R,
+    alloc: Global,
+    index: &Index,
+    passes: &mut [Pass],
+    what: Race,
+) -> Result<Vec<u8>, AllocError>
+    requires { All (IsPassOf index.now) passes.old }
+    ensures { All (IsPassOf index.now) passes.new }
+{
+    let counts = Counts::none();
+    race(rt, alloc, index, passes, what, &counts);
+    let mut text = told(alloc, &counts)?;
+    if passes.len() > 4 {
+        let there = found(rt, index, &mut passes[4]);
+        push_number(&mut text, b" found ", there)?;
+    }
+    Ok(text)
 }
