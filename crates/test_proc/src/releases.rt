@@ -1,4 +1,4 @@
-//! Processes that release a page, told what they see. All others run in `test_worked_turns`, event by event.
+//! Processes that release a page, told what they see. All others run in `test_worked_values`, event by event.
 
 use bl_proc::{Action, Answer, Proc, Process, Reclaim, Reclaimed, Seen};
 

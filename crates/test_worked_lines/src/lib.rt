@@ -1,5 +1,5 @@
 //! For programs that make the calls that their input names: lines with a call and its answer, and answers in words. For
-//! `test_worked_values`, `test_worked_turns` and `test_worked_calls`.
+//! `test_worked_values` and `test_worked_calls`.
 #![tactic(auto)]
 
 mod answers;
