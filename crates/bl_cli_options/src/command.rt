@@ -33,42 +33,78 @@ pub enum Invocation {
     Nothing,
 }
 
-/// The command with the options of a server.
-fn with_options<'a>(alloc: Global, command: Command<'a>) -> Result<Command<'a>, Error> {
-    let pages = Arg::new(alloc, "pages")
+/// How many pages there are.
+fn pages_option<'a>(alloc: Global) -> Arg<'a> {
+    Arg::new(alloc, "pages")
         .long("pages")
         .value_name("N")
         .help("Pages of the index, 4 to 65536")
         .value_parser(value_parser!(u32).range(4..=65536))
-        .default_value("1024");
-    let workers = Arg::new(alloc, "workers")
+        .default_value("1024")
+}
+
+/// How many workers there are.
+fn workers_option<'a>(alloc: Global) -> Arg<'a> {
+    Arg::new(alloc, "workers")
         .long("workers")
         .value_name("N")
         .help("Threads that answer requests, 1 to 32")
         .value_parser(value_parser!(u32).range(1..=32))
-        .default_value("4");
-    let compressors = Arg::new(alloc, "compressors")
+        .default_value("4")
+}
+
+/// How many compressors there are.
+fn compressors_option<'a>(alloc: Global) -> Arg<'a> {
+    Arg::new(alloc, "compressors")
         .long("compressors")
         .value_name("N")
         .help("Threads that merge thin pages, 0 to 16")
         .value_parser(value_parser!(u32).range(0..=16))
-        .default_value("1");
-    let image = Arg::new(alloc, "image")
+        .default_value("1")
+}
+
+/// What the index begins with.
+fn image_option<'a>(alloc: Global) -> Result<Arg<'a>, AllocError> {
+    Arg::new(alloc, "image")
         .long("image")
         .value_name("FILE")
         .help("Begin with the rows and the pages of this image, in place of an empty index")
-        .conflicts_with("pages")?;
-    Ok(
-        command
-            .arg(pages)?
-            .arg(workers)?
-            .arg(compressors)?
-            .arg(image)?,
-    )
+        .conflicts_with("pages")
+}
+
+/// The command with the first options of a server.
+fn with_pages_and_workers<'a>(
+    alloc: Global,
+    command: Command<'a>,
+) -> Result<Command<'a>, AllocError> {
+    command.arg(pages_option(alloc))?.arg(workers_option(alloc))
+}
+
+/// The command with the other options of a server.
+fn with_compressors_and_image<'a>(
+    alloc: Global,
+    command: Command<'a>,
+) -> Result<Command<'a>, AllocError> {
+    let image = image_option(alloc)?;
+    command.arg(compressors_option(alloc))?.arg(image)
+}
+
+/// The command with the options of a server, in the order in which help lists them.
+fn with_options<'a>(alloc: Global, command: Command<'a>) -> Result<Command<'a>, AllocError> {
+    let command = with_pages_and_workers(alloc, command)?;
+    with_compressors_and_image(alloc, command)
+}
+
+/// The file that a command is about.
+fn file_argument<'a>(alloc: Global, help: &'a str) -> Arg<'a> {
+    Arg::new(alloc, "FILE")
+        .required(true)
+        .action(ArgAction::Set)
+        .help(help)
 }
 
 /// The command line of `serve`.
-fn serve_command<'a>(alloc: Global) -> Result<Command<'a>, Error> {
+fn serve_command<'a>(alloc: Global) -> Result<Command<'a>, AllocError> {
     let command = Command::new(alloc, "serve")
         .about("Answers request lines from standard input")
         .after_help(ABOUT_SERVE);
@@ -76,11 +112,11 @@ fn serve_command<'a>(alloc: Global) -> Result<Command<'a>, Error> {
 }
 
 /// The command line of `dump`.
-fn dump_command<'a>(alloc: Global) -> Result<Command<'a>, Error> {
-    let file = Arg::new(alloc, "FILE")
-        .required(true)
-        .action(ArgAction::Set)
-        .help("Where the image is to stand; what stands there is replaced");
+fn dump_command<'a>(alloc: Global) -> Result<Command<'a>, AllocError> {
+    let file = file_argument(
+        alloc,
+        "Where the image is to stand; what stands there is replaced",
+    );
     let command = Command::new(alloc, "dump")
         .about("Answers as serve does, and then writes the image of the index to a file")
         .after_help(ABOUT_DUMP)
@@ -106,31 +142,71 @@ fn server_of(alloc: Global, found: &ArgMatches) -> Result<Server, AllocError>
 }
 
 /// The command line of `check`.
-fn check_command<'a>(alloc: Global) -> Result<Command<'a>, Error> {
-    let file = Arg::new(alloc, "FILE")
-        .required(true)
-        .action(ArgAction::Set)
-        .help("The image to check");
-    Ok(
-        Command::new(alloc, "check")
-            .about("Checks whether an image is a sound tree")
-            .after_help(ABOUT_CHECK)
-            .arg(file)?,
-    )
+fn check_command<'a>(alloc: Global) -> Result<Command<'a>, AllocError> {
+    Command::new(alloc, "check")
+        .about("Checks whether an image is a sound tree")
+        .after_help(ABOUT_CHECK)
+        .arg(file_argument(alloc, "The image to check"))
 }
 
 /// The command line of `replay`.
-fn replay_command<'a>(alloc: Global) -> Result<Command<'a>, Error> {
-    let file = Arg::new(alloc, "FILE")
-        .required(true)
-        .action(ArgAction::Set)
-        .help("The script to carry out");
-    Ok(
-        Command::new(alloc, "replay")
-            .about("Carries out a script of processes and turns, and prints each event")
-            .after_help(ABOUT_REPLAY)
-            .arg(file)?,
-    )
+fn replay_command<'a>(alloc: Global) -> Result<Command<'a>, AllocError> {
+    Command::new(alloc, "replay")
+        .about("Carries out a script of processes and turns, and prints each event")
+        .after_help(ABOUT_REPLAY)
+        .arg(file_argument(alloc, "The script to carry out"))
+}
+
+/// The command line of `blink` with one command more.
+fn with_command<'a>(
+    blink: Command<'a>,
+    command: Result<Command<'a>, AllocError>,
+) -> Result<Command<'a>, AllocError> {
+    blink.subcommand(command?)
+}
+
+/// The command line of `blink` with the commands that serve.
+fn with_servers<'a>(alloc: Global, blink: Command<'a>) -> Result<Command<'a>, AllocError> {
+    let blink = with_command(blink, serve_command(alloc))?;
+    with_command(blink, dump_command(alloc))
+}
+
+/// The command line of `blink`.
+fn blink_command<'a>(alloc: Global) -> Result<Command<'a>, AllocError> {
+    let blink = Command::new(alloc, "blink")
+        .about("A concurrent ordered index from u64 keys to u64 values, proved")
+        .version(VERSION)
+        .after_help(ABOUT_ALL)
+        .subcommand_required(true);
+    let blink = with_servers(alloc, blink)?;
+    let blink = with_command(blink, check_command(alloc))?;
+    with_command(blink, replay_command(alloc))
+}
+
+/// The file that clap has found.
+fn file_of(alloc: Global, found: &ArgMatches) -> Result<Option<String>, AllocError> {
+    match found.get_str("FILE") {
+        Some(file) => Ok(Some(String::from_str(alloc, file)?)),
+        None => Ok(None),
+    }
+}
+
+/// What a command of this name asks for, with what clap has found of it.
+fn invocation_of(alloc: Global, name: &str, found: &ArgMatches) -> Result<Invocation, AllocError>
+    ensures { IfOk result IsWithinLimits }
+{
+    if name == "serve" {
+        return Ok(Invocation::Serve(server_of(alloc, found)?));
+    }
+    let Some(file) = file_of(alloc, found)? else {
+        return Ok(Invocation::Nothing);
+    };
+    match name {
+        "dump" => Ok(Invocation::Dump(server_of(alloc, found)?, file)),
+        "check" => Ok(Invocation::Check(file)),
+        "replay" => Ok(Invocation::Replay(file)),
+        _ => Ok(Invocation::Nothing),
+    }
 }
 
 /// Reads the words of the command line, of which the first is the program's name. What clap refuses, or asks to be
@@ -138,33 +214,9 @@ fn replay_command<'a>(alloc: Global) -> Result<Command<'a>, Error> {
 pub fn read_words(alloc: Global, words: &[String]) -> Result<Invocation, Error>
     ensures { IfOk result IsWithinLimits }
 {
-    let blink = Command::new(alloc, "blink")
-        .about("A concurrent ordered index from u64 keys to u64 values, proved")
-        .version(VERSION)
-        .after_help(ABOUT_ALL)
-        .subcommand_required(true)
-        .subcommand(serve_command(alloc)?)?
-        .subcommand(dump_command(alloc)?)?
-        .subcommand(check_command(alloc)?)?
-        .subcommand(replay_command(alloc)?)?;
-    let matches = blink.try_get_matches_from(words)?;
+    let matches = blink_command(alloc)?.try_get_matches_from(words)?;
     match matches.subcommand() {
-        Some(("serve", found)) => Ok(Invocation::Serve(server_of(alloc, found)?)),
-        Some(("dump", found)) => match found.get_str("FILE") {
-            Some(file) => Ok(Invocation::Dump(
-                server_of(alloc, found)?,
-                String::from_str(alloc, file)?,
-            )),
-            None => Ok(Invocation::Nothing),
-        },
-        Some(("check", found)) => match found.get_str("FILE") {
-            Some(file) => Ok(Invocation::Check(String::from_str(alloc, file)?)),
-            None => Ok(Invocation::Nothing),
-        },
-        Some(("replay", found)) => match found.get_str("FILE") {
-            Some(file) => Ok(Invocation::Replay(String::from_str(alloc, file)?)),
-            None => Ok(Invocation::Nothing),
-        },
-        _ => Ok(Invocation::Nothing),
+        Some((name, found)) => Ok(invocation_of(alloc, name, found)?),
+        None => Ok(Invocation::Nothing),
     }
 }

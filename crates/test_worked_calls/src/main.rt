@@ -40,7 +40,11 @@ fn main(rt: HostRuntime) -> anyhow::Result<()> {
 }
 
 /// Prints each line of the input with what it gets. The calls wait by the second handle.
-fn answer_all<W: Threads + Wait + Sync>(rt: &HostRuntime, waits: &W, bench: &mut Bench) -> anyhow::Result<()>
+fn answer_all<W: Threads + Wait + Sync>(
+    rt: &HostRuntime,
+    waits: &W,
+    bench: &mut Bench,
+) -> anyhow::Result<()>
     requires { IsFit bench.old }
 {
     for line in rt.lines(rt.alloc()) {
@@ -50,7 +54,12 @@ fn answer_all<W: Threads + Wait + Sync>(rt: &HostRuntime, waits: &W, bench: &mut
 }
 
 /// Prints a line with what it gets, or alone.
-fn answer<W: Threads + Wait + Sync>(rt: &HostRuntime, waits: &W, bench: &mut Bench, line: &str) -> anyhow::Result<()>
+fn answer<W: Threads + Wait + Sync>(
+    rt: &HostRuntime,
+    waits: &W,
+    bench: &mut Bench,
+    line: &str,
+) -> anyhow::Result<()>
     requires { IsFit bench.old }
     ensures { IsFit bench.new }
 {

@@ -230,7 +230,7 @@ pub enum Race {
 }
 
 // The first four passes work, each in a thread of its own, and the fifth one scans where it is asked to.
-fn race<R: Threads + Wait + Sync>(
+fn work<R: Threads + Wait + Sync>(
     rt: &R,
     alloc: Global,
     index: &Index,
@@ -291,7 +291,7 @@ pub fn raced<R: Threads + Wait + Sync>(
     ensures { All (IsPassOf index.now) passes.new }
 {
     let counts = Counts::none();
-    race(rt, alloc, index, passes, what, &counts);
+    work(rt, alloc, index, passes, what, &counts);
     let mut text = told(alloc, &counts)?;
     if passes.len() > 4 {
         let there = found(rt, index, &mut passes[4]);

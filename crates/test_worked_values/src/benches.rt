@@ -1,7 +1,6 @@
 //! The calls on values, and behind a line of their own those on processes.
 
-use crate::calls;
-use crate::processes;
+use crate::{calls, processes};
 use std::alloc::{AllocError, Global};
 use test_worked_lines::said;
 

@@ -59,7 +59,12 @@ fn main(rt: HostRuntime) -> anyhow::Result<()> {
 }
 
 /// The tally with this line. An answer that is another than the line's is printed.
-fn judge(rt: &HostRuntime, benches: &mut Benches, tally: Tally, line: &str) -> anyhow::Result<Tally> {
+fn judge(
+    rt: &HostRuntime,
+    benches: &mut Benches,
+    tally: Tally,
+    line: &str,
+) -> anyhow::Result<Tally> {
     let Some((call, wanted)) = call_of(line) else {
         return Ok(tally);
     };
