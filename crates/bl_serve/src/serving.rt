@@ -45,21 +45,29 @@ fn count(totals: &mut Totals, lines: &Asked, end: SectionEnd)
     }
 }
 
-/// So many lines of a section are read before they are answered. While they are, the next ones are read.
-const ROUND: u64 = 12_288;
+/// So many lines of a section are read before any is answered: nobody else works meanwhile.
+const FIRST_ROUND: u64 = 4_096;
 
-/// How many lines are read next, behind so many others.
-fn most_behind(requests: u64) -> u64
-    ensures { result ≡ min ROUND (2 ^ 64 - 1 - requests) }
-{
-    ROUND.min(u64::MAX - requests)
+/// While lines are answered, twice as many are read, and so many at most.
+const LONGEST_ROUND: u64 = 24_576;
+
+/// How many lines are read behind a round of so many.
+fn round_behind(round: u64) -> u64 {
+    round.saturating_mul(2).min(LONGEST_ROUND)
 }
 
-/// Whether a section may go on behind lines that were read together, so many and with that end.
-fn goes_on(end: SectionEnd, count: usize) -> bool
-    ensures { IsTrue result ↔ ((end ≡ SectionEnd.Finished) × (ROUND ≤ count)) }
+/// How many lines are read next, behind so many others, for a round of so many.
+fn most_behind(requests: u64, round: u64) -> u64
+    ensures { result ≡ min round (2 ^ 64 - 1 - requests) }
 {
-    end == SectionEnd::Finished && ROUND <= count as u64
+    round.min(u64::MAX - requests)
+}
+
+/// Whether a section may go on behind lines that were read together for a round of so many, with that end.
+fn goes_on(end: SectionEnd, count: usize, round: u64) -> bool
+    ensures { IsTrue result ↔ ((end ≡ SectionEnd.Finished) × (round ≤ count)) }
+{
+    end == SectionEnd::Finished && round <= count as u64
 }
 
 /// Answers lines that were read together, counts them, and reads on meanwhile. Bytes after the last LF are a malformed line. The output
@@ -150,14 +158,16 @@ fn serve_section<T: Threads + Wait + Sync, R: Read, G: Gate + Sync>(
 {
     let mut passes = passes;
     text.clear();
-    ahead.most = most_behind(totals.requests);
+    let mut round = FIRST_ROUND;
+    ahead.most = most_behind(totals.requests, round);
     read_on(reader, ahead);
     for _ in rt.forever() {
         let end = ahead.end?;
         mem::swap(lines, &mut ahead.lines);
-        let open = goes_on(end, lines.len());
+        let open = goes_on(end, lines.len(), round);
+        round = round_behind(round);
         ahead.most = if open {
-            most_behind(totals.requests + lines.len() as u64)
+            most_behind(totals.requests + lines.len() as u64, round)
         } else {
             0
         };

@@ -7,10 +7,11 @@ use Rattle.bl_layout.specs.declared.layout.Layout.{Layout}
 use Rattle.bl_layout.specs.Words.{frame_count}
 use Rattle.bl_store.specs.Told.{draft}
 use Rattle.bl_store.specs.Drafts.{first_words, behind_first, IsSpread}
-use Rattle.bl_store.specs.Hands.{drafts, IsStockOf}
+use Rattle.bl_store.specs.Hands.{drafts, BeginsAt, IsStockOf}
 use Rattle.bl_store.specs.declared.put.Spread.{Spread}
 use Rattle.bl_store.specs.declared.stock.Stock.{Stock}
 use Rattle.bl_store.specs.declared.view.Draft.{Draft}
+use Rattle.bl_store.specs.declared.view.Reading.{Reading}
 use Rattle.bl_store.specs.declared.view.View.{View}
 
 -- the frame that is written, by its words
@@ -61,3 +62,7 @@ module _ {D : Type 0} where
     few = omega arith;
     within = λ k low. subst (λ (z : List ℕ × Layout). get_or z.0 k 0 < frame_count z.1) (λ i. (sym frames i, sym layout i)) (was.within k (omega arith));
   }
+
+-- a look that stood still stands
+pub still_reads : (l l' : Layout) (r r' : Reading) (first : ℕ) → l' ≡ l → r' ≡ r → BeginsAt l first r → BeginsAt l' first r'
+still_reads l l' r r' first layout reading = subst (λ (z : Layout × Reading). BeginsAt z.0 first z.1) (λ i. (sym layout i, sym reading i))

@@ -168,8 +168,8 @@ fn two_rounds(alloc: Global) -> Result<Vec<u8>, Fail> {
     let mut input = Vec::new(alloc);
     for (lines, times) in [
         (b"insert 7 70\n".as_slice(), 1),
-        (b"find 8\n".as_slice(), 12_287),
-        (b"find 7\n".as_slice(), 12_287),
+        (b"find 8\n".as_slice(), 4_095),
+        (b"find 7\n".as_slice(), 8_191),
         (b"sync\nfind 7\n".as_slice(), 1),
     ] {
         repeat(&mut input, lines, times)?;
@@ -183,7 +183,7 @@ fn seen_in(text: &[u8]) -> (bool, usize, usize, bool) {
         text.starts_with(b"1 inserted\n2 absent\n"),
         ending(text, b"absent"),
         ending(text, b"found 70"),
-        text.ends_with(b"24575 found 70\n24576 synced\n24577 found 70\n"),
+        text.ends_with(b"12287 found 70\n12288 synced\n12289 found 70\n"),
     )
 }
 
@@ -202,13 +202,13 @@ fn seen_by<R: Threads + Wait + Sync>(
     }
 }
 
-// A section is answered in rounds of 12,288 lines: this one fills two, the second with its sync.
+// The first round of a section has 4,096 lines and the second one twice as many: this section fills both, the second with its sync.
 #[test]
 fn a_section_of_two_rounds(rt: HostRuntime) -> Result<(), Fail> {
     let input = two_rounds(rt.alloc())?;
     for workers in 1..4 {
         let seen = seen_by(&rt, rt.alloc(), input.as_slice(), workers);
-        assert_eq!(rt; seen, Some(((true, 12_287, 12_288, true), 24_577, 1)));
+        assert_eq!(rt; seen, Some(((true, 4_095, 8_192, true), 12_289, 1)));
     }
     Ok(())
 }

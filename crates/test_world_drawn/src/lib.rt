@@ -7,8 +7,16 @@
 #![tactic(auto)]
 
 #[cfg(test)]
+mod crew;
+#[cfg(test)]
+mod draws;
+#[cfg(test)]
 mod model;
+#[cfg(test)]
+mod owners;
 #[cfg(test)]
 mod tally;
 #[cfg(test)]
 mod trial;
+#[cfg(test)]
+mod twins;

@@ -7,6 +7,7 @@ use crate::trees::Tree;
 use bl_model::Reply;
 use bl_proc::{Answer, Hint, Posted, Reclaimed, Squeezed};
 use bl_world::{Act, Owner, Turn};
+use std::alloc::Global;
 
 /// What a process is to do.
 #[derive(Clone, Copy)]
@@ -54,43 +55,60 @@ pub struct Running {
     pub right: Vec<Answer>,
 }
 
+/// What is right of an operation on a key with that value, if it changes nothing.
+fn reply_in(job: Job, value: Option<u64>) -> Option<Reply> {
+    match (job, value) {
+        (Job::Find(_), Some(value)) => Some(Reply::Found(value)),
+        (Job::Find(_) | Job::Delete(_), None) => Some(Reply::Absent),
+        (Job::Insert(_, _), Some(value)) => Some(Reply::Present(value)),
+        _ => None,
+    }
+}
+
+/// What is right of a post in this tree, if it changes nothing.
+fn posted_in(tree: &Tree, level: usize, key: u64) -> Option<Posted> {
+    if tree.lists(level, key) {
+        Some(Posted::Already)
+    } else if tree.has_low(level.wrapping_sub(1), key) {
+        None
+    } else {
+        Some(Posted::Stale)
+    }
+}
+
+/// Adds what are right answers of a part in this tree.
+fn rights_of_part(tree: &Tree, from: u64, right: &mut Vec<Answer>) -> Result<(), Law> {
+    for live in tree.live.as_slice() {
+        if live.level == 0 && live.covers(from) {
+            add(right, Answer::Op(tree.part_from(from, live), None))?;
+        }
+    }
+    Ok(())
+}
+
 /// Adds what are right answers in this tree, of a process that changes nothing.
 fn rights_in(tree: &Tree, job: Job, right: &mut Vec<Answer>) -> Result<(), Law> {
     match job {
-        Job::Find(key) => match tree.value_at(key) {
-            Some(value) => add(right, Answer::Op(Reply::Found(value), None)),
-            None => add(right, Answer::Op(Reply::Absent, None)),
-        },
-        Job::Insert(key, _) => match tree.value_at(key) {
-            Some(value) => add(right, Answer::Op(Reply::Present(value), None)),
-            None => Ok(()),
-        },
-        Job::Delete(key) => match tree.value_at(key) {
-            Some(_) => Ok(()),
-            None => add(right, Answer::Op(Reply::Absent, None)),
-        },
-        Job::Part(from) => {
-            for live in tree.live.as_slice() {
-                if live.level == 0 && live.covers(from) {
-                    add(right, Answer::Op(tree.part_from(from, live), None))?;
-                }
+        Job::Find(key) | Job::Insert(key, _) | Job::Delete(key) => {
+            match reply_in(job, tree.value_at(key)) {
+                Some(reply) => add(right, Answer::Op(reply, None)),
+                None => Ok(()),
             }
-            Ok(())
         }
+        Job::Part(from) => rights_of_part(tree, from, right),
         // it looks at owners, not at the tree
         Job::Reclaim(_) => Ok(()),
         Job::Compress(level, key) => rights_of(tree, level, key, right),
-        Job::Post(level, key) => {
-            let level = level as usize;
-            if tree.lists(level, key) {
-                add(right, Answer::Post(Posted::Already, None))
-            } else if tree.has_low(level.wrapping_sub(1), key) {
-                Ok(())
-            } else {
-                add(right, Answer::Post(Posted::Stale, None))
-            }
-        }
+        Job::Post(level, key) => match posted_in(tree, level as usize, key) {
+            Some(posted) => add(right, Answer::Post(posted, None)),
+            None => Ok(()),
+        },
     }
+}
+
+/// Whether the answer at that place is that before it.
+fn repeats(answers: &[Answer], place: usize) -> bool {
+    place > 0 && answers.get(place) == answers.get(place.wrapping_sub(1))
 }
 
 /// The answer, of an operation or a post without its hint.
@@ -133,6 +151,29 @@ fn is_retired(owner: Option<Owner>) -> bool {
 }
 
 impl Running {
+    /// A process that has that number and is to begin.
+    pub fn new(alloc: Global, number: usize, job: Job) -> Running {
+        Running {
+            number,
+            job,
+            begun: None,
+            refused: false,
+            own: None,
+            thin: None,
+            parted: None,
+            squeeze: None,
+            evens: false,
+            retired: false,
+            saw: None,
+            started: 0,
+            looks: 0,
+            blocked: false,
+            missed: false,
+            released: false,
+            right: Vec::new(alloc),
+        }
+    }
+
     /// Adds what is a right answer now.
     pub fn look(&mut self, tree: &Tree) -> Result<(), Law> {
         if self.begun.is_none() {
@@ -141,11 +182,7 @@ impl Running {
         let before = self.right.len();
         rights_in(tree, self.job, &mut self.right)?;
         // the same as the last one need not stand there twice
-        if self.right.len() == before.saturating_add(1)
-            && before > 0
-            && self.right.as_slice().get(before)
-                == self.right.as_slice().get(before.wrapping_sub(1))
-        {
+        if self.right.len() == before.saturating_add(1) && repeats(self.right.as_slice(), before) {
             self.right.pop();
         }
         Ok(())
@@ -301,14 +338,19 @@ impl Running {
         }
         keep!(self.begun.is_some(), "who answers has begun");
         let answer = without_hint(answer);
+        self.judge_alone(&answer)
+    }
+
+    /// The same of an answer with no hint of an operation or a post.
+    fn judge_alone(&self, answer: &Answer) -> Result<(), Law> {
         if let Some(own) = &self.own {
-            return holds(answer == *own, "who has changed the tree answers so");
+            return holds(answer == own, "who has changed the tree answers so");
         }
-        if is_no_room(&answer) {
+        if is_no_room(answer) {
             return holds(self.refused, "who has no room was refused");
         }
         for right in self.right.as_slice() {
-            if answer == *right {
+            if answer == right {
                 return Ok(());
             }
         }

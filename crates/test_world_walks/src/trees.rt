@@ -8,7 +8,7 @@ use crate::lists::Lists;
 use crate::{found, keep};
 use arrayvec::ArrayVec;
 use bl_model::{Next, Reply};
-use bl_page::{Inner, Leaf, Page};
+use bl_page::{Dead, Inner, Leaf, Page};
 use bl_world::Owner;
 use std::alloc::Global;
 
@@ -36,6 +36,17 @@ impl Moment {
             }
         }
         false
+    }
+
+    /// The fresh page that this one is to name, which the same process holds.
+    pub fn named_by(&self, holder: usize, page: u32) -> Option<u32> {
+        let mut named = None;
+        for fresh in self.fresh.as_slice() {
+            if fresh.holder == holder && fresh.named_by == page {
+                named = Some(fresh.page);
+            }
+        }
+        named
     }
 
     /// The number of the process that holds the page and is in the middle of a compression.
@@ -145,7 +156,55 @@ fn live_inner(page: u32, inner: &Inner) -> Result<Live, Law> {
     })
 }
 
+/// Adds what a live inner page lists.
+fn list_children(parent: &Live, inner: &Inner, listed: &mut Vec<Listed>) -> Result<(), Law> {
+    for child in inner.children.as_slice() {
+        let child = Listed {
+            level: parent.level,
+            parent: parent.page,
+            key: child.0,
+            child: child.1,
+        };
+        add(listed, child)?;
+    }
+    Ok(())
+}
+
+/// Adds the rows of a leaf from that key on.
+fn add_rows(leaf: &Leaf, from: u64, rows: &mut Vec<(u64, u64)>) -> Result<(), Law> {
+    for row in leaf.rows.as_slice() {
+        if from <= row.0 {
+            add(rows, *row)?;
+        }
+    }
+    Ok(())
+}
+
+/// The page with that number, which is open or held, and not fresh.
+fn words_of_live<'a>(
+    lists: &'a Lists,
+    moment: &Moment,
+    page: u32,
+    owner: Owner,
+) -> Option<&'a Page> {
+    if matches!(owner, Owner::Open | Owner::Held(_)) && !moment.is_fresh(page) {
+        lists.pages.as_slice().get(page as usize)
+    } else {
+        None
+    }
+}
+
 impl Tree {
+    fn new(alloc: Global) -> Tree {
+        Tree {
+            levels: 0,
+            live: Vec::new(alloc),
+            listed: Vec::new(alloc),
+            rows: Vec::new(alloc),
+            evening: Vec::new(alloc),
+        }
+    }
+
     /// Adds a page that is open or held, and not fresh.
     fn enter(&mut self, page: u32, owner: Owner, words: &Page) -> Result<(), Law> {
         match words {
@@ -156,16 +215,7 @@ impl Tree {
             Page::Inner(inner) => {
                 let live = live_inner(page, inner)?;
                 add(&mut self.live, live)?;
-                for child in inner.children.as_slice() {
-                    let listed = Listed {
-                        level: live.level,
-                        parent: page,
-                        key: child.0,
-                        child: child.1,
-                    };
-                    add(&mut self.listed, listed)?;
-                }
-                Ok(())
+                list_children(&live, inner, &mut self.listed)
             }
             Page::Dead(_) => holds(owner != Owner::Open, "a dead page is not open"),
             Page::Anchor(_) => holds(page == 0, "page 0 alone is the anchor"),
@@ -175,14 +225,19 @@ impl Tree {
     fn enter_all(&mut self, lists: &Lists, moment: &Moment) -> Result<(), Law> {
         for (at, owner) in lists.owners.as_slice().iter().enumerate() {
             let page = found!(u32::try_from(at).ok(), "a page has a number");
-            if matches!(*owner, Owner::Open | Owner::Held(_))
-                && !moment.is_fresh(page)
-                && let Some(words) = lists.pages.as_slice().get(at)
-            {
+            if let Some(words) = words_of_live(lists, moment, page, *owner) {
                 self.enter(page, *owner, words)?;
             }
         }
         Ok(())
+    }
+
+    /// The low of the live page at that place of the list, if it is a leaf.
+    pub fn low_of_leaf(&self, place: usize) -> Option<u64> {
+        match self.live.as_slice().get(place) {
+            Some(live) if live.level == 0 => Some(live.low),
+            _ => None,
+        }
     }
 
     /// The live page with that number.
@@ -199,24 +254,24 @@ impl Tree {
     fn overlap_in_compressions_alone(&self, lists: &Lists, moment: &Moment) -> Result<(), Law> {
         for (at, live) in self.live.as_slice().iter().enumerate() {
             keep!(live.level < self.levels, "a page is of a level of the tree");
-            for other in self.live.as_slice().iter().skip(at.saturating_add(1)) {
-                keep!(
-                    !live.overlaps(other) || moment.compresses_both(lists, live.page, other.page),
-                    "two pages of a level cover no key in common"
-                );
-            }
+            self.overlaps_in_compression(lists, moment, at, live)?;
         }
         Ok(())
     }
 
-    /// Adds the rows of a leaf from that key on.
-    fn meet_rows(&mut self, lists: &Lists, page: u32, from: u64) -> Result<(), Law> {
-        if let Some(Page::Leaf(leaf)) = lists.pages.as_slice().get(page as usize) {
-            for row in leaf.rows.as_slice() {
-                if from <= row.0 {
-                    add(&mut self.rows, *row)?;
-                }
-            }
+    /// Those live pages behind that place which cover a key of this one are in the hands of one compression with it.
+    fn overlaps_in_compression(
+        &self,
+        lists: &Lists,
+        moment: &Moment,
+        at: usize,
+        live: &Live,
+    ) -> Result<(), Law> {
+        for other in self.live.as_slice().iter().skip(at.saturating_add(1)) {
+            keep!(
+                !live.overlaps(other) || moment.compresses_both(lists, live.page, other.page),
+                "two pages of a level cover no key in common"
+            );
         }
         Ok(())
     }
@@ -233,13 +288,14 @@ impl Tree {
         let mut before = first;
         let mut from = 0;
         for _ in 0..lists.pages.len() {
-            let live = found!(self.live_at(at), "a chain goes by live pages");
-            keep!(live.level == level, "a page is of its level");
+            let live = self.live_on(level, at)?;
             keep!(
                 live.low == from || (live.low < from && moment.compresses_both(lists, before, at)),
                 "a page begins where the one before it ends"
             );
-            self.meet_rows(lists, at, from)?;
+            if let Some(leaf) = lists.leaf(at) {
+                add_rows(leaf, from, &mut self.rows)?;
+            }
             if live.high == 0 {
                 return holds(live.right == 0, "the last page has no link");
             }
@@ -249,6 +305,20 @@ impl Tree {
             from = live.high;
         }
         Err("a level has an end")
+    }
+
+    /// The live page of a chain of that level.
+    fn live_on(&self, level: usize, page: u32) -> Result<Live, Law> {
+        let live = found!(self.live_at(page), "a chain goes by live pages");
+        keep!(live.level == level, "a page is of its level");
+        Ok(live)
+    }
+
+    fn walk_levels(&mut self, lists: &Lists, moment: &Moment, firsts: &[u32]) -> Result<(), Law> {
+        for (level, first) in firsts.iter().enumerate() {
+            self.walk_level(lists, moment, level, *first)?;
+        }
+        Ok(())
     }
 
     /// A child is live, a level below, and begins with the key by which it is listed, or before it in an evening.
@@ -296,11 +366,26 @@ impl Tree {
     /// Each leaf has the rows of the keys that it covers.
     fn leaves_agree(&self, lists: &Lists) -> Result<(), Law> {
         for live in self.live.as_slice() {
-            if let Some(Page::Leaf(leaf)) = lists.pages.as_slice().get(live.page as usize) {
+            if let Some(leaf) = lists.leaf(live.page) {
                 self.agrees(live, leaf)?;
             }
         }
         Ok(())
+    }
+
+    /// Adds what stands on the pages.
+    fn enter_levels(&mut self, lists: &Lists, moment: &Moment, firsts: &[u32]) -> Result<(), Law> {
+        self.levels = firsts.len();
+        self.enter_all(lists, moment)?;
+        self.overlap_in_compressions_alone(lists, moment)?;
+        self.walk_levels(lists, moment, firsts)
+    }
+
+    /// Children are where they are listed, and leaves have the rows of their keys.
+    fn is_sound(&mut self, lists: &Lists, moment: &Moment) -> Result<(), Law> {
+        self.children_are_listed(lists, moment)?;
+        keys_rise_within(self.rows.as_slice(), 0, 0)?;
+        self.leaves_agree(lists)
     }
 
     /// A page of that level begins with the key.
@@ -369,81 +454,90 @@ impl Tree {
     /// The pairs of a live page: the rows of a leaf, or the keys and numbers of children.
     pub fn pairs_of(&self, alloc: Global, live: &Live) -> Result<Vec<(u64, u64)>, Law> {
         let mut pairs = Vec::new(alloc);
-        for row in self.rows.as_slice() {
-            if live.level == 0 && live.covers(row.0) {
-                add(&mut pairs, *row)?;
-            }
-        }
-        for listed in self.listed.as_slice() {
-            if live.level > 0 && listed.parent == live.page {
-                add(&mut pairs, (listed.key, listed.child))?;
-            }
-        }
+        self.add_pairs(live, &mut pairs)?;
         Ok(pairs)
+    }
+
+    /// The pairs of both live pages, one after the other.
+    pub fn pairs_of_both(
+        &self,
+        alloc: Global,
+        left: &Live,
+        right: &Live,
+    ) -> Result<Vec<(u64, u64)>, Law> {
+        let mut pairs = self.pairs_of(alloc, left)?;
+        self.add_pairs(right, &mut pairs)?;
+        Ok(pairs)
+    }
+
+    /// Adds the pairs of a live page.
+    pub fn add_pairs(&self, live: &Live, pairs: &mut Vec<(u64, u64)>) -> Result<(), Law> {
+        if live.level > 0 {
+            return self.add_children(live.page, pairs);
+        }
+        for row in self.rows.as_slice() {
+            if live.covers(row.0) {
+                add(pairs, *row)?;
+            }
+        }
+        Ok(())
+    }
+
+    /// Adds the keys and numbers of a page's children.
+    fn add_children(&self, parent: u32, pairs: &mut Vec<(u64, u64)>) -> Result<(), Law> {
+        for listed in self.listed.as_slice() {
+            if listed.parent == parent {
+                add(pairs, (listed.key, listed.child))?;
+            }
+        }
+        Ok(())
     }
 }
 
 /// What stands on the pages, which keep the laws at that moment.
 pub fn walked(alloc: Global, lists: &Lists, moment: &Moment) -> Result<Tree, Law> {
-    let Some(Page::Anchor(anchor)) = lists.pages.as_slice().first() else {
-        return Err("page 0 is the anchor");
-    };
-    let mut tree = Tree {
-        levels: anchor.leftmost.as_slice().len(),
-        live: Vec::new(alloc),
-        listed: Vec::new(alloc),
-        rows: Vec::new(alloc),
-        evening: Vec::new(alloc),
-    };
-    tree.enter_all(lists, moment)?;
-    tree.overlap_in_compressions_alone(lists, moment)?;
-    for (level, first) in anchor.leftmost.as_slice().iter().enumerate() {
-        tree.walk_level(lists, moment, level, *first)?;
-    }
-    tree.children_are_listed(lists, moment)?;
-    keys_rise_within(tree.rows.as_slice(), 0, 0)?;
-    tree.leaves_agree(lists)?;
+    let anchor = lists.anchor()?;
+    let mut tree = Tree::new(alloc);
+    tree.enter_levels(lists, moment, anchor.leftmost.as_slice())?;
+    tree.is_sound(lists, moment)?;
     Ok(tree)
 }
 
 /// Where a lone descent for the key goes from a page. None where it has come to the leaf that covers the key.
 fn onwards(lists: &Lists, at: u32, key: u64) -> Result<Option<u32>, Law> {
     match lists.pages.as_slice().get(at as usize) {
-        Some(Page::Leaf(leaf)) => {
-            keep!(leaf.low <= key, "a descent comes to no page past its key");
-            if leaf.high == 0 || key < leaf.high {
-                return Ok(None);
-            }
-            Ok(Some(leaf.right))
-        }
-        Some(Page::Inner(inner)) => {
-            if inner.high != 0 && inner.high <= key {
-                return Ok(Some(inner.right));
-            }
-            let mut child = None;
-            for pair in inner.children.as_slice() {
-                if pair.0 <= key {
-                    child = u32::try_from(pair.1).ok();
-                }
-            }
-            keep!(child.is_some(), "a descent comes to no page past its key");
-            Ok(child)
-        }
+        Some(Page::Leaf(leaf)) => onwards_from_leaf(leaf, key),
+        Some(Page::Inner(inner)) => onwards_from_inner(inner, key),
         Some(Page::Dead(dead)) => Ok(Some(dead.right)),
         _ => Err("a descent goes by pages of the tree"),
     }
 }
 
+fn onwards_from_leaf(leaf: &Leaf, key: u64) -> Result<Option<u32>, Law> {
+    keep!(leaf.low <= key, "a descent comes to no page past its key");
+    let is_past = leaf.high != 0 && leaf.high <= key;
+    Ok(if is_past { Some(leaf.right) } else { None })
+}
+
+fn onwards_from_inner(inner: &Inner, key: u64) -> Result<Option<u32>, Law> {
+    if inner.high != 0 && inner.high <= key {
+        return Ok(Some(inner.right));
+    }
+    let mut child = None;
+    for pair in inner.children.as_slice() {
+        if pair.0 <= key {
+            child = u32::try_from(pair.1).ok();
+        }
+    }
+    keep!(child.is_some(), "a descent comes to no page past its key");
+    Ok(child)
+}
+
 /// A lone descent for the key comes to a live leaf that covers it, and to no page twice. Gives that leaf, and how many pages
 /// were got, page 0 included.
 pub fn descends(lists: &Lists, tree: &Tree, key: u64) -> Result<(u32, u32), Law> {
-    let Some(Page::Anchor(anchor)) = lists.pages.as_slice().first() else {
-        return Err("page 0 is the anchor");
-    };
-    let mut at = found!(
-        anchor.leftmost.as_slice().last().copied(),
-        "there is a level"
-    );
+    let top = lists.anchor()?.leftmost.as_slice().last().copied();
+    let mut at = found!(top, "there is a level");
     let mut gets = 1u32;
     for _ in 0..lists.pages.len() {
         gets = gets.saturating_add(1);
@@ -461,44 +555,46 @@ pub fn descends(lists: &Lists, tree: &Tree, key: u64) -> Result<(u32, u32), Law>
 /// From a dead page the links lead to a live page of its level. That one may begin later, after an evening; then a search
 /// starts again.
 pub fn leads_back(lists: &Lists, tree: &Tree, dead: u32) -> Result<(), Law> {
-    let Some(Page::Dead(first)) = lists.pages.as_slice().get(dead as usize) else {
-        return Err("a retired page is dead");
-    };
+    let first = found!(lists.dead(dead), "a retired page is dead");
     let mut at = first.right;
     for _ in 0..lists.pages.len() {
-        match lists.pages.as_slice().get(at as usize) {
-            Some(Page::Dead(next)) => at = next.right,
-            _ => {
-                let live = found!(tree.live_at(at), "a dead page leads to a live one");
-                return holds(
-                    live.level == first.level as usize,
-                    "a dead page leads to one of its level",
-                );
-            }
-        }
+        let Some(next) = lists.dead(at) else {
+            let live = found!(tree.live_at(at), "a dead page leads to a live one");
+            return holds(
+                live.level == first.level as usize,
+                "a dead page leads to one of its level",
+            );
+        };
+        at = next.right;
     }
     Err("a dead page leads to a live one")
+}
+
+fn is_same_leaf(page: &Leaf, other: &Leaf) -> bool {
+    page.low == other.low
+        && page.high == other.high
+        && page.right == other.right
+        && page.rows.as_slice() == other.rows.as_slice()
+}
+
+fn is_same_inner(page: &Inner, other: &Inner) -> bool {
+    page.level == other.level
+        && page.low == other.low
+        && page.high == other.high
+        && page.right == other.right
+        && page.children.as_slice() == other.children.as_slice()
+}
+
+fn is_same_dead(page: &Dead, other: &Dead) -> bool {
+    page.level == other.level && page.low == other.low && page.right == other.right
 }
 
 /// The pages are the same.
 pub fn is_same_page(page: &Page, other: &Page) -> bool {
     match (page, other) {
-        (Page::Leaf(page), Page::Leaf(other)) => {
-            page.low == other.low
-                && page.high == other.high
-                && page.right == other.right
-                && page.rows.as_slice() == other.rows.as_slice()
-        }
-        (Page::Inner(page), Page::Inner(other)) => {
-            page.level == other.level
-                && page.low == other.low
-                && page.high == other.high
-                && page.right == other.right
-                && page.children.as_slice() == other.children.as_slice()
-        }
-        (Page::Dead(page), Page::Dead(other)) => {
-            page.level == other.level && page.low == other.low && page.right == other.right
-        }
+        (Page::Leaf(page), Page::Leaf(other)) => is_same_leaf(page, other),
+        (Page::Inner(page), Page::Inner(other)) => is_same_inner(page, other),
+        (Page::Dead(page), Page::Dead(other)) => is_same_dead(page, other),
         (Page::Anchor(page), Page::Anchor(other)) => {
             page.leftmost.as_slice() == other.leftmost.as_slice()
         }

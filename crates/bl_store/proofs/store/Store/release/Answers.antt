@@ -1,4 +1,4 @@
-use Rattle.std.proofs.Common.{rules, arith, ℕ, ◌-◌, ◌/◌, ap, sym, subst, ◌∙◌}
+use Rattle.std.proofs.Common.{rules, arith, ℕ, ◌-◌, ◌/◌, ap, sym, subst, ◌∙◌, inl, inr, refl}
 use Rattle.bl_layout.specs.declared.layout.Layout.{Layout}
 use Rattle.bl_store.specs.Pages.{Releases}
 use Rattle.bl_store.specs.declared.view.Sweep.TheVariants.{Over}
@@ -18,3 +18,35 @@ compare_exchange-found-requires g c = let st = c.args.self.now in let wide = st.
 pub compare_exchange-found-requires-2 : goal.compare_exchange-found-requires-2
 compare_exchange-found-requires-2 g c = let st = c.args.self.now in let wide = st.wide in let passes = ap (λ (z : Layout). z.passes) st.key in let pages = ap (λ (z : Layout). z.pages) st.key in let state = c.requires.state.0 in let before = c.requires.state.1 in
     (search rules, omega arith, releases_frame _ _ _ _ _ _ _ (c.args.at - c.args.self.now.layout.pages) (c.args.state / 4) c.args.oldest _ (omega arith) (omega arith) (omega arith) before (c.requires.swept ∙ ap (λ (z : ℕ). Over c.args.oldest z) (sym passes)) (live_hand c.args.hand.now))
+
+pub returns-then-found-state : goal.returns-then-found-state
+returns-then-found-state g c = let f = c.compare_exchange-found.ensures in record {
+  same = ((f.0, f.2.0.0, f.2.0.1), f.2.1, f.2.2, f.2.3);
+  told = inr (f.2.5 c.if-found-state.true).0;
+  yes = λ e. cc;
+  no = λ _. (f.2.5 c.if-found-state.true).1;
+}
+
+pub returns-then-at-self : goal.returns-then-at-self
+returns-then-at-self g c = let f = c.compare_exchange-found.ensures in record {
+  same = ((f.0, f.2.0.0, f.2.0.1), f.2.1, f.2.2, f.2.3);
+  told = inl (refl, (f.2.4 c.if-found-state.false).0);
+  yes = λ _. (f.2.4 c.if-found-state.false).1;
+  no = λ e. cc;
+}
+
+pub returns-then-found-state-2 : goal.returns-then-found-state-2
+returns-then-found-state-2 g c = let f = c.compare_exchange-found-2.ensures in record {
+  same = ((f.0, f.2.0.0.0, f.2.0.0.1), f.2.0.1, f.2.0.2, f.2.1);
+  told = inr f.2.0.3;
+  yes = λ e. cc;
+  no = λ _. f.2.3 c.if-found-state-2.true;
+}
+
+pub returns : goal.returns
+returns g c = let f = c.compare_exchange-found-2.ensures in record {
+  same = ((f.0, f.2.0.0.0, f.2.0.0.1), f.2.0.1, f.2.0.2, f.2.1);
+  told = inr f.2.0.3;
+  yes = λ _. f.2.2 c.if-found-state-2.false;
+  no = λ e. cc;
+}

@@ -73,3 +73,23 @@ returns-then-found-eq0-clause-got g c = let e = c.load.ensures.2 in let f = c.co
 pub returns-else-found-eq0-clause-got : goal.returns-else-found-eq0-clause-got
 returns-else-found-eq0-clause-got g c = let e = c.load.ensures.2 in let f = c.compare_exchange-found.ensures.2 in let layout = e.0.0.0 ∙ c.requires.own.1 in let passes = ap (λ (z : Layout). z.passes) layout in let pages = ap (λ (z : Layout). z.pages) layout in
     let t = (f.4 c.args.frame (omega arith)).1 c.if-found-eq0.false in let more = ap length t.2 in let same = ap length e.3 in omega arith
+
+pub returns-then-load-ne0 : goal.returns-then-load-ne0
+returns-then-load-ne0 g c = let e = c.load.ensures in let was = c.requires.stock.0 in let layout = e.2.0.0.0 ∙ c.requires.own.1 in let passes = ap (λ (z : Layout). z.passes) layout in let pages = ap (λ (z : Layout). z.pages) layout in let enough = was.ticks in let puts = e.2.0.2.1 in
+    let seen = e.2.1 c.if-load-ne0.true (λ zero. omega arith) in record {
+      same = ((e.0, e.2.0.0.0, e.2.0.0.1, e.2.0.1, e.2.0.3, e.2.0.2.1, e.2.0.2.2), refl);
+      stock = (
+        record {
+          frames = e.2.0.2.0 ∙ was.frames;
+          ticks = omega arith;
+          few = was.few;
+          within = subst (λ (z : Layout). (k : ℕ) → k < c.args.stock.now.count → slice_index c.args.stock.now.frames k < frame_count z) (sym e.2.0.0.0) was.within;
+        },
+        omega arith,
+        omega arith,
+      );
+      got = (let same = ap length e.2.3 in omega arith);
+      tried = inr (has_new _ _ _ _ seen (omega arith));
+      kept = λ x. ⊎_elim (λ h. inl (has_same _ _ _ _ e.2.3 refl h)) (λ h. inr (has_more _ _ _ _ _ seen (ap (λ (z : Layout). state_at z x) (sym e.2.0.0.0)) h));
+      reads = e.2.4;
+    }
