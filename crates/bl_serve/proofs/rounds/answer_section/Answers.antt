@@ -53,3 +53,13 @@ returns-clause-own g c =
     c.in_ok-collect.ensures.text.1 (subst (λ (n : ℕ). Chains 0 n c.in_ok-collect.ensures.text.0) c.len-count.ensures c.in_ok-collect.ensures.text.2) refl in
     subst (All (IsPassOf c.args.index.now)) (sym (lent _ c.args.passes.items c.work_abreast.new.passes (omega (arith, news, same, a))))
     (round_own _ c.args.index.now _ _ _ c.as_mut_slice.result.now c.work_abreast.new.passes (subst (All (IsPassOf c.args.index.now)) (sym c.as_mut_slice.ensures.value) c.requires.own) r)
+
+-- what was read stays read, however the round ends
+pub returns-clause-consumes : goal.returns-clause-consumes
+returns-clause-consumes g c = let r = c.work_abreast.ensures.reads in (r.more, r.consumed)
+
+pub returns-in_err-written-clause-consumes : goal.returns-in_err-written-clause-consumes
+returns-in_err-written-clause-consumes g c = let r = c.work_abreast.ensures.reads in (r.more, r.consumed)
+
+pub returns-in_err-collect-clause-consumes : goal.returns-in_err-collect-clause-consumes
+returns-in_err-collect-clause-consumes g c = let r = c.work_abreast.ensures.reads in (r.more, r.consumed)
