@@ -20,28 +20,48 @@ use std::fs;
 use std::process::ExitCode;
 
 fn main(rt: HostRuntime) -> anyhow::Result<ExitCode> {
-    let mut all_right = true;
-    for name in names_with(&rt, ".script")?.iter() {
-        all_right &= tell(&rt, name.as_str(), wrong_line(&rt, name.as_str())?)?;
-    }
-    for name in names_with(&rt, ".lines")?.iter() {
-        all_right &= tell(&rt, name.as_str(), line_that_is_taken(&rt, name.as_str())?)?;
-    }
-    for name in names_with(&rt, ".requests")?.iter() {
-        all_right &= tell(
-            &rt,
-            name.as_str(),
-            request_read_wrongly(&rt, name.as_str())?,
-        )?;
-    }
-    for name in names_with(&rt, ".commands")?.iter() {
-        all_right &= tell(
-            &rt,
-            name.as_str(),
-            command_read_wrongly(&rt, name.as_str())?,
-        )?;
-    }
+    let scripts = scripts_are_right(&rt)?;
+    let lines = lines_are_right(&rt)?;
+    let requests = requests_are_right(&rt)?;
+    let commands = commands_are_right(&rt)?;
+    let all_right = scripts && lines && requests && commands;
     Ok(ExitCode::from(if all_right { 0 } else { 1 }))
+}
+
+/// Whether each script prints what it is to print.
+fn scripts_are_right(rt: &HostRuntime) -> anyhow::Result<bool> {
+    let mut all_right = true;
+    for name in names_with(rt, ".script")?.iter() {
+        all_right &= tell(rt, name.as_str(), wrong_line(rt, name.as_str())?)?;
+    }
+    Ok(all_right)
+}
+
+/// Whether each bad line is refused.
+fn lines_are_right(rt: &HostRuntime) -> anyhow::Result<bool> {
+    let mut all_right = true;
+    for name in names_with(rt, ".lines")?.iter() {
+        all_right &= tell(rt, name.as_str(), line_that_is_taken(rt, name.as_str())?)?;
+    }
+    Ok(all_right)
+}
+
+/// Whether each request is read as what it asks for.
+fn requests_are_right(rt: &HostRuntime) -> anyhow::Result<bool> {
+    let mut all_right = true;
+    for name in names_with(rt, ".requests")?.iter() {
+        all_right &= tell(rt, name.as_str(), request_read_wrongly(rt, name.as_str())?)?;
+    }
+    Ok(all_right)
+}
+
+/// Whether each line of a script is read as its command.
+fn commands_are_right(rt: &HostRuntime) -> anyhow::Result<bool> {
+    let mut all_right = true;
+    for name in names_with(rt, ".commands")?.iter() {
+        all_right &= tell(rt, name.as_str(), command_read_wrongly(rt, name.as_str())?)?;
+    }
+    Ok(all_right)
 }
 
 /// The names of the files with this ending, without it, in order.
