@@ -5,7 +5,7 @@ use Rattle.bl_claims.specs.Nodes.{Shape}
 use Rattle.bl_core_tree.specs.Trees.{Status, is_live, IsLive, IsShape, Tree, IsChild, IsTree}
 use Rattle.bl_core_tree.specs.Trees.Status.{Left}
 use Rattle.bl_core_tree.specs.Moves.{Aside}
-use Rattle.bl_core_tree.proofs.Statuses.{not_dead, left_live, right_live, same_leftmost}
+use Rattle.bl_core_tree.proofs.Statuses.{uprooted_live, not_dead, left_live, right_live, same_leftmost}
 
 aside_shape : {top x : ℕ} {st st' : ℕ → Status} {shape shape' : ℕ → Shape} {sep sep' : ℕ → ℕ} → is_live (st x) ≡ false → is_live (st' x) ≡ false → ((z : ℕ) → z ≢ x → shape' z ≡ shape z) → ((z : ℕ) → z ≢ x → st' z ≡ st z) → ((z : ℕ) → z ≢ x → sep' z ≡ sep z) → IsShape top st shape sep → IsShape top st' shape' sep'
 aside_shape {top} {x} {st} {st'} {shape} {shape'} {sep} {sep'} d d' w u s g =
@@ -52,5 +52,13 @@ Aside-keeps {top} {x} {t} {t'} m g =
       some_level = rw m.roots g.some_level;
       few_levels = rw m.roots g.few_levels;
       leftmost = same_leftmost m.roots (λ l h. child l 0 (t.roots.leftmost l) (g.leftmost l h));
-      below = λ z h. rw (m.node z (not_x z h), m.roots) (g.below z (old z h));
+      below = λ z h n. rw (m.node z (not_x z h), m.roots) (g.below z (old z h) (λ i. n (m.status z (not_x z h) ∙ i)));
+      uprooted = λ z h.
+          let n = not_x z (rw h uprooted_live) in
+          let o = g.uprooted z (sym (m.status z n) ∙ h) in
+          record { level_is = rw (m.node z n, m.roots) o.level_is; low = rw (m.node z n) o.low; end = rw (m.node z n) o.end };
+      empty = λ l k c h e.
+          let o = g.empty l k c (rw m.roots at h) (ap (λ f. f l k) (sym m.map) ∙ e) in
+          let n = not_dead t.status x o.page m.dead (rw o.is uprooted_live) in
+          record { page = o.page; is = m.status o.page n ∙ o.is; level_is = rw (m.node o.page n) o.level_is };
     }

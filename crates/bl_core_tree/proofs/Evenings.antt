@@ -1,5 +1,5 @@
 -- The two puts of an evening that change bounds: one page gains, then the other loses.
-use Rattle.std.proofs.Common.{ℕ, ◌≡◌, arith, ap, sym, ◌∙◌, refl, inl, inr}
+use Rattle.std.proofs.Common.{ℕ, ◌≡◌, ◌⊎◌, arith, ap, sym, ◌∙◌, refl, inl, inr}
 use Rattle.std.proofs.lemmas.Bool.{cases_eq, cases_lt}
 use Rattle.bl_page.specs.Machine.{IsAt}
 use Rattle.bl_claims.specs.Nodes.{Node, Covers}
@@ -7,7 +7,7 @@ use Rattle.bl_core_tree.specs.Trees.{IsLive, IsShape, Tree, shapes, IsTree}
 use Rattle.bl_core_tree.specs.Trees.Status.{Live, Left}
 use Rattle.bl_core_tree.specs.Moves.{IsAtTwo, GainsLeft, GainsRight, LosesLeft, LosesRight}
 use Rattle.bl_core_tree.proofs.Statuses.{live_live, left_live, right_live, shape_at, not_anchor}
-use Rattle.bl_core_tree.proofs.Said.{Says-keeps}
+use Rattle.bl_core_tree.proofs.Said.{pair_uprooted, Says-keeps}
 use Rattle.bl_core_tree.proofs.GainShapes.{gain_left_shape, gain_right_shape}
 use Rattle.bl_core_tree.proofs.LossShapes.{lose_right_shape, lose_left_shape}
 
@@ -45,6 +45,8 @@ GainsLeft-keeps {top} {x} {y} {b} {t} {t'} m g =
       ]);
       children = λ l k z f o. record { alive = new z o.alive; level_is = level z ∙ o.level_is; sep_is = rw m.stays.sep o.sep_is };
       anchored = u.others 0 (not_anchor t.status x lx g.anchored) (not_anchor t.status y ly g.anchored) ∙ g.anchored;
+      level = λ z h. (old z h, level z);
+      uprooted = pair_uprooted t t' u w (inl refl) (λ e. cc (m.live)) (λ e. cc (m.right_live)) (λ e. cc) (λ e. cc);
       roots = m.put.roots;
       map = m.stays.map;
     }) g
@@ -76,13 +78,15 @@ GainsRight-keeps {top} {x} {y} {d} {t} {t'} m g =
       ]);
       children = λ l k z f o. record { alive = new z o.alive; level_is = level z ∙ o.level_is; sep_is = rw m.stays.sep o.sep_is };
       anchored = u.others 0 (not_anchor t.status x lx g.anchored) (not_anchor t.status y ly g.anchored) ∙ g.anchored;
+      level = λ z h. (old z h, level z);
+      uprooted = pair_uprooted t t' u w (inr refl) (λ e. cc (m.live)) (λ e. cc (m.right_live)) (λ e. cc) (λ e. cc);
       roots = m.put.roots;
       map = m.stays.map;
     }) g
 
 -- a page loses keys, and says of the others what it said
-lose : {top x y p : ℕ} {b : Node} {t t' : Tree} → t.status x ≡ Left y → IsAt p b t.node t'.node → IsAtTwo x y Live Live t.status t'.status → IsLive (t.status p) → b.shape.level ≡ (t.node p).shape.level → ((k : ℕ) → Covers b.shape k → Covers (t.node p).shape k × (b.look k ≡ (t.node p).look k)) → t'.roots ≡ t.roots → t'.sep ≡ t.sep → t'.map ≡ t.map → IsShape top t'.status (shapes t'.node) t.sep → IsTree top t → IsTree top t'
-lose {top} {x} {y} {p} {b} {t} {t'} sx w u lp b_level says roots sep map side g =
+lose : {top x y p : ℕ} {b : Node} {t t' : Tree} → t.status x ≡ Left y → IsAt p b t.node t'.node → IsAtTwo x y Live Live t.status t'.status → (p ≡ x) ⊎ (p ≡ y) → IsLive (t.status p) → b.shape.level ≡ (t.node p).shape.level → ((k : ℕ) → Covers b.shape k → Covers (t.node p).shape k × (b.look k ≡ (t.node p).look k)) → t'.roots ≡ t.roots → t'.sep ≡ t.sep → t'.map ≡ t.map → IsShape top t'.status (shapes t'.node) t.sep → IsTree top t → IsTree top t'
+lose {top} {x} {y} {p} {b} {t} {t'} sx w u at lp b_level says roots sep map side g =
     let lx : IsLive (t.status x) = rw sx (left_live y) in
     let ly : IsLive (t.status y) = rw (g.side.left x y sx) (right_live x) in
     let live_x : IsLive (t'.status x) = rw u.at live_live in
@@ -98,6 +102,8 @@ lose {top} {x} {y} {p} {b} {t} {t'} sx w u lp b_level says roots sep map side g 
       ]);
       children = λ l k z f o. record { alive = new z o.alive; level_is = level z ∙ o.level_is; sep_is = rw sep o.sep_is };
       anchored = u.others 0 (not_anchor t.status x lx g.anchored) (not_anchor t.status y ly g.anchored) ∙ g.anchored;
+      level = λ z h. (old z h, level z);
+      uprooted = pair_uprooted t t' u w at (λ e. cc) (λ e. cc (g.side.left x y sx)) (λ e. cc) (λ e. cc);
       roots = roots;
       map = map;
     }) g
@@ -105,7 +111,7 @@ lose {top} {x} {y} {p} {b} {t} {t'} sx w u lp b_level says roots sep map side g 
 pub LosesRight-keeps : {top x y : ℕ} {d : Node} {t t' : Tree} → LosesRight x y d t t' → IsTree top t → IsTree top t'
 LosesRight-keeps {top} {x} {y} {d} {t} {t'} m g =
     let c = m.loss in
-    lose m.left m.put.node m.status (rw (g.side.left x y m.left) (right_live x)) c.level
+    lose m.left m.put.node m.status (inr refl) (rw (g.side.left x y m.left) (right_live x)) c.level
     (λ k e. ((omega (arith, m.meets, c.low), omega (arith, c.end)), c.look k (omega (arith, c.low))))
     m.put.roots m.stays.sep m.stays.map
     (lose_right_shape top x y d.shape t.status t'.status (shapes t.node) (shapes t'.node) t.sep m.left m.level m.below m.meets m.inner m.linked m.y_sep c.level c.low c.end c.right (shape_at m.put.node) m.status g.side)
@@ -114,7 +120,7 @@ LosesRight-keeps {top} {x} {y} {d} {t} {t'} m g =
 pub LosesLeft-keeps : {top x y : ℕ} {b : Node} {t t' : Tree} → LosesLeft x y b t t' → IsTree top t → IsTree top t'
 LosesLeft-keeps {top} {x} {y} {b} {t} {t'} m g =
     let c = m.loss in
-    lose m.left m.put.node m.status (rw m.left (left_live y)) c.level
+    lose m.left m.put.node m.status (inl refl) (rw m.left (left_live y)) c.level
     (λ k e. ((omega (arith, c.low), omega (arith, c.end, m.meets)), c.look k (omega (arith, c.end))))
     m.put.roots m.stays.sep m.stays.map
     (lose_left_shape top x y b.shape t.status t'.status (shapes t.node) (shapes t'.node) t.sep m.left m.level m.below m.meets m.y_sep c.level c.low c.end c.right (shape_at m.put.node) m.status g.side)

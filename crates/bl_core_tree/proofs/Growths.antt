@@ -1,10 +1,10 @@
 -- The tree grows: page 0 names a new top level of one page.
-use Rattle.std.proofs.Common.{ℕ, ◌≡◌, ◌≢◌, ◌<◌, Some, false, suc, arith, ap, sym, ◌∙◌, refl, inl, inr}
+use Rattle.std.proofs.Common.{ℕ, ◌≡◌, ◌≢◌, ◌<◌, ◌≤◌, Some, false, suc, arith, ap, sym, ◌∙◌, refl, inl, inr}
 use Rattle.std.proofs.lemmas.Bool.{cases_eq}
 use Rattle.bl_page.specs.Machine.{IsAt}
 use Rattle.bl_claims.specs.Nodes.{Shape}
 use Rattle.bl_core_tree.specs.Trees.{Status, is_live, IsLive, IsShape, Tree, IsChild, IsTree}
-use Rattle.bl_core_tree.specs.Trees.Status.{Fresh, Live, Left, Anchored}
+use Rattle.bl_core_tree.specs.Trees.Status.{Fresh, Live, Left, Uprooted, Anchored}
 use Rattle.bl_core_tree.specs.Moves.{Grows}
 use Rattle.bl_core_tree.proofs.Statuses.{live_live, fresh_dead, anchored_dead, not_dead}
 
@@ -60,10 +60,10 @@ Grows-keeps {top} {y} {t} {t'} m g =
     let old : (z : ℕ) → z ≢ y → IsLive (t'.status z) → IsLive (t.status z) = λ z n h. rw (u.others z n) at h in
     let child : (l j c : ℕ) → IsChild t l j c → IsChild t' l j c = λ l j c o. record { alive = rw (u.others c (not_y c o.alive)) o.alive; level_is = rw (m.node c (not_0 c o.alive)) o.level_is; sep_is = rw m.sep o.sep_is } in
     record {
-      side = rw m.sep (grow_shape (omega arith) m.fresh g.anchored (λ z h e. absurd (let b = g.below z h in omega (arith, m.level))) m.low m.end m.right m.y_sep u (λ z n. ap (λ v. v.shape) (m.node z n)) g.side);
+      side = rw m.sep (grow_shape (omega arith) m.fresh g.anchored (λ z h e. absurd (let b = g.below z h (m.none z) in omega (arith, m.level))) m.low m.end m.right m.y_sep u (λ z n. ap (λ v. v.shape) (m.node z n)) g.side);
       agree = λ z k h d. rw (same z h) (elim (cases_eq z y) [
         | inl zy ↦ rw (zy, m.level, m.map.at) refl
-        | inr zy ↦ let lz = old z zy h in let b = g.below z lz in g.agree z k lz (rw (same z h) at d) ∙ ap (λ f. f k) (sym (m.map.others (t.node z).shape.level (λ i. absurd (omega arith))))
+        | inr zy ↦ let lz = old z zy h in let b = g.below z lz (m.none z) in g.agree z k lz (rw (same z h) at d) ∙ ap (λ f. f k) (sym (m.map.others (t.node z).shape.level (λ i. absurd (omega arith))))
       ]);
       listed = λ l k c h. child l k c (elim (cases_eq (suc l) t.roots.levels) [
         | inl top_level ↦
@@ -84,8 +84,16 @@ Grows-keeps {top} {y} {t} {t'} m g =
         | inl e ↦ rw (e, m.leftmost.at) (record { alive = live_y; level_is = rw y_node m.level; sep_is = rw m.sep m.y_sep })
         | inr e ↦ rw (m.leftmost.others l e) (child l 0 (t.roots.leftmost l) (g.leftmost l (omega (arith, m.levels))))
       ];
-      below = λ z h. rw (same z h, m.levels) (elim (cases_eq z y) [
+      below = λ z h n. rw (same z h, m.levels) (elim (cases_eq z y) [
         | inl zy ↦ rw (zy, m.level) (omega arith)
-        | inr zy ↦ let b = g.below z (old z zy h) in omega arith
+        | inr zy ↦ let b = g.below z (old z zy h) (m.none z) in omega arith
       ]);
+      uprooted = λ z h. absurd (elim (cases_eq z y) [
+        | inl zy ↦ (let e : Live ≡ Uprooted = sym u.at ∙ (ap t'.status (sym zy) ∙ h) in cc)
+        | inr zy ↦ m.none z (sym (u.others z zy) ∙ h)
+      ]);
+      empty = λ l k c h e. absurd (
+          let up : suc t.roots.levels ≤ l = rw m.levels at h in
+          let o = g.empty l k c (omega arith) (ap (λ f. f k) (sym (m.map.others l (λ i. absurd (omega arith)))) ∙ e) in
+          m.none o.page o.is);
     }

@@ -5,7 +5,7 @@ use Rattle.bl_claims.specs.Nodes.{unbounded}
 use Rattle.bl_claims.specs.Laws.{Agreement, Overlap, IsLinked, IsChain, HasChain, IsListed, Listing}
 use Rattle.bl_core_tree.specs.Trees.{Status, IsLive, Tree, IsTree}
 use Rattle.bl_core_tree.specs.SoundNodes.{AllSound}
-use Rattle.bl_core_tree.specs.Trees.Status.{Free, Fresh, Live, Left, Right, Gone, Anchored}
+use Rattle.bl_core_tree.specs.Trees.Status.{Free, Fresh, Live, Left, Right, Uprooted, Gone, Anchored}
 
 abbrev pub live : Tree → ℕ → Type 0
 live t x = IsLive (t.status x)
@@ -21,6 +21,7 @@ left_of Fresh y = inr (λ e. cc)
 left_of Live y = inr (λ e. cc)
 left_of (Left m) y = elim (cases_eq m y) [ inl e ↦ inl (ap Left e) | inr n ↦ inr (λ e. n cc) ]
 left_of (Right m) y = inr (λ e. cc)
+left_of Uprooted y = inr (λ e. cc)
 left_of Gone y = inr (λ e. cc)
 left_of Anchored y = inr (λ e. cc)
 
@@ -30,6 +31,7 @@ right_of Fresh = inr (λ y e. cc)
 right_of Live = inr (λ y e. cc)
 right_of (Left m) = inr (λ y e. cc)
 right_of (Right m) = inl (m, refl)
+right_of Uprooted = inr (λ y e. cc)
 right_of Gone = inr (λ y e. cc)
 right_of Anchored = inr (λ y e. cc)
 

@@ -11,6 +11,7 @@ pub mod Evenings
 pub mod Relists
 pub mod Asides
 pub mod Growths
+pub mod Lowerings
 pub mod LawsHold
 pub mod WalksEnd
 pub mod SoundStarts

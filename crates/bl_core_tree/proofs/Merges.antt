@@ -5,7 +5,7 @@ use Rattle.bl_claims.specs.Nodes.{Node, Covers}
 use Rattle.bl_core_tree.specs.Trees.{is_live, IsLive, Tree, shapes, IsChild, IsTree}
 use Rattle.bl_core_tree.specs.Moves.{Joins, Dies}
 use Rattle.bl_core_tree.proofs.Statuses.{live_live, left_live, right_live, gone_dead, not_dead, shape_at, not_anchor}
-use Rattle.bl_core_tree.proofs.Said.{Says-keeps}
+use Rattle.bl_core_tree.proofs.Said.{pair_uprooted, Says-keeps}
 use Rattle.bl_core_tree.proofs.MergeShapes.{join_shape, die_shape}
 
 pub Joins-keeps : {top x y : ℕ} {b : Node} {t t' : Tree} → Joins top x y b t t' → IsTree top t → IsTree top t'
@@ -39,6 +39,8 @@ Joins-keeps {top} {x} {y} {b} {t} {t'} m g =
       ]);
       children = λ l k z f o. record { alive = new z o.alive; level_is = level z ∙ o.level_is; sep_is = rw m.stays.sep o.sep_is };
       anchored = u.others 0 (not_anchor t.status x lx g.anchored) (not_anchor t.status y ly g.anchored) ∙ g.anchored;
+      level = λ z h. (old z h, level z);
+      uprooted = pair_uprooted t t' u w (inl refl) (λ e. cc (m.live)) (λ e. cc (m.right_live)) (λ e. cc) (λ e. cc);
       roots = m.put.roots;
       map = m.stays.map;
     }) g
@@ -67,6 +69,8 @@ Dies-keeps {top} {x} {y} {d} {t} {t'} m g =
       said = λ z k h e. let o = w.others z (not_y z h) in record { page = z; live = old z h; level_is = ap (λ n. n.shape.level) (sym o); covers = rw o at e; says = ap (λ n. n.look k) (sym o) };
       children = λ l k z f o. let n = kept l k z f o in record { alive = new z n o.alive; level_is = ap (λ n. n.shape.level) (w.others z n) ∙ o.level_is; sep_is = rw m.stays.sep o.sep_is };
       anchored = u.others 0 (not_anchor t.status x lx g.anchored) (not_anchor t.status y ly g.anchored) ∙ g.anchored;
+      level = λ z h. (old z h, ap (λ n. n.shape.level) (w.others z (not_y z h)));
+      uprooted = pair_uprooted t t' u w (inr refl) (λ e. cc (m.left)) (λ e. cc (g.side.left x y m.left)) (λ e. cc) (λ e. cc);
       roots = m.put.roots;
       map = m.stays.map;
     }) g

@@ -3,7 +3,7 @@ use Rattle.std.proofs.Common.{ℕ, ◌≡◌, ◌<◌, ◌==◌, true, None, ari
 use Rattle.bl_claims.specs.Nodes.{Node, Roots, unbounded}
 use Rattle.bl_core_tree.specs.Trees.{IsLive, Tree, IsTree}
 use Rattle.bl_core_tree.proofs.Statuses.{live_live}
-use Rattle.bl_core_tree.proofs.SoundStarts.{start_status, start_zero, alive, none_paired}
+use Rattle.bl_core_tree.proofs.SoundStarts.{start_status, start_zero, alive, none_paired, none_uprooted}
 
 abbrev pub empty_leaf : Node
 empty_leaf = record { shape = record { level = 0; low = 0; end = unbounded; right = 0 }; look = λ k. None }
@@ -38,5 +38,7 @@ opens node roots e levels first =
       some_level = rw levels (omega arith);
       few_levels = rw levels (omega arith);
       leftmost = λ l h. let i : l ≡ 0 = (let j : l < 1 = rw levels at h in omega arith) in rw (i, first) (record { alive = live_1; level_is = rw e refl; sep_is = refl });
-      below = λ x h. rw (is x h, levels) (omega arith);
+      below = λ x h n. rw (is x h, levels) (omega arith);
+      uprooted = λ x h. absurd (none_uprooted (λ x. x == 1) x h);
+      empty = λ l k c h e. cc;
     }

@@ -6,7 +6,7 @@ use Rattle.bl_claims.specs.Nodes.{Shape, Node, Covers}
 use Rattle.bl_core_tree.specs.Trees.{Status, IsLive, IsShape, Tree, IsChild, IsTree}
 use Rattle.bl_core_tree.specs.Trees.Status.{Right}
 use Rattle.bl_core_tree.specs.Moves.{Relists}
-use Rattle.bl_core_tree.proofs.Statuses.{right_live, same_shapes, same_leftmost, not_here}
+use Rattle.bl_core_tree.proofs.Statuses.{live_live, right_live, same_shapes, same_leftmost, not_here}
 
 resep_shape : {top x y e : ℕ} {st : ℕ → Status} {shape : ℕ → Shape} {sep sep' : ℕ → ℕ} → st y ≡ Right x → (shape y).low ≤ e → IsAt y e sep sep' → IsShape top st shape sep → IsShape top st shape sep'
 resep_shape {st = st} sy low s g = record {
@@ -75,5 +75,11 @@ Relists-keeps {top} {p} {x} {y} {e} {q} {t} {t'} m g =
       some_level = rw m.put.roots g.some_level;
       few_levels = rw m.put.roots g.few_levels;
       leftmost = same_leftmost m.put.roots (λ l h. let o = g.leftmost l h in child l 0 (t.roots.leftmost l) (λ i. absurd (let s : t.sep y ≡ 0 = rw (← i) o.sep_is in omega (arith, m.above))) o);
-      below = λ z h. rw (same z, m.put.roots) (g.below z (rw m.status at h));
+      below = λ z h n. rw (same z, m.put.roots) (g.below z (rw m.status at h) (rw m.status at n));
+      uprooted = λ z h. let o = g.uprooted z (rw m.status at h) in record { level_is = rw (same z, m.put.roots) o.level_is; low = rw (same z) o.low; end = rw (same z) o.end };
+      empty = λ l k c h f.
+          let under = g.below p (rw m.live live_live) (λ i. cc (m.live)) in
+          let up : t.roots.levels ≤ l = rw m.put.roots at h in
+          let o = g.empty l k c up (ap (λ v. v k) (sym (m.others l (λ i. absurd (omega arith)))) ∙ f) in
+          record { page = o.page; is = rw m.status o.is; level_is = rw (same o.page) o.level_is };
     }

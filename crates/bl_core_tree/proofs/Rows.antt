@@ -1,11 +1,11 @@
 -- A row of one page changes.
-use Rattle.std.proofs.Common.{ℕ, ◌≡◌, ◌≢◌, Option, Some, suc, ap, sym, ◌∙◌, inl, inr}
+use Rattle.std.proofs.Common.{ℕ, ◌≡◌, ◌≢◌, ◌≤◌, Option, Some, suc, arith, ap, sym, ◌∙◌, inl, inr}
 use Rattle.std.proofs.lemmas.Bool.{cases_eq}
 use Rattle.bl_claims.specs.Nodes.{Node, Look, Covers}
-use Rattle.bl_core_tree.specs.Trees.{IsLive, Tree, IsChild, IsTree}
+use Rattle.bl_core_tree.specs.Trees.{IsLive, Tree, IsChild, HasUprooted, IsTree}
 use Rattle.bl_core_tree.specs.Trees.Status.{Live}
 use Rattle.bl_core_tree.specs.Moves.{IsMapRow, MayList, ChangesRow}
-use Rattle.bl_core_tree.proofs.Statuses.{same_shapes, same_leftmost, not_here}
+use Rattle.bl_core_tree.proofs.Statuses.{live_live, same_shapes, same_leftmost, not_here}
 
 -- another page says what its level says, when a row of x has changed
 pub row_others : {top : ℕ} {t : Tree} {v : Option ℕ} {map : ℕ → Look} (x z k j : ℕ) → IsTree top t → t.status x ≡ Live → Covers (t.node x).shape k → IsMapRow (t.node x).shape.level k v t.map map → IsLive (t.status z) → Covers (t.node z).shape j → z ≢ x → (t.node z).look j ≡ map (t.node z).shape.level j
@@ -31,6 +31,12 @@ row_listed {level = level} {k = k} g m child l j c h = elim (cases_eq (suc l) le
   | inr apart ↦ g.listed l j c (ap (λ f. f j) (sym (m.others _ apart)) ∙ h)
 ]
 
+-- the levels that page 0 has not say what they said
+pub row_empty : {top : ℕ} {t : Tree} {v : Option ℕ} {map : ℕ → Look} (x k : ℕ) → IsTree top t → t.status x ≡ Live → IsMapRow (t.node x).shape.level k v t.map map → (l j c : ℕ) → t.roots.levels ≤ l → map l j ≡ Some c → HasUprooted t l
+row_empty {t = t} x k g s m l j c h e =
+    let under = g.below x (rw s live_live) (λ i. cc) in
+    g.empty l j c h (ap (λ f. f j) (sym (m.others l (λ i. absurd (omega arith)))) ∙ e)
+
 pub ChangesRow-keeps : {top x k : ℕ} {v : Option ℕ} {b : Node} {t t' : Tree} → ChangesRow x k v b t t' → IsTree top t → IsTree top t'
 ChangesRow-keeps {top} {x} {k} {v} {b} {t} {t'} m g =
     let same : (z : ℕ) → (t'.node z).shape ≡ (t.node z).shape = λ z. elim (cases_eq z x) [
@@ -52,5 +58,7 @@ ChangesRow-keeps {top} {x} {k} {v} {b} {t} {t'} m g =
       some_level = rw m.put.roots g.some_level;
       few_levels = rw m.put.roots g.few_levels;
       leftmost = same_leftmost m.put.roots (λ l h. child l 0 (t.roots.leftmost l) (g.leftmost l h));
-      below = λ z h. rw (same z, m.put.roots) (g.below z (rw m.status at h));
+      below = λ z h n. rw (same z, m.put.roots) (g.below z (rw m.status at h) (rw m.status at n));
+      uprooted = λ z h. let o = g.uprooted z (rw m.status at h) in record { level_is = rw (same z, m.put.roots) o.level_is; low = rw (same z) o.low; end = rw (same z) o.end };
+      empty = λ l j c h e. let o = row_empty x k g m.live m.map l j c (rw m.put.roots at h) e in record { page = o.page; is = rw m.status o.is; level_is = rw (same o.page) o.level_is };
     }

@@ -7,7 +7,7 @@ use Rattle.bl_claims.specs.Nodes.{Node, Covers, Roots, unbounded}
 use Rattle.bl_claims.specs.Starts.{IsReached, AreSound, found, start_map}
 use Rattle.bl_claims.specs.Starts.IsReached.{Here, Next}
 use Rattle.bl_core_tree.specs.Trees.{Status, is_live, IsLive, Tree, IsTree}
-use Rattle.bl_core_tree.specs.Trees.Status.{Free, Live, Left, Right, Anchored}
+use Rattle.bl_core_tree.specs.Trees.Status.{Free, Live, Left, Right, Uprooted, Anchored}
 use Rattle.bl_core_tree.proofs.Statuses.{live_live, free_dead, anchored_dead}
 
 -- where each page stands
@@ -60,6 +60,15 @@ none_paired live x y = elim (start_kinds live x) [
   | inr r ↦ elim r [
     | inl e ↦ (λ f. cc, λ f. cc)
     | inr e ↦ (λ f. cc (e.0), λ f. cc (e.0))
+  ]
+]
+
+pub none_uprooted : (live : ℕ → Bool) (x : ℕ) → start_status live x ≢ Uprooted
+none_uprooted live x f = elim (start_kinds live x) [
+  | inl e ↦ cc
+  | inr r ↦ elim r [
+    | inl e ↦ cc
+    | inr e ↦ cc (e.0)
   ]
 ]
 
@@ -149,5 +158,7 @@ module _ (live : ℕ → Bool) (node : ℕ → Node) (roots : Roots) (g : AreSou
         some_level = g.some_level;
         few_levels = g.few_levels;
         leftmost = λ l h. let o = g.leftmost l h in record { alive = is_live_page _ o.0; level_is = o.1; sep_is = o.2 };
-        below = λ x h. (g.on_chain x (alive live x h)).0;
+        below = λ x h n. (g.on_chain x (alive live x h)).0;
+        uprooted = λ x h. absurd (none_uprooted live x h);
+        empty = λ l k c h e. absurd (let f : start_map node roots l k ≡ None = if_ge l roots.levels _ None h in cc);
       }

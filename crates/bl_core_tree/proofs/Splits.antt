@@ -1,12 +1,12 @@
 -- A split is published, with the row for which it is made.
-use Rattle.std.proofs.Common.{ℕ, ◌≡◌, ◌≢◌, ◌<◌, Option, arith, ap, ◌∙◌, inl, inr}
+use Rattle.std.proofs.Common.{ℕ, ◌≡◌, ◌≢◌, ◌<◌, Option, arith, ap, sym, ◌∙◌, inl, inr}
 use Rattle.std.proofs.lemmas.Bool.{cases_eq}
 use Rattle.bl_claims.specs.Nodes.{Node, Covers}
 use Rattle.bl_core_tree.specs.Trees.{IsLive, Tree, shapes, IsChild, IsTree}
-use Rattle.bl_core_tree.specs.Trees.Status.{Fresh, Anchored}
+use Rattle.bl_core_tree.specs.Trees.Status.{Fresh, Live, Uprooted, Anchored}
 use Rattle.bl_core_tree.specs.Moves.{Splits}
 use Rattle.bl_core_tree.proofs.Statuses.{live_live, fresh_dead, not_dead, shape_at, same_leftmost}
-use Rattle.bl_core_tree.proofs.Rows.{row_others, row_here, row_listed}
+use Rattle.bl_core_tree.proofs.Rows.{row_others, row_here, row_listed, row_empty}
 use Rattle.bl_core_tree.proofs.SplitShapes.{cut_shape}
 
 pub Splits-keeps : {top x y k : ℕ} {v : Option ℕ} {b : Node} {t t' : Tree} → Splits x y k v b t t' → IsTree top t → IsTree top t'
@@ -41,8 +41,18 @@ Splits-keeps {top} {x} {y} {k} {v} {b} {t} {t'} m g =
       some_level = rw m.put.roots g.some_level;
       few_levels = rw m.put.roots g.few_levels;
       leftmost = same_leftmost m.put.roots (λ l h. child l 0 (t.roots.leftmost l) (g.leftmost l h));
-      below = λ z h. rw (level z, m.put.roots) (elim (cases_eq z y) [
-        | inl zy ↦ rw (zy, c.right_level) (g.below x lx)
-        | inr zy ↦ g.below z (old z h zy)
+      below = λ z h n. rw (level z, m.put.roots) (elim (cases_eq z y) [
+        | inl zy ↦ rw (zy, c.right_level) (g.below x lx (λ i. cc (m.live)))
+        | inr zy ↦ g.below z (old z h zy) (λ i. n (m.status.others z zy ∙ i))
       ]);
+      uprooted = λ z h.
+          let zy : z ≢ y = λ i. (let e : Live ≡ Uprooted = sym m.status.at ∙ (ap t'.status (sym i) ∙ h) in cc) in
+          let was : t.status z ≡ Uprooted = sym (m.status.others z zy) ∙ h in
+          let zx : z ≢ x = λ i. (let e : Live ≡ Uprooted = sym m.live ∙ (ap t.status (sym i) ∙ was) in cc) in
+          let o = g.uprooted z was in
+          record { level_is = rw (m.put.node.others z zx, m.put.roots) o.level_is; low = rw (m.put.node.others z zx) o.low; end = rw (m.put.node.others z zx) o.end };
+      empty = λ l j z h e.
+          let o = row_empty x k g m.live m.map l j z (rw m.put.roots at h) e in
+          let zy : o.page ≢ y = λ i. (let f : Fresh ≡ Uprooted = sym m.fresh ∙ (ap t.status (sym i) ∙ o.is) in cc) in
+          record { page = o.page; is = m.status.others o.page zy ∙ o.is; level_is = level o.page ∙ o.level_is };
     }

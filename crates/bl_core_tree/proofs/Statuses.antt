@@ -5,7 +5,7 @@ use Rattle.std.proofs.Math.Path.{fun_ext}
 use Rattle.bl_page.specs.Machine.{IsAt}
 use Rattle.bl_claims.specs.Nodes.{Shape, Node, Roots, Covers}
 use Rattle.bl_core_tree.specs.Trees.{Status, is_live, IsLive, IsShape, Tree, shapes, IsChild}
-use Rattle.bl_core_tree.specs.Trees.Status.{Free, Fresh, Live, Left, Right, Gone, Anchored}
+use Rattle.bl_core_tree.specs.Trees.Status.{Free, Fresh, Live, Left, Right, Uprooted, Gone, Anchored}
 
 pub live_live : is_live Live ≡ true
 unfolding is_live
@@ -18,6 +18,10 @@ left_live y = refl
 pub right_live : (y : ℕ) → is_live (Right y) ≡ true
 unfolding is_live
 right_live y = refl
+
+pub uprooted_live : is_live Uprooted ≡ true
+unfolding is_live
+uprooted_live = refl
 
 pub gone_dead : is_live Gone ≡ false
 unfolding is_live

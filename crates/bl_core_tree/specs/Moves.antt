@@ -4,7 +4,7 @@ use Rattle.std.specs.Prelude.{◌≡◌, ◌≢◌, ℕ, suc, ◌<◌, ◌≤◌
 use Rattle.bl_page.specs.Machine.{IsAt}
 use Rattle.bl_claims.specs.Nodes.{Node, Look, Covers}
 use Rattle.bl_core_tree.specs.Trees.{is_live, Tree, IsChild}
-use Rattle.bl_core_tree.specs.Trees.Status.{Fresh, Live, Left, Right, Gone}
+use Rattle.bl_core_tree.specs.Trees.Status.{Fresh, Live, Left, Right, Uprooted, Gone}
 
 -- two places change
 pub record IsAtTwo {A : Type 0} (x y : ℕ) (a b : A) (old new : ℕ → A) : Type 0 where
@@ -147,6 +147,7 @@ pub record Grows (top y : ℕ) (t t' : Tree) : Type 0 where
   pub end : (t.node y).shape.end ≡ top
   pub right : (t.node y).shape.right ≡ 0
   pub y_sep : t.sep y ≡ 0
+  pub none : (z : ℕ) → t.status z ≢ Uprooted
   pub first : (l : ℕ) → suc l ≡ t.roots.levels → (t.node y).look 0 ≡ Some (t.roots.leftmost l)
   pub only : (k : ℕ) → k ≢ 0 → (t.node y).look k ≡ None
   pub levels : t'.roots.levels ≡ suc t.roots.levels
@@ -155,6 +156,28 @@ pub record Grows (top y : ℕ) (t t' : Tree) : Type 0 where
   pub status : IsAt y Live t.status t'.status
   pub sep : t'.sep ≡ t.sep
   pub map : IsAt t.roots.levels (t.node y).look t.map t'.map
+
+-- The height falls: page 0 is put, and names the top level no longer. Its only page x is uprooted.
+pub record Lowers (top x : ℕ) (t t' : Tree) : Type 0 where
+  pub live : t.status x ≡ Live
+  pub level : suc (t.node x).shape.level ≡ t.roots.levels
+  pub above : 0 < (t.node x).shape.level
+  pub low : (t.node x).shape.low ≡ 0
+  pub end : (t.node x).shape.end ≡ top
+  pub none : (z : ℕ) → t.status z ≢ Uprooted
+  pub levels : t'.roots.levels ≡ (t.node x).shape.level
+  pub leftmost : (l : ℕ) → l < (t.node x).shape.level → t'.roots.leftmost l ≡ t.roots.leftmost l
+  pub node : (z : ℕ) → z ≢ 0 → t'.node z ≡ t.node z
+  pub status : IsAt x Uprooted t.status t'.status
+  pub stays : Stays t t'
+
+-- Its last put: the uprooted page x is dead, and nothing is said of its level.
+pub record Falls (x : ℕ) (d : Node) (t t' : Tree) : Type 0 where
+  pub uprooted : t.status x ≡ Uprooted
+  pub put : IsPut x d t t'
+  pub status : IsAt x Gone t.status t'.status
+  pub sep : t'.sep ≡ t.sep
+  pub map : IsAt (t.node x).shape.level (λ k. None) t.map t'.map
 
 -- A merge's first put: page x takes all of its right neighbour y.
 pub record Joins (top x y : ℕ) (b : Node) (t t' : Tree) : Type 0 where

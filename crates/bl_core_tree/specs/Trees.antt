@@ -4,13 +4,15 @@ use Rattle.std.specs.Prelude.{◌≡◌, ◌≢◌, ℕ, suc, ◌<◌, ◌≤◌
 use Rattle.bl_claims.specs.Nodes.{Shape, Node, Look, Covers, Roots}
 
 -- Where a page stands: it is free, taken and not yet named by any page, in the tree, or dead and not yet released. While
--- two neighbours are compressed, the left one is Left of the right one, which is Right of it. Anchored is page 0.
+-- two neighbours are compressed, the left one is Left of the right one, which is Right of it. Uprooted is a top page that
+-- page 0 names no longer, and that is not yet dead. Anchored is page 0.
 pub data Status : Type 0 where
   Free : Status
   Fresh : Status
   Live : Status
   Left : (mate : ℕ) → Status
   Right : (mate : ℕ) → Status
+  Uprooted : Status
   Gone : Status
   Anchored : Status
 
@@ -20,6 +22,7 @@ is_live Fresh = false
 is_live Live = true
 is_live (Left y) = true
 is_live (Right y) = true
+is_live Uprooted = true
 is_live Gone = false
 is_live Anchored = false
 
@@ -59,6 +62,18 @@ pub record IsChild (t : Tree) (level k c : ℕ) : Type 0 where
   pub level_is : (t.node c).shape.level ≡ level
   pub sep_is : t.sep c ≡ k
 
+-- a page that covers every key, of the first level that page 0 has not
+pub record IsUprooted (top : ℕ) (t : Tree) (x : ℕ) : Type 0 where
+  pub level_is : (t.node x).shape.level ≡ t.roots.levels
+  pub low : (t.node x).shape.low ≡ 0
+  pub end : (t.node x).shape.end ≡ top
+
+-- an uprooted page of that level
+pub record HasUprooted (t : Tree) (level : ℕ) : Type 0 where
+  pub page : ℕ
+  pub is : t.status page ≡ Uprooted
+  pub level_is : (t.node page).shape.level ≡ level
+
 pub record IsTree (top : ℕ) (t : Tree) : Type 0 where
   pub side : IsShape top t.status (shapes t.node) t.sep
   pub agree : (x k : ℕ) → IsLive (t.status x) → Covers (t.node x).shape k → (t.node x).look k ≡ t.map (t.node x).shape.level k
@@ -67,4 +82,6 @@ pub record IsTree (top : ℕ) (t : Tree) : Type 0 where
   pub some_level : 0 < t.roots.levels
   pub few_levels : t.roots.levels ≤ 12
   pub leftmost : (l : ℕ) → l < t.roots.levels → IsChild t l 0 (t.roots.leftmost l)
-  pub below : (x : ℕ) → IsLive (t.status x) → (t.node x).shape.level < t.roots.levels
+  pub below : (x : ℕ) → IsLive (t.status x) → t.status x ≢ Uprooted → (t.node x).shape.level < t.roots.levels
+  pub uprooted : (x : ℕ) → t.status x ≡ Uprooted → IsUprooted top t x
+  pub empty : (l k c : ℕ) → t.roots.levels ≤ l → t.map l k ≡ Some c → HasUprooted t l
