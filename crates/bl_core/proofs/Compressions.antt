@@ -5,7 +5,7 @@ use Rattle.bl_page.specs.declared.page.Page.{Page}
 use Rattle.bl_page.specs.Machine.{Name}
 use Rattle.bl_claims.specs.Nodes.{unbounded}
 use Rattle.bl_core_tree.specs.Trees.{IsLive, IsTree}
-use Rattle.bl_core_tree.specs.Trees.Status.{Fresh, Live, Left, Right}
+use Rattle.bl_core_tree.specs.Trees.Status.{Fresh, Live, Left, Right, Uprooted}
 use Rattle.bl_core_tree.proofs.Statuses.{live_live, left_live, right_live}
 use Rattle.bl_core_tree.proofs.Merges.{Joins-keeps}
 use Rattle.bl_core_tree.proofs.Evenings.{GainsLeft-keeps, GainsRight-keeps}
@@ -49,6 +49,13 @@ couples_keeps know w w' p parent x y z c b s which level tree g =
         | inr i ↦ elim (cases_eq v y) [
           | inl j ↦ (let e : Right x ≡ Fresh = sym u.at_two ∙ (ap w'.status (sym j) ∙ h) in cc)
           | inr j ↦ absurd (s.none_fresh v o (sym (u.others v i j) ∙ h))
+        ]
+      ];
+      uproots = λ v h. elim (cases_eq v x) [
+        | inl i ↦ (let e : Left y ≡ Uprooted = sym u.at ∙ (ap w'.status (sym i) ∙ h) in cc)
+        | inr i ↦ elim (cases_eq v y) [
+          | inl j ↦ (let e : Right x ≡ Uprooted = sym u.at_two ∙ (ap w'.status (sym j) ∙ h) in cc)
+          | inr j ↦ inl (sym (u.others v i j) ∙ h)
         ]
       ];
       middle = λ a v o h. elim (cases_eq v x) [

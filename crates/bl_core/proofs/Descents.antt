@@ -6,8 +6,8 @@ use Rattle.bl_page.specs.Machine.Owner.{Released}
 use Rattle.bl_page.specs.Machine.Phase.{Running}
 use Rattle.bl_claims.specs.Nodes.{Covers, unbounded}
 use Rattle.bl_core_tree.specs.Trees.{Status, is_live, IsLive}
-use Rattle.bl_core_tree.specs.Trees.Status.{Free, Fresh, Live, Left, Right, Gone, Anchored}
-use Rattle.bl_core_tree.proofs.Statuses.{live_live, left_live, right_live, gone_dead}
+use Rattle.bl_core_tree.specs.Trees.Status.{Free, Fresh, Live, Left, Right, Uprooted, Gone, Anchored}
+use Rattle.bl_core_tree.proofs.Statuses.{live_live, left_live, right_live, uprooted_live, gone_dead}
 use Rattle.bl_claims.specs.Pages.{roots_of, IsTreePage}
 use Rattle.bl_claims.specs.Walks.{IsChildOf}
 use Rattle.bl_core.specs.Worlds.{Know, World, nodes, was_in, MayGet, IsGoes, IsGood}
@@ -22,6 +22,7 @@ live_or_gone Fresh h = absurd (false≢true (sym fresh_not ∙ h))
 live_or_gone Live h = inl live_live
 live_or_gone (Left y) h = inl (left_live y)
 live_or_gone (Right y) h = inl (right_live y)
+live_or_gone Uprooted h = inl uprooted_live
 live_or_gone Gone h = inr refl
 live_or_gone Anchored h = absurd (false≢true (sym anchored_not ∙ h))
 
@@ -69,10 +70,10 @@ module _ {P : Type 0} (know : P → Know) (w : World P) (g : IsGood know w) wher
       let o = g.tree.leftmost l h in
       record { may = may_live p since _ runs o.alive; least = omega (arith, o.level_is); most = omega (arith, o.level_is) }
 
-  -- from a dead page on
-  pub goes_on : (p : Name) (x least most : ℕ) → IsGoes w p (record { page = x; least = least; most = most }) → (nodes w.now x).shape.end ≡ 0 → IsGoes w p (record { page = (nodes w.now x).shape.right; least = least; most = most })
-  goes_on p x least most h e =
-      let k = (g.gone x (is_dead_page p x h.may e)).leads p h.may in
+  -- from a dead page on, where it has a link
+  pub goes_on : (p : Name) (x least most : ℕ) → IsGoes w p (record { page = x; least = least; most = most }) → (nodes w.now x).shape.end ≡ 0 → (nodes w.now x).shape.right ≢ 0 → IsGoes w p (record { page = (nodes w.now x).shape.right; least = least; most = most })
+  goes_on p x least most h e link =
+      let k = ((g.gone x (is_dead_page p x h.may e)).left link).leads p h.may in
       record { may = k.0; least = rw k.1 h.least; most = rw k.1 h.most }
 
   -- to the right, where the key is beyond the bound

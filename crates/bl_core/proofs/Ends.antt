@@ -41,7 +41,7 @@ pub record Turns {P : Type 0} (know : P → Know) (w w' : World P) (m : Mark) (b
   pub own : IsSure w' m.event.process (know b)
   pub recorded : IsRecorded w'
   -- what p may get, if it runs now, it may get from a dead page on
-  pub leads : (x : ℕ) → w.status x ≡ Gone → MayGet w' m.event.process x → MayGet w' m.event.process (nodes w.now x).shape.right × ((nodes w.now (nodes w.now x).shape.right).shape.level ≡ (nodes w.now x).shape.level)
+  pub leads : (x : ℕ) → w.status x ≡ Gone → (nodes w.now x).shape.right ≢ 0 → MayGet w' m.event.process x → MayGet w' m.event.process (nodes w.now x).shape.right × ((nodes w.now (nodes w.now x).shape.right).shape.level ≡ (nodes w.now x).shape.level)
   -- and no page that is retired
   pub unretired : (x time : ℕ) → MayGet w' m.event.process x → w.now.owner x ≡ Retired time → ⊥
   pub passed : (s : Passed) → IsPassed w (Some s) → IsPassed w' (Some s)
@@ -63,6 +63,7 @@ turns_keeps know w w' m b phase s g =
         held = held_step know w w' m b s.extends (λ x h. s.places x (g.owned.held x p (sym (s.owner x) ∙ h))) (λ x q n h. sym (s.owner x) ∙ h) g.owned;
         small = λ x h. rw s.extends.size (g.owned.small x (rw s.ghost.status at h));
         one_anchor = λ x h. g.owned.one_anchor x (rw s.ghost.status at h);
+        uprooted = λ x h. let k = g.owned.uprooted x (rw s.ghost.status at h) in record { by = k.by; held = s.owner x ∙ k.held; anchor_held = s.owner 0 ∙ k.anchor_held };
       };
       recorded = s.recorded;
       bounded = rw s.ghost.map g.bounded;
@@ -76,15 +77,20 @@ turns_keeps know w w' m b phase s g =
           let old = g.gone x o in
           record {
             end = rw (node x) old.end;
-            leads = λ q m. elim (name_cases q p) [
-              | inl i ↦ let k = s.leads x o (rw i at m) in rw (i, node x) (k.0, ap (λ v. v.shape.level) (node (nodes w.now x).shape.right) ∙ k.1)
-              | inr i ↦ let k = old.leads q (may_back q x i m) in rw (node x) (may q (nodes w.now x).shape.right i k.0, ap (λ v. v.shape.level) (node (nodes w.now x).shape.right) ∙ k.1)
-            ];
-            not_yet = λ q held. let k = old.not_yet q (sym (s.owner x) ∙ held) in rw (node x) (s.owner _ ∙ k.0, rw s.ghost.status k.1, ap (λ v. v.shape.level) (node (nodes w.now x).shape.right) ∙ k.2);
-            later = λ q time next m e. rw (node x) (λ f. elim (name_cases q p) [
-              | inl i ↦ absurd (s.unretired x time (rw i at m) (sym (s.owner x) ∙ e))
-              | inr i ↦ old.later q time next (may_back q x i m) (sym (s.owner x) ∙ e) (sym (s.owner (nodes w.now x).shape.right) ∙ f)
-            ]);
+            left = λ some.
+                let link : (nodes w.now x).shape.right ≢ 0 = rw (node x) at some in
+                let was_left = old.left link in
+                record {
+                  leads = λ q m. elim (name_cases q p) [
+                    | inl i ↦ let k = s.leads x o link (rw i at m) in rw (i, node x) (k.0, ap (λ v. v.shape.level) (node (nodes w.now x).shape.right) ∙ k.1)
+                    | inr i ↦ let k = was_left.leads q (may_back q x i m) in rw (node x) (may q (nodes w.now x).shape.right i k.0, ap (λ v. v.shape.level) (node (nodes w.now x).shape.right) ∙ k.1)
+                  ];
+                  not_yet = λ q held. let k = was_left.not_yet q (sym (s.owner x) ∙ held) in rw (node x) (s.owner _ ∙ k.0, rw s.ghost.status k.1, ap (λ v. v.shape.level) (node (nodes w.now x).shape.right) ∙ k.2);
+                  later = λ q time next m e. rw (node x) (λ f. elim (name_cases q p) [
+                    | inl i ↦ absurd (s.unretired x time (rw i at m) (sym (s.owner x) ∙ e))
+                    | inr i ↦ was_left.later q time next (may_back q x i m) (sym (s.owner x) ∙ e) (sym (s.owner (nodes w.now x).shape.right) ∙ f)
+                  ]);
+                };
           };
       middles = λ x y h. let o : w.status y ≡ _ = rw s.ghost.status at h in let i = g.middles x y o in middles_step know w w' m b x y s.extends s.middle i (λ z k l. (s.owner z ∙ k, ap (λ f. f z) s.ghost.status, node z)) o;
       sure = all_sure know w w' m b s.extends (record {
@@ -124,9 +130,9 @@ Begins-keeps know w w' p b s g =
       places = s.places;
       own = s.own;
       recorded = record_begin w w' p b s.extends (λ k. ap (λ f. f 0 k) s.ghost.map) g.recorded;
-      leads = λ x d h. elim (dead_owner know w x g.owned d) [
+      leads = λ x d link h. elim (dead_owner know w x g.owned d) [
         | inl o ↦
-            let k = (g.gone x d).not_yet o.0 o.1 in
+            let k = ((g.gone x d).left link).not_yet o.0 o.1 in
             (record { since = h.since; runs = h.runs; was = rw s.ghost.status (was_live _ k.1); kept = λ t e. (let f : Retired t ≡ Held o.0 = sym e ∙ (change.1 _ ∙ k.0) in cc) }, k.2)
         | inr o ↦ absurd (
             let f : Running h.since ≡ Running change.2.0 = sym h.runs ∙ change.2.3.at in
@@ -174,7 +180,7 @@ Finishes-keeps know w w' p answer b s g =
       places = s.places;
       own = s.own;
       recorded = record_end w w' p answer b s.extends s.told (λ k. ap (λ f. f 0 k) s.ghost.map) g.recorded;
-      leads = λ x d h. (let f : Running h.since ≡ Ended = sym h.runs ∙ change.2.at in cc);
+      leads = λ x d link h. (let f : Running h.since ≡ Ended = sym h.runs ∙ change.2.at in cc);
       unretired = λ x time h o. (let f : Running h.since ≡ Ended = sym h.runs ∙ change.2.at in cc);
       passed = λ a h. (
         omega (arith, h.0),

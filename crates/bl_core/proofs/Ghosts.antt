@@ -104,9 +104,9 @@ still_keeps know w w' m b s say maps name owned own g =
       names = names_step w w' m s.extends.trail name g.names;
       gone = λ x h.
           let o : w.status x ≡ Gone = rw s.ghosts.status at h in
-          gone_still w w' steady x o (ap node_of (s.ghosts.contents x)) (λ q held.
+          gone_still w w' steady x o (ap node_of (s.ghosts.contents x)) (λ link q held.
           let d = s.dead x q o held in
-          let old = (g.gone x o).not_yet q d.0 in
+          let old = ((g.gone x o).left link).not_yet q d.0 in
           (d.0, d.1 old.0, rw s.ghosts.status old.1)) (g.gone x o);
       middles = λ x y h. let o : w.status y ≡ Right x = rw s.ghosts.status at h in let h = g.middles x y o in middles_step know w w' m b x y s.extends s.middle h (λ z k l. (s.paired x y h o z k l, ap (λ f. f z) s.ghosts.status, ap node_of (s.ghosts.contents z))) o;
       sure = all_sure know w w' m b s.extends (still_leaves s) g.sure own;

@@ -4,7 +4,7 @@ use Rattle.std.proofs.lemmas.Bool.{cases_eq}
 use Rattle.bl_page.specs.Machine.{Name, Owner, Act}
 use Rattle.bl_page.specs.Machine.Owner.{Released, Held, Retired}
 use Rattle.bl_page.specs.Machine.Act.{Latch}
-use Rattle.bl_core_tree.specs.Trees.Status.{Fresh, Live, Gone, Anchored}
+use Rattle.bl_core_tree.specs.Trees.Status.{Fresh, Live, Uprooted, Gone, Anchored}
 use Rattle.bl_core.specs.Worlds.{Know, World, HoldsPage, IsGood, Extends, silent}
 use Rattle.bl_core.proofs.Ghosts.{Still, still_keeps, held_step}
 use Rattle.bl_core.proofs.Watches.{Learns, SameGhost, learns_sure, may_say}
@@ -71,6 +71,9 @@ Latches-keeps know w w' p x b s g =
           (λ y q n h. sym (back y (not_x y (Held q) h (λ e. n cc))) ∙ h) g.owned;
       small = λ y h. rw s.extends.size (g.owned.small y (rw s.ghost.status at h));
       one_anchor = λ y h. g.owned.one_anchor y (rw s.ghost.status at h);
+      uprooted = λ y h.
+          let k = g.owned.uprooted y (rw s.ghost.status at h) in
+          record { by = k.by; held = back y (was_not_x y (Held k.by) k.held (λ e. cc)) ∙ k.held; anchor_held = back 0 (was_not_x 0 (Held k.by) k.anchor_held (λ e. cc)) ∙ k.anchor_held };
     })
     (learns_sure know w w' (silent p (Latch x)) b (know b) still s.learns)
     g
@@ -84,6 +87,8 @@ pub record Opens {P : Type 0} (know : P → Know) (w w' : World P) (p : Name) (x
   pub no_middle : (know (w.proc p)).middle ≡ None
   -- a page that p has marked dead it retires before it opens another
   pub no_dead : (y : ℕ) → w.status y ≡ Gone → w.now.owner y ≢ Held p
+  -- and a top page that the anchor names no longer it makes dead
+  pub no_uprooted : (y : ℕ) → w.status y ≡ Uprooted → w.now.owner y ≢ Held p
   pub middle : (know b).middle ≡ (know (w.proc p)).middle
   pub places : (y : ℕ) → y ≢ x → HoldsPage (know (w.proc p)).holds y → HoldsPage (know b).holds y
   pub learns : Learns w w' (silent p (Act.Open x)) (know b)
@@ -133,6 +138,11 @@ Opens-keeps know w w' p x b s g =
           (λ y q n h. sym (back y (not_x y (Held q) h (λ e. cc))) ∙ h) g.owned;
       small = λ y h. rw s.extends.size (g.owned.small y (rw s.ghost.status at h));
       one_anchor = λ y h. g.owned.one_anchor y (rw s.ghost.status at h);
+      uprooted = λ y h.
+          let o : w.status y ≡ Uprooted = rw s.ghost.status at h in
+          let k = g.owned.uprooted y o in
+          let other : k.by ≢ p = λ i. s.no_uprooted y o (k.held ∙ ap Held i) in
+          record { by = k.by; held = back y (was_not_x y (Held k.by) k.held (λ e. other cc)) ∙ k.held; anchor_held = back 0 (was_not_x 0 (Held k.by) k.anchor_held (λ e. other cc)) ∙ k.anchor_held };
     })
     (learns_sure know w w' (silent p (Act.Open x)) b (know b) still s.learns)
     g

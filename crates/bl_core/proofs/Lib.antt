@@ -20,6 +20,7 @@ pub mod Descents
 pub mod Children
 pub mod Living
 pub mod Moves
+pub mod Lowerings
 pub mod Fitted
 pub mod Compressions
 pub mod Partings

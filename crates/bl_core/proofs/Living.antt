@@ -6,7 +6,7 @@ use Rattle.bl_page.specs.Machine.{Name}
 use Rattle.bl_page.specs.Machine.Owner.{Held}
 use Rattle.bl_claims.specs.Nodes.{unbounded}
 use Rattle.bl_core_tree.specs.Trees.{Status, is_live, IsLive, IsTree}
-use Rattle.bl_core_tree.specs.Trees.Status.{Free, Fresh, Live, Right, Gone, Anchored}
+use Rattle.bl_core_tree.specs.Trees.Status.{Free, Fresh, Live, Right, Uprooted, Gone, Anchored}
 use Rattle.bl_core_tree.proofs.Statuses.{live_live, fresh_dead, free_dead, gone_dead, anchored_dead}
 use Rattle.bl_claims.specs.Pages.{node_of}
 use Rattle.bl_claims.specs.Trails.{Said}
@@ -22,6 +22,7 @@ pub record Living {P : Type 0} (know : P → Know) (w w' : World P) (p : Name) (
   pub sep : (y : ℕ) → (w'.sep y ≡ w.sep y) ⊎ ((w.now.owner y ≡ Held p) × (w.status y ≡ Fresh))
   pub level : was_in (w.status x) ≡ true → (node_of c).shape.level ≡ (nodes w.now x).shape.level
   pub alone : (y : ℕ) → w.now.owner y ≡ Held p → w'.status y ≡ Fresh → y ≡ x
+  pub uproots : (y : ℕ) → w'.status y ≡ Uprooted → (w.status y ≡ Uprooted) ⊎ (w.now.owner 0 ≡ Held p)
   pub middle : (a y : ℕ) → w.now.owner y ≡ Held p → w'.status y ≡ Right a → InMiddleOf know w w' p b a y
 
 -- a live status is none of these
@@ -58,6 +59,7 @@ Living-puts know w w' p x c said b s =
         | inl e ↦ inl (rw e at h)
         | inr k ↦ elim k.1 [ inl l ↦ inl l.0 | inr l ↦ inr l.2 ]
       ];
+      uproots = λ y o h. s.uproots y h;
       gone = λ y o h. absurd (s.owes.no_dead y o (kept y Gone gone_dead h));
       no_dead = s.owes.no_dead;
       middle = s.middle;

@@ -3,9 +3,10 @@ use Rattle.std.proofs.Common.{ℕ, ◌≡◌, ◌≢◌, Option, None, ap, sym, 
 use Rattle.std.proofs.lemmas.Bool.{cases_eq, false≢true}
 use Rattle.bl_page.specs.declared.page.Page.{Page}
 use Rattle.bl_page.specs.Machine.{Name}
+use Rattle.bl_page.specs.Machine.Owner.{Held}
 use Rattle.bl_claims.specs.Nodes.{unbounded}
 use Rattle.bl_core_tree.specs.Trees.{Status}
-use Rattle.bl_core_tree.specs.Trees.Status.{Fresh, Live, Right, Anchored}
+use Rattle.bl_core_tree.specs.Trees.Status.{Fresh, Live, Right, Uprooted, Anchored}
 use Rattle.bl_core_tree.specs.Moves.{IsPut}
 use Rattle.bl_core_tree.proofs.Statuses.{fresh_dead}
 use Rattle.bl_core_tree.proofs.Rows.{ChangesRow-keeps}
@@ -16,7 +17,7 @@ use Rattle.bl_claims.specs.Pages.{node_of, roots_of}
 use Rattle.bl_claims.specs.Trails.{Said}
 use Rattle.bl_core.specs.Worlds.{nodes, Know, World, tree_of, was_in, IsGood}
 use Rattle.bl_core.proofs.Steady.{fresh_not, anchored_not}
-use Rattle.bl_core.proofs.Puts.{Puts-keeps}
+use Rattle.bl_core.proofs.Puts.{same_owner, Puts-keeps}
 use Rattle.bl_core.specs.Puts.{Owes, PutsFresh, PutsRow, PutsSplit, PutsTop}
 use Rattle.bl_core.proofs.Living.{Living-puts, none_middle, middle_kept}
 
@@ -28,6 +29,12 @@ put_page w w' o n =
 
 pub not_zero : {P : Type 0} (know : P → Know) (w : World P) (x : ℕ) (a : Status) → IsGood know w → w.status x ≡ a → Anchored ≢ a → 0 ≢ x
 not_zero know w x a g e n i = n (sym g.tree.anchored ∙ (ap w.status i ∙ e))
+
+-- whoever holds the anchor, and no uprooted page, knows that there is none
+pub none_uprooted : {P : Type 0} (know : P → Know) (w : World P) (p : Name) (z : ℕ) → w.now.owner 0 ≡ Held p → ((y : ℕ) → w.now.owner y ≡ Held p → w.status y ≢ Uprooted) → IsGood know w → w.status z ≢ Uprooted
+none_uprooted know w p z held_0 none g h =
+    let k = g.owned.uprooted z h in
+    none z (k.held ∙ ap Held (same_owner p k.by (w.now.owner 0) held_0 k.anchor_held)) h
 
 pub PutsFresh-keeps : {P : Type 0} (know : P → Know) (w w' : World P) (p : Name) (y key : ℕ) (c : Page) (b : P) → PutsFresh know w w' p y key c b → IsGood know w → IsGood know w'
 PutsFresh-keeps know w w' p y key c b s g =
@@ -50,6 +57,7 @@ PutsFresh-keeps know w w' p y key c b s g =
       sep = λ z. elim (cases_eq z y) [ inl i ↦ inr (rw i held, rw i s.fresh) | inr i ↦ inl (s.sep.others z i) ];
       level = λ h. absurd (false≢true (sym fresh_not ∙ (ap was_in (sym s.fresh) ∙ h)));
       alone = λ z o h. s.only z o (rw s.status at h);
+      uproots = λ z h. inl (rw s.status at h);
       middle = λ a z o h. absurd (none_middle know w p a z s.no_middle g o (rw s.status at h));
     })) g
 
@@ -67,6 +75,7 @@ PutsRow-keeps know w w' p x k v c said b s g =
       sep = λ z. inl (ap (λ f. f z) s.sep);
       level = λ h. ap (λ n. n.level) s.row.shape;
       alone = λ z o h. absurd (s.none_fresh z o (rw s.status at h));
+      uproots = λ z h. inl (rw s.status at h);
       middle = λ a z o h. middle_kept know w w' p b a z s.middle s.status same g o (rw s.status at h);
     })) g
 
@@ -83,12 +92,14 @@ PutsSplit-keeps know w w' p x y k v c said b s g =
       sep = λ z. inl (ap (λ f. f z) s.sep);
       level = λ h. s.cut.level;
       alone = λ z o h. let n = not_y z Fresh h (λ e. cc) in absurd (n (s.only z o (sym (u.others z n) ∙ h)));
+      uproots = λ z h. inl (sym (u.others z (not_y z Uprooted h (λ e. cc))) ∙ h);
       middle = λ a z o h. absurd (none_middle know w p a z s.no_middle g o (sym (u.others z (not_y z (Right a) h (λ e. cc))) ∙ h));
     })) g
 
 pub PutsTop-keeps : {P : Type 0} (know : P → Know) (w w' : World P) (p : Name) (y : ℕ) (c : Page) (b : P) → PutsTop know w w' p y c b → IsGood know w → IsGood know w'
 PutsTop-keeps know w w' p y c b s g =
     let change = s.owes.extends.steps.changes in
+    let held_0 : w.now.owner 0 ≡ Held p = s.owes.extends.steps.enabled in
     let u = s.status in
     let apart : y ≢ 0 = λ i. not_zero know w y Fresh g s.fresh (λ e. cc) (sym i) in
     let not_y : (z : ℕ) (a : Status) → w'.status z ≡ a → Live ≢ a → z ≢ y = λ z a h n i. n (sym u.at ∙ (ap w'.status (sym i) ∙ h)) in
@@ -102,6 +113,7 @@ PutsTop-keeps know w w' p y c b s g =
         end = s.end;
         right = s.right;
         y_sep = s.y_sep;
+        none = λ z h. none_uprooted know w p z held_0 s.none_uprooted g h;
         first = s.first;
         only = s.others;
         levels = rw change.0.at s.levels;
@@ -115,5 +127,6 @@ PutsTop-keeps know w w' p y c b s g =
       sep = λ z. inl (ap (λ f. f z) s.sep);
       level = λ h. absurd (false≢true (sym anchored_not ∙ (ap was_in (sym g.tree.anchored) ∙ h)));
       alone = λ z o h. let n = not_y z Fresh h (λ e. cc) in absurd (n (s.only z o (sym (u.others z n) ∙ h)));
+      uproots = λ z h. inl (sym (u.others z (not_y z Uprooted h (λ e. cc))) ∙ h);
       middle = λ a z o h. absurd (none_middle know w p a z s.no_middle g o (sym (u.others z (not_y z (Right a) h (λ e. cc))) ∙ h));
     })) g

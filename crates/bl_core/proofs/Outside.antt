@@ -6,7 +6,7 @@ use Rattle.bl_page.specs.Machine.Owner.{Released, Held, Retired}
 use Rattle.bl_page.specs.Machine.Act.{Take, Retire, Release}
 use Rattle.bl_claims.specs.Nodes.{unbounded}
 use Rattle.bl_core_tree.specs.Trees.{Status, IsLive, IsTree}
-use Rattle.bl_core_tree.specs.Trees.Status.{Free, Fresh, Live, Right, Gone, Anchored}
+use Rattle.bl_core_tree.specs.Trees.Status.{Free, Fresh, Live, Right, Uprooted, Gone, Anchored}
 use Rattle.bl_core_tree.proofs.Statuses.{free_dead, fresh_dead, gone_dead, not_dead}
 use Rattle.bl_core_tree.proofs.Asides.{Aside-keeps}
 use Rattle.bl_claims.specs.Pages.{node_of, roots_of}
@@ -88,6 +88,9 @@ Takes-keeps know w w' p x b s g =
       held = held_step know w w' (silent p (Take x)) b s.extends
           (λ y h. elim (cases_eq y x) [ inl i ↦ rw i s.here | inr i ↦ s.places y (g.owned.held y p (sym (back y i) ∙ h)) ])
           (λ y q n h. sym (back y (not_x y (Held q) h (λ e. n cc))) ∙ h) g.owned;
+      uprooted = λ y h.
+          let k = g.owned.uprooted y (sym (u.others y (status_not y Uprooted h (λ e. cc))) ∙ h) in
+          record { by = k.by; held = back y (was_not_x y (Held k.by) k.held (λ e. cc)) ∙ k.held; anchor_held = back 0 (was_not_x 0 (Held k.by) k.anchor_held (λ e. cc)) ∙ k.anchor_held };
       small = λ y h. rw s.extends.size (elim (cases_eq y x) [ inl i ↦ rw i s.within | inr i ↦ g.owned.small y (λ e. h (u.others y i ∙ e)) ]);
       one_anchor = λ y h. g.owned.one_anchor y (sym (u.others y (status_not y Anchored h (λ e. cc))) ∙ h);
     })
@@ -105,9 +108,9 @@ Takes-keeps know w w' p x b s g =
     (λ y h.
     let n = status_not y Gone h (λ e. cc) in
     let o = sym (u.others y n) ∙ h in
-    gone_still w w' steady y o (ap node_of (change.0 y)) (λ q held.
+    gone_still w w' steady y o (ap node_of (change.0 y)) (λ link q held.
     let v = sym (back y n) ∙ held in
-    let old = (g.gone y o).not_yet q v in
+    let old = ((g.gone y o).left link).not_yet q v in
     (v, back _ (live_was_not _ old.1) ∙ old.0, rw (u.others _ (live_was_not _ old.1)) old.1)) (g.gone y o))
     (λ a y h.
     let o = sym (u.others y (status_not y (Right a) h (λ e. cc))) ∙ h in
@@ -192,6 +195,10 @@ Retires-keeps know w w' p x b s g =
       held = held_step know w w' (silent p (Retire x)) b s.extends
           (λ y h. let n = not_x y (Held p) h (λ e. cc) in s.places y n (g.owned.held y p (sym (back y n) ∙ h)))
           (λ y q n h. sym (back y (not_x y (Held q) h (λ e. cc))) ∙ h) g.owned;
+      uprooted = λ y h.
+          let o : w.status y ≡ Uprooted = rw s.status at h in
+          let k = g.owned.uprooted y o in
+          record { by = k.by; held = back y (status_was_not y Uprooted o (λ e. cc)) ∙ k.held; anchor_held = back 0 (status_was_not 0 Anchored g.tree.anchored (λ e. cc)) ∙ k.anchor_held };
       small = λ y h. rw s.extends.size (g.owned.small y (rw s.status at h));
       one_anchor = λ y h. g.owned.one_anchor y (rw s.status at h);
     })
@@ -210,27 +217,31 @@ Retires-keeps know w w' p x b s g =
     let old = g.gone y o in
     record {
       end = rw (node y) old.end;
-      leads = λ q m. let k = old.leads q (may_back q y m) in rw (node y) (may q (nodes w.now y).shape.right k.0, ap (λ v. v.shape.level) (node (nodes w.now y).shape.right) ∙ k.1);
-      not_yet = λ q held.
-          let v = sym (back y (not_x y (Held q) held (λ e. cc))) ∙ held in
-          let k = old.not_yet q v in
-          rw (node y) (back _ (live_was_not _ k.1) ∙ k.0, rw s.status k.1, ap (λ v. v.shape.level) (node (nodes w.now y).shape.right) ∙ k.2);
-      later = λ q time next m e. rw (node y) (λ f. elim (cases_eq y x) [
-        | inl i ↦
-            let k = old.not_yet p (ap w.now.owner i ∙ was) in
-            let v : Held p ≡ Retired next = sym k.0 ∙ (sym (back (nodes w.now y).shape.right (live_was_not (nodes w.now y).shape.right k.1)) ∙ f) in
-            absurd (cc v)
-        | inr i ↦
-            let was_retired : w.now.owner y ≡ Retired time = sym (back y i) ∙ e in
-            elim (cases_eq (nodes w.now y).shape.right x) [
-              | inl j ↦
-                  let v : Retired next ≡ Retired change.0 = sym f ∙ (ap w'.now.owner j ∙ owner.at) in
-                  let u : next ≡ change.0 = cc in
-                  let before = (g.owned.retired y time was_retired).1 in
-                  omega (arith, change.1)
-              | inr j ↦ old.later q time next (may_back q y m) was_retired (sym (back (nodes w.now y).shape.right j) ∙ f)
-            ]
-      ]);
+      left = λ some.
+          let was_left = old.left (rw (node y) at some) in
+          record {
+            leads = λ q m. let k = was_left.leads q (may_back q y m) in rw (node y) (may q (nodes w.now y).shape.right k.0, ap (λ v. v.shape.level) (node (nodes w.now y).shape.right) ∙ k.1);
+            not_yet = λ q held.
+                let v = sym (back y (not_x y (Held q) held (λ e. cc))) ∙ held in
+                let k = was_left.not_yet q v in
+                rw (node y) (back _ (live_was_not _ k.1) ∙ k.0, rw s.status k.1, ap (λ v. v.shape.level) (node (nodes w.now y).shape.right) ∙ k.2);
+            later = λ q time next m e. rw (node y) (λ f. elim (cases_eq y x) [
+              | inl i ↦
+                  let k = was_left.not_yet p (ap w.now.owner i ∙ was) in
+                  let v : Held p ≡ Retired next = sym k.0 ∙ (sym (back (nodes w.now y).shape.right (live_was_not (nodes w.now y).shape.right k.1)) ∙ f) in
+                  absurd (cc v)
+              | inr i ↦
+                  let was_retired : w.now.owner y ≡ Retired time = sym (back y i) ∙ e in
+                  elim (cases_eq (nodes w.now y).shape.right x) [
+                    | inl j ↦
+                        let v : Retired next ≡ Retired change.0 = sym f ∙ (ap w'.now.owner j ∙ owner.at) in
+                        let u : next ≡ change.0 = cc in
+                        let before = (g.owned.retired y time was_retired).1 in
+                        omega (arith, change.1)
+                    | inr j ↦ was_left.later q time next (may_back q y m) was_retired (sym (back (nodes w.now y).shape.right j) ∙ f)
+                  ]
+            ]);
+          };
     })
     (λ a y h.
     let o : w.status y ≡ Right a = rw s.status at h in
@@ -309,6 +320,9 @@ Releases-keeps know w w' p x b s g =
       held = held_step know w w' (silent p (Release x)) b s.extends
           (λ y h. s.places y (g.owned.held y p (sym (back y (not_x y (Held p) h (λ e. cc))) ∙ h)))
           (λ y q n h. sym (back y (not_x y (Held q) h (λ e. cc))) ∙ h) g.owned;
+      uprooted = λ y h.
+          let k = g.owned.uprooted y (sym (u.others y (status_not y Uprooted h (λ e. cc))) ∙ h) in
+          record { by = k.by; held = back y (was_held_not y k.by k.held) ∙ k.held; anchor_held = back 0 (was_held_not 0 k.by k.anchor_held) ∙ k.anchor_held };
       small = λ y h. rw s.extends.size (elim (cases_eq y x) [ inl i ↦ absurd (h (rw i u.at)) | inr i ↦ g.owned.small y (λ e. h (u.others y i ∙ e)) ]);
       one_anchor = λ y h. g.owned.one_anchor y (sym (u.others y (status_not y Anchored h (λ e. cc))) ∙ h);
     })
@@ -325,11 +339,15 @@ Releases-keeps know w w' p x b s g =
     let old = g.gone y (sym (u.others y n) ∙ h) in
     record {
       end = rw (node y) old.end;
-      leads = λ q m. let k = old.leads q (may_back q y n m) in rw (node y) (may q (nodes w.now y).shape.right k.0, ap (λ v. v.shape.level) (node (nodes w.now y).shape.right) ∙ k.1);
-      not_yet = λ q held.
-          let k = old.not_yet q (sym (back y n) ∙ held) in
-          rw (node y) (back _ (live_was_not _ k.1) ∙ k.0, rw (u.others _ (live_was_not _ k.1)) k.1, ap (λ v. v.shape.level) (node (nodes w.now y).shape.right) ∙ k.2);
-      later = λ q time next m e. rw (node y) (λ f. old.later q time next (may_back q y n m) (sym (back y n) ∙ e) (sym (back (nodes w.now y).shape.right (not_x (nodes w.now y).shape.right (Retired next) f (λ v. cc))) ∙ f));
+      left = λ some.
+          let was_left = old.left (rw (node y) at some) in
+          record {
+            leads = λ q m. let k = was_left.leads q (may_back q y n m) in rw (node y) (may q (nodes w.now y).shape.right k.0, ap (λ v. v.shape.level) (node (nodes w.now y).shape.right) ∙ k.1);
+            not_yet = λ q held.
+                let k = was_left.not_yet q (sym (back y n) ∙ held) in
+                rw (node y) (back _ (live_was_not _ k.1) ∙ k.0, rw (u.others _ (live_was_not _ k.1)) k.1, ap (λ v. v.shape.level) (node (nodes w.now y).shape.right) ∙ k.2);
+            later = λ q time next m e. rw (node y) (λ f. was_left.later q time next (may_back q y n m) (sym (back y n) ∙ e) (sym (back (nodes w.now y).shape.right (not_x (nodes w.now y).shape.right (Retired next) f (λ v. cc))) ∙ f));
+          };
     })
     (λ a y h.
     let o = sym (u.others y (status_not y (Right a) h (λ e. cc))) ∙ h in

@@ -6,7 +6,7 @@ use Rattle.bl_page.specs.Machine.{Name}
 use Rattle.bl_page.specs.Machine.Owner.{Held}
 use Rattle.bl_claims.specs.Nodes.{unbounded}
 use Rattle.bl_core_tree.specs.Trees.{Status, IsLive, IsTree}
-use Rattle.bl_core_tree.specs.Trees.Status.{Free, Fresh, Live, Left, Right, Gone, Anchored}
+use Rattle.bl_core_tree.specs.Trees.Status.{Free, Fresh, Live, Left, Right, Uprooted, Gone, Anchored}
 use Rattle.bl_core_tree.specs.Moves.{IsAtTwo}
 use Rattle.bl_core_tree.proofs.Statuses.{live_live, left_live, right_live}
 use Rattle.bl_core_tree.proofs.Merges.{Dies-keeps}
@@ -54,6 +54,7 @@ loss_keeps know w w' p parent x y z c b s u level tree g =
       sep = λ v. inl (ap (λ f. f v) s.sep);
       level = λ h. level;
       alone = λ v o h. absurd (s.none_fresh v o (before v Fresh h (λ e. cc)));
+      uproots = λ v h. inl (before v Uprooted h (λ e. cc));
       middle = λ a v o h. absurd (not_y v (Right a) h (λ e. cc) (one_middle know w p parent x y a v s.middle g o (before v (Right a) h (λ e. cc))));
     })) g
 
@@ -89,6 +90,7 @@ PutsRelisted-keeps know w w' p parent x y e c b s g =
       level = λ h. ap (λ n. n.level) s.relisted.shape;
       fresh = λ v o h. absurd (s.none_fresh v o (sym (still v) ∙ h));
       becomes = λ v o h. inl (rw (still v) at h);
+      uproots = λ v o h. inl (sym (still v) ∙ h);
       gone = λ v o h. absurd (s.owes.no_dead v o (sym (still v) ∙ h));
       no_dead = s.owes.no_dead;
       middle = λ a v o h. middle_kept know w w' p b a v s.middle s.status same g o (sym (still v) ∙ h);
@@ -131,14 +133,17 @@ PutsDead-keeps know w w' p parent x y c b m g =
         | inl i ↦ rw i lx
         | inr i ↦ elim (cases_eq v y) [ inl j ↦ rw j ly | inr j ↦ rw (u.others v i j) at h ]
       ]);
+      uproots = λ v o h. inl (before v Uprooted h (λ e. cc) (λ e. cc));
       gone = λ v o h. elim (cases_eq v y) [
         | inl j ↦ (
           j,
           record {
             end = rw put.node.at m.dead_end;
-            alive = rw (put.node.at, m.leads, u.at) live_live;
-            held = rw (put.node.at, m.leads) s.held;
-            level = rw (put.node.at, m.leads, put.node.others x xy) (s.level ∙ sym m.dead_level);
+            left = λ link. record {
+              alive = rw (put.node.at, m.leads, u.at) live_live;
+              held = rw (put.node.at, m.leads) s.held;
+              level = rw (put.node.at, m.leads, put.node.others x xy) (s.level ∙ sym m.dead_level);
+            };
           },
         )
         | inr j ↦ absurd (s.owes.no_dead v o (sym (u.others v (not_x v Gone h (λ e. cc)) j) ∙ h))

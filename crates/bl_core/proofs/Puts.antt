@@ -8,10 +8,10 @@ use Rattle.bl_page.specs.Machine.Act.{Put}
 use Rattle.bl_page.specs.Machine.Phase.{Running}
 use Rattle.bl_claims.specs.Nodes.{Covers, unbounded}
 use Rattle.bl_core_tree.specs.Trees.{IsLive, IsTree}
-use Rattle.bl_core_tree.specs.Trees.Status.{Free, Fresh, Live, Right, Gone, Anchored}
+use Rattle.bl_core_tree.specs.Trees.Status.{Free, Fresh, Live, Right, Uprooted, Gone, Anchored}
 use Rattle.bl_claims.specs.Pages.{node_of}
 use Rattle.bl_claims.specs.Trails.{Said, HasSaid}
-use Rattle.bl_core.specs.Worlds.{Child, Know, World, nodes, tree_of, was_in, MapsTo, IsRelied, IsSure, HoldsPage, IsBounded, IsGood, Extends, put_mark}
+use Rattle.bl_core.specs.Worlds.{Child, Know, World, nodes, tree_of, was_in, MapsTo, IsRelied, IsSure, HoldsPage, IsLowering, IsBounded, IsGood, Extends, put_mark}
 use Rattle.bl_core.proofs.Pushes.{name_cases}
 use Rattle.bl_core.proofs.Steady.{Steady, was_live, may_still, passed_still, gone_still}
 use Rattle.bl_core.proofs.Records.{IsInner}
@@ -20,11 +20,15 @@ use Rattle.bl_core.proofs.Watches.{may_say}
 use Rattle.bl_core.proofs.Outside.{inner_keeps}
 
 -- a page that p marks dead leads to a live page of its level that p holds
-pub record Marks {P : Type 0} (w w' : World P) (p : Name) (x : ℕ) : Type 0 where
-  pub end : (nodes w'.now x).shape.end ≡ 0
+pub record MarksTo {P : Type 0} (w w' : World P) (p : Name) (x : ℕ) : Type 0 where
   pub alive : IsLive (w'.status (nodes w'.now x).shape.right)
   pub held : w.now.owner (nodes w'.now x).shape.right ≡ Held p
   pub level : (nodes w'.now (nodes w'.now x).shape.right).shape.level ≡ (nodes w'.now x).shape.level
+
+-- or it has no link
+pub record Marks {P : Type 0} (w w' : World P) (p : Name) (x : ℕ) : Type 0 where
+  pub end : (nodes w'.now x).shape.end ≡ 0
+  pub left : (nodes w'.now x).shape.right ≢ 0 → MarksTo w w' p x
 
 -- p is in the middle of a compression of the two after its put
 pub record InMiddleOf {P : Type 0} (know : P → Know) (w w' : World P) (p : Name) (b : P) (a y : ℕ) : Type 0 where
@@ -47,6 +51,7 @@ pub record Puts {P : Type 0} (know : P → Know) (w w' : World P) (p : Name) (x 
   pub level : was_in (w.status x) ≡ true → (node_of c).shape.level ≡ (nodes w.now x).shape.level
   pub fresh : (y : ℕ) → w.now.owner y ≡ Held p → w'.status y ≡ Fresh → (w.status y ≡ Fresh) × (y ≡ x)
   pub becomes : (y : ℕ) → w.now.owner y ≡ Held p → IsLive (w'.status y) → IsLive (w.status y) ⊎ (y ≢ x)
+  pub uproots : (y : ℕ) → w.now.owner y ≡ Held p → w'.status y ≡ Uprooted → (w.status y ≡ Uprooted) ⊎ (w.now.owner 0 ≡ Held p)
   pub gone : (y : ℕ) → w.now.owner y ≡ Held p → w'.status y ≡ Gone → (y ≡ x) × Marks w w' p x
   pub no_dead : (y : ℕ) → w.now.owner y ≡ Held p → w.status y ≢ Gone
   pub middle : (a y : ℕ) → w.now.owner y ≡ Held p → w'.status y ≡ Right a → InMiddleOf know w w' p b a y
@@ -57,7 +62,7 @@ pub record Puts {P : Type 0} (know : P → Know) (w w' : World P) (p : Name) (x 
   pub bounded : IsBounded (w'.map 0)
   pub own : IsSure w' p (know b)
 
-same_owner : (p q : Name) (o : Owner) → o ≡ Held p → o ≡ Held q → q ≡ p
+pub same_owner : (p q : Name) (o : Owner) → o ≡ Held p → o ≡ Held q → q ≡ p
 same_owner p q o h k = cc
 
 -- whose page it is, p's or not
@@ -102,6 +107,15 @@ Puts-keeps know w w' p x c said b s g =
         | inr i ↦ h (s.status y i ∙ e)
       ]));
       one_anchor = λ y h. g.owned.one_anchor y (s.anchor y h);
+      uprooted = λ y h.
+          let still : w.status y ≡ Uprooted → IsLowering w' y = λ o. let k = g.owned.uprooted y o in record { by = k.by; held = back y ∙ k.held; anchor_held = back 0 ∙ k.anchor_held } in
+          elim (mine p (w.now.owner y)) [
+            | inl i ↦ elim (s.uproots y i h) [
+              | inl o ↦ still o
+              | inr o ↦ record { by = p; held = back y ∙ i; anchor_held = back 0 ∙ o }
+            ]
+            | inr i ↦ still (sym (s.status y i) ∙ h)
+          ];
     })
     (may_say know w m inner s.point g)
     s.maps
@@ -129,16 +143,20 @@ Puts-keeps know w w' p x c said b s g =
           let d = k.1 in
           rw k.0 (record {
             end = d.end;
-            leads = λ q may. (record { since = may.since; runs = may.runs; was = was_live (w'.status (nodes w'.now x).shape.right) d.alive; kept = λ t e. (let f : Retired t ≡ Held p = sym e ∙ (back (nodes w'.now x).shape.right ∙ d.held) in cc) }, d.level);
-            not_yet = λ q e. let v : q ≡ p = same_owner p q (w'.now.owner x) (back x ∙ held_x) e in (back (nodes w'.now x).shape.right ∙ (d.held ∙ ap Held (sym v)), d.alive, d.level);
-            later = λ q time next may e f. (let v : Retired time ≡ Held p = sym e ∙ (back x ∙ held_x) in absurd (cc v));
+            left = λ link.
+                let to = d.left link in
+                record {
+                  leads = λ q may. (record { since = may.since; runs = may.runs; was = was_live (w'.status (nodes w'.now x).shape.right) to.alive; kept = λ t e. (let f : Retired t ≡ Held p = sym e ∙ (back (nodes w'.now x).shape.right ∙ to.held) in cc) }, to.level);
+                  not_yet = λ q e. let v : q ≡ p = same_owner p q (w'.now.owner x) (back x ∙ held_x) e in (back (nodes w'.now x).shape.right ∙ (to.held ∙ ap Held (sym v)), to.alive, to.level);
+                  later = λ q time next may e f. (let v : Retired time ≡ Held p = sym e ∙ (back x ∙ held_x) in absurd (cc v));
+                };
           })
       | inr i ↦
           let o = sym (s.status y i) ∙ h in
           let n : y ≢ x = λ v. i (ap w.now.owner v ∙ held_x) in
-          gone_still w w' steady y o (node y n) (λ q e.
+          gone_still w w' steady y o (node y n) (λ link q e.
           let f = sym (back y) ∙ e in
-          let k = (g.gone y o).not_yet q f in
+          let k = ((g.gone y o).left link).not_yet q f in
           let other : w.now.owner (nodes w.now y).shape.right ≢ Held p = λ v. i (f ∙ ap Held (same_owner p q (w.now.owner (nodes w.now y).shape.right) v k.0)) in
           (f, back (nodes w.now y).shape.right ∙ k.0, rw (s.status (nodes w.now y).shape.right other) k.1)) (g.gone y o)
     ])

@@ -6,7 +6,7 @@ use Rattle.bl_page.specs.Machine.Owner.{Released}
 use Rattle.bl_page.specs.Machine.Phase.{Waiting}
 use Rattle.bl_claims.specs.Nodes.{Node, Roots, unbounded}
 use Rattle.bl_core_tree.specs.Trees.{Status}
-use Rattle.bl_core_tree.specs.Trees.Status.{Free, Fresh, Live, Right, Gone, Anchored}
+use Rattle.bl_core_tree.specs.Trees.Status.{Free, Fresh, Live, Right, Uprooted, Gone, Anchored}
 use Rattle.bl_claims.specs.Trails.{DoesAt, SaysAt}
 use Rattle.bl_core.specs.Worlds.{Know, World, IsSure, IsBounded, IsGood}
 use Rattle.bl_page.specs.declared.page.Page.{Page}
@@ -61,6 +61,7 @@ starts_good know w s =
         held = λ x p h. elim (s.owned x) [ inl o ↦ (let e = o.0 in absurd cc) | inr o ↦ (let e = o.0 in absurd cc) ];
         small = s.small;
         one_anchor = s.one_anchor;
+        uprooted = λ x h. (let e = not x Uprooted h (λ v. cc) (λ v. cc) in absurd cc);
       };
       recorded = record {
         leads = rw s.trail s.start;

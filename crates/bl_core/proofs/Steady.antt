@@ -1,9 +1,9 @@
 -- Events that release no page and let no process begin or end.
-use Rattle.std.proofs.Common.{ℕ, ◌≡◌, ◌≤◌, true, false, Some, arith, sym, ◌∙◌, refl}
+use Rattle.std.proofs.Common.{ℕ, ◌≡◌, ◌≢◌, ◌≤◌, true, false, Some, arith, sym, ◌∙◌, refl}
 use Rattle.bl_page.specs.Machine.{Name}
 use Rattle.bl_page.specs.Machine.Owner.{Held, Retired}
 use Rattle.bl_core_tree.specs.Trees.{Status, is_live, IsLive}
-use Rattle.bl_core_tree.specs.Trees.Status.{Free, Fresh, Live, Left, Right, Gone, Anchored}
+use Rattle.bl_core_tree.specs.Trees.Status.{Free, Fresh, Live, Left, Right, Uprooted, Gone, Anchored}
 use Rattle.bl_core.specs.Worlds.{Passed, World, nodes, was_in, MayGet, IsPassed, IsGone}
 
 pub was_live : (s : Status) → IsLive s → was_in s ≡ true
@@ -13,6 +13,7 @@ was_live Fresh h = h
 was_live Live h = refl
 was_live (Left y) h = refl
 was_live (Right y) h = refl
+was_live Uprooted h = refl
 was_live Gone h = refl
 was_live Anchored h = h
 
@@ -51,17 +52,22 @@ module _ {P : Type 0} (w w' : World P) (s : Steady w w') where
   passed_still p h = (omega (arith, h.0, s.clock), λ q since below runs. h.1 q since below (sym (s.phase q) ∙ runs))
 
   -- a dead page that is not put
-  pub gone_still : (x : ℕ) → w.status x ≡ Gone → nodes w'.now x ≡ nodes w.now x → ((q : Name) → w'.now.owner x ≡ Held q → (w.now.owner x ≡ Held q) × (w'.now.owner (nodes w.now x).shape.right ≡ Held q) × IsLive (w'.status (nodes w.now x).shape.right)) → IsGone w x → IsGone w' x
+  pub gone_still : (x : ℕ) → w.status x ≡ Gone → nodes w'.now x ≡ nodes w.now x → ((nodes w.now x).shape.right ≢ 0 → (q : Name) → w'.now.owner x ≡ Held q → (w.now.owner x ≡ Held q) × (w'.now.owner (nodes w.now x).shape.right ≡ Held q) × IsLive (w'.status (nodes w.now x).shape.right)) → IsGone w x → IsGone w' x
   gone_still x e n yet h =
       let was : was_in (w.status x) ≡ true = rw e was_gone in
       record {
         end = rw n h.end;
-        leads = λ p may.
-            let old = h.leads p (may_before p x was may) in
-            rw n (may_still p (nodes w.now x).shape.right old.0, s.level (nodes w.now x).shape.right old.0.was ∙ old.1);
-        not_yet = λ q held.
-            let now = yet q held in
-            let old = h.not_yet q now.0 in
-            rw n (now.1, now.2, s.level (nodes w.now x).shape.right (was_live (w.status (nodes w.now x).shape.right) old.1) ∙ old.2);
-        later = λ p time next may e. rw n (λ f. h.later p time next (may_before p x was may) (s.retired_back x time e) (s.retired_back (nodes w.now x).shape.right next f));
+        left = λ some.
+            let link : (nodes w.now x).shape.right ≢ 0 = rw n at some in
+            let k = h.left link in
+            record {
+              leads = λ p may.
+                  let old = k.leads p (may_before p x was may) in
+                  rw n (may_still p (nodes w.now x).shape.right old.0, s.level (nodes w.now x).shape.right old.0.was ∙ old.1);
+              not_yet = λ q held.
+                  let now = yet link q held in
+                  let old = k.not_yet q now.0 in
+                  rw n (now.1, now.2, s.level (nodes w.now x).shape.right (was_live (w.status (nodes w.now x).shape.right) old.1) ∙ old.2);
+              later = λ p time next may e. rw n (λ f. k.later p time next (may_before p x was may) (s.retired_back x time e) (s.retired_back (nodes w.now x).shape.right next f));
+            };
       }

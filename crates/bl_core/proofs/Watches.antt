@@ -144,6 +144,7 @@ Watches-keeps know w w' m b s g =
       held = held_step know w w' m b s.extends (λ x h. s.places x (g.owned.held x m.event.process (sym (same.1 x) ∙ h))) (λ x q n h. sym (same.1 x) ∙ h) g.owned;
       small = λ x h. rw s.extends.size (g.owned.small x (rw s.ghost.status at h));
       one_anchor = λ x h. g.owned.one_anchor x (rw s.ghost.status at h);
+      uprooted = λ x h. let k = g.owned.uprooted x (rw s.ghost.status at h) in record { by = k.by; held = same.1 x ∙ k.held; anchor_held = same.1 0 ∙ k.anchor_held };
     })
     (learns_sure know w w' m b (know b) still s.learns)
     g

@@ -6,8 +6,8 @@ use Rattle.bl_page.specs.declared.page.Page.TheVariants.{Anchor, Leaf, Inner, De
 use Rattle.bl_page.specs.Machine.{Name, Owner}
 use Rattle.bl_page.specs.Machine.Owner.{Released, Held, Retired}
 use Rattle.bl_core_tree.specs.Trees.{Status, is_live, IsLive}
-use Rattle.bl_core_tree.specs.Trees.Status.{Free, Fresh, Live, Left, Right, Gone, Anchored}
-use Rattle.bl_core_tree.proofs.Statuses.{live_live, left_live, right_live, free_dead, gone_dead}
+use Rattle.bl_core_tree.specs.Trees.Status.{Free, Fresh, Live, Left, Right, Uprooted, Gone, Anchored}
+use Rattle.bl_core_tree.proofs.Statuses.{live_live, left_live, right_live, uprooted_live, free_dead, gone_dead}
 use Rattle.bl_claims.specs.Pages.{node_of, roots_of, IsTreePage}
 use Rattle.bl_core_tree.specs.SoundNodes.{AllSound}
 use Rattle.bl_claims.specs.Laws.{IsChain}
@@ -58,6 +58,7 @@ live_status know w x g h = by_status (w.status x) refl
     by_status Live e = rw e live_live
     by_status (Left y) e = rw e (left_live y)
     by_status (Right y) e = rw e (right_live y)
+    by_status Uprooted e = rw e uprooted_live
     by_status Gone e = absurd (let d = (g.gone x e).end in let b = wide_bound (w.now.contents x) h.kind in omega arith)
     by_status Anchored e = absurd (no_roots (w.now.contents 0) g.tree.some_level (rw (g.owned.one_anchor x e) at h.kind))
 

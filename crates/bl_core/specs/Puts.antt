@@ -5,7 +5,7 @@ use Rattle.bl_page.specs.Machine.{Name, IsAt}
 use Rattle.bl_page.specs.Machine.Owner.{Held}
 use Rattle.bl_page.specs.Machine.Phase.{Running}
 use Rattle.bl_claims.specs.Nodes.{unbounded}
-use Rattle.bl_core_tree.specs.Trees.Status.{Fresh, Live, Gone}
+use Rattle.bl_core_tree.specs.Trees.Status.{Fresh, Live, Uprooted, Gone}
 use Rattle.bl_core_tree.specs.Moves.{IsMapRow, MayList, IsRow, IsCut}
 use Rattle.bl_claims.specs.Pages.{node_of, roots_of}
 use Rattle.bl_claims.specs.Trails.{Said, HasSaid}
@@ -70,6 +70,7 @@ pub record PutsTop {P : Type 0} (know : P → Know) (w w' : World P) (p : Name) 
   pub end : (nodes w.now y).shape.end ≡ unbounded
   pub right : (nodes w.now y).shape.right ≡ 0
   pub y_sep : w.sep y ≡ 0
+  pub none_uprooted : (z : ℕ) → w.now.owner z ≡ Held p → w.status z ≢ Uprooted
   pub first : (l : ℕ) → suc l ≡ (roots_of (w.now.contents 0)).levels → (nodes w.now y).look 0 ≡ Some ((roots_of (w.now.contents 0)).leftmost l)
   pub others : (k : ℕ) → k ≢ 0 → (nodes w.now y).look k ≡ None
   pub levels : (roots_of c).levels ≡ suc (roots_of (w.now.contents 0)).levels
@@ -78,3 +79,34 @@ pub record PutsTop {P : Type 0} (know : P → Know) (w w' : World P) (p : Name) 
   pub status : IsAt y Live w.status w'.status
   pub sep : w'.sep ≡ w.sep
   pub map : IsAt (roots_of (w.now.contents 0)).levels (nodes w.now y).look w.map w'.map
+
+-- The anchor is put, and names the top level no longer. p holds its only page x, which is uprooted then.
+pub record PutsLower {P : Type 0} (know : P → Know) (w w' : World P) (p : Name) (x : ℕ) (c : Page) (b : P) : Type 0 where
+  pub owes : Owes know w w' p 0 c None b
+  pub live : w.status x ≡ Live
+  pub held : w.now.owner x ≡ Held p
+  pub level : suc (nodes w.now x).shape.level ≡ (roots_of (w.now.contents 0)).levels
+  pub above : 0 < (nodes w.now x).shape.level
+  pub low : (nodes w.now x).shape.low ≡ 0
+  pub end : (nodes w.now x).shape.end ≡ unbounded
+  pub none_uprooted : (z : ℕ) → w.now.owner z ≡ Held p → w.status z ≢ Uprooted
+  pub none_fresh : (z : ℕ) → w.now.owner z ≡ Held p → w.status z ≢ Fresh
+  pub levels : (roots_of c).levels ≡ (nodes w.now x).shape.level
+  pub leftmost : (l : ℕ) → l < (nodes w.now x).shape.level → (roots_of c).leftmost l ≡ (roots_of (w.now.contents 0)).leftmost l
+  pub no_middle : (know (w.proc p)).middle ≡ None
+  pub status : IsAt x Uprooted w.status w'.status
+  pub sep : w'.sep ≡ w.sep
+  pub map : w'.map ≡ w.map
+
+-- The uprooted page x is put: it is dead, and has no link. Nothing is said of its level any more.
+pub record PutsFallen {P : Type 0} (know : P → Know) (w w' : World P) (p : Name) (x : ℕ) (c : Page) (b : P) : Type 0 where
+  pub owes : Owes know w w' p x c None b
+  pub uprooted : w.status x ≡ Uprooted
+  pub dead_level : (node_of c).shape.level ≡ (nodes w.now x).shape.level
+  pub dead_end : (node_of c).shape.end ≡ 0
+  pub dead_right : (node_of c).shape.right ≡ 0
+  pub none_fresh : (z : ℕ) → w.now.owner z ≡ Held p → w.status z ≢ Fresh
+  pub no_middle : (know (w.proc p)).middle ≡ None
+  pub status : IsAt x Gone w.status w'.status
+  pub sep : w'.sep ≡ w.sep
+  pub map : IsAt (nodes w.now x).shape.level (λ k. None) w.map w'.map

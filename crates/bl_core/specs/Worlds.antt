@@ -12,7 +12,7 @@ use Rattle.bl_page.specs.Machine.Phase.{Waiting, Running, Ended}
 use Rattle.bl_claims.specs.Nodes.{Node, Look, Covers, unbounded}
 use Rattle.bl_claims.specs.Walks.{Each}
 use Rattle.bl_core_tree.specs.Trees.{Status, IsLive, Tree, IsTree}
-use Rattle.bl_core_tree.specs.Trees.Status.{Free, Fresh, Live, Left, Right, Gone, Anchored}
+use Rattle.bl_core_tree.specs.Trees.Status.{Free, Fresh, Live, Left, Right, Uprooted, Gone, Anchored}
 use Rattle.bl_claims.specs.Pages.{node_of, roots_of}
 use Rattle.bl_claims.specs.Trails.{Said, Mark, Trail, history_of, marks_of, IsMarked, Saw, LeadsOn, IsPhase, HasSaid}
 use Rattle.bl_claims.specs.Moments.{IsFresh}
@@ -106,6 +106,7 @@ was_in Fresh = false
 was_in Live = true
 was_in (Left y) = true
 was_in (Right y) = true
+was_in Uprooted = true
 was_in Gone = true
 was_in Anchored = false
 
@@ -164,14 +165,24 @@ pub record HasMiddle {P : Type 0} (know : P → Know) (w : World P) (x y : ℕ) 
   pub parent_level : (nodes w.now parent).shape.level ≡ suc (nodes w.now y).shape.level
   pub parent_covers : Covers (nodes w.now parent).shape (nodes w.now y).shape.low
 
--- A dead page leads to the left, to a page that is or was of its level, and whoever may get the one may get the other. Until
+-- A dead page may lead to the left, to a page that is or was of its level, and whoever may get the one may get the other. Until
 -- it is retired, one process holds both; so the page that it leads to is retired later, if it is, and dead pages lead in no
 -- circle.
-pub record IsGone {P : Type 0} (w : World P) (x : ℕ) : Type 0 where
-  pub end : (nodes w.now x).shape.end ≡ 0
+pub record LeadsLeft {P : Type 0} (w : World P) (x : ℕ) : Type 0 where
   pub leads : (p : Name) → MayGet w p x → MayGet w p (nodes w.now x).shape.right × ((nodes w.now (nodes w.now x).shape.right).shape.level ≡ (nodes w.now x).shape.level)
   pub not_yet : (q : Name) → w.now.owner x ≡ Held q → (w.now.owner (nodes w.now x).shape.right ≡ Held q) × IsLive (w.status (nodes w.now x).shape.right) × ((nodes w.now (nodes w.now x).shape.right).shape.level ≡ (nodes w.now x).shape.level)
   pub later : (p : Name) (time next : ℕ) → MayGet w p x → w.now.owner x ≡ Retired time → w.now.owner (nodes w.now x).shape.right ≡ Retired next → time < next
+
+-- A dead page covers no key. It leads to the left, unless it was the top page of the tree: then it has no link.
+pub record IsGone {P : Type 0} (w : World P) (x : ℕ) : Type 0 where
+  pub end : (nodes w.now x).shape.end ≡ 0
+  pub left : (nodes w.now x).shape.right ≢ 0 → LeadsLeft w x
+
+-- who makes the height fall holds the page that the anchor names no longer, and the anchor
+pub record IsLowering {P : Type 0} (w : World P) (x : ℕ) : Type 0 where
+  pub by : Name
+  pub held : w.now.owner x ≡ Held by
+  pub anchor_held : w.now.owner 0 ≡ Held by
 
 -- owners and ghost statuses belong together
 pub record AreOwned {P : Type 0} (know : P → Know) (w : World P) : Type 0 where
@@ -182,6 +193,7 @@ pub record AreOwned {P : Type 0} (know : P → Know) (w : World P) : Type 0 wher
   pub held : (x : ℕ) (p : Name) → w.now.owner x ≡ Held p → HoldsPage (know (w.proc p)).holds x
   pub small : (x : ℕ) → w.status x ≢ Free → x < w.size
   pub one_anchor : (x : ℕ) → w.status x ≡ Anchored → x ≡ 0
+  pub uprooted : (x : ℕ) → w.status x ≡ Uprooted → IsLowering w x
 
 -- the trail tells what happened
 pub record IsRecorded {P : Type 0} (w : World P) : Type 0 where
