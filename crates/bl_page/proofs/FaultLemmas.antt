@@ -139,7 +139,7 @@ fits (page.Dead d) =
       is_of = head-kind 4 d.level 0 level (omega arith);
       level = let is_level = head-level 4 d.level 0 level (omega arith) in omega (arith, is_level, d.below_limit);
       count = head-count 4 d.level 0 level (omega arith);
-      bounds = (refl, d.some, d.link);
+      bounds = (refl, d.link);
       order = tt;
       cover = tt;
       rest = λ i past lt. layout-rest (head 4 d.level 0) d.low 0 d.right [] i past;

@@ -53,6 +53,5 @@ dead_same a b level low right = λ i. record {
   low = low i;
   right = right i;
   below_limit = is_prop→PathP (λ i. level i < 12) (λ i. le_prop) a.below_limit b.below_limit i;
-  some = is_prop→PathP (λ i. 0 < right i) (λ i. le_prop) a.some b.some i;
   link = is_prop→PathP (λ i. right i < 2 ^ 16) (λ i. le_prop) a.link b.link i;
 }

@@ -71,7 +71,7 @@ abbrev pub BoundsFit : Kind → List ℕ → Type 0
 BoundsFit Anchor words = (slice_index words 1 ≡ 0) × (slice_index words 2 ≡ 0) × (slice_index words 3 ≡ 0)
 BoundsFit Leaf words = (slice_index words 1 < end_of (slice_index words 2)) × (slice_index words 3 < 2 ^ 16)
 BoundsFit Inner words = (slice_index words 1 < end_of (slice_index words 2)) × (slice_index words 3 < 2 ^ 16)
-BoundsFit Dead words = (slice_index words 2 ≡ 0) × (0 < slice_index words 3) × (slice_index words 3 < 2 ^ 16)
+BoundsFit Dead words = (slice_index words 2 ≡ 0) × (slice_index words 3 < 2 ^ 16)
 
 abbrev pub OrderFits : Kind → List ℕ → Type 0
 OrderFits Anchor words = Unit {0}

@@ -60,17 +60,16 @@ pub struct Inner {
     ghost pages: { NameChildren children.items } by { NameChildren-prop children.items },
 }
 
-/// A page that was merged into its left neighbour. It covers no key.
+/// A page that was merged into its left neighbour, or that was the top of the tree. It covers no key.
 #[derive(Drop)]
 pub struct Dead {
     /// The level that it had, 0 to 11.
     pub level: u32,
     /// The least key that it covered.
     pub low: u64,
-    /// The page that took its contents.
+    /// The page that took its contents. 0 is none: the page was the top of the tree, and whoever gets it begins again.
     pub right: u32,
     ghost below_limit: { level < 12 },
-    ghost some: { 0 < right },
     ghost link: { right < 2 ^ 16 },
 }
 
@@ -84,7 +83,7 @@ pub enum Page {
     Leaf(Leaf),
     /// Children.
     Inner(Inner),
-    /// A page that has been merged away.
+    /// A page that has been taken away.
     Dead(Dead),
 }
 

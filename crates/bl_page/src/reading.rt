@@ -234,7 +234,7 @@ fn dead_in(words: &[u64; 32]) -> Result<Dead, WordFault>
     if count_at(words) != 0 {
         return Err(WordFault::Count);
     }
-    if words[2] != 0 || words[3] == 0 || words[3] >= LEVEL_UNIT {
+    if words[2] != 0 || words[3] >= LEVEL_UNIT {
         return Err(WordFault::Bounds);
     }
     if !is_zero_from(words, 4) {
