@@ -51,7 +51,7 @@ abbrev high_anchor : Page
 high_anchor = page.Anchor (record { leftmost = record { items = 1 ∷ 3 ∷ [] }; some = omega arith; few = omega arith; pages = ((omega arith, omega arith), ((omega arith, omega arith), tt)) })
 
 abbrev merged_away : Page
-merged_away = page.Dead (record { level = 0; low = 9; right = 1; below_limit = omega arith; some = omega arith; link = omega arith })
+merged_away = page.Dead (record { level = 0; low = 9; right = 1; below_limit = omega arith; link = omega arith })
 
 -- what may be refused, and what may not
 take_refused : Gives act.Take (Some (1, 2)) seen.Refused

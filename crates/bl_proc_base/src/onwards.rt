@@ -56,6 +56,12 @@ pub fn way_from(page: &Page, key: u64, level: u32) -> Step
         Page::Anchor(_) => Step::Again,
         Page::Leaf(leaf) => way_from_leaf(leaf, key, level),
         Page::Inner(inner) => way_from_inner(inner, key, level),
-        Page::Dead(dead) => Step::Right(dead.right),
+        Page::Dead(dead) => {
+            if dead.right == 0 {
+                Step::Again
+            } else {
+                Step::Right(dead.right)
+            }
+        }
     }
 }

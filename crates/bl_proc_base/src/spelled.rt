@@ -68,7 +68,12 @@ pub fn step_in<W: Words>(
     if kind == 1 {
         Step::Again
     } else if kind == 4 {
-        Step::Right(source.word(hand, used, 3) as u32)
+        let right = source.word(hand, used, 3) as u32;
+        if right == 0 {
+            Step::Again
+        } else {
+            Step::Right(right)
+        }
     } else {
         step_within(source, hand, used, head, key, level)
     }

@@ -1,15 +1,15 @@
 -- In every good world a search has few gets ahead, wherever it may go next: few more than there are pages from a live page or
 -- from the anchor, and at most twice as many from a dead one.
 use Rattle.std.proofs.Common.{ℕ, ◌≡◌, ◌≢◌, ◌⊎◌, ◌≤◌, ◌<◌, ◌+◌, ◌*◌, ◌-◌, true, zero, suc, List, [], ◌∷◌, length, arith, ap, sym, ◌∙◌, refl, inl, inr, subst}
-use Rattle.std.proofs.lemmas.Bool.{cases_lt, false≢true}
+use Rattle.std.proofs.lemmas.Bool.{cases_lt, cases_eq, false≢true}
 use Rattle.bl_page.specs.declared.page.Page.{Page}
 use Rattle.bl_page.specs.declared.page.Page.TheVariants.{Anchor, Leaf, Inner, Dead}
 use Rattle.bl_page.specs.Machine.{Name, Owner}
 use Rattle.bl_page.specs.Machine.Owner.{Released, Held, Retired}
 use Rattle.bl_claims.specs.Nodes.{Node, unbounded}
 use Rattle.bl_core_tree.specs.Trees.{Status, is_live, IsLive}
-use Rattle.bl_core_tree.specs.Trees.Status.{Free, Fresh, Live, Left, Right, Gone, Anchored}
-use Rattle.bl_core_tree.proofs.Statuses.{live_live, left_live, right_live, free_dead, not_anchor}
+use Rattle.bl_core_tree.specs.Trees.Status.{Free, Fresh, Live, Left, Right, Uprooted, Gone, Anchored}
+use Rattle.bl_core_tree.proofs.Statuses.{live_live, left_live, right_live, uprooted_live, free_dead, not_anchor}
 use Rattle.bl_claims.specs.Pages.{node_of, roots_of, IsTreePage}
 use Rattle.bl_claims.specs.Walks.{Each, IsNoneOf, NoneTwice}
 use Rattle.bl_core_tree.proofs.LawsHold.{live}
@@ -33,6 +33,7 @@ live_or_gone Fresh h = absurd (false≢true (sym fresh_not ∙ h))
 live_or_gone Live h = inl live_live
 live_or_gone (Left y) h = inl (left_live y)
 live_or_gone (Right y) h = inl (right_live y)
+live_or_gone Uprooted h = inl uprooted_live
 live_or_gone Gone h = inr refl
 live_or_gone Anchored h = absurd (false≢true (sym anchored_not ∙ h))
 
@@ -54,12 +55,15 @@ none_each : (P : ℕ → Type 0) (x : ℕ) (ys : List ℕ) → ((y : ℕ) → P 
 none_each P x [] f h = tt
 none_each P x (y ∷ ys) f h = (f y h.0, none_each P x ys f h.1)
 
--- what covers no key leads to its right, or to the anchor
-gone_leads : (c : Page) (k : ℕ) → (node_of c).shape.end ≡ 0 → Leads c k 0 (onward.Right (node_of c).shape.right) ⊎ Leads c k 0 onward.Again
-gone_leads (Anchor a) k h = inr (λ d. d, λ t. absurd t)
-gone_leads (Leaf l) k h = inl (refl, inr (tt, omega arith))
-gone_leads (Inner i) k h = inl (refl, inr (tt, omega arith))
-gone_leads (Dead d) k h = inl (refl, inl tt)
+-- what covers no key leads to its right, if it has a link, or to the anchor
+gone_leads : (c : Page) (k : ℕ) → (node_of c).shape.end ≡ 0 → (Leads c k 0 (onward.Right (node_of c).shape.right) × ((node_of c).shape.right ≢ 0)) ⊎ Leads c k 0 onward.Again
+gone_leads (Anchor a) k h = inr (λ d. absurd d, λ t. absurd t)
+gone_leads (Leaf l) k h = absurd (let wide = l.bounds in omega arith)
+gone_leads (Inner i) k h = absurd (let wide = i.bounds in omega arith)
+gone_leads (Dead d) k h = elim (cases_eq d.right 0) [
+  | inl e ↦ inr (λ t. e, λ t. absurd t)
+  | inr n ↦ inl ((refl, inl (tt, n)), n)
+]
 
 -- retired after that time, if it is
 abbrev IsLater : (ℕ → Owner) → ℕ → ℕ → Type 0
@@ -139,8 +143,8 @@ module _ {P : Type 0} (know : P → Know) (w : World P) (g : IsGood know w) (k :
     where
       again : (c : Page) → IsTreePage c → k < (node_of c).shape.low → Leads c k 0 onward.Again
       again (Anchor a) t l = absurd t
-      again (Leaf a) t l = (λ d. d, λ u. inl l)
-      again (Inner a) t l = (λ d. d, λ u. inl l)
+      again (Leaf a) t l = (λ d. absurd d, λ u. inl l)
+      again (Inner a) t l = (λ d. absurd d, λ u. inl l)
       again (Dead a) t l = absurd t
 
   -- who owns a dead page
@@ -194,7 +198,7 @@ module _ {P : Type 0} (know : P → Know) (w : World P) (g : IsGood know w) (k :
   buried : (n : ℕ) (p : Name) (x : ℕ) → MayGet w p x → w.status x ≡ Gone → ((t : ℕ) → w.now.owner x ≡ Retired t → w.now.clock ≤ t + n) → Buried w.now.contents w.now.owner w.status w.size k x
   buried zero p x may gone late = elim (dead_owner x gone) [
     | inl held ↦ elim (gone_leads (w.now.contents x) k (g.gone x gone).end) [
-      | inl h ↦ buried_last x (nodes w.now x).shape.right h ((g.gone x gone).not_yet held.0 held.1).1
+      | inl h ↦ buried_last x (nodes w.now x).shape.right h.0 (((g.gone x gone).left h.1).not_yet held.0 held.1).1
       | inr h ↦ buried_again x h
     ]
     | inr retired ↦ absurd (let before = (g.owned.retired x retired.0 retired.1).1 in let after = late retired.0 retired.1 in omega arith)
@@ -204,12 +208,13 @@ module _ {P : Type 0} (know : P → Know) (w : World P) (g : IsGood know w) (k :
     | inl h ↦ elim (dead_owner x gone) [
       | inl held ↦ buried_last x (nodes w.now x).shape.right h ((g.gone x gone).not_yet held.0 held.1).1
       | inr retired ↦
-          let on = (g.gone x gone).leads p may in
+          let left = (g.gone x gone).left h.1 in
+          let on = left.leads p may in
           elim (live_or_gone (w.status (nodes w.now x).shape.right) on.0.was) [
-            | inl l ↦ buried_last x (nodes w.now x).shape.right h l
+            | inl l ↦ buried_last x (nodes w.now x).shape.right h.0 l
             | inr dead ↦
-                let after : IsLater w.now.owner retired.0 (nodes w.now x).shape.right = λ t e. (g.gone x gone).later p retired.0 t may retired.1 e in
-                buried_more x (nodes w.now x).shape.right retired.0 retired.1 after dead h
+                let after : IsLater w.now.owner retired.0 (nodes w.now x).shape.right = λ t e. left.later p retired.0 t may retired.1 e in
+                buried_more x (nodes w.now x).shape.right retired.0 retired.1 after dead h.0
                 (buried n p (nodes w.now x).shape.right on.0 dead (λ t e. (let less = after t e in let l = late retired.0 retired.1 in omega arith)))
           ]
     ]

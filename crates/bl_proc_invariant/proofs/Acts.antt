@@ -7,7 +7,7 @@ use Rattle.bl_page.specs.Machine.Act.{Begin, End, Take, Latch}
 use Rattle.bl_page.specs.Machine.Phase.{Running}
 use Rattle.bl_core_tree.specs.Trees.{Status}
 use Rattle.bl_page.specs.Machine.Owner.{Released, Held}
-use Rattle.bl_core_tree.specs.Trees.Status.{Fresh, Live, Gone, Anchored}
+use Rattle.bl_core_tree.specs.Trees.Status.{Fresh, Live, Uprooted, Gone, Anchored}
 use Rattle.bl_claims.specs.Trails.{Said, Mark, Saw, Answered, HasSaid}
 use Rattle.bl_core.specs.Worlds.{Hold, Know, World, MapsTo, HoldsPage, IsHeld, IsSure, IsGood, silent}
 use Rattle.bl_claims.specs.Walks.{Each}
@@ -83,7 +83,7 @@ module _ {P : Type 0} (know : P → Know) (w : World P) (g : IsGood know w) (p :
       }
 
   -- it opens a page
-  pub opened : (x : ℕ) (s : State Page) → w.now.owner x ≡ Held p → Does w.now p (Act.Open x) s → (w.status x ≡ Live) ⊎ (w.status x ≡ Anchored) → k.middle ≡ None → k'.middle ≡ None → Each (λ h. h.status ≢ Gone) k.holds → ((y : ℕ) → y ≢ x → HoldsPage k.holds y → HoldsPage k'.holds y) → Learns w (after w s (silent p (Act.Open x)) b w.status w.sep w.map) (silent p (Act.Open x)) k' → Turned know w p (Act.Open x) s b
+  pub opened : (x : ℕ) (s : State Page) → w.now.owner x ≡ Held p → Does w.now p (Act.Open x) s → (w.status x ≡ Live) ⊎ (w.status x ≡ Anchored) → k.middle ≡ None → k'.middle ≡ None → Each (λ h. (h.status ≢ Gone) × (h.status ≢ Uprooted)) k.holds → ((y : ℕ) → y ≢ x → HoldsPage k.holds y → HoldsPage k'.holds y) → Learns w (after w s (silent p (Act.Open x)) b w.status w.sep w.map) (silent p (Act.Open x)) k' → Turned know w p (Act.Open x) s b
   opened x s can does named none none' alive places learns =
       let next : World P = after w s (silent p (Act.Open x)) b w.status w.sep w.map in
       let extends = Extends-after w s (silent p (Act.Open x)) b w.status w.sep w.map (record { enabled = can; changes = does.changes; on = does.on }) tt in
@@ -98,7 +98,8 @@ module _ {P : Type 0} (know : P → Know) (w : World P) (g : IsGood know w) (p :
           ghost = record { status = refl; sep = refl; map = refl };
           named = named;
           no_middle = rw before none;
-          no_dead = λ y h o. not_gone alive y o h;
+          no_dead = λ y h o. (of_held (λ z a. (a ≢ Gone) × (a ≢ Uprooted)) alive y o).0 h;
+          no_uprooted = λ y h o. (of_held (λ z a. (a ≢ Gone) × (a ≢ Uprooted)) alive y o).1 h;
           middle = rw (before, then) (none' ∙ sym none);
           places = λ y n h. rw then (places y n (rw before at h));
           learns = rw then learns;

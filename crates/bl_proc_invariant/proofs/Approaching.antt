@@ -60,11 +60,11 @@ walks_held w w' p a saw x goes S stage said held live may s = record {
 
 module _ {P : Type 0} (know : P → Know) (w : World P) (g : IsGood know w) (p : Name) where
   -- where a page leads, by its own level
-  pub to_right : (x key : ℕ) → MayGet w p x → IsDead (w.now.contents x) ⊎ (IsTreePage (w.now.contents x) × ((nodes w.now x).shape.end ≤ key)) → key < unbounded → IsGoes w p (goes_to (nodes w.now x).shape.right (nodes w.now x).shape.level (nodes w.now x).shape.level)
+  pub to_right : (x key : ℕ) → MayGet w p x → (IsDead (w.now.contents x) × ((nodes w.now x).shape.right ≢ 0)) ⊎ (IsTreePage (w.now.contents x) × ((nodes w.now x).shape.end ≤ key)) → key < unbounded → IsGoes w p (goes_to (nodes w.now x).shape.right (nodes w.now x).shape.level (nodes w.now x).shape.level)
   to_right x key may h below =
       let here : IsGoes w p (goes_to x (nodes w.now x).shape.level (nodes w.now x).shape.level) = record { may = may; least = omega arith; most = omega arith } in
       elim h [
-        | inl d ↦ goes_on know w g p x _ _ here (dead_end (w.now.contents x) d)
+        | inl d ↦ goes_on know w g p x _ _ here (dead_end (w.now.contents x) d.0) d.1
         | inr t ↦ goes_right know w g p x _ _ key here t.0 t.1 below
       ]
 
@@ -180,11 +180,11 @@ module _ {P : Type 0} (know : P → Know) (w : World P) (g : IsGood know w) (p :
     pub open_turn : (x : ℕ) (to : Option ℕ) (a : Approach) (s : State Page) → know (w.proc p) ≡ know_approach level key (Leaving x to) → know b ≡ know_approach level key a → Approaches level key (Leaving x to) seen.Done (came.On a) → Does w.now p (Act.Open x) s → Turned know w p (Act.Open x) s b
     open_turn x None a s before then t does =
         let sure : IsSure w p (know_approach level key (Leaving x None)) = rw before at (g.sure p) in
-        opened know w g p b _ (know_approach level key Start) before (rw t at then) x s sure.holds.0.owner does (inl sure.holds.0.status) refl refl (λ e. cc, tt) (λ y n h. elim h [ inl e ↦ absurd (n (sym e)) | inr i ↦ absurd i ])
+        opened know w g p b _ (know_approach level key Start) before (rw t at then) x s sure.holds.0.owner does (inl sure.holds.0.status) refl refl ((λ e. cc, λ e. cc), tt) (λ y n h. elim h [ inl e ↦ absurd (n (sym e)) | inr i ↦ absurd i ])
         (walks w _ p (Act.Open x) None [] (key < unbounded) sure.stage sure.said tt sure.sound)
     open_turn x (Some y) a s before then t does =
         let sure : IsSure w p (know_approach level key (Leaving x (Some y))) = rw before at (g.sure p) in
-        opened know w g p b _ (know_approach level key (Latching y)) before (rw t at then) x s sure.holds.0.owner does (inl sure.holds.0.status) refl refl (λ e. cc, tt) (λ z n h. elim h [ inl e ↦ absurd (n (sym e)) | inr i ↦ absurd i ])
+        opened know w g p b _ (know_approach level key (Latching y)) before (rw t at then) x s sure.holds.0.owner does (inl sure.holds.0.status) refl refl ((λ e. cc, λ e. cc), tt) (λ z n h. elim h [ inl e ↦ absurd (n (sym e)) | inr i ↦ absurd i ])
         (walks w _ p (Act.Open x) None (goes_to y level level ∷ []) (key < unbounded) sure.stage sure.said sure.goes sure.sound)
 
     leaving_turn : (x : ℕ) (to : Option ℕ) (a' : Approach) (what : Seen) (s : State Page) → know (w.proc p) ≡ know_approach level key (Leaving x to) → know b ≡ know_approach level key a' → Approaches level key (Leaving x to) what (came.On a') → Does w.now p (event_of None (approach_next (Leaving x to)) what) s → Turned know w p (event_of None (approach_next (Leaving x to)) what) s b
@@ -220,6 +220,6 @@ module _ {P : Type 0} (know : P → Know) (w : World P) (g : IsGood know w) (p :
     pub stay_turn : (x : ℕ) (s : State Page) → know (w.proc p) ≡ record (idle Stage.Busy) { holds = holds_live x ∷ [] } → know b ≡ ending None → Does w.now p (Act.Open x) s → Turned know w p (Act.Open x) s b
     stay_turn x s before then does =
         let is : IsSure w p (record (idle Stage.Busy) { holds = holds_live x ∷ [] }) = rw before at (g.sure p) in
-        opened know w g p b _ _ before then x s is.holds.0.owner does (inl is.holds.0.status) refl refl (λ e. cc, tt)
+        opened know w g p b _ _ before then x s is.holds.0.owner does (inl is.holds.0.status) refl refl ((λ e. cc, λ e. cc), tt)
         (λ z n h. elim h [ inl e ↦ absurd (n (sym e)) | inr u ↦ absurd u ])
         (walks w _ p (Act.Open x) None [] (Unit {0}) is.stage is.said tt tt)

@@ -338,7 +338,7 @@ module _ {P : Type 0} (know : P → Know) (w : World P) (g : IsGood know w) (p :
   pub open_new_turn : (x y separator : ℕ) (s : State Page) → know (w.proc p) ≡ know_change aim got (OpeningNew x y separator) → know b ≡ know_change aim got (Opening x (outcome.Parted separator)) → Does w.now p (Act.Open y) s → Turned know w p (Act.Open y) s b
   open_new_turn x y separator s before then does =
       let is : IsSure w p (know_change aim got (OpeningNew x y separator)) = rw before at (g.sure p) in
-      opened know w g p b _ _ before then y s is.holds.1.0.owner does (inl is.holds.1.0.status) refl refl (λ e. cc, (λ e. cc, tt))
+      opened know w g p b _ _ before then y s is.holds.1.0.owner does (inl is.holds.1.0.status) refl refl ((λ e. cc, λ e. cc), ((λ e. cc, λ e. cc), tt))
       (λ z i h. elim h [ inl e ↦ inl e | inr r ↦ elim r [ inl e ↦ absurd (i (sym e)) | inr u ↦ inr u ] ])
       (record {
         stage = is.stage;
@@ -355,7 +355,7 @@ module _ {P : Type 0} (know : P → Know) (w : World P) (g : IsGood know w) (p :
   pub over_turn : (x : ℕ) (o : Outcome) (S : Type 0) (s : State Page) → know (w.proc p) ≡ know_change aim got (Opening x o) → know b ≡ record (idle Stage.Busy) { said = aim.said o; sound = S } → S → Does w.now p (Act.Open x) s → Turned know w p (Act.Open x) s b
   over_turn x o S s before then sound does =
       let is : IsSure w p (know_change aim got (Opening x o)) = rw before at (g.sure p) in
-      opened know w g p b _ _ before then x s is.holds.0.owner does (inl is.holds.0.status) refl refl (λ e. cc, tt)
+      opened know w g p b _ _ before then x s is.holds.0.owner does (inl is.holds.0.status) refl refl ((λ e. cc, λ e. cc), tt)
       (λ z i h. elim h [ inl e ↦ absurd (i (sym e)) | inr u ↦ absurd u ])
       (record {
         stage = is.stage;

@@ -174,7 +174,7 @@ module _ {P : Type 0} (know : P → Know) (w : World P) (g : IsGood know w) (p :
   open_right_turn t fate s before then does =
       let is : IsSure w p (know_compression level key got at new (OpeningRight t fate)) = rw before at (g.sure p) in
       let three = is.sound.1 in
-      opened know w g p b _ _ before then t.right s is.holds.1.1.0.owner does (inl is.holds.1.1.0.status) refl refl (λ e. cc, (λ e. cc, (λ e. cc, tt)))
+      opened know w g p b _ _ before then t.right s is.holds.1.1.0.owner does (inl is.holds.1.1.0.status) refl refl ((λ e. cc, λ e. cc), ((λ e. cc, λ e. cc), ((λ e. cc, λ e. cc), tt)))
       (λ z n h. elim h [ inl e ↦ inl e | inr u ↦ elim u [ inl e ↦ inr (inl e) | inr v ↦ elim v [ inl e ↦ absurd (n (sym e)) | inr k ↦ absurd k ] ] ])
       (record {
         stage = is.stage;
@@ -190,7 +190,7 @@ module _ {P : Type 0} (know : P → Know) (w : World P) (g : IsGood know w) (p :
   pub open_left_turn : (t : Trio) (fate : Fate) (s : State Page) → know (w.proc p) ≡ know_compression level key got at new (OpeningLeft t fate) → know b ≡ know_compression level key got at new (OpeningParent t.parent fate) → Does w.now p (Act.Open t.left) s → Turned know w p (Act.Open t.left) s b
   open_left_turn t fate s before then does =
       let is : IsSure w p (know_compression level key got at new (OpeningLeft t fate)) = rw before at (g.sure p) in
-      opened know w g p b _ _ before then t.left s is.holds.1.0.owner does (inl is.holds.1.0.status) refl refl (λ e. cc, (λ e. cc, tt))
+      opened know w g p b _ _ before then t.left s is.holds.1.0.owner does (inl is.holds.1.0.status) refl refl ((λ e. cc, λ e. cc), ((λ e. cc, λ e. cc), tt))
       (λ z n h. elim h [ inl e ↦ inl e | inr u ↦ elim u [ inl e ↦ absurd (n (sym e)) | inr v ↦ absurd v ] ])
       (record {
         stage = is.stage;
@@ -207,7 +207,7 @@ module _ {P : Type 0} (know : P → Know) (w : World P) (g : IsGood know w) (p :
   pub open_parent_turn : (x : ℕ) (fate : Fate) (S : Type 0) (s : State Page) → know (w.proc p) ≡ know_compression level key got at new (OpeningParent x fate) → know b ≡ record (idle Stage.Busy) { sound = S } → (key < unbounded → S) → Does w.now p (Act.Open x) s → Turned know w p (Act.Open x) s b
   open_parent_turn x fate S s before then on does =
       let is : IsSure w p (know_compression level key got at new (OpeningParent x fate)) = rw before at (g.sure p) in
-      opened know w g p b _ _ before then x s is.holds.0.owner does (inl is.holds.0.status) refl refl (λ e. cc, tt)
+      opened know w g p b _ _ before then x s is.holds.0.owner does (inl is.holds.0.status) refl refl ((λ e. cc, λ e. cc), tt)
       (λ z n h. elim h [ inl e ↦ absurd (n (sym e)) | inr u ↦ absurd u ])
       (record {
         stage = is.stage;

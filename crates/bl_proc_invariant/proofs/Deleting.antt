@@ -80,7 +80,7 @@ module _ {P : Type 0} (know : P → Know) (w : World P) (g : IsGood know w) (p :
   stay_turn : (x : ℕ) (got : ℕ → Page) (s : State Page) → know (w.proc p) ≡ know_delete key got (delete.Absent x) → know b ≡ know_delete key got (delete.Ending deleted.Absent) → Does w.now p (Act.Open x) s → Turned know w p (Act.Open x) s b
   stay_turn x got s before then does =
       let is : IsSure w p (know_delete key got (delete.Absent x)) = rw before at (g.sure p) in
-      opened know w g p b _ _ before then x s is.holds.0.owner does (inl is.holds.0.status) refl refl (λ e. cc, tt)
+      opened know w g p b _ _ before then x s is.holds.0.owner does (inl is.holds.0.status) refl refl ((λ e. cc, λ e. cc), tt)
       (λ z n h. elim h [ inl e ↦ absurd (n (sym e)) | inr u ↦ absurd u ])
       (record { stage = is.stage; said = HasSaid-silent w.trail (silent p (Act.Open x)) p (deletes key deleted.Absent) refl is.said; holds = tt; goes = tt; children = tt; passed = tt; sound = tt; log = tt })
 

@@ -9,7 +9,7 @@ use Rattle.bl_page.specs.Machine.Owner.{Released, Held}
 use Rattle.bl_page.specs.Machine.Act.{Get, Put, Take, Latch, Miss}
 use Rattle.bl_page.specs.Pairs.{end_of}
 use Rattle.bl_claims.specs.Nodes.{unbounded}
-use Rattle.bl_core_tree.specs.Trees.Status.{Free, Fresh, Live, Anchored}
+use Rattle.bl_core_tree.specs.Trees.Status.{Free, Fresh, Live, Uprooted, Anchored}
 use Rattle.bl_core_tree.proofs.Statuses.{free_dead, fresh_dead}
 use Rattle.bl_claims.specs.Pages.{node_of, roots_of}
 use Rattle.bl_core.proofs.Pushes.{HasSaid-silent}
@@ -263,6 +263,7 @@ module _ {P : Type 0} (know : P → Know) (w : World P) (g : IsGood know w) (p :
           end = ap (λ z. (node_of z).shape.end) new ∙ says.end;
           right = ap (λ z. (node_of z).shape.right) new ∙ says.right;
           y_sep = fresh.sep;
+          none_uprooted = λ z o h. of_held know w g p b _ _ before then (λ y a. a ≢ Uprooted) (λ e. cc, (λ e. cc, tt)) z o h;
           first = λ l e. ap (λ z. (node_of z).look 0) new ∙ (says.first ∙ ap Some (ap (λ i. get_or leftmost i 0) (let c = may.levels in omega (arith, levels, e)) ∙ sym (ap (λ f. f l) pages)));
           others = λ k i. ap (λ z. (node_of z).look k) new ∙ says.others k i;
           levels = grown ∙ ap suc (sym levels);
@@ -292,7 +293,7 @@ module _ {P : Type 0} (know : P → Know) (w : World P) (g : IsGood know w) (p :
   open_top_turn : (got : ℕ → Page) (x : ℕ) (s : State Page) → know (w.proc p) ≡ know_growth level key got (growth.OpeningTop x) → know b ≡ know_growth level key got growth.OpeningGrown → Does w.now p (Act.Open x) s → Turned know w p (Act.Open x) s b
   open_top_turn got x s before then does =
       let is : IsSure w p (know_growth level key got (growth.OpeningTop x)) = rw before at (g.sure p) in
-      opened know w g p b _ _ before then x s is.holds.1.0.owner does (inl is.holds.1.0.status) refl refl (λ e. cc, (λ e. cc, tt))
+      opened know w g p b _ _ before then x s is.holds.1.0.owner does (inl is.holds.1.0.status) refl refl ((λ e. cc, λ e. cc), ((λ e. cc, λ e. cc), tt))
       (λ z i h. elim h [ inl e ↦ inl e | inr r ↦ elim r [ inl e ↦ absurd (i (sym e)) | inr u ↦ inr u ] ])
       (holds_anchor w _ p (Act.Open x) None None _ is.stage is.said (does.changes.1.others 0 is.sound.1 ∙ is.holds.0.owner) is.holds.0.status tt is.sound.0)
 
@@ -300,7 +301,7 @@ module _ {P : Type 0} (know : P → Know) (w : World P) (g : IsGood know w) (p :
   pub anchor_open_turn : (S S' : Type 0) (s : State Page) → know (w.proc p) ≡ record (idle Stage.Busy) { holds = anchor_known None ∷ []; sound = S } → know b ≡ record (idle Stage.Busy) { sound = S' } → (S → S') → Does w.now p (Act.Open 0) s → Turned know w p (Act.Open 0) s b
   anchor_open_turn S S' s before then on does =
       let is : IsSure w p (record (idle Stage.Busy) { holds = anchor_known None ∷ []; sound = S }) = rw before at (g.sure p) in
-      opened know w g p b _ _ before then 0 s is.holds.0.owner does (inr is.holds.0.status) refl refl (λ e. cc, tt)
+      opened know w g p b _ _ before then 0 s is.holds.0.owner does (inr is.holds.0.status) refl refl ((λ e. cc, λ e. cc), tt)
       (λ z i h. elim h [ inl e ↦ absurd (i (sym e)) | inr u ↦ absurd u ])
       (walks w _ p (Act.Open 0) None [] S' is.stage is.said tt (on is.sound))
 

@@ -79,7 +79,7 @@ module _ {P : Type 0} (know : P → Know) (w : World P) (g : IsGood know w) (p :
   stay_turn : (x there : ℕ) (got : ℕ → Page) (s : State Page) → know (w.proc p) ≡ know_insert key value got (insert.Present x there) → know b ≡ know_insert key value got (insert.Ending (inserted.Present there)) → Does w.now p (Act.Open x) s → Turned know w p (Act.Open x) s b
   stay_turn x there got s before then does =
       let is : IsSure w p (know_insert key value got (insert.Present x there)) = rw before at (g.sure p) in
-      opened know w g p b _ _ before then x s is.holds.0.owner does (inl is.holds.0.status) refl refl (λ e. cc, tt)
+      opened know w g p b _ _ before then x s is.holds.0.owner does (inl is.holds.0.status) refl refl ((λ e. cc, λ e. cc), tt)
       (λ z n h. elim h [ inl e ↦ absurd (n (sym e)) | inr u ↦ absurd u ])
       (record { stage = is.stage; said = HasSaid-silent w.trail (silent p (Act.Open x)) p (inserts key value (inserted.Present there)) refl is.said; holds = tt; goes = tt; children = tt; passed = tt; sound = tt; log = tt })
 

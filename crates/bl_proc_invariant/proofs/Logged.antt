@@ -50,6 +50,7 @@ bare_good w g = record {
     held = g.owned.held;
     small = g.owned.small;
     one_anchor = g.owned.one_anchor;
+    uprooted = λ x e. let k = g.owned.uprooted x e in record { by = k.by; held = k.held; anchor_held = k.anchor_held };
   };
   recorded = g.recorded;
   bounded = g.bounded;
@@ -88,6 +89,7 @@ full_good w g logs = record {
     held = g.owned.held;
     small = g.owned.small;
     one_anchor = g.owned.one_anchor;
+    uprooted = λ x e. let k = g.owned.uprooted x e in record { by = k.by; held = k.held; anchor_held = k.anchor_held };
   };
   recorded = g.recorded;
   bounded = g.bounded;

@@ -63,6 +63,7 @@ bare_enters_good w p b g waiting old new =
         ];
         small = g.owned.small;
         one_anchor = g.owned.one_anchor;
+        uprooted = λ x e. let k = g.owned.uprooted x e in record { by = k.by; held = k.held; anchor_held = k.anchor_held };
       };
       recorded = record {
         leads = g.recorded.leads;

@@ -101,10 +101,10 @@ buried_one x d (Dead p) (Inner q) a b = absurd b
 buried_one x d old q a b = absurd a
 
 pub buried_some : (x : ℕ) (d : Page) → IsChild x → (p : Page) × IsBuried x d p
-buried_some x (Anchor a) child = (Dead (record { level = 0; low = 0; right = x; below_limit = omega arith; some = child.0; link = child.1 }), (refl, refl, refl))
-buried_some x (Leaf l) child = (Dead (record { level = 0; low = l.low; right = x; below_limit = omega arith; some = child.0; link = child.1 }), (refl, refl, refl))
-buried_some x (Inner i) child = (Dead (record { level = i.level; low = i.low; right = x; below_limit = i.below_limit; some = child.0; link = child.1 }), (refl, refl, refl))
-buried_some x (Dead e) child = (Dead (record { level = e.level; low = e.low; right = x; below_limit = e.below_limit; some = child.0; link = child.1 }), (refl, refl, refl))
+buried_some x (Anchor a) child = (Dead (record { level = 0; low = 0; right = x; below_limit = omega arith; link = child.1 }), (refl, refl, refl))
+buried_some x (Leaf l) child = (Dead (record { level = 0; low = l.low; right = x; below_limit = omega arith; link = child.1 }), (refl, refl, refl))
+buried_some x (Inner i) child = (Dead (record { level = i.level; low = i.low; right = x; below_limit = i.below_limit; link = child.1 }), (refl, refl, refl))
+buried_some x (Dead e) child = (Dead (record { level = e.level; low = e.low; right = x; below_limit = e.below_limit; link = child.1 }), (refl, refl, refl))
 
 -- Two pages evened out.
 

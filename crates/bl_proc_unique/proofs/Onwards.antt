@@ -40,7 +40,7 @@ child_one look k x y a b =
 module _ (c : Page) (key level : ℕ) where
   again_right : (x : ℕ) → Leads c key level Again → Leads c key level (Right x) → ⊥
   again_right x a b = elim b.1 [
-    | inl d ↦ a.0 d
+    | inl d ↦ d.1 (a.0 d.0)
     | inr t ↦ elim (a.1 t.0) [ inl low ↦ (let w = low_below c t.0 in omega arith) | inr in_it ↦ omega arith ]
   ]
 
@@ -51,7 +51,7 @@ module _ (c : Page) (key level : ℕ) where
   again_here a b = elim (a.1 b.0) [ inl low ↦ (let h = b.1 in omega arith) | inr in_it ↦ omega arith ]
 
   right_covers : (x : ℕ) → Leads c key level (Right x) → IsTreePage c → Covers (node_of c).shape key → ⊥
-  right_covers x a t in_it = elim a.1 [ inl d ↦ dead_tree c d t | inr b ↦ omega arith ]
+  right_covers x a t in_it = elim a.1 [ inl d ↦ dead_tree c d.0 t | inr b ↦ omega arith ]
 
   down_here : (x : ℕ) → Leads c key level (Down x) → Leads c key level Here → ⊥
   down_here x a b = omega arith
@@ -81,35 +81,38 @@ child_of i key in_it =
     (child_before (place key i.children.items) i.children.items, record { key = is.key; listed = is.listed; reached = is.reached; greatest = is.greatest })
 
 pub leads_some : (c : Page) (key level : ℕ) → (o : Step) × Leads c key level o
-leads_some (Anchor a) key level = (Again, (λ d. d, λ t. absurd t))
+leads_some (Anchor a) key level = (Again, (λ d. absurd d, λ t. absurd t))
 leads_some (Leaf l) key level = elim (cases_lt key l.low) [
-  | inl low ↦ (Again, (λ d. d, λ t. inl low))
+  | inl low ↦ (Again, (λ d. absurd d, λ t. inl low))
   | inr from ↦ elim (cases_lt key (end_of l.high)) [
     | inl in_it ↦ elim (cases_eq level 0) [
       | inl e ↦ (Here, (tt, (from, in_it), sym e))
-      | inr ne ↦ (Again, (λ d. d, λ t. inr ((from, in_it), omega arith)))
+      | inr ne ↦ (Again, (λ d. absurd d, λ t. inr ((from, in_it), omega arith)))
     ]
     | inr past ↦ (Right l.right, (refl, inr (tt, past)))
   ]
 ]
 leads_some (Inner i) key level = elim (cases_lt key i.low) [
-  | inl low ↦ (Again, (λ d. d, λ t. inl low))
+  | inl low ↦ (Again, (λ d. absurd d, λ t. inl low))
   | inr from ↦ elim (cases_lt key (end_of i.high)) [
     | inl in_it ↦ elim (cases_lt level i.level) [
       | inl above ↦ (let c = child_of i key (from, in_it) in (Down c.0, (tt, (from, in_it), above, c.1)))
       | inr le ↦ elim (cases_eq i.level level) [
         | inl e ↦ (Here, (tt, (from, in_it), e))
-        | inr ne ↦ (Again, (λ d. d, λ t. inr ((from, in_it), omega arith)))
+        | inr ne ↦ (Again, (λ d. absurd d, λ t. inr ((from, in_it), omega arith)))
       ]
     ]
     | inr past ↦ (Right i.right, (refl, inr (tt, past)))
   ]
 ]
-leads_some (Dead d) key level = (Right d.right, (refl, inl tt))
+leads_some (Dead d) key level = elim (cases_eq d.right 0) [
+  | inl e ↦ (Again, (λ t. e, λ t. absurd t))
+  | inr n ↦ (Right d.right, (refl, inl (tt, n)))
+]
 
 -- a link to the right is a page's number, or 0
 pub right_small : (c : Page) (key level y : ℕ) → Leads c key level (Right y) → y < 2 ^ 16
-right_small (Anchor a) key level y h = elim h.1 [ inl d ↦ absurd d | inr t ↦ absurd t.0 ]
+right_small (Anchor a) key level y h = elim h.1 [ inl d ↦ absurd d.0 | inr t ↦ absurd t.0 ]
 right_small (Leaf l) key level y h = (let e = h.0 in let link = l.link in omega arith)
 right_small (Inner i) key level y h = (let e = h.0 in let link = i.link in omega arith)
 right_small (Dead d) key level y h = (let e = h.0 in let link = d.link in omega arith)
