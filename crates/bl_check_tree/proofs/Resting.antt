@@ -240,7 +240,7 @@ module _ {P : Type 0} (know : P → Know) (w : World P) (g : IsGood know w) (pag
 
   on_chain : (x : ℕ) → IsLive (w.status x) → OnChain pages (node x).shape.level x
   on_chain x h =
-      let below = g.tree.below x h in
+      let below = g.tree.below x h (λ e. let k = g.owned.uprooted x e in left.none_held x k.by k.held) in
       let c = has_chain (node x).shape.level middles g.tree below in
       let begins = c.begins in (
         subst (λ (n : ℕ). (node x).shape.level < n) (sym level_count) below,
