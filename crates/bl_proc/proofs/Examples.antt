@@ -53,6 +53,9 @@ high_anchor = page.Anchor (record { leftmost = record { items = 1 ∷ 3 ∷ [] }
 abbrev merged_away : Page
 merged_away = page.Dead (record { level = 0; low = 9; right = 1; below_limit = omega arith; link = omega arith })
 
+abbrev fallen_top : Page
+fallen_top = page.Dead (record { level = 1; low = 0; right = 0; below_limit = omega arith; link = omega arith })
+
 -- what may be refused, and what may not
 take_refused : Gives act.Take (Some (1, 2)) seen.Refused
 take_refused = refl
@@ -71,10 +74,13 @@ parent_leads_down : Leads parent 12 0 (onward.Down 1)
 parent_leads_down = (tt, (omega arith, omega arith), omega arith, record { key = 0; listed = refl; reached = omega arith; greatest = λ j c h le. grind arith })
 
 dead_leads_right : Leads merged_away 12 0 (onward.Right 1)
-dead_leads_right = (refl, inl tt)
+dead_leads_right = (refl, inl (tt, λ e. absurd (omega (arith, e))))
+
+fallen_leads_nowhere : Leads fallen_top 12 0 onward.Again
+fallen_leads_nowhere = (λ h. refl, λ h. absurd h)
 
 low_above_key : Leads right_leaf 5 0 onward.Again
-low_above_key = ((λ h. h), λ h. inl (omega arith))
+low_above_key = ((λ h. absurd h), λ h. inl (omega arith))
 
 -- a search for 12, and what it answers
 find_goes_right : FindGoes 12 (find.Descending (descent.At 1)) (seen.Words left_leaf) (find.Descending (descent.At 2))
