@@ -206,7 +206,7 @@ module _ {P : Type 0} (know : P → Know) (w : World P) (g : IsGood know w) (k :
   buried (suc n) p x may gone late = elim (gone_leads (w.now.contents x) k (g.gone x gone).end) [
     | inr h ↦ buried_again x h
     | inl h ↦ elim (dead_owner x gone) [
-      | inl held ↦ buried_last x (nodes w.now x).shape.right h ((g.gone x gone).not_yet held.0 held.1).1
+      | inl held ↦ buried_last x (nodes w.now x).shape.right h.0 (((g.gone x gone).left h.1).not_yet held.0 held.1).1
       | inr retired ↦
           let left = (g.gone x gone).left h.1 in
           let on = left.leads p may in

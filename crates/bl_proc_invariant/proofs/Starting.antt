@@ -77,11 +77,13 @@ bare_enters_good w p b g waiting old new =
       names = record { fresh = g.names.fresh; named = g.names.named };
       gone = λ x h. let o = g.gone x h in record {
         end = o.end;
-        leads = λ q m. (
-            let l = o.leads q (record { since = m.since; runs = m.runs; was = m.was; kept = m.kept }) in
-            (record { since = l.0.since; runs = l.0.runs; was = l.0.was; kept = l.0.kept }, l.1));
-        not_yet = o.not_yet;
-        later = λ q time next m. o.later q time next (record { since = m.since; runs = m.runs; was = m.was; kept = m.kept });
+        left = λ link. let to = o.left link in record {
+          leads = λ q m. (
+              let l = to.leads q (record { since = m.since; runs = m.runs; was = m.was; kept = m.kept }) in
+              (record { since = l.0.since; runs = l.0.runs; was = l.0.was; kept = l.0.kept }, l.1));
+          not_yet = to.not_yet;
+          later = λ q time next m. to.later q time next (record { since = m.since; runs = m.runs; was = m.was; kept = m.kept });
+        };
       };
       middles = λ x y e.
           let m = g.middles x y e in
