@@ -5,6 +5,7 @@ pub mod Approaches
 pub mod Changes
 pub mod Descents
 pub mod Growths
+pub mod Lowerings
 pub mod Hints
 pub mod Thin
 pub mod Respelled

@@ -11,6 +11,7 @@ pub mod Entering
 pub mod Inserting
 pub mod Deleting
 pub mod Growing
+pub mod Lowering
 pub mod Posting
 pub mod Reclaiming
 pub mod Putting

@@ -3,4 +3,5 @@ pub mod Logs
 pub mod Tables
 pub mod Compressing
 pub mod Knowing
+pub mod Lowering
 pub mod Beside

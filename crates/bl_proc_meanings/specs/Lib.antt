@@ -1,4 +1,5 @@
 pub mod Hinted
 pub mod Answers
 pub mod Squeezed
+pub mod Lowered
 pub mod Families

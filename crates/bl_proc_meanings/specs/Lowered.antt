@@ -1,0 +1,75 @@
+-- What the answers of a lowering mean, told of what its process has done from the latch of the anchor on.
+use Rattle.std.specs.Prelude.{◌≡◌, ◌⊎◌, ℕ, ◌<◌, ◌≤◌, ◌++◌, List, [], ◌∷◌}
+use Rattle.bl_model.specs.declared.operation.Reply.{Reply}
+use Rattle.bl_page.specs.declared.page.Page.{Page}
+use Rattle.bl_page.specs.declared.page.Page.TheVariants.{Anchor}
+use Rattle.bl_page.specs.declared.page.Anchor.{Anchor as AnchorPage}
+use Rattle.bl_page.specs.Machine.{Act}
+use Rattle.bl_page.specs.Machine.Act.{Get, Put, Latch, Retire, Miss}
+use Rattle.bl_page.specs.declared.machine.Missed.TheVariants as missed
+use Rattle.bl_claims.specs.Pages.{roots_of}
+use Rattle.bl_claims.specs.Trails.{Mark, Trail}
+use Rattle.bl_claims.specs.Meanings.{HasGot}
+use Rattle.bl_proc_base.specs.declared.lowering.Lowered.{Lowered}
+use Rattle.bl_proc_base.specs.declared.lowering.Lowered.TheVariants as lowered
+use Rattle.bl_proc_base.specs.declared.lowering.Sinking.{Sinking}
+use Rattle.bl_proc_base.specs.Onwards.{top_of}
+use Rattle.bl_proc_base.specs.Lowerings.{IsSole, Sinks}
+use Rattle.bl_proc_meanings.specs.Squeezed.{Unwritten, Since, Once}
+
+-- The anchor was latched and got, and names more than one level; then the leftmost page of the last one was latched and got.
+pub record AtTop (marks : Trail) (anchor : AnchorPage) (top : Page) (acts : List (Act Page Reply)) : Type 0 where
+  pub since : Since marks 0 acts
+  pub got : HasGot since.during 0 (Anchor anchor)
+  pub tall : 1 < (roots_of (Anchor anchor)).levels
+  pub got_top : HasGot since.during (top_of (roots_of (Anchor anchor))) top
+
+-- what is done of a lowering after the latch of the anchor, up to the get of the top page, and up to the retirement
+abbrev pub to_top : ℕ → List (Act Page Reply)
+to_top x = Get 0 ∷ Latch x ∷ Get x ∷ []
+
+abbrev pub to_sunk : Sinking → List (Act Page Reply)
+to_sunk s = Get 0 ∷ Latch s.top ∷ Get s.top ∷ Put 0 s.anchor ∷ Put s.top s.dead ∷ Retire s.top ∷ []
+
+-- The top page that was got is not needed, and this is what is put then.
+pub record IsToLower (marks : Trail) (s : Sinking) (acts : List (Act Page Reply)) : Type 0 where
+  pub anchor : AnchorPage
+  pub top : Page
+  pub at : AtTop marks anchor top acts
+  pub is : s.top ≡ top_of (roots_of (Anchor anchor))
+  pub sole : IsSole top
+  pub sinks : Sinks anchor.leftmost.items s
+
+-- Lowered: the anchor was put without the level, then the page dead, which was then retired.
+abbrev pub MeansSunk : Trail → Type 0
+MeansSunk marks = Once marks (λ ms. (s : Sinking) × IsToLower ms s (to_sunk s))
+
+-- Needed: nothing was written; the anchor that was got names one level, or the top page that was got is needed.
+pub record HasOneLevel (marks : Trail) : Type 0 where
+  pub first : Unwritten marks
+  pub anchor : Page
+  pub got : HasGot marks 0 anchor
+  pub one : (roots_of anchor).levels ≤ 1
+
+pub record HasNeed (marks : Trail) : Type 0 where
+  pub anchor : AnchorPage
+  pub top : Page
+  pub at : AtTop marks anchor top (to_top (top_of (roots_of (Anchor anchor))))
+  pub need : ¬ IsSole top
+
+abbrev pub MeansNeeded : Trail → Type 0
+MeansNeeded marks = Once marks (λ ms. HasOneLevel ms ⊎ HasNeed ms)
+
+-- NoRoom: the top page that was got is not needed, and next a reservation was refused.
+pub record LacksFrames (marks : Trail) : Type 0 where
+  pub until : Trail
+  pub mark : Mark
+  pub split : marks ≡ until ++ mark ∷ []
+  pub refused : mark.event.act ≡ Miss missed.Reservation
+  pub sinking : Sinking
+  pub is : IsToLower until sinking (to_top sinking.top)
+
+abbrev pub MeansLowered : Lowered → Trail → Type 0
+MeansLowered lowered.Lowered marks = MeansSunk marks
+MeansLowered lowered.Needed marks = MeansNeeded marks
+MeansLowered lowered.NoRoom marks = Once marks LacksFrames
