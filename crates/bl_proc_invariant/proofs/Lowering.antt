@@ -1,5 +1,5 @@
 -- Every turn of a lowering keeps a world good.
-use Rattle.std.proofs.Common.{ℕ, ◌≡◌, ◌≢◌, ◌⊎◌, ◌<◌, ◌≤◌, ◌-◌, ◌==◌, if◌then◌else◌, Option, Some, None, zero, suc, List, [], ◌∷◌, length, get_or, take, arith, ap, sym, ◌∙◌, refl, subst, inl, inr}
+use Rattle.std.proofs.Common.{ℕ, ◌≡◌, ◌≢◌, ◌⊎◌, ◌<◌, ◌≤◌, ◌-◌, Option, Some, None, zero, suc, List, [], ◌∷◌, length, get_or, take, arith, ap, sym, ◌∙◌, refl, subst, inl, inr}
 use Rattle.std.proofs.lemmas.List.{get_or-take}
 use Rattle.std.proofs.lemmas.Bool.{cases_eq}
 use Rattle.bl_page.specs.declared.page.Page.{Page}
@@ -53,6 +53,9 @@ fallen_says level (Dead d) h = record { level_is = h.0; end = refl; right = h.2 
 fallen_says level (Anchor a) h = absurd h
 fallen_says level (Leaf l) h = absurd h
 fallen_says level (Inner i) h = absurd h
+
+other_got : (anchor top : Page) (x : ℕ) → 0 ≢ x → got_top anchor top x ≡ top
+other_got anchor top x n = grind arith
 
 module _ {P : Type 0} (know : P → Know) (w : World P) (g : IsGood know w) (p : Name) (b : P) where
   -- the anchor is got without a latch
@@ -120,7 +123,7 @@ module _ {P : Type 0} (know : P → Know) (w : World P) (g : IsGood know w) (p :
       let x = t.top in
       let m : Mark = record { event = record { process = p; act = Get x }; saw = Some (w.now.contents x); said = None } in
       let n : 0 ≢ k.top = λ e. is.sound.1 (e ∙ same) in
-      let to : got_top (Anchor t.anchor) c k.top ≡ c = grind (arith, n) in
+      let to : got_top (Anchor t.anchor) c k.top ≡ c = other_got (Anchor t.anchor) c k.top n in
       let held = is.holds.1.0.owner in
       watched know w g p b _ _ before then (Get x) (Some (w.now.contents x)) None s tt (is.stage, λ e. cc) does refl refl
       (λ y h. elim h [ inl e ↦ inl e | inr r ↦ elim r [ inl e ↦ inr (inl (same ∙ e)) | inr u ↦ absurd u ] ]) (λ it e. cc) (λ j. refl)
