@@ -20,18 +20,23 @@ use Rattle.bl_core.proofs.After.{after, Extends-after, put_at, is_put_at}
 use Rattle.bl_core.proofs.Descents.{anchor_not_released}
 use Rattle.bl_core.proofs.Lowerings.{PutsLower-keeps, PutsFallen-keeps}
 use Rattle.bl_core.proofs.Outside.{Retires-keeps}
+use Rattle.bl_proc_base.specs.declared.acts.Seen.{Seen}
 use Rattle.bl_proc_base.specs.declared.lowering.Lowered.{Lowered}
+use Rattle.bl_proc_base.specs.declared.lowering.Lowered.TheVariants as lowered
+use Rattle.bl_proc_base.specs.declared.lowering.Lowering.{Lowering}
+use Rattle.bl_proc_base.specs.declared.lowering.Sank.TheVariants.{On, Over}
 use Rattle.bl_proc_base.specs.declared.lowering.Summit.{Summit}
 use Rattle.bl_proc_base.specs.declared.lowering.Sinking.{Sinking}
 use Rattle.bl_proc_base.specs.declared.lowering.Lowering.TheVariants as lowering
 use Rattle.bl_proc_base.specs.Onwards.{top_of}
 use Rattle.bl_proc_base.specs.Growths.{IsAnchor}
-use Rattle.bl_proc_base.specs.Lowerings.{IsSole, IsFallen, Sinks}
+use Rattle.bl_proc_base.specs.Lowerings.{lowering_next, IsSole, IsFallen, Sinks}
 use Rattle.bl_proc_base.proofs.Tops.{length_take}
-use Rattle.bl_proc_invariant.specs.Turns.{Does, Turned}
+use Rattle.bl_proc_invariant.specs.Turns.{event_of, IsTold, Does, Turned}
 use Rattle.bl_proc_invariant.specs.Tables.{idle}
 use Rattle.bl_proc_invariant.specs.Knowing.{anchor_known}
-use Rattle.bl_proc_invariant.specs.Lowering.{got_top, IsToSink, know_lowering}
+use Rattle.bl_proc_invariant.specs.Lowering.{got_top, IsToSink, know_lowering, lowering_got}
+use Rattle.bl_proc_unique.proofs.Lowerings.{LoweringCase}
 use Rattle.bl_proc_invariant.proofs.Acts.{of_held, not_gone, watched, latched, opened}
 use Rattle.bl_proc_invariant.proofs.Approaching.{walks}
 use Rattle.bl_proc_invariant.proofs.Growing.{anchor_levels, anchor_leftmost, holds_anchor, anchor_open_turn}
@@ -346,3 +351,25 @@ module _ {P : Type 0} (know : P → Know) (w : World P) (g : IsGood know w) (p :
   -- the anchor is opened
   pub open_turn : (got : ℕ → Page) (what : Lowered) (s : State Page) → know (w.proc p) ≡ know_lowering got (lowering.OpeningAnchor what) → know b ≡ idle Stage.Busy → Does w.now p (Act.Open 0) s → Turned know w p (Act.Open 0) s b
   open_turn got what s before then does = anchor_open_turn know w g p b 0 0 (Unit {0}) (Unit {0}) s before then (λ h. h) does
+
+  -- every turn of a lowering that does not end it
+  pub lowering_turn : {l m : Lowering} {what : Seen} → LoweringCase l what (On m) → (got : ℕ → Page) (s : State Page) → know (w.proc p) ≡ know_lowering got l → know b ≡ know_lowering (lowering_got got l what) m → IsTold w.now w.size (lowering_next l) what → Does w.now p (event_of None (lowering_next l) what) s → Turned know w p (event_of None (lowering_next l) what) s b
+  lowering_turn (LoweringCase.SawMore c new t) got s before then told does = look_turn s before (subst (λ z. know b ≡ know_lowering got z) t.0 then) does
+  lowering_turn (LoweringCase.Latched new t) got s before then told does = latch_turn got s before (subst (λ z. know b ≡ know_lowering got z) t then) told does
+  lowering_turn (LoweringCase.Missed new t) got s before then told does = miss_turn got s before (subst (λ z. know b ≡ know_lowering got z) t then) does
+  lowering_turn (LoweringCase.IsTall c k t) got s before then told does = tall_turn got (λ z. c) k c s before then told t.0 t.1 does
+  lowering_turn (LoweringCase.IsLow c end t) got s before then told does = low_turn got (λ z. c) end s before then does
+  lowering_turn (LoweringCase.LatchedUpper k new t) got s before then told does = latch_top_turn got k s before (subst (λ z. know b ≡ know_lowering got z) t then) told does
+  lowering_turn (LoweringCase.MissedUpper k new t) got s before then told does = miss_top_turn got k s before (subst (λ z. know b ≡ know_lowering got z) t then) does
+  lowering_turn (LoweringCase.IsSpare k c u t) got s before then told does = sink_turn got k u c s before then told t.0 t.1 t.2 does
+  lowering_turn (LoweringCase.IsNeeded k c x end t) got s before then told does = stay_turn got (got_top (Anchor k.anchor) c) k x end s before then t.0 does
+  lowering_turn (LoweringCase.PutAnchor k new t) got s before then told does = anchor_turn got k s before (subst (λ z. know b ≡ know_lowering got z) t then) does
+  lowering_turn (LoweringCase.Refused k new t) got s before then told does = refuse_turn got k lowered.NoRoom s before (subst (λ z. know b ≡ know_lowering got z) t then) does
+  lowering_turn (LoweringCase.PutDead k new t) got s before then told does = dead_turn got k s before (subst (λ z. know b ≡ know_lowering got z) t then) does
+  lowering_turn (LoweringCase.Retired x new t) got s before then told does = retire_turn got x lowered.Lowered s before (subst (λ z. know b ≡ know_lowering got z) t then) does
+  lowering_turn (LoweringCase.OpenedTop x end new t) got s before then told does = open_top_turn got x end s before (subst (λ z. know b ≡ know_lowering got z) t then) does
+
+  -- and one that does
+  pub lowering_over_turn : {l : Lowering} {what : Seen} {end : Lowered} → LoweringCase l what (Over end) → (got : ℕ → Page) (s : State Page) → know (w.proc p) ≡ know_lowering got l → know b ≡ idle Stage.Busy → Does w.now p (event_of None (lowering_next l) what) s → Turned know w p (event_of None (lowering_next l) what) s b
+  lowering_over_turn (LoweringCase.SawOne c end t) got s before then does = look_turn s before then does
+  lowering_over_turn (LoweringCase.OpenedAnchor end last t) got s before then does = open_turn got end s before then does

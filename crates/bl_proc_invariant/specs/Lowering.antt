@@ -5,6 +5,8 @@ use Rattle.bl_page.specs.declared.page.Page.TheVariants.{Anchor}
 use Rattle.bl_core_tree.specs.Trees.Status.{Uprooted, Gone}
 use Rattle.bl_claims.specs.Pages.{node_of, roots_of}
 use Rattle.bl_core.specs.Worlds.{Stage, Know}
+use Rattle.bl_proc_base.specs.declared.acts.Seen.{Seen}
+use Rattle.bl_proc_base.specs.declared.acts.Seen.TheVariants as seen
 use Rattle.bl_proc_base.specs.declared.lowering.Sinking.{Sinking}
 use Rattle.bl_proc_base.specs.declared.lowering.Lowering.{Lowering}
 use Rattle.bl_proc_base.specs.declared.lowering.Lowering.TheVariants.{Looking, LatchingAnchor, LatchedAnchor, LatchingTop, LatchedTop, PuttingAnchor, PuttingDead, Retiring, OpeningTop, OpeningAnchor}
@@ -39,3 +41,9 @@ know_lowering got (PuttingDead s) = record (idle Stage.Busy) { holds = anchor_kn
 know_lowering got (Retiring x) = record (idle Stage.Busy) { holds = anchor_known None ∷ record { at = x; status = Gone; sep = None; page = None } ∷ []; sound = 0 ≢ x }
 know_lowering got (OpeningTop x what) = record (idle Stage.Busy) { holds = anchor_known None ∷ holds_live x ∷ []; sound = 0 ≢ x }
 know_lowering got (OpeningAnchor what) = record (idle Stage.Busy) { holds = anchor_known None ∷ [] }
+
+-- what it has got after it was told this
+abbrev pub lowering_got : (ℕ → Page) → Lowering → Seen → ℕ → Page
+lowering_got got LatchedAnchor (seen.Words c) = λ x. c
+lowering_got got (LatchedTop t) (seen.Words c) = got_top (Anchor t.anchor) c
+lowering_got got l what = got

@@ -32,7 +32,7 @@ rise_same a b anchor = λ i. record {
   room = is_prop→PathP (λ i. length (anchor i).leftmost.items < 12) (λ i. le_prop) a.room b.room i;
 }
 
-anchor_one : (a b : Anchor) → page.Anchor a ≡ page.Anchor b → a ≡ b
+pub anchor_one : (a b : Anchor) → page.Anchor a ≡ page.Anchor b → a ≡ b
 anchor_one a b e = cc
 
 -- the first page of a level is known by its level and its child
@@ -42,7 +42,7 @@ top_one level below (page.Inner p) old a b = absurd b
 top_one level below old q a b = absurd a
 
 -- and the anchor by its leftmost pages
-leftmost_one : (leftmost : List ℕ) (p q : Page) → IsAnchor leftmost p → IsAnchor leftmost q → p ≡ q
+pub leftmost_one : (leftmost : List ℕ) (p q : Page) → IsAnchor leftmost p → IsAnchor leftmost q → p ≡ q
 leftmost_one leftmost (page.Anchor p) (page.Anchor q) a b = ap page.Anchor (anchor_same p q (items_one p.leftmost q.leftmost (a ∙ sym b)))
   where
     items_one : (v w : ArrayVec ℕ) → v.items ≡ w.items → v ≡ w

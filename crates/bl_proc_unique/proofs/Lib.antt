@@ -10,6 +10,7 @@ pub mod Pages
 pub mod Ways
 pub mod Changes
 pub mod Growths
+pub mod Lowerings
 pub mod Parts
 pub mod Leaves
 pub mod Insertions
