@@ -77,6 +77,7 @@ turns_keeps know w w' m b phase s g =
           let old = g.gone x o in
           record {
             end = rw (node x) old.end;
+            above = rw (node x) old.above;
             left = λ some.
                 let link : (nodes w.now x).shape.right ≢ 0 = rw (node x) at some in
                 let was_left = old.left link in

@@ -69,7 +69,7 @@ PutsFallen-keeps know w w' p x c b s g =
       becomes = λ z o h. inl (elim (cases_eq z x) [ inl i ↦ rw i lx | inr i ↦ rw (u.others z i) at h ]);
       uproots = λ z o h. inl (before z Uprooted h (λ e. cc));
       gone = λ z o h. elim (cases_eq z x) [
-        | inl i ↦ (i, record { end = rw put.node.at s.dead_end; left = λ link. absurd (link (rw put.node.at s.dead_right)) })
+        | inl i ↦ (i, record { end = rw put.node.at s.dead_end; above = λ e. rw (put.node.at, s.dead_level, k.level_is) g.tree.some_level; left = λ link. absurd (link (rw put.node.at s.dead_right)) })
         | inr i ↦ absurd (s.owes.no_dead z o (sym (u.others z i) ∙ h))
       ];
       no_dead = s.owes.no_dead;

@@ -217,6 +217,7 @@ Retires-keeps know w w' p x b s g =
     let old = g.gone y o in
     record {
       end = rw (node y) old.end;
+      above = rw (node y) old.above;
       left = λ some.
           let was_left = old.left (rw (node y) at some) in
           record {
@@ -339,6 +340,7 @@ Releases-keeps know w w' p x b s g =
     let old = g.gone y (sym (u.others y n) ∙ h) in
     record {
       end = rw (node y) old.end;
+      above = rw (node y) old.above;
       left = λ some.
           let was_left = old.left (rw (node y) at some) in
           record {

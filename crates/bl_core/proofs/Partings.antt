@@ -139,6 +139,7 @@ PutsDead-keeps know w w' p parent x y c b m g =
           j,
           record {
             end = rw put.node.at m.dead_end;
+            above = rw (put.node.at, m.leads) (λ e. absurd (not_zero know w x (Left y) g s.left (λ e. cc) (sym e)));
             left = λ link. record {
               alive = rw (put.node.at, m.leads, u.at) live_live;
               held = rw (put.node.at, m.leads) s.held;

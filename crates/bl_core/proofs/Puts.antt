@@ -1,5 +1,5 @@
 -- A process puts a page that it holds.
-use Rattle.std.proofs.Common.{suc, ℕ, ◌≡◌, ◌≢◌, ◌⊎◌, true, Option, Some, None, arith, ap, sym, ◌∙◌, refl, inl, inr}
+use Rattle.std.proofs.Common.{suc, ℕ, ◌≡◌, ◌≢◌, ◌<◌, ◌⊎◌, true, Option, Some, None, arith, ap, sym, ◌∙◌, refl, inl, inr}
 use Rattle.std.proofs.lemmas.Bool.{cases_eq}
 use Rattle.bl_page.specs.declared.page.Page.{Page}
 use Rattle.bl_page.specs.Machine.{Name, Owner}
@@ -25,9 +25,10 @@ pub record MarksTo {P : Type 0} (w w' : World P) (p : Name) (x : ℕ) : Type 0 w
   pub held : w.now.owner (nodes w'.now x).shape.right ≡ Held p
   pub level : (nodes w'.now (nodes w'.now x).shape.right).shape.level ≡ (nodes w'.now x).shape.level
 
--- or it has no link
+-- or it has no link, and was above the leaves
 pub record Marks {P : Type 0} (w w' : World P) (p : Name) (x : ℕ) : Type 0 where
   pub end : (nodes w'.now x).shape.end ≡ 0
+  pub above : (nodes w'.now x).shape.right ≡ 0 → 0 < (nodes w'.now x).shape.level
   pub left : (nodes w'.now x).shape.right ≢ 0 → MarksTo w w' p x
 
 -- p is in the middle of a compression of the two after its put
@@ -143,6 +144,7 @@ Puts-keeps know w w' p x c said b s g =
           let d = k.1 in
           rw k.0 (record {
             end = d.end;
+            above = d.above;
             left = λ link.
                 let to = d.left link in
                 record {

@@ -57,6 +57,7 @@ module _ {P : Type 0} (w w' : World P) (s : Steady w w') where
       let was : was_in (w.status x) ≡ true = rw e was_gone in
       record {
         end = rw n h.end;
+        above = rw n h.above;
         left = λ some.
             let link : (nodes w.now x).shape.right ≢ 0 = rw n at some in
             let k = h.left link in

@@ -173,9 +173,11 @@ pub record LeadsLeft {P : Type 0} (w : World P) (x : ℕ) : Type 0 where
   pub not_yet : (q : Name) → w.now.owner x ≡ Held q → (w.now.owner (nodes w.now x).shape.right ≡ Held q) × IsLive (w.status (nodes w.now x).shape.right) × ((nodes w.now (nodes w.now x).shape.right).shape.level ≡ (nodes w.now x).shape.level)
   pub later : (p : Name) (time next : ℕ) → MayGet w p x → w.now.owner x ≡ Retired time → w.now.owner (nodes w.now x).shape.right ≡ Retired next → time < next
 
--- A dead page covers no key. It leads to the left, unless it was the top page of the tree: then it has no link.
+-- A dead page covers no key. It leads to the left, unless it was the top page of the tree: then it has no link, and was above the
+-- leaves.
 pub record IsGone {P : Type 0} (w : World P) (x : ℕ) : Type 0 where
   pub end : (nodes w.now x).shape.end ≡ 0
+  pub above : (nodes w.now x).shape.right ≡ 0 → 0 < (nodes w.now x).shape.level
   pub left : (nodes w.now x).shape.right ≢ 0 → LeadsLeft w x
 
 -- who makes the height fall holds the page that the anchor names no longer, and the anchor

@@ -34,9 +34,9 @@ pub shows_words : (x : ℕ) (words : List ℕ) (c : Page) → words ≡ words_of
 shows_words zero words c e = e
 shows_words (suc x) words c e = inl e
 
--- an anchor leads nowhere, so no process may get one as a page of the tree
-anchor_end : (c : Page) → IsAnchor c → ((node_of c).shape.end ≡ 0) × ((node_of c).shape.right ≡ 0)
-anchor_end (Anchor a) h = (refl, refl)
+-- an anchor leads nowhere and is of no level above the leaves, so no process may get one as a page of the tree
+anchor_end : (c : Page) → IsAnchor c → ((node_of c).shape.end ≡ 0) × ((node_of c).shape.right ≡ 0) × ((node_of c).shape.level ≡ 0)
+anchor_end (Anchor a) h = (refl, refl, refl)
 anchor_end (Leaf l) h = absurd h
 anchor_end (Inner i) h = absurd h
 anchor_end (Dead d) h = absurd h
@@ -45,9 +45,7 @@ no_anchor : (w : World Run) (p : Name) (x : ℕ) → IsGood know w → MayGet w 
 no_anchor w p x good may is =
     let end = anchor_end (w.now.contents x) is in
     let gone = is_dead_page know w good p x may end.0 in
-    let leads = (good.gone x gone).leads p may in
-    let zero_is : MayGet w p 0 = subst (λ (z : ℕ). MayGet w p z) end.1 leads.0 in
-    false≢true (sym anchored_not ∙ (ap was_in (sym good.tree.anchored) ∙ zero_is.was))
+    absurd (let above = (good.gone x gone).above end.1 in omega (arith, end.2))
 
 -- the words of a page that a process gets are the page's
 pub got_words : (w : World Run) (p : Name) (x : ℕ) (words : List ℕ) → IsGood know w → (x ≡ 0) ⊎ MayGet w p x → Shows x words (w.now.contents x) → words ≡ words_of (w.now.contents x)

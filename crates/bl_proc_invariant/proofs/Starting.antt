@@ -77,6 +77,7 @@ bare_enters_good w p b g waiting old new =
       names = record { fresh = g.names.fresh; named = g.names.named };
       gone = λ x h. let o = g.gone x h in record {
         end = o.end;
+        above = o.above;
         left = λ link. let to = o.left link in record {
           leads = λ q m. (
               let l = to.leads q (record { since = m.since; runs = m.runs; was = m.was; kept = m.kept }) in
