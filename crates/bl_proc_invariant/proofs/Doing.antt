@@ -41,7 +41,7 @@ use Rattle.bl_proc_invariant.proofs.Logging.{way_stays, way_goes}
 use Rattle.bl_proc_unique.proofs.WayCases.{SqueezeCase, squeeze_case}
 use Rattle.bl_proc_unique.proofs.KindCases.{CompressCase}
 
-acts_of-push : (ms : Trail) (m : Mark) → acts_of (ms ++ m ∷ []) ≡ acts_of ms ++ acts_in m.event.act
+pub acts_of-push : (ms : Trail) (m : Mark) → acts_of (ms ++ m ∷ []) ≡ acts_of ms ++ acts_in m.event.act
 acts_of-push [] m = append-nil (acts_in m.event.act)
 acts_of-push (n ∷ ms) m = ap (λ z. acts_in n.event.act ++ z) (acts_of-push ms m) ∙ sym (append_assoc (acts_in n.event.act) (acts_of ms) (acts_in m.event.act))
 
@@ -68,7 +68,7 @@ writes_of-acts [] = refl
 writes_of-acts (m ∷ ms) = ap (λ z. writes_in m.event.act ++ z) (writes_of-acts ms) ∙ sym (among_done m.event.act (acts_of ms))
 
 -- since the latch nothing was written
-since_unwritten : {ms : Trail} {x : ℕ} {acts : List (Act Page Reply)} → writes_among acts ≡ [] → Since ms x acts → Unwritten ms
+pub since_unwritten : {ms : Trail} {x : ℕ} {acts : List (Act Page Reply)} → writes_among acts ≡ [] → Since ms x acts → Unwritten ms
 since_unwritten none h = record {
   earlier = h.first.earlier;
   begin = h.first.begin;
@@ -103,13 +103,13 @@ module _ (ms : Trail) (m : Mark) where
   abbrev more : Trail
   more = ms ++ m ∷ []
 
-  unwritten_on : writes_in m.event.act ≡ [] → Unwritten ms → Unwritten more
+  pub unwritten_on : writes_in m.event.act ≡ [] → Unwritten ms → Unwritten more
   unwritten_on quiet h = wrote_still ms m (λ acts. acts ≡ []) quiet h
 
-  since_now : (x : ℕ) → m.event.act ≡ Latch x → Unwritten ms → Since more x []
+  pub since_now : (x : ℕ) → m.event.act ≡ Latch x → Unwritten ms → Since more x []
   since_now x e first = record { before = ms; first = first; latch = m; during = []; split = refl; latched = e; acts_are = refl }
 
-  abbrev since_on : {x : ℕ} {acts : List (Act Page Reply)} (new : List (Act Page Reply)) → acts_in m.event.act ≡ new → Since ms x acts → Since more x (acts ++ new)
+  abbrev pub since_on : {x : ℕ} {acts : List (Act Page Reply)} (new : List (Act Page Reply)) → acts_in m.event.act ≡ new → Since ms x acts → Since more x (acts ++ new)
   since_on {x} {acts} new did h = record {
     before = h.before;
     first = h.first;
@@ -140,7 +140,7 @@ module _ (ms : Trail) (m : Mark) where
   right_got {level} {key} {f} d did saw h = record { left = left_on (Get f.at.right ∷ []) (ap acts_in did) h; got = got_last h.family.since.during m did saw }
 
   -- it was done once, and stays done; or was done just now
-  abbrev once_on : {Then : Trail → Type 0} → writes_in m.event.act ≡ [] → Once ms Then → Once more Then
+  abbrev pub once_on : {Then : Trail → Type 0} → writes_in m.event.act ≡ [] → Once ms Then → Once more Then
   once_on put h = record {
     until = h.until;
     after = h.after ++ m ∷ [];
@@ -149,7 +149,7 @@ module _ (ms : Trail) (m : Mark) where
     is = h.is;
   }
 
-  abbrev once_now : {Then : Trail → Type 0} → Then more → Once more Then
+  abbrev pub once_now : {Then : Trail → Type 0} → Then more → Once more Then
   once_now h = record { until = more; after = []; split = sym (append-nil more); no_more = refl; is = h }
 
   module _ (level key : ℕ) where

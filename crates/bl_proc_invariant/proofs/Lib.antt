@@ -12,6 +12,7 @@ pub mod Inserting
 pub mod Deleting
 pub mod Growing
 pub mod Lowering
+pub mod LoweringLogs
 pub mod Posting
 pub mod Reclaiming
 pub mod Putting

@@ -4,4 +4,5 @@ pub mod Tables
 pub mod Compressing
 pub mod Knowing
 pub mod Lowering
+pub mod LoweringLog
 pub mod Beside
