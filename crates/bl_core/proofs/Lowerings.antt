@@ -77,9 +77,9 @@ PutsFallen-keeps know w w' p x c b s g =
       relied = λ q d n h o.
           -- the parent of a page that another relies on is of a level that the anchor has, so that page is not x
           let other : d.at ≢ x = λ i. absurd (
-            let under = g.tree.below d.parent (rw h.status live_live) (λ e. cc (h.status)) in
-            let e : (nodes w.now d.at).shape.level ≡ (nodes w.now x).shape.level = ap (λ v. (nodes w.now v).shape.level) i in
-            omega (arith, h.level, k.level_is)) in
+          let under = g.tree.below d.parent (rw h.status live_live) (λ e. cc (h.status)) in
+          let e : (nodes w.now d.at).shape.level ≡ (nodes w.now x).shape.level = ap (λ v. (nodes w.now v).shape.level) i in
+          omega (arith, h.level, k.level_is)) in
           (rw (u.others d.at other) h.alive, ap (λ f. f d.at) s.sep);
       places = s.owes.places;
       point = s.owes.point;

@@ -71,9 +71,9 @@ Lowers-keeps {top} {x} {t} {t'} some m g =
     let child : (l j c : ℕ) → IsChild t l j c → IsChild t' l j c = λ l j c o. record { alive = new c o.alive; level_is = rw (same c o.alive) o.level_is; sep_is = rw m.stays.sep o.sep_is } in
     -- x is alone on its level
     let alone : (z : ℕ) → IsLive (t.status z) → (t.node z).shape.level ≡ (t.node x).shape.level → z ≡ x = λ z h e.
-        let wide = g.side.wide z h in
-        let within = g.side.within z h in
-        sym (g.side.apart x z (t.node z).shape.low lx h (sym e) (omega (arith, m.low), omega (arith, m.end)) (omega arith, wide) (λ i. cc (m.live)) (λ i. cc (m.live))) in
+    let wide = g.side.wide z h in
+    let within = g.side.within z h in
+    sym (g.side.apart x z (t.node z).shape.low lx h (sym e) (omega (arith, m.low), omega (arith, m.end)) (omega arith, wide) (λ i. cc (m.live)) (λ i. cc (m.live))) in
     record {
       side = rw m.stays.sep (other_shapes (rw status_0 anchored_dead) (λ z n. ap (λ v. v.shape) (m.node z n)) (uproot_shape m.live u g.side));
       agree = λ z k h d. let o = old z h in rw (same z o, m.stays.map) (g.agree z k o (rw (same z o) at d));
@@ -143,8 +143,8 @@ Falls-keeps {top} {x} {d} {t} {t'} some m g =
     let old : (z : ℕ) → IsLive (t'.status z) → IsLive (t.status z) = λ z h. rw (u.others z (not_x z h)) at h in
     -- x is the only page of its level, and the only one that is uprooted
     let alone : (z : ℕ) → t.status z ≡ Uprooted → z ≡ x = λ z h.
-        let o = g.uprooted z h in
-        g.side.apart z x 0 (rw h uprooted_live) lx (o.level_is ∙ sym k.level_is) (omega (arith, o.low), omega (arith, o.end)) (omega (arith, k.low), omega (arith, k.end)) (λ i. cc) (λ i. cc) in
+    let o = g.uprooted z h in
+    g.side.apart z x 0 (rw h uprooted_live) lx (o.level_is ∙ sym k.level_is) (omega (arith, o.low), omega (arith, o.end)) (omega (arith, k.low), omega (arith, k.end)) (λ i. cc) (λ i. cc) in
     let lower : (z : ℕ) → IsLive (t.status z) → z ≢ x → (t.node z).shape.level < t.roots.levels = λ z h n. g.below z h (λ e. n (alone z e)) in
     let child : (l j c : ℕ) → c ≢ x → IsChild t l j c → IsChild t' l j c = λ l j c n o. record { alive = rw (u.others c n) o.alive; level_is = rw (w.others c n) o.level_is; sep_is = rw m.sep o.sep_is } in
     record {
@@ -163,10 +163,10 @@ Falls-keeps {top} {x} {d} {t} {t'} some m g =
             let was : t.map (suc l) j ≡ Some c = ap (λ f. f j) (sym (m.map.others (suc l) i)) ∙ h in
             let o = g.listed l j c was in
             child l j c (λ e. absurd (
-              let level : (t.node x).shape.level ≡ l = ap (λ v. (t.node v).shape.level) (sym e) ∙ o.level_is in
-              let s = g.empty (suc l) j c (omega (arith, k.level_is)) was in
-              let r = g.uprooted s.page s.is in
-              omega (arith, s.level_is, r.level_is, k.level_is))) o
+            let level : (t.node x).shape.level ≡ l = ap (λ v. (t.node v).shape.level) (sym e) ∙ o.level_is in
+            let s = g.empty (suc l) j c (omega (arith, k.level_is)) was in
+            let r = g.uprooted s.page s.is in
+            omega (arith, s.level_is, r.level_is, k.level_is))) o
       ];
       anchored = u.others 0 (λ i. (let e : Anchored ≡ Uprooted = sym g.anchored ∙ (ap t.status i ∙ m.uprooted) in cc)) ∙ g.anchored;
       some_level = rw m.put.roots g.some_level;
@@ -174,8 +174,8 @@ Falls-keeps {top} {x} {d} {t} {t'} some m g =
       leftmost = same_leftmost m.put.roots (λ l h.
           let o = g.leftmost l h in
           child l 0 (t.roots.leftmost l) (λ e. absurd (
-            let level : (t.node x).shape.level ≡ l = ap (λ v. (t.node v).shape.level) (sym e) ∙ o.level_is in
-            omega (arith, k.level_is))) o);
+          let level : (t.node x).shape.level ≡ l = ap (λ v. (t.node v).shape.level) (sym e) ∙ o.level_is in
+          omega (arith, k.level_is))) o);
       below = λ z h n. rw (w.others z (not_x z h), m.put.roots) (lower z (old z h) (not_x z h));
       uprooted = λ z h. absurd (elim (cases_eq z x) [
         | inl i ↦ (let e : Gone ≡ Uprooted = sym u.at ∙ (ap t'.status (sym i) ∙ h) in cc)

@@ -1,5 +1,5 @@
 -- What the store shows of pages and their owners.
-use Rattle.std.proofs.Common.{ℕ, ◌≡◌, ◌≢◌, ◌⊎◌, ◌<◌, zero, suc, List, [], ◌∷◌, set, length, refl, sym, ap, ◌∙◌, subst, inl, inr, arith}
+use Rattle.std.proofs.Common.{ℕ, ◌≡◌, ◌≢◌, ◌⊎◌, ◌<◌, zero, suc, List, [], ◌∷◌, set, length, refl, sym, ap, ◌∙◌, inl, inr, arith}
 use mathlib.Core.Option.{Option, some, some-ne-none}
 use mathlib.Core.Logic.{dite}
 use native.Mathlib.Decide.{ℕ_discrete}
@@ -11,9 +11,7 @@ use Rattle.bl_page.specs.Words.{words_of}
 use Rattle.bl_page.specs.Machine.{Name}
 use Rattle.bl_page.specs.Machine as machine
 use Rattle.bl_claims.specs.Pages.{node_of}
-use Rattle.bl_core.specs.Worlds.{World, MayGet, was_in, IsGood}
-use Rattle.bl_core.proofs.Steady.{anchored_not}
-use Rattle.std.proofs.lemmas.Bool.{false≢true}
+use Rattle.bl_core.specs.Worlds.{World, MayGet, IsGood}
 use Rattle.bl_core.proofs.Descents.{is_dead_page}
 use Rattle.bl_proc_invariant.specs.Knowing.{Run, bare as know}
 use Rattle.bl_store.specs.Pages.{Owner, Released, Open, Held, Retired, Stage}

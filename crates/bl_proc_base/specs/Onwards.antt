@@ -19,9 +19,9 @@ IsDead (Leaf l) = ⊥
 IsDead (Inner i) = ⊥
 IsDead (Dead d) = Unit {0}
 
--- A dead page leads to its right, if it has a link, and so does a page that ends at the key or below it. A page that covers the key leads
--- down while it is above the level, and is the one that was looked for on the level. From a page whose low is above the
--- key, or that is below the level, the way begins again, and so it does from a dead page without a link.
+-- A dead page leads to its right, if it has a link, and so does a page that ends at the key or below it. A page that covers the
+-- key leads down while it is above the level, and is the one that was looked for on the level. From a page whose low is above
+-- the key, or that is below the level, the way begins again, and so it does from a dead page without a link.
 abbrev pub Leads : Page → ℕ → ℕ → Step → Type 0
 Leads c key level Again = (IsDead c → (node_of c).shape.right ≡ 0) × (IsTreePage c → (key < (node_of c).shape.low) ⊎ (Covers (node_of c).shape key × (node_of c).shape.level < level))
 Leads c key level (Right x) = (x ≡ (node_of c).shape.right) × ((IsDead c × ((node_of c).shape.right ≢ 0)) ⊎ (IsTreePage c × (node_of c).shape.end ≤ key))

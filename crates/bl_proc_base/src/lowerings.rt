@@ -40,9 +40,7 @@ fn is_sole(page: &Page) -> bool
     ensures { IsTrue result ↔ IsSole page.now }
 {
     match page {
-        Page::Inner(inner) => {
-            inner.children.len() == 1 && inner.high == 0 && inner.right == 0
-        }
+        Page::Inner(inner) => { inner.children.len() == 1 && inner.high == 0 && inner.right == 0 }
         _ => false,
     }
 }
@@ -103,9 +101,7 @@ impl Lowering {
             Lowering::LatchingTop(summit) => Action::Latch(summit.top),
             Lowering::LatchedTop(summit) => Action::Get(summit.top),
             Lowering::PuttingAnchor(sinking) => Action::Put(0, sinking.anchor.copied()),
-            Lowering::PuttingDead(sinking) => {
-                Action::Put(sinking.top, sinking.dead.copied())
-            }
+            Lowering::PuttingDead(sinking) => { Action::Put(sinking.top, sinking.dead.copied()) }
             Lowering::Retiring(top) => Action::Retire(*top),
             Lowering::OpeningTop(top, _) => Action::Open(*top),
             Lowering::OpeningAnchor(_) => Action::Open(0),
