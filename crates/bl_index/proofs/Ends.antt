@@ -132,9 +132,13 @@ rows_of r = Rows r.rows r.next
 
 part_ends : (from : ℕ) (a b : PartStage) (reply : Reply) (hint : Option Hint) → part_next_in a ≡ act.End → PartGoes from a seen.Done b → part_answer_in b ≡ Some (Op reply hint) → (part_end a ≡ Some reply) × ((know_part from a).said ≡ Some (record { op = op.Part from; reply = reply }))
 part_ends from part.New b reply hint e t h = cc
+part_ends from (part.Near x) b reply hint e t h = cc
+part_ends from (part.Probing x) b reply hint e t h = cc
 part_ends from (part.Descending d) b reply hint e t h = cc
 part_ends from (part.Over r) b reply hint e t h = absurd t
 part_ends from (part.Ending r) part.New reply hint e t h = absurd t
+part_ends from (part.Ending r) (part.Near x) reply hint e t h = absurd t
+part_ends from (part.Ending r) (part.Probing x) reply hint e t h = absurd t
 part_ends from (part.Ending r) (part.Descending d) reply hint e t h = absurd t
 part_ends from (part.Ending r) (part.Ending q) reply hint e t h = absurd t
 part_ends from (part.Ending r) (part.Over q) reply hint e t h =

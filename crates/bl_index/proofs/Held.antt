@@ -68,6 +68,7 @@ latch_next reply (act.Open y) seen.Done x e = absurd (let f = e in cc)
 latch_next reply (act.Retire y) seen.Done x e = absurd (let f = e in cc)
 latch_next reply (act.Look y) (seen.Blocks it) x e = absurd (let f = e in cc)
 latch_next reply (act.See y) (seen.Owner retired started own) x e = absurd (let f = e in cc)
+latch_next reply (act.Probe y) (seen.Probed free) x e = absurd (let f = e in cc)
 latch_next reply (act.Release y) seen.Done x e = absurd (let f = e in cc)
 latch_next reply a what x e = absurd (let f = e in cc)
 

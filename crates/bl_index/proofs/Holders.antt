@@ -82,6 +82,8 @@ find_holds key (find.Over value) = inr refl
 
 part_holds : (key : ℕ) (a : PartStage) → MayHold (know_part key a)
 part_holds key part.New = inr refl
+part_holds key (part.Near x) = inr refl
+part_holds key (part.Probing x) = inr refl
 part_holds key (part.Descending d) = inr refl
 part_holds key (part.Ending r) = inr refl
 part_holds key (part.Over r) = inr refl

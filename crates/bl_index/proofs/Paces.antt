@@ -3,8 +3,8 @@ use Rattle.std.proofs.Common.{ℕ, ◌≡◌, ◌≢◌, ◌+◌, ◌≤◌, ◌
 use Rattle.std.specs.Prelude.{slice_get}
 use Rattle.bl_model.specs.declared.operation.Reply.{Reply}
 use Rattle.bl_page.specs.declared.page.Page.{Page}
-use Rattle.bl_page.specs.Machine.{Name, Act}
-use Rattle.bl_page.specs.Machine.Act.{Begin, End, Get}
+use Rattle.bl_page.specs.Machine.{Name, Looked, Act}
+use Rattle.bl_page.specs.Machine.Act.{Begin, End, Get, Look}
 use Rattle.bl_claims.specs.Trails.{Mark, Trail, DoesAt}
 use Rattle.bl_core.proofs.Pushes.{DoesAt-last}
 use Rattle.bl_claims.specs.Walks.{Each}
@@ -99,6 +99,18 @@ module _ (pages pass number turns : ℕ) (d : Mine) (named : d.pass ≡ pass) (c
         bounded = subst (λ (q : Name). IsWithinBound pages q e.trail) is_p (subst (λ (z : ℕ). IsWithinBound z (name d.pass d.number) e.trail) size (n.bounded search));
         below = subst (λ (q : Name). IsBelowBound pages q e.trail) is_p (subst (λ (z : ℕ). IsBelowBound z (name d.pass d.number) e.trail) size (n.below on));
         gets = gets_more pages p d.pass d.number (Get x) d e is_p n t.begin t.begun ∙ ap (λ (z : ℕ). z + 1) t.gets;
+      }
+
+  -- a look, after which it has got no more
+  pub at_look : (it : Looked) (e : Mine) → e.pages ≡ pages → Steps (Look it) d e → IsSearch e.state → IsUnderWay e.state → IsAtTurn pages pass number turns e.trail
+  at_look it e size s search on =
+      let p = name pass number in
+      let n = s.notes in record {
+        begin = t.begin;
+        begun = begun_on pages p d.pass d.number (Look it) d e is_p n t.begin t.begun;
+        bounded = subst (λ (q : Name). IsWithinBound pages q e.trail) is_p (subst (λ (z : ℕ). IsWithinBound z (name d.pass d.number) e.trail) size (n.bounded search));
+        below = subst (λ (q : Name). IsBelowBound pages q e.trail) is_p (subst (λ (z : ℕ). IsBelowBound z (name d.pass d.number) e.trail) size (n.below on));
+        gets = (let more = gets_more pages p d.pass d.number (Look it) d e is_p n t.begin t.begun in let got = t.gets in omega (arith, more, got));
       }
 
   -- it has ended with no answer

@@ -1,5 +1,5 @@
 -- A part of which a pass has no value: it knows where the part stands.
-use Rattle.std.specs.Prelude.{◌≡◌, ◌+◌, ℕ, false, List}
+use Rattle.std.specs.Prelude.{◌≡◌, ◌+◌, ℕ, false, Option, None, Some, List}
 use Rattle.atomic_table.specs.declared.shared.Seat.{Seat}
 use Rattle.bl_layout.specs.declared.layout.Layout.{Layout}
 use Rattle.bl_page.specs.declared.page.Page.{Page}
@@ -9,7 +9,7 @@ use Rattle.bl_proc_base.specs.declared.descent.Descent.{Descent}
 use Rattle.bl_proc_base.specs.Onwards.{Leads}
 use Rattle.bl_proc.specs.declared.parts.PartRows.{PartRows}
 use Rattle.bl_proc.specs.declared.parts.PartStage.{PartStage}
-use Rattle.bl_proc.specs.declared.parts.PartStage.TheVariants.{Descending, Ending}
+use Rattle.bl_proc.specs.declared.parts.PartStage.TheVariants.{New, Near, Descending, Ending}
 use Rattle.bl_proc.specs.declared.kinds.Proc.{Proc}
 use Rattle.bl_proc.specs.declared.kinds.Proc.TheVariants as proc
 use Rattle.bl_proc.specs.Parts.{IsPartOf}
@@ -25,6 +25,11 @@ use Rattle.bl_index.specs.Runs.{IsOn, IsSince, IsWithin, IsAtLast}
 
 abbrev pub listing : ℕ → PartStage → Proc
 listing from stage = proc.Part (record { from = from; stage = stage })
+
+-- how it begins: with a page in mind, or with none
+abbrev pub first_stage : Option ℕ → PartStage
+first_stage None = New
+first_stage (Some page) = Near page
 
 -- a part that has come so far on its way
 abbrev pub part_at : ℕ → Descent → Proc

@@ -119,7 +119,7 @@ pub record LeavesPart (first : List (Option Page)) (pages pass turns from : ℕ)
   pub kept : after ≡ before
   pub stops : StopsAt first pages pass turns to room fault old new
 
--- One or the other.
-pub record MayAppend (first : List (Option Page)) (pages pass turns from : ℕ) (to : Option ℕ) (room : ℕ) (result : Result Next ScanFault) (before after : List (ℕ × ℕ)) (old new : Trail) : Type 0 where
-  pub listed : IfOk result (λ next. AppendsPart first pages pass from to next before after old new)
+-- One or the other. Beside where the part ended stands the page to which its leaf links, of which nothing is said.
+pub record MayAppend (first : List (Option Page)) (pages pass turns from : ℕ) (to : Option ℕ) (room : ℕ) (result : Result (Next × ℕ) ScanFault) (before after : List (ℕ × ℕ)) (old new : Trail) : Type 0 where
+  pub listed : IfOk result (λ t. AppendsPart first pages pass from to t.0 before after old new)
   pub left : IfErr result (λ fault. LeavesPart first pages pass turns from to room fault before after old new)

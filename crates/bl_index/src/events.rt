@@ -1,6 +1,6 @@
 //! The events of a process of which there is no value: the hand's pass knows where it stands.
 
-ghost use Rattle.std.specs.Prelude.{◌≡◌, ◌<◌, ◌+◌, ℕ, true, false, MatchOption, IfNone};
+ghost use Rattle.std.specs.Prelude.{◌≡◌, ◌<◌, ◌+◌, ℕ, Bool, true, false, MatchOption, IfNone};
 ghost use Rattle.bl_page.specs.declared.page.Page.{Page};
 ghost use Rattle.bl_page.specs.Pairs.{IsChild};
 ghost use Rattle.bl_page.specs.Words.{words_of};
@@ -20,7 +20,7 @@ ghost use Rattle.bl_index.specs.Runs.{IsOn, IsSince, IsWithin, IsDone};
 ghost use Rattle.bl_index.specs.Events.{OpensLast};
 
 use crate::index::Index;
-use bl_index_rule::{Ended, Got, Mine, Opened, Put, Refused, Took, Tried};
+use bl_index_rule::{Ended, Got, Mine, Opened, Probed, Put, Refused, Took, Tried};
 use bl_store::{Glance, Hand, Spread, Stock};
 
 impl Index {
@@ -55,6 +55,21 @@ impl Index {
         ensures missed { result ≡ false → Goes seen.Missed (known hand.old.seat) (known hand.new.seat) }
     {
         self.store.try_latch::<Tried>(hand, page)
+    }
+
+    /// The process looks whether the page is open.
+    #[inline(always)]
+    pub(crate) fn is_open(&self, hand: &mut Hand<Mine>, page: u32) -> bool
+        requires own { IsHandOf self.now.store hand.old }
+        requires running { IsRunning hand.old.seat }
+        requires page { page < self.now.store.layout.pages }
+        requires process { IsOn self.now.store.layout (known hand.old.seat) (known hand.old.seat).state }
+        requires next { next_of (known hand.old.seat).state ≡ act.Probe page }
+        requires course { (free : Bool) → GoesOn (known hand.old.seat).state (seen.Probed free) }
+        ensures same { IsSameHand hand.old.seat hand.new.seat × IsSameStage hand.old.seat hand.new.seat × IsSameStock hand.old.seat hand.new.seat }
+        ensures goes { Goes (seen.Probed result) (known hand.old.seat) (known hand.new.seat) }
+    {
+        self.store.probe::<Probed>(hand, page)
     }
 
     /// The process opens the page.

@@ -159,3 +159,12 @@ pub(crate) fn next_in<W: Words>(source: &W, hand: &mut W::Hand) -> Next
 {
     next_after(word(source, hand, 2))
 }
+
+/// The page to which the leaf links. Nothing is said of it.
+#[inline(always)]
+pub(crate) fn link_in<W: Words>(source: &W, hand: &mut W::Hand) -> u32
+    requires sees { W.Sees source.now hand.old }
+    ensures same { hand.new ≡ hand.old }
+{
+    (word(source, hand, 3) % LEVEL_UNIT) as u32
+}

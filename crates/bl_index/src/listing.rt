@@ -1,8 +1,9 @@
 //! Parts of the map, by the words of pages: a part goes by its events, and its rows are read from its leaf's words.
 
-ghost use Rattle.std.specs.Prelude.{◌≡◌, ℕ, List, false, IfOk, MatchOption};
+ghost use Rattle.std.specs.Prelude.{◌≡◌, ℕ, ◌+◌, ◌<◌, List, false, IfOk, MatchOption};
 ghost use Rattle.bl_model.specs.declared.operation.Op.TheVariants as op;
-ghost use Rattle.bl_page.specs.Machine.Act.{Get};
+ghost use Rattle.bl_page.specs.Machine.Act.{Get, Look};
+ghost use Rattle.bl_page.specs.Machine.Looked.{Page as OfPage};
 ghost use Rattle.bl_proc_base.specs.declared.acts.Action.TheVariants as act;
 ghost use Rattle.bl_proc_base.specs.declared.acts.Seen.TheVariants as seen;
 ghost use Rattle.bl_proc_base.specs.declared.descent.Descent.TheVariants as descent;
@@ -14,8 +15,8 @@ ghost use Rattle.bl_store.specs.Hands.{known, IsIdle, IsRunning, IsSameHand, IsS
 ghost use Rattle.bl_store.specs.Owners.{IsHandOf};
 ghost use Rattle.bl_claims.specs.Seeing.{IsSeen};
 ghost use Rattle.bl_index_rule.specs.Told.{Begins, Steps, ends, IsUnborn};
-ghost use Rattle.bl_index.specs.Runs.{IsOn, IsSince, IsWithin};
-ghost use Rattle.bl_index.specs.Parts.{listing, part_at, IsAtLeaf, HasReached, HasLeaf, HasGivenUp};
+ghost use Rattle.bl_index.specs.Runs.{IsOn, IsSince, IsWithin, IsAtTurn};
+ghost use Rattle.bl_index.specs.Parts.{listing, first_stage, part_at, IsAtLeaf, HasReached, HasLeaf, HasGivenUp};
 
 use crate::config::OutOfTurns;
 use crate::index::{Index, Pass};
@@ -23,6 +24,7 @@ use crate::leaf_rows::{next_in, rows_in};
 use crate::shown::Shown;
 use bl_index_rule::{Began, Ended, Launch, Mine};
 use bl_model::Reply;
+use bl_proc::first_way;
 use bl_proc_base::{Descended, Descent};
 use bl_store::{Glance, Hand};
 use std::marker::Brand;
@@ -61,7 +63,7 @@ impl Index {
         ensures seen { IsSeen (known hand.new.seat).first (known hand.new.seat).trail }
         ensures answers { AnswersOrRunsOut (known hand.old.seat).first self.now.store.layout.pages hand.old.number turns (op.Part from) result (known hand.old.seat).trail (known hand.new.seat).trail }
     {
-        let Some(glance) = self.come_to_leaf(hand, from, turns) else {
+        let Some(glance) = self.come_to_leaf(hand, from, None, turns) else {
             return Err(OutOfTurns);
         };
         let shown = Shown {
@@ -76,10 +78,10 @@ impl Index {
 
     // The part from that key on begins, which the bound names beside its pass.
     #[inline(always)]
-    fn launch_part<J: Launch>(&self, hand: &mut Hand<Mine>, from: u64)
+    fn launch_part<J: Launch>(&self, hand: &mut Hand<Mine>, from: u64, near: Option<u32>)
         requires own { IsHandOf self.now.store hand.old }
         requires idle { IsIdle hand.old.seat }
-        requires names { (hand.old.number ≡ J.pass) × (self.now.store.layout.pages ≡ J.pages) × (self.now.store.layout.passes ≡ J.passes) × (listing from part_stage.New ≡ J.process) }
+        requires names { (hand.old.number ≡ J.pass) × (self.now.store.layout.pages ≡ J.pages) × (self.now.store.layout.passes ≡ J.passes) × (listing from (first_stage near) ≡ J.process) }
         requires next { next_of J.process ≡ act.Begin }
         requires unborn { IsUnborn J.process }
         requires course { GoesOn J.process seen.Done }
@@ -88,6 +90,7 @@ impl Index {
         ensures told { Begins J.pass J.pages J.passes J.process (known hand.old.seat) (known hand.new.seat) }
     {
         let _ = from;
+        let _ = near;
         self.store.begin::<Began<J>>(hand);
     }
 
@@ -102,7 +105,61 @@ impl Index {
         ensures begun { IsSince hand.old.number (known hand.old.seat) (known hand.new.seat) }
         ensures told { Begins hand.old.number self.now.store.layout.pages self.now.store.layout.passes (listing from part_stage.New) (known hand.old.seat) (known hand.new.seat) }
     {
-        self.launch_part::<Brand>(hand, from);
+        self.launch_part::<Brand>(hand, from, None);
+    }
+
+    /// A part from that key on begins, which has that page in mind.
+    #[inline(always)]
+    fn begin_near(&self, hand: &mut Hand<Mine>, from: u64, page: u32)
+        requires own { IsHandOf self.now.store hand.old }
+        requires idle { IsIdle hand.old.seat }
+        ensures same { IsSameHand hand.old.seat hand.new.seat × IsSameStock hand.old.seat hand.new.seat }
+        ensures running { IsRunning hand.new.seat }
+        ensures process { IsOn self.now.store.layout (known hand.new.seat) (listing from (part_stage.Probing page)) }
+        ensures begun { IsSince hand.old.number (known hand.old.seat) (known hand.new.seat) }
+        ensures told { Begins hand.old.number self.now.store.layout.pages self.now.store.layout.passes (listing from (part_stage.Near page)) (known hand.old.seat) (known hand.new.seat) }
+    {
+        self.launch_part::<Brand>(hand, from, Some(page));
+    }
+
+    /// It looks whether that page is open, and where it is, its way begins there.
+    #[inline(always)]
+    fn probe(&self, hand: &mut Hand<Mine>, from: u64, page: u32) -> Descent
+        requires own { IsHandOf self.now.store hand.old }
+        requires running { IsRunning hand.old.seat }
+        requires page { page < self.now.store.layout.pages }
+        requires process { IsOn self.now.store.layout (known hand.old.seat) (listing from (part_stage.Probing page)) }
+        ensures same { IsSameHand hand.old.seat hand.new.seat × IsSameStage hand.old.seat hand.new.seat × IsSameStock hand.old.seat hand.new.seat }
+        ensures process { IsOn self.now.store.layout (known hand.new.seat) (part_at from result) }
+        ensures looked { Steps (Look (OfPage page)) (known hand.old.seat) (known hand.new.seat) }
+    {
+        let _ = from;
+        let free = self.is_open(hand, page);
+        first_way(page, free)
+    }
+
+    /// A part from that key on begins, and looks at that page first, if there is one. Any number will do for it.
+    #[inline(always)]
+    fn set_off(&self, hand: &mut Hand<Mine>, from: u64, near: Option<u32>) -> Descent
+        requires own { IsHandOf self.now.store hand.old }
+        requires idle { IsIdle hand.old.seat }
+        ensures same { IsSameHand hand.old.seat hand.new.seat × IsSameStock hand.old.seat hand.new.seat }
+        ensures running { IsRunning hand.new.seat }
+        ensures process { IsOn self.now.store.layout (known hand.new.seat) (part_at from result) }
+        ensures begun { IsSince hand.old.number (known hand.old.seat) (known hand.new.seat) }
+        ensures turn { IsAtTurn self.now.store.layout.pages hand.old.number ((known hand.old.seat).number + 1) 0 (known hand.new.seat).trail }
+    {
+        match near {
+            Some(page) => {
+                if page < self.pages {
+                    self.begin_near(hand, from, page);
+                    return self.probe(hand, from, page);
+                }
+            }
+            None => {}
+        }
+        self.begin_part(hand, from);
+        Descent::AtAnchor
     }
 
     /// The part gets the page that is next, and goes on by its words.
@@ -126,12 +183,14 @@ impl Index {
         }
     }
 
-    /// A part begins, and gets so many pages at most, until it has its leaf. Where it runs out of turns, it ends.
+    /// A part begins, at that page if there is one and it is open, and gets so many pages at most, until it has its leaf. Where it
+    /// runs out of turns, it ends.
     #[inline(always)]
     pub(crate) fn come_to_leaf(
         &self,
         hand: &mut Hand<Mine>,
         from: u64,
+        near: Option<u32>,
         turns: u32,
     ) -> Option<Glance>
         requires own { IsHandOf self.now.store hand.old }
@@ -139,8 +198,7 @@ impl Index {
         ensures same { IsSameHand hand.old.seat hand.new.seat × IsSameStock hand.old.seat hand.new.seat }
         ensures came { MatchOption result (HasGivenUp self.now.store.layout hand.old.number turns (known hand.old.seat) hand.new.seat) (HasLeaf self.now.store.layout hand.old.number from (known hand.old.seat) hand.new.seat) }
     {
-        self.begin_part(hand, from);
-        let mut descent = Descent::AtAnchor;
+        let mut descent = self.set_off(hand, from, near);
         for _turn in 0..turns {
             match self.list_on(hand, from, descent) {
                 Reached::Further(next) => descent = next,

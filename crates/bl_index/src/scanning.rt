@@ -9,7 +9,7 @@ ghost use Rattle.bl_index.specs.Runs.{IsWithin};
 ghost use Rattle.bl_index.specs.Scans.{is_below as below, IsOver, MayAppend, MayScan};
 
 use crate::index::{Index, Pass};
-use crate::leaf_rows::{append_rows, next_in};
+use crate::leaf_rows::{append_rows, link_in, next_in};
 use crate::shown::Shown;
 use bl_index_rule::Mine;
 use bl_model::Next;
@@ -57,39 +57,45 @@ impl Index {
         ensures nothing { IsOver to (Some from) → trail pass.new ≡ trail pass.old }
     {
         let mut at = from;
+        let mut near = None;
         while is_below(to, at) {
-            match self.append_part(pass, at, to, turns, rows)? {
+            let part = self.append_part(pass, at, near, to, turns, rows)?;
+            match part.0 {
                 Next::More(next) => at = next,
                 Next::End => return Ok(()),
             }
+            near = Some(part.1);
         }
         Ok(())
     }
 
-    /// Appends the rows of one part that lie below the end, and says where the part ended.
+    /// Appends the rows of one part that lie below the end, and says where the part ended, with the page to which its leaf links.
+    /// The part looks at that page first, if there is one.
     fn append_part(
         &self,
         pass: &mut Pass,
         from: u64,
+        near: Option<u32>,
         to: Option<u64>,
         turns: u32,
         rows: &mut Vec<(u64, u64)>,
-    ) -> Result<Next, ScanFault>
+    ) -> Result<(Next, u32), ScanFault>
         requires { IsPassOf self.now pass.old }
         ensures same { IsSamePass pass.old pass.new }
         ensures appends { MayAppend (first_of self.now) (pages_of self.now) (number_of pass.old) turns from to (vec_capacity rows.new - vec_len rows.new) result rows.old.items rows.new.items (trail pass.old) (trail pass.new) }
     {
-        self.append_part_by(&mut pass.hand, from, to, turns, rows)
+        self.append_part_by(&mut pass.hand, from, near, to, turns, rows)
     }
 
     fn append_part_by(
         &self,
         hand: &mut Hand<Mine>,
         from: u64,
+        near: Option<u32>,
         to: Option<u64>,
         turns: u32,
         rows: &mut Vec<(u64, u64)>,
-    ) -> Result<Next, ScanFault>
+    ) -> Result<(Next, u32), ScanFault>
         requires own { IsHandOf self.now.store hand.old }
         requires idle { IsIdle hand.old.seat }
         ensures same { IsSameHand hand.old.seat hand.new.seat × IsSameStock hand.old.seat hand.new.seat }
@@ -100,7 +106,7 @@ impl Index {
         ensures seen { IsSeen (known hand.new.seat).first (known hand.new.seat).trail }
         ensures appends { MayAppend (known hand.old.seat).first self.now.store.layout.pages hand.old.number turns from to (vec_capacity rows.new - vec_len rows.new) result rows.old.items rows.new.items (known hand.old.seat).trail (known hand.new.seat).trail }
     {
-        let Some(glance) = self.come_to_leaf(hand, from, turns) else {
+        let Some(glance) = self.come_to_leaf(hand, from, near, turns) else {
             return Err(ScanFault::OutOfTurns(from));
         };
         let shown = Shown {
@@ -108,10 +114,11 @@ impl Index {
             glance,
         };
         let next = next_in(&shown, hand);
+        let right = link_in(&shown, hand);
         let appended = append_rows(&shown, hand, from, to, rows);
         self.end_part(hand);
         match appended {
-            Ok(()) => Ok(next),
+            Ok(()) => Ok((next, right)),
             Err(_) => Err(ScanFault::Memory(from)),
         }
     }

@@ -1,5 +1,5 @@
 -- Each event of a running process, on pages: it keeps the rule, and the pass knows it.
-use Rattle.std.proofs.Common.{ℕ, ◌≡◌, ◌≢◌, ◌⊎◌, ◌+◌, ◌<◌, ◌≤◌, true, List, length, refl, sym, ap, ◌∙◌, subst, ⊎_elim, inl, inr, arith, zero, suc}
+use Rattle.std.proofs.Common.{ℕ, ◌≡◌, ◌≢◌, ◌⊎◌, ◌+◌, ◌<◌, ◌≤◌, Bool, true, false, List, length, refl, sym, ap, ◌∙◌, subst, ⊎_elim, inl, inr, arith, zero, suc}
 use Rattle.std.proofs.Math.ListN.{length-set}
 use mathlib.Core.Option.{some}
 use lib.ListN.{get_elem?}
@@ -9,6 +9,7 @@ use Rattle.bl_page.specs.declared.page.Page.{Page}
 use Rattle.bl_page.specs.Words.{words_of}
 use Rattle.bl_page.specs.Pairs.{IsChild}
 use Rattle.bl_page.specs.Machine.{Name, State, Act}
+use Rattle.bl_page.specs.Machine.Looked.{Page as OfPage}
 use Rattle.bl_page.specs.Machine as machine
 use Rattle.bl_core.specs.Worlds.{MayGet}
 use Rattle.bl_core.proofs.After.{put_at, is_put_at}
@@ -23,11 +24,11 @@ use Rattle.bl_proc_invariant.specs.Knowing.{bare as know, end_of_proc}
 use Rattle.bl_proc_invariant.proofs.Gets.{IsGot, got_next_is}
 use Rattle.bl_proc_unique.specs.Courses.{GoesOn}
 use Rattle.bl_layout.specs.declared.layout.Layout.{Layout}
-use Rattle.bl_store.specs.Pages.{Owner, Released, Open, Held, Retired, Stage, Running, Pages, Stands, later, told, owned, written, Gets, Puts, Takes, Latches, Misses, Opens, Retires, Refuses}
+use Rattle.bl_store.specs.Pages.{Owner, Released, Open, Held, Retired, Stage, Running, Pages, Stands, later, told, owned, written, Gets, Puts, Takes, Latches, Misses, Probes, Opens, Retires, Refuses}
 use Rattle.bl_index_rule.specs.declared.known.Mine.{Mine}
 use Rattle.bl_claims.specs.Seeing.{name}
 use Rattle.bl_index_rule.specs.Fitting.{Shows, owner_in, Fits}
-use Rattle.bl_index_rule.specs.Told.{Goes, gets, puts, opens, retires, takes, tries, refuses}
+use Rattle.bl_index_rule.specs.Told.{Goes, gets, puts, opens, retires, takes, tries, probes, refuses}
 use Rattle.bl_index_rule.proofs.Shown.{at_below, shows_words, got_words, is_held, is_released, held_by}
 use Rattle.bl_index_rule.proofs.Turns.{standing, turned, then_known, then_goes, then_fits, runs_on}
 
@@ -151,6 +152,28 @@ module _ (l : Layout) (n : ℕ) (d : Mine) (runs : d.runs ≡ true) where
       let does : Does w.now p (Act.Latch x) (record w.now { owner = put_at x (machine.Held p) w.now.owner }) = record { changes = (λ z. refl, is_put_at x (machine.Held p) w.now.owner, λ q. refl); on = omega arith } in
       let u = moved s f n since d at' seen.Done course (act.Latch x) next x Open (Held n) page.1 (machine.Held p) (sym (held_by s.hands n (Running since, d) at')) (λ q ne e. let z : p ≡ q = cc in ne (sym z)) free tt does in
       (u.0, u.1, ((λ e. u.2), λ ne. absurd (ne refl))))
+
+  -- what it is told of the page is true
+  probed : (x : ℕ) (s : Pages Mine) (st : Stage) (f : Fits s) → Stands s n st d → next_of d.state ≡ act.Probe x → (free : Bool) → GoesOn d.state (seen.Probed free) → (free ≡ true → f.world.now.owner x ≡ machine.Owner.Open) → (e : Mine) × Fits (told s n st e) × Goes (seen.Probed free) d e
+  probed x s st f at next free course told_it =
+      running (λ sg. (e : Mine) × Fits (told s n sg e) × Goes (seen.Probed free) d e) s f n st d runs at (λ since at'.
+      let w = f.world in
+      let does : Does w.now (name n d.number) (Act.Look (OfPage x)) w.now = record { changes = (λ z. refl, λ z. refl, λ q. refl); on = omega arith } in
+      unmoved s f n since d at' (seen.Probed free) course (act.Probe x) next told_it tt does)
+
+  pub probes_page : (x : ℕ) → next_of d.state ≡ act.Probe x → ((free : Bool) → GoesOn d.state (seen.Probed free)) → Probes Fits l n d x probes
+  probes_page x next course s st words Open f o at page =
+      let u = probed x s st f at next true (course true) (λ e. f.owners x Open page.1) in
+      (u.0, u.1, ((λ e. u.2), λ ne. absurd (ne refl)))
+  probes_page x next course s st words Released f o at page =
+      let u = probed x s st f at next false (course false) (λ e. absurd (cc e)) in
+      (u.0, u.1, ((λ e. absurd (cc e)), λ ne. u.2))
+  probes_page x next course s st words (Held q) f o at page =
+      let u = probed x s st f at next false (course false) (λ e. absurd (cc e)) in
+      (u.0, u.1, ((λ e. absurd (cc e)), λ ne. u.2))
+  probes_page x next course s st words (Retired t) f o at page =
+      let u = probed x s st f at next false (course false) (λ e. absurd (cc e)) in
+      (u.0, u.1, ((λ e. absurd (cc e)), λ ne. u.2))
 
   pub misses_page : (x : ℕ) → next_of d.state ≡ act.Latch x → GoesOn d.state seen.Missed → Misses Fits l n d x tries
   misses_page x next course s st words owner f o at page shut =

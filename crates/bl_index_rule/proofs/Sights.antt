@@ -61,4 +61,5 @@ module _ (w : World Run) (good : IsGood know w) (p : Name) where
   near_pages (action.Retire x) h = mine x h
   near_pages (action.Look q) h = tt
   near_pages (action.See x) h = tt
+  near_pages (action.Probe x) h = tt
   near_pages (action.Release x) h = tt

@@ -39,6 +39,7 @@ IsNear pages action.Take = Unit {0}
 IsNear pages (action.Retire x) = x < pages
 IsNear pages (action.Look p) = Unit {0}
 IsNear pages (action.See x) = Unit {0}
+IsNear pages (action.Probe x) = Unit {0}
 IsNear pages (action.Release x) = Unit {0}
 
 -- What the pass has said since its entries of before is what its process knows that it has said.
@@ -96,6 +97,10 @@ takes d x owner words e = Goes (seen.Took x) d e
 
 abbrev pub tries : Mine → ℕ → Owner → List ℕ → Mine → Type 0
 tries d x owner words e = (owner ≡ Open → Goes seen.Done d e) × (owner ≢ Open → Goes seen.Missed d e)
+
+-- it is told whether the page is open
+abbrev pub probes : Mine → ℕ → Owner → List ℕ → Mine → Type 0
+probes d x owner words e = (owner ≡ Open → Goes (seen.Probed true) d e) × (owner ≢ Open → Goes (seen.Probed false) d e)
 
 abbrev pub retires : Mine → ℕ → Mine → Type 0
 retires d now e = Goes seen.Done d e

@@ -1,7 +1,7 @@
 //! What each event tells the pass that makes it.
 
 ghost use Rattle.std.specs.Prelude.{ℕ};
-ghost use Rattle.bl_index_rule.specs.Told.{begins, ends, gives_up, gets, puts, takes, tries, opens, retires, refuses, sweeps};
+ghost use Rattle.bl_index_rule.specs.Told.{begins, ends, gives_up, gets, puts, takes, tries, probes, opens, retires, refuses, sweeps};
 
 use crate::known::Mine;
 use bl_store::{PagePlay, SweepPlay, TimePlay};
@@ -81,6 +81,13 @@ pub struct Tried;
 
 impl PagePlay<Mine> for Tried {
     ghost then = { tries };
+}
+
+/// A page was looked at, whether it is open.
+pub struct Probed;
+
+impl PagePlay<Mine> for Probed {
+    ghost then = { probes };
 }
 
 /// A page was opened.

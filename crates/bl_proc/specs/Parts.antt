@@ -1,5 +1,5 @@
 -- A part, by its state.
-use Rattle.std.specs.Prelude.{◌≡◌, ◌≢◌, ℕ, ◌≤◌, Option, None, Some}
+use Rattle.std.specs.Prelude.{◌≡◌, ◌≢◌, ℕ, suc, ◌≤◌, Bool, true, Option, None, Some}
 use Rattle.bl_model.specs.declared.operation.Next.{Next}
 use Rattle.bl_model.specs.declared.operation.Next.TheVariants.{More, End}
 use Rattle.bl_model.specs.declared.operation.Reply.TheVariants as reply
@@ -13,12 +13,13 @@ use Rattle.bl_proc_base.specs.declared.acts.Seen.{Seen}
 use Rattle.bl_proc_base.specs.declared.acts.Seen.TheVariants as seen
 use Rattle.bl_proc_base.specs.declared.answers.Answer.{Answer}
 use Rattle.bl_proc_base.specs.declared.answers.Answer.TheVariants.{Op}
-use Rattle.bl_proc_base.specs.declared.descent.Descent.TheVariants.{AtAnchor}
+use Rattle.bl_proc_base.specs.declared.descent.Descent.{Descent}
+use Rattle.bl_proc_base.specs.declared.descent.Descent.TheVariants.{AtAnchor, At}
 use Rattle.bl_proc_base.specs.declared.descent.Descended.TheVariants.{On, Here}
 use Rattle.bl_proc.specs.declared.parts.Part.{Part}
 use Rattle.bl_proc.specs.declared.parts.PartRows.{PartRows}
 use Rattle.bl_proc.specs.declared.parts.PartStage.{PartStage}
-use Rattle.bl_proc.specs.declared.parts.PartStage.TheVariants.{New, Descending, Ending, Over}
+use Rattle.bl_proc.specs.declared.parts.PartStage.TheVariants.{New, Near, Probing, Descending, Ending, Over}
 use Rattle.bl_proc_base.specs.Descents.{descent_next, Descends}
 
 -- The next part begins where the page ends. Past a page without a bound there is none.
@@ -34,19 +35,30 @@ pub record IsPartOf (c : Page) (from : ℕ) (part : PartRows) : Type 0 where
 -- An ended process has no next action: it is not asked for one.
 abbrev pub part_next_in : PartStage → Action
 part_next_in New = act.Begin
+part_next_in (Near x) = act.Begin
+part_next_in (Probing x) = act.Probe x
 part_next_in (Descending d) = descent_next d
 part_next_in (Ending part) = act.End
 part_next_in (Over part) = act.End
 
 abbrev pub part_answer_in : PartStage → Option Answer
 part_answer_in New = None
+part_answer_in (Near x) = None
+part_answer_in (Probing x) = None
 part_answer_in (Descending d) = None
 part_answer_in (Ending part) = None
 part_answer_in (Over part) = Some (Op (reply.Rows part.rows part.next) None)
 
--- It descends to the leaf that covers its first key, which gives the part.
+-- A part that has looked at a page begins its way there, if the page is open and is not the anchor.
+abbrev pub way_by : ℕ → Bool → Descent
+way_by (suc x) true = At (suc x)
+way_by x free = AtAnchor
+
+-- It descends to the leaf that covers its first key, which gives the part. If it has a page in mind, it looks at that first.
 abbrev pub PartGoes : ℕ → PartStage → Seen → PartStage → Type 0
 PartGoes from New seen.Done (Descending d) = d ≡ AtAnchor
+PartGoes from (Near x) seen.Done (Probing y) = y ≡ x
+PartGoes from (Probing x) (seen.Probed free) (Descending d) = d ≡ way_by x free
 PartGoes from (Descending d) (seen.Words c) (Descending e) = Descends from d c (On e)
 PartGoes from (Descending d) (seen.Words c) (Ending part) = Descends from d c Here × IsPartOf c from part
 PartGoes from (Ending part) seen.Done (Over last) = last ≡ part

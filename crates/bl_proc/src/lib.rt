@@ -26,7 +26,7 @@ pub use bl_proc_compress::{Compress, CompressReply, CompressStage};
 pub use deleting::{Delete, DeleteReply, DeleteStage, Removed};
 pub use inserting::{Insert, InsertReply, InsertStage};
 pub use kinds::Proc;
-pub use parts::{Part, PartRows, PartStage};
+pub use parts::{Part, PartRows, PartStage, first_way};
 pub use posting::{Post, PostReply, PostStage};
 pub use reclaiming::{Reclaim, ReclaimStage, Round};
 pub use searching::{Find, FindStage};

@@ -9,7 +9,7 @@ ghost use Rattle.bl_proc_base.specs.declared.onwards.Step.TheVariants as onward;
 ghost use Rattle.bl_proc.specs.declared.parts.PartStage.TheVariants as part_stage;
 ghost use Rattle.bl_proc_base.specs.Given.{Gives};
 ghost use Rattle.bl_proc_base.specs.Onwards.{Leads};
-ghost use Rattle.bl_proc.specs.Parts.{GoesOnAt, IsPartOf, part_next_in, part_answer_in, PartGoes, part_next, part_needs, part_answer, PartTakes};
+ghost use Rattle.bl_proc.specs.Parts.{GoesOnAt, IsPartOf, part_next_in, part_answer_in, way_by, PartGoes, part_next, part_needs, part_answer, PartTakes};
 
 use arrayvec::ArrayVec;
 use bl_model::{Next, Reply};
@@ -30,6 +30,10 @@ pub struct Part {
 pub enum PartStage {
     /// It is to begin.
     New,
+    /// It is to begin, and then to look at that page, from which its way may be short.
+    Near(u32),
+    /// It is to look whether that page is open.
+    Probing(u32),
     /// It is on its way to the leaf that covers its key.
     Descending(Descent),
     /// It is to end, with these rows.
@@ -99,6 +103,18 @@ fn part_of(page: &Page, from: u64) -> PartRows
     }
 }
 
+/// The way of a part that has looked at that page: it begins there, where the page is open and is not the anchor.
+#[inline(always)]
+pub fn first_way(page: u32, free: bool) -> Descent
+    ensures { result ≡ way_by page free }
+{
+    if free && page != 0 {
+        Descent::At(page)
+    } else {
+        Descent::AtAnchor
+    }
+}
+
 fn went(from: u64, stage: PartStage, seen: &Seen) -> PartStage
     requires running { part_answer_in stage ≡ None }
     requires given { Gives (part_next_in stage) None seen.now }
@@ -106,6 +122,10 @@ fn went(from: u64, stage: PartStage, seen: &Seen) -> PartStage
 {
     match (stage, seen) {
         (PartStage::New, Seen::Done) => PartStage::Descending(Descent::AtAnchor),
+        (PartStage::Near(page), Seen::Done) => PartStage::Probing(page),
+        (PartStage::Probing(page), Seen::Probed(free)) => {
+            PartStage::Descending(first_way(page, *free))
+        }
         (PartStage::Descending(descent), Seen::Words(page)) => match descent.took(from, page) {
             Descended::On(next) => PartStage::Descending(next),
             Descended::Here => PartStage::Ending(part_of(page, from)),
@@ -136,6 +156,17 @@ impl Part {
             stage: PartStage::New,
         }
     }
+
+    /// A part that is to begin, and then to look at that page, from which its way may be short. It may be any page.
+    pub fn near(from: u64, page: u32) -> Part
+        ensures from { result.from ≡ from }
+        ensures stage { result.stage ≡ part_stage.Near page }
+    {
+        Part {
+            from,
+            stage: PartStage::Near(page),
+        }
+    }
 }
 
 impl Process for Part {
@@ -149,7 +180,8 @@ impl Process for Part {
 
     fn next(&self) -> Action {
         match &self.stage {
-            PartStage::New => Action::Begin,
+            PartStage::New | PartStage::Near(_) => Action::Begin,
+            PartStage::Probing(page) => Action::Probe(*page),
             PartStage::Descending(descent) => descent.next(),
             PartStage::Ending(_) | PartStage::Over(_) => Action::End,
         }

@@ -21,6 +21,7 @@ Gives (act.Open x) needs seen.Done = Unit {0}
 Gives (act.Retire x) needs seen.Done = Unit {0}
 Gives (act.Look p) needs (seen.Blocks b) = Unit {0}
 Gives (act.See x) needs (seen.Owner retired started own) = Unit {0}
+Gives (act.Probe x) needs (seen.Probed free) = Unit {0}
 Gives (act.Release x) needs seen.Done = Unit {0}
 Gives (act.Release x) needs seen.Missed = Unit {0}
 Gives action needs other = ⊥

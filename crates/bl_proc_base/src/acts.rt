@@ -25,6 +25,8 @@ pub enum Action {
     Look(usize),
     /// Looks at the page's owner.
     See(u32),
+    /// Looks whether the page is open. It may be any page, also one of which the process knows nothing.
+    Probe(u32),
     /// Makes the retired page one that may be taken.
     Release(u32),
 }
@@ -47,6 +49,8 @@ pub enum Seen {
         /// The number of the process that looks.
         own: usize,
     },
+    /// The page that was looked at is open.
+    Probed(bool),
     /// The process that was looked at may still read what was retired.
     Blocks(bool),
     /// The page was not there to be latched or released.

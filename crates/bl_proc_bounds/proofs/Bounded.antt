@@ -20,7 +20,8 @@ use Rattle.bl_proc_bounds.specs.Searches.{IsSearch, IsGoing, IsUnderWay}
 use Rattle.bl_proc_bounds.proofs.Counts.{own_gets_own, within_none}
 use Rattle.bl_proc_bounds.proofs.Ahead.{ahead_some}
 use Rattle.bl_proc_bounds.specs.Paces.{Place, find_place, part_place, place_of, sought, IsKept, AllPaced}
-use Rattle.bl_proc_bounds.specs.Paces.Place.{Nowhere, Going}
+use Rattle.bl_proc_base.specs.declared.descent.Descent.TheVariants.{AtAnchor}
+use Rattle.bl_proc_bounds.specs.Paces.Place.{Nowhere, Trying, Going}
 use Rattle.bl_proc_bounds.proofs.Keeping.{Knows, knows, IsKeptThen, stays, then_paced}
 
 -- A turn at which the process stays as it is, and neither gets nor puts.
@@ -45,6 +46,7 @@ find_early size contents trail p k old e = absurd (cc e)
 
 part_early : (size : ℕ) (contents : ℕ → Page) (trail : Trail) (p : Name) (k : ℕ) (a : PartStage) → (know_part k a).stage ≡ Stage.Early → IsKept size contents trail p k (part_place a)
 part_early size contents trail p k part.New e = tt
+part_early size contents trail p k (part.Near x) e = tt
 part_early size contents trail p k old e = absurd (cc e)
 
 early_of : (size : ℕ) (contents : ℕ → Page) (trail : Trail) (p : Name) (got : ℕ → Page) (child time : ℕ) (a : Proc) → (know_of got child time a).stage ≡ Stage.Early → IsKept size contents trail p (sought a) (place_of a)
@@ -83,6 +85,8 @@ find_within w p k (find.Over v) g is h = h.within
 
 part_within : (w : World Run) (p : Name) (k : ℕ) (a : PartStage) → IsGood bare w → Knows w p k (part_place a) → IsKept w.size w.now.contents w.trail p k (part_place a) → IsWithinBound w.size p w.trail
 part_within w p k part.New g is h = not_begun w p g is.0
+part_within w p k (part.Near x) g is h = not_begun w p g is.0
+part_within w p k (part.Probing x) g is h = h.0.within
 part_within w p k (part.Descending d) g is h = h.within
 part_within w p k (part.Ending r) g is h = h.within
 part_within w p k (part.Over r) g is h = h.within
@@ -97,6 +101,7 @@ pub search_within : (w : World Run) (p : Name) → IsGood bare w → AllPaced w 
 search_within w p g all s = within_of w p (w.proc p).state g (knows w p g) (all p) s
 
 below_at : (w : World Run) (p : Name) (k : ℕ) (place : Place) → IsKept w.size w.now.contents w.trail p k place → IsGoing place → IsBelowBound w.size p w.trail
+below_at w p k (Trying x) h s = (let enough = h.0.enough in let some = ahead_some w.now.contents k AtAnchor h.0.left h.0.ahead in omega arith)
 below_at w p k (Going d) h s = (let enough = h.enough in let some = ahead_some w.now.contents k d h.left h.ahead in omega arith)
 below_at w p k old h s = absurd s
 

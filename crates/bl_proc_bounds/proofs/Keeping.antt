@@ -1,9 +1,10 @@
 -- Every turn of every process keeps the bound of each search.
-use Rattle.std.proofs.Common.{ℕ, ◌≡◌, ◌≢◌, ◌⊎◌, ◌≤◌, ◌<◌, ◌*◌, ◌++◌, Option, suc, [], ◌∷◌, arith, ap, sym, ◌∙◌, refl, inl, inr, subst}
+use Rattle.std.proofs.Common.{ℕ, ◌≡◌, ◌≢◌, ◌⊎◌, ◌≤◌, ◌<◌, ◌*◌, ◌++◌, true, Option, suc, [], ◌∷◌, arith, ap, sym, ◌∙◌, refl, inl, inr, subst}
 use Rattle.std.proofs.Math.Path.{fun_ext}
 use Rattle.bl_model.specs.declared.operation.Reply.{Reply}
 use Rattle.bl_page.specs.declared.page.Page.{Page}
-use Rattle.bl_page.specs.Machine.{Name, State, Act, Changes}
+use Rattle.bl_page.specs.Machine.{Name, Owner, State, Act, Changes}
+use Rattle.bl_page.specs.Machine.Looked.{Page as OfPage}
 use Rattle.bl_page.specs.Machine.Act.{Begin, End, Get, Put, Take, Latch, Retire, Look, Release, Miss}
 use Rattle.bl_page.specs.Machine.Phase.{Waiting}
 use Rattle.bl_claims.specs.Nodes.{unbounded}
@@ -13,6 +14,7 @@ use Rattle.bl_core.proofs.Pushes.{name_cases}
 use Rattle.bl_core.specs.Worlds.{World, IsGoes, IsSure, IsGood, Extends}
 use Rattle.bl_proc_base.specs.declared.acts.Seen.{Seen}
 use Rattle.bl_proc_base.specs.declared.acts.Seen.TheVariants as seen
+use Rattle.bl_proc_base.specs.declared.descent.Descent.{Descent}
 use Rattle.bl_proc_base.specs.declared.descent.Descent.TheVariants.{AtAnchor}
 use Rattle.bl_proc_base.specs.declared.descent.Descended.TheVariants as descended
 use Rattle.bl_proc_base.specs.Descents.{descent_page, Descends}
@@ -23,24 +25,25 @@ use Rattle.bl_proc.specs.declared.parts.PartStage.TheVariants as part
 use Rattle.bl_proc.specs.declared.kinds.Proc.{Proc}
 use Rattle.bl_proc.specs.declared.kinds.Proc.TheVariants as proc
 use Rattle.bl_proc.specs.Searches.{find_next_in, FindGoes}
-use Rattle.bl_proc.specs.Parts.{part_next_in, PartGoes}
+use Rattle.bl_proc.specs.Parts.{part_next_in, way_by, PartGoes}
 use Rattle.bl_proc.specs.Processes.{next_of, Takes}
 use Rattle.bl_proc_invariant.specs.Turns.{event_of, IsTold}
 use Rattle.bl_proc_invariant.specs.Tables.{descent_goes}
 use Rattle.bl_proc_invariant.specs.Knowing.{Run, know_find, know_part, know_of, bare, find_end, part_end, end_of_proc}
 use Rattle.bl_claims.specs.Bounds.{gets_in, puts_in}
-use Rattle.bl_proc_bounds.proofs.Counts.{own_gets, other_puts, own_gets_own, own_gets_other, other_puts_own, other_puts_other}
+use Rattle.bl_proc_bounds.proofs.Counts.{own_gets, other_puts, gets_on, own_gets_own, own_gets_other, other_puts_own, other_puts_other}
 use Rattle.bl_proc_bounds.specs.Paces.{Place, AreLeft, Spends, find_place, part_place, place_of, sought, IsKept, AllPaced}
-use Rattle.bl_proc_bounds.specs.Paces.Place.{Nowhere, Before, Going, After}
+use Rattle.bl_proc_bounds.specs.Paces.Place.{Nowhere, Before, Trying, Going, After}
 use Rattle.bl_proc_bounds.proofs.Ahead.{ahead_some, ahead_on}
-use Rattle.bl_proc_bounds.proofs.Reach.{anchor_near, descent_near}
-use Rattle.bl_proc_bounds.proofs.Spending.{spends_still, spends_put, spends_get, spends_begin}
+use Rattle.bl_proc_bounds.proofs.Reach.{anchor_near, descent_near, probed_near}
+use Rattle.bl_proc_bounds.proofs.Spending.{spends_still, spends_put, spends_get, spends_first, none_got, spends_begin}
 
 -- What a good world knows of a search
 
 abbrev pub Knows : World Run → Name → ℕ → Place → Type 0
 Knows w p k Nowhere = Unit {0}
 Knows w p k Before = (w.now.phase p ≡ Waiting) × (k < unbounded)
+Knows w p k (Trying x) = k < unbounded
 Knows w p k (Going d) = Each (IsGoes w p) (descent_goes d) × (k < unbounded)
 Knows w p k After = Unit {0}
 
@@ -52,6 +55,8 @@ find_knows w p k (find.Over v) is = tt
 
 part_knows : (w : World Run) (p : Name) (k : ℕ) (a : PartStage) → IsSure w p (know_part k a) → Knows w p k (part_place a)
 part_knows w p k part.New is = (is.stage, is.sound)
+part_knows w p k (part.Near x) is = (is.stage, is.sound)
+part_knows w p k (part.Probing x) is = is.sound
 part_knows w p k (part.Descending d) is = (is.goes, is.sound)
 part_knows w p k (part.Ending r) is = tt
 part_knows w p k (part.Over r) is = tt
@@ -73,6 +78,8 @@ knows w p g = knows_of w p (w.proc p).got (w.proc p).child (w.proc p).time (w.pr
 abbrev PlaceGoes : ℕ → Place → Seen → Place → Type 0
 PlaceGoes k Nowhere what Nowhere = Unit {0}
 PlaceGoes k Before seen.Done (Going d) = d ≡ AtAnchor
+PlaceGoes k Before seen.Done (Trying x) = Unit {0}
+PlaceGoes k (Trying x) (seen.Probed free) (Going d) = d ≡ way_by x free
 PlaceGoes k (Going d) (seen.Words c) (Going e) = Descends k d c (descended.On e)
 PlaceGoes k (Going d) (seen.Words c) After = Unit {0}
 PlaceGoes k After seen.Done After = Unit {0}
@@ -81,33 +88,37 @@ PlaceGoes k old what new = ⊥
 abbrev PlaceAct : Place → Act Page Reply → Type 0
 PlaceAct Nowhere a = Unit {0}
 PlaceAct Before a = a ≡ Begin
+PlaceAct (Trying x) a = a ≡ Look (OfPage x)
 PlaceAct (Going d) a = a ≡ Get (descent_page d)
 PlaceAct After a = (reply : Option Reply) × (a ≡ End reply)
 
-abbrev PlaceTold : (ℕ → Page) → Place → Seen → Type 0
-PlaceTold contents (Going d) (seen.Words c) = c ≡ contents (descent_page d)
-PlaceTold contents place what = Unit {0}
+abbrev PlaceTold : State Page → Place → Seen → Type 0
+PlaceTold s (Trying x) (seen.Probed free) = free ≡ true → s.owner x ≡ Owner.Open
+PlaceTold s (Going d) (seen.Words c) = c ≡ s.contents (descent_page d)
+PlaceTold s place what = Unit {0}
 
-record Moved (contents : ℕ → Page) (k : ℕ) (old : Place) (what : Seen) (a : Act Page Reply) (new : Place) : Type 0 where
+record Moved (s : State Page) (k : ℕ) (old : Place) (what : Seen) (a : Act Page Reply) (new : Place) : Type 0 where
   pub goes : PlaceGoes k old what new
   pub act : PlaceAct old a
-  pub told : PlaceTold contents old what
+  pub told : PlaceTold s old what
 
-find_moved : (s : State Page) (size k : ℕ) (old : FindStage) (what : Seen) (new : FindStage) → FindGoes k old what new → IsTold s size (find_next_in old) what → Moved s.contents k (find_place old) what (event_of (find_end old) (find_next_in old) what) (find_place new)
+find_moved : (s : State Page) (size k : ℕ) (old : FindStage) (what : Seen) (new : FindStage) → FindGoes k old what new → IsTold s size (find_next_in old) what → Moved s k (find_place old) what (event_of (find_end old) (find_next_in old) what) (find_place new)
 find_moved s size k find.New seen.Done (find.Descending d) h told = record { goes = h; act = refl; told = tt }
 find_moved s size k (find.Descending d) (seen.Words c) (find.Descending e) h told = record { goes = h; act = refl; told = told }
 find_moved s size k (find.Descending d) (seen.Words c) (find.Ending v) h told = record { goes = tt; act = refl; told = told }
 find_moved s size k (find.Ending v) seen.Done (find.Over u) h told = record { goes = tt; act = (_, refl); told = tt }
 find_moved s size k old what new h told = absurd h
 
-part_moved : (s : State Page) (size k : ℕ) (old : PartStage) (what : Seen) (new : PartStage) → PartGoes k old what new → IsTold s size (part_next_in old) what → Moved s.contents k (part_place old) what (event_of (part_end old) (part_next_in old) what) (part_place new)
+part_moved : (s : State Page) (size k : ℕ) (old : PartStage) (what : Seen) (new : PartStage) → PartGoes k old what new → IsTold s size (part_next_in old) what → Moved s k (part_place old) what (event_of (part_end old) (part_next_in old) what) (part_place new)
 part_moved s size k part.New seen.Done (part.Descending d) h told = record { goes = h; act = refl; told = tt }
+part_moved s size k (part.Near x) seen.Done (part.Probing y) h told = record { goes = tt; act = refl; told = tt }
+part_moved s size k (part.Probing x) (seen.Probed free) (part.Descending d) h told = record { goes = h; act = refl; told = told }
 part_moved s size k (part.Descending d) (seen.Words c) (part.Descending e) h told = record { goes = h; act = refl; told = told }
 part_moved s size k (part.Descending d) (seen.Words c) (part.Ending v) h told = record { goes = tt; act = refl; told = told }
 part_moved s size k (part.Ending v) seen.Done (part.Over u) h told = record { goes = tt; act = (_, refl); told = tt }
 part_moved s size k old what new h told = absurd h
 
-moved : (s : State Page) (size : ℕ) (old : Proc) (what : Seen) (new : Proc) → Takes old what new → IsTold s size (next_of old) what → (sought new ≡ sought old) × Moved s.contents (sought old) (place_of old) what (event_of (end_of_proc old) (next_of old) what) (place_of new)
+moved : (s : State Page) (size : ℕ) (old : Proc) (what : Seen) (new : Proc) → Takes old what new → IsTold s size (next_of old) what → (sought new ≡ sought old) × Moved s (sought old) (place_of old) what (event_of (end_of_proc old) (next_of old) what) (place_of new)
 moved s size (proc.Find a) what (proc.Find c) t told = (t.0, find_moved s size a.key a.stage what c.stage t.1 told)
 moved s size (proc.Part a) what (proc.Part c) t told = (t.0, part_moved s size a.from a.stage what c.stage t.1 told)
 moved s size (proc.Insert a) what (proc.Insert c) t told = (refl, record { goes = tt; act = tt; told = tt })
@@ -153,18 +164,23 @@ module _ (w w' : World Run) (m : Mark) (b : Run) (e : Extends w w' m b) (g : IsG
   unchanged : puts_in m.event.act ≡ 0 → w'.now.contents ≡ w.now.contents
   unchanged none = same_contents w.now w'.now m.event.process m.event.act none e.steps.changes
 
+  -- on its way
+  on_way : (p : Name) (k : ℕ) (d : Descent) → own_gets p m ≡ 0 → (puts_in m.event.act ≡ 1 → other_puts p m ≡ 1) → Each (IsGoes w' p) (descent_goes d) → k < unbounded → Spends w.size w.now.contents w.trail p k (Going d) → Spends w.size w'.now.contents (w.trail ++ m ∷ []) p k (Going d)
+  on_way p k d none put may low h = elim (put_cases m.event.act) [
+    | inl same ↦ spends_still w.size w.now.contents w'.now.contents w.trail m p k (Going d) h none (subst (λ c. AreLeft c k (Going d) h.left) (sym (unchanged same)) h.ahead)
+    | inr changed ↦
+        let t = descent_near bare w' g' k low p d may in
+        let few : t.gets ≤ 2 * w.size = subst (λ n. t.gets ≤ 2 * n) e.size t.few in
+        spends_put w.size w.now.contents w'.now.contents w.trail m p k (Going d) h none (put changed) t.gets few t.ahead
+  ]
+
   -- an event at which p gets nothing leaves it where it was
   pub stays : (p : Name) (k : ℕ) (place : Place) → own_gets p m ≡ 0 → (puts_in m.event.act ≡ 1 → other_puts p m ≡ 1) → Knows w' p k place → IsKept w.size w.now.contents w.trail p k place → IsKeptThen p k place
   stays p k Nowhere none put sure h = tt
   stays p k Before none put sure h = tt
   stays p k After none put sure h = spends_still w.size w.now.contents w'.now.contents w.trail m p k After h none h.ahead
-  stays p k (Going d) none put sure h = elim (put_cases m.event.act) [
-    | inl same ↦ spends_still w.size w.now.contents w'.now.contents w.trail m p k (Going d) h none (subst (λ c. AreLeft c k (Going d) h.left) (sym (unchanged same)) h.ahead)
-    | inr changed ↦
-        let t = descent_near bare w' g' k sure.1 p d sure.0 in
-        let few : t.gets ≤ 2 * w.size = subst (λ n. t.gets ≤ 2 * n) e.size t.few in
-        spends_put w.size w.now.contents w'.now.contents w.trail m p k (Going d) h none (put changed) t.gets few t.ahead
-  ]
+  stays p k (Trying x) none put sure h = (on_way p k AtAnchor none put tt sure h.0, (let more = gets_on p w.trail m h.0.begin h.0.begun in let got = h.1 in omega (arith, more, got, none)))
+  stays p k (Going d) none put sure h = on_way p k d none put sure.0 sure.1 h
 
   -- its own get
   gets : (p : Name) (k : ℕ) (old new : Place) (x left : ℕ) → m.event.process ≡ p → m.event.act ≡ Get x → (s : Spends w.size w.now.contents w.trail p k old) → suc left ≤ s.left → AreLeft w.now.contents k new left → Spends w.size w'.now.contents (w.trail ++ m ∷ []) p k new
@@ -173,13 +189,23 @@ module _ (w w' : World Run) (m : Mark) (b : Run) (e : Extends w w' m b) (g : IsG
       spends_get w.size w.now.contents w'.now.contents w.trail m p k old s one (other_puts_own p m own) new left less (subst (λ c. AreLeft c k new left) (sym (unchanged (ap puts_in act))) ahead)
 
   -- its own turn
-  goes : (p : Name) (k : ℕ) (old : Place) (what : Seen) (new : Place) → m.event.process ≡ p → Moved w.now.contents k old what m.event.act new → Knows w p k old → IsKept w.size w.now.contents w.trail p k old → IsKeptThen p k new
+  goes : (p : Name) (k : ℕ) (old : Place) (what : Seen) (new : Place) → m.event.process ≡ p → Moved w.now k old what m.event.act new → Knows w p k old → IsKept w.size w.now.contents w.trail p k old → IsKeptThen p k new
   goes p k Nowhere what Nowhere own d sure h = tt
   goes p k Before seen.Done (Going to) own d sure h =
       let phase : IsPhase w.trail p Waiting = subst (IsPhase w.trail p) sure.0 (g.recorded.phases p) in
       let t = anchor_near bare w' g' k sure.1 in
       let few : t.gets ≤ w.size = subst (λ n. t.gets ≤ n) e.size t.few in
       subst (λ v. IsKeptThen p k (Going v)) (sym d.goes) (spends_begin w.size w'.now.contents w.trail m p k (Going AtAnchor) t.gets own d.act phase.0 few t.ahead)
+  goes p k Before seen.Done (Trying x) own d sure h =
+      let phase : IsPhase w.trail p Waiting = subst (IsPhase w.trail p) sure.0 (g.recorded.phases p) in
+      let t = anchor_near bare w' g' k sure.1 in
+      let few : t.gets ≤ w.size = subst (λ n. t.gets ≤ n) e.size t.few in
+      (spends_begin w.size w'.now.contents w.trail m p k (Going AtAnchor) t.gets own d.act phase.0 few t.ahead, none_got w.trail m p phase.0)
+  goes p k (Trying x) (seen.Probed free) (Going to) own d sure h =
+      let t = probed_near bare w g k sure x free d.told in
+      let none : own_gets p m ≡ 0 = own_gets_own p m own ∙ ap gets_in d.act in
+      let ahead : AreLeft w'.now.contents k (Going (way_by x free)) t.gets = subst (λ c. AreLeft c k (Going (way_by x free)) t.gets) (sym (unchanged (ap puts_in d.act))) t.ahead in
+      subst (λ v. IsKeptThen p k (Going v)) (sym d.goes) (spends_first w.size w.now.contents w'.now.contents w.trail m p k (Going AtAnchor) h.0 none h.1 (Going (way_by x free)) t.gets t.few ahead)
   goes p k (Going from) (seen.Words c) (Going to) own d sure h =
       let r = ahead_on w.now.contents k from to h.left (subst (λ v. Descends k from v (descended.On to)) d.told d.goes) h.ahead in
       gets p k (Going from) (Going to) (descent_page from) r.left own d.act h (let l = r.less in omega arith) r.ahead
@@ -205,7 +231,7 @@ pub turn_paced : (w w' : World Run) (m : Mark) (b : Run) (what : Seen) → Exten
 turn_paced w w' m b what e g g' t told act all =
     let old = (w.proc m.event.process).state in
     let d = moved w.now w.size old what b.state t told in
-    let did : Moved w.now.contents (sought old) (place_of old) what m.event.act (place_of b.state) = subst (λ a. Moved w.now.contents (sought old) (place_of old) what a (place_of b.state)) (sym act) d.1 in
+    let did : Moved w.now (sought old) (place_of old) what m.event.act (place_of b.state) = subst (λ a. Moved w.now (sought old) (place_of old) what a (place_of b.state)) (sym act) d.1 in
     then_paced w w' m b e g g'
     (λ p i. subst (λ k. IsKept w.size w'.now.contents (w.trail ++ m ∷ []) p k (place_of b.state)) (sym d.0)
     (goes w w' m b e g g' p (sought old) (place_of old) what (place_of b.state) (sym i) did

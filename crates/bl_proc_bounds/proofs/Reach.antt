@@ -1,6 +1,6 @@
--- In every good world a search has few gets ahead, wherever it may go next: few more than there are pages from a live page or
+-- In every good world a search has few gets ahead, wherever it may go next: no more than there are pages from a live page or
 -- from the anchor, and at most twice as many from a dead one.
-use Rattle.std.proofs.Common.{ℕ, ◌≡◌, ◌≢◌, ◌⊎◌, ◌≤◌, ◌<◌, ◌+◌, ◌*◌, ◌-◌, true, zero, suc, List, [], ◌∷◌, length, arith, ap, sym, ◌∙◌, refl, inl, inr, subst}
+use Rattle.std.proofs.Common.{ℕ, ◌≡◌, ◌≢◌, ◌⊎◌, ◌≤◌, ◌<◌, ◌+◌, ◌*◌, ◌-◌, Bool, true, false, zero, suc, List, [], ◌∷◌, length, arith, ap, sym, ◌∙◌, refl, inl, inr, subst}
 use Rattle.std.proofs.lemmas.Bool.{cases_lt, cases_eq, false≢true}
 use Rattle.bl_page.specs.declared.page.Page.{Page}
 use Rattle.bl_page.specs.declared.page.Page.TheVariants.{Anchor, Leaf, Inner, Dead}
@@ -11,7 +11,7 @@ use Rattle.bl_core_tree.specs.Trees.{Status, is_live, IsLive}
 use Rattle.bl_core_tree.specs.Trees.Status.{Free, Fresh, Live, Left, Right, Uprooted, Gone, Anchored}
 use Rattle.bl_core_tree.proofs.Statuses.{live_live, left_live, right_live, uprooted_live, free_dead, not_anchor}
 use Rattle.bl_claims.specs.Pages.{node_of, roots_of, IsTreePage}
-use Rattle.bl_claims.specs.Walks.{Each, IsNoneOf, NoneTwice}
+use Rattle.bl_claims.specs.Walks.{Each, IsWalk, IsNoneOf, NoneTwice}
 use Rattle.bl_core_tree.proofs.LawsHold.{live}
 use Rattle.bl_core_tree.proofs.WalksEnd.{After, Walked, walk_from, at_most}
 use Rattle.bl_core.specs.Worlds.{Know, World, nodes, tree_of, was_in, MayGet, IsGoes, IsGood}
@@ -21,6 +21,7 @@ use Rattle.bl_proc_base.specs.declared.onwards.Step.TheVariants as onward
 use Rattle.bl_proc_base.specs.declared.descent.Descent.{Descent}
 use Rattle.bl_proc_base.specs.declared.descent.Descent.TheVariants.{AtAnchor, At}
 use Rattle.bl_proc_base.specs.Onwards.{top_of, Leads}
+use Rattle.bl_proc.specs.Parts.{way_by}
 use Rattle.bl_proc_invariant.specs.Tables.{descent_goes}
 use Rattle.bl_proc_bounds.specs.Paces.{IsAhead}
 use Rattle.bl_proc_bounds.specs.Paces.IsAhead.{On}
@@ -109,15 +110,26 @@ module _ {P : Type 0} (know : P → Know) (w : World P) (g : IsGood know w) (k :
   walked : (x : ℕ) → (v : Walked (tree_of w) k x) → IsAhead w.now.contents k (At x) (suc (length v.rest))
   walked x v = walk_ahead w.now.contents k x v.leaf (x ∷ v.rest) (tree_page know w x g v.begins, each_map (live (tree_of w)) (λ y. IsTreePage (w.now.contents y)) v.rest (λ y h. tree_page know w y g h) v.lives) v.walk
 
-  -- from the leftmost page of the top level
-  top_near : Near w.now.contents k (At (top_of (roots_of (w.now.contents 0)))) (w.size - 1)
-  top_near =
+  -- the walk from the leftmost page of the top level
+  top_walk : Walked (tree_of w) k (top_of (roots_of (w.now.contents 0)))
+  top_walk =
       let some = g.tree.some_level in
       let x = top_of (roots_of (w.now.contents 0)) in
       let o = g.tree.leftmost ((roots_of (w.now.contents 0)).levels - 1) (omega arith) in
       let low = g.tree.side.sep_low x o.alive in
-      let v : Walked (tree_of w) k x = walk_from k ((roots_of (w.now.contents 0)).levels - 1) x g.tree (all_sound know w g) b o.alive o.level_is (omega (arith, o.sep_is)) in
+      walk_from k ((roots_of (w.now.contents 0)).levels - 1) x g.tree (all_sound know w g) b o.alive o.level_is (omega (arith, o.sep_is))
+
+  top_near : Near w.now.contents k (At (top_of (roots_of (w.now.contents 0)))) (w.size - 1)
+  top_near =
+      let x = top_of (roots_of (w.now.contents 0)) in
+      let v = top_walk in
       record { gets = suc (length v.rest); ahead = walked x v; few = (let s = walk_short x v in omega arith) }
+
+  -- a walk meets no page whose low is above its key
+  walk_low : (x leaf : ℕ) (pages : List ℕ) → Each (live (tree_of w)) pages → IsWalk (nodes w.now) k x pages leaf → Each (λ y. (nodes w.now y).shape.low ≤ k) pages
+  walk_low x leaf pages h (IsWalk.Ends level covers) = (covers.0, tt)
+  walk_low x leaf pages h (IsWalk.Right {pages = rest} beyond walk) = ((let wide = g.tree.side.wide x h.0 in omega (arith, beyond)), walk_low _ _ rest h.1 walk)
+  walk_low x leaf pages h (IsWalk.Down {pages = rest} above covers of walk) = (covers.0, walk_low _ _ rest h.1 walk)
 
   -- from the anchor
   pub anchor_near : Near w.now.contents k AtAnchor w.size
@@ -128,14 +140,21 @@ module _ {P : Type 0} (know : P → Know) (w : World P) (g : IsGood know w) (k :
       record { gets = suc t.gets; ahead = On refl t.ahead; few = omega arith }
 
   -- from a live page
-  live_near : (x : ℕ) → live (tree_of w) x → Near w.now.contents k (At x) (suc w.size)
+  live_near : (x : ℕ) → live (tree_of w) x → Near w.now.contents k (At x) w.size
   live_near x h = elim (cases_lt k (nodes w.now x).shape.low) [
     | inl below ↦
-        let t = anchor_near in
-        let few = t.few in
         let page = tree_page know w x g h in
         let not_dead_page : Leads (w.now.contents x) k 0 onward.Again = again (w.now.contents x) page below in
-        record { gets = suc t.gets; ahead = On not_dead_page t.ahead; few = omega arith }
+        let y = top_of (roots_of (w.now.contents 0)) in
+        let v = top_walk in
+        let lows = walk_low y v.leaf (y ∷ v.rest) (v.begins, v.lives) v.walk in
+        let elsewhere : IsNoneOf x (y ∷ v.rest) = none_each (λ z. (nodes w.now z).shape.low ≤ k) x (y ∷ v.rest) (λ z f i. (let e : (nodes w.now x).shape.low ≡ (nodes w.now z).shape.low = ap (λ u. (nodes w.now u).shape.low) i in omega (arith, e, f, below))) lows in
+        let short : suc (suc (suc (length v.rest))) ≤ w.size =
+        at_most w.size (0 ∷ x ∷ y ∷ v.rest)
+        ((live_other x h, (live_other y v.begins, none_each (live (tree_of w)) 0 v.rest live_other v.lives)), (elsewhere, (none_of (nodes w.now) y v.rest v.after, v.once)))
+        (anchor_small, (live_small x h, (live_small y v.begins, each_map (live (tree_of w)) (λ z. z < w.size) v.rest live_small v.lives))) in
+        let from_anchor : IsAhead w.now.contents k AtAnchor (suc (suc (length v.rest))) = On refl (walked y v) in
+        record { gets = suc (suc (suc (length v.rest))); ahead = On not_dead_page from_anchor; few = short }
     | inr from ↦
         let v : Walked (tree_of w) k x = walk_from k (nodes w.now x).shape.level x g.tree (all_sound know w g) b h refl from in
         record { gets = suc (length v.rest); ahead = walked x v; few = (let s = walk_short x v in omega arith) }
@@ -167,7 +186,8 @@ module _ {P : Type 0} (know : P → Know) (w : World P) (g : IsGood know w) (k :
   buried_last : (x y : ℕ) → Leads (w.now.contents x) k 0 (onward.Right y) → live (tree_of w) y → Buried w.now.contents w.now.owner w.status w.size k x
   buried_last x y h l =
       let n = live_near y l in
-      record { rest = []; gets = suc n.gets; more = n.gets; ahead = On (inl h) n.ahead; count = omega arith; few = n.few; dead = tt; later = λ time o. tt; alone = λ q o. refl; once = (tt, tt) }
+      let few = n.few in
+      record { rest = []; gets = suc n.gets; more = n.gets; ahead = On (inl h) n.ahead; count = omega arith; few = omega arith; dead = tt; later = λ time o. tt; alone = λ q o. refl; once = (tt, tt) }
 
   -- a dead page that leads to a dead page
   buried_more : (x y time : ℕ) → w.now.owner x ≡ Retired time → IsLater w.now.owner time y → w.status y ≡ Gone → Leads (w.now.contents x) k 0 (onward.Right y) → Buried w.now.contents w.now.owner w.status w.size k y → Buried w.now.contents w.now.owner w.status w.size k x
@@ -245,3 +265,12 @@ module _ {P : Type 0} (know : P → Know) (w : World P) (g : IsGood know w) (k :
   pub descent_near : (p : Name) (d : Descent) → Each (IsGoes w p) (descent_goes d) → Near w.now.contents k d (2 * w.size)
   descent_near p AtAnchor goes = (let t = anchor_near in let few = t.few in record { gets = t.gets; ahead = t.ahead; few = omega arith })
   descent_near p (At x) goes = page_near p x goes.0.may
+
+  -- from where a search begins that has looked at a page
+  pub probed_near : (x : ℕ) (free : Bool) → (free ≡ true → w.now.owner x ≡ Owner.Open) → Near w.now.contents k (way_by x free) w.size
+  probed_near zero free told = anchor_near
+  probed_near (suc x) false told = anchor_near
+  probed_near (suc x) true told = live_near (suc x) (elim (g.owned.opened (suc x) (told refl)) [
+    | inl h ↦ rw h live_live
+    | inr h ↦ absurd (let z = g.owned.one_anchor (suc x) h in omega (arith, z))
+  ])

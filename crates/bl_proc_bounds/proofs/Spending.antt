@@ -57,6 +57,18 @@ module _ (size : ℕ) (contents contents' : ℕ → Page) (trail : Trail) (m : M
       let enough = s.enough in
       go_on new left ahead (omega (arith, gets, one, same, enough, less))
 
+  -- it has looked at a page, and has got none so far; no more gets are ahead than there are pages
+  pub spends_first : own_gets p m ≡ 0 → gets_of p trail ≡ 0 → (new : Place) (left : ℕ) → left ≤ size → AreLeft contents' k new left → Spends size contents' (trail ++ m ∷ []) p k new
+  spends_first none zero new left few ahead =
+      let gets = gets_on p trail m s.begin s.begun in
+      let more = most_rises size 0 (puts_near p (trail ++ m ∷ [])) (omega arith) in
+      let first = most_first size in
+      go_on new left ahead (omega (arith, gets, none, zero, few, more, first))
+
+-- at its begin it has got nothing
+pub none_got : (trail : Trail) (m : Mark) (p : Name) → ((i : ℕ) → DoesAt trail i p Begin → ⊥) → gets_of p (trail ++ m ∷ []) ≡ 0
+none_got trail m p none = ap (gets_by p) (since_first p trail m none)
+
 -- its begin, where no more gets are ahead than there are pages
 pub spends_begin : (size : ℕ) (contents : ℕ → Page) (trail : Trail) (m : Mark) (p : Name) (k : ℕ) (place : Place) (left : ℕ) → m.event.process ≡ p → m.event.act ≡ Begin → ((i : ℕ) → DoesAt trail i p Begin → ⊥) → left ≤ size → AreLeft contents k place left → Spends size contents (trail ++ m ∷ []) p k place
 spends_begin size contents trail m p k place left own begin none few ahead =

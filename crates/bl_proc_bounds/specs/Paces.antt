@@ -7,6 +7,7 @@ use Rattle.bl_page.specs.Machine.Act.{Begin}
 use Rattle.bl_claims.specs.Trails.{Trail, DoesAt}
 use Rattle.bl_core.specs.Worlds.{World}
 use Rattle.bl_proc_base.specs.declared.descent.Descent.{Descent}
+use Rattle.bl_proc_base.specs.declared.descent.Descent.TheVariants.{AtAnchor}
 use Rattle.bl_proc_base.specs.declared.descent.Descended.TheVariants as descended
 use Rattle.bl_proc_base.specs.Descents.{descent_page, Descends}
 use Rattle.bl_proc.specs.declared.searching.FindStage.{FindStage}
@@ -24,10 +25,12 @@ pub data IsAhead (contents : ℕ → Page) (k : ℕ) : Descent → ℕ → Type 
   Last : {d : Descent} → Descends k d (contents (descent_page d)) descended.Here → IsAhead contents k d 1
   On : {d e : Descent} {n : ℕ} → Descends k d (contents (descent_page d)) (descended.On e) → IsAhead contents k e n → IsAhead contents k d (suc n)
 
--- Where a process stands that searches: it is to begin, is on its way, or has found its leaf. Others search nowhere.
+-- Where a process stands that searches: it is to begin, is to look at that page first, is on its way, or has found its leaf.
+-- Others search nowhere.
 pub data Place : Type 0 where
   Nowhere : Place
   Before : Place
+  Trying : ℕ → Place
   Going : Descent → Place
   After : Place
 
@@ -35,6 +38,7 @@ pub data Place : Type 0 where
 abbrev pub AreLeft : (ℕ → Page) → ℕ → Place → ℕ → Type 0
 AreLeft contents k Nowhere n = ⊥
 AreLeft contents k Before n = ⊥
+AreLeft contents k (Trying x) n = ⊥
 AreLeft contents k (Going d) n = IsAhead contents k d n
 AreLeft contents k After n = n ≡ 0
 
@@ -55,6 +59,8 @@ find_place (find.Over value) = After
 
 abbrev pub part_place : PartStage → Place
 part_place part.New = Before
+part_place (part.Near x) = Before
+part_place (part.Probing x) = Trying x
 part_place (part.Descending d) = Going d
 part_place (part.Ending r) = After
 part_place (part.Over r) = After
@@ -78,10 +84,11 @@ sought (proc.Part p) = p.from
 sought (proc.Compress p) = 0
 sought (proc.Reclaim p) = 0
 
--- the bound of a search that has begun
+-- The bound of a search that has begun. While it looks at a page first, it has got none, and may go by the anchor.
 abbrev pub IsKept : ℕ → (ℕ → Page) → Trail → Name → ℕ → Place → Type 0
 IsKept size contents trail p k Nowhere = Unit {0}
 IsKept size contents trail p k Before = Unit {0}
+IsKept size contents trail p k (Trying x) = Spends size contents trail p k (Going AtAnchor) × (gets_of p trail ≡ 0)
 IsKept size contents trail p k (Going d) = Spends size contents trail p k (Going d)
 IsKept size contents trail p k After = Spends size contents trail p k After
 

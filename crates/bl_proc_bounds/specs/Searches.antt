@@ -2,7 +2,7 @@
 use Rattle.bl_proc.specs.declared.kinds.Proc.{Proc}
 use Rattle.bl_proc.specs.declared.kinds.Proc.TheVariants as proc
 use Rattle.bl_proc_bounds.specs.Paces.{Place, place_of}
-use Rattle.bl_proc_bounds.specs.Paces.Place.{Nowhere, Before, Going, After}
+use Rattle.bl_proc_bounds.specs.Paces.Place.{Nowhere, Before, Trying, Going, After}
 
 -- a search for a key, or a part
 abbrev pub IsSearch : Proc → Type 0
@@ -17,6 +17,7 @@ IsSearch (proc.Reclaim p) = ⊥
 abbrev pub IsGoing : Place → Type 0
 IsGoing Nowhere = ⊥
 IsGoing Before = ⊥
+IsGoing (Trying x) = Unit {0}
 IsGoing (Going d) = Unit {0}
 IsGoing After = ⊥
 

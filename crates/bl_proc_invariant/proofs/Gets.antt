@@ -96,6 +96,8 @@ module _ {P : Type 0} (w : World P) (p : Name) where
 
   part_got : (from : ℕ) (a : PartStage) → IsSure w p (know_part from a) → IsGot w p (part_next_in a)
   part_got from part.New is = tt
+  part_got from (part.Near x) is = tt
+  part_got from (part.Probing x) is = tt
   part_got from (part.Descending d) is = descent_got from d is
   part_got from (part.Ending r) is = tt
   part_got from (part.Over r) is = tt

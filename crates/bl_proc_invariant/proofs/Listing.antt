@@ -1,14 +1,21 @@
 -- Every turn of a part keeps a world good.
-use Rattle.std.proofs.Common.{ℕ, ◌≡◌, ◌<◌, ◌≤◌, Some, List, sym, ◌∙◌, refl, arith}
+use Rattle.std.proofs.Common.{ℕ, ◌≡◌, ◌<◌, ◌≤◌, zero, suc, Bool, true, false, None, Some, List, sym, ◌∙◌, refl, inl, inr, arith}
 use Rattle.bl_model.specs.declared.operation.Next.{Next}
 use Rattle.bl_model.specs.declared.operation.Next.TheVariants.{More, End}
 use Rattle.bl_model.specs.Map.{Map, ListsPairs, IsPart}
 use Rattle.bl_page.specs.declared.page.Page.{Page}
-use Rattle.bl_page.specs.Machine.{Name, State}
+use Rattle.bl_page.specs.Machine.{Name, Owner, State}
+use Rattle.bl_page.specs.Machine.Act.{Look as Looks}
+use Rattle.bl_page.specs.Machine.Looked.{Page as OfPage}
 use Rattle.bl_claims.specs.Nodes.{Look}
+use Rattle.bl_claims.specs.Trails.{Mark}
+use Rattle.bl_claims.specs.Walks.{Each}
+use Rattle.bl_core_tree.specs.Trees.{IsLive}
+use Rattle.bl_core_tree.proofs.Statuses.{live_live}
 use Rattle.bl_core_tree.proofs.SoundPages.{sound_node}
-use Rattle.bl_core.specs.Worlds.{Know, World, nodes, MayGet, IsBounded, IsGood}
-use Rattle.bl_core.proofs.Descents.{leaf_says}
+use Rattle.bl_core.specs.Worlds.{Stage, Know, World, nodes, IsStage, MayGet, IsGoes, IsSure, IsBounded, IsGood, silent}
+use Rattle.bl_core.proofs.Pushes.{HasSaid-silent}
+use Rattle.bl_core.proofs.Descents.{leaf_says, may_live}
 use Rattle.bl_proc_base.specs.declared.acts.Seen.{Seen}
 use Rattle.bl_proc_base.specs.declared.acts.Seen.TheVariants as seen
 use Rattle.bl_proc_base.specs.declared.onwards.Step.TheVariants.{Here}
@@ -16,10 +23,12 @@ use Rattle.bl_proc_base.specs.Onwards.{Leads}
 use Rattle.bl_proc_base.specs.Descents.{descent_page}
 use Rattle.bl_proc.specs.declared.parts.PartRows.{PartRows}
 use Rattle.bl_proc.specs.declared.parts.PartStage.{PartStage}
-use Rattle.bl_proc.specs.declared.parts.PartStage.TheVariants.{New, Descending, Ending, Over}
-use Rattle.bl_proc.specs.Parts.{GoesOnAt, IsPartOf, part_next_in, PartGoes}
+use Rattle.bl_proc.specs.declared.parts.PartStage.TheVariants.{New, Near, Probing, Descending, Ending, Over}
+use Rattle.bl_proc.specs.Parts.{GoesOnAt, IsPartOf, part_next_in, way_by, PartGoes}
 use Rattle.bl_proc_invariant.specs.Turns.{event_of, IsTold, Does, Turned}
 use Rattle.bl_proc_invariant.specs.Knowing.{listed, know_part, part_end}
+use Rattle.bl_proc_invariant.specs.Tables.{descent_goes}
+use Rattle.bl_proc_invariant.proofs.Acts.{watched}
 use Rattle.bl_proc_invariant.proofs.Descending.{descent_turn, leaf_turn}
 use Rattle.bl_proc_invariant.proofs.Ends.{begin_turn, end_turn}
 
@@ -51,8 +60,27 @@ module _ {P : Type 0} (know : P → Know) (w : World P) (g : IsGood know w) (p :
       let sound = sound_node (w.now.contents x) l.0 in
       is_part (w.map 0) (nodes w.now x).look (nodes w.now x).shape.low (nodes w.now x).shape.end from r.rows.items r.next (λ k low high. leaf_says know w g p x k may l.0 l.2 (low, high)) sound.covered l.1.0 l.1.1 g.bounded part.rows part.next
 
+  -- an open page, but for the anchor, is one of the tree, which it may get
+  probed : (x : ℕ) (free : Bool) → IsStage Stage.Busy (w.now.phase p) → (free ≡ true → w.now.owner x ≡ Owner.Open) → Each (IsGoes w p) (descent_goes (way_by x free))
+  probed zero free busy told = tt
+  probed (suc x) false busy told = tt
+  probed (suc x) true busy told =
+      let live : IsLive (w.status (suc x)) = elim (g.owned.opened (suc x) (told refl)) [
+        | inl h ↦ rw h live_live
+        | inr h ↦ absurd (let z = g.owned.one_anchor (suc x) h in omega (arith, z))
+      ] in
+      let above = g.tree.below (suc x) live in
+      let few = g.tree.few_levels in
+      (record { may = may_live know w g p busy.0 (suc x) busy.1 live; least = omega arith; most = omega (arith, above, few) }, tt)
+
   pub part_turn : (a a' : PartStage) (what : Seen) (s : State Page) → know (w.proc p) ≡ know_part from a → know b ≡ know_part from a' → PartGoes from a what a' → IsTold w.now w.size (part_next_in a) what → Does w.now p (event_of (part_end a) (part_next_in a) what) s → Turned know w p (event_of (part_end a) (part_next_in a) what) s b
   part_turn New (Descending d) seen.Done s before then t told does = begin_turn know w g p b from s before (rw t at then) does
+  part_turn (Near x) (Probing y) seen.Done s before then t told does = begin_turn know w g p b from s before then does
+  part_turn (Probing x) (Descending d) (seen.Probed free) s before then t told does =
+      let is : IsSure w p (know_part from (Probing x)) = rw before at (g.sure p) in
+      let m : Mark = silent p (Looks (OfPage x)) in
+      watched know w g p b _ _ before then (Looks (OfPage x)) None None s tt tt does tt refl (λ y h. h) (λ it e. cc) (λ k. refl)
+      (record { stage = is.stage; said = HasSaid-silent w.trail m p None refl is.said; holds = tt; goes = rw t (probed x free is.stage told); children = tt; passed = tt; sound = is.sound; log = tt })
   part_turn (Descending d) (Descending e) (seen.Words c) s before then t told does = descent_turn know w g p b from d c s before told does e then t
   part_turn (Descending d) (Ending r) (seen.Words c) s before then t told does =
       let part : IsPartOf (w.now.contents (descent_page d)) from r = rw told at t.1 in

@@ -204,6 +204,7 @@ saw_words reply s size saw (act.Open x) (seen.Words c) told is y d e f = absurd 
 saw_words reply s size saw (act.Retire x) (seen.Words c) told is y d e f = absurd (let g = e in cc)
 saw_words reply s size saw (act.Look n) (seen.Words c) told is y d e f = absurd (let g = e in cc)
 saw_words reply s size saw (act.See x) (seen.Words c) told is y d e f = absurd (let g = e in cc)
+saw_words reply s size saw (act.Probe x) (seen.Words c) told is y d e f = absurd (let g = e in cc)
 saw_words reply s size saw (act.Release x) (seen.Words c) told is y d e f = absurd (let g = e in cc)
 saw_words reply s size saw old what told is y d e f = absurd (let g = f in cc)
 

@@ -60,6 +60,7 @@ gets_nothing x (seen.Words c) = refl
 gets_nothing x (seen.Took n) = refl
 gets_nothing x (seen.Owner retired started own) = refl
 gets_nothing x (seen.Blocks it) = refl
+gets_nothing x (seen.Probed free) = refl
 gets_nothing x seen.Missed = refl
 gets_nothing x seen.Refused = refl
 
@@ -72,6 +73,7 @@ approach_writes (way.Latching x) (seen.Words c) = refl
 approach_writes (way.Latching x) (seen.Took n) = refl
 approach_writes (way.Latching x) (seen.Owner retired started own) = refl
 approach_writes (way.Latching x) (seen.Blocks it) = refl
+approach_writes (way.Latching x) (seen.Probed free) = refl
 approach_writes (way.Latching x) seen.Missed = refl
 approach_writes (way.Latching x) seen.Refused = refl
 approach_writes (way.Latched x) what = gets_nothing x what
@@ -80,6 +82,7 @@ approach_writes (way.Leaving x to) (seen.Words c) = refl
 approach_writes (way.Leaving x to) (seen.Took n) = refl
 approach_writes (way.Leaving x to) (seen.Owner retired started own) = refl
 approach_writes (way.Leaving x to) (seen.Blocks it) = refl
+approach_writes (way.Leaving x to) (seen.Probed free) = refl
 approach_writes (way.Leaving x to) seen.Missed = refl
 approach_writes (way.Leaving x to) seen.Refused = refl
 

@@ -105,6 +105,8 @@ module _ {P : Type 0} (know : P → Know) (w : World P) (g : IsGood know w) (p :
 
   part_near : (from : ℕ) (a : PartStage) → IsSure w p (know_part from a) → IsNear w p (part_next_in a)
   part_near from part.New is = tt
+  part_near from (part.Near x) is = tt
+  part_near from (part.Probing x) is = tt
   part_near from (part.Descending d) is = descent_there know w g p from d is
   part_near from (part.Ending r) is = tt
   part_near from (part.Over r) is = tt

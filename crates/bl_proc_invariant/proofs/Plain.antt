@@ -74,6 +74,8 @@ find_plain key (find.Over v) = record { middle = refl; log = λ marks. tt }
 
 part_plain : (from : ℕ) (a : PartStage) → IsPlain (know_part from a)
 part_plain from part.New = record { middle = refl; log = λ marks. tt }
+part_plain from (part.Near x) = record { middle = refl; log = λ marks. tt }
+part_plain from (part.Probing x) = record { middle = refl; log = λ marks. tt }
 part_plain from (part.Descending d) = record { middle = refl; log = λ marks. tt }
 part_plain from (part.Ending r) = record { middle = refl; log = λ marks. tt }
 part_plain from (part.Over r) = record { middle = refl; log = λ marks. tt }

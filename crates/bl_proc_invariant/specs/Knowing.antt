@@ -77,6 +77,8 @@ listed from r = Some (record { op = op.Part from; reply = reply.Rows r.rows r.ne
 
 abbrev pub know_part : ℕ → PartStage → Know
 know_part from part.New = early from
+know_part from (part.Near x) = early from
+know_part from (part.Probing x) = record (idle Stage.Busy) { sound = from < unbounded }
 know_part from (part.Descending d) = know_descent from d
 know_part from (part.Ending r) = ending (listed from r)
 know_part from (part.Over r) = late (listed from r)
@@ -222,6 +224,8 @@ find_end (find.Over value) = None
 
 abbrev pub part_end : PartStage → Option Reply
 part_end part.New = None
+part_end (part.Near x) = None
+part_end (part.Probing x) = None
 part_end (part.Descending d) = None
 part_end (part.Ending r) = Some (reply.Rows r.rows r.next)
 part_end (part.Over r) = None

@@ -39,6 +39,7 @@ event_of reply (act.Open x) seen.Done = Act.Open x
 event_of reply (act.Retire x) seen.Done = Retire x
 event_of reply (act.Look q) (seen.Blocks blocks) = Look (Process (numbered q))
 event_of reply (act.See x) (seen.Owner retired started own) = Look (OfPage x)
+event_of reply (act.Probe x) (seen.Probed free) = Look (OfPage x)
 event_of reply (act.Release x) seen.Done = Release x
 event_of reply action what = Miss (missed_by action what)
 
@@ -46,6 +47,7 @@ event_of reply action what = Miss (missed_by action what)
 abbrev pub IsTold : State Page → ℕ → Action → Seen → Type 0
 IsTold s size (act.Get x) (seen.Words c) = c ≡ s.contents x
 IsTold s size (act.Latch x) seen.Done = s.owner x ≡ Owner.Open
+IsTold s size (act.Probe x) (seen.Probed free) = free ≡ true → s.owner x ≡ Owner.Open
 IsTold s size act.Take (seen.Took y) = (s.owner y ≡ Released) × (y < size)
 IsTold s size action what = Unit {0}
 

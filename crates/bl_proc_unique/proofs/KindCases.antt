@@ -1,6 +1,6 @@
 -- Which turns a process of each kind can take, each with what it gives. Whoever takes a turn of a process apart has one
 -- clause for each of them, and none for what cannot be.
-use Rattle.std.proofs.Common.{ℕ, ◌≡◌, ◌≢◌, ◌-◌, ◌<◌, ◌≤◌, true, false, Option, Some, None, refl, sym, subst}
+use Rattle.std.proofs.Common.{ℕ, ◌≡◌, ◌≢◌, ◌-◌, ◌<◌, ◌≤◌, Bool, true, false, Option, Some, None, refl, sym, subst}
 use Rattle.bl_page.specs.declared.page.Page.{Page}
 use Rattle.bl_page.specs.declared.page.Page.TheVariants.{Inner as InnerPage}
 use Rattle.bl_page.specs.declared.page.Inner.{Inner}
@@ -64,7 +64,7 @@ use Rattle.bl_proc_base.specs.Approaches.{Approaches, Comes}
 use Rattle.bl_proc_base.specs.Changes.{EntersPair, DropsPair, Changes}
 use Rattle.bl_proc_base.specs.Growths.{Grows}
 use Rattle.bl_proc.specs.Searches.{FindGoes}
-use Rattle.bl_proc.specs.Parts.{IsPartOf, PartGoes}
+use Rattle.bl_proc.specs.Parts.{IsPartOf, way_by, PartGoes}
 use Rattle.bl_proc.specs.Inserts.{insert_reply, InsertArrives, InsertGoes}
 use Rattle.bl_proc.specs.Deletes.{thin_after, delete_reply, DeleteArrives, DeleteGoes}
 use Rattle.bl_proc.specs.Posts.{post_reply, IsLost, PostLacks, PostArrives, PostComes, PostGoes}
@@ -109,12 +109,16 @@ find_case key a what b t = absurd t
 -- on its way as a search is
 pub data PartCase (from : ℕ) : PartStage → Seen → PartStage → Type 0 where
   Began : (d : Descent) → d ≡ descent.AtAnchor → PartCase from part.New seen.Done (part.Descending d)
+  BeganNear : (x y : ℕ) → y ≡ x → PartCase from (part.Near x) seen.Done (part.Probing y)
+  Looked : (x : ℕ) (free : Bool) (d : Descent) → d ≡ way_by x free → PartCase from (part.Probing x) (seen.Probed free) (part.Descending d)
   Went : (d : Descent) (c : Page) (e : Descent) → Descends from d c (descended.On e) → PartCase from (part.Descending d) (seen.Words c) (part.Descending e)
   Listed : (d : Descent) (c : Page) (r : PartRows) → Descends from d c descended.Here × IsPartOf c from r → PartCase from (part.Descending d) (seen.Words c) (part.Ending r)
   Ended : (r last : PartRows) → last ≡ r → PartCase from (part.Ending r) seen.Done (part.Over last)
 
 pub part_case : (from : ℕ) (a : PartStage) (what : Seen) (b : PartStage) → PartGoes from a what b → PartCase from a what b
 part_case from part.New seen.Done (part.Descending d) t = Began d t
+part_case from (part.Near x) seen.Done (part.Probing y) t = BeganNear x y t
+part_case from (part.Probing x) (seen.Probed free) (part.Descending d) t = Looked x free d t
 part_case from (part.Descending d) (seen.Words c) (part.Descending e) t = Went d c e t
 part_case from (part.Descending d) (seen.Words c) (part.Ending r) t = Listed d c r t
 part_case from (part.Ending r) seen.Done (part.Over last) t = Ended r last t

@@ -48,6 +48,8 @@ find_answers (find.Over (Some v)) b e r = no_room _ b e r
 
 part_answers : (a : PartStage) (b : Answer) → part_answer_in a ≡ Some b → IsNoRoom b → ⊥
 part_answers part.New b e r = none_answer b e
+part_answers (part.Near x) b e r = none_answer b e
+part_answers (part.Probing x) b e r = none_answer b e
 part_answers (part.Descending d) b e r = none_answer b e
 part_answers (part.Ending q) b e r = none_answer b e
 part_answers (part.Over q) b e r = no_room _ b e r

@@ -122,7 +122,7 @@ work_of (proc.Compress p) = Some (p.level, p.key)
 work_of (proc.Reclaim p) = None
 
 -- A process that has so many frames: a put asks for some, up to three, where it has none, and a take for a page and two
--- frames. An index has sweeps for those that look or release.
+-- frames. An index has sweeps for those that look or release, and no value of a part, which alone probes.
 abbrev pub Wants : Action → Option (ℕ × ℕ) → ℕ → Type 0
 Wants (act.Put x page) None frames = frames ≢ 0
 Wants (act.Put x page) (Some ask) frames = (frames ≡ 0) × (ask.0 ≡ 0) × (1 ≤ ask.1) × (ask.1 ≤ 3)
@@ -136,6 +136,7 @@ Wants (act.Open x) needs frames = frames ≡ 0
 Wants (act.Retire x) needs frames = frames ≡ 0
 Wants (act.Look p) needs frames = ⊥
 Wants (act.See x) needs frames = ⊥
+Wants (act.Probe x) needs frames = ⊥
 Wants (act.Release x) needs frames = ⊥
 
 -- How many frames are left then.
@@ -153,6 +154,7 @@ Leaves (act.Open x) needs what before after = after ≡ 0
 Leaves (act.Retire x) needs what before after = after ≡ 0
 Leaves (act.Look p) needs what before after = Unit {0}
 Leaves (act.See x) needs what before after = Unit {0}
+Leaves (act.Probe x) needs what before after = after ≡ 0
 Leaves (act.Release x) needs what before after = Unit {0}
 
 -- what follows when a process goes on

@@ -22,4 +22,5 @@ RetiresAfter old what act.Take = Unit {0}
 RetiresAfter old what (act.Open x) = Unit {0}
 RetiresAfter old what (act.Look p) = Unit {0}
 RetiresAfter old what (act.See x) = Unit {0}
+RetiresAfter old what (act.Probe x) = Unit {0}
 RetiresAfter old what (act.Release x) = Unit {0}

@@ -7,7 +7,7 @@ use prog.Atomic.{either}
 use Rattle.atomic_table.specs.Table.{State, Me, step, keeps, Act, Valid, carried_after, stepped, Allows}
 use Rattle.atomic_table.proofs.Lists.{at_set, set_else, exchanged}
 use Rattle.bl_layout.specs.declared.layout.Layout.{Layout}
-use Rattle.bl_store.specs.Pages.{Owner, Released, Open, Held, Retired, Stage, Running, Pages, AllBeganAfter, told, owned, Takes, Latches, Misses, Opens, Refuses, Releases}
+use Rattle.bl_store.specs.Pages.{Owner, Released, Open, Held, Retired, Stage, Running, Pages, AllBeganAfter, told, owned, Takes, Latches, Misses, Probes, Opens, Refuses, Releases}
 use Rattle.bl_store.specs.Frames.{process_at, owner_at, IsTaken, OwnerIs, ProcessIs, stage_of, Seals, Swept, SweepIs, Shows, IsLive, IsSealing, Kept}
 use Rattle.bl_store.specs.Told.{took, tried, opened, freed, refused, wanted}
 use Rattle.bl_store.specs.declared.view.View.{View}
@@ -137,6 +137,18 @@ module _ {D : Type 0} (l : Layout) (first : D) (holds : Pages D → Type 0) wher
         told_load l first holds st r i id me.1 me.0 me.0.reading me.0.refused t.0 at live mine.reads t.1,
         ((refl, refl, refl, refl), refl, (refl, refl, refl), λ y equal. let back : x ≡ y = omega arith in (own.0, page.0, (λ hit. absurd (miss hit)), (λ _. not), subst (λ (z : ℕ). then' me.0.known z own.0 page.0 t.0) back t.2)),
       ))
+
+  pub probes : (then' : D → ℕ → Owner → List ℕ → D → Type 0) (slots id i x : ℕ) (me : M) → i ≡ owner_at l x → x < l.pages → me.0.layout ≡ l → Probes holds l me.0.number me.0.known x then'
+      → IsLive me.0 → Allows Rule slots id me i (λ n. n) (tried then' (step slots i 0 0 none) me)
+  probes then' slots id i x me i_is inside same asked live st r _ at _ = let mine = r.seats id me.0 at live in let s : Pages D = r.pages in let orderly = r.orderly in let counts = orderly.contents in let page = there s.contents x (omega arith) in let own = owner_of st r i x i_is inside in
+      let passes = ap (λ (z : Layout). z.passes) same in let pages = ap (λ (z : Layout). z.pages) same in
+      let t = asked s (stage_of me.0.stamp) page.0 own.0 r.kept r.orderly mine.stands (page.1, own.1) in (
+        record me.0 { reading = me.0.reading; refused = me.0.refused; known = t.0 },
+        keeps,
+        tt,
+        told_load l first holds st r i id me.1 me.0 me.0.reading me.0.refused t.0 at live mine.reads t.1,
+        ((refl, refl, refl, refl), refl, (refl, refl, refl), λ y equal. let back : x ≡ y = omega arith in (own.0, page.0, (λ hit. was_open own.0 (get_or st.words i 0) own.2 hit), (λ miss e. miss (subst (OwnerIs (get_or st.words i 0)) e own.2)), subst (λ (z : ℕ). then' me.0.known z own.0 page.0 t.0) back t.2)),
+      )
 
   pub opens : (then' : D → ℕ → Owner → List ℕ → D → Type 0) (slots id i x : ℕ) (me : M) → i ≡ owner_at l x → x < l.pages → me.0.layout ≡ l → Opens holds l me.0.number me.0.known x then' → IsLive me.0 → Allows Rule slots id me i (λ _. 1) (λ _. opened then' (step slots i 1 0 none) me 1)
   opens then' slots id i x me i_is inside same asked live st r _ at _ = let mine = r.seats id me.0 at live in let s : Pages D = r.pages in let orderly = r.orderly in let counts = orderly.contents in let page = there s.contents x (omega arith) in let own = owner_of st r i x i_is inside in

@@ -98,6 +98,11 @@ module _ {D : Type 0} (holds : Pages D → Type 0) (l : Layout) (n : ℕ) (d : D
   Misses x then = (s : Pages D) (st : Stage) (words : List ℕ) (owner : Owner) → holds s → IsOrderly l s → Stands s n st d → IsPage s x words owner → owner ≢ Open
       → (d' : D) × holds (told s n st d') × then d x owner words d'
 
+  -- the page x is looked at, whether it is open
+  abbrev pub Probes : ℕ → (D → ℕ → Owner → List ℕ → D → Type 0) → Type 0
+  Probes x then = (s : Pages D) (st : Stage) (words : List ℕ) (owner : Owner) → holds s → IsOrderly l s → Stands s n st d → IsPage s x words owner
+      → (d' : D) × holds (told s n st d') × then d x owner words d'
+
   -- the page x, which the hand holds, is open
   abbrev pub Opens : ℕ → (D → ℕ → Owner → List ℕ → D → Type 0) → Type 0
   Opens x then = (s : Pages D) (st : Stage) (words : List ℕ) (owner : Owner) → holds s → IsOrderly l s → Stands s n st d → IsPage s x words owner

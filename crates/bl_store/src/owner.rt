@@ -1,6 +1,6 @@
 //! Latches, and the retirement of a page.
 ghost use Rattle.std.specs.Prelude.{◌≡◌, ℕ, ◌+◌, ◌<◌, ◌≤◌, ◌↔◌, List, [], IsTrue};
-ghost use Rattle.bl_store.specs.Pages.{Owner, Open, Held, Latches, Misses, Opens, Retires};
+ghost use Rattle.bl_store.specs.Pages.{Owner, Open, Held, Latches, Misses, Probes, Opens, Retires};
 ghost use Rattle.bl_store.specs.Hands.{known, IsOf, IsSameHand, IsSameStage, IsSameStock, IsSameRefusal, MayRetire};
 ghost use Rattle.bl_store.specs.declared.view.Sealing.TheVariants.{Unsealed, Sealed};
 ghost use Rattle.bl_store.specs.Frames.{IsLive};
@@ -31,6 +31,19 @@ impl<D, R: PageRule<D>, A: Allocator> Store<D, R, A> {
             .shared
             .compare_exchange::<Try<M>>(&mut hand.seat, at, 1, mine)
             == 1
+    }
+
+    /// Looks whether a page is open.
+    #[inline(always)]
+    pub fn probe<M: PagePlay<D>>(&self, hand: &mut Hand<D>, page: u32) -> bool
+        requires own { IsHandOf self.now hand.old }
+        requires page { page < self.now.layout.pages }
+        requires rule { Probes R.holds self.now.layout hand.old.number (known hand.old.seat) page M.then }
+        ensures same { IsSameHand hand.old.seat hand.new.seat × IsSameStage hand.old.seat hand.new.seat × IsSameStock hand.old.seat hand.new.seat }
+        ensures told { (owner : Owner) × (words : List ℕ) × (IsTrue result ↔ (owner ≡ Owner.Open)) × M.then (known hand.old.seat) page owner words (known hand.new.seat) }
+    {
+        let at = self.layout.page_owner_cell(page);
+        self.table.shared.load::<Try<M>>(&mut hand.seat, at) == 1
     }
 
     /// Opens a page that the hand holds.

@@ -11,22 +11,22 @@ use Rattle.bl_index.proofs.Appended.{leaf_pairs, part_appends, part_leaves}
 use Rattle.bl_index.proofs.index.Index.append_part_by.Goals as goal
 
 pub append_rows-appended-requires-clause-pairs : goal.append_rows-appended-requires-clause-pairs
-append_rows-appended-requires-clause-pairs c = subst (λ (h : Hand Mine). HasPairs (read_words h.seat)) (sym c.next_in-next.ensures.same) (leaf_pairs _ _ _ c.in-Some.ensures.came.leaf)
+append_rows-appended-requires-clause-pairs c = subst (λ (h : Hand Mine). HasPairs (read_words h.seat)) (sym (c.link_in-right.ensures.same ∙ c.next_in-next.ensures.same)) (leaf_pairs _ _ _ c.in-Some.ensures.came.leaf)
 
 pub returns-in-Ok-clause-appends : goal.returns-in-Ok-clause-appends
 returns-in-Ok-clause-appends c =
     let has = c.in-Some.ensures.came in
-    let ended = subst (λ (h : Hand Mine). ends (known h.seat) 0 (known c.end_part.new.hand.seat)) (c.append_rows-appended.ensures.same ∙ c.next_in-next.ensures.same) c.end_part.ensures.ended in
+    let ended = subst (λ (h : Hand Mine). ends (known h.seat) 0 (known c.end_part.new.hand.seat)) (c.append_rows-appended.ensures.same ∙ (c.link_in-right.ensures.same ∙ c.next_in-next.ensures.same)) c.end_part.ensures.ended in
     let told = rw c.in-Ok.is at c.append_rows-appended.ensures.appends in
-    let grown = subst (λ (h : Hand Mine). c.append_rows-appended.new.rows.items ≡ c.args.rows.now.items ++ rows_between c.args.from c.args.to (pairs_of (read_words h.seat))) c.next_in-next.ensures.same told.all in
+    let grown = subst (λ (h : Hand Mine). c.append_rows-appended.new.rows.items ≡ c.args.rows.now.items ++ rows_between c.args.from c.args.to (pairs_of (read_words h.seat))) (c.link_in-right.ensures.same ∙ c.next_in-next.ensures.same) told.all in
     record { listed = part_appends _ _ c.args.from _ c.come_to_leaf.new.hand.seat c.end_part.new.hand.seat _ has ended c.next_in-next.result c.next_in-next.ensures.next c.args.turns c.args.to _ _ grown; left = tt }
 
 pub returns-in-Err-clause-appends : goal.returns-in-Err-clause-appends
 returns-in-Err-clause-appends c =
     let has = c.in-Some.ensures.came in
-    let ended = subst (λ (h : Hand Mine). ends (known h.seat) 0 (known c.end_part.new.hand.seat)) (c.append_rows-appended.ensures.same ∙ c.next_in-next.ensures.same) c.end_part.ensures.ended in
+    let ended = subst (λ (h : Hand Mine). ends (known h.seat) 0 (known c.end_part.new.hand.seat)) (c.append_rows-appended.ensures.same ∙ (c.link_in-right.ensures.same ∙ c.next_in-next.ensures.same)) c.end_part.ensures.ended in
     let told = rw c.in-Err.is at c.append_rows-appended.ensures.appends in
-    let more = subst (λ (h : Hand Mine). vec_capacity c.append_rows-appended.new.rows - vec_len c.append_rows-appended.new.rows < length (rows_between c.args.from c.args.to (pairs_of (read_words h.seat)))) c.next_in-next.ensures.same told.more in
+    let more = subst (λ (h : Hand Mine). vec_capacity c.append_rows-appended.new.rows - vec_len c.append_rows-appended.new.rows < length (rows_between c.args.from c.args.to (pairs_of (read_words h.seat)))) (c.link_in-right.ensures.same ∙ c.next_in-next.ensures.same) told.more in
     record { listed = tt; left = part_leaves _ _ c.args.from _ c.come_to_leaf.new.hand.seat c.end_part.new.hand.seat _ has ended c.next_in-next.result c.next_in-next.ensures.next c.args.turns c.args.to _ _ _ told.none more }
 
 pub come_to_leaf-requires-clause-own : goal.come_to_leaf-requires-clause-own

@@ -1,21 +1,19 @@
 use Rattle.std.proofs.Common.{rules, refl, ◌≡◌, ◌∙◌, None, arith}
-use Rattle.bl_proc_base.specs.declared.descent.Descent.TheVariants.{AtAnchor}
 use Rattle.bl_proc.specs.declared.parts.PartStage.TheVariants.{Descending, Ending}
 use Rattle.bl_index.proofs.Calls.{since_step, own_looks}
 use Rattle.bl_index.proofs.Silent.{gives_up}
 use Rattle.bl_index.proofs.Listings.{part_under_way, part_is_search, part_may_give_up}
-use Rattle.bl_index.proofs.Paces.{at_begin, at_step, at_last, at_end}
+use Rattle.bl_index.proofs.Paces.{at_step, at_last, at_end}
 use Rattle.bl_index.proofs.index.Index.come_to_leaf.Goals as goal
 
 pub loop-turn-init : goal.loop-turn-init
 loop-turn-init c =
-    let state = c.begin_part.ensures.process.state in
     record {
       same = search rules;
       running = search rules;
-      process = c.begin_part.ensures.process;
-      since = c.begin_part.ensures.begun;
-      turn = at_begin _ _ _ _ _ _ c.begin_part.ensures.told (part_is_search c.args.from (Descending AtAnchor) _ state) (part_under_way c.args.from AtAnchor _ state);
+      process = c.set_off-descent.ensures.process;
+      since = c.set_off-descent.ensures.begun;
+      turn = c.set_off-descent.ensures.turn;
     }
 
 pub loop-turn-preserved : goal.loop-turn-preserved

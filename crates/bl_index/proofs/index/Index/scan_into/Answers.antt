@@ -10,7 +10,7 @@ pub loop-to-preserved : goal.loop-to-preserved
 loop-to-preserved c =
     let inv = c.loop-to.invariant in
     let below = below_is c.args.to c.loop-to.at (sym c.is_below.ensures ∙ c.loop-to-test.true) in
-    let on = goes_on _ _ _ _ _ _ _ _ _ _ _ _ _ _ inv.same.2 inv.scans inv.low below _ c.in-More.is c.in_ok-next.ensures.appends.listed in
+    let on = goes_on _ _ _ _ _ _ _ _ _ _ _ _ _ _ inv.same.2 inv.scans inv.low below _ c.in-More.is c.in_ok-part.ensures.appends.listed in
     record {
       same = search rules;
       low = omega (arith, on.0, inv.low);
@@ -23,8 +23,8 @@ pub loop-to-smaller : goal.loop-to-smaller
 loop-to-smaller c =
     let inv = c.loop-to.invariant in
     let below = below_is c.args.to c.loop-to.at (sym c.is_below.ensures ∙ c.loop-to-test.true) in
-    let on = goes_on _ _ _ _ _ _ _ _ _ _ _ _ _ _ inv.same.2 inv.scans inv.low below _ c.in-More.is c.in_ok-next.ensures.appends.listed in
-    let t = rw c.in_ok-next.was at c.append_part.type_inv in
+    let on = goes_on _ _ _ _ _ _ _ _ _ _ _ _ _ _ inv.same.2 inv.scans inv.low below _ c.in-More.is c.in_ok-part.ensures.appends.listed in
+    let t = rw c.in_ok-part.was at c.append_part.type_inv in
     let u = rw c.in-More.is at t in
     omega (arith, on.0, u)
 
@@ -32,7 +32,7 @@ pub returns-in-End-clause-scans : goal.returns-in-End-clause-scans
 returns-in-End-clause-scans c =
     let inv = c.loop-to.invariant in
     let below = below_is c.args.to c.loop-to.at (sym c.is_below.ensures ∙ c.loop-to-test.true) in
-    let on = ends_there _ _ _ _ _ _ _ _ _ _ _ _ _ _ inv.same.2 inv.scans inv.low below c.in-End.is c.in_ok-next.ensures.appends.listed in
+    let on = ends_there _ _ _ _ _ _ _ _ _ _ _ _ _ _ inv.same.2 inv.scans inv.low below c.in-End.is c.in_ok-part.ensures.appends.listed in
     record {
       rows = inv.listed ++ on.0;
       appended = on.1 ∙ (ap (λ (z : List _). z ++ on.0) inv.grown ∙ append_assoc _ inv.listed on.0);
