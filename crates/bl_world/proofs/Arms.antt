@@ -1,5 +1,5 @@
 -- Each kind of turn on the lists of a world.
-use Rattle.std.proofs.Common.{ℕ, ◌≡◌, ◌≢◌, ◌<◌, ◌++◌, zero, suc, Option, Some, None, List, [], ◌∷◌, length, get_or, slice_get, slice_set, arith, ap, sym, ◌∙◌, refl, subst, inl, inr}
+use Rattle.std.proofs.Common.{ℕ, ◌≡◌, ◌≢◌, ◌<◌, ◌++◌, zero, suc, Option, Some, None, List, [], ◌∷◌, length, get_or, slice_get, slice_set, true, arith, ap, sym, ◌∙◌, refl, subst, inl, inr}
 use Rattle.std.proofs.lemmas.Bool.{cases_eq}
 use Rattle.std.proofs.lemmas.Option.{slice_get_within, get_or_from_slice_get}
 use Rattle.std.proofs.lemmas.List.{length-set}
@@ -8,6 +8,7 @@ use Rattle.bl_page.specs.declared.machine.Missed.{Missed}
 use Rattle.bl_page.specs.Machine.{State, Act as MachineAct, Owner as MachineOwner}
 use Rattle.bl_page.specs.Machine.Owner.{Held as MachineHeld, Retired as MachineRetired}
 use Rattle.bl_page.specs.Machine.Phase.{Running, Ended}
+use Rattle.bl_page.specs.Machine.Looked.{Page as OfPage}
 use Rattle.bl_core.proofs.After.{put_at, is_put_at, put_name, is_put_name}
 use Rattle.bl_proc_base.specs.declared.acts.Action.{Action}
 use Rattle.bl_proc_base.specs.declared.acts.Action.TheVariants as act
@@ -25,7 +26,7 @@ use Rattle.bl_world.specs.declared.turns.Act.TheVariants as shown
 use Rattle.bl_world.specs.declared.turns.Event.{Event}
 use Rattle.bl_world.specs.declared.owners.Owner.{Owner}
 use Rattle.bl_world.specs.declared.owners.Owner.TheVariants as own
-use Rattle.bl_world.specs.Views.{name_of, owner_of, act_shown}
+use Rattle.bl_world.specs.Views.{name_of, owner_of, is_open, act_shown}
 use Rattle.bl_world.specs.Retirements.{IsRetired, HasSeen}
 use Rattle.bl_world.specs.Worlds.{IsReclaiming, HasWorld}
 use Rattle.bl_world.proofs.Retired.{push_new}
@@ -56,6 +57,14 @@ set_cases Q xs n v l at rest i a is = elim (cases_eq i n) [
       subst (Q i) (some_same v a (sym here ∙ is)) (subst (λ z. Q z v) (sym e) at)
   | inr ne ↦ rest i a ne (sym (set_other xs n i v ne) ∙ is)
 ]
+
+-- what is told of a page that is open
+open_there : (o : Option Owner) → is_open o ≡ true → o ≡ Some own.Open
+open_there None e = absurd (cc e)
+open_there (Some own.Released) e = absurd (cc e)
+open_there (Some own.Open) e = refl
+open_there (Some (own.Held number)) e = absurd (cc e)
+open_there (Some (own.Retired place)) e = absurd (cc e)
 
 module _ (pages : List Page) (owners : List Owner) (processes : List Proc) (events : List Event) (n : ℕ) (p0 p1 : Proc) (stood : slice_get processes n ≡ Some p0) where
   abbrev pub after_act : Act → List Event
@@ -109,6 +118,13 @@ module _ (pages : List Page) (owners : List Owner) (processes : List Proc) (even
       let s : State Page = record h.world.now { clock = suc h.world.now.clock } in
       stay (seen.Words c) _ h s refl refl refl (λ q is. none_new (seen.Words c) (act.Get x) next tt takes q is) (λ y e. absurd cc)
       (turned (seen.Words c) (act.Get x) h s next takes (sym (h.contents x c page)) tt (record { changes = (λ x. refl, λ x. refl, λ q. refl); on = omega arith }))
+
+  pub probes : (x : ℕ) → next_of p0 ≡ act.Probe x → Takes p0 (seen.Probed (is_open (slice_get owners x))) p1 → (h : HasWorld pages owners processes events) → Grows h pages owners (slice_set processes n p1) (after_act (shown.See x))
+  probes x next takes h =
+      let s : State Page = record h.world.now { clock = suc h.world.now.clock } in
+      let what = seen.Probed (is_open (slice_get owners x)) in
+      stay what (MachineAct.Look (OfPage x)) h s refl refl refl (λ q is. none_new what (act.Probe x) next tt takes q is) (λ y e. absurd cc)
+      (turned what (act.Probe x) h s next takes (λ e. h.owner x own.Open (open_there (slice_get owners x) e)) tt (record { changes = (λ x. refl, λ x. refl, λ q. refl); on = omega arith }))
 
   pub misses : (x : ℕ) → next_of p0 ≡ act.Latch x → Takes p0 seen.Missed p1 → (h : HasWorld pages owners processes events) → Grows h pages owners (slice_set processes n p1) (after_act shown.Miss)
   misses x next takes h =

@@ -50,6 +50,7 @@ find_blank k find.New small e = record { stage = refl; said = refl; holds = refl
 find_blank k old small e = absurd cc
 
 part_blank : (k : ℕ) (a : PartStage) → k < 2 ^ 64 → part_next_in a ≡ act.Begin → IsBlank (know_part k a)
+part_blank k (part.Near x) small e = record { stage = refl; said = refl; holds = refl; goes = refl; children = refl; passed = refl; sound = small; log = tt }
 part_blank k part.New small e = record { stage = refl; said = refl; holds = refl; goes = refl; children = refl; passed = refl; sound = small; log = tt }
 part_blank k old small e = absurd cc
 

@@ -105,6 +105,8 @@ find_op k (find.Over v) s e = same_op _ s e
 
 part_op : (k : ℕ) (a : PartStage) (s : Said) → (know_part k a).said ≡ Some s → Some (op.Part k) ≡ Some s.op
 part_op k part.New s e = none_said s e
+part_op k (part.Near x) s e = none_said s e
+part_op k (part.Probing x) s e = none_said s e
 part_op k (part.Descending d) s e = none_said s e
 part_op k (part.Ending r) s e = same_op _ s e
 part_op k (part.Over r) s e = same_op _ s e
@@ -196,6 +198,8 @@ find_answered k (find.Over (Some v)) reply hint e = record { it = _; is = refl; 
 
 part_answered : (k : ℕ) (a : PartStage) (reply : Reply) (hint : Option Hint) → part_answer_in a ≡ Some (answer.Op reply hint) → HasAnswered (know_part k a).said reply
 part_answered k part.New reply hint e = none_answer _ e
+part_answered k (part.Near x) reply hint e = none_answer _ e
+part_answered k (part.Probing x) reply hint e = none_answer _ e
 part_answered k (part.Descending d) reply hint e = none_answer _ e
 part_answered k (part.Ending r) reply hint e = none_answer _ e
 part_answered k (part.Over r) reply hint e = record { it = _; is = refl; reply_is = same_reply _ _ _ _ e }
@@ -272,6 +276,8 @@ find_late k (find.Over v) b e = refl
 
 part_late : (k : ℕ) (a : PartStage) (b : Answer) → part_answer_in a ≡ Some b → (know_part k a).stage ≡ Stage.Late
 part_late k part.New b e = none_answer _ e
+part_late k (part.Near x) b e = none_answer _ e
+part_late k (part.Probing x) b e = none_answer _ e
 part_late k (part.Descending d) b e = none_answer _ e
 part_late k (part.Ending r) b e = none_answer _ e
 part_late k (part.Over r) b e = refl

@@ -20,7 +20,7 @@ use Rattle.bl_world.specs.Views.{View}
 use Rattle.bl_world.specs.Turns.{Stays, Puts, Owns, Tells, Idles, Carries, TurnsAt, TurnsTo, RunsTo}
 use Rattle.bl_world.specs.Worlds.{HasWorld, IsWorld}
 use Rattle.bl_world.proofs.Stands.{Grows}
-use Rattle.bl_world.proofs.Arms.{begins, ends, gets, misses, puts, latches, opens, retires, takes_page, refuses_take, refuses_put, idles}
+use Rattle.bl_world.proofs.Arms.{begins, ends, gets, probes, misses, puts, latches, opens, retires, takes_page, refuses_take, refuses_put, idles}
 use Rattle.bl_world.proofs.ReclaimArms.{sees, looks, frees, keeps}
 use Rattle.bl_world.proofs.Near.{within}
 use Rattle.bl_world.proofs.Reserving.{Reserves, reserves}
@@ -67,6 +67,7 @@ module _ (v v' : View) (n : ℕ) (p : Proc) (stood : slice_get v.processes n ≡
   carries_to (act.Retire x) next c = owns_to _ _ x (own.Retired (length v.events)) c.0 c.1 (retires v.pages v.owners v.processes v.events n p c.1.new stood x (omega (arith, h.paired, within v.pages v.owners v.processes v.events n p (act.Retire x) stood next h)) next c.1.takes h)
   carries_to (act.Look q) next c = stays_to _ _ c.6 c.7 (looks v.pages v.owners v.processes v.events n p c.7.new stood c.0 c.1 q c.2 c.3 (rw (one_more n) at c.4) c.5 next c.7.takes h)
   carries_to (act.See x) next c = stays_to _ _ c.2 c.3 (sees v.pages v.owners v.processes v.events n p c.3.new stood x c.0 c.1 next (rw (one_more n) at c.3.takes) h)
+  carries_to (act.Probe x) next c = stays_to _ _ c.0 c.1 (probes v.pages v.owners v.processes v.events n p c.1.new stood x next c.1.takes h)
   carries_to (act.Release x) next c = elim c [
     | inl l ↦ owns_to _ _ x own.Released l.1 l.2 (frees v.pages v.owners v.processes v.events n p l.2.new stood x l.0.0 (rw (one_more n) at l.0.1) l.0.2 next l.2.takes h)
     | inr m ↦ stays_to _ _ m.1 m.2 (keeps v.pages v.owners v.processes v.events n p m.2.new stood x (omega (arith, h.paired, within v.pages v.owners v.processes v.events n p (act.Release x) stood next h)) (λ k s e. m.0 (k, rw (one_more n) s, e)) next m.2.takes h)

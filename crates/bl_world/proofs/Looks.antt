@@ -55,6 +55,7 @@ IsOfTree (act.Open x) = Unit {0}
 IsOfTree (act.Retire x) = Unit {0}
 IsOfTree (act.Look q) = ⊥
 IsOfTree (act.See x) = ⊥
+IsOfTree (act.Probe x) = Unit {0}
 IsOfTree (act.Release x) = ⊥
 
 approach_tree : (a : Approach) → IsOfTree (approach_next a)
@@ -108,6 +109,8 @@ find_tree (find.Over v) = tt
 
 part_tree : (a : PartStage) → IsOfTree (part_next_in a)
 part_tree part.New = tt
+part_tree (part.Near x) = tt
+part_tree (part.Probing x) = tt
 part_tree (part.Descending d) = tt
 part_tree (part.Ending r) = tt
 part_tree (part.Over r) = tt

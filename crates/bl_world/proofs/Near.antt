@@ -74,6 +74,7 @@ within pages owners processes events n p0 action stood next h =
     by_action (act.Retire x) e is = small x (λ i. (let f = h.good.owned.free x i in cc))
     by_action (act.Look q) e is = tt
     by_action (act.See x) e is = its_page x (act.See x) e (λ z. z) (λ q f. see_page q.page x q.stage f)
+    by_action (act.Probe x) e is = tt
     by_action (act.Release x) e is = its_page x (act.Release x) e (λ z. z) (λ q f. release_page q.page x q.stage f)
 
 module _ (pages : List Page) (owners : List Owner) (processes : List Proc) (events : List Event) (n : ℕ) (p0 : Proc) (x : ℕ) (stood : slice_get processes n ≡ Some p0) (h : ∥ HasWorld pages owners processes events ∥₁) where

@@ -42,6 +42,7 @@ Reserves (act.Open x) = ⊥
 Reserves (act.Retire x) = ⊥
 Reserves (act.Look p) = ⊥
 Reserves (act.See x) = ⊥
+Reserves (act.Probe x) = ⊥
 Reserves (act.Release x) = ⊥
 
 change_reserves : (c : Change) → IsSome (change_needs c) → Reserves (change_next c)

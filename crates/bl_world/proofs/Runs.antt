@@ -34,6 +34,7 @@ module _ (v v' : View) (n : ℕ) (p : Proc) where
   carried_count (act.Retire x) c = told_count c.1
   carried_count (act.Look q) c = told_count c.7
   carried_count (act.See x) c = told_count c.3
+  carried_count (act.Probe x) c = told_count c.1
   carried_count (act.Release x) c = elim c [ inl l ↦ told_count l.2 | inr m ↦ told_count m.2 ]
 
   at_count : (t : Turn) → TurnsAt v n p t v' → length v'.processes ≡ length v.processes
@@ -54,6 +55,7 @@ module _ (v v' : View) (n : ℕ) (p : Proc) where
   carried_size (act.Retire x) c = ap length c.0.0
   carried_size (act.Look q) c = ap length c.6.0
   carried_size (act.See x) c = ap length c.2.0
+  carried_size (act.Probe x) c = ap length c.0.0
   carried_size (act.Release x) c = elim c [ inl l ↦ ap length l.1.0 | inr m ↦ ap length m.1.0 ]
 
   idle_size : Idles v n v' → length v'.pages ≡ length v.pages

@@ -57,6 +57,7 @@ module _ (v v' : View) (n : ℕ) (p : Proc) where
   one_carried (act.Retire x) c = one_told c.1
   one_carried (act.Look q) c = one_told c.7
   one_carried (act.See x) c = one_told c.3
+  one_carried (act.Probe x) c = one_told c.1
   one_carried (act.Release x) c = elim c [ inl l ↦ one_told l.2 | inr m ↦ one_told m.2 ]
 
   one_event : (t : Turn) → TurnsAt v n p t v' → length v'.events ≡ length v.events + 1
@@ -113,6 +114,7 @@ module _ (v v' : View) (n m : ℕ) (p : Proc) (stood : slice_get v.processes n �
   carried_stuck (act.Retire x) c = kept_stuck _ (λ e. cc) c.1
   carried_stuck (act.Look q) c = kept_stuck _ (λ e. cc) c.7
   carried_stuck (act.See x) c = kept_stuck _ (λ e. cc) c.3
+  carried_stuck (act.Probe x) c = kept_stuck _ (λ e. cc) c.1
   carried_stuck (act.Release x) c = elim c [ inl l ↦ kept_stuck _ (λ e. cc) l.2 | inr k ↦ kept_stuck _ (λ e. cc) k.2 ]
 
 -- the process at that place was refused by this turn

@@ -14,7 +14,7 @@ use Rattle.bl_world.specs.declared.turns.Turn.{Turn}
 use Rattle.bl_world.specs.declared.turns.Turn.TheVariants as turn
 use Rattle.bl_world.specs.declared.owners.Owner.{Owner}
 use Rattle.bl_world.specs.declared.owners.Owner.TheVariants as own
-use Rattle.bl_world.specs.Views.{View, is_retired, number_in}
+use Rattle.bl_world.specs.Views.{View, is_retired, is_open, number_in}
 use Rattle.bl_world.specs.Retirements.{HasSeen, Blocks}
 
 -- A step is fit where the process has not answered and is not to take a page, and a take where it is to take one.
@@ -78,6 +78,7 @@ Carries v n p act.Take v' = ⊥
 Carries v n p (act.Retire x) v' = Owns v x (own.Retired (length v.events)) v' × Tells v n p (shown.Retire x) seen.Done v'
 Carries v n p (act.Look q) v' = (x : ℕ) × (k : ℕ) × (blocks : Bool) × IsToRelease p x × HasSeen v.events (n + 1) x k (length v.events) × (IsTrue blocks ↔ Blocks v.events q k (length v.events)) × Stays v v' × Tells v n p (shown.Look q) (seen.Blocks blocks) v'
 Carries v n p (act.See x) v' = (o : Owner) × (slice_get v.owners x ≡ Some o) × Stays v v' × Tells v n p (shown.See x) (seen.Owner (is_retired o) (length v.processes) (n + 1)) v'
+Carries v n p (act.Probe x) v' = Stays v v' × Tells v n p (shown.See x) (seen.Probed (is_open (slice_get v.owners x))) v'
 Carries v n p (act.Release x) v' = (MayRelease v n x × Owns v x own.Released v' × Tells v n p (shown.Release x) seen.Done v') ⊎ ((¬ MayRelease v n x) × Stays v v' × Tells v n p shown.Miss seen.Missed v')
 
 -- The three kinds of turn of the process at place n, which is p.

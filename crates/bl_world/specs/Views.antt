@@ -1,5 +1,5 @@
 -- What stands in a world at one moment, and what it is in the terms of the page machine.
-use Rattle.std.specs.Prelude.{ℕ, Bool, true, false, List, [], ◌∷◌}
+use Rattle.std.specs.Prelude.{ℕ, Bool, true, false, Option, None, Some, List, [], ◌∷◌}
 use Rattle.bl_model.specs.declared.operation.Reply.{Reply}
 use Rattle.bl_page.specs.declared.page.Page.{Page}
 use Rattle.bl_page.specs.Machine.{Name, Event as MachineEvent, Act as MachineAct, Owner as MachineOwner}
@@ -41,6 +41,14 @@ is_retired own.Released = false
 is_retired own.Open = false
 is_retired (own.Held number) = false
 is_retired (own.Retired place) = true
+
+-- there is such a page, and it is open
+abbrev pub is_open : Option Owner → Bool
+is_open None = false
+is_open (Some own.Released) = false
+is_open (Some own.Open) = true
+is_open (Some (own.Held number)) = false
+is_open (Some (own.Retired place)) = false
 
 -- what is shown of an event
 abbrev pub act_shown : MachineAct Page Reply → Act

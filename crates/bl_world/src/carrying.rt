@@ -7,7 +7,7 @@ ghost use Rattle.bl_proc.specs.declared.kinds.Proc.{Proc};
 ghost use Rattle.bl_proc_base.specs.declared.acts.Action.TheVariants as act;
 ghost use Rattle.bl_proc_base.specs.Given.{Gives};
 ghost use Rattle.bl_proc.specs.Processes.{next_of, needs_of, answer_of, Takes};
-ghost use Rattle.bl_world.specs.Views.{view_of, number_in, is_retired as is_retired_owner};
+ghost use Rattle.bl_world.specs.Views.{view_of, number_in, is_retired as is_retired_owner, is_open as is_open_page};
 ghost use Rattle.bl_world.specs.Retirements.{HasSeen};
 ghost use Rattle.bl_world.specs.Turns.{IsFree, Stays, Puts, Owns, Tells, Idles, Carries, IsToRelease, MayRelease, StepsTo, TakesTo, RefusesTo, TurnsTo, RunsTo, RunsInto, IsStarted, AllStarted, HasUnknown};
 ghost use Rattle.bl_world.specs.Deeds.{Starts};
@@ -185,6 +185,18 @@ impl Lists {
         )
     }
 
+    /// The process looks whether a page is open.
+    fn probe(&mut self, index: usize, at: u32) -> Result<(), AllocError>
+        requires started { index < length self.old.processes.items }
+        requires next { (p : Proc) → slice_get self.old.processes.items index ≡ Some p → (answer_of p ≡ None) × (next_of p ≡ act.Probe at) }
+        ensures ok { OnOk result ((p : Proc) → slice_get self.old.processes.items index ≡ Some p → Carries (view_of self.old) index p (act.Probe at) (view_of self.new)) }
+        ensures err { OnErr result (view_of self.new ≡ view_of self.old) }
+    {
+        let place = at as usize;
+        let free = place < self.owners.len() && is_open(self.owners[place]);
+        self.told(index, Act::See(at), Seen::Probed(free))
+    }
+
     /// Since which event the process at that place has seen its page retired, if it is to release one.
     fn retired_for(&self, index: usize) -> Option<usize>
         requires { index < length self.now.processes.items }
@@ -262,6 +274,7 @@ impl Lists {
             Action::Take => self.idle(index),
             Action::Look(number) => self.look(index, number),
             Action::See(at) => self.see(index, at),
+            Action::Probe(at) => self.probe(index, at),
             Action::Release(at) => self.release(index, at),
             Action::Retire(at) => self.retire(index, at),
         }
@@ -375,6 +388,16 @@ fn is_owner(owner: Owner, other: Owner) -> bool
     ensures { IsTrue result ↔ (owner ≡ other) }
 {
     owner == other
+}
+
+/// Whether that owner is anybody.
+fn is_open(owner: Owner) -> bool
+    ensures { result ≡ is_open_page (Some owner) }
+{
+    match owner {
+        Owner::Open => true,
+        Owner::Released | Owner::Held(_) | Owner::Retired(_) => false,
+    }
 }
 
 /// Whether that owner is none any more.

@@ -33,6 +33,9 @@ look-requires-clause-next c = λ p stood. goes_on c.args.self.now.processes.item
 pub see-requires-clause-next : goal.see-requires-clause-next
 see-requires-clause-next c = λ p stood. goes_on c.args.self.now.processes.items c.args.index p c.index.result.now c.index-2.result.now c.answer.result (act.See c.in-See.at) stood c.index.ensures c.answer.ensures c.in_default.not-Some c.index-2.ensures c.in-See.ensures
 
+pub probe-requires-clause-next : goal.probe-requires-clause-next
+probe-requires-clause-next c = λ p stood. goes_on c.args.self.now.processes.items c.args.index p c.index.result.now c.index-2.result.now c.answer.result (act.Probe c.in-Probe.at) stood c.index.ensures c.answer.ensures c.in_default.not-Some c.index-2.ensures c.in-Probe.ensures
+
 pub release-requires-clause-next : goal.release-requires-clause-next
 release-requires-clause-next c = λ p stood. goes_on c.args.self.now.processes.items c.args.index p c.index.result.now c.index-2.result.now c.answer.result (act.Release c.in-Release.at) stood c.index.ensures c.answer.ensures c.in_default.not-Some c.index-2.ensures c.in-Release.ensures
 
@@ -70,6 +73,10 @@ returns-in-Look-clause-ok c = ok_map c.look.result (λ f p stood.
 pub returns-in-See-clause-ok : goal.returns-in-See-clause-ok
 returns-in-See-clause-ok c = ok_map c.see.result (λ f p stood.
     carried (view_of c.args.self.now) (view_of c.see.new.self) c.args.index p (act.See c.in-See.at) (goes_on c.args.self.now.processes.items c.args.index p c.index.result.now c.index-2.result.now c.answer.result (act.See c.in-See.at) stood c.index.ensures c.answer.ensures c.in_default.not-Some c.index-2.ensures c.in-See.ensures) (λ e. cc) (f p stood)) c.see.ensures.ok
+
+pub returns-in-Probe-clause-ok : goal.returns-in-Probe-clause-ok
+returns-in-Probe-clause-ok c = ok_map c.probe.result (λ f p stood.
+    carried (view_of c.args.self.now) (view_of c.probe.new.self) c.args.index p (act.Probe c.in-Probe.at) (goes_on c.args.self.now.processes.items c.args.index p c.index.result.now c.index-2.result.now c.answer.result (act.Probe c.in-Probe.at) stood c.index.ensures c.answer.ensures c.in_default.not-Some c.index-2.ensures c.in-Probe.ensures) (λ e. cc) (f p stood)) c.probe.ensures.ok
 
 pub returns-in-Release-clause-ok : goal.returns-in-Release-clause-ok
 returns-in-Release-clause-ok c = ok_map c.release.result (λ f p stood.
