@@ -1,6 +1,6 @@
 //! The command `check`.
 
-ghost use Rattle.std.specs.Prelude.{◌≡◌, ◌↔◌, ◌++◌, ℕ, List, true, IfOk, IfErr, IsTrue, codes, decimal, string_bytes};
+ghost use Rattle.std.specs.Prelude.{◌≡◌, ◌↔◌, ◌++◌, ℕ, List, true, IfOk, IfErr, IsTrue, codes, decimal, string_bytes, false, OnOk};
 ghost use Rattle.std.specs.Io.KnownBytes.{Appends};
 ghost use Rattle.bl_check.specs.Faults.{AreSoundImage};
 ghost use Rattle.bl_cli_commands.specs.Checks.{report_text, fault_text, IsVerdict, ReadsAll, HasLength, CannotRead, ComesFrom, Leaves};
@@ -115,6 +115,8 @@ pub fn check_image<R: Read, W: Write>(
         × ReadsAll (R.remaining reader.old.inner) (R.remaining reader.new.inner) bytes × HasLength length bytes
         × IsVerdict sound bytes line × (IsTrue sound ↔ AreSoundImage bytes)
         × Appends (W.contents writer.old.inner) (W.contents writer.new.inner) line) }
+    // The line is not held back.
+    ensures flushed { OnOk result (writer.new.pending ≡ false) }
     // Whose fault it is.
     ensures fault { IfErr result (λ fault. ComesFrom fault
         (CannotRead length (R.remaining reader.old.inner) (R.remaining reader.new.inner) (reader.new.failed ≡ true))

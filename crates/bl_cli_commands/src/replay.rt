@@ -1,6 +1,6 @@
 //! The command `replay`.
 
-ghost use Rattle.std.specs.Prelude.{◌≡◌, ℕ, List, true, MatchResult};
+ghost use Rattle.std.specs.Prelude.{◌≡◌, ℕ, List, true, false, MatchResult, OnOk};
 ghost use Rattle.std.specs.Io.KnownBytes.{Consumes, IsAtEnd};
 ghost use Rattle.bl_cli_commands.specs.Replays.{Replays, StopsReplay};
 
@@ -20,13 +20,15 @@ pub fn replay_script<R: Read, W: Write>(
     reader: &mut Watched<R>,
     writer: &mut Watched<W>,
 ) -> Result<(), CommandFault>
-    ensures { (bytes : List ℕ)
+    ensures replays { (bytes : List ℕ)
         × Consumes (R.remaining reader.old.inner) (R.remaining reader.new.inner) bytes
         × MatchResult result
         (λ done. Replays bytes (IsAtEnd (R.remaining reader.new.inner))
         (W.contents writer.old.inner) (W.contents writer.new.inner))
         (λ fault. StopsReplay fault bytes (IsAtEnd (R.remaining reader.new.inner)) (reader.new.failed ≡ true)
         (writer.new.failed ≡ true) (W.contents writer.old.inner) (W.contents writer.new.inner)) }
+    // What was printed is not held back.
+    ensures flushed { OnOk result (writer.new.pending ≡ false) }
 {
     let script = match read_script(alloc, reader, PLAYED) {
         Ok(script) => script,

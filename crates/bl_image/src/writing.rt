@@ -1,6 +1,6 @@
 //! Writing an image.
 
-ghost use Rattle.std.specs.Prelude.{◌≡◌, ◌≤◌, true, List, ℕ, length, flat_map, OnOk, OnErr};
+ghost use Rattle.std.specs.Prelude.{◌≡◌, ◌≤◌, true, false, List, ℕ, length, flat_map, OnOk, OnErr};
 ghost use Rattle.std.specs.List.{AllByRecursion};
 ghost use Rattle.std.specs.Io.KnownBytes.{Appends};
 ghost use Rattle.bl_model.specs.Stream.{StartsOut};
@@ -34,6 +34,7 @@ fn write_image<W: Write>(writer: &mut Watched<W>, pages: &[Option<Page>]) -> Res
     requires { length pages.now ≤ 65536 }
     ensures ok { OnOk result (Appends (W.contents writer.old.inner) (W.contents writer.new.inner)
         (image_bytes pages.now)) }
+    ensures flushed { OnOk result (writer.new.pending ≡ false) }
     ensures fit { OnOk result (AllByRecursion (λ page. Fits64 (page_words page)) pages.now) }
     ensures err { OnErr result (StartsOut (W.contents writer.old.inner) (W.contents writer.new.inner)
         (image_bytes pages.now)) }
@@ -55,6 +56,8 @@ impl Image {
         // What is written is the image's one spelling.
         ensures ok { OnOk result ((bytes : List ℕ) × IsImage self.now.pages.items bytes
             × Appends (W.contents writer.old.inner) (W.contents writer.new.inner) bytes) }
+        // The writer holds nothing back.
+        ensures flushed { OnOk result (writer.new.pending ≡ false) }
         // A beginning of it after a fault.
         ensures beginning { OnErr result (StartsOut (W.contents writer.old.inner) (W.contents writer.new.inner)
             (image_bytes self.now.pages.items)) }

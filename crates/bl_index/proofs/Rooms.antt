@@ -1,5 +1,5 @@
 -- What a hand was refused that found no room, from one event of its process to the next.
-use Rattle.std.proofs.Common.{ℕ, ◌≡◌, ◌≢◌, None, Some, inl, inr, refl, sym, ap, subst, ◌∙◌}
+use Rattle.std.proofs.Common.{ℕ, List, ◌≡◌, ◌≢◌, None, Some, inl, inr, refl, sym, ap, subst, ◌∙◌}
 use Rattle.atomic_table.specs.declared.shared.Seat.{Seat}
 use Rattle.bl_proc_base.specs.declared.acts.Action.TheVariants as act
 use Rattle.bl_proc_base.specs.declared.acts.Seen.{Seen}
@@ -11,7 +11,8 @@ use Rattle.bl_proc_unique.specs.Refusals.{IsRefused, PutsRefused}
 use Rattle.bl_proc_unique.proofs.RefusedTurns.{takes_refused, takes_puts}
 use Rattle.bl_proc_unique.proofs.RefusedNexts.{refused_opens, may_ask, may_ask_on}
 use Rattle.bl_store.specs.declared.view.View.{View}
-use Rattle.bl_store.specs.Hands.{known, WasRefused, IsSameRefusal}
+use Rattle.bl_layout.specs.declared.layout.Layout.{Layout}
+use Rattle.bl_store.specs.Hands.{known, IsWhyOf, WasRefused, IsSameRefusal}
 use Rattle.bl_index_rule.specs.declared.known.Mine.{Mine}
 use Rattle.bl_proc_base.specs.declared.changing.Outcome.{Outcome}
 use Rattle.bl_proc_base.specs.declared.changing.Outcome.TheVariants as outcome
@@ -31,6 +32,10 @@ use Rattle.bl_index.proofs.Asked.{asks_on, asks_keep, asks_told}
 
 abbrev H : Type 0
 H = Seat (Unit {0}) (View Mine)
+
+-- the hand has not reserved since, so what it was refused it still is
+pub refused_on : (h h' : H) (pages frames : ℕ) → IsSameRefusal h h' → WasRefused h pages frames → WasRefused h' pages frames
+refused_on h h' pages frames same was = (same.1.0 ∙ was.0, (was.1.0, subst (λ (v : Layout × List ℕ × List ℕ). IsWhyOf v.0 v.1 v.2 pages frames was.1.0) (λ i. (sym same.0 i, sym same.1.1 i, sym same.1.2 i)) was.1.1))
 
 pub tells_done : (h h' : H) (p : Proc) → ((x : ℕ) → next_of p ≡ act.Open x → IsSameRefusal h h') → TellsRoom h h' p seen.Done
 tells_done h h' p same = ((λ e. absurd (let f : seen.Done ≡ seen.Refused = e in cc)), same)
@@ -70,7 +75,7 @@ keeps_room h h' p what q is held moves takes tells going keeps = (
       | inl opens ↦
           let lacks = keeps.0 was in
           let latch = goes_keeps moves.0 (known h) (known h') moves.1 (λ x l. (let f : act.Open opens.0 ≡ act.Latch x = sym opens.1 ∙ (ap next_of (sym is) ∙ l) in cc)) in
-          (lacks.0, may_ask_on p what q lacks.0 takes lacks.1, tells.1 opens.0 opens.1 ∙ lacks.2, asks_on p what q lacks.0 (own_marks (known h')) takes (asks_keep p lacks.0 (known h) (known h') latch lacks.3))
+          (lacks.0, may_ask_on p what q lacks.0 takes lacks.1, refused_on h h' _ _ (tells.1 opens.0 opens.1) lacks.2, asks_on p what q lacks.0 (own_marks (known h')) takes (asks_keep p lacks.0 (known h) (known h') latch lacks.3))
       | inr end ↦ absurd (going end)
     ]
     | inr told ↦
@@ -82,20 +87,20 @@ keeps_room h h' p what q is held moves takes tells going keeps = (
 
 -- nothing has happened
 pub stays_room : (h h' : H) (p q : Proc) → q ≡ p → IsSameRefusal h h' → known h' ≡ known h → KeepsRoom h p → KeepsRoom h' q
-stays_room h h' p q is same still keeps = subst (KeepsRoom h') (sym is) ((λ r. let lacks = keeps.0 r in (lacks.0, lacks.1, same ∙ lacks.2, subst (λ (d : Mine). AsksFor p lacks.0 (own_marks d)) (sym still) lacks.3)), keeps.1)
+stays_room h h' p q is same still keeps = subst (KeepsRoom h') (sym is) ((λ r. let lacks = keeps.0 r in (lacks.0, lacks.1, refused_on h h' _ _ same lacks.2, subst (λ (d : Mine). AsksFor p lacks.0 (own_marks d)) (sym still) lacks.3)), keeps.1)
 
 -- and it ends so
 pub ends_room : (h h' : H) (p q : Proc) → Takes p seen.Done q → IsSameRefusal h h' → KeepsLatch (known h) (known h') → KeepsRoom h p → IsRefused q → LacksAsked h' q
 ends_room h h' p q takes same latch keeps r = elim (takes_refused p seen.Done q takes r) [
-  | inl was ↦ let lacks = keeps.0 was in (lacks.0, may_ask_on p seen.Done q lacks.0 takes lacks.1, same ∙ lacks.2, asks_on p seen.Done q lacks.0 (own_marks (known h')) takes (asks_keep p lacks.0 (known h) (known h') latch lacks.3))
+  | inl was ↦ let lacks = keeps.0 was in (lacks.0, may_ask_on p seen.Done q lacks.0 takes lacks.1, refused_on h h' _ _ same lacks.2, asks_on p seen.Done q lacks.0 (own_marks (known h')) takes (asks_keep p lacks.0 (known h) (known h') latch lacks.3))
   | inr told ↦ absurd (let f : seen.Done ≡ seen.Refused = told in cc)
 ]
 
 -- By what a hand lacks
 pub lacks_on : (level key : ℕ) (h h' : H) → IsSameRefusal h h' → KeepsLatch (known h) (known h') → LacksPage level key h → LacksPage level key h'
 lacks_on level key h h' same latch lacks = elim lacks [
-  | inl one ↦ inl (same ∙ one.0, keeps_held level key HasRoom (known h) (known h') latch one.1)
-  | inr two ↦ inr (same ∙ two.0, keeps_held level key IsFull (known h) (known h') latch two.1)
+  | inl one ↦ inl (refused_on h h' 0 1 same one.0, keeps_held level key HasRoom (known h) (known h') latch one.1)
+  | inr two ↦ inr (refused_on h h' 1 2 same two.0, keeps_held level key IsFull (known h) (known h') latch two.1)
 ]
 
 pub lacks_asked : (h : H) (p : Post) → LacksAsked h (proc.Post p) → LacksPost p.level p.key h

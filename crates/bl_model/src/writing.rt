@@ -1,6 +1,6 @@
 //! Whole texts to a watched writer.
 
-ghost use Rattle.std.specs.Prelude.{◌≡◌, true, OnOk, OnErr};
+ghost use Rattle.std.specs.Prelude.{◌≡◌, true, false, OnOk, OnErr};
 ghost use Rattle.std.specs.Io.KnownBytes.{Appends};
 ghost use Rattle.bl_model.specs.Stream.{StartsOut};
 
@@ -31,10 +31,11 @@ pub fn write_text<W: Write>(writer: &mut Watched<W>, text: &[u8]) -> Result<(), 
     Err(Failed)
 }
 
-/// Writes the whole text and flushes the writer. Where one of these fails, a beginning of the text is out. No clause can
-/// say that a flush was handed on: tests count flushes and fail one.
+/// Writes the whole text and flushes the writer, so that none of it is pending. Where one of these fails, a beginning of
+/// the text is out.
 pub fn write_out<W: Write>(writer: &mut Watched<W>, text: &[u8]) -> Result<(), Failed>
     ensures ok { OnOk result (Appends (W.contents writer.old.inner) (W.contents writer.new.inner) text.now) }
+    ensures flushed { OnOk result (writer.new.pending ≡ false) }
     ensures err { OnErr result (StartsOut (W.contents writer.old.inner) (W.contents writer.new.inner) text.now) }
     ensures failed { OnErr result (writer.new.failed ≡ true) }
 {

@@ -1,6 +1,6 @@
 //! Output by way of a buffer.
 
-ghost use Rattle.std.specs.Prelude.{◌≡◌, ◌++◌, true, [], OnOk, OnErr, IfErr};
+ghost use Rattle.std.specs.Prelude.{◌≡◌, ◌++◌, true, [], OnOk, OnErr, IfErr, false};
 ghost use Rattle.std.specs.Io.KnownBytes.{Appends};
 ghost use Rattle.bl_model.specs.Stream.{StartsOut};
 ghost use Rattle.bl_replay.specs.declared.fault.ReplayFault.TheVariants as fault;
@@ -34,9 +34,10 @@ pub fn write_much<W: Write>(
     }
 }
 
-/// Writes all that is pending.
+/// Writes all that is pending, and flushes the writer.
 pub fn write_last<W: Write>(writer: &mut Watched<W>, pending: &Vec<u8>) -> Result<(), ReplayFault>
     ensures ok { OnOk result (Appends (W.contents writer.old.inner) (W.contents writer.new.inner) pending.now.items) }
+    ensures flushed { OnOk result (writer.new.pending ≡ false) }
     ensures err { OnErr result (StartsOut (W.contents writer.old.inner) (W.contents writer.new.inner) pending.now.items) }
     ensures failed { OnErr result (writer.new.failed ≡ true) }
 {

@@ -1,6 +1,6 @@
 //! Whole scripts.
 
-ghost use Rattle.std.specs.Prelude.{◌≡◌, ◌++◌, true, ℕ, List, Err, length, OnOk, OnErr};
+ghost use Rattle.std.specs.Prelude.{◌≡◌, ◌++◌, true, ℕ, List, Err, length, OnOk, OnErr, false};
 ghost use Rattle.std.specs.Io.KnownBytes.{Appends};
 ghost use Rattle.bl_model.specs.Stream.{StartsOut};
 ghost use Rattle.bl_replay_script.specs.Scripts.{AllStand};
@@ -62,6 +62,7 @@ pub fn replay<W: Write>(
     requires { MayPlay script.now.pages script.now.commands.items }
     ensures ok { OnOk result ((text : List ℕ) × PlaysOut script.now.pages script.now.commands.items text
         × Appends (W.contents writer.old.inner) (W.contents writer.new.inner) text) }
+    ensures flushed { OnOk result (writer.new.pending ≡ false) }
     ensures err { OnErr result ((text : List ℕ) × PlaysInto script.now.pages script.now.commands.items text
         × StartsOut (W.contents writer.old.inner) (W.contents writer.new.inner) text) }
     ensures write { result ≡ Err fault.Write → writer.new.failed ≡ true }

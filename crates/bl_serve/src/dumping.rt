@@ -1,6 +1,6 @@
 //! The server over an index of its own, which leaves the image of that index.
 
-ghost use Rattle.std.specs.Prelude.{◌≡◌, ◌+◌, ◌<◌, ◌≤◌, ℕ, List, ◌++◌, true, vec_len, IfOk, MatchResult};
+ghost use Rattle.std.specs.Prelude.{◌≡◌, ◌+◌, ◌<◌, ◌≤◌, ℕ, List, ◌++◌, true, vec_len, IfOk, MatchResult, false, OnOk};
 ghost use Rattle.std.specs.Io.KnownBytes.{Appends, Consumes, IsAtEnd};
 ghost use Rattle.bl_model.specs.Rows.{map_of};
 ghost use Rattle.bl_serve_lines.specs.Served.{whole_history};
@@ -54,7 +54,7 @@ pub fn dump_index<T: Threads + Wait + Sync, R: Read, W: Write>(
 ) -> Result<(Totals, Result<Quiet, AllocError>), ServeFault>
     requires pages { HasPages origin }
     requires passes { (1 ≤ workers) × (workers + compressors ≤ 64) }
-    ensures { (input : List ℕ) × (ahead : List ℕ) × (output : List ℕ)
+    ensures serves { (input : List ℕ) × (ahead : List ℕ) × (output : List ℕ)
         × Consumes (R.remaining reader.old.inner) (R.remaining reader.new.inner) (input ++ ahead)
         × Appends (W.contents writer.old.inner) (W.contents writer.new.inner) output
         × MatchResult result
@@ -62,6 +62,7 @@ pub fn dump_index<T: Threads + Wait + Sync, R: Read, W: Write>(
         × IfOk t.1 (λ quiet. HoldMapAfter (map_of from.rows) (whole_history from.served) (size_of origin) quiet.image.pages.items)
         × EndsRead input ahead (IsAtEnd (R.remaining reader.new.inner)))
         (λ fault. StopsFrom origin (input ++ ahead) output fault (reader.new.failed ≡ true) (writer.new.failed ≡ true)) }
+    ensures flushed { OnOk result (writer.new.pending ≡ false) }
 {
     let crew = crew_of(workers);
     let (index, passes) = open_index(alloc, origin, workers + compressors)?;

@@ -1,6 +1,6 @@
 //! The server: sections are read, answered and written.
 
-ghost use Rattle.std.specs.Prelude.{◌≡◌, ℕ, ◌+◌, ◌-◌, ◌<◌, ◌≤◌, ◌^◌, ◌↔◌, IsTrue, List, ◌++◌, length, min, Option, Ok, true, count_by, is_none, vec_len, IfOk, IfErr, OnOk, MatchResult};
+ghost use Rattle.std.specs.Prelude.{◌≡◌, ℕ, ◌+◌, ◌-◌, ◌<◌, ◌≤◌, ◌^◌, ◌↔◌, IsTrue, List, ◌++◌, length, min, Option, Ok, true, count_by, is_none, vec_len, IfOk, IfErr, OnOk, MatchResult, false};
 ghost use Rattle.std.specs.Io.KnownBytes.{Appends, Consumes, IsAtEnd};
 ghost use Rattle.bl_serve_lines.specs.Served.{Stops};
 ghost use Rattle.bl_serve_lines.specs.Streams.{EndsRead};
@@ -206,7 +206,7 @@ pub fn serve<T: Threads + Wait + Sync, R: Read, W: Write, G: Gate + Sync>(
 ) -> Result<(Totals, Vec<Pass>), ServeFault>
     requires together { AreTogether index.now (seen_by passes.items) passes.items }
     requires workers { (1 ≤ workers) × (workers ≤ vec_len passes) }
-    ensures { (input : List ℕ) × (ahead : List ℕ) × (output : List ℕ)
+    ensures serves { (input : List ℕ) × (ahead : List ℕ) × (output : List ℕ)
         × Consumes (R.remaining reader.old.inner) (R.remaining reader.new.inner) (input ++ ahead)
         × Appends (W.contents writer.old.inner) (W.contents writer.new.inner) output
         × MatchResult result
@@ -214,6 +214,7 @@ pub fn serve<T: Threads + Wait + Sync, R: Read, W: Write, G: Gate + Sync>(
         × EndsRead input ahead (IsAtEnd (R.remaining reader.new.inner)))
         (λ fault. Stops (map_after (first_of index.now) (seen_by passes.items)) (input ++ ahead) output fault
         (reader.new.failed ≡ true) (writer.new.failed ≡ true)) }
+    ensures flushed { OnOk result (writer.new.pending ≡ false) }
 {
     // A gate may hold the first of two requests until the second one has been carried out.
     let crew = Crew { workers, alone: 2 };
@@ -233,7 +234,7 @@ pub fn serve_with<T: Threads + Wait + Sync, R: Read, W: Write, G: Gate + Sync>(
 ) -> Result<(Totals, Vec<Pass>), ServeFault>
     requires together { AreTogether index.now (seen_by passes.items) passes.items }
     requires some { 0 < vec_len passes }
-    ensures { (input : List ℕ) × (ahead : List ℕ) × (output : List ℕ)
+    ensures serves { (input : List ℕ) × (ahead : List ℕ) × (output : List ℕ)
         × Consumes (R.remaining reader.old.inner) (R.remaining reader.new.inner) (input ++ ahead)
         × Appends (W.contents writer.old.inner) (W.contents writer.new.inner) output
         × MatchResult result
@@ -241,6 +242,7 @@ pub fn serve_with<T: Threads + Wait + Sync, R: Read, W: Write, G: Gate + Sync>(
         × EndsRead input ahead (IsAtEnd (R.remaining reader.new.inner)))
         (λ fault. Stops (map_after (first_of index.now) (seen_by passes.items)) (input ++ ahead) output fault
         (reader.new.failed ≡ true) (writer.new.failed ≡ true)) }
+    ensures flushed { OnOk result (writer.new.pending ≡ false) }
 {
     let hints = Hints::new(alloc)?;
     let mut desks = desks(alloc, passes.len(), crew.workers)?;

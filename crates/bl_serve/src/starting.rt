@@ -1,6 +1,6 @@
 //! The server over an index of its own.
 
-ghost use Rattle.std.specs.Prelude.{◌≡◌, ◌+◌, ◌≤◌, ℕ, List, [], ◌++◌, true, IfOk, MatchResult};
+ghost use Rattle.std.specs.Prelude.{◌≡◌, ◌+◌, ◌≤◌, ℕ, List, [], ◌++◌, true, IfOk, MatchResult, false, OnOk};
 ghost use Rattle.std.specs.Io.KnownBytes.{Appends, Consumes, IsAtEnd};
 ghost use Rattle.bl_serve_lines.specs.Streams.{EndsRead};
 ghost use Rattle.bl_index.specs.Opened.{IsBegun, IsReopened};
@@ -88,12 +88,13 @@ pub fn serve_index<T: Threads + Wait + Sync, R: Read, W: Write>(
 ) -> Result<Totals, ServeFault>
     requires pages { HasPages origin }
     requires passes { (1 ≤ workers) × (workers + compressors ≤ 64) }
-    ensures { (input : List ℕ) × (ahead : List ℕ) × (output : List ℕ)
+    ensures serves { (input : List ℕ) × (ahead : List ℕ) × (output : List ℕ)
         × Consumes (R.remaining reader.old.inner) (R.remaining reader.new.inner) (input ++ ahead)
         × Appends (W.contents writer.old.inner) (W.contents writer.new.inner) output
         × MatchResult result
         (λ totals. ServedFrom origin input output totals × EndsRead input ahead (IsAtEnd (R.remaining reader.new.inner)))
         (λ fault. StopsFrom origin (input ++ ahead) output fault (reader.new.failed ≡ true) (writer.new.failed ≡ true)) }
+    ensures flushed { OnOk result (writer.new.pending ≡ false) }
 {
     let crew = crew_of(workers);
     let (index, passes) = open_index(alloc, origin, workers + compressors)?;

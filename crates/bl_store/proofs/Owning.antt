@@ -158,7 +158,7 @@ module _ {D : Type 0} (l : Layout) (first : D) (holds : Pages D → Type 0) wher
         keeps,
         tt,
         owner_step st r i 1 id me.1 me.0 x me.0.releases own.0 Open t.1 at live i_is own.1 refl (λ u e. cc) (λ j u e is. let no : Held me.0.number ≡ Retired u = sym t.0 ∙ is in cc) t.2,
-        ((refl, refl, refl, refl), refl, (refl, refl, refl), λ y equal. let back : x ≡ y = omega arith in (page.0, subst (λ (z : ℕ × Owner). then' me.0.known z.0 z.1 page.0 t.1) (λ k. (back k, t.0 k)) t.3), refl),
+        ((refl, refl, refl, refl), refl, (refl, refl, refl), λ y equal. let back : x ≡ y = omega arith in (page.0, subst (λ (z : ℕ × Owner). then' me.0.known z.0 z.1 page.0 t.1) (λ k. (back k, t.0 k)) t.3), (refl, refl, refl)),
       )
 
   -- a page that was retired before each process began is released

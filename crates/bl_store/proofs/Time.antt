@@ -176,7 +176,7 @@ module _ {D : Type 0} (l : Layout) (first : D) (holds : Pages D → Type 0) wher
         keeps,
         tt,
         process_step st r i id 0 me.1 me.0 Out me.0.refused t.1 at live i_is refl tt (λ b e. cc) t.2,
-        ((refl, refl, refl, refl), (refl, refl, refl), refl, refl, (s.clock, t.3)),
+        ((refl, refl, refl, refl), (refl, refl, refl), refl, (refl, refl, refl), (s.clock, t.3)),
       )
 
   pub looks : (then' : D → ℕ → Owner → List ℕ → D → Type 0) (slots id i b x : ℕ) (me : M) → i ≡ page_at l x → x < l.pages → me.0.layout ≡ l → me.0.stamp ≡ In b → Gets holds l me.0.number me.0.known x then'

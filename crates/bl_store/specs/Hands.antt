@@ -5,7 +5,7 @@ use Rattle.atomic_table.specs.declared.shared.Seat.{Seat}
 use Rattle.bl_layout.specs.declared.layout.Layout.{Layout}
 use Rattle.bl_layout.specs.Words.{frame_count}
 use Rattle.bl_store.specs.Frames.{owner_at, state_at, place_at}
-use Rattle.bl_store.specs.Told.{draft, wanted}
+use Rattle.bl_store.specs.Told.{draft, wanted, KeepsRefusal}
 use Rattle.bl_store.specs.declared.stock.Stock.{Stock}
 use Rattle.bl_store.specs.declared.stock.NoRoom.{NoRoom}
 use Rattle.bl_store.specs.declared.stock.NoRoom.TheVariants.{Pages, Frames, Clock}
@@ -39,6 +39,14 @@ BeginsAt l first reading = (f : ℕ) × (reading ≡ At f (words_in reading)) ×
 -- both are of one look
 abbrev pub IsSameLook : Glance → Glance → Type 0
 IsSameLook glance glance' = glance'.first ≡ glance.first
+
+-- Why a reservation of so many pages and frames is refused by a hand that saw these words taken and got these frames: it saw
+-- each page from 1 upward taken; or it got fewer frames than it asked for, and saw each other one taken; or it saw the clock,
+-- which is word 0, at its end.
+abbrev pub IsWhyOf : Layout → List ℕ → List ℕ → ℕ → ℕ → NoRoom → Type 0
+IsWhyOf l seen got pages frames Pages = (pages ≡ 1) × ((x : ℕ) → 0 < x → x < l.pages → Has seen (owner_at l x))
+IsWhyOf l seen got pages frames Frames = (length got < frames) × ((f : ℕ) → f < frame_count l → Has got f ⊎ Has seen (state_at l f))
+IsWhyOf l seen got pages frames Clock = Has seen 0
 
 module _ {D : Type 0} where
   -- what the hand knows
@@ -116,20 +124,18 @@ module _ {D : Type 0} where
   abbrev pub IsTried : Seat (Unit {0}) (View D) → ℕ → Type 0
   IsTried h f = Has h.me.0.got f ⊎ SawTaken h (state_at h.me.0.layout f)
 
-  -- Why a reservation of so many pages and frames is refused: the hand saw each page from 1 upward taken; or it got fewer
-  -- frames than it asked for, and saw each other one taken; or it saw the clock, which is word 0, at its end.
+  -- why it was refused, by what the hand saw and got
   abbrev pub IsWhy : Seat (Unit {0}) (View D) → ℕ → ℕ → NoRoom → Type 0
-  IsWhy h pages frames Pages = (pages ≡ 1) × ((x : ℕ) → 0 < x → x < h.me.0.layout.pages → SawTaken h (owner_at h.me.0.layout x))
-  IsWhy h pages frames Frames = (length h.me.0.got < frames) × ((f : ℕ) → f < frame_count h.me.0.layout → IsTried h f)
-  IsWhy h pages frames Clock = SawTaken h 0
+  IsWhy h = IsWhyOf h.me.0.layout h.me.0.seen h.me.0.got
 
-  -- since the hand's process began, a reservation of so many pages and frames was refused, and none has been since
+  -- since the hand's process began, a reservation of so many pages and frames was refused, by what the hand saw, and none has
+  -- been since
   abbrev pub WasRefused : Seat (Unit {0}) (View D) → ℕ → ℕ → Type 0
-  WasRefused h pages frames = h.me.0.refused ≡ Some (wanted pages frames)
+  WasRefused h pages frames = (h.me.0.refused ≡ Some (wanted pages frames)) × ((why : NoRoom) × IsWhy h pages frames why)
 
-  -- no reservation has been refused since
+  -- the hand has not reserved since, so what it was refused, and why, is as before
   abbrev pub IsSameRefusal : Seat (Unit {0}) (View D) → Seat (Unit {0}) (View D) → Type 0
-  IsSameRefusal h h' = h'.me.0.refused ≡ h.me.0.refused
+  IsSameRefusal h h' = (h'.me.0.layout ≡ h.me.0.layout) × KeepsRefusal h.me.0 h'.me.0
 
   -- all but the stock and what it saw taken is as before
   abbrev pub IsQuiet : Seat (Unit {0}) (View D) → Seat (Unit {0}) (View D) → Type 0

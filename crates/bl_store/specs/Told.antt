@@ -52,6 +52,10 @@ module _ {D : Type 0} where
   abbrev pub IsSilent : Sat D → Sat D → Type 0
   IsSilent m m' = IsThere m m' × (m'.0.stamp ≡ m.0.stamp) × IsStocked m.0 m'.0 × (m'.0.known ≡ m.0.known)
 
+  -- of a reservation that was refused, what was asked for, what was seen taken and what was got stays as it was
+  abbrev pub KeepsRefusal : View D → View D → Type 0
+  KeepsRefusal v w = (w.refused ≡ v.refused) × (w.seen ≡ v.seen) × (w.got ≡ v.got)
+
   abbrev pub clocked : Play → Sat D → ℕ → Sat D → Type 0
   clocked st m r m' = IsThere m m' × IsStocked m.0 m'.0 × (m'.0.known ≡ m.0.known) × (m'.0.stamp ≡ Clocked r) × (r < 2305843009213693952)
 
@@ -59,7 +63,7 @@ module _ {D : Type 0} where
   stamped then st m r m' = IsThere m m' × IsStocked m.0 m'.0 × (m'.0.refused ≡ None) × ((b : ℕ) × (m'.0.stamp ≡ In b) × then m.0.known b m'.0.known)
 
   abbrev pub ended : (D → ℕ → D → Type 0) → Play → Sat D → ℕ → Sat D → Type 0
-  ended then st m r m' = IsThere m m' × IsStocked m.0 m'.0 × (m'.0.stamp ≡ Out) × (m'.0.refused ≡ m.0.refused) × ((b : ℕ) × then m.0.known b m'.0.known)
+  ended then st m r m' = IsThere m m' × IsStocked m.0 m'.0 × (m'.0.stamp ≡ Out) × KeepsRefusal m.0 m'.0 × ((b : ℕ) × then m.0.known b m'.0.known)
 
   -- the words of a page in the frame that the number r names
   abbrev pub Found : View D → ℕ → List ℕ → Type 0
@@ -129,7 +133,7 @@ module _ {D : Type 0} where
   abbrev pub opened : (D → ℕ → Owner → List ℕ → D → Type 0) → Play → Sat D → ℕ → Sat D → Type 0
   opened then st m r m' = IsThere m m' × (m'.0.stamp ≡ m.0.stamp) × IsStocked m.0 m'.0
       × ((x : ℕ) → st.word ≡ owner_at m.0.layout x → (xs : List ℕ) × then m.0.known x (Held m.0.number) xs m'.0.known)
-      × (m'.0.refused ≡ m.0.refused)
+      × KeepsRefusal m.0 m'.0
 
   -- the tick of the clock by which a page is retired
   abbrev pub sealed : ℕ → (D → ℕ → D → Type 0) → Play → Sat D → ℕ → Sat D → Type 0

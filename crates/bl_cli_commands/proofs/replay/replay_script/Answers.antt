@@ -6,8 +6,8 @@ use Rattle.bl_cli_commands.specs.Replays.{StopsReplay}
 use Rattle.bl_cli_commands.proofs.Replaying.{stops_replaying}
 use Rattle.bl_cli_commands.proofs.replay.replay_script.Goals as goal
 
-pub returns : goal.returns
-returns g c =
+pub returns-clause-replays : goal.returns-clause-replays
+returns-clause-replays g c =
     let read = rw c.in-Ok.is at c.read_script.ensures in
     let broken = c.in-Err-replay.ensures.err in
     let fault = c.in-Err-replay.fault in (

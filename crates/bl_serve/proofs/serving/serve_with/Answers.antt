@@ -12,16 +12,16 @@ use Rattle.bl_serve.proofs.Faults.{room, stops_at_section, now_seen, together_no
 use Rattle.bl_serve.proofs.serving.serve_with.Goals as goal
 
 -- no memory at the start
-pub returns-in_err-hints : goal.returns-in_err-hints
-returns-in_err-hints g c = let p = err_from_is_err_and c.from_residual.result c.from_residual.ensures.1 in
+pub returns-in_err-hints-clause-serves : goal.returns-in_err-hints-clause-serves
+returns-in_err-hints-clause-serves g c = let p = err_from_is_err_and c.from_residual.result c.from_residual.ensures.1 in
     rw (p.1, p.2) ([], [], [], consumes_start _, appends_start _, stops_inside (first_of c.args.index.now) (seen_by c.args.passes.items) (seen_by c.args.passes.items) _ [] [] [] Memory (c.args.reader.now.failed ≡ true) (c.args.writer.now.failed ≡ true) (no_progress (seen_by c.args.passes.items)) c.requires.together.may_be refl tt)
 
-pub returns-in_err-desks : goal.returns-in_err-desks
-returns-in_err-desks g c = let p = err_from_is_err_and c.from_residual-in_err-desks.result c.from_residual-in_err-desks.ensures.1 in
+pub returns-in_err-desks-clause-serves : goal.returns-in_err-desks-clause-serves
+returns-in_err-desks-clause-serves g c = let p = err_from_is_err_and c.from_residual-in_err-desks.result c.from_residual-in_err-desks.ensures.1 in
     rw (p.1, p.2) ([], [], [], consumes_start _, appends_start _, stops_inside (first_of c.args.index.now) (seen_by c.args.passes.items) (seen_by c.args.passes.items) _ [] [] [] Memory (c.args.reader.now.failed ≡ true) (c.args.writer.now.failed ≡ true) (no_progress (seen_by c.args.passes.items)) c.requires.together.may_be refl tt)
 
-pub returns-in_err-ahead : goal.returns-in_err-ahead
-returns-in_err-ahead g c = let p = err_from_is_err_and c.from_residual-in_err-ahead.result c.from_residual-in_err-ahead.ensures.1 in
+pub returns-in_err-ahead-clause-serves : goal.returns-in_err-ahead-clause-serves
+returns-in_err-ahead-clause-serves g c = let p = err_from_is_err_and c.from_residual-in_err-ahead.result c.from_residual-in_err-ahead.ensures.1 in
     rw (p.1, p.2) ([], [], [], consumes_start _, appends_start _, stops_inside (first_of c.args.index.now) (seen_by c.args.passes.items) (seen_by c.args.passes.items) _ [] [] [] Memory (c.args.reader.now.failed ≡ true) (c.args.writer.now.failed ≡ true) (no_progress (seen_by c.args.passes.items)) c.requires.together.may_be refl tt)
 
 pub loop-section-init : goal.loop-section-init
@@ -38,12 +38,13 @@ loop-section-init g c = record {
   malformed = omega arith;
   sections = omega arith;
   number = omega arith;
+  flushed = λ some. absurd (let no : ⊥ = omega (arith, some) in no);
   desks = (let a = c.in_ok-desks.ensures in let b = c.requires.together.count in let d = c.args.passes.ok in omega (arith, a, b, d));
 }
 
 -- the section could not be read whole, or not be answered
-pub returns-in_err-back : goal.returns-in_err-back
-returns-in_err-back g c = let i = c.loop-section.invariant in let e = c.in_err-back.ensures.serves in let p = err_from_is_err_and c.from_residual-in_err-back.result c.from_residual-in_err-back.ensures.1 in
+pub returns-in_err-back-clause-serves : goal.returns-in_err-back-clause-serves
+returns-in_err-back-clause-serves g c = let i = c.loop-section.invariant in let e = c.in_err-back.ensures.serves in let p = err_from_is_err_and c.from_residual-in_err-back.result c.from_residual-in_err-back.ensures.1 in
     rw (p.1, p.2) (
       i.input,
       c.loop-section.ahead.source ++ e.2,
@@ -61,8 +62,8 @@ pub serve_section-requires-clause-desks : goal.serve_section-requires-clause-des
 serve_section-requires-clause-desks g c κs within = let i = c.loop-section.invariant in let a = i.desks in let b = i.together.count in let d = c.loop-section.passes.ok in omega (arith, a, b, d)
 
 -- its output was not written whole
-pub returns-in-Err : goal.returns-in-Err
-returns-in-Err g c = let i = c.loop-section.invariant in let e = c.in_ok-back.ensures.serves in let ends = e.4.0 in let counts = e.4.1 in let s = e.4.2 in
+pub returns-in-Err-clause-serves : goal.returns-in-Err-clause-serves
+returns-in-Err-clause-serves g c = let i = c.loop-section.invariant in let e = c.in_ok-back.ensures.serves in let ends = e.4.0 in let counts = e.4.1 in let s = e.4.2 in
     let w = c.in-Err.ensures.err in (
       i.input,
       c.loop-section.ahead.source ++ e.2,
@@ -73,8 +74,8 @@ returns-in-Err g c = let i = c.loop-section.invariant in let e = c.in_ok-back.en
           (IsAtEnd (g.R.Read.remaining c.serve_section.new.reader.inner)) (c.serve_section.new.reader.failed ≡ true) (c.write_out.new.writer.failed ≡ true) i.progress ends (sym c.as_slice.ensures.value ∙ w.2) c.in-Err.ensures.failed,
     )
 
-pub returns-then-ne : goal.returns-then-ne
-returns-then-ne g c = let i = c.loop-section.invariant in let e = c.in_ok-back.ensures.serves in let ends = e.4.0 in let counts = e.4.1 in let s = e.4.2 in
+pub returns-then-ne-clause-serves : goal.returns-then-ne-clause-serves
+returns-then-ne-clause-serves g c = let i = c.loop-section.invariant in let e = c.in_ok-back.ensures.serves in let ends = e.4.0 in let counts = e.4.1 in let s = e.4.2 in
     let other : c.in_ok-back.end ≢ section_end.Synced = search rules in
     let v = serves_at_end c.args.index.now i.seen c.loop-section.totals e.0 c.in_ok-back.end c.serve_section.new.text.items c.loop-section.passes.items c.in_ok-back.back.items i.together i.some s (seen_by c.args.passes.items) c.serve_section.new.totals i.input i.output (c.loop-section.ahead.source ++ e.2) c.serve_section.new.ahead.source e.1
     (IsAtEnd (g.R.Read.remaining c.serve_section.new.reader.inner)) (c.serve_section.new.reader.failed ≡ true) other i.progress ends i.room counts in (
@@ -103,12 +104,13 @@ loop-section-preserved g c = let i = c.loop-section.invariant in let e = c.in_ok
       malformed = v.malformed i.malformed;
       sections = (let a = v.sections in let b = i.sections in omega (arith, a, b));
       number = (let a = v.requests in let b = i.number in omega (arith, a, b));
+      flushed = λ some. c.in-Ok.ensures.flushed;
       desks = (let a = c.serve_section.ensures.desks in let b = i.desks in omega (arith, a, b));
     }
 
 -- as many sections as there are numbers
-pub returns : goal.returns
-returns g c = let i = c.loop-section.invariant in
+pub returns-clause-serves : goal.returns-clause-serves
+returns-clause-serves g c = let i = c.loop-section.invariant in
     let v = serves_no_more (first_of c.args.index.now) (seen_by c.args.passes.items) i.seen c.loop-section.totals i.input i.output c.loop-section.ahead.source (IsAtEnd (g.R.Read.remaining c.loop-section.reader.inner)) i.progress i.together.may_be (let a = i.number in let b = c.loop-section-test.false in omega (arith, a, b)) in (
       i.input ++ v.consumed,
       c.loop-section.ahead.source,
@@ -117,3 +119,6 @@ returns g c = let i = c.loop-section.invariant in
       subst (λ (t : List ℕ). Appends (g.W.Write.contents c.args.writer.now.inner) (g.W.Write.contents c.loop-section.writer.inner) t) (sym (append-nil i.output)) i.wrote,
       (record { now = i.seen; served = v.served; together = i.together }, v.ends),
     )
+
+pub returns-clause-flushed : goal.returns-clause-flushed
+returns-clause-flushed g c = let i = c.loop-section.invariant in i.flushed (let b = c.loop-section-test.false in omega (arith, b))

@@ -1,4 +1,4 @@
-use Rattle.std.proofs.Common.{◌≡◌, ◌<◌, ◌≤◌, ◌^◌, ℕ, List, ◌++◌, length}
+use Rattle.std.proofs.Common.{◌≡◌, ◌<◌, ◌≤◌, ◌^◌, ℕ, List, ◌++◌, length, false}
 use Rattle.std.specs.Prelude.{vec_len}
 use Rattle.std.specs.Io.KnownBytes.{Consumes, Appends}
 use Rattle.bl_claims.specs.Trails.{Trail}
@@ -21,5 +21,6 @@ invariant-loop-section g l = record {
   malformed : l.totals.malformed ≤ l.totals.requests;
   sections : l.totals.sections ≤ l._section;
   number : l._section ≤ l.totals.requests;
+  flushed : 0 < l._section → l.writer.pending ≡ false;
   desks : vec_len l.desks ≡ passes_of l.index;
 }

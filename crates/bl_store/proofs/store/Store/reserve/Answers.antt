@@ -6,6 +6,7 @@ use Rattle.bl_store.specs.Frames.{state_at}
 use Rattle.bl_store.proofs.Reserving.{allots}
 use Rattle.bl_store.proofs.StockLemmas.{has_same}
 use Rattle.bl_store.proofs.Living.{live_hand}
+use Rattle.bl_store.specs.declared.stock.NoRoom.TheVariants.{Frames}
 use Rattle.bl_store.proofs.store.Store.reserve.Goals as goal
 
 pub load-clock-requires : goal.load-clock-requires
@@ -18,6 +19,9 @@ returns-then-stock-frames-clause-why g c = let less = c.if-stock-frames.true in 
       omega arith,
       λ f low. ⊎_elim (λ h. inl (has_same _ _ _ _ got refl h)) (λ h. inr (has_same _ _ _ _ seen (ap (λ (z : Layout). state_at z f) (sym layout)) h)) (c.reserve_frames.ensures.seen less f (omega arith)),
     )
+
+pub returns-then-stock-frames-clause-asked : goal.returns-then-stock-frames-clause-asked
+returns-then-stock-frames-clause-asked g c = (c.refuse-then-stock-frames.ensures.refused, (Frames, returns-then-stock-frames-clause-why g c))
 
 pub take-stock-requires-clause-takes : goal.take-stock-requires-clause-takes
 take-stock-requires-clause-takes g c = let e = c.load-clock.ensures.2 in let same = c.reserve_frames.ensures.same.0 in let first = c.prepare.ensures.same in
