@@ -1,17 +1,15 @@
 -- Every turn of a lowering keeps a world good.
-use Rattle.std.proofs.Common.{ℕ, ◌≡◌, ◌≢◌, ◌⊎◌, ◌<◌, ◌≤◌, ◌-◌, Option, Some, None, zero, suc, List, [], ◌∷◌, length, get_or, take, arith, ap, sym, ◌∙◌, refl, subst, inl, inr}
+use Rattle.std.proofs.Common.{ℕ, ◌≡◌, ◌≢◌, ◌-◌, Some, None, [], length, get_or, take, arith, ap, sym, ◌∙◌, refl, subst, inl, inr}
 use Rattle.std.proofs.lemmas.List.{get_or-take}
-use Rattle.std.proofs.lemmas.Bool.{cases_eq}
 use Rattle.bl_page.specs.declared.page.Page.{Page}
 use Rattle.bl_page.specs.declared.page.Page.TheVariants.{Anchor, Leaf, Inner, Dead}
 use Rattle.bl_page.specs.declared.machine.Missed.{Missed}
 use Rattle.bl_page.specs.Machine.{Name, Owner, State, Act}
-use Rattle.bl_page.specs.Machine.Owner.{Held}
 use Rattle.bl_page.specs.Machine.Act.{Get, Put, Latch, Retire, Miss}
 use Rattle.bl_page.specs.Pairs.{end_of}
 use Rattle.bl_claims.specs.Nodes.{unbounded}
 use Rattle.bl_core_tree.specs.Trees.{IsLive}
-use Rattle.bl_core_tree.specs.Trees.Status.{Fresh, Live, Uprooted, Gone, Anchored}
+use Rattle.bl_core_tree.specs.Trees.Status.{Fresh, Live, Uprooted, Gone}
 use Rattle.bl_claims.specs.Pages.{node_of, roots_of}
 use Rattle.bl_claims.specs.Trails.{Mark}
 use Rattle.bl_core.specs.Worlds.{Stage, Know, World, nodes, IsSure, IsBounded, IsGood, silent, put_mark}
@@ -29,13 +27,11 @@ use Rattle.bl_proc_base.specs.declared.lowering.Summit.{Summit}
 use Rattle.bl_proc_base.specs.declared.lowering.Sinking.{Sinking}
 use Rattle.bl_proc_base.specs.declared.lowering.Lowering.TheVariants as lowering
 use Rattle.bl_proc_base.specs.Onwards.{top_of}
-use Rattle.bl_proc_base.specs.Growths.{IsAnchor}
 use Rattle.bl_proc_base.specs.Lowerings.{lowering_next, IsSole, IsFallen, Sinks}
 use Rattle.bl_proc_base.proofs.Tops.{length_take}
 use Rattle.bl_proc_invariant.specs.Turns.{event_of, IsTold, Does, Turned}
 use Rattle.bl_proc_invariant.specs.Tables.{idle}
-use Rattle.bl_proc_invariant.specs.Knowing.{anchor_known}
-use Rattle.bl_proc_invariant.specs.Lowering.{got_top, IsToSink, know_lowering, lowering_got}
+use Rattle.bl_proc_invariant.specs.Lowering.{got_top, know_lowering, lowering_got}
 use Rattle.bl_proc_unique.proofs.Lowerings.{LoweringCase}
 use Rattle.bl_proc_invariant.proofs.Acts.{of_held, not_gone, watched, latched, opened}
 use Rattle.bl_proc_invariant.proofs.Approaching.{walks}

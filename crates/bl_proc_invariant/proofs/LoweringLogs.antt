@@ -1,8 +1,7 @@
 -- What a lowering has done is what its states say, and so its answer means what it says.
-use Rattle.std.proofs.Common.{ℕ, ◌≡◌, ◌≤◌, ◌++◌, Some, None, List, [], ◌∷◌, ap, sym, ◌∙◌, refl, subst, inl, inr, arith}
+use Rattle.std.proofs.Common.{◌≡◌, ◌≤◌, ◌++◌, Some, None, List, [], ◌∷◌, ap, sym, ◌∙◌, refl, subst, inl, inr, arith}
 use Rattle.bl_model.specs.declared.operation.Reply.{Reply}
 use Rattle.bl_page.specs.declared.page.Page.{Page}
-use Rattle.bl_page.specs.declared.page.Page.TheVariants.{Anchor}
 use Rattle.bl_page.specs.declared.page.Anchor.{Anchor as AnchorPage}
 use Rattle.bl_page.specs.Machine.{Act}
 use Rattle.bl_page.specs.Machine.Act.{Get, Put, Latch, Retire}
@@ -20,7 +19,7 @@ use Rattle.bl_proc_base.specs.declared.lowering.Lowering.{Lowering}
 use Rattle.bl_proc_base.specs.declared.lowering.Sank.TheVariants.{On, Over}
 use Rattle.bl_proc_base.specs.Onwards.{top_of}
 use Rattle.bl_proc_base.specs.Lowerings.{lowering_next}
-use Rattle.bl_proc_meanings.specs.Squeezed.{acts_in, Unwritten, Since}
+use Rattle.bl_proc_meanings.specs.Squeezed.{acts_in, Unwritten}
 use Rattle.bl_proc_meanings.specs.Lowered.{AtTop, to_top, IsToLower, MeansLowered}
 use Rattle.bl_proc_invariant.specs.Turns.{event_of}
 use Rattle.bl_proc_invariant.specs.LoweringLog.{AtSummit, lowering_log}
