@@ -1,3 +1,4 @@
 mod LawExamples
 mod TrailExamples
 mod PostExamples
+mod LatchExamples

@@ -26,6 +26,10 @@ Keeps marks y = holds_on y false marks ≡ true
 abbrev pub LatchesAlone : Trail → Type 0
 LatchesAlone marks = (i : ℕ) (m : Mark) (x y : ℕ) → slice_get marks i ≡ Some m → m.event.act ≡ Latch x → Keeps (take i marks) y → ⊥
 
+-- It holds no page but the anchor when it latches one.
+abbrev pub LatchesBelowAnchor : Trail → Type 0
+LatchesBelowAnchor marks = (i : ℕ) (m : Mark) (x y : ℕ) → slice_get marks i ≡ Some m → m.event.act ≡ Latch x → Keeps (take i marks) y → y ≡ 0
+
 -- an act that latches, takes and puts nothing
 abbrev pub IsLook : Act Page Reply → Type 0
 IsLook a = (x : ℕ) → (a ≢ Latch x) × (a ≢ Take x) × ((c : Page) → a ≢ Put x c)

@@ -5,4 +5,5 @@ pub mod Deletes
 pub mod Levels
 pub mod Posts
 pub mod Reclaims
+pub mod Lowers
 pub mod Processes

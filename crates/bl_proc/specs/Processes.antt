@@ -4,13 +4,14 @@ use Rattle.bl_proc_base.specs.declared.acts.Action.{Action}
 use Rattle.bl_proc_base.specs.declared.acts.Seen.{Seen}
 use Rattle.bl_proc_base.specs.declared.answers.Answer.{Answer}
 use Rattle.bl_proc.specs.declared.kinds.Proc.{Proc}
-use Rattle.bl_proc.specs.declared.kinds.Proc.TheVariants.{Find, Insert, Delete, Post, Part, Compress, Reclaim}
+use Rattle.bl_proc.specs.declared.kinds.Proc.TheVariants.{Find, Insert, Delete, Post, Part, Compress, Reclaim, Lower}
 use Rattle.bl_proc.specs.declared.searching.FindStage.TheVariants as find
 use Rattle.bl_proc.specs.declared.inserting.InsertStage.TheVariants as insert
 use Rattle.bl_proc.specs.declared.deleting.DeleteStage.TheVariants as delete
 use Rattle.bl_proc.specs.declared.posting.PostStage.TheVariants as post
 use Rattle.bl_proc.specs.declared.parts.PartStage.TheVariants as part
 use Rattle.bl_proc.specs.declared.reclaiming.ReclaimStage.TheVariants as reclaim
+use Rattle.bl_proc.specs.declared.lowering.LowerStage.TheVariants as lower
 use Rattle.bl_proc.specs.Searches.{find_next, find_needs, find_answer, FindTakes}
 use Rattle.bl_proc.specs.Inserts.{insert_next, insert_needs, insert_answer, InsertTakes}
 use Rattle.bl_proc.specs.Deletes.{delete_next, delete_needs, delete_answer, DeleteTakes}
@@ -19,6 +20,7 @@ use Rattle.bl_proc_compress.specs.declared.squeezing.CompressStage.TheVariants a
 use Rattle.bl_proc_compress.specs.Compresses.{compress_next, compress_needs, compress_answer, CompressTakes}
 use Rattle.bl_proc.specs.Parts.{part_next, part_needs, part_answer, PartTakes}
 use Rattle.bl_proc.specs.Reclaims.{reclaim_next, reclaim_needs, reclaim_answer, ReclaimTakes}
+use Rattle.bl_proc.specs.Lowers.{lower_next, lower_needs, lower_answer, LowerTakes}
 
 abbrev pub next_of : Proc → Action
 next_of (Find p) = find_next p
@@ -28,6 +30,7 @@ next_of (Post p) = post_next p
 next_of (Part p) = part_next p
 next_of (Compress p) = compress_next p
 next_of (Reclaim p) = reclaim_next p
+next_of (Lower p) = lower_next p
 
 -- pages and frames
 abbrev pub needs_of : Proc → Option (ℕ × ℕ)
@@ -38,6 +41,7 @@ needs_of (Post p) = post_needs p
 needs_of (Part p) = part_needs p
 needs_of (Compress p) = compress_needs p
 needs_of (Reclaim p) = reclaim_needs p
+needs_of (Lower p) = lower_needs p
 
 abbrev pub answer_of : Proc → Option Answer
 answer_of (Find p) = find_answer p
@@ -47,6 +51,7 @@ answer_of (Post p) = post_answer p
 answer_of (Part p) = part_answer p
 answer_of (Compress p) = compress_answer p
 answer_of (Reclaim p) = reclaim_answer p
+answer_of (Lower p) = lower_answer p
 
 abbrev pub Takes : Proc → Seen → Proc → Type 0
 Takes (Find old) what (Find new) = FindTakes old what new
@@ -56,6 +61,7 @@ Takes (Post old) what (Post new) = PostTakes old what new
 Takes (Part old) what (Part new) = PartTakes old what new
 Takes (Compress old) what (Compress new) = CompressTakes old what new
 Takes (Reclaim old) what (Reclaim new) = ReclaimTakes old what new
+Takes (Lower old) what (Lower new) = LowerTakes old what new
 Takes old what new = ⊥
 
 -- Processes that are to begin.
@@ -88,3 +94,7 @@ IsCompress level key p = ⊥
 abbrev pub IsReclaim : ℕ → Proc → Type 0
 IsReclaim page (Reclaim p) = (p.page ≡ page) × (p.stage ≡ reclaim.Seeing)
 IsReclaim page p = ⊥
+
+abbrev pub IsLower : Proc → Type 0
+IsLower (Lower p) = p.stage ≡ lower.New
+IsLower p = ⊥

@@ -2,10 +2,11 @@
 
 ghost use Rattle.std.specs.Prelude.{◌≡◌, ◌<◌, ◌≤◌};
 ghost use Rattle.bl_proc_base.specs.declared.acts.Action.TheVariants as act;
-ghost use Rattle.bl_proc.specs.Processes.{next_of, needs_of, answer_of, Takes, IsFind, IsInsert, IsDelete, IsPost, IsPart, IsCompress, IsReclaim};
+ghost use Rattle.bl_proc.specs.Processes.{next_of, needs_of, answer_of, Takes, IsFind, IsInsert, IsDelete, IsPost, IsPart, IsCompress, IsReclaim, IsLower};
 
 use crate::deleting::Delete;
 use crate::inserting::Insert;
+use crate::lowering::Lower;
 use crate::parts::Part;
 use crate::posting::Post;
 use crate::reclaiming::Reclaim;
@@ -30,6 +31,8 @@ pub enum Proc {
     Compress(Compress),
     /// Releases a page that was retired.
     Reclaim(Reclaim),
+    /// Takes the top level away.
+    Lower(Lower),
 }
 
 impl Proc {
@@ -93,6 +96,14 @@ impl Proc {
     {
         Proc::Reclaim(Reclaim::new(page))
     }
+
+    /// A process that is to take the top level of the tree away, if that is one page with one pair.
+    pub fn lower() -> Proc
+        ensures made { IsLower result }
+        ensures begins { next_of result ≡ act.Begin }
+    {
+        Proc::Lower(Lower::new())
+    }
 }
 
 impl Process for Proc {
@@ -113,6 +124,7 @@ impl Process for Proc {
             Proc::Part(process) => process.next(),
             Proc::Compress(process) => process.next(),
             Proc::Reclaim(process) => process.next(),
+            Proc::Lower(process) => process.next(),
         }
     }
 
@@ -125,6 +137,7 @@ impl Process for Proc {
             Proc::Part(process) => process.needs(),
             Proc::Compress(process) => process.needs(),
             Proc::Reclaim(process) => process.needs(),
+            Proc::Lower(process) => process.needs(),
         }
     }
 
@@ -137,6 +150,7 @@ impl Process for Proc {
             Proc::Part(process) => process.answer(),
             Proc::Compress(process) => process.answer(),
             Proc::Reclaim(process) => process.answer(),
+            Proc::Lower(process) => process.answer(),
         }
     }
 
@@ -149,6 +163,7 @@ impl Process for Proc {
             Proc::Part(process) => process.took(seen),
             Proc::Compress(process) => process.took(seen),
             Proc::Reclaim(process) => process.took(seen),
+            Proc::Lower(process) => process.took(seen),
         }
     }
 }

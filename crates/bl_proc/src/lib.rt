@@ -10,6 +10,7 @@
 mod deleting;
 mod inserting;
 mod kinds;
+mod lowering;
 mod parts;
 mod posting;
 mod posts;
@@ -19,13 +20,14 @@ mod walking;
 
 pub use bl_page::Words;
 pub use bl_proc_base::{
-    Action, Answer, Hint, Level, Posted, Process, Reader, Reclaimed, Seen, Squeezed, Step, row_in,
+    Action, Answer, Hint, Level, Lowered, Posted, Process, Reader, Reclaimed, Seen, Squeezed, Step, row_in,
     step_in,
 };
 pub use bl_proc_compress::{Compress, CompressReply, CompressStage};
 pub use deleting::{Delete, DeleteReply, DeleteStage, Removed};
 pub use inserting::{Insert, InsertReply, InsertStage};
 pub use kinds::Proc;
+pub use lowering::{Lower, LowerStage};
 pub use parts::{Part, PartRows, PartStage, first_way};
 pub use posting::{Post, PostReply, PostStage};
 pub use reclaiming::{Reclaim, ReclaimStage, Round};

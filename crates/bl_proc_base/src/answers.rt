@@ -2,6 +2,7 @@
 
 ghost use Rattle.std.specs.Prelude.{◌≡◌, ◌<◌, ◌≤◌};
 
+use crate::lowering::Lowered;
 use bl_model::Reply;
 use std::marker::Model;
 
@@ -140,4 +141,6 @@ pub enum Answer {
     Compress(Squeezed, Option<Hint>),
     /// What became of a page that was to be released.
     Reclaim(Reclaimed),
+    /// What became of a top level that was to be taken away.
+    Lower(Lowered),
 }

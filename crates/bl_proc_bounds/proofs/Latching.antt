@@ -40,6 +40,12 @@ use Rattle.bl_proc.specs.declared.deleting.DeleteStage.TheVariants as delete
 use Rattle.bl_proc.specs.declared.posting.Post.{Post}
 use Rattle.bl_proc.specs.declared.posting.PostStage.{PostStage}
 use Rattle.bl_proc.specs.declared.posting.PostStage.TheVariants as post
+use Rattle.bl_proc_base.specs.declared.lowering.Lowering.{Lowering}
+use Rattle.bl_proc_base.specs.declared.lowering.Lowering.TheVariants.{LatchingAnchor, LatchingTop}
+use Rattle.bl_proc_base.specs.Lowerings.{lowering_next}
+use Rattle.bl_proc.specs.declared.lowering.LowerStage.{LowerStage}
+use Rattle.bl_proc.specs.declared.lowering.LowerStage.TheVariants as lower
+use Rattle.bl_proc.specs.Lowers.{lower_next_in}
 use Rattle.bl_proc.specs.declared.kinds.Proc.{Proc}
 use Rattle.bl_proc.specs.declared.kinds.Proc.TheVariants as proc
 use Rattle.bl_proc.specs.Searches.{find_next_in}
@@ -52,11 +58,12 @@ use Rattle.bl_proc_invariant.specs.Turns.{event_of}
 use Rattle.bl_proc_invariant.specs.Tables.{know_approach}
 use Rattle.bl_proc_invariant.specs.Logs.{squeeze_log, compress_log, proc_log}
 use Rattle.bl_proc_invariant.specs.Compressing.{know_squeeze}
-use Rattle.bl_proc_invariant.specs.Knowing.{Run, know_growth, know_insert, know_delete, know_post, know_compress, know_of, bare, end_of_proc}
+use Rattle.bl_proc_invariant.specs.Lowering.{know_lowering}
+use Rattle.bl_proc_invariant.specs.Knowing.{Run, know_growth, know_insert, know_delete, know_post, know_compress, know_lower, know_of, bare, end_of_proc}
 use Rattle.bl_core.proofs.After.{is_put_name}
 use Rattle.bl_proc_invariant.proofs.Starting.{with_proc}
 use Rattle.bl_proc_bounds.specs.Searches.{IsSearch}
-use Rattle.bl_claims.specs.Latches.{Keeps, LatchesAlone, IsLook, OnlyLooks}
+use Rattle.bl_claims.specs.Latches.{Keeps, LatchesAlone, LatchesBelowAnchor, IsLook, OnlyLooks}
 use Rattle.bl_proc_meanings.specs.Families.{HoldsFamily, LatchesBeside}
 use Rattle.bl_proc_bounds.specs.Latches.{IsTidy, AllOwned, AllTidy}
 use Rattle.bl_proc_bounds.proofs.Counts.{take_front}
@@ -86,6 +93,12 @@ HoldsFew level key marks = ((y : ℕ) → Keeps marks y → ⊥) ⊎ HoldsFamily
 module _ (marks : Trail) (m : Mark) where
   alone_on : LatchesAlone marks → ((x y : ℕ) → m.event.act ≡ Latch x → Keeps marks y → ⊥) → LatchesAlone (marks ++ m ∷ [])
   alone_on h now i n x y is does keeps = elim (push_cases marks m i n is) [
+    | inl e ↦ h i n x y e.0 does (subst (λ t. Keeps t y) (take_front marks m i (omega (arith, e.1))) keeps)
+    | inr e ↦ now x y (ap (λ (v : Mark). v.event.act) e.1 ∙ does) (subst (λ t. Keeps t y) (take_now marks m i e.0) keeps)
+  ]
+
+  below_on : LatchesBelowAnchor marks → ((x y : ℕ) → m.event.act ≡ Latch x → Keeps marks y → y ≡ 0) → LatchesBelowAnchor (marks ++ m ∷ [])
+  below_on h now i n x y is does keeps = elim (push_cases marks m i n is) [
     | inl e ↦ h i n x y e.0 does (subst (λ t. Keeps t y) (take_front marks m i (omega (arith, e.1))) keeps)
     | inr e ↦ now x y (ap (λ (v : Mark). v.event.act) e.1 ∙ does) (subst (λ t. Keeps t y) (take_now marks m i e.0) keeps)
   ]
@@ -212,6 +225,15 @@ compress_few level key got (compress.Coming a) x marks e log h = inl (λ y keeps
 compress_few level key got (compress.Compressing c) x marks e log h = squeeze_few level key got c x marks e log h
 compress_few level key got old x marks e log h = absurd (cc e)
 
+lowering_below : (got : ℕ → Page) (l : Lowering) (x y : ℕ) → lowering_next l ≡ act.Latch x → HoldsPage (know_lowering got l).holds y → y ≡ 0
+lowering_below got LatchingAnchor x y e h = absurd h
+lowering_below got (LatchingTop t) x y e h = elim h [ inl i ↦ sym i | inr n ↦ absurd n ]
+lowering_below got old x y e h = absurd (cc e)
+
+lower_below : (got : ℕ → Page) (a : LowerStage) (x y : ℕ) → lower_next_in a ≡ act.Latch x → HoldsPage (know_lower got a).holds y → y ≡ 0
+lower_below got (lower.Sinking l) x y e h = lowering_below got l x y e h
+lower_below got old x y e h = absurd (cc e)
+
 find_looks : (a : FindStage) → ((x : ℕ) → find_next_in a ≢ act.Latch x) × (find_next_in a ≢ act.Take) × ((x : ℕ) (c : Page) → find_next_in a ≢ act.Put x c)
 find_looks find.New = (λ x e. cc, λ e. cc, λ x c e. cc)
 find_looks (find.Descending d) = (λ x e. cc, λ e. cc, λ x c e. cc)
@@ -250,6 +272,7 @@ module _ (w : World Run) (p : Name) (g : IsGood bare w) (owned : AllOwned w) whe
       let old : LatchesBeside a.level a.key (marks_of p w.trail ++ m ∷ []) = beside_on (marks_of p w.trail) m a.level a.key h (λ x f. compress_few a.level a.key got a.stage x (marks_of p w.trail) (latch_next _ _ what x (sym e ∙ f)) log (holds_kept (know_compress a.level a.key got a.stage) is)) in
       subst (λ (z : ℕ × ℕ). LatchesBeside z.0 z.1 (marks_of p w.trail ++ m ∷ [])) (λ i. (sym t.0 i, sym t.1 i)) old
   state_turn m got child time (proc.Reclaim a) (proc.Reclaim c) what is log t e h = tt
+  state_turn m got child time (proc.Lower a) (proc.Lower c) what is log t e h = below_on (marks_of p w.trail) m h (λ x y f keeps. lower_below got a.stage x y (latch_next _ _ what x (sym e ∙ f)) (holds_kept (know_lower got a.stage) is y keeps))
   state_turn m got child time old new what is log t e h = absurd t
 
   -- an act by which nothing is latched, taken or put leaves any process as it may be
@@ -261,6 +284,7 @@ module _ (w : World Run) (p : Name) (g : IsGood bare w) (owned : AllOwned w) whe
   still_turn m (proc.Post a) looks h = alone_turn m h (λ x f. absurd ((looks x).0 f))
   still_turn m (proc.Compress a) looks h = beside_on (marks_of p w.trail) m a.level a.key h (λ x f. absurd ((looks x).0 f))
   still_turn m (proc.Reclaim a) looks h = tt
+  still_turn m (proc.Lower a) looks h = below_on (marks_of p w.trail) m h (λ x y f. absurd ((looks x).0 f))
 
 -- what the others have done stays
 tidy_on : (w w' : World Run) (m : Mark) (b : Run) → Extends w w' m b → ((p : Name) → p ≡ m.event.process → IsTidy b.state (marks_of p w.trail ++ m ∷ [])) → AllTidy w → AllTidy w'
@@ -317,6 +341,7 @@ nothing_done (proc.Delete a) marks e = λ i m x y is does keeps. none_at i m (sy
 nothing_done (proc.Post a) marks e = λ i m x y is does keeps. none_at i m (sym (ap (λ (t : Trail). slice_get t i) e) ∙ is)
 nothing_done (proc.Compress a) marks e = λ i m x is does. none_at i m (sym (ap (λ (t : Trail). slice_get t i) e) ∙ is)
 nothing_done (proc.Reclaim a) marks e = tt
+nothing_done (proc.Lower a) marks e = λ i m x y is does keeps. none_at i m (sym (ap (λ (t : Trail). slice_get t i) e) ∙ is)
 
 -- enters a world
 pub tidy_enter : (w : World Run) (p : Name) (b : Run) → marks_of p w.trail ≡ [] → AllTidy w → AllTidy (with_proc w p b)

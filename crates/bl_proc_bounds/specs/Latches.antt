@@ -3,7 +3,7 @@ use Rattle.std.specs.Prelude.{ℕ, ◌≡◌}
 use Rattle.bl_page.specs.Machine.{Name}
 use Rattle.bl_page.specs.Machine.Owner.{Held}
 use Rattle.bl_claims.specs.Trails.{Trail, marks_of}
-use Rattle.bl_claims.specs.Latches.{Keeps, LatchesAlone, OnlyLooks}
+use Rattle.bl_claims.specs.Latches.{Keeps, LatchesAlone, LatchesBelowAnchor, OnlyLooks}
 use Rattle.bl_core.specs.Worlds.{World}
 use Rattle.bl_proc.specs.declared.kinds.Proc.{Proc}
 use Rattle.bl_proc.specs.declared.kinds.Proc.TheVariants as proc
@@ -19,6 +19,7 @@ IsTidy (proc.Post p) marks = LatchesAlone marks
 IsTidy (proc.Part p) marks = OnlyLooks marks
 IsTidy (proc.Compress p) marks = LatchesBeside p.level p.key marks
 IsTidy (proc.Reclaim p) marks = Unit {0}
+IsTidy (proc.Lower p) marks = LatchesBelowAnchor marks
 
 -- what is kept by the marks is owned
 abbrev pub AllOwned : {P : Type 0} → World P → Type 0

@@ -13,6 +13,7 @@ IsSearch (proc.Post p) = ⊥
 IsSearch (proc.Part p) = Unit {0}
 IsSearch (proc.Compress p) = ⊥
 IsSearch (proc.Reclaim p) = ⊥
+IsSearch (proc.Lower p) = ⊥
 
 abbrev pub IsGoing : Place → Type 0
 IsGoing Nowhere = ⊥

@@ -73,3 +73,4 @@ beside_means (proc.Post p) reply h marks e log = tt
 beside_means (proc.Part p) reply h marks e log = part_beside p.stage reply h e
 beside_means (proc.Compress p) reply h marks e log = tt
 beside_means (proc.Reclaim p) reply h marks e log = tt
+beside_means (proc.Lower p) reply h marks e log = tt

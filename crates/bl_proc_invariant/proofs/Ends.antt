@@ -22,9 +22,9 @@ told_said w p (Some said) h = (h.0, said, h.1, refl)
 told_said w p None h = h
 
 module _ {P : Type 0} (know : P → Know) (w : World P) (g : IsGood know w) (p : Name) (b : P) where
-  pub begin_turn : (key : ℕ) (s : State _) → know (w.proc p) ≡ early key → know b ≡ record (idle Stage.Busy) { sound = key < unbounded } → Does w.now p Begin s → Turned know w p Begin s b
-  begin_turn key s before then does =
-      let is : IsSure w p (early key) = rw before at (g.sure p) in
+  pub start_turn : (S : Type 0) (s : State _) → know (w.proc p) ≡ record (idle Stage.Early) { sound = S } → know b ≡ record (idle Stage.Busy) { sound = S } → Does w.now p Begin s → Turned know w p Begin s b
+  start_turn S s before then does =
+      let is : IsSure w p (record (idle Stage.Early) { sound = S }) = rw before at (g.sure p) in
       began know w g p b _ _ before then s is.stage does refl (λ x h. h)
       (record {
         stage = (does.changes.2.0, does.changes.2.3.at);
@@ -36,6 +36,9 @@ module _ {P : Type 0} (know : P → Know) (w : World P) (g : IsGood know w) (p :
         sound = is.sound;
         log = tt;
       })
+
+  pub begin_turn : (key : ℕ) (s : State _) → know (w.proc p) ≡ early key → know b ≡ record (idle Stage.Busy) { sound = key < unbounded } → Does w.now p Begin s → Turned know w p Begin s b
+  begin_turn key s before then does = start_turn (key < unbounded) s before then does
 
   pub end_turn : (said : Option Said) (s : State _) → know (w.proc p) ≡ ending said → know b ≡ late said → Does w.now p (End (reply_said said)) s → Turned know w p (End (reply_said said)) s b
   end_turn said s before then does =

@@ -1,9 +1,9 @@
 -- What a process gets next is page 0, or a page that is or was of the tree and that it may still get. So it is no page that
 -- was never put.
-use Rattle.std.proofs.Common.{ℕ, ◌≡◌, ◌⊎◌, None, Some, inl, inr, refl}
+use Rattle.std.proofs.Common.{ℕ, ◌≡◌, ◌⊎◌, ◌∙◌, None, Some, ap, sym, inl, inr, refl}
 use Rattle.bl_page.specs.declared.page.Page.{Page}
 use Rattle.bl_page.specs.Machine.{Name}
-use Rattle.bl_core.specs.Worlds.{World, MayGet, IsSure, IsGood}
+use Rattle.bl_core.specs.Worlds.{Stage, World, was_in, IsStage, MayGet, IsHeld, IsSure, IsGood}
 use Rattle.bl_proc_base.specs.declared.acts.Action.{Action}
 use Rattle.bl_proc_base.specs.declared.acts.Action.TheVariants as act
 use Rattle.bl_proc_base.specs.declared.descent.Descent.{Descent}
@@ -25,13 +25,18 @@ use Rattle.bl_proc.specs.declared.deleting.DeleteStage.TheVariants as delete
 use Rattle.bl_proc.specs.declared.posting.PostStage.{PostStage}
 use Rattle.bl_proc.specs.declared.posting.PostStage.TheVariants as post
 use Rattle.bl_proc.specs.declared.reclaiming.ReclaimStage.{ReclaimStage}
+use Rattle.bl_proc.specs.declared.lowering.LowerStage.{LowerStage}
+use Rattle.bl_proc.specs.declared.lowering.LowerStage.TheVariants as lower
+use Rattle.bl_proc_base.specs.declared.lowering.Lowering.{Lowering}
+use Rattle.bl_proc_base.specs.declared.lowering.Lowering.TheVariants as lowering
+use Rattle.bl_proc_invariant.specs.Lowering.{know_lowering}
 use Rattle.bl_proc.specs.declared.reclaiming.ReclaimStage.TheVariants as reclaim
 use Rattle.bl_proc_compress.specs.declared.compressing.Compression.{Compression}
 use Rattle.bl_proc_compress.specs.declared.compressing.Compression.TheVariants.{LatchingLeft, LatchedLeft, LatchingRight, LatchedRight, PuttingFirst, PuttingParent, PuttingLast, Retiring, OpeningRight, OpeningLeft, OpeningParent}
 use Rattle.bl_proc_compress.specs.declared.squeezing.CompressStage.{CompressStage}
 use Rattle.bl_proc_compress.specs.declared.squeezing.CompressStage.TheVariants as compress
 use Rattle.bl_proc.specs.declared.kinds.Proc.{Proc}
-use Rattle.bl_proc.specs.declared.kinds.Proc.TheVariants.{Find, Insert, Delete, Post, Part, Compress, Reclaim}
+use Rattle.bl_proc.specs.declared.kinds.Proc.TheVariants.{Find, Insert, Delete, Post, Part, Compress, Reclaim, Lower}
 use Rattle.bl_proc_base.specs.Descents.{descent_next}
 use Rattle.bl_proc_base.specs.Approaches.{approach_next}
 use Rattle.bl_proc_base.specs.Changes.{change_next}
@@ -47,10 +52,12 @@ use Rattle.bl_proc.specs.Deletes.{delete_next_in}
 use Rattle.bl_proc.specs.Posts.{post_next_in}
 use Rattle.bl_proc_compress.specs.Compresses.{compress_next_in}
 use Rattle.bl_proc.specs.Reclaims.{reclaim_next_in}
+use Rattle.bl_proc.specs.Lowers.{lower_next_in}
+use Rattle.bl_proc_base.specs.Lowerings.{lowering_next}
 use Rattle.bl_proc.specs.Processes.{next_of}
 use Rattle.bl_proc_invariant.specs.Compressing.{know_squeeze}
-use Rattle.bl_proc_invariant.specs.Tables.{Aim, know_descent, know_approach, know_change}
-use Rattle.bl_proc_invariant.specs.Knowing.{know_growth, know_find, know_part, know_insert, know_delete, know_post, know_compress, know_reclaim, know_of, Run, bare}
+use Rattle.bl_proc_invariant.specs.Tables.{Aim, holds_live, know_descent, know_approach, know_change}
+use Rattle.bl_proc_invariant.specs.Knowing.{know_growth, know_find, know_part, know_insert, know_delete, know_post, know_compress, know_reclaim, know_lower, know_of, Run, bare}
 
 -- page 0, or one that it may get
 abbrev pub IsGot : {P : Type 0} → World P → Name → Action → Type 0
@@ -159,6 +166,29 @@ module _ {P : Type 0} (w : World P) (p : Name) where
   reclaim_got page time reclaim.Releasing is = tt
   reclaim_got page time (reclaim.Over what) is = tt
 
+  -- a page that it holds may be got
+  held_may : (x : ℕ) → IsStage Stage.Busy (w.now.phase p) → IsHeld w p (holds_live x) → MayGet w p x
+  unfolding was_in
+  held_may x busy h = record { since = busy.0; runs = busy.1; was = ap was_in h.status; kept = λ time e. (let o = sym h.owner ∙ e in cc) }
+
+  lowering_gets : (got : ℕ → Page) (l : Lowering) → IsSure w p (know_lowering got l) → IsGot w p (lowering_next l)
+  lowering_gets got lowering.Looking is = inl refl
+  lowering_gets got lowering.LatchingAnchor is = tt
+  lowering_gets got lowering.LatchedAnchor is = inl refl
+  lowering_gets got (lowering.LatchingTop t) is = tt
+  lowering_gets got (lowering.LatchedTop t) is = inr (held_may t.top is.stage is.holds.1.0)
+  lowering_gets got (lowering.PuttingAnchor s) is = tt
+  lowering_gets got (lowering.PuttingDead s) is = tt
+  lowering_gets got (lowering.Retiring x) is = tt
+  lowering_gets got (lowering.OpeningTop x what) is = tt
+  lowering_gets got (lowering.OpeningAnchor what) is = tt
+
+  lower_gets : (got : ℕ → Page) (a : LowerStage) → IsSure w p (know_lower got a) → IsGot w p (lower_next_in a)
+  lower_gets got lower.New is = tt
+  lower_gets got (lower.Sinking l) is = lowering_gets got l is
+  lower_gets got (lower.Ending r) is = tt
+  lower_gets got (lower.Over r) is = tt
+
   of_got : (got : ℕ → Page) (child time : ℕ) (state : Proc) → IsSure w p (know_of got child time state) → IsGot w p (next_of state)
   of_got got child time (Find a) is = find_got a.key a.stage is
   of_got got child time (Insert a) is = insert_got a.key a.value got a.stage is
@@ -167,6 +197,7 @@ module _ {P : Type 0} (w : World P) (p : Name) where
   of_got got child time (Part a) is = part_got a.from a.stage is
   of_got got child time (Compress a) is = compress_got a.level a.key got a.stage is
   of_got got child time (Reclaim a) is = reclaim_got a.page time a.stage is
+  of_got got child time (Lower a) is = lower_gets got a.stage is
 
 pub got_next_is : (w : World Run) (p : Name) → IsGood bare w → IsGot w p (next_of (w.proc p).state)
 got_next_is w p g = of_got w p (w.proc p).got (w.proc p).child (w.proc p).time (w.proc p).state (g.sure p)

@@ -29,8 +29,8 @@ use Rattle.bl_proc_base.specs.declared.approaching.Approach.TheVariants.{Start}
 use Rattle.bl_proc.specs.declared.posting.PostStage.TheVariants.{Growing}
 use Rattle.bl_proc_base.specs.Growths.{growth_next, IsTop, IsAnchor, Raises}
 use Rattle.bl_proc_invariant.specs.Turns.{event_of, IsTold, Does, Turned}
-use Rattle.bl_proc_invariant.specs.Tables.{idle, know_approach}
-use Rattle.bl_proc_invariant.specs.Knowing.{ending, anchor_known, know_growth, post_got}
+use Rattle.bl_proc_invariant.specs.Tables.{idle, know_approach, anchor_known}
+use Rattle.bl_proc_invariant.specs.Knowing.{ending, know_growth, post_got}
 use Rattle.bl_proc_invariant.proofs.Acts.{of_held, not_gone, watched, latched, opened, taken}
 use Rattle.bl_proc_invariant.proofs.Approaching.{walks}
 use Rattle.bl_proc_invariant.proofs.Changing.{Aside, aside_held}

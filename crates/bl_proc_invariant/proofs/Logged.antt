@@ -27,17 +27,21 @@ use Rattle.bl_proc.specs.declared.posting.PostStage.TheVariants as post
 use Rattle.bl_proc_compress.specs.declared.compressing.Compression.TheVariants.{LatchingLeft}
 use Rattle.bl_proc_compress.specs.declared.squeezing.CompressStage.{CompressStage}
 use Rattle.bl_proc_compress.specs.declared.squeezing.CompressStage.TheVariants as compress
+use Rattle.bl_proc.specs.declared.lowering.LowerStage.{LowerStage}
+use Rattle.bl_proc.specs.declared.lowering.LowerStage.TheVariants as lower
+use Rattle.bl_proc_base.specs.declared.lowering.Lowering.TheVariants.{Looking}
 use Rattle.bl_proc.specs.declared.kinds.Proc.{Proc}
-use Rattle.bl_proc.specs.declared.kinds.Proc.TheVariants.{Find, Insert, Delete, Post, Part, Compress, Reclaim}
+use Rattle.bl_proc.specs.declared.kinds.Proc.TheVariants.{Find, Insert, Delete, Post, Part, Compress, Reclaim, Lower}
 use Rattle.bl_proc.specs.Processes.{next_of, Takes}
 use Rattle.bl_proc_invariant.specs.Turns.{event_of, IsTold, Turned}
-use Rattle.bl_proc_invariant.specs.Logs.{proc_log, insert_log, delete_log, post_log, compress_log}
-use Rattle.bl_proc_invariant.specs.Knowing.{Run, know_of, bare, know, know_insert, know_delete, know_post, know_compress, end_of_proc, run_next}
+use Rattle.bl_proc_invariant.specs.Logs.{proc_log, insert_log, delete_log, post_log, compress_log, lower_log}
+use Rattle.bl_proc_invariant.specs.Knowing.{Run, know_of, bare, know, know_insert, know_delete, know_post, know_compress, know_lower, end_of_proc, run_next}
 use Rattle.bl_proc_invariant.proofs.Plain.{plain}
 use Rattle.bl_proc_invariant.proofs.Logging.{post_on, post_stays}
 use Rattle.bl_proc_invariant.proofs.Doing.{compress_on, compress_stays}
+use Rattle.bl_proc_invariant.proofs.LoweringLogs.{lower_on, lower_stays}
 use Rattle.bl_proc_invariant.proofs.Putting.{insert_on, insert_stays, delete_on, delete_stays}
-use Rattle.bl_proc_unique.proofs.KindCases.{insert_case, delete_case, post_case, compress_case}
+use Rattle.bl_proc_unique.proofs.KindCases.{insert_case, delete_case, post_case, compress_case, lower_case}
 
 pub bare_good : (w : World Run) → IsGood know w → IsGood bare w
 bare_good w g = record {
@@ -153,6 +157,11 @@ early_delete key got (delete.Coming (way.Leaving x to)) e marks = tt
 early_delete key got (delete.Changing v (change.Putting x page)) e marks = absurd (let f = e in cc)
 early_delete key got old e marks = absurd (let f = e in cc)
 
+early_lower : (got : ℕ → Page) (a : LowerStage) → (know_lower got a).stage ≡ Stage.Early → (marks : Trail) → lower_log a marks
+early_lower got lower.New e marks = tt
+early_lower got (lower.Sinking Looking) e marks = absurd (let f = e in cc)
+early_lower got old e marks = absurd (let f = e in cc)
+
 early_state : (got : ℕ → Page) (child time : ℕ) (a : Proc) → (know_of got child time a).stage ≡ Stage.Early → (marks : Trail) → proc_log a marks
 early_state got child time (Find a) e marks = tt
 early_state got child time (Insert a) e marks = early_insert a.key a.value got a.stage e marks
@@ -161,6 +170,7 @@ early_state got child time (Post a) e marks = early_post a.level a.key got child
 early_state got child time (Part a) e marks = tt
 early_state got child time (Compress a) e marks = early_press a.level a.key got a.stage e marks
 early_state got child time (Reclaim a) e marks = tt
+early_state got child time (Lower a) e marks = early_lower got a.stage e marks
 
 pub early_log : (b : Run) → (know b).stage ≡ Stage.Early → (marks : Trail) → proc_log b.state marks
 early_log b e marks = early_state b.got b.child b.time b.state e marks
@@ -236,6 +246,10 @@ log_turn (Compress a) (Compress c) what marks m t did saw h =
 log_turn (Compress a) (Find c) what marks m t did saw h = tt
 log_turn (Compress a) (Part c) what marks m t did saw h = tt
 log_turn (Compress a) (Reclaim c) what marks m t did saw h = tt
+log_turn (Lower a) (Lower c) what marks m t did saw h = lower_on marks m (lower_case a.stage what c.stage t) did saw h
+log_turn (Lower a) (Find c) what marks m t did saw h = tt
+log_turn (Lower a) (Part c) what marks m t did saw h = tt
+log_turn (Lower a) (Reclaim c) what marks m t did saw h = tt
 log_turn old new what marks m t did saw h = absurd t
 
 log_stays : {what : Missed} (old : Proc) (marks : Trail) (m : Mark) → m.event.act ≡ Miss what → proc_log old marks → proc_log old (marks ++ m ∷ [])
@@ -245,6 +259,7 @@ log_stays (Delete a) marks m did h = delete_stays marks m (λ x l. (let e = sym 
 log_stays (Part a) marks m did h = tt
 log_stays (Compress a) marks m did h = compress_stays marks m a.level a.key did a.stage h
 log_stays (Reclaim a) marks m did h = tt
+log_stays (Lower a) marks m did h = lower_stays marks m did a.stage h
 log_stays (Post a) marks m did h = post_stays marks m a.level a.key a.least (ap writes_in did) (λ x o. (let e = sym did ∙ o in cc)) a.stage h
 
 -- the logs of all processes after a turn of p

@@ -1,17 +1,15 @@
 -- Every turn of a lowering keeps a world good.
-use Rattle.std.proofs.Common.{ℕ, ◌≡◌, ◌≢◌, ◌⊎◌, ◌<◌, ◌≤◌, ◌-◌, Option, Some, None, zero, suc, List, [], ◌∷◌, length, get_or, take, arith, ap, sym, ◌∙◌, refl, subst, inl, inr}
+use Rattle.std.proofs.Common.{ℕ, ◌≡◌, ◌≢◌, ◌-◌, Some, None, [], length, get_or, take, arith, ap, sym, ◌∙◌, refl, subst, inl, inr}
 use Rattle.std.proofs.lemmas.List.{get_or-take}
-use Rattle.std.proofs.lemmas.Bool.{cases_eq}
 use Rattle.bl_page.specs.declared.page.Page.{Page}
 use Rattle.bl_page.specs.declared.page.Page.TheVariants.{Anchor, Leaf, Inner, Dead}
 use Rattle.bl_page.specs.declared.machine.Missed.{Missed}
 use Rattle.bl_page.specs.Machine.{Name, Owner, State, Act}
-use Rattle.bl_page.specs.Machine.Owner.{Held}
 use Rattle.bl_page.specs.Machine.Act.{Get, Put, Latch, Retire, Miss}
 use Rattle.bl_page.specs.Pairs.{end_of}
 use Rattle.bl_claims.specs.Nodes.{unbounded}
 use Rattle.bl_core_tree.specs.Trees.{IsLive}
-use Rattle.bl_core_tree.specs.Trees.Status.{Fresh, Live, Uprooted, Gone, Anchored}
+use Rattle.bl_core_tree.specs.Trees.Status.{Fresh, Live, Uprooted, Gone}
 use Rattle.bl_claims.specs.Pages.{node_of, roots_of}
 use Rattle.bl_claims.specs.Trails.{Mark}
 use Rattle.bl_core.specs.Worlds.{Stage, Know, World, nodes, IsSure, IsBounded, IsGood, silent, put_mark}
@@ -29,14 +27,17 @@ use Rattle.bl_proc_base.specs.declared.lowering.Summit.{Summit}
 use Rattle.bl_proc_base.specs.declared.lowering.Sinking.{Sinking}
 use Rattle.bl_proc_base.specs.declared.lowering.Lowering.TheVariants as lowering
 use Rattle.bl_proc_base.specs.Onwards.{top_of}
-use Rattle.bl_proc_base.specs.Growths.{IsAnchor}
 use Rattle.bl_proc_base.specs.Lowerings.{lowering_next, IsSole, IsFallen, Sinks}
 use Rattle.bl_proc_base.proofs.Tops.{length_take}
 use Rattle.bl_proc_invariant.specs.Turns.{event_of, IsTold, Does, Turned}
 use Rattle.bl_proc_invariant.specs.Tables.{idle}
-use Rattle.bl_proc_invariant.specs.Knowing.{anchor_known}
-use Rattle.bl_proc_invariant.specs.Lowering.{got_top, IsToSink, know_lowering, lowering_got}
-use Rattle.bl_proc_unique.proofs.Lowerings.{LoweringCase}
+use Rattle.bl_proc_invariant.specs.Lowering.{got_top, know_lowering, lowering_got}
+use Rattle.bl_proc_unique.proofs.Lowerings.{LoweringCase, lowering_case}
+use Rattle.bl_proc_unique.proofs.KindCases.{LowerCase}
+use Rattle.bl_proc.specs.declared.lowering.LowerStage.{LowerStage}
+use Rattle.bl_proc.specs.Lowers.{lower_next_in}
+use Rattle.bl_proc_invariant.specs.Knowing.{know_lower, lower_got}
+use Rattle.bl_proc_invariant.proofs.Ends.{start_turn, end_turn}
 use Rattle.bl_proc_invariant.proofs.Acts.{of_held, not_gone, watched, latched, opened}
 use Rattle.bl_proc_invariant.proofs.Approaching.{walks}
 use Rattle.bl_proc_invariant.proofs.Growing.{anchor_levels, anchor_leftmost, holds_anchor, anchor_open_turn}
@@ -373,3 +374,10 @@ module _ {P : Type 0} (know : P → Know) (w : World P) (g : IsGood know w) (p :
   pub lowering_over_turn : {l : Lowering} {what : Seen} {end : Lowered} → LoweringCase l what (Over end) → (got : ℕ → Page) (s : State Page) → know (w.proc p) ≡ know_lowering got l → know b ≡ idle Stage.Busy → Does w.now p (event_of None (lowering_next l) what) s → Turned know w p (event_of None (lowering_next l) what) s b
   lowering_over_turn (LoweringCase.SawOne c end t) got s before then does = look_turn s before then does
   lowering_over_turn (LoweringCase.OpenedAnchor end last t) got s before then does = open_turn got end s before then does
+
+  -- every turn of its process
+  pub lower_turn : {a a' : LowerStage} {what : Seen} → LowerCase a what a' → (got : ℕ → Page) (s : State Page) → know (w.proc p) ≡ know_lower got a → know b ≡ know_lower (lower_got got a what) a' → IsTold w.now w.size (lower_next_in a) what → Does w.now p (event_of None (lower_next_in a) what) s → Turned know w p (event_of None (lower_next_in a) what) s b
+  lower_turn (LowerCase.Began l t) got s before then told does = start_turn know w g p b (Unit {0}) s before (subst (λ z. know b ≡ know_lowering got z) t then) does
+  lower_turn (LowerCase.Sank l what m t) got s before then told does = lowering_turn (lowering_case l what _ t) got s before then told does
+  lower_turn (LowerCase.Finished l what r t) got s before then told does = lowering_over_turn (lowering_case l what _ t) got s before then does
+  lower_turn (LowerCase.Ended r last t) got s before then told does = end_turn know w g p b None s before then does

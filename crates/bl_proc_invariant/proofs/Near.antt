@@ -1,6 +1,9 @@
 -- What a process does next is possible: the pages that it gets are not released, and those that it puts, opens or retires are
 -- its own.
-use Rattle.std.proofs.Common.{ℕ, ◌≡◌, ◌≢◌, None, Some, ap, sym, ◌∙◌}
+use Rattle.std.proofs.Common.{ℕ, ◌≡◌, ◌≢◌, ◌-◌, None, Some, ap, sym, ◌∙◌, subst, arith}
+use Rattle.bl_core_tree.specs.Trees.{is_live, IsLive}
+use Rattle.bl_claims.specs.Pages.{roots_of}
+use Rattle.bl_proc_base.specs.Onwards.{top_of}
 use Rattle.std.proofs.lemmas.Bool.{false≢true}
 use Rattle.bl_page.specs.declared.page.Page.{Page}
 use Rattle.bl_page.specs.Machine.{Name}
@@ -28,13 +31,18 @@ use Rattle.bl_proc.specs.declared.deleting.DeleteStage.TheVariants as delete
 use Rattle.bl_proc.specs.declared.posting.PostStage.{PostStage}
 use Rattle.bl_proc.specs.declared.posting.PostStage.TheVariants as post
 use Rattle.bl_proc.specs.declared.reclaiming.ReclaimStage.{ReclaimStage}
+use Rattle.bl_proc.specs.declared.lowering.LowerStage.{LowerStage}
+use Rattle.bl_proc.specs.declared.lowering.LowerStage.TheVariants as lower
+use Rattle.bl_proc_base.specs.declared.lowering.Lowering.{Lowering}
+use Rattle.bl_proc_base.specs.declared.lowering.Lowering.TheVariants as lowering
+use Rattle.bl_proc_invariant.specs.Lowering.{know_lowering}
 use Rattle.bl_proc.specs.declared.reclaiming.ReclaimStage.TheVariants as reclaim
 use Rattle.bl_proc_compress.specs.declared.compressing.Compression.{Compression}
 use Rattle.bl_proc_compress.specs.declared.compressing.Compression.TheVariants.{LatchingLeft, LatchedLeft, LatchingRight, LatchedRight, PuttingFirst, PuttingParent, PuttingLast, Retiring, OpeningRight, OpeningLeft, OpeningParent}
 use Rattle.bl_proc_compress.specs.declared.squeezing.CompressStage.{CompressStage}
 use Rattle.bl_proc_compress.specs.declared.squeezing.CompressStage.TheVariants as compress
 use Rattle.bl_proc.specs.declared.kinds.Proc.{Proc}
-use Rattle.bl_proc.specs.declared.kinds.Proc.TheVariants.{Find, Insert, Delete, Post, Part, Compress, Reclaim}
+use Rattle.bl_proc.specs.declared.kinds.Proc.TheVariants.{Find, Insert, Delete, Post, Part, Compress, Reclaim, Lower}
 use Rattle.bl_proc_base.specs.Approaches.{approach_next}
 use Rattle.bl_proc_base.specs.Changes.{change_next}
 use Rattle.bl_proc_compress.specs.Compressions.{put_of, other, compression_next}
@@ -49,10 +57,12 @@ use Rattle.bl_proc.specs.Deletes.{delete_next_in}
 use Rattle.bl_proc.specs.Posts.{post_next_in}
 use Rattle.bl_proc_compress.specs.Compresses.{compress_next_in}
 use Rattle.bl_proc.specs.Reclaims.{reclaim_next_in}
+use Rattle.bl_proc.specs.Lowers.{lower_next_in}
+use Rattle.bl_proc_base.specs.Lowerings.{lowering_next}
 use Rattle.bl_proc.specs.Processes.{next_of}
 use Rattle.bl_proc_invariant.specs.Compressing.{know_squeeze}
 use Rattle.bl_proc_invariant.specs.Tables.{Aim, know_approach, know_change}
-use Rattle.bl_proc_invariant.specs.Knowing.{know_growth, know_find, know_part, know_insert, know_delete, know_post, know_compress, know_reclaim, know_of, Run, bare, know}
+use Rattle.bl_proc_invariant.specs.Knowing.{know_growth, know_find, know_part, know_insert, know_delete, know_post, know_compress, know_reclaim, know_lower, know_of, Run, bare, know}
 use Rattle.bl_proc_invariant.proofs.Descending.{descent_there}
 use Rattle.bl_proc_invariant.proofs.Logged.{bare_good}
 
@@ -168,6 +178,31 @@ module _ {P : Type 0} (know : P → Know) (w : World P) (g : IsGood know w) (p :
   reclaim_near page time reclaim.Releasing is = tt
   reclaim_near page time (reclaim.Over what) is = tt
 
+  -- the leftmost page of the top level
+  top_not_free : (x : ℕ) → x ≡ top_of (roots_of (w.now.contents 0)) → w.status x ≢ Free
+  unfolding is_live
+  top_not_free x e free =
+      let o = g.tree.leftmost ((roots_of (w.now.contents 0)).levels - 1) (let some = g.tree.some_level in omega arith) in
+      false≢true (subst IsLive (ap w.status (sym e) ∙ free) o.alive)
+
+  lowering_near : (got : ℕ → Page) (l : Lowering) → IsSure w p (know_lowering got l) → IsNear w p (lowering_next l)
+  lowering_near got lowering.Looking is = anchor_not_released know w g
+  lowering_near got lowering.LatchingAnchor is = anchor_not_free
+  lowering_near got lowering.LatchedAnchor is = anchor_not_released know w g
+  lowering_near got (lowering.LatchingTop t) is = top_not_free t.top (is.sound ∙ ap (λ z. top_of (roots_of z)) (sym is.holds.0.page))
+  lowering_near got (lowering.LatchedTop t) is = λ e. (let o = sym is.holds.1.0.owner ∙ e in cc)
+  lowering_near got (lowering.PuttingAnchor s) is = is.holds.0.owner
+  lowering_near got (lowering.PuttingDead s) is = is.holds.1.0.owner
+  lowering_near got (lowering.Retiring x) is = is.holds.1.0.owner
+  lowering_near got (lowering.OpeningTop x what) is = is.holds.1.0.owner
+  lowering_near got (lowering.OpeningAnchor what) is = is.holds.0.owner
+
+  lower_near : (got : ℕ → Page) (a : LowerStage) → IsSure w p (know_lower got a) → IsNear w p (lower_next_in a)
+  lower_near got lower.New is = tt
+  lower_near got (lower.Sinking l) is = lowering_near got l is
+  lower_near got (lower.Ending r) is = tt
+  lower_near got (lower.Over r) is = tt
+
   of_near : (got : ℕ → Page) (child time : ℕ) (state : Proc) → IsSure w p (know_of got child time state) → IsNear w p (next_of state)
   of_near got child time (Find a) is = find_near a.key a.stage is
   of_near got child time (Insert a) is = insert_near a.key a.value got a.stage is
@@ -176,6 +211,7 @@ module _ {P : Type 0} (know : P → Know) (w : World P) (g : IsGood know w) (p :
   of_near got child time (Part a) is = part_near a.from a.stage is
   of_near got child time (Compress a) is = compress_near a.level a.key got a.stage is
   of_near got child time (Reclaim a) is = reclaim_near a.page time a.stage is
+  of_near got child time (Lower a) is = lower_near got a.stage is
 
 pub bare_near : (w : World Run) (p : Name) → IsGood bare w → IsNear w p (next_of (w.proc p).state)
 bare_near w p g = of_near bare w g p (w.proc p).got (w.proc p).child (w.proc p).time (w.proc p).state (g.sure p)

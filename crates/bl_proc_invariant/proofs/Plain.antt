@@ -20,6 +20,11 @@ use Rattle.bl_proc.specs.declared.deleting.DeleteStage.TheVariants as delete
 use Rattle.bl_proc.specs.declared.posting.PostStage.{PostStage}
 use Rattle.bl_proc.specs.declared.posting.PostStage.TheVariants as post
 use Rattle.bl_proc.specs.declared.reclaiming.ReclaimStage.{ReclaimStage}
+use Rattle.bl_proc.specs.declared.lowering.LowerStage.{LowerStage}
+use Rattle.bl_proc.specs.declared.lowering.LowerStage.TheVariants as lower
+use Rattle.bl_proc_base.specs.declared.lowering.Lowering.{Lowering}
+use Rattle.bl_proc_base.specs.declared.lowering.Lowering.TheVariants as lowering
+use Rattle.bl_proc_invariant.specs.Lowering.{know_lowering}
 use Rattle.bl_proc.specs.declared.reclaiming.ReclaimStage.TheVariants as reclaim
 use Rattle.bl_proc_compress.specs.declared.compressing.Compression.{Compression}
 use Rattle.bl_proc_compress.specs.declared.compressing.Compression.TheVariants.{LatchingLeft, LatchedLeft, LatchingRight, LatchedRight, PuttingFirst, PuttingParent, PuttingLast, Retiring, OpeningRight, OpeningLeft, OpeningParent}
@@ -27,10 +32,10 @@ use Rattle.bl_proc_compress.specs.declared.squeezing.CompressStage.{CompressStag
 use Rattle.bl_proc_compress.specs.declared.squeezing.CompressStage.TheVariants as compress
 use Rattle.bl_proc_compress.specs.declared.squeezing.Compress.{Compress as Press}
 use Rattle.bl_proc.specs.declared.kinds.Proc.{Proc}
-use Rattle.bl_proc.specs.declared.kinds.Proc.TheVariants.{Find, Insert, Delete, Post, Part, Compress, Reclaim}
+use Rattle.bl_proc.specs.declared.kinds.Proc.TheVariants.{Find, Insert, Delete, Post, Part, Compress, Reclaim, Lower}
 use Rattle.bl_proc_invariant.specs.Compressing.{know_squeeze}
 use Rattle.bl_proc_invariant.specs.Tables.{Aim, know_approach, know_change}
-use Rattle.bl_proc_invariant.specs.Knowing.{know_growth, know_find, know_part, know_insert, know_delete, know_post, know_compress, know_reclaim, know_of, Run, bare}
+use Rattle.bl_proc_invariant.specs.Knowing.{know_growth, know_find, know_part, know_insert, know_delete, know_post, know_compress, know_reclaim, know_lower, know_of, Run, bare}
 
 pub record HasNoLog (k : Know) : Type 1 where
   pub log : (marks : Trail) → k.log marks
@@ -133,6 +138,24 @@ reclaim_plain time (reclaim.Looking r) = record { middle = refl; log = λ marks.
 reclaim_plain time reclaim.Releasing = record { middle = refl; log = λ marks. tt }
 reclaim_plain time (reclaim.Over what) = record { middle = refl; log = λ marks. tt }
 
+lowering_plain : (got : ℕ → Page) (l : Lowering) → IsPlain (know_lowering got l)
+lowering_plain got lowering.Looking = record { middle = refl; log = λ marks. tt }
+lowering_plain got lowering.LatchingAnchor = record { middle = refl; log = λ marks. tt }
+lowering_plain got lowering.LatchedAnchor = record { middle = refl; log = λ marks. tt }
+lowering_plain got (lowering.LatchingTop t) = record { middle = refl; log = λ marks. tt }
+lowering_plain got (lowering.LatchedTop t) = record { middle = refl; log = λ marks. tt }
+lowering_plain got (lowering.PuttingAnchor s) = record { middle = refl; log = λ marks. tt }
+lowering_plain got (lowering.PuttingDead s) = record { middle = refl; log = λ marks. tt }
+lowering_plain got (lowering.Retiring x) = record { middle = refl; log = λ marks. tt }
+lowering_plain got (lowering.OpeningTop x what) = record { middle = refl; log = λ marks. tt }
+lowering_plain got (lowering.OpeningAnchor what) = record { middle = refl; log = λ marks. tt }
+
+lower_plain : (got : ℕ → Page) (a : LowerStage) → IsPlain (know_lower got a)
+lower_plain got lower.New = record { middle = refl; log = λ marks. tt }
+lower_plain got (lower.Sinking l) = lowering_plain got l
+lower_plain got (lower.Ending r) = record { middle = refl; log = λ marks. tt }
+lower_plain got (lower.Over r) = record { middle = refl; log = λ marks. tt }
+
 of_plain : (got : ℕ → Page) (child time : ℕ) (state : Proc) → HasNoLog (know_of got child time state)
 of_plain got child time (Find p) = record { log = (find_plain p.key p.stage).log }
 of_plain got child time (Insert p) = record { log = (insert_plain p.key p.value got p.stage).log }
@@ -141,6 +164,7 @@ of_plain got child time (Post p) = record { log = (post_plain p.level p.key got 
 of_plain got child time (Part p) = record { log = (part_plain p.from p.stage).log }
 of_plain got child time (Compress p) = compress_plain p.level p.key got p.stage
 of_plain got child time (Reclaim p) = record { log = (reclaim_plain time p.stage).log }
+of_plain got child time (Lower p) = record { log = (lower_plain got p.stage).log }
 
 pub plain : (r : Run) → HasNoLog (bare r)
 plain r = of_plain r.got r.child r.time r.state
@@ -154,3 +178,4 @@ of_middle got child time (Post p) = inl (post_plain p.level p.key got child p.st
 of_middle got child time (Part p) = inl (part_plain p.from p.stage).middle
 of_middle got child time (Compress p) = inr (p, refl)
 of_middle got child time (Reclaim p) = inl (reclaim_plain time p.stage).middle
+of_middle got child time (Lower p) = inl (lower_plain got p.stage).middle

@@ -10,7 +10,7 @@ use Rattle.bl_core.specs.Worlds.{World, IsHeld, IsRelied, IsGood, silent}
 use Rattle.bl_core.proofs.Frames.{Each-map}
 use Rattle.bl_proc_base.specs.declared.acts.Seen.{Seen}
 use Rattle.bl_proc.specs.declared.kinds.Proc.{Proc}
-use Rattle.bl_proc.specs.declared.kinds.Proc.TheVariants.{Find, Insert, Delete, Post, Part, Compress, Reclaim}
+use Rattle.bl_proc.specs.declared.kinds.Proc.TheVariants.{Find, Insert, Delete, Post, Part, Compress, Reclaim, Lower}
 use Rattle.bl_proc.specs.Processes.{next_of, Takes}
 use Rattle.bl_proc_invariant.specs.Turns.{event_of, IsTold, IsShown, Does, Turned}
 use Rattle.bl_proc_invariant.specs.Knowing.{Run, know_of, bare, know, know_find, know_part, know_insert, know_delete, know_post, know_compress, compress_got, insert_got, delete_got, post_got, post_child, end_of_proc, got_next, child_next, time_next, run_next}
@@ -24,7 +24,8 @@ use Rattle.bl_proc_invariant.proofs.Deleting.{delete_turn}
 use Rattle.bl_proc_invariant.proofs.Posting.{post_turn}
 use Rattle.bl_proc_invariant.proofs.Pressing.{compress_turn}
 use Rattle.bl_proc_invariant.proofs.Reclaiming.{reclaim_turn}
-use Rattle.bl_proc_unique.proofs.KindCases.{insert_case, delete_case, post_case, compress_case, reclaim_case}
+use Rattle.bl_proc_invariant.proofs.Lowering.{lower_turn}
+use Rattle.bl_proc_unique.proofs.KindCases.{insert_case, delete_case, post_case, compress_case, reclaim_case, lower_case}
 
 state_turn : (w : World Run) (p : Name) (got : ℕ → Page) (child time : ℕ) (old new : Proc) (b : Run) (what : Seen) (s : State Page) → IsGood bare w → bare (w.proc p) ≡ know_of got child time old → bare b ≡ know_of (got_next got old what) (child_next child old) (time_next w.now time old) new → Takes old what new → IsTold w.now w.size (next_of old) what → IsShown w.now p time (next_of old) what → Does w.now p (event_of (end_of_proc old) (next_of old) what) s → Turned bare w p (event_of (end_of_proc old) (next_of old) what) s b
 state_turn w p got child time (Find a) (Find c) b what s g before then t told shown does =
@@ -41,6 +42,8 @@ state_turn w p got child time (Reclaim a) (Reclaim c) b what s g before then t t
     reclaim_turn bare w g p b a.page time (reclaim_case a.stage what c.stage t.1) s before then shown does
 state_turn w p got child time (Compress a) (Compress c) b what s g before then t told shown does =
     compress_turn bare w g p b a.level a.key a.least a.most (compress_case a.level a.key a.stage what c.stage t.2) got s before (subst (λ l. bare b ≡ know_compress l a.key (compress_got got a.stage what) c.stage) t.0 (subst (λ k. bare b ≡ know_compress c.level k (compress_got got a.stage what) c.stage) t.1 then)) told does
+state_turn w p got child time (Lower a) (Lower c) b what s g before then t told shown does =
+    lower_turn bare w g p b (lower_case a.stage what c.stage t) got s before then told does
 state_turn w p got child time old new b what s g before then t told shown does = absurd t
 
 -- Process p, which is a, was told this of its next action, truly, and goes to that state: from a good world this leads to a

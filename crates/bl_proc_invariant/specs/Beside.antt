@@ -16,3 +16,4 @@ MeansBeside (proc.Post p) reply hint marks = Unit {0}
 MeansBeside (proc.Part p) reply hint marks = hint ≡ None
 MeansBeside (proc.Compress p) reply hint marks = Unit {0}
 MeansBeside (proc.Reclaim p) reply hint marks = Unit {0}
+MeansBeside (proc.Lower p) reply hint marks = Unit {0}

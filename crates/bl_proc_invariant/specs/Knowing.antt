@@ -8,9 +8,9 @@ use Rattle.bl_page.specs.declared.page.Page.TheVariants.{Anchor, Inner}
 use Rattle.bl_page.specs.Machine.{Owner, State}
 use Rattle.bl_page.specs.Machine.Owner.{Released, Held, Retired}
 use Rattle.bl_claims.specs.Nodes.{unbounded}
-use Rattle.bl_core_tree.specs.Trees.Status.{Fresh, Anchored}
+use Rattle.bl_core_tree.specs.Trees.Status.{Fresh}
 use Rattle.bl_claims.specs.Trails.{Said}
-use Rattle.bl_core.specs.Worlds.{Hold, Passed, Stage, Know}
+use Rattle.bl_core.specs.Worlds.{Passed, Stage, Know}
 use Rattle.bl_proc_base.specs.declared.acts.Seen.{Seen}
 use Rattle.bl_proc_base.specs.declared.acts.Seen.TheVariants as seen
 use Rattle.bl_proc.specs.declared.searching.FindStage.TheVariants as find
@@ -36,6 +36,8 @@ use Rattle.bl_proc.specs.declared.reclaiming.ReclaimStage.{ReclaimStage}
 use Rattle.bl_proc.specs.declared.reclaiming.ReclaimStage.TheVariants as reclaim
 use Rattle.bl_proc_compress.specs.declared.squeezing.CompressStage.{CompressStage}
 use Rattle.bl_proc_compress.specs.declared.squeezing.CompressStage.TheVariants as compress
+use Rattle.bl_proc.specs.declared.lowering.LowerStage.{LowerStage}
+use Rattle.bl_proc.specs.declared.lowering.LowerStage.TheVariants as lower
 use Rattle.bl_proc.specs.declared.kinds.Proc.{Proc}
 use Rattle.bl_proc.specs.declared.kinds.Proc.TheVariants as proc
 use Rattle.bl_proc.specs.Inserts.{insert_reply}
@@ -43,7 +45,8 @@ use Rattle.bl_proc.specs.Deletes.{delete_reply}
 use Rattle.bl_proc_base.specs.Growths.{Raises, IsAnchor}
 use Rattle.bl_proc_invariant.specs.Logs.{proc_log}
 use Rattle.bl_proc_invariant.specs.Compressing.{know_squeeze, compression_got}
-use Rattle.bl_proc_invariant.specs.Tables.{idle, holds_live, holds_known, goes_to, know_descent, know_approach, Aim, IsDue, know_change}
+use Rattle.bl_proc_invariant.specs.Lowering.{know_lowering, lowering_got}
+use Rattle.bl_proc_invariant.specs.Tables.{idle, holds_live, holds_known, anchor_known, goes_to, know_descent, know_approach, Aim, IsDue, know_change}
 
 -- it is to begin; it is to end, or has ended, with what it said
 abbrev pub early : ℕ → Know
@@ -127,9 +130,6 @@ know_delete key got (delete.Over r) = late (deletes key r)
 
 -- Growths: page 0 is held, and as the process got it
 
-abbrev pub anchor_known : Option Page → Hold
-anchor_known c = record { at = 0; status = Anchored; sep = None; page = c }
-
 -- these leftmost pages, of a tree of that many levels that may have one more
 pub record MayRise (level : ℕ) (c : Page) (leftmost : List ℕ) : Type 0 where
   pub anchor : IsAnchor leftmost c
@@ -190,6 +190,14 @@ know_reclaim time (reclaim.Looking r) = looks (round time r)
 know_reclaim time reclaim.Releasing = looks (all time)
 know_reclaim time (reclaim.Over what) = idle Stage.Early
 
+-- Lowerings: they answer no operation of the map.
+
+abbrev pub know_lower : (ℕ → Page) → LowerStage → Know
+know_lower got lower.New = idle Stage.Early
+know_lower got (lower.Sinking l) = know_lowering got l
+know_lower got (lower.Ending r) = ending None
+know_lower got (lower.Over r) = late None
+
 -- Any process: its state, what it got of the pages that it holds, the child that it is to list, and since when the page that
 -- it is to release is retired.
 pub record Run : Type 0 where
@@ -206,6 +214,7 @@ know_of got child time (proc.Post p) = know_post p.level p.key got child p.stage
 know_of got child time (proc.Part p) = know_part p.from p.stage
 know_of got child time (proc.Compress p) = know_compress p.level p.key got p.stage
 know_of got child time (proc.Reclaim p) = know_reclaim time p.stage
+know_of got child time (proc.Lower p) = know_lower got p.stage
 
 -- by its state alone
 abbrev pub bare : Run → Know
@@ -254,6 +263,7 @@ end_of_proc (proc.Post p) = None
 end_of_proc (proc.Part p) = part_end p.stage
 end_of_proc (proc.Compress p) = None
 end_of_proc (proc.Reclaim p) = None
+end_of_proc (proc.Lower p) = None
 
 -- what a process has got of the pages that it holds, after it was told this
 abbrev pub insert_got : (ℕ → Page) → InsertStage → Seen → ℕ → Page
@@ -273,6 +283,10 @@ abbrev pub compress_got : (ℕ → Page) → CompressStage → Seen → ℕ → 
 compress_got got (compress.Compressing c) what = compression_got got c what
 compress_got got stage what = got
 
+abbrev pub lower_got : (ℕ → Page) → LowerStage → Seen → ℕ → Page
+lower_got got (lower.Sinking l) what = lowering_got got l what
+lower_got got stage what = got
+
 abbrev pub post_child : ℕ → PostStage → ℕ
 post_child child (post.Walking w) = w.child
 post_child child stage = child
@@ -285,6 +299,7 @@ got_next got (proc.Post p) what = post_got got p.stage what
 got_next got (proc.Part p) what = got
 got_next got (proc.Compress p) what = compress_got got p.stage what
 got_next got (proc.Reclaim p) what = got
+got_next got (proc.Lower p) what = lower_got got p.stage what
 
 abbrev pub child_next : ℕ → Proc → ℕ
 child_next child (proc.Find p) = child
@@ -294,6 +309,7 @@ child_next child (proc.Post p) = post_child child p.stage
 child_next child (proc.Part p) = child
 child_next child (proc.Compress p) = child
 child_next child (proc.Reclaim p) = child
+child_next child (proc.Lower p) = child
 
 -- since when the page is retired, if it is, at which a release looks
 abbrev pub retired_since : Owner → ℕ → ℕ
@@ -316,6 +332,7 @@ time_next now time (proc.Post p) = time
 time_next now time (proc.Part p) = time
 time_next now time (proc.Compress p) = time
 time_next now time (proc.Reclaim p) = reclaim_time now time p.page p.stage
+time_next now time (proc.Lower p) = time
 
 -- the process after it was told this of these pages, in that state
 abbrev pub run_next : State Page → Run → Seen → Proc → Run

@@ -43,6 +43,10 @@ use Rattle.bl_proc.specs.declared.deleting.DeleteStage.{DeleteStage}
 use Rattle.bl_proc.specs.declared.deleting.DeleteStage.TheVariants as delete
 use Rattle.bl_proc_base.specs.Thin.{thin_low}
 use Rattle.bl_proc_meanings.specs.Hinted.{PutSince, HasParted}
+use Rattle.bl_proc_meanings.specs.Lowered.{MeansLowered}
+use Rattle.bl_proc_invariant.specs.LoweringLog.{lowering_log}
+use Rattle.bl_proc.specs.declared.lowering.LowerStage.{LowerStage}
+use Rattle.bl_proc.specs.declared.lowering.LowerStage.TheVariants as lower
 use Rattle.bl_proc.specs.declared.kinds.Proc.{Proc}
 use Rattle.bl_proc.specs.declared.kinds.Proc.TheVariants as proc
 
@@ -230,6 +234,12 @@ compress_log level key (compress.Staying x) marks = MeansAlone level key marks
 compress_log level key (compress.Ending r) marks = pressed_log level key r marks
 compress_log level key (compress.Over r) marks = pressed_log level key r marks
 
+abbrev pub lower_log : LowerStage → Trail → Type 0
+lower_log lower.New marks = Unit {0}
+lower_log (lower.Sinking l) marks = lowering_log l marks
+lower_log (lower.Ending r) marks = MeansLowered r marks
+lower_log (lower.Over r) marks = MeansLowered r marks
+
 abbrev pub proc_log : Proc → Trail → Type 0
 proc_log (proc.Find p) marks = Unit {0}
 proc_log (proc.Insert p) marks = insert_log p.stage marks
@@ -238,3 +248,4 @@ proc_log (proc.Post p) marks = post_log p.level p.key p.stage marks
 proc_log (proc.Part p) marks = Unit {0}
 proc_log (proc.Compress p) marks = compress_log p.level p.key p.stage marks
 proc_log (proc.Reclaim p) marks = Unit {0}
+proc_log (proc.Lower p) marks = lower_log p.stage marks

@@ -13,8 +13,7 @@ use Rattle.bl_proc_base.specs.declared.lowering.Lowering.TheVariants.{Looking, L
 use Rattle.bl_proc_base.specs.Onwards.{top_of}
 use Rattle.bl_proc_base.specs.Growths.{IsAnchor}
 use Rattle.bl_proc_base.specs.Lowerings.{IsSole, IsFallen, Sinks}
-use Rattle.bl_proc_invariant.specs.Tables.{idle, holds_live, holds_known}
-use Rattle.bl_proc_invariant.specs.Knowing.{anchor_known}
+use Rattle.bl_proc_invariant.specs.Tables.{idle, holds_live, holds_known, anchor_known}
 
 -- the anchor and the top page, as they were got
 abbrev pub got_top : Page → Page → ℕ → Page

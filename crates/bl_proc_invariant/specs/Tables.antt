@@ -2,7 +2,7 @@
 use Rattle.std.specs.Prelude.{◌≡◌, ◌≢◌, ℕ, ◌<◌, Option, Some, None, List, [], ◌∷◌}
 use Rattle.bl_page.specs.declared.page.Page.{Page}
 use Rattle.bl_claims.specs.Nodes.{Covers, unbounded}
-use Rattle.bl_core_tree.specs.Trees.Status.{Fresh, Live}
+use Rattle.bl_core_tree.specs.Trees.Status.{Fresh, Live, Anchored}
 use Rattle.bl_core_tree.specs.Moves.{IsRow, IsCut, MayList}
 use Rattle.bl_claims.specs.Pages.{node_of}
 use Rattle.bl_claims.specs.Trails.{Said}
@@ -29,6 +29,10 @@ holds_live x = record { at = x; status = Live; sep = None; page = None }
 
 abbrev pub holds_known : ℕ → Page → Hold
 holds_known x c = record { at = x; status = Live; sep = None; page = Some c }
+
+-- page 0, of which it may know what it got
+abbrev pub anchor_known : Option Page → Hold
+anchor_known c = record { at = 0; status = Anchored; sep = None; page = c }
 
 -- it may go to the page, of a level within these bounds
 abbrev pub goes_to : ℕ → ℕ → ℕ → Goes

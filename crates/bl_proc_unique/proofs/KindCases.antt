@@ -25,6 +25,10 @@ use Rattle.bl_proc_base.specs.declared.changing.Changed.TheVariants as changed
 use Rattle.bl_proc_base.specs.declared.growing.Growth.{Growth}
 use Rattle.bl_proc_base.specs.declared.growing.Growth.TheVariants as growth
 use Rattle.bl_proc_base.specs.declared.growing.Grew.TheVariants as grew
+use Rattle.bl_proc_base.specs.declared.lowering.Lowered.{Lowered}
+use Rattle.bl_proc_base.specs.declared.lowering.Lowering.{Lowering}
+use Rattle.bl_proc_base.specs.declared.lowering.Lowering.TheVariants.{Looking}
+use Rattle.bl_proc_base.specs.declared.lowering.Sank.TheVariants as sank
 use Rattle.bl_proc_compress.specs.declared.compressing.Family.{Family}
 use Rattle.bl_proc_compress.specs.declared.compressing.Fate.{Fate}
 use Rattle.bl_proc_compress.specs.declared.compressing.Compression.{Compression}
@@ -53,6 +57,8 @@ use Rattle.bl_proc.specs.declared.posting.PostReply.TheVariants as listed
 use Rattle.bl_proc.specs.declared.reclaiming.Round.{Round}
 use Rattle.bl_proc.specs.declared.reclaiming.ReclaimStage.{ReclaimStage}
 use Rattle.bl_proc.specs.declared.reclaiming.ReclaimStage.TheVariants as reclaim
+use Rattle.bl_proc.specs.declared.lowering.LowerStage.{LowerStage}
+use Rattle.bl_proc.specs.declared.lowering.LowerStage.TheVariants as lower
 use Rattle.bl_proc.specs.declared.searching.FindStage.{FindStage}
 use Rattle.bl_proc.specs.declared.searching.FindStage.TheVariants as find
 use Rattle.bl_proc.specs.declared.parts.PartRows.{PartRows}
@@ -63,12 +69,14 @@ use Rattle.bl_proc_base.specs.Descents.{Descends}
 use Rattle.bl_proc_base.specs.Approaches.{Approaches, Comes}
 use Rattle.bl_proc_base.specs.Changes.{EntersPair, DropsPair, Changes}
 use Rattle.bl_proc_base.specs.Growths.{Grows}
+use Rattle.bl_proc_base.specs.Lowerings.{Lowers}
 use Rattle.bl_proc.specs.Searches.{FindGoes}
 use Rattle.bl_proc.specs.Parts.{IsPartOf, way_by, PartGoes}
 use Rattle.bl_proc.specs.Inserts.{insert_reply, InsertArrives, InsertGoes}
 use Rattle.bl_proc.specs.Deletes.{thin_after, delete_reply, DeleteArrives, DeleteGoes}
 use Rattle.bl_proc.specs.Posts.{post_reply, IsLost, PostLacks, PostArrives, PostComes, PostGoes}
 use Rattle.bl_proc.specs.Reclaims.{GoesPast, ReclaimGoes}
+use Rattle.bl_proc.specs.Lowers.{LowerGoes}
 use Rattle.bl_proc_unique.proofs.WayCases.{ApproachCase, approach_case}
 use Rattle.bl_proc_unique.proofs.WayCases.ApproachCase.{Arrived}
 
@@ -279,3 +287,17 @@ reclaim_case (reclaim.Looking r) (seen.Blocks true) (reclaim.Over what) t = Bloc
 reclaim_case reclaim.Releasing seen.Done (reclaim.Over what) t = Done what t
 reclaim_case reclaim.Releasing seen.Missed (reclaim.Over what) t = Missed what t
 reclaim_case a what b t = absurd t
+
+-- It looks at the anchor first, and ends where the lowering is over.
+pub data LowerCase : LowerStage → Seen → LowerStage → Type 0 where
+  Began : (l : Lowering) → l ≡ Looking → LowerCase lower.New seen.Done (lower.Sinking l)
+  Sank : (l : Lowering) (what : Seen) (m : Lowering) → Lowers l what (sank.On m) → LowerCase (lower.Sinking l) what (lower.Sinking m)
+  Finished : (l : Lowering) (what : Seen) (r : Lowered) → Lowers l what (sank.Over r) → LowerCase (lower.Sinking l) what (lower.Ending r)
+  Ended : (r last : Lowered) → last ≡ r → LowerCase (lower.Ending r) seen.Done (lower.Over last)
+
+pub lower_case : (a : LowerStage) (what : Seen) (b : LowerStage) → LowerGoes a what b → LowerCase a what b
+lower_case lower.New seen.Done (lower.Sinking l) t = Began l t
+lower_case (lower.Sinking l) what (lower.Sinking m) t = Sank l what m t
+lower_case (lower.Sinking l) what (lower.Ending r) t = Finished l what r t
+lower_case (lower.Ending r) seen.Done (lower.Over last) t = Ended r last t
+lower_case a what b t = absurd t

@@ -11,6 +11,7 @@ pub mod Ways
 pub mod Changes
 pub mod Growths
 pub mod Lowerings
+pub mod Lowers
 pub mod Parts
 pub mod Leaves
 pub mod Insertions

@@ -1,5 +1,5 @@
 -- A lowering goes on, and in one way.
-use Rattle.std.proofs.Common.{ℕ, ◌≡◌, ◌≢◌, ◌⊎◌, ◌-◌, ◌<◌, ◌≤◌, List, length, take, get_or, refl, sym, ap, ◌∙◌, inl, inr, arith}
+use Rattle.std.proofs.Common.{ℕ, ◌≡◌, ◌≢◌, ◌⊎◌, ◌-◌, ◌<◌, ◌≤◌, length, take, refl, sym, ap, ◌∙◌, inl, inr, arith}
 use Rattle.std.proofs.lemmas.Bool.{cases_lt, cases_eq, false≢true}
 use Rattle.std.specs.Coded.{le_prop}
 use mathlib.Core.HLevel.{is_prop→PathP}
@@ -21,7 +21,6 @@ use Rattle.bl_proc_base.specs.declared.lowering.Sank.{Sank}
 use Rattle.bl_proc_base.specs.declared.lowering.Sank.TheVariants.{On, Over}
 use Rattle.bl_proc_base.specs.Given.{Gives}
 use Rattle.bl_proc_base.specs.Onwards.{top_of}
-use Rattle.bl_proc_base.specs.Growths.{IsAnchor}
 use Rattle.bl_proc_base.specs.Lowerings.{lowering_next, lowering_needs, IsSole, IsFallen, Sinks, Lowers}
 use Rattle.bl_proc_base.proofs.Tops.{length_take, AreChildren-take}
 use Rattle.bl_proc_unique.specs.One.{One}

@@ -19,6 +19,9 @@ use Rattle.bl_proc_compress.specs.declared.squeezing.CompressStage.{CompressStag
 use Rattle.bl_proc_compress.specs.declared.squeezing.CompressStage.TheVariants as compress
 use Rattle.bl_proc.specs.declared.reclaiming.ReclaimStage.{ReclaimStage}
 use Rattle.bl_proc.specs.declared.reclaiming.ReclaimStage.TheVariants as reclaim
+use Rattle.bl_proc_base.specs.declared.lowering.Lowered.TheVariants as lowered
+use Rattle.bl_proc.specs.declared.lowering.LowerStage.{LowerStage}
+use Rattle.bl_proc.specs.declared.lowering.LowerStage.TheVariants as lower
 use Rattle.bl_proc.specs.declared.kinds.Proc.{Proc}
 use Rattle.bl_proc.specs.declared.kinds.Proc.TheVariants as proc
 use Rattle.bl_proc.specs.Processes.{answer_of}
@@ -29,7 +32,8 @@ use Rattle.bl_proc.specs.Deletes.{delete_answer_in}
 use Rattle.bl_proc.specs.Posts.{post_answer_in}
 use Rattle.bl_proc_compress.specs.Compresses.{compress_answer_in}
 use Rattle.bl_proc.specs.Reclaims.{reclaim_answer_in}
-use Rattle.bl_proc_unique.specs.Refusals.{IsNoRoom, InsertRefused, DeleteRefused, PostRefused, CompressRefused, IsRefused}
+use Rattle.bl_proc.specs.Lowers.{lower_answer_in}
+use Rattle.bl_proc_unique.specs.Refusals.{IsNoRoom, InsertRefused, DeleteRefused, PostRefused, CompressRefused, LowerRefused, IsRefused}
 
 -- An answer
 
@@ -107,6 +111,14 @@ reclaim_answers (reclaim.Looking q) b e r = none_answer b e
 reclaim_answers reclaim.Releasing b e r = none_answer b e
 reclaim_answers (reclaim.Over q) b e r = no_room _ b e r
 
+lower_answers : (a : LowerStage) (b : Answer) → lower_answer_in a ≡ Some b → IsNoRoom b → LowerRefused a
+lower_answers lower.New b e r = none_answer b e
+lower_answers (lower.Sinking l) b e r = none_answer b e
+lower_answers (lower.Ending q) b e r = none_answer b e
+lower_answers (lower.Over lowered.Lowered) b e r = no_room _ b e r
+lower_answers (lower.Over lowered.Needed) b e r = no_room _ b e r
+lower_answers (lower.Over lowered.NoRoom) b e r = tt
+
 pub answers_refused : (p : Proc) (a : Answer) → answer_of p ≡ Some a → IsNoRoom a → IsRefused p
 answers_refused (proc.Find p) a e r = find_answers p.stage a e r
 answers_refused (proc.Insert p) a e r = insert_answers p.stage a e r
@@ -115,3 +127,4 @@ answers_refused (proc.Post p) a e r = post_answers p.level p.stage a e r
 answers_refused (proc.Part p) a e r = part_answers p.stage a e r
 answers_refused (proc.Compress p) a e r = compress_answers p.stage a e r
 answers_refused (proc.Reclaim p) a e r = reclaim_answers p.stage a e r
+answers_refused (proc.Lower p) a e r = lower_answers p.stage a e r

@@ -21,13 +21,19 @@ use Rattle.bl_proc.specs.declared.deleting.DeleteStage.{DeleteStage}
 use Rattle.bl_proc.specs.declared.deleting.DeleteStage.TheVariants as delete
 use Rattle.bl_proc.specs.declared.posting.PostStage.{PostStage}
 use Rattle.bl_proc.specs.declared.posting.PostStage.TheVariants as post
+use Rattle.bl_proc_base.specs.declared.lowering.Lowering.{Lowering}
+use Rattle.bl_proc_base.specs.declared.lowering.Lowering.TheVariants as lowering
+use Rattle.bl_proc_base.specs.Lowerings.{lowering_next, lowering_needs}
+use Rattle.bl_proc.specs.declared.lowering.LowerStage.{LowerStage}
+use Rattle.bl_proc.specs.declared.lowering.LowerStage.TheVariants as lower
+use Rattle.bl_proc.specs.Lowers.{lower_next_in, lower_needs_in}
 use Rattle.bl_proc.specs.declared.kinds.Proc.{Proc}
 use Rattle.bl_proc.specs.declared.kinds.Proc.TheVariants as proc
 use Rattle.bl_proc.specs.Inserts.{insert_next_in, insert_needs_in}
 use Rattle.bl_proc.specs.Deletes.{delete_next_in, delete_needs_in}
 use Rattle.bl_proc.specs.Posts.{post_next_in, post_needs_in}
 use Rattle.bl_proc.specs.Processes.{next_of, needs_of, Takes}
-use Rattle.bl_proc_unique.specs.Refusals.{ChangeRefused, GrowthRefused, InsertRefused, DeleteRefused, PostRefused, SqueezeRefused, CompressRefused, IsRefused, SqueezePuts, CompressPuts, PutsRefused, MayAsk}
+use Rattle.bl_proc_unique.specs.Refusals.{ChangeRefused, GrowthRefused, InsertRefused, DeleteRefused, PostRefused, SqueezeRefused, CompressRefused, LoweringRefused, LowerRefused, IsRefused, SqueezePuts, CompressPuts, PutsRefused, MayAsk}
 
 -- it opens a page, or ends
 abbrev pub OpensOrEnds : Action → Type 0
@@ -77,11 +83,23 @@ compress_opens (compress.Ending a) r not = inr refl
 compress_opens (compress.Over a) r not = inr refl
 compress_opens old r not = absurd r
 
+lowering_opens : (l : Lowering) → LoweringRefused l → OpensOrEnds (lowering_next l)
+lowering_opens (lowering.OpeningTop x what) r = inl (x, refl)
+lowering_opens (lowering.OpeningAnchor what) r = inl (0, refl)
+lowering_opens old r = absurd r
+
+lower_opens : (s : LowerStage) → LowerRefused s → OpensOrEnds (lower_next_in s)
+lower_opens (lower.Sinking l) r = lowering_opens l r
+lower_opens (lower.Ending a) r = inr refl
+lower_opens (lower.Over a) r = inr refl
+lower_opens old r = absurd r
+
 pub refused_opens : (p : Proc) → IsRefused p → (PutsRefused p → ⊥) → OpensOrEnds (next_of p)
 refused_opens (proc.Insert p) r not = insert_opens p.stage r
 refused_opens (proc.Delete p) r not = delete_opens p.stage r
 refused_opens (proc.Post p) r not = post_opens p.stage r
 refused_opens (proc.Compress p) r not = compress_opens p.stage r not
+refused_opens (proc.Lower p) r not = lower_opens p.stage r
 refused_opens old r not = absurd r
 
 -- What it asks for
@@ -157,6 +175,24 @@ compress_asks (compress.Staying x) b e = none_asks b e
 compress_asks (compress.Ending a) b e = none_asks b e
 compress_asks (compress.Over a) b e = none_asks b e
 
+lowering_asks : (l : Lowering) (b : ℕ × ℕ) → lowering_needs l ≡ Some b → b ≡ (0, 2)
+lowering_asks lowering.Looking b e = none_asks b e
+lowering_asks lowering.LatchingAnchor b e = none_asks b e
+lowering_asks lowering.LatchedAnchor b e = none_asks b e
+lowering_asks (lowering.LatchingTop t) b e = none_asks b e
+lowering_asks (lowering.LatchedTop t) b e = none_asks b e
+lowering_asks (lowering.PuttingAnchor s) b e = some_ask _ b e
+lowering_asks (lowering.PuttingDead s) b e = none_asks b e
+lowering_asks (lowering.Retiring x) b e = none_asks b e
+lowering_asks (lowering.OpeningTop x what) b e = none_asks b e
+lowering_asks (lowering.OpeningAnchor what) b e = none_asks b e
+
+lower_asks : (s : LowerStage) (b : ℕ × ℕ) → lower_needs_in s ≡ Some b → b ≡ (0, 2)
+lower_asks lower.New b e = none_asks b e
+lower_asks (lower.Sinking l) b e = lowering_asks l b e
+lower_asks (lower.Ending a) b e = none_asks b e
+lower_asks (lower.Over a) b e = none_asks b e
+
 pub may_ask : (p : Proc) (b : ℕ × ℕ) → needs_of p ≡ Some b → MayAsk p b
 may_ask (proc.Find p) b e = none_asks b e
 may_ask (proc.Insert p) b e = insert_asks p.stage b e
@@ -165,6 +201,7 @@ may_ask (proc.Post p) b e = post_asks p.stage b e
 may_ask (proc.Part p) b e = none_asks b e
 may_ask (proc.Compress p) b e = compress_asks p.stage b e
 may_ask (proc.Reclaim p) b e = none_asks b e
+may_ask (proc.Lower p) b e = lower_asks p.stage b e
 
 -- A step of a process leaves what its kind may ask for.
 pub may_ask_on : (p : Proc) (what : Seen) (q : Proc) (b : ℕ × ℕ) → Takes p what q → MayAsk p b → MayAsk q b
@@ -175,4 +212,5 @@ may_ask_on (proc.Post p) what (proc.Post q) b t m = m
 may_ask_on (proc.Part p) what (proc.Part q) b t m = m
 may_ask_on (proc.Compress p) what (proc.Compress q) b t m = m
 may_ask_on (proc.Reclaim p) what (proc.Reclaim q) b t m = m
+may_ask_on (proc.Lower p) what (proc.Lower q) b t m = m
 may_ask_on old what new b t m = absurd t

@@ -1,5 +1,5 @@
 -- A process comes to go on without room only by being refused.
-use Rattle.std.proofs.Common.{ℕ, ◌≡◌, ◌⊎◌, subst, inl}
+use Rattle.std.proofs.Common.{ℕ, ◌≡◌, ◌⊎◌, refl, subst, inl, inr}
 use Rattle.bl_page.specs.declared.page.Page.TheVariants.{Inner}
 use Rattle.bl_proc_base.specs.declared.acts.Seen.{Seen}
 use Rattle.bl_proc_base.specs.declared.acts.Seen.TheVariants as seen
@@ -9,17 +9,22 @@ use Rattle.bl_proc.specs.declared.inserting.InsertStage.{InsertStage}
 use Rattle.bl_proc.specs.declared.deleting.Removed.{Removed}
 use Rattle.bl_proc.specs.declared.deleting.DeleteStage.{DeleteStage}
 use Rattle.bl_proc.specs.declared.posting.PostStage.{PostStage}
+use Rattle.bl_proc_base.specs.declared.lowering.Lowering.{Lowering}
+use Rattle.bl_proc_base.specs.declared.lowering.Sank.{Sank}
+use Rattle.bl_proc_base.specs.declared.lowering.Sank.TheVariants.{On, Over}
+use Rattle.bl_proc.specs.declared.lowering.LowerStage.{LowerStage}
 use Rattle.bl_proc.specs.declared.kinds.Proc.{Proc}
 use Rattle.bl_proc.specs.declared.kinds.Proc.TheVariants as proc
 use Rattle.bl_proc.specs.Processes.{Takes}
 use Rattle.bl_proc.specs.Inserts.{insert_reply}
 use Rattle.bl_proc.specs.Deletes.{delete_reply}
 use Rattle.bl_proc.specs.Posts.{post_reply}
-use Rattle.bl_proc_unique.specs.Refusals.{OutcomeRefused, InsertNoRoom, InsertRefused, DeleteNoRoom, DeleteRefused, PostNoRoom, PostRefused, IsRefused, PutsRefused}
+use Rattle.bl_proc_unique.specs.Refusals.{OutcomeRefused, InsertNoRoom, InsertRefused, DeleteNoRoom, DeleteRefused, PostNoRoom, PostRefused, LowerNoRoom, LoweringRefused, LowerRefused, IsRefused, PutsRefused}
 use Rattle.bl_proc_unique.proofs.RefusedCompressions.{compress_refused, compress_puts}
 use Rattle.bl_proc_unique.proofs.Refusals.{changes_refused, changes_over, grows_refused, grows_over, enters_not, drops_not}
 use Rattle.bl_proc_unique.proofs.WayCases.{change_case, growth_case}
-use Rattle.bl_proc_unique.proofs.KindCases.{InsertCase, insert_case, DeleteCase, delete_case, PostCase, post_case, compress_case}
+use Rattle.bl_proc_unique.proofs.KindCases.{InsertCase, insert_case, DeleteCase, delete_case, PostCase, post_case, compress_case, LowerCase, lower_case}
+use Rattle.bl_proc_unique.proofs.Lowerings.{LoweringCase, lowering_case}
 
 insert_outcome : (o : Outcome) → InsertNoRoom (insert_reply o) → OutcomeRefused o
 insert_outcome outcome.Changed r = r
@@ -63,6 +68,34 @@ post_refused (PostCase.Opened x q last t) r = inl (subst PostNoRoom t r)
 post_refused (PostCase.Ended q last t) r = inl (subst PostNoRoom t r)
 post_refused other r = inl r
 
+abbrev SankRefused : Sank → Type 0
+SankRefused (On l) = LoweringRefused l
+SankRefused (Over r) = LowerNoRoom r
+
+lowers_refused : {l : Lowering} {what : Seen} {new : Sank} → LoweringCase l what new → SankRefused new → LoweringRefused l ⊎ (what ≡ seen.Refused)
+lowers_refused (LoweringCase.SawOne c r t) s = absurd (subst LowerNoRoom t.0 s)
+lowers_refused (LoweringCase.SawMore c m t) s = inl (subst LoweringRefused t.0 s)
+lowers_refused (LoweringCase.Latched m t) s = inl (subst LoweringRefused t s)
+lowers_refused (LoweringCase.Missed m t) s = inl (subst LoweringRefused t s)
+lowers_refused (LoweringCase.IsTall c u t) s = inl s
+lowers_refused (LoweringCase.IsLow c r t) s = absurd (subst LowerNoRoom t.0 s)
+lowers_refused (LoweringCase.LatchedUpper u m t) s = inl (subst LoweringRefused t s)
+lowers_refused (LoweringCase.MissedUpper u m t) s = inl (subst LoweringRefused t s)
+lowers_refused (LoweringCase.IsSpare u c k t) s = inl s
+lowers_refused (LoweringCase.IsNeeded u c x r t) s = absurd (subst LowerNoRoom t.1 s)
+lowers_refused (LoweringCase.PutAnchor k m t) s = inl (subst LoweringRefused t s)
+lowers_refused (LoweringCase.Refused k m t) s = inr refl
+lowers_refused (LoweringCase.PutDead k m t) s = inl (subst LoweringRefused t s)
+lowers_refused (LoweringCase.Retired x m t) s = inl (subst LoweringRefused t s)
+lowers_refused (LoweringCase.OpenedTop x r m t) s = inl (subst LoweringRefused t s)
+lowers_refused (LoweringCase.OpenedAnchor r last t) s = inl (subst LowerNoRoom t s)
+
+lower_refused : {a b : LowerStage} {what : Seen} → LowerCase a what b → LowerRefused b → LowerRefused a ⊎ (what ≡ seen.Refused)
+lower_refused (LowerCase.Began l t) r = inl (subst LoweringRefused t r)
+lower_refused (LowerCase.Sank l what m t) r = lowers_refused (lowering_case l what _ t) r
+lower_refused (LowerCase.Finished l what q t) r = lowers_refused (lowering_case l what _ t) r
+lower_refused (LowerCase.Ended q last t) r = inl (subst LowerNoRoom t r)
+
 pub takes_refused : (p : Proc) (what : Seen) (q : Proc) → Takes p what q → IsRefused q → IsRefused p ⊎ (what ≡ seen.Refused)
 takes_refused p what (proc.Find q) t r = absurd r
 takes_refused p what (proc.Part q) t r = absurd r
@@ -71,6 +104,7 @@ takes_refused (proc.Insert p) what (proc.Insert q) t r = insert_refused (insert_
 takes_refused (proc.Delete p) what (proc.Delete q) t r = delete_refused (delete_case p.key p.stage what q.stage t.1) r
 takes_refused (proc.Post p) what (proc.Post q) t r = post_refused (post_case p.level p.key p.stage what q.stage t.2) r
 takes_refused (proc.Compress p) what (proc.Compress q) t r = compress_refused (compress_case p.level p.key p.stage what q.stage t.2) r
+takes_refused (proc.Lower p) what (proc.Lower q) t r = lower_refused (lower_case p.stage what q.stage t) r
 takes_refused p what old t r = absurd t
 
 -- nor does one come to such puts

@@ -10,6 +10,8 @@ use Rattle.bl_proc_base.specs.declared.changing.Change.{Change}
 use Rattle.bl_proc_base.specs.declared.changing.Change.TheVariants as change
 use Rattle.bl_proc_base.specs.declared.growing.Growth.{Growth}
 use Rattle.bl_proc_base.specs.declared.growing.Growth.TheVariants as growth
+use Rattle.bl_proc_base.specs.declared.lowering.Lowering.{Lowering}
+use Rattle.bl_proc_base.specs.declared.lowering.Lowering.TheVariants as lowering
 use Rattle.bl_proc.specs.declared.inserting.InsertStage.{InsertStage}
 use Rattle.bl_proc.specs.declared.inserting.InsertStage.TheVariants as insert
 use Rattle.bl_proc.specs.declared.deleting.DeleteStage.{DeleteStage}
@@ -20,6 +22,8 @@ use Rattle.bl_proc_compress.specs.declared.compressing.Compression.{Compression}
 use Rattle.bl_proc_compress.specs.declared.compressing.Compression.TheVariants as compression
 use Rattle.bl_proc_compress.specs.declared.squeezing.CompressStage.{CompressStage}
 use Rattle.bl_proc_compress.specs.declared.squeezing.CompressStage.TheVariants as compress
+use Rattle.bl_proc.specs.declared.lowering.LowerStage.{LowerStage}
+use Rattle.bl_proc.specs.declared.lowering.LowerStage.TheVariants as lower
 use Rattle.bl_proc.specs.declared.kinds.Proc.{Proc}
 use Rattle.bl_proc.specs.declared.kinds.Proc.TheVariants as proc
 use Rattle.bl_proc.specs.Processes.{next_of, needs_of, answer_of}
@@ -92,6 +96,24 @@ compress_frames (compress.Staying x) = 0
 compress_frames (compress.Ending r) = 0
 compress_frames (compress.Over r) = 0
 
+abbrev pub lowering_frames : Lowering → ℕ
+lowering_frames lowering.Looking = 0
+lowering_frames lowering.LatchingAnchor = 0
+lowering_frames lowering.LatchedAnchor = 0
+lowering_frames (lowering.LatchingTop t) = 0
+lowering_frames (lowering.LatchedTop t) = 0
+lowering_frames (lowering.PuttingAnchor s) = 0
+lowering_frames (lowering.PuttingDead s) = 1
+lowering_frames (lowering.Retiring x) = 0
+lowering_frames (lowering.OpeningTop x what) = 0
+lowering_frames (lowering.OpeningAnchor what) = 0
+
+abbrev pub lower_frames : LowerStage → ℕ
+lower_frames lower.New = 0
+lower_frames (lower.Sinking l) = lowering_frames l
+lower_frames (lower.Ending r) = 0
+lower_frames (lower.Over r) = 0
+
 abbrev pub frames_of : Proc → ℕ
 frames_of (proc.Find p) = 0
 frames_of (proc.Insert p) = insert_frames p.stage
@@ -100,6 +122,7 @@ frames_of (proc.Post p) = post_frames p.stage
 frames_of (proc.Part p) = 0
 frames_of (proc.Compress p) = compress_frames p.stage
 frames_of (proc.Reclaim p) = 0
+frames_of (proc.Lower p) = lower_frames p.stage
 
 -- the operation that a process carries out, if it has one
 abbrev pub op_of : Proc → Option Op
@@ -110,6 +133,7 @@ op_of (proc.Post p) = None
 op_of (proc.Part p) = Some (op.Part p.from)
 op_of (proc.Compress p) = None
 op_of (proc.Reclaim p) = None
+op_of (proc.Lower p) = None
 
 -- the level and the key of a post or a compression
 abbrev pub work_of : Proc → Option (ℕ × ℕ)
@@ -120,6 +144,7 @@ work_of (proc.Post p) = Some (p.level, p.key)
 work_of (proc.Part p) = None
 work_of (proc.Compress p) = Some (p.level, p.key)
 work_of (proc.Reclaim p) = None
+work_of (proc.Lower p) = None
 
 -- A process that has so many frames: a put asks for some, up to three, where it has none, and a take for a page and two
 -- frames. An index has sweeps for those that look or release, and no value of a part, which alone probes.

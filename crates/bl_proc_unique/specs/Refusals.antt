@@ -11,6 +11,10 @@ use Rattle.bl_proc_base.specs.declared.changing.Change.{Change}
 use Rattle.bl_proc_base.specs.declared.changing.Change.TheVariants as change
 use Rattle.bl_proc_base.specs.declared.growing.Growth.{Growth}
 use Rattle.bl_proc_base.specs.declared.growing.Growth.TheVariants as growth
+use Rattle.bl_proc_base.specs.declared.lowering.Lowered.{Lowered}
+use Rattle.bl_proc_base.specs.declared.lowering.Lowered.TheVariants as lowered
+use Rattle.bl_proc_base.specs.declared.lowering.Lowering.{Lowering}
+use Rattle.bl_proc_base.specs.declared.lowering.Lowering.TheVariants as lowering
 use Rattle.bl_proc_compress.specs.declared.compressing.Fate.{Fate}
 use Rattle.bl_proc_compress.specs.declared.compressing.Fate.TheVariants as fate
 use Rattle.bl_proc_compress.specs.declared.compressing.Compression.{Compression}
@@ -31,6 +35,8 @@ use Rattle.bl_proc.specs.declared.posting.PostStage.{PostStage}
 use Rattle.bl_proc.specs.declared.posting.PostStage.TheVariants as post
 use Rattle.bl_proc.specs.declared.posting.PostReply.{PostReply}
 use Rattle.bl_proc.specs.declared.posting.PostReply.TheVariants as listed
+use Rattle.bl_proc.specs.declared.lowering.LowerStage.{LowerStage}
+use Rattle.bl_proc.specs.declared.lowering.LowerStage.TheVariants as lower
 use Rattle.bl_proc.specs.declared.kinds.Proc.{Proc}
 use Rattle.bl_proc.specs.declared.kinds.Proc.TheVariants as proc
 
@@ -39,6 +45,7 @@ abbrev pub IsNoRoom : Answer → Type 0
 IsNoRoom (answer.Op reply.NoRoom hint) = Unit {0}
 IsNoRoom (answer.Post posted.NoRoom hint) = Unit {0}
 IsNoRoom (answer.Compress squeezed.NoRoom hint) = Unit {0}
+IsNoRoom (answer.Lower lowered.NoRoom) = Unit {0}
 IsNoRoom other = ⊥
 
 -- It goes on without room. Puts with such a fate count too, though none are ever decided.
@@ -145,6 +152,29 @@ PostRefused (post.Staying x r) = PostNoRoom r
 PostRefused (post.Ending r) = PostNoRoom r
 PostRefused (post.Over r) = PostNoRoom r
 
+abbrev pub LowerNoRoom : Lowered → Type 0
+LowerNoRoom lowered.Lowered = ⊥
+LowerNoRoom lowered.Needed = ⊥
+LowerNoRoom lowered.NoRoom = Unit {0}
+
+abbrev pub LoweringRefused : Lowering → Type 0
+LoweringRefused lowering.Looking = ⊥
+LoweringRefused lowering.LatchingAnchor = ⊥
+LoweringRefused lowering.LatchedAnchor = ⊥
+LoweringRefused (lowering.LatchingTop t) = ⊥
+LoweringRefused (lowering.LatchedTop t) = ⊥
+LoweringRefused (lowering.PuttingAnchor s) = ⊥
+LoweringRefused (lowering.PuttingDead s) = ⊥
+LoweringRefused (lowering.Retiring x) = ⊥
+LoweringRefused (lowering.OpeningTop x what) = LowerNoRoom what
+LoweringRefused (lowering.OpeningAnchor what) = LowerNoRoom what
+
+abbrev pub LowerRefused : LowerStage → Type 0
+LowerRefused lower.New = ⊥
+LowerRefused (lower.Sinking l) = LoweringRefused l
+LowerRefused (lower.Ending r) = LowerNoRoom r
+LowerRefused (lower.Over r) = LowerNoRoom r
+
 abbrev pub IsRefused : Proc → Type 0
 IsRefused (proc.Find p) = ⊥
 IsRefused (proc.Insert p) = InsertRefused p.stage
@@ -153,6 +183,7 @@ IsRefused (proc.Post p) = PostRefused p.stage
 IsRefused (proc.Part p) = ⊥
 IsRefused (proc.Compress p) = CompressRefused p.stage
 IsRefused (proc.Reclaim p) = ⊥
+IsRefused (proc.Lower p) = LowerRefused p.stage
 
 -- It is to put what was decided with such a fate, or to retire a page after it. None is ever decided.
 abbrev pub SqueezePuts : Compression → Type 0
@@ -184,9 +215,10 @@ PutsRefused (proc.Post p) = ⊥
 PutsRefused (proc.Part p) = ⊥
 PutsRefused (proc.Compress p) = CompressPuts p.stage
 PutsRefused (proc.Reclaim p) = ⊥
+PutsRefused (proc.Lower p) = ⊥
 
 -- What a process of this kind asks for, pages and frames: for a put of one page; for one of two pages, of which one is
--- new; for those of a compression.
+-- new; for those of a compression; for the two of a lowering.
 abbrev pub MayAsk : Proc → ℕ × ℕ → Type 0
 MayAsk (proc.Find p) ask = ⊥
 MayAsk (proc.Insert p) ask = (ask ≡ (0, 1)) ⊎ (ask ≡ (1, 2))
@@ -195,3 +227,4 @@ MayAsk (proc.Post p) ask = (ask ≡ (0, 1)) ⊎ (ask ≡ (1, 2))
 MayAsk (proc.Part p) ask = ⊥
 MayAsk (proc.Compress p) ask = ask ≡ (0, 3)
 MayAsk (proc.Reclaim p) ask = ⊥
+MayAsk (proc.Lower p) ask = ask ≡ (0, 2)

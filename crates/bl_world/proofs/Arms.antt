@@ -1,7 +1,10 @@
 -- Each kind of turn on the lists of a world.
 use Rattle.std.proofs.Common.{ℕ, ◌≡◌, ◌≢◌, ◌<◌, ◌++◌, zero, suc, Option, Some, None, List, [], ◌∷◌, length, get_or, slice_get, slice_set, true, arith, ap, sym, ◌∙◌, refl, subst, inl, inr}
 use Rattle.std.proofs.lemmas.Bool.{cases_eq}
-use Rattle.std.proofs.lemmas.Option.{slice_get_within, get_or_from_slice_get}
+use Rattle.std.specs.Prelude.{option_map}
+use Rattle.std.specs.Borrow.{Bor}
+use Rattle.std.specs.Slice.{IsGetResult}
+use Rattle.std.proofs.lemmas.Option.{slice_get_within, slice_get_past, get_or_from_slice_get}
 use Rattle.std.proofs.lemmas.List.{length-set}
 use Rattle.bl_page.specs.declared.page.Page.{Page}
 use Rattle.bl_page.specs.declared.machine.Missed.{Missed}
@@ -226,6 +229,11 @@ stands (x ∷ xs) (suc n) l = stands xs n (omega (arith, l))
 -- what was read at a place stands there
 pub read_at : {A : Type 0} (xs : List A) (i : ℕ) (v : A) → i < length xs → v ≡ get_or xs i v → slice_get xs i ≡ Some v
 read_at xs i v l e = let s = stands xs i l in s.1 ∙ ap Some (sym (e ∙ get_or_from_slice_get xs i s.0 v s.1))
+
+-- what was found at a place, if it is within the list
+pub found_there : {A : Type 0} (xs : List A) (i : ℕ) (r : Option (Bor A)) → IsGetResult xs i i r → option_map (λ (x : Bor A). x.now) r ≡ slice_get xs i
+found_there xs i None g = sym (slice_get_past xs i g.3)
+found_there xs i (Some x) g = sym (read_at xs i x.now g.3.0 g.1)
 
 -- who stands at a place is who was read there
 pub stood_is : {A : Type 0} (xs : List A) (i : ℕ) (p v : A) → slice_get xs i ≡ Some p → v ≡ get_or xs i v → p ≡ v

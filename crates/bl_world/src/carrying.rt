@@ -192,9 +192,8 @@ impl Lists {
         ensures ok { OnOk result ((p : Proc) → slice_get self.old.processes.items index ≡ Some p → Carries (view_of self.old) index p (act.Probe at) (view_of self.new)) }
         ensures err { OnErr result (view_of self.new ≡ view_of self.old) }
     {
-        let place = at as usize;
-        let free = place < self.owners.len() && is_open(self.owners[place]);
-        self.told(index, Act::See(at), Seen::Probed(free))
+        let owner = self.owners.as_slice().get(at as usize).copied();
+        self.told(index, Act::See(at), Seen::Probed(is_open(owner)))
     }
 
     /// Since which event the process at that place has seen its page retired, if it is to release one.
@@ -390,13 +389,13 @@ fn is_owner(owner: Owner, other: Owner) -> bool
     owner == other
 }
 
-/// Whether that owner is anybody.
-fn is_open(owner: Owner) -> bool
-    ensures { result ≡ is_open_page (Some owner) }
+/// Whether there is such a page, and its owner is anybody.
+fn is_open(owner: Option<Owner>) -> bool
+    ensures { result ≡ is_open_page owner }
 {
     match owner {
-        Owner::Open => true,
-        Owner::Released | Owner::Held(_) | Owner::Retired(_) => false,
+        Some(Owner::Open) => true,
+        Some(Owner::Released | Owner::Held(_) | Owner::Retired(_)) | None => false,
     }
 }
 
