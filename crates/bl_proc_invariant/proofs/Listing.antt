@@ -11,6 +11,7 @@ use Rattle.bl_claims.specs.Nodes.{Look}
 use Rattle.bl_claims.specs.Trails.{Mark}
 use Rattle.bl_claims.specs.Walks.{Each}
 use Rattle.bl_core_tree.specs.Trees.{IsLive}
+use Rattle.bl_core_tree.specs.Trees.Status.{Live, Uprooted}
 use Rattle.bl_core_tree.proofs.Statuses.{live_live}
 use Rattle.bl_core_tree.proofs.SoundPages.{sound_node}
 use Rattle.bl_core.specs.Worlds.{Stage, Know, World, nodes, IsStage, MayGet, IsGoes, IsSure, IsBounded, IsGood, silent}
@@ -65,11 +66,12 @@ module _ {P : Type 0} (know : P → Know) (w : World P) (g : IsGood know w) (p :
   probed zero free busy told = tt
   probed (suc x) false busy told = tt
   probed (suc x) true busy told =
-      let live : IsLive (w.status (suc x)) = elim (g.owned.opened (suc x) (told refl)) [
-        | inl h ↦ rw h live_live
+      let is : w.status (suc x) ≡ Live = elim (g.owned.opened (suc x) (told refl)) [
+        | inl h ↦ h
         | inr h ↦ absurd (let z = g.owned.one_anchor (suc x) h in omega (arith, z))
       ] in
-      let above = g.tree.below (suc x) live in
+      let live : IsLive (w.status (suc x)) = rw is live_live in
+      let above = g.tree.below (suc x) live (λ e. let no : Live ≡ Uprooted = sym is ∙ e in absurd (cc no)) in
       let few = g.tree.few_levels in
       (record { may = may_live know w g p busy.0 (suc x) busy.1 live; least = omega arith; most = omega (arith, above, few) }, tt)
 
