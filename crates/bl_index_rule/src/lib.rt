@@ -13,7 +13,8 @@ mod known;
 mod rule;
 
 pub use events::{
-    Began, Ended, GaveUp, Got, Launch, Opened, Probed, Put, Refused, Retired, Sweeper, Swept, Took, Tried,
+    Began, Ended, GaveUp, Got, Launch, Opened, Probed, Put, Refused, Retired, Sweeper, Swept, Took,
+    Tried,
 };
 pub use known::{Beginning, Happened, Mine};
 pub use rule::Passes;

@@ -70,7 +70,7 @@ pub struct Store<D, R: PageRule<D>, A: Allocator = Global> {
 }
 
 impl Glance {
-    /// How many words were read.
+    /// How many words were read, by the caller's own count: `word` adds one, and `having` may set it anew.
     #[inline(always)]
     pub fn used(&self) -> u32
         ensures { result ≡ self.now.used }
@@ -78,7 +78,8 @@ impl Glance {
         self.used
     }
 
-    /// The same look, with so many words read.
+    /// The same look, with another count of words read. A look may be copied, so the count is what the caller says of it: no
+    /// clause says that no other word was read.
     #[inline(always)]
     pub fn having(self, used: u32) -> Glance
         ensures same { IsSameLook self result }
