@@ -5,7 +5,7 @@ ghost use Rattle.bl_proc.specs.declared.lowering.LowerStage.TheVariants as lower
 ghost use Rattle.bl_proc_base.specs.Given.{Gives};
 ghost use Rattle.bl_proc.specs.Lowers.{lower_next_in, lower_needs_in, lower_answer_in, LowerGoes, lower_next, lower_needs, lower_answer, LowerTakes};
 
-use bl_proc_base::{Action, Answer, Lowered, Lowering, Process, Sank, Seen};
+use bl_proc_base::{Action, Answer, Lowered, Lowering, Process, Reader, Sank, Seen};
 use std::mem;
 
 /// A process that takes the top level of the tree away, where that is one page with one pair.
@@ -90,3 +90,5 @@ impl Process for Lower {
         self.stage = went(stage, seen);
     }
 }
+
+impl Reader for Lower {}
