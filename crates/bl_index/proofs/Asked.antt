@@ -15,7 +15,7 @@ use Rattle.bl_proc.specs.declared.posting.Post.{Post as PostIs}
 use Rattle.bl_proc.specs.declared.posting.PostStage.{PostStage}
 use Rattle.bl_proc.specs.declared.posting.PostStage.TheVariants as post
 use Rattle.bl_proc.specs.declared.kinds.Proc.{Proc}
-use Rattle.bl_proc.specs.declared.kinds.Proc.TheVariants.{Find, Insert, Delete, Post, Part, Compress, Reclaim}
+use Rattle.bl_proc.specs.declared.kinds.Proc.TheVariants.{Find, Insert, Delete, Post, Part, Compress, Reclaim, Lower}
 use Rattle.bl_proc.specs.Inserts.{insert_next_in, insert_needs_in}
 use Rattle.bl_proc.specs.Posts.{post_next_in, post_needs_in}
 use Rattle.bl_proc.specs.Processes.{next_of, needs_of, Takes}
@@ -126,6 +126,7 @@ asks_keep (Post p) ask d e latch asks = elim asks [
 asks_keep (Part p) ask d e latch asks = tt
 asks_keep (Compress p) ask d e latch asks = tt
 asks_keep (Reclaim p) ask d e latch asks = tt
+asks_keep (Lower p) ask d e latch asks = tt
 
 -- by the event at which it was refused
 pub asks_told : (p : Proc) (ask : ℕ × ℕ) (d e : Mine) (what : Seen) → d.state ≡ p → needs_of p ≡ Some ask → proc_held p (own_marks d) → Goes what d e → AsksFor p ask (own_marks e)
@@ -136,6 +137,7 @@ asks_told (Post p) ask d e what is needs held goes = asks_keep (Post p) ask d e 
 asks_told (Part p) ask d e what is needs held goes = tt
 asks_told (Compress p) ask d e what is needs held goes = tt
 asks_told (Reclaim p) ask d e what is needs held goes = tt
+asks_told (Lower p) ask d e what is needs held goes = tt
 
 -- the process goes on
 pub asks_on : (p : Proc) (what : Seen) (q : Proc) (ask : ℕ × ℕ) (marks : Trail) → Takes p what q → AsksFor p ask marks → AsksFor q ask marks
@@ -149,4 +151,5 @@ asks_on old what (Delete q) ask marks t asks = tt
 asks_on old what (Part q) ask marks t asks = tt
 asks_on old what (Compress q) ask marks t asks = tt
 asks_on old what (Reclaim q) ask marks t asks = tt
+asks_on old what (Lower q) ask marks t asks = tt
 asks_on old what new ask marks t asks = absurd t

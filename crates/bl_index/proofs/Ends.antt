@@ -162,48 +162,14 @@ says_of before o o' reply end said e = record {
 
 pub end_says : (before last : Proc) (o : Operation) (reply : Reply) (hint : Option Hint) → op_of before ≡ Some o → next_of before ≡ act.End → Takes before seen.Done last → answer_of last ≡ Some (Op reply hint) → Says before o reply
 end_says (proc.Find p) (proc.Find q) o reply hint i e t h = (let s = find_ends p.key p.stage q.stage reply hint e t.1 h in says_of (proc.Find p) o (op.Find p.key) reply s.0 (λ got child time. s.1) i)
-end_says (proc.Find p) (proc.Insert q) o reply hint i e t h = absurd t
-end_says (proc.Find p) (proc.Delete q) o reply hint i e t h = absurd t
-end_says (proc.Find p) (proc.Post q) o reply hint i e t h = absurd t
-end_says (proc.Insert p) (proc.Find q) o reply hint i e t h = absurd t
 end_says (proc.Insert p) (proc.Insert q) o reply hint i e t h = (let s = insert_ends p.key p.value p.stage q.stage reply hint e t.2 h in says_of (proc.Insert p) o (op.Insert p.key p.value) reply s.0 (λ got child time. s.1 got) i)
-end_says (proc.Insert p) (proc.Delete q) o reply hint i e t h = absurd t
-end_says (proc.Insert p) (proc.Post q) o reply hint i e t h = absurd t
-end_says (proc.Delete p) (proc.Find q) o reply hint i e t h = absurd t
-end_says (proc.Delete p) (proc.Insert q) o reply hint i e t h = absurd t
 end_says (proc.Delete p) (proc.Delete q) o reply hint i e t h = (let s = delete_ends p.key p.stage q.stage reply hint e t.1 h in says_of (proc.Delete p) o (op.Delete p.key) reply s.0 (λ got child time. s.1 got) i)
-end_says (proc.Delete p) (proc.Post q) o reply hint i e t h = absurd t
-end_says (proc.Post p) (proc.Find q) o reply hint i e t h = absurd t
-end_says (proc.Post p) (proc.Insert q) o reply hint i e t h = absurd t
-end_says (proc.Post p) (proc.Delete q) o reply hint i e t h = absurd t
-end_says (proc.Find p) (proc.Part q) o reply hint i e t h = absurd t
-end_says (proc.Insert p) (proc.Part q) o reply hint i e t h = absurd t
-end_says (proc.Delete p) (proc.Part q) o reply hint i e t h = absurd t
-end_says (proc.Post p) (proc.Part q) o reply hint i e t h = absurd t
-end_says (proc.Part p) (proc.Find q) o reply hint i e t h = absurd t
-end_says (proc.Part p) (proc.Insert q) o reply hint i e t h = absurd t
-end_says (proc.Part p) (proc.Delete q) o reply hint i e t h = absurd t
-end_says (proc.Part p) (proc.Post q) o reply hint i e t h = absurd t
-end_says (proc.Find p) (proc.Reclaim q) o reply hint i e t h = absurd t
-end_says (proc.Reclaim p) (proc.Find q) o reply hint i e t h = absurd t
-end_says (proc.Insert p) (proc.Reclaim q) o reply hint i e t h = absurd t
-end_says (proc.Reclaim p) (proc.Insert q) o reply hint i e t h = absurd t
-end_says (proc.Delete p) (proc.Reclaim q) o reply hint i e t h = absurd t
-end_says (proc.Reclaim p) (proc.Delete q) o reply hint i e t h = absurd t
-end_says (proc.Post p) (proc.Reclaim q) o reply hint i e t h = absurd t
-end_says (proc.Reclaim p) (proc.Post q) o reply hint i e t h = absurd t
-end_says (proc.Part p) (proc.Reclaim q) o reply hint i e t h = absurd t
-end_says (proc.Reclaim p) (proc.Part q) o reply hint i e t h = absurd t
-end_says (proc.Reclaim p) (proc.Reclaim q) o reply hint i e t h = cc
-end_says (proc.Find p) (proc.Compress q) o reply hint i e t h = absurd t
-end_says (proc.Insert p) (proc.Compress q) o reply hint i e t h = absurd t
-end_says (proc.Delete p) (proc.Compress q) o reply hint i e t h = absurd t
-end_says (proc.Post p) (proc.Compress q) o reply hint i e t h = absurd t
-end_says (proc.Part p) (proc.Compress q) o reply hint i e t h = absurd t
-end_says (proc.Reclaim p) (proc.Compress q) o reply hint i e t h = absurd t
-end_says (proc.Compress p) last o reply hint i e t h = cc
 end_says (proc.Part p) (proc.Part q) o reply hint i e t h = (let s = part_ends p.from p.stage q.stage reply hint e t.1 h in says_of (proc.Part p) o (op.Part p.from) reply s.0 (λ got child time. s.1) i)
-end_says (proc.Post p) (proc.Post q) o reply hint i e t h = cc
+end_says (proc.Post p) last o reply hint i e t h = cc
+end_says (proc.Compress p) last o reply hint i e t h = cc
+end_says (proc.Reclaim p) last o reply hint i e t h = cc
+end_says (proc.Lower p) last o reply hint i e t h = cc
+end_says before last o reply hint i e t h = absurd t
 
 -- what the index began with, as the pass knows when a process has ended
 pub done_first : (pass : ℕ) (old e : Mine) (first last : Proc) → IsDone pass old e first last → e.first ≡ old.first

@@ -27,7 +27,7 @@ use Rattle.bl_proc.specs.declared.inserting.InsertStage.TheVariants as insert
 use Rattle.bl_proc.specs.declared.posting.PostStage.{PostStage}
 use Rattle.bl_proc.specs.declared.posting.PostStage.TheVariants as post
 use Rattle.bl_proc.specs.declared.kinds.Proc.{Proc}
-use Rattle.bl_proc.specs.declared.kinds.Proc.TheVariants.{Find, Insert, Delete, Post, Part, Compress, Reclaim}
+use Rattle.bl_proc.specs.declared.kinds.Proc.TheVariants.{Find, Insert, Delete, Post, Part, Compress, Reclaim, Lower}
 use Rattle.bl_proc.specs.Inserts.{insert_next_in}
 use Rattle.bl_proc.specs.Posts.{post_next_in}
 use Rattle.bl_proc.specs.Processes.{next_of, Takes}
@@ -158,6 +158,7 @@ held_turn old (Delete c) what marks m t did saw h = tt
 held_turn old (Part c) what marks m t did saw h = tt
 held_turn old (Compress c) what marks m t did saw h = tt
 held_turn old (Reclaim c) what marks m t did saw h = tt
+held_turn old (Lower c) what marks m t did saw h = tt
 held_turn old new what marks m t did saw h = absurd t
 
 -- One that is to begin has latched nothing.
@@ -212,3 +213,4 @@ waiting_held (Post p) e marks = waiting_post p.level p.key p.stage e marks
 waiting_held (Part p) e marks = tt
 waiting_held (Compress p) e marks = tt
 waiting_held (Reclaim p) e marks = tt
+waiting_held (Lower p) e marks = tt

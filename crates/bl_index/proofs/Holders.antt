@@ -23,11 +23,16 @@ use Rattle.bl_proc.specs.declared.posting.PostStage.{PostStage}
 use Rattle.bl_proc.specs.declared.posting.PostStage.TheVariants as post
 use Rattle.bl_proc.specs.declared.reclaiming.ReclaimStage.{ReclaimStage}
 use Rattle.bl_proc.specs.declared.reclaiming.ReclaimStage.TheVariants as reclaim
+use Rattle.bl_proc_base.specs.declared.lowering.Lowering.{Lowering}
+use Rattle.bl_proc_base.specs.declared.lowering.Lowering.TheVariants as lowering
+use Rattle.bl_proc.specs.declared.lowering.LowerStage.{LowerStage}
+use Rattle.bl_proc.specs.declared.lowering.LowerStage.TheVariants as lower
+use Rattle.bl_proc_invariant.specs.Lowering.{know_lowering}
 use Rattle.bl_proc.specs.declared.kinds.Proc.{Proc}
 use Rattle.bl_proc.specs.declared.kinds.Proc.TheVariants as proc
 use Rattle.bl_proc_invariant.specs.Tables.{Aim, know_approach, know_change}
 use Rattle.bl_proc_invariant.specs.Compressing.{know_squeeze}
-use Rattle.bl_proc_invariant.specs.Knowing.{Run, know, know_of, know_find, know_part, know_insert, know_delete, know_growth, know_post, know_compress, know_reclaim}
+use Rattle.bl_proc_invariant.specs.Knowing.{Run, know, know_of, know_find, know_part, know_insert, know_delete, know_growth, know_post, know_compress, know_reclaim, know_lower}
 use Rattle.bl_proc_compress.specs.declared.compressing.Compression.{Compression}
 use Rattle.bl_proc_compress.specs.declared.compressing.Compression.TheVariants as compression
 
@@ -128,6 +133,24 @@ reclaim_holds time (reclaim.Looking r) = inr refl
 reclaim_holds time reclaim.Releasing = inr refl
 reclaim_holds time (reclaim.Over what) = inr refl
 
+lowering_holds : (got : ℕ → Page) (l : Lowering) → (know_lowering got l).stage ≡ Stage.Busy
+lowering_holds got lowering.Looking = refl
+lowering_holds got lowering.LatchingAnchor = refl
+lowering_holds got lowering.LatchedAnchor = refl
+lowering_holds got (lowering.LatchingTop t) = refl
+lowering_holds got (lowering.LatchedTop t) = refl
+lowering_holds got (lowering.PuttingAnchor s) = refl
+lowering_holds got (lowering.PuttingDead s) = refl
+lowering_holds got (lowering.Retiring x) = refl
+lowering_holds got (lowering.OpeningTop x what) = refl
+lowering_holds got (lowering.OpeningAnchor what) = refl
+
+lower_holds : (got : ℕ → Page) (a : LowerStage) → MayHold (know_lower got a)
+lower_holds got lower.New = inr refl
+lower_holds got (lower.Sinking l) = inl (lowering_holds got l)
+lower_holds got (lower.Ending r) = inr refl
+lower_holds got (lower.Over r) = inr refl
+
 proc_holds : (got : ℕ → Page) (child time : ℕ) (p : Proc) → MayHold (know_of got child time p)
 proc_holds got child time (proc.Find p) = find_holds p.key p.stage
 proc_holds got child time (proc.Insert p) = insert_holds p.key p.value got p.stage
@@ -136,6 +159,7 @@ proc_holds got child time (proc.Post p) = post_holds p.level p.key got child p.s
 proc_holds got child time (proc.Part p) = part_holds p.from p.stage
 proc_holds got child time (proc.Compress p) = compress_holds p.level p.key got p.stage
 proc_holds got child time (proc.Reclaim p) = reclaim_holds time p.stage
+proc_holds got child time (proc.Lower p) = lower_holds got p.stage
 
 pub held_busy : (r : Run) (x : ℕ) (phase : Phase) → IsStage (know r).stage phase → HoldsPage (know r).holds x → (since : ℕ) × (phase ≡ Phase.Running since)
 held_busy r x phase stage holds = elim (proc_holds r.got r.child r.time r.state) [

@@ -21,6 +21,7 @@ pub mod Quiet
 pub mod Posts
 pub mod Parents
 pub mod Pressed
+pub mod Lowerings
 pub mod Paces
 pub mod Learning
 pub mod Encounters

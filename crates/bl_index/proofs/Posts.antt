@@ -84,12 +84,7 @@ pub record IsPosting (before : Proc) (q : Post) (level key : ℕ) : Type 0 where
 
 posting : (before : Proc) (q : Post) (level key : ℕ) → work_of before ≡ Some (level, key) → next_of before ≡ act.End → Takes before seen.Done (proc.Post q) → IsPosting before q level key
 posting (proc.Post p) q level key is e t = record { old = p; before_is = refl; level_is = t.0 ∙ first_of is; key_is = t.1 ∙ second_of is; at_end = e; goes = t.2 }
-posting (proc.Find p) q level key is e t = absurd t
-posting (proc.Insert p) q level key is e t = absurd t
-posting (proc.Delete p) q level key is e t = absurd t
-posting (proc.Part p) q level key is e t = absurd t
-posting (proc.Compress p) q level key is e t = absurd t
-posting (proc.Reclaim p) q level key is e t = absurd t
+posting other q level key is e t = absurd t
 
 pub post_has_answer : (pass : ℕ) (old e : Mine) (first : Proc) (q : Post) (level key : ℕ) → IsDone pass old e first (proc.Post q) → work_of first ≡ Some (level, key) → (what : Option Answer) → what ≡ post_answer q → IsPostAnswer what
 post_has_answer pass old e first q level key d is what a =

@@ -88,12 +88,7 @@ record IsPressing (before : Proc) (q : Compress) (level key : ℕ) : Type 0 wher
 
 pressing : (before : Proc) (q : Compress) (level key : ℕ) → work_of before ≡ Some (level, key) → next_of before ≡ act.End → Takes before seen.Done (proc.Compress q) → IsPressing before q level key
 pressing (proc.Compress p) q level key is e t = record { old = p; before_is = refl; level_is = t.0 ∙ first_of is; key_is = t.1 ∙ second_of is; at_end = e; goes = t.2 }
-pressing (proc.Find p) q level key is e t = absurd t
-pressing (proc.Insert p) q level key is e t = absurd t
-pressing (proc.Delete p) q level key is e t = absurd t
-pressing (proc.Part p) q level key is e t = absurd t
-pressing (proc.Post p) q level key is e t = absurd t
-pressing (proc.Reclaim p) q level key is e t = absurd t
+pressing other q level key is e t = absurd t
 
 pub compress_has_answer : (pass : ℕ) (old e : Mine) (first : Proc) (q : Compress) (level key : ℕ) → IsDone pass old e first (proc.Compress q) → work_of first ≡ Some (level, key) → (what : Option Answer) → what ≡ compress_answer q → IsCompressAnswer what
 compress_has_answer pass old e first q level key d is what a =

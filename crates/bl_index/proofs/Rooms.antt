@@ -19,6 +19,7 @@ use Rattle.bl_proc_base.specs.declared.changing.Outcome.TheVariants as outcome
 use Rattle.bl_proc.specs.declared.posting.PostReply.TheVariants as reply
 use Rattle.bl_proc.specs.declared.posting.Post.{Post}
 use Rattle.bl_proc.specs.declared.kinds.Proc.TheVariants as proc
+use Rattle.bl_proc.specs.declared.lowering.Lower.{Lower}
 use Rattle.bl_proc_compress.specs.declared.squeezing.Compress.{Compress}
 use Rattle.bl_proc.specs.declared.inserting.InsertReply.TheVariants as inserted
 use Rattle.bl_proc.specs.Inserts.{insert_reply}
@@ -114,6 +115,9 @@ lacks_asked h p lacks = elim lacks.3 [
 
 pub lacks_three : (h : H) (p : Compress) → LacksAsked h (proc.Compress p) → WasRefused h 0 3
 lacks_three h p lacks = subst (λ (z : ℕ × ℕ). WasRefused h z.0 z.1) lacks.1 lacks.2
+
+pub lacks_two : (h : H) (p : Lower) → LacksAsked h (proc.Lower p) → WasRefused h 0 2
+lacks_two h p lacks = subst (λ (z : ℕ × ℕ). WasRefused h z.0 z.1) lacks.1 lacks.2
 
 pub reply_refused : (o : Outcome) → post_reply o ≡ reply.NoRoom → o ≡ outcome.Refused
 reply_refused outcome.Changed e = absurd (let f : reply.Done None ≡ reply.NoRoom = e in cc)

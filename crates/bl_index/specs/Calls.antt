@@ -10,14 +10,16 @@ use Rattle.bl_page.specs.declared.page.Page.{Page}
 use Rattle.bl_claims.specs.Trails.{Mark, Trail, history_of, marks_of}
 use Rattle.bl_claims.specs.Walks.{Each}
 use Rattle.bl_claims.specs.Bounds.{gets_of, IsWithinBound, IsBelowBound}
-use Rattle.bl_claims.specs.Latches.{LatchesAlone, OnlyLooks}
+use Rattle.bl_claims.specs.Latches.{LatchesAlone, LatchesBelowAnchor, OnlyLooks}
 use Rattle.bl_proc_meanings.specs.Families.{LatchesBeside}
 use Rattle.bl_proc_base.specs.declared.answers.Hint.{Hint}
 use Rattle.bl_proc_base.specs.declared.answers.Posted.{Posted}
 use Rattle.bl_proc_base.specs.declared.answers.Squeezed.{Squeezed}
+use Rattle.bl_proc_base.specs.declared.lowering.Lowered.{Lowered}
 use Rattle.bl_proc_meanings.specs.Answers.{MeansPosted, MeansHint}
 use Rattle.bl_proc_meanings.specs.Hinted.{MeansInserted, MeansDeleted}
 use Rattle.bl_proc_meanings.specs.Squeezed.{MeansSqueezed}
+use Rattle.bl_proc_meanings.specs.Lowered.{MeansLowered}
 use Rattle.bl_store.specs.Hands.{WasRefused}
 use Rattle.bl_claims.specs.Seeing.{first_map, IsSeen, own, Holds, name}
 use Rattle.bl_index_rule.specs.Told.{IsRelease}
@@ -55,8 +57,8 @@ map_after first trail = final_map (first_map first) (history_of trail)
 abbrev pub released_by : Pass → ℕ
 released_by pass = pass.hand.seat.me.0.releases
 
--- In its last call the pass was refused a reservation of so many pages and frames: what it tried of them was in use. It was the
--- last reservation of that call.
+-- In its last call the pass was refused a reservation of so many pages and frames, the last one of that call: it saw each page
+-- taken; or it got too few frames, and saw each other one taken; or it saw the clock at its end.
 abbrev pub MetNoRoom : Pass → ℕ → ℕ → Type 0
 MetNoRoom pass pages frames = WasRefused pass.hand.seat pages frames
 
@@ -159,3 +161,10 @@ pub record Compresses (first : List (Option Page)) (pass level key : ℕ) (answe
   pub adds : Adds first pass old new
   pub means : MeansSqueezed level key answer next (marks_of (name pass adds.number) new)
   pub latches : LatchesBeside level key (marks_of (name pass adds.number) new)
+
+-- A lowering is answered: it says nothing of the map, and what its process has done is what its answer means. When it latched a
+-- page it held the anchor at most.
+pub record LowersTree (first : List (Option Page)) (pass : ℕ) (answer : Lowered) (old new : Trail) : Type 0 where
+  pub adds : Adds first pass old new
+  pub means : MeansLowered answer (marks_of (name pass adds.number) new)
+  pub latches : LatchesBelowAnchor (marks_of (name pass adds.number) new)

@@ -1,6 +1,6 @@
 //! Kinds of processes, each by its own type.
 
-use bl_proc::{Compress, Find, Post, Process, Reader};
+use bl_proc::{Compress, Find, Lower, Post, Process, Reader};
 
 /// A kind of process that the index carries out: each is one of the kinds that the world of processes knows, and goes on
 /// in one way.
@@ -110,4 +110,28 @@ impl Kind for Compress {
     ghost follows = { compress_follows };
 
     ghost retires = { compress_retires };
+}
+
+impl Kind for Lower {
+    ghost use Rattle.std.specs.Prelude.{refl};
+    ghost use Rattle.bl_proc.specs.declared.kinds.Proc.TheVariants as proc;
+    ghost use Rattle.bl_proc_unique.proofs.Lowers.{lower_goes, lower_wants, lower_follows, lower_retires};
+
+    ghost proc_of = { λ p. proc.Lower p };
+
+    ghost acts = { λ p. refl };
+
+    ghost asks = { λ p. refl };
+
+    ghost answers = { λ p. refl };
+
+    ghost goes = { λ p q what t. t };
+
+    ghost courses = { lower_goes };
+
+    ghost wants = { lower_wants };
+
+    ghost follows = { lower_follows };
+
+    ghost retires = { lower_retires };
 }

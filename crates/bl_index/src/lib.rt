@@ -6,8 +6,8 @@
 //! to its caller: after each call there is one legal list of events and one legal history of the map, in which each
 //! answer stands at its point; both begin with those that the pass knew before, and the call's own entry is the only new
 //! one of this pass. The events begin with what the index began with: with nothing, or with the pages of a sound image, and
-//! so with the map of its rows. A post, a compression and a sweep have no entry; what a post or a compression answers, and
-//! its hint, mean what it did.
+//! so with the map of its rows. A post, a compression, a lowering and a sweep have no entry; what the first three answer, and
+//! their hints, mean what they did.
 #![tactic(auto)]
 
 mod changers;
@@ -26,6 +26,7 @@ mod inserting;
 mod kinds;
 mod leaf_rows;
 mod listing;
+mod lowering;
 mod meeting;
 mod opening;
 mod parting;
@@ -39,7 +40,7 @@ mod stepping;
 mod sweeping;
 
 pub use bl_model::{Next, Reply};
-pub use bl_proc::{Hint, Level, Posted, Squeezed};
+pub use bl_proc::{Hint, Level, Lowered, Posted, Squeezed};
 pub use config::{CloseFault, Config, OpenFault, OutOfTurns};
 pub use index::{Index, Pass};
 pub use reply::KeyReply;

@@ -1,0 +1,38 @@
+//! Lowerings.
+
+ghost use Rattle.std.specs.Prelude.{◌≡◌, Some};
+ghost use Rattle.bl_proc_base.specs.declared.answers.Answer.TheVariants as answers;
+ghost use Rattle.bl_proc_base.specs.declared.lowering.Lowered.TheVariants as answer;
+ghost use Rattle.bl_index.specs.Searching.{IsLowerAnswer};
+
+use crate::index::{Index, Pass};
+use bl_proc::{Answer, Lower, Lowered, Process};
+use std::sync::Wait;
+
+/// What became of a lowering.
+fn lowered(answer: Option<Answer>) -> Lowered
+    requires { IsLowerAnswer answer }
+    ensures { answer ≡ Some (answers.Lower result) }
+{
+    match answer {
+        Some(Answer::Lower(lowered)) => lowered,
+        _ => unreachable!(),
+    }
+}
+
+impl Index {
+    ghost use Rattle.bl_index.specs.Calls.{first_of, IsPassOf, IsSamePass, number_of, trail, LowersTree, MetNoRoom};
+
+    /// Takes the top level of the tree away, while other threads read and write, where it is one page with one pair, no bound and
+    /// no link, and there is a level below it. Its page then serves again after a sweep. A level that is needed stays.
+    pub fn lower<R: Wait>(&self, rt: &R, pass: &mut Pass) -> Lowered
+        requires own { IsPassOf self.now pass.old }
+        ensures same { IsSamePass pass.old pass.new }
+        ensures lowers { LowersTree (first_of self.now) (number_of pass.old) result (trail pass.old) (trail pass.new) }
+        ensures no_room { result ≡ answer.NoRoom → MetNoRoom pass.new 0 2 }
+    {
+        let lower = Lower::new();
+        let process = self.carry_out(rt, &mut pass.hand, lower);
+        lowered(process.answer())
+    }
+}
