@@ -34,7 +34,7 @@ returns-in-Ok-clause-appends c =
     let ended = subst (λ (h : Hand Mine). ends (known h.seat) 0 (known c.end_part.new.hand.seat)) (c.append_rows-rows.ensures.same ∙ portion.ensures.same) c.end_part.ensures.ended in
     let all = rw c.in-Ok.is at c.append_rows-rows.ensures.all in
     let grown = subst (λ (h : Hand Mine). c.append_rows-rows.result.0.items ≡ c.args.rows.items ++ take (portion.result.last - portion.result.first) (drop portion.result.first (pairs_of (read_words h.seat)))) portion.ensures.same all
-        ∙ ap (λ z. c.args.rows.items ++ z) (between_rows _ c.args.from c.args.to _ _ portion.ensures.first portion.ensures.last) in
+    ∙ ap (λ z. c.args.rows.items ++ z) (between_rows _ c.args.from c.args.to _ _ portion.ensures.first portion.ensures.last) in
     record { listed = part_appends _ _ c.args.from _ c.come_to_leaf.new.hand.seat c.end_part.new.hand.seat _ has ended c.args.turns c.args.to _ _ portion.result.behind portion.ensures.behind grown; left = tt }
 
 pub returns-in-Err-clause-appends : goal.returns-in-Err-clause-appends
