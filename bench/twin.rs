@@ -1,6 +1,6 @@
 //! A plain Rust program that answers request lines as `blink serve` does, for comparison, and a generator of such lines.
 //! `twin lines N K M` writes N mixed lines of keys 1 to K with a sync each M, `twin finds N K` as many that find but for the insertions
-//! of K keys; `twin serve` answers standard input.
+//! of K keys, `twin scans N K` as many that scan 100 rows each; `twin serve` answers standard input.
 
 use std::collections::BTreeMap;
 use std::env;
@@ -10,6 +10,7 @@ enum Request {
     Find(u64),
     Insert(u64, u64),
     Delete(u64),
+    Scan(u64, u64),
     Sync,
 }
 
@@ -30,6 +31,10 @@ fn parse(line: &[u8]) -> Option<Request> {
     }
     if let Some(rest) = line.strip_prefix("delete ") {
         return number(rest).map(Request::Delete);
+    }
+    if let Some(rest) = line.strip_prefix("scan ") {
+        let (low, high) = rest.split_once(' ')?;
+        return Some(Request::Scan(number(low)?, number(high)?));
     }
     let (key, value) = line.strip_prefix("insert ")?.split_once(' ')?;
     Some(Request::Insert(number(key)?, number(value)?))
@@ -69,6 +74,13 @@ fn serve() -> io::Result<()> {
                 Some(value) => writeln!(text, "{count} deleted {value}")?,
                 None => writeln!(text, "{count} absent")?,
             },
+            Some(Request::Scan(low, high)) => {
+                write!(text, "{count} rows")?;
+                for (key, value) in rows.range(low..high.max(low)) {
+                    write!(text, " {key}={value}")?;
+                }
+                writeln!(text)?;
+            }
             Some(Request::Sync) => {
                 writeln!(text, "{count} synced")?;
                 writer.write_all(&text)?;
@@ -96,6 +108,22 @@ fn write_finds(count: u64, keys: u64) -> io::Result<()> {
             _ if line <= keys => writeln!(writer, "insert {line} {}", state >> 20)?,
             _ if line == keys + 1 || line % 100_000 == 0 => writeln!(writer, "sync")?,
             _ => writeln!(writer, "find {}", (state >> 33) % keys + 1)?,
+        }
+    }
+    writer.flush()
+}
+
+/// An insertion of each key from 1 on and a sync, then scans of 100 of these rows, and a sync each 10,000 lines.
+fn write_scans(count: u64, keys: u64) -> io::Result<()> {
+    let mut writer = BufWriter::new(io::stdout().lock());
+    let mut state = 1u64;
+    for line in 1..=count {
+        state = step(state);
+        let low = (state >> 33) % keys.saturating_sub(100).max(1) + 1;
+        match line {
+            _ if line <= keys => writeln!(writer, "insert {line} {}", state >> 20)?,
+            _ if line == keys + 1 || line % 10_000 == 0 => writeln!(writer, "sync")?,
+            _ => writeln!(writer, "scan {low} {}", low + 100)?,
         }
     }
     writer.flush()
@@ -129,8 +157,9 @@ fn main() -> io::Result<()> {
         ["serve"] => serve(),
         ["lines", count, keys, section] => write_lines(positive(count), positive(keys), positive(section)),
         ["finds", count, keys] => write_finds(positive(count), positive(keys)),
+        ["scans", count, keys] => write_scans(positive(count), positive(keys)),
         _ => {
-            eprintln!("usage: twin serve | twin lines N K M | twin finds N K");
+            eprintln!("usage: twin serve | twin lines N K M | twin finds N K | twin scans N K");
             std::process::exit(2);
         }
     }

@@ -24,7 +24,8 @@ use Rattle.bl_index.specs.declared.scanning.ScanFault.TheVariants.{Memory}
 use Rattle.bl_index.specs.Calls.{Finds}
 use Rattle.bl_index.specs.LeafRows.{rows_from, rows_between}
 use Rattle.bl_index.specs.Parts.{IsAtLeaf, HasLeaf}
-use Rattle.bl_index.specs.Scans.{is_below, AppendsPart, LeavesPart}
+use Rattle.bl_index.specs.declared.leaf_rows.Behind.{Behind}
+use Rattle.bl_index.specs.Scans.{is_below, GoesOnWithin, AppendsPart, LeavesPart}
 use Rattle.bl_index.proofs.Listings.{part_finds}
 use Rattle.bl_index.proofs.Picked.{listed_rows, part_rows}
 
@@ -36,6 +37,14 @@ leaf_pairs from words d leaf = tree_pairs leaf.page words leaf.leads.0 leaf.is
 abbrev pub GoesOnBehind : List ℕ → Next → Type 0
 GoesOnBehind words next = (c : Page) → IsTreePage c → words ≡ words_of c → GoesOnAt (node_of c).shape.end next
 
+-- a scan goes on so behind the leaf with these words
+abbrev pub TellsBehind : Option ℕ → List ℕ → Behind → Type 0
+TellsBehind to words behind = (c : Page) (next : Next) → IsTreePage c → words ≡ words_of c → GoesOnAt (node_of c).shape.end next → GoesOnWithin to (next_key next) behind
+
+-- those below an end of the rows that a part lists
+pub below_are : (from : ℕ) (words : List ℕ) (d : Mine) (leaf : IsAtLeaf from words d) (to : Option ℕ) → filter (λ row. is_below to row.0) leaf.rows.rows.items ≡ rows_between from to (pairs_of words)
+below_are from words d leaf to = ap (filter (λ row. is_below to row.0)) (part_rows leaf.page words from leaf.leads.0 leaf.is leaf.rows leaf.lists)
+
 module _ (from : ℕ) (words : List ℕ) (d : Mine) (leaf : IsAtLeaf from words d) (next : Next) (goes : GoesOnBehind words next) where
   -- the rows and the next key that were read are those of the part
   pub rows_are : (read : PartRows) → read.rows.items ≡ rows_from from (pairs_of words) → read.next ≡ next → leaf.rows ≡ read
@@ -44,25 +53,19 @@ module _ (from : ℕ) (words : List ℕ) (d : Mine) (leaf : IsAtLeaf from words 
     next = subst (λ (z : Next). GoesOnAt (node_of leaf.page).shape.end z) (sym same) (goes leaf.page leaf.leads.0 leaf.is);
   })
 
-  pub next_is : leaf.rows.next ≡ next
-  next_is = ap (λ (z : PartRows). z.next) (rows_are (record { rows = leaf.rows.rows; next = next }) (part_rows leaf.page words from leaf.leads.0 leaf.is leaf.rows leaf.lists) refl)
-
-  pub below_are : (to : Option ℕ) → filter (λ row. is_below to row.0) leaf.rows.rows.items ≡ rows_between from to (pairs_of words)
-  below_are to = ap (filter (λ row. is_below to row.0)) (part_rows leaf.page words from leaf.leads.0 leaf.is leaf.rows leaf.lists)
-
-module _ (l : Layout) (pass from : ℕ) (old : Mine) (h h' : Seat (Unit {0}) (View Mine)) (glance : Glance) (has : HasLeaf l pass from old h glance) (ended : ends (known h) 0 (known h')) (next : Next) (goes : GoesOnBehind (read_words h) next) where
+module _ (l : Layout) (pass from : ℕ) (old : Mine) (h h' : Seat (Unit {0}) (View Mine)) (glance : Glance) (has : HasLeaf l pass from old h glance) (ended : ends (known h) 0 (known h')) where
   -- the part is answered by what was read
-  pub part_answers : (read : PartRows) → read.rows.items ≡ rows_from from (pairs_of (read_words h)) → read.next ≡ next → Finds old.first l.pages pass (op.Part from) (Rows read.rows read.next) old.trail (known h').trail
-  part_answers read is same = subst (λ (z : PartRows). Finds old.first l.pages pass (op.Part from) (Rows z.rows z.next) old.trail (known h').trail) (rows_are from (read_words h) (known h) has.leaf next goes read is same) (part_finds l pass from old h h' glance has ended)
+  pub part_answers : (next : Next) (goes : GoesOnBehind (read_words h) next) (read : PartRows) → read.rows.items ≡ rows_from from (pairs_of (read_words h)) → read.next ≡ next → Finds old.first l.pages pass (op.Part from) (Rows read.rows read.next) old.trail (known h').trail
+  part_answers next goes read is same = subst (λ (z : PartRows). Finds old.first l.pages pass (op.Part from) (Rows z.rows z.next) old.trail (known h').trail) (rows_are from (read_words h) (known h) has.leaf next goes read is same) (part_finds l pass from old h h' glance has ended)
 
   module _ (turns : ℕ) (to : Option ℕ) (before after : List (ℕ × ℕ)) where
     -- its rows below the end were appended
-    pub part_appends : after ≡ before ++ rows_between from to (pairs_of (read_words h)) → AppendsPart old.first l.pages pass from to next before after old.trail (known h').trail
-    part_appends grown = record {
+    pub part_appends : (behind : Behind) → TellsBehind to (read_words h) behind → after ≡ before ++ rows_between from to (pairs_of (read_words h)) → AppendsPart old.first l.pages pass from to behind before after old.trail (known h').trail
+    part_appends behind tells grown = record {
       reply = Rows has.leaf.rows.rows has.leaf.rows.next;
       finds = part_finds l pass from old h h' glance has ended;
-      ends = ap next_key (next_is from (read_words h) (known h) has.leaf next goes);
-      appended = grown ∙ ap (λ (z : List (ℕ × ℕ)). before ++ z) (sym (below_are from (read_words h) (known h) has.leaf next goes to));
+      ends = tells has.leaf.page has.leaf.rows.next has.leaf.leads.0 has.leaf.is has.leaf.lists.next;
+      appended = grown ∙ ap (λ (z : List (ℕ × ℕ)). before ++ z) (sym (below_are from (read_words h) (known h) has.leaf to));
     }
 
     -- or they had no room
@@ -73,6 +76,6 @@ module _ (l : Layout) (pass from : ℕ) (old : Mine) (h h' : Seat (Unit {0}) (Vi
       stops = record {
         reply = Rows has.leaf.rows.rows has.leaf.rows.next;
         finds = part_finds l pass from old h h' glance has ended;
-        more = subst (λ (z : List (ℕ × ℕ)). room < length z) (sym (below_are from (read_words h) (known h) has.leaf next goes to)) more;
+        more = subst (λ (z : List (ℕ × ℕ)). room < length z) (sym (below_are from (read_words h) (known h) has.leaf to)) more;
       };
     }

@@ -36,3 +36,4 @@ pub mod Holders
 pub mod Gathered
 pub mod AtRest
 pub mod Reopening
+mod Portions

@@ -1,13 +1,11 @@
 -- How a scan goes on by a part, and where it ends.
-use Rattle.std.proofs.Common.{◌≡◌, ℕ, ◌<◌, ◌≤◌, false, Option, Some, None, List, [], ◌∷◌, ◌++◌, refl, sym, ap, ◌∙◌, subst, append_assoc, append-nil, arith}
+use Rattle.std.proofs.Common.{◌≡◌, ℕ, ◌-◌, ◌^◌, ◌<◌, ◌≤◌, false, Option, Some, None, List, [], ◌∷◌, ◌++◌, refl, sym, ap, ◌∙◌, subst, append_assoc, append-nil, arith}
 use Rattle.std.specs.Prelude.{Result, Ok, Err}
 use Rattle.std.proofs.lemmas.Bool.Decides.{nat_tests}
 use Rattle.std.proofs.lemmas.List.{flat_map_more}
 use Rattle.std.proofs.lemmas.List.Elements.{All-nil}
 use Rattle.bl_model.specs.declared.operation.Entry.{Entry}
-use Rattle.bl_model.specs.declared.operation.Next.{Next}
-use Rattle.bl_model.specs.declared.operation.Next.TheVariants.{More, End}
-use Rattle.bl_model.specs.declared.operation.Op.TheVariants.{Part}
+use Rattle.bl_model.specs.declared.operation.Op.TheVariants.{Part as OpPart}
 use Rattle.bl_model.specs.declared.operation.Reply.{Reply}
 use Rattle.bl_model.specs.declared.operation.Reply.TheVariants.{Rows}
 use Rattle.bl_model.specs.Map.{Map, MayAnswer}
@@ -16,8 +14,10 @@ use Rattle.bl_page.specs.declared.page.Page.{Page}
 use Rattle.bl_claims.specs.Seeing.{first_map, own}
 use Rattle.bl_index.specs.declared.scanning.ScanFault.{ScanFault}
 use Rattle.bl_index.specs.Calls.{Finds}
-use Rattle.bl_index.specs.Scans.{IsBelow, is_below, rows_below, AreParts, AreCalls, Scans, IsOver, EndsScan, MayScan, AppendsPart, left_from}
-use Rattle.bl_model.specs.Parts.{next_key, ended_at}
+use Rattle.bl_index.specs.declared.leaf_rows.Behind.{Behind}
+use Rattle.bl_index.specs.declared.leaf_rows.Behind.TheVariants.{Part, Nothing}
+use Rattle.bl_index.specs.Scans.{IsBelow, is_below, rows_below, AreParts, AreCalls, Scans, IsOver, EndsScan, MayScan, GoesOnWithin, AppendsPart, LeavesPart, StopsAt, StopsScan, left_from}
+use Rattle.bl_model.specs.Parts.{ended_at}
 use Rattle.bl_index.proofs.Scanned.{IsFrom, IsBehind, Answered, answered, part_is, only_rows, parts_push, right_more, from_more, rising_more}
 
 history_append : (xs ys : Trail) → history_of (xs ++ ys) ≡ history_of xs ++ history_of ys
@@ -43,9 +43,9 @@ scans_none first pages pass from to old = record {
   right = λ key low high below. absurd (omega arith);
 }
 
-module _ (first : List (Option Page)) (pages pass at : ℕ) (reply : Reply) (mid new : Trail) (finds : Finds first pages pass (Part at) reply mid new) where
+module _ (first : List (Option Page)) (pages pass at : ℕ) (reply : Reply) (mid new : Trail) (finds : Finds first pages pass (OpPart at) reply mid new) where
   abbrev entry : Entry
-  entry = record { pass = pass; op = Part at; reply = reply }
+  entry = record { pass = pass; op = OpPart at; reply = reply }
 
   abbrev more : Trail
   more = finds.answers.holds.before ++ finds.answers.holds.first ∷ (finds.answers.holds.between ++ finds.answers.holds.last ∷ [])
@@ -64,7 +64,7 @@ module _ (first : List (Option Page)) (pages pass at : ℕ) (reply : Reply) (mid
   -- the scan has gone on by the part
   pub scans_more : (from : ℕ) (to : Option ℕ) (listed : List (ℕ × ℕ)) (old : Trail) → Scans first pages pass from to (Some at) listed old mid → from ≤ at → IsBelow to at → Scans first pages pass from to (ended_at reply) (listed ++ rows_below to reply) old new
   scans_more from to listed old s low below =
-      let is_part : (m : Map) → MayAnswer m (Part at) reply → _ = λ m may. part_is m at reply may in
+      let is_part : (m : Map) → MayAnswer m (OpPart at) reply → _ = λ m may. part_is m at reply may in
       let on : history_of mid ≡ history_of old ++ history_of s.begins.0 = ap history_of s.begins.1 ∙ history_append old s.begins.0 in
       record {
         parts = s.parts ++ entry ∷ [];
@@ -105,24 +105,64 @@ nothing_done first pages pass turns from to room (Err fault) before after old ne
     let key : left_from fault ≡ from = cc in
     absurd (not_both to from is (subst (IsBelow to) key m.stopped.left))
 
-module _ (first : List (Option Page)) (pages pass it from at : ℕ) (to : Option ℕ) (next : Next) (listed before after : List (ℕ × ℕ)) (old mid new : Trail) (same : it ≡ pass) (s : Scans first pages pass from to (Some at) listed old mid) (low : from ≤ at) (below : IsBelow to at) where
+module _ (first : List (Option Page)) (pages pass it from at : ℕ) (to : Option ℕ) (behind : Behind) (listed before after : List (ℕ × ℕ)) (old mid new : Trail) (same : it ≡ pass) (s : Scans first pages pass from to (Some at) listed old mid) (low : from ≤ at) (below : IsBelow to at) where
   abbrev Step : Option ℕ → Type 0
   Step upto = (rows : List (ℕ × ℕ)) × (after ≡ before ++ rows) × Scans first pages pass from to upto (listed ++ rows) old new
 
-  by_part : AppendsPart first pages it at to next before after mid new → Step (next_key next)
-  by_part a = let finds : Finds first pages pass (Part at) a.reply mid new = subst (λ (z : ℕ). Finds first pages z (Part at) a.reply mid new) same a.finds in (
+  by_part : (a : AppendsPart first pages it at to behind before after mid new) → Step (ended_at a.reply)
+  by_part a = let finds : Finds first pages pass (OpPart at) a.reply mid new = subst (λ (z : ℕ). Finds first pages z (OpPart at) a.reply mid new) same a.finds in (
     rows_below to a.reply,
     a.appended,
-    subst (λ (z : Option ℕ). Scans first pages pass from to z (listed ++ rows_below to a.reply) old new) a.ends (scans_more first pages pass at a.reply mid new finds from to listed old s low below),
+    scans_more first pages pass at a.reply mid new finds from to listed old s low below,
   )
 
   -- a scan that goes on behind a part
-  pub goes_on : (n : ℕ) → next ≡ More n → AppendsPart first pages it at to next before after mid new → (at < n) × Step (Some n)
-  goes_on n is a = (
-    subst (IsBehind at) (a.ends ∙ ap next_key is) (ends_behind first pages it at a.reply mid new a.finds),
-    subst (λ (z : Next). Step (next_key z)) is (by_part a),
+  pub goes_on : (n link : ℕ) → behind ≡ Part n link → AppendsPart first pages it at to behind before after mid new → (at < n) × (n < 2 ^ 64) × IsBelow to n × Step (Some n)
+  goes_on n link is a = let on = subst (GoesOnWithin to (ended_at a.reply)) is a.ends in (
+    subst (IsBehind at) on.0 (ends_behind first pages it at a.reply mid new a.finds),
+    on.1,
+    on.2,
+    subst Step on.0 (by_part a),
   )
 
-  -- a scan that ends with the map
-  pub ends_there : next ≡ End → AppendsPart first pages it at to next before after mid new → (rows : List (ℕ × ℕ)) × (after ≡ before ++ rows) × EndsScan first pages pass from to (listed ++ rows) old new
-  ends_there is a = let on : Step None = subst (λ (z : Next). Step (next_key z)) is (by_part a) in (on.0, on.1, record { upto = None; over = tt; scans = on.2 })
+  -- a scan that is over behind it
+  pub ends_there : behind ≡ Nothing → AppendsPart first pages it at to behind before after mid new → (rows : List (ℕ × ℕ)) × (after ≡ before ++ rows) × EndsScan first pages pass from to (listed ++ rows) old new
+  ends_there is a = let on = by_part a in (on.0, on.1, record { upto = ended_at a.reply; over = subst (GoesOnWithin to (ended_at a.reply)) is a.ends; scans = on.2 })
+
+-- ---- a scan that has come so far
+
+-- it goes on from a key below its end, or it has ended
+abbrev pub IsSoFar : List (Option Page) → ℕ → ℕ → ℕ → Option ℕ → Behind → List (ℕ × ℕ) → Trail → Trail → Type 0
+IsSoFar first pages pass from to (Part at link) listed old new = (from ≤ at) × (at < 2 ^ 64) × IsBelow to at × Scans first pages pass from to (Some at) listed old new
+IsSoFar first pages pass from to Nothing listed old new = EndsScan first pages pass from to listed old new
+
+-- what is left of the keys
+abbrev pub left_behind : Behind → ℕ
+left_behind (Part at link) = 2 ^ 64 - at
+left_behind Nothing = 0
+
+-- what a part more makes of it
+pub record HasGone (first : List (Option Page)) (pages pass from at : ℕ) (to : Option ℕ) (behind : Behind) (listed before after : List (ℕ × ℕ)) (old new : Trail) : Type 0 where
+  pub rows : List (ℕ × ℕ)
+  pub appended : after ≡ before ++ rows
+  pub so_far : IsSoFar first pages pass from to behind (listed ++ rows) old new
+  pub less : left_behind behind < 2 ^ 64 - at
+
+pub part_more : (first : List (Option Page)) (pages pass it from at link : ℕ) (to : Option ℕ) (behind : Behind) (listed before after : List (ℕ × ℕ)) (old mid new : Trail) → it ≡ pass
+    → IsSoFar first pages pass from to (Part at link) listed old mid → AppendsPart first pages it at to behind before after mid new → HasGone first pages pass from at to behind listed before after old new
+part_more first pages pass it from at link to (Part n more) listed before after old mid new same (low, fits, below, s) a =
+    let on = goes_on first pages pass it from at to (Part n more) listed before after old mid new same s low below n more refl a in
+    record { rows = on.3.0; appended = on.3.1; so_far = (omega (arith, on.0, low), on.1, on.2, on.3.2); less = omega (arith, on.0, on.1) }
+part_more first pages pass it from at link to Nothing listed before after old mid new same (low, fits, below, s) a =
+    let on = ends_there first pages pass it from at to Nothing listed before after old mid new same s low below refl a in
+    record { rows = on.0; appended = on.1; so_far = on.2; less = omega (arith, fits) }
+
+-- where it stops
+pub stops_there : (first : List (Option Page)) (pages pass it turns from at link : ℕ) (to : Option ℕ) (room : ℕ) (fault : ScanFault) (listed before after : List (ℕ × ℕ)) (old mid new : Trail) → it ≡ pass
+    → IsSoFar first pages pass from to (Part at link) listed old mid → LeavesPart first pages it turns at to room fault before after mid new → StopsScan first pages pass turns from to room fault listed old new
+stops_there first pages pass it turns from at link to room fault listed before after old mid new same (low, fits, below, s) left = record {
+  mid = mid;
+  scans = subst (λ (z : ℕ). Scans first pages pass from to (Some z) listed old mid) (sym left.key) s;
+  left = subst (IsBelow to) (sym left.key) below;
+  stops = subst (λ (z : ℕ). StopsAt first pages z turns to room fault mid new) same left.stops;
+}

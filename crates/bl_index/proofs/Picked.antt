@@ -21,7 +21,7 @@ use Rattle.bl_proc.specs.Parts.{IsPartOf}
 use Rattle.bl_proc.proofs.Rising.{first_from, lists_from, rising_keys}
 use Rattle.bl_proc_unique.proofs.Listings.{lists_one}
 use Rattle.bl_index.specs.Scans.{is_below}
-use Rattle.bl_index.specs.LeafRows.{rows_from, rows_between, EndsBefore, AppendsBetween}
+use Rattle.bl_index.specs.LeafRows.{rows_from, rows_between, EndsBefore}
 use Rattle.bl_index.proofs.Ranges.{first_rows, none_fails, filter_keeps, filter_has, rising_filter}
 
 le_true : (a b : ℕ) → a ≤ b → nat_le a b ≡ true
@@ -208,8 +208,3 @@ module _ (c : Page) (words : List ℕ) (from : ℕ) (tree : IsTreePage c) (is : 
 
   pub part_rows : (part : PartRows) → IsPartOf c from part → part.rows.items ≡ rows_from from (pairs_of words)
   part_rows part lists = lists_one (node_of c).look (λ key. from ≤ key) part.rows.items (rows_from from (pairs_of words)) lists.rows (listed_rows (rows_from from (pairs_of words)) refl)
-
--- there is no room for them
-pub appends_none : (from : ℕ) (to : Option ℕ) (rows : List (ℕ × ℕ)) (room : ℕ) (result : Result (Unit {0}) AllocError) (before after : List (ℕ × ℕ)) → IsErr result → after ≡ before → room < length (rows_between from to rows) → AppendsBetween from to rows room result before after
-appends_none from to rows room (Ok done) before after is kept more = let none : ⊥ = cc in absurd none
-appends_none from to rows room (Err fault) before after is kept more = record { all = tt; none = kept; more = more }

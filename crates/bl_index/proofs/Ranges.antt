@@ -21,6 +21,11 @@ pub below_is : (end : Option ℕ) (key : ℕ) → is_below end key ≡ true → 
 below_is None key is = tt
 below_is (Some end) key is = grind (arith, nat_tests, is)
 
+-- so is the least key, where any is
+pub below_less : (end : Option ℕ) (key : ℕ) → IsBelow end key → IsBelow end 0
+below_less None key is = tt
+below_less (Some end) key is = omega (arith, is)
+
 module _ {X : Type 0} (p : X → Bool) where
   in_cons : (y : X) (ys : List X) (x : X) → Contains (y ∷ ys) x → (y ≡ x) ⊎ Contains ys x
   in_cons y ys x (zero, lt, is) = inl is

@@ -1,6 +1,5 @@
 -- The rows of a leaf that a part lists, and those of them that a scan appends.
-use Rattle.std.specs.Prelude.{◌≡◌, ℕ, ◌<◌, ◌≤◌, ◌++◌, true, false, nat_le, List, length, filter, Option, Result, OnOk, OnErr}
-use Rattle.std.specs.declared.alloc.AllocError.{AllocError}
+use Rattle.std.specs.Prelude.{◌≡◌, ℕ, ◌+◌, ◌^◌, ◌<◌, ◌≤◌, true, false, nat_le, List, length, filter, Option, Some, None}
 use Rattle.bl_model.specs.Rows.{key_at}
 use Rattle.bl_index.specs.Scans.{is_below}
 
@@ -19,8 +18,7 @@ pub record EndsBefore (rows : List (ℕ × ℕ)) (to : Option ℕ) (first last :
   pub below : (i : ℕ) → first ≤ i → i < last → is_below to (key_at rows i) ≡ true
   pub others : (i : ℕ) → last ≤ i → i < length rows → is_below to (key_at rows i) ≡ false
 
--- All of these rows stand behind those of before; or none, and there is room for fewer.
-pub record AppendsBetween (from : ℕ) (to : Option ℕ) (rows : List (ℕ × ℕ)) (room : ℕ) (result : Result (Unit {0}) AllocError) (before after : List (ℕ × ℕ)) : Type 0 where
-  pub all : OnOk result (after ≡ before ++ rows_between from to rows)
-  pub none : OnErr result (after ≡ before)
-  pub more : OnErr result (room < length (rows_between from to rows))
+-- the greatest key below an end, if there is one, or the greatest of all
+abbrev pub IsLastBelow : Option ℕ → ℕ → Type 0
+IsLastBelow None last = last + 1 ≡ 2 ^ 64
+IsLastBelow (Some end) last = last + 1 ≡ end

@@ -1,16 +1,17 @@
 -- What a scan tells the pass that makes it: parts, each from where the last one ended, and the rows that they list together.
-use Rattle.std.specs.Prelude.{◌≡◌, ℕ, ◌<◌, ◌≤◌, ◌++◌, ◌↔◌, Bool, true, List, [], ◌∷◌, Option, Some, None, Result, All, Contains, filter, flat_map, length, nat_lt, OnOk, IfOk, IfErr}
+use Rattle.std.specs.Prelude.{◌≡◌, ℕ, ◌^◌, ◌<◌, ◌≤◌, ◌++◌, ◌↔◌, Bool, true, List, [], ◌∷◌, Option, Some, None, Result, All, Contains, filter, flat_map, length, nat_lt, OnOk, IfOk, IfErr}
 use Rattle.bl_page.specs.declared.page.Page.{Page}
 use Rattle.bl_model.specs.History.{final_map}
 use Rattle.bl_model.specs.Rows.{HasRisingKeys}
-use Rattle.bl_model.specs.Parts.{rows_of, next_key, ended_at}
+use Rattle.bl_model.specs.Parts.{rows_of, ended_at}
 use Rattle.bl_model.specs.declared.operation.Entry.{Entry}
-use Rattle.bl_model.specs.declared.operation.Next.{Next}
 use Rattle.bl_model.specs.declared.operation.Op.TheVariants.{Part}
 use Rattle.bl_model.specs.declared.operation.Reply.{Reply}
 use Rattle.bl_claims.specs.Trails.{Trail, history_of}
 use Rattle.bl_claims.specs.Seeing.{first_map, IsSeen, own, GoesOnFrom}
 use Rattle.bl_index.specs.Calls.{Finds, RunsOut}
+use Rattle.bl_index.specs.declared.leaf_rows.Behind.{Behind}
+use Rattle.bl_index.specs.declared.leaf_rows.Behind.TheVariants as behind
 use Rattle.bl_index.specs.declared.scanning.ScanFault.{ScanFault}
 use Rattle.bl_index.specs.declared.scanning.ScanFault.TheVariants.{Memory, OutOfTurns}
 
@@ -106,11 +107,16 @@ pub record MayScan (first : List (Option Page)) (pages pass turns from : ℕ) (t
   pub ended : OnOk result (EndsScan first pages pass from to rows old new)
   pub stopped : IfErr result (λ fault. StopsScan first pages pass turns from to room fault rows old new)
 
+-- A scan goes on from where a part ended, or is over. Of the page to which the part's leaf links nothing is said.
+abbrev pub GoesOnWithin : Option ℕ → Option ℕ → Behind → Type 0
+GoesOnWithin to upto (behind.Part from link) = (upto ≡ Some from) × (from < 2 ^ 64) × IsBelow to from
+GoesOnWithin to upto behind.Nothing = IsOver to upto
+
 -- One part of a scan was answered, and its rows below the scan's end stand behind those of before.
-pub record AppendsPart (first : List (Option Page)) (pages pass from : ℕ) (to : Option ℕ) (next : Next) (before after : List (ℕ × ℕ)) (old new : Trail) : Type 0 where
+pub record AppendsPart (first : List (Option Page)) (pages pass from : ℕ) (to : Option ℕ) (behind : Behind) (before after : List (ℕ × ℕ)) (old new : Trail) : Type 0 where
   pub reply : Reply
   pub finds : Finds first pages pass (Part from) reply old new
-  pub ends : ended_at reply ≡ next_key next
+  pub ends : GoesOnWithin to (ended_at reply) behind
   pub appended : after ≡ before ++ rows_below to reply
 
 -- The scan stops at that part, and the rows are those of before.
@@ -119,7 +125,7 @@ pub record LeavesPart (first : List (Option Page)) (pages pass turns from : ℕ)
   pub kept : after ≡ before
   pub stops : StopsAt first pages pass turns to room fault old new
 
--- One or the other. Beside where the part ended stands the page to which its leaf links, of which nothing is said.
-pub record MayAppend (first : List (Option Page)) (pages pass turns from : ℕ) (to : Option ℕ) (room : ℕ) (result : Result (Next × ℕ) ScanFault) (before after : List (ℕ × ℕ)) (old new : Trail) : Type 0 where
-  pub listed : IfOk result (λ t. AppendsPart first pages pass from to t.0 before after old new)
+-- One or the other.
+pub record MayAppend (first : List (Option Page)) (pages pass turns from : ℕ) (to : Option ℕ) (room : ℕ) (result : Result Behind ScanFault) (before after : List (ℕ × ℕ)) (old new : Trail) : Type 0 where
+  pub listed : IfOk result (λ behind. AppendsPart first pages pass from to behind before after old new)
   pub left : IfErr result (λ fault. LeavesPart first pages pass turns from to room fault before after old new)

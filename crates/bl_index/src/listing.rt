@@ -14,13 +14,14 @@ ghost use Rattle.bl_proc_unique.specs.Courses.{GoesOn};
 ghost use Rattle.bl_store.specs.Hands.{known, IsIdle, IsRunning, IsSameHand, IsSameStage, IsSameStock};
 ghost use Rattle.bl_store.specs.Owners.{IsHandOf};
 ghost use Rattle.bl_claims.specs.Seeing.{IsSeen};
+ghost use Rattle.bl_index_rule.specs.declared.known.Mine.{Mine as Knows};
 ghost use Rattle.bl_index_rule.specs.Told.{Begins, Steps, ends, IsUnborn};
 ghost use Rattle.bl_index.specs.Runs.{IsOn, IsSince, IsWithin, IsAtTurn};
 ghost use Rattle.bl_index.specs.Parts.{listing, first_stage, part_at, IsAtLeaf, HasReached, HasLeaf, HasGivenUp};
 
 use crate::config::OutOfTurns;
 use crate::index::{Index, Pass};
-use crate::leaf_rows::{next_in, rows_in};
+use crate::leaf_rows::{descended, link_in, next_in, rows_in};
 use crate::shown::Shown;
 use bl_index_rule::{Began, Ended, Launch, Mine};
 use bl_model::Reply;
@@ -49,10 +50,34 @@ impl Index {
         ensures answers { AnswersOrRunsOut (first_of self.now) (pages_of self.now) (number_of pass.old) turns (op.Part from) result (trail pass.old) (trail pass.new) }
         ensures alone { IfOk result (λ reply. StepsAlone (first_of self.now) self.now (op.Part from) reply (trail pass.old) (trail pass.new)) }
     {
-        self.part_by(&mut pass.hand, from, turns)
+        self.part_by(&mut pass.hand, from, &mut None, turns)
     }
 
-    fn part_by(&self, hand: &mut Hand<Mine>, from: u64, turns: u32) -> Result<Reply, OutOfTurns>
+    /// The same for one who goes along the leaves: with `None` for the first part, it takes the page from which the way to each further
+    /// one is short, and leaves there the page to which the part's leaf links. Any number will do for it: the part looks first whether
+    /// that page is open, and else goes the whole way.
+    pub fn part_near(
+        &self,
+        pass: &mut Pass,
+        from: u64,
+        near: &mut Option<u32>,
+        turns: u32,
+    ) -> Result<Reply, OutOfTurns>
+        requires { IsPassOf self.now pass.old }
+        ensures same { IsSamePass pass.old pass.new }
+        ensures answers { AnswersOrRunsOut (first_of self.now) (pages_of self.now) (number_of pass.old) turns (op.Part from) result (trail pass.old) (trail pass.new) }
+        ensures alone { IfOk result (λ reply. StepsAlone (first_of self.now) self.now (op.Part from) reply (trail pass.old) (trail pass.new)) }
+    {
+        self.part_by(&mut pass.hand, from, near, turns)
+    }
+
+    fn part_by(
+        &self,
+        hand: &mut Hand<Mine>,
+        from: u64,
+        near: &mut Option<u32>,
+        turns: u32,
+    ) -> Result<Reply, OutOfTurns>
         requires own { IsHandOf self.now.store hand.old }
         requires idle { IsIdle hand.old.seat }
         ensures same { IsSameHand hand.old.seat hand.new.seat × IsSameStock hand.old.seat hand.new.seat }
@@ -63,7 +88,7 @@ impl Index {
         ensures seen { IsSeen (known hand.new.seat).first (known hand.new.seat).trail }
         ensures answers { AnswersOrRunsOut (known hand.old.seat).first self.now.store.layout.pages hand.old.number turns (op.Part from) result (known hand.old.seat).trail (known hand.new.seat).trail }
     {
-        let Some(glance) = self.come_to_leaf(hand, from, None, turns) else {
+        let Some(glance) = self.come_to_leaf(hand, from, *near, turns) else {
             return Err(OutOfTurns);
         };
         let shown = Shown {
@@ -72,6 +97,7 @@ impl Index {
         };
         let rows = rows_in(&shown, hand, from);
         let next = next_in(&shown, hand);
+        *near = Some(link_in(&shown, hand));
         self.end_part(hand);
         Ok(Reply::Rows(rows, next))
     }
@@ -177,10 +203,37 @@ impl Index {
             store: &self.store,
             glance,
         };
-        match descent.took_words(&shown, hand, from) {
+        match descended(descent, &shown, hand, from) {
             Descended::On(next) => Reached::Further(next),
             Descended::Here => Reached::Leaf(glance),
         }
+    }
+
+    /// The part gets so many pages at most, until it has its leaf. Where it runs out of turns, it ends. In a scan only its first part
+    /// comes here, and one that has lost its way.
+    #[inline(never)]
+    fn seek_leaf(
+        &self,
+        hand: &mut Hand<Mine>,
+        from: u64,
+        way: Descent,
+        turns: u32,
+    ) -> Option<Glance>
+        requires own { IsHandOf self.now.store hand.old }
+        requires running { IsRunning hand.old.seat }
+        requires process { IsOn self.now.store.layout (known hand.old.seat) (part_at from way) }
+        ensures same { IsSameHand hand.old.seat hand.new.seat × IsSameStock hand.old.seat hand.new.seat }
+        ensures came { (old : Knows) (pass got : ℕ) → IsSince pass old (known hand.old.seat) → IsAtTurn self.now.store.layout.pages pass (old.number + 1) got (known hand.old.seat).trail → MatchOption result (HasGivenUp self.now.store.layout pass (got + turns) old hand.new.seat) (HasLeaf self.now.store.layout pass from old hand.new.seat) }
+    {
+        let mut way = way;
+        for _turn in 0..turns {
+            match self.list_on(hand, from, way) {
+                Reached::Further(next) => way = next,
+                Reached::Leaf(glance) => return Some(glance),
+            }
+        }
+        self.give_up(hand);
+        None
     }
 
     /// A part begins, at that page if there is one and it is open, and gets so many pages at most, until it has its leaf. Where it
@@ -198,15 +251,14 @@ impl Index {
         ensures same { IsSameHand hand.old.seat hand.new.seat × IsSameStock hand.old.seat hand.new.seat }
         ensures came { MatchOption result (HasGivenUp self.now.store.layout hand.old.number turns (known hand.old.seat) hand.new.seat) (HasLeaf self.now.store.layout hand.old.number from (known hand.old.seat) hand.new.seat) }
     {
-        let mut descent = self.set_off(hand, from, near);
-        for _turn in 0..turns {
-            match self.list_on(hand, from, descent) {
-                Reached::Further(next) => descent = next,
-                Reached::Leaf(glance) => return Some(glance),
-            }
+        let way = self.set_off(hand, from, near);
+        if turns == 0 {
+            return self.seek_leaf(hand, from, way, 0);
         }
-        self.give_up(hand);
-        None
+        match self.list_on(hand, from, way) {
+            Reached::Further(next) => self.seek_leaf(hand, from, next, turns - 1),
+            Reached::Leaf(glance) => Some(glance),
+        }
     }
 
     /// The part, which has its leaf, ends.

@@ -6,14 +6,14 @@ ghost use Rattle.bl_store.specs.Hands.{known, IsIdle, IsSameHand, IsSameStock};
 ghost use Rattle.bl_store.specs.Owners.{IsHandOf};
 ghost use Rattle.bl_claims.specs.Seeing.{IsSeen};
 ghost use Rattle.bl_index.specs.Runs.{IsWithin};
-ghost use Rattle.bl_index.specs.Scans.{is_below as below, IsOver, MayAppend, MayScan};
+ghost use Rattle.bl_index.specs.Scans.{is_below as below, IsBelow, IsOver, MayAppend, MayScan};
 
 use crate::index::{Index, Pass};
-use crate::leaf_rows::{append_rows, link_in, next_in};
+use crate::leaf_rows::{Behind, append_rows, portion_in};
 use crate::shown::Shown;
 use bl_index_rule::Mine;
-use bl_model::Next;
 use bl_store::Hand;
+use std::mem;
 
 /// Why a scan stopped, with the key from which it goes on.
 #[derive(Clone, Copy, Debug, PartialEq, Eq)]
@@ -56,70 +56,96 @@ impl Index {
         ensures scans { MayScan (first_of self.now) (pages_of self.now) (number_of pass.old) turns from to (vec_capacity rows.new - vec_len rows.new) result rows.old.items rows.new.items (trail pass.old) (trail pass.new) }
         ensures nothing { IsOver to (Some from) → trail pass.new ≡ trail pass.old }
     {
-        let mut at = from;
-        let mut near = None;
-        while is_below(to, at) {
-            let part = self.append_part(pass, at, near, to, turns, rows)?;
-            match part.0 {
-                Next::More(next) => at = next,
-                Next::End => return Ok(()),
-            }
-            near = Some(part.1);
+        if !is_below(to, from) {
+            return Ok(());
         }
-        Ok(())
+        let none = Vec::new(*rows.allocator());
+        let before = mem::replace(rows, none);
+        let (all, scanned) = self.scan(pass, from, to, turns, before);
+        *rows = all;
+        scanned
     }
 
-    /// Appends the rows of one part that lie below the end, and says where the part ended, with the page to which its leaf links.
-    /// The part looks at that page first, if there is one.
+    /// The same from a key below the end, with the rows by value. The first part has the anchor in mind, at which its way begins anyhow.
+    fn scan(
+        &self,
+        pass: &mut Pass,
+        from: u64,
+        to: Option<u64>,
+        turns: u32,
+        rows: Vec<(u64, u64)>,
+    ) -> (Vec<(u64, u64)>, Result<(), ScanFault>)
+        requires own { IsPassOf self.now pass.old }
+        requires below { IsBelow to from }
+        ensures same { IsSamePass pass.old pass.new }
+        ensures scans { MayScan (first_of self.now) (pages_of self.now) (number_of pass.old) turns from to (vec_capacity result.0 - vec_len result.0) result.1 rows.items result.0.items (trail pass.old) (trail pass.new) }
+    {
+        let mut rows = rows;
+        let mut behind = Behind::Part(from, 0);
+        while let Behind::Part(at, link) = behind {
+            let (more, part) = self.append_part(pass, at, link, to, turns, rows);
+            rows = more;
+            match part {
+                Ok(next) => behind = next,
+                Err(fault) => return (rows, Err(fault)),
+            }
+        }
+        (rows, Ok(()))
+    }
+
+    /// Appends the rows of one part that lie below the end, and says how the scan goes on. The part looks at that page first.
+    #[inline(always)]
     fn append_part(
         &self,
         pass: &mut Pass,
         from: u64,
-        near: Option<u32>,
+        near: u32,
         to: Option<u64>,
         turns: u32,
-        rows: &mut Vec<(u64, u64)>,
-    ) -> Result<(Next, u32), ScanFault>
-        requires { IsPassOf self.now pass.old }
+        rows: Vec<(u64, u64)>,
+    ) -> (Vec<(u64, u64)>, Result<Behind, ScanFault>)
+        requires own { IsPassOf self.now pass.old }
+        requires below { IsBelow to from }
         ensures same { IsSamePass pass.old pass.new }
-        ensures appends { MayAppend (first_of self.now) (pages_of self.now) (number_of pass.old) turns from to (vec_capacity rows.new - vec_len rows.new) result rows.old.items rows.new.items (trail pass.old) (trail pass.new) }
+        ensures appends { MayAppend (first_of self.now) (pages_of self.now) (number_of pass.old) turns from to (vec_capacity result.0 - vec_len result.0) result.1 rows.items result.0.items (trail pass.old) (trail pass.new) }
     {
         self.append_part_by(&mut pass.hand, from, near, to, turns, rows)
     }
 
+    #[inline(always)]
     fn append_part_by(
         &self,
         hand: &mut Hand<Mine>,
         from: u64,
-        near: Option<u32>,
+        near: u32,
         to: Option<u64>,
         turns: u32,
-        rows: &mut Vec<(u64, u64)>,
-    ) -> Result<(Next, u32), ScanFault>
+        rows: Vec<(u64, u64)>,
+    ) -> (Vec<(u64, u64)>, Result<Behind, ScanFault>)
         requires own { IsHandOf self.now.store hand.old }
         requires idle { IsIdle hand.old.seat }
+        requires below { IsBelow to from }
         ensures same { IsSameHand hand.old.seat hand.new.seat × IsSameStock hand.old.seat hand.new.seat }
         ensures idle { IsIdle hand.new.seat }
         ensures within { IsWithin hand.new.seat }
         ensures rests { (known hand.new.seat).runs ≡ false }
         ensures first { (known hand.new.seat).first ≡ (known hand.old.seat).first }
         ensures seen { IsSeen (known hand.new.seat).first (known hand.new.seat).trail }
-        ensures appends { MayAppend (known hand.old.seat).first self.now.store.layout.pages hand.old.number turns from to (vec_capacity rows.new - vec_len rows.new) result rows.old.items rows.new.items (known hand.old.seat).trail (known hand.new.seat).trail }
+        ensures appends { MayAppend (known hand.old.seat).first self.now.store.layout.pages hand.old.number turns from to (vec_capacity result.0 - vec_len result.0) result.1 rows.items result.0.items (known hand.old.seat).trail (known hand.new.seat).trail }
     {
-        let Some(glance) = self.come_to_leaf(hand, from, near, turns) else {
-            return Err(ScanFault::OutOfTurns(from));
+        let Some(glance) = self.come_to_leaf(hand, from, Some(near), turns) else {
+            return (rows, Err(ScanFault::OutOfTurns(from)));
         };
         let shown = Shown {
             store: &self.store,
             glance,
         };
-        let next = next_in(&shown, hand);
-        let right = link_in(&shown, hand);
-        let appended = append_rows(&shown, hand, from, to, rows);
+        let portion = portion_in(&shown, hand, from, to);
+        let (rows, appended) = append_rows(&shown, hand, portion.first, portion.last, rows);
         self.end_part(hand);
         match appended {
-            Ok(()) => Ok((next, right)),
-            Err(_) => Err(ScanFault::Memory(from)),
+            Ok(()) => (rows, Ok(portion.behind)),
+            Err(_) => (rows, Err(ScanFault::Memory(from))),
         }
     }
 }

@@ -10,6 +10,8 @@ use Rattle.bl_replay_script.specs.Commands.{IsPageCount}
 use Rattle.bl_replay_script.specs.Scripts.{AllStand}
 use Rattle.bl_proc_base.specs.declared.answers.Answer.{Answer}
 use Rattle.bl_proc.specs.declared.kinds.Proc.{Proc}
+use Rattle.bl_proc.specs.declared.kinds.Proc.TheVariants as proc
+use Rattle.bl_proc.specs.declared.parts.PartStage.TheVariants as part
 use Rattle.bl_proc.specs.Processes.{answer_of, IsFind, IsInsert, IsDelete, IsPost, IsPart, IsCompress, IsReclaim}
 use Rattle.bl_world.specs.declared.turns.Event.{Event}
 use Rattle.bl_world.specs.declared.turns.Turn.{Turn}
@@ -56,12 +58,18 @@ pub data PrintsTurns (number : ℕ) (v : View) : ℕ → List ℕ → View → T
   More : (count : ℕ) (text more : List ℕ) (mid v' : View) → PrintsTurns number v count text mid → HasAnswer mid number None → PrintsChosen mid number None more v'
       → PrintsTurns number v (count + 1) (text ++ more) v'
 
+-- a part that is to begin, and to look at that page then
+abbrev pub IsPartNear : ℕ → ℕ → Proc → Type 0
+IsPartNear from page (proc.Part p) = (p.from ≡ from) × (p.stage ≡ part.Near page)
+IsPartNear from page p = ⊥
+
 -- a process that a script starts, which has done nothing yet
 abbrev pub IsStart : Start → Proc → Type 0
 IsStart (start.Operation (op.Find key)) p = IsFind key p
 IsStart (start.Operation (op.Insert key value)) p = IsInsert key value p
 IsStart (start.Operation (op.Delete key)) p = IsDelete key p
 IsStart (start.Operation (op.Part from)) p = IsPart from p
+IsStart (start.PartNear from page) p = IsPartNear from page p
 IsStart (start.Post level key) p = IsPost level key p
 IsStart (start.Compress level key) p = IsCompress level key p
 IsStart (start.Reclaim page) p = IsReclaim page p

@@ -15,7 +15,7 @@ use crate::fault::ReplayFault;
 use crate::output::write_much;
 use crate::turning::{answer_of, print_turn};
 use bl_model::{Op, Watched};
-use bl_proc::Proc;
+use bl_proc::{Part, Proc};
 use bl_replay_script::{Command, Start};
 use bl_world::{Turn, World, WorldFault};
 use std::io::Write;
@@ -32,6 +32,7 @@ fn process_of(start: Start) -> Proc
         Start::Operation(Op::Delete(key)) => Proc::delete(key),
         Start::Post { level, key } => Proc::post(level, key),
         Start::Operation(Op::Part(from)) => Proc::part(from),
+        Start::PartNear { from, page } => Proc::Part(Part::near(from, page)),
         Start::Compress { level, key } => Proc::compress(level, key),
         Start::Reclaim(page) => Proc::reclaim(page),
     }

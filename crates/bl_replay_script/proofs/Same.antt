@@ -5,7 +5,7 @@ use Rattle.std.proofs.lemmas.Fmt.{digits_decimal}
 use Rattle.std.proofs.lemmas.Str.Parse.{not_in_digits}
 use Rattle.bl_serve_lines.proofs.Numbers.{own, at_middle}
 use Rattle.bl_model.specs.declared.operation.Op.TheVariants.{Find, Insert, Delete, Part}
-use Rattle.bl_replay_script.specs.declared.command.Start.TheVariants.{Operation, Post, Compress, Reclaim}
+use Rattle.bl_replay_script.specs.declared.command.Start.TheVariants.{Operation, PartNear, Post, Compress, Reclaim}
 use Rattle.bl_replay_script.specs.declared.command.Command.{Command}
 use Rattle.bl_replay_script.specs.declared.command.Command.TheVariants as command
 use Rattle.bl_replay_script.specs.declared.command.Kinds.{Kinds}
@@ -30,6 +30,7 @@ line_text kinds pages started count (command.Start (Operation (Find a))) h = pla
 line_text kinds pages started count (command.Start (Operation (Insert a b))) h = plain_two (codes "insert ") a b refl (omega arith) h.0 h.1
 line_text kinds pages started count (command.Start (Operation (Delete a))) h = plain_one (codes "delete ") a refl (omega arith) h
 line_text kinds pages started count (command.Start (Operation (Part a))) h = plain_one (codes "part ") a refl (omega arith) h.1
+line_text kinds pages started count (command.Start (PartNear a b)) h = plain_two (codes "partnear ") a b refl (omega arith) h.1 (small_page b pages count h.2)
 line_text kinds pages started count (command.Start (Post a b)) h = plain_two (codes "post ") a b refl (omega arith) (small_level a h.0) h.1
 line_text kinds pages started count (command.Start (Compress a b)) h = plain_two (codes "compress ") a b refl (omega arith) (small_level a h.1) h.2
 line_text kinds pages started count (command.Start (Reclaim a)) h = plain_one (codes "reclaim ") a refl (omega arith) (small_page a pages count h.1)
@@ -43,6 +44,7 @@ text_same kinds pages started count (command.Start (Operation (Find a))) (comman
 text_same kinds pages started count (command.Start (Operation (Find a))) (command.Start (Operation (Insert c d))) h k e = absurd (let at : 102 ≡ 105 = ap (λ t. get_or t 0 0) e in omega arith)
 text_same kinds pages started count (command.Start (Operation (Find a))) (command.Start (Operation (Delete c))) h k e = absurd (let at : 102 ≡ 100 = ap (λ t. get_or t 0 0) e in omega arith)
 text_same kinds pages started count (command.Start (Operation (Find a))) (command.Start (Operation (Part c))) h k e = absurd (let at : 102 ≡ 112 = ap (λ t. get_or t 0 0) e in omega arith)
+text_same kinds pages started count (command.Start (Operation (Find a))) (command.Start (PartNear c d)) h k e = absurd (let at : 102 ≡ 112 = ap (λ t. get_or t 0 0) e in omega arith)
 text_same kinds pages started count (command.Start (Operation (Find a))) (command.Start (Post c d)) h k e = absurd (let at : 102 ≡ 112 = ap (λ t. get_or t 0 0) e in omega arith)
 text_same kinds pages started count (command.Start (Operation (Find a))) (command.Start (Compress c d)) h k e = absurd (let at : 102 ≡ 99 = ap (λ t. get_or t 0 0) e in omega arith)
 text_same kinds pages started count (command.Start (Operation (Find a))) (command.Start (Reclaim c)) h k e = absurd (let at : 102 ≡ 114 = ap (λ t. get_or t 0 0) e in omega arith)
@@ -54,6 +56,7 @@ text_same kinds pages started count (command.Start (Operation (Insert a b))) (co
 text_same kinds pages started count (command.Start (Operation (Insert a b))) (command.Start (Operation (Insert c d))) h k e = let same = two_same a b c d h.0 h.1 k.0 k.1 (append_cancel_left (codes "insert ") (two a b) (two c d) e) in ap (λ z. (command.Start (Operation (Insert z b)))) same.0 ∙ ap (λ z. (command.Start (Operation (Insert c z)))) same.1
 text_same kinds pages started count (command.Start (Operation (Insert a b))) (command.Start (Operation (Delete c))) h k e = absurd (let at : 105 ≡ 100 = ap (λ t. get_or t 0 0) e in omega arith)
 text_same kinds pages started count (command.Start (Operation (Insert a b))) (command.Start (Operation (Part c))) h k e = absurd (let at : 105 ≡ 112 = ap (λ t. get_or t 0 0) e in omega arith)
+text_same kinds pages started count (command.Start (Operation (Insert a b))) (command.Start (PartNear c d)) h k e = absurd (let at : 105 ≡ 112 = ap (λ t. get_or t 0 0) e in omega arith)
 text_same kinds pages started count (command.Start (Operation (Insert a b))) (command.Start (Post c d)) h k e = absurd (let at : 105 ≡ 112 = ap (λ t. get_or t 0 0) e in omega arith)
 text_same kinds pages started count (command.Start (Operation (Insert a b))) (command.Start (Compress c d)) h k e = absurd (let at : 105 ≡ 99 = ap (λ t. get_or t 0 0) e in omega arith)
 text_same kinds pages started count (command.Start (Operation (Insert a b))) (command.Start (Reclaim c)) h k e = absurd (let at : 105 ≡ 114 = ap (λ t. get_or t 0 0) e in omega arith)
@@ -65,6 +68,7 @@ text_same kinds pages started count (command.Start (Operation (Delete a))) (comm
 text_same kinds pages started count (command.Start (Operation (Delete a))) (command.Start (Operation (Insert c d))) h k e = absurd (let at : 100 ≡ 105 = ap (λ t. get_or t 0 0) e in omega arith)
 text_same kinds pages started count (command.Start (Operation (Delete a))) (command.Start (Operation (Delete c))) h k e = ap (λ z. (command.Start (Operation (Delete z)))) (one_same a c h k (append_cancel_left (codes "delete ") (one a) (one c) e))
 text_same kinds pages started count (command.Start (Operation (Delete a))) (command.Start (Operation (Part c))) h k e = absurd (let at : 100 ≡ 112 = ap (λ t. get_or t 0 0) e in omega arith)
+text_same kinds pages started count (command.Start (Operation (Delete a))) (command.Start (PartNear c d)) h k e = absurd (let at : 100 ≡ 112 = ap (λ t. get_or t 0 0) e in omega arith)
 text_same kinds pages started count (command.Start (Operation (Delete a))) (command.Start (Post c d)) h k e = absurd (let at : 100 ≡ 112 = ap (λ t. get_or t 0 0) e in omega arith)
 text_same kinds pages started count (command.Start (Operation (Delete a))) (command.Start (Compress c d)) h k e = absurd (let at : 100 ≡ 99 = ap (λ t. get_or t 0 0) e in omega arith)
 text_same kinds pages started count (command.Start (Operation (Delete a))) (command.Start (Reclaim c)) h k e = absurd (let at : 100 ≡ 114 = ap (λ t. get_or t 0 0) e in omega arith)
@@ -76,6 +80,7 @@ text_same kinds pages started count (command.Start (Operation (Part a))) (comman
 text_same kinds pages started count (command.Start (Operation (Part a))) (command.Start (Operation (Insert c d))) h k e = absurd (let at : 112 ≡ 105 = ap (λ t. get_or t 0 0) e in omega arith)
 text_same kinds pages started count (command.Start (Operation (Part a))) (command.Start (Operation (Delete c))) h k e = absurd (let at : 112 ≡ 100 = ap (λ t. get_or t 0 0) e in omega arith)
 text_same kinds pages started count (command.Start (Operation (Part a))) (command.Start (Operation (Part c))) h k e = ap (λ z. (command.Start (Operation (Part z)))) (one_same a c h.1 k.1 (append_cancel_left (codes "part ") (one a) (one c) e))
+text_same kinds pages started count (command.Start (Operation (Part a))) (command.Start (PartNear c d)) h k e = absurd (let at : 32 ≡ 110 = ap (λ t. get_or t 4 0) e in omega arith)
 text_same kinds pages started count (command.Start (Operation (Part a))) (command.Start (Post c d)) h k e = absurd (let at : 97 ≡ 111 = ap (λ t. get_or t 1 0) e in omega arith)
 text_same kinds pages started count (command.Start (Operation (Part a))) (command.Start (Compress c d)) h k e = absurd (let at : 112 ≡ 99 = ap (λ t. get_or t 0 0) e in omega arith)
 text_same kinds pages started count (command.Start (Operation (Part a))) (command.Start (Reclaim c)) h k e = absurd (let at : 112 ≡ 114 = ap (λ t. get_or t 0 0) e in omega arith)
@@ -83,10 +88,23 @@ text_same kinds pages started count (command.Start (Operation (Part a))) (comman
 text_same kinds pages started count (command.Start (Operation (Part a))) (command.TurnAt c d) h k e = absurd (let at : 112 ≡ 116 = ap (λ t. get_or t 0 0) e in omega arith)
 text_same kinds pages started count (command.Start (Operation (Part a))) (command.Refuse c) h k e = absurd (let at : 112 ≡ 114 = ap (λ t. get_or t 0 0) e in omega arith)
 text_same kinds pages started count (command.Start (Operation (Part a))) (command.Run c d) h k e = absurd (let at : 112 ≡ 114 = ap (λ t. get_or t 0 0) e in omega arith)
+text_same kinds pages started count (command.Start (PartNear a b)) (command.Start (Operation (Find c))) h k e = absurd (let at : 112 ≡ 102 = ap (λ t. get_or t 0 0) e in omega arith)
+text_same kinds pages started count (command.Start (PartNear a b)) (command.Start (Operation (Insert c d))) h k e = absurd (let at : 112 ≡ 105 = ap (λ t. get_or t 0 0) e in omega arith)
+text_same kinds pages started count (command.Start (PartNear a b)) (command.Start (Operation (Delete c))) h k e = absurd (let at : 112 ≡ 100 = ap (λ t. get_or t 0 0) e in omega arith)
+text_same kinds pages started count (command.Start (PartNear a b)) (command.Start (Operation (Part c))) h k e = absurd (let at : 110 ≡ 32 = ap (λ t. get_or t 4 0) e in omega arith)
+text_same kinds pages started count (command.Start (PartNear a b)) (command.Start (PartNear c d)) h k e = let same = two_same a b c d h.1 (small_page b pages count h.2) k.1 (small_page d pages count k.2) (append_cancel_left (codes "partnear ") (two a b) (two c d) e) in ap (λ z. (command.Start (PartNear z b))) same.0 ∙ ap (λ z. (command.Start (PartNear c z))) same.1
+text_same kinds pages started count (command.Start (PartNear a b)) (command.Start (Post c d)) h k e = absurd (let at : 97 ≡ 111 = ap (λ t. get_or t 1 0) e in omega arith)
+text_same kinds pages started count (command.Start (PartNear a b)) (command.Start (Compress c d)) h k e = absurd (let at : 112 ≡ 99 = ap (λ t. get_or t 0 0) e in omega arith)
+text_same kinds pages started count (command.Start (PartNear a b)) (command.Start (Reclaim c)) h k e = absurd (let at : 112 ≡ 114 = ap (λ t. get_or t 0 0) e in omega arith)
+text_same kinds pages started count (command.Start (PartNear a b)) (command.Turn c) h k e = absurd (let at : 112 ≡ 116 = ap (λ t. get_or t 0 0) e in omega arith)
+text_same kinds pages started count (command.Start (PartNear a b)) (command.TurnAt c d) h k e = absurd (let at : 112 ≡ 116 = ap (λ t. get_or t 0 0) e in omega arith)
+text_same kinds pages started count (command.Start (PartNear a b)) (command.Refuse c) h k e = absurd (let at : 112 ≡ 114 = ap (λ t. get_or t 0 0) e in omega arith)
+text_same kinds pages started count (command.Start (PartNear a b)) (command.Run c d) h k e = absurd (let at : 112 ≡ 114 = ap (λ t. get_or t 0 0) e in omega arith)
 text_same kinds pages started count (command.Start (Post a b)) (command.Start (Operation (Find c))) h k e = absurd (let at : 112 ≡ 102 = ap (λ t. get_or t 0 0) e in omega arith)
 text_same kinds pages started count (command.Start (Post a b)) (command.Start (Operation (Insert c d))) h k e = absurd (let at : 112 ≡ 105 = ap (λ t. get_or t 0 0) e in omega arith)
 text_same kinds pages started count (command.Start (Post a b)) (command.Start (Operation (Delete c))) h k e = absurd (let at : 112 ≡ 100 = ap (λ t. get_or t 0 0) e in omega arith)
 text_same kinds pages started count (command.Start (Post a b)) (command.Start (Operation (Part c))) h k e = absurd (let at : 111 ≡ 97 = ap (λ t. get_or t 1 0) e in omega arith)
+text_same kinds pages started count (command.Start (Post a b)) (command.Start (PartNear c d)) h k e = absurd (let at : 111 ≡ 97 = ap (λ t. get_or t 1 0) e in omega arith)
 text_same kinds pages started count (command.Start (Post a b)) (command.Start (Post c d)) h k e = let same = two_same a b c d (small_level a h.0) h.1 (small_level c k.0) k.1 (append_cancel_left (codes "post ") (two a b) (two c d) e) in ap (λ z. (command.Start (Post z b))) same.0 ∙ ap (λ z. (command.Start (Post c z))) same.1
 text_same kinds pages started count (command.Start (Post a b)) (command.Start (Compress c d)) h k e = absurd (let at : 112 ≡ 99 = ap (λ t. get_or t 0 0) e in omega arith)
 text_same kinds pages started count (command.Start (Post a b)) (command.Start (Reclaim c)) h k e = absurd (let at : 112 ≡ 114 = ap (λ t. get_or t 0 0) e in omega arith)
@@ -98,6 +116,7 @@ text_same kinds pages started count (command.Start (Compress a b)) (command.Star
 text_same kinds pages started count (command.Start (Compress a b)) (command.Start (Operation (Insert c d))) h k e = absurd (let at : 99 ≡ 105 = ap (λ t. get_or t 0 0) e in omega arith)
 text_same kinds pages started count (command.Start (Compress a b)) (command.Start (Operation (Delete c))) h k e = absurd (let at : 99 ≡ 100 = ap (λ t. get_or t 0 0) e in omega arith)
 text_same kinds pages started count (command.Start (Compress a b)) (command.Start (Operation (Part c))) h k e = absurd (let at : 99 ≡ 112 = ap (λ t. get_or t 0 0) e in omega arith)
+text_same kinds pages started count (command.Start (Compress a b)) (command.Start (PartNear c d)) h k e = absurd (let at : 99 ≡ 112 = ap (λ t. get_or t 0 0) e in omega arith)
 text_same kinds pages started count (command.Start (Compress a b)) (command.Start (Post c d)) h k e = absurd (let at : 99 ≡ 112 = ap (λ t. get_or t 0 0) e in omega arith)
 text_same kinds pages started count (command.Start (Compress a b)) (command.Start (Compress c d)) h k e = let same = two_same a b c d (small_level a h.1) h.2 (small_level c k.1) k.2 (append_cancel_left (codes "compress ") (two a b) (two c d) e) in ap (λ z. (command.Start (Compress z b))) same.0 ∙ ap (λ z. (command.Start (Compress c z))) same.1
 text_same kinds pages started count (command.Start (Compress a b)) (command.Start (Reclaim c)) h k e = absurd (let at : 99 ≡ 114 = ap (λ t. get_or t 0 0) e in omega arith)
@@ -109,6 +128,7 @@ text_same kinds pages started count (command.Start (Reclaim a)) (command.Start (
 text_same kinds pages started count (command.Start (Reclaim a)) (command.Start (Operation (Insert c d))) h k e = absurd (let at : 114 ≡ 105 = ap (λ t. get_or t 0 0) e in omega arith)
 text_same kinds pages started count (command.Start (Reclaim a)) (command.Start (Operation (Delete c))) h k e = absurd (let at : 114 ≡ 100 = ap (λ t. get_or t 0 0) e in omega arith)
 text_same kinds pages started count (command.Start (Reclaim a)) (command.Start (Operation (Part c))) h k e = absurd (let at : 114 ≡ 112 = ap (λ t. get_or t 0 0) e in omega arith)
+text_same kinds pages started count (command.Start (Reclaim a)) (command.Start (PartNear c d)) h k e = absurd (let at : 114 ≡ 112 = ap (λ t. get_or t 0 0) e in omega arith)
 text_same kinds pages started count (command.Start (Reclaim a)) (command.Start (Post c d)) h k e = absurd (let at : 114 ≡ 112 = ap (λ t. get_or t 0 0) e in omega arith)
 text_same kinds pages started count (command.Start (Reclaim a)) (command.Start (Compress c d)) h k e = absurd (let at : 114 ≡ 99 = ap (λ t. get_or t 0 0) e in omega arith)
 text_same kinds pages started count (command.Start (Reclaim a)) (command.Start (Reclaim c)) h k e = ap (λ z. (command.Start (Reclaim z))) (one_same a c (small_page a pages count h.1) (small_page c pages count k.1) (append_cancel_left (codes "reclaim ") (one a) (one c) e))
@@ -120,6 +140,7 @@ text_same kinds pages started count (command.Turn a) (command.Start (Operation (
 text_same kinds pages started count (command.Turn a) (command.Start (Operation (Insert c d))) h k e = absurd (let at : 116 ≡ 105 = ap (λ t. get_or t 0 0) e in omega arith)
 text_same kinds pages started count (command.Turn a) (command.Start (Operation (Delete c))) h k e = absurd (let at : 116 ≡ 100 = ap (λ t. get_or t 0 0) e in omega arith)
 text_same kinds pages started count (command.Turn a) (command.Start (Operation (Part c))) h k e = absurd (let at : 116 ≡ 112 = ap (λ t. get_or t 0 0) e in omega arith)
+text_same kinds pages started count (command.Turn a) (command.Start (PartNear c d)) h k e = absurd (let at : 116 ≡ 112 = ap (λ t. get_or t 0 0) e in omega arith)
 text_same kinds pages started count (command.Turn a) (command.Start (Post c d)) h k e = absurd (let at : 116 ≡ 112 = ap (λ t. get_or t 0 0) e in omega arith)
 text_same kinds pages started count (command.Turn a) (command.Start (Compress c d)) h k e = absurd (let at : 116 ≡ 99 = ap (λ t. get_or t 0 0) e in omega arith)
 text_same kinds pages started count (command.Turn a) (command.Start (Reclaim c)) h k e = absurd (let at : 116 ≡ 114 = ap (λ t. get_or t 0 0) e in omega arith)
@@ -131,6 +152,7 @@ text_same kinds pages started count (command.TurnAt a b) (command.Start (Operati
 text_same kinds pages started count (command.TurnAt a b) (command.Start (Operation (Insert c d))) h k e = absurd (let at : 116 ≡ 105 = ap (λ t. get_or t 0 0) e in omega arith)
 text_same kinds pages started count (command.TurnAt a b) (command.Start (Operation (Delete c))) h k e = absurd (let at : 116 ≡ 100 = ap (λ t. get_or t 0 0) e in omega arith)
 text_same kinds pages started count (command.TurnAt a b) (command.Start (Operation (Part c))) h k e = absurd (let at : 116 ≡ 112 = ap (λ t. get_or t 0 0) e in omega arith)
+text_same kinds pages started count (command.TurnAt a b) (command.Start (PartNear c d)) h k e = absurd (let at : 116 ≡ 112 = ap (λ t. get_or t 0 0) e in omega arith)
 text_same kinds pages started count (command.TurnAt a b) (command.Start (Post c d)) h k e = absurd (let at : 116 ≡ 112 = ap (λ t. get_or t 0 0) e in omega arith)
 text_same kinds pages started count (command.TurnAt a b) (command.Start (Compress c d)) h k e = absurd (let at : 116 ≡ 99 = ap (λ t. get_or t 0 0) e in omega arith)
 text_same kinds pages started count (command.TurnAt a b) (command.Start (Reclaim c)) h k e = absurd (let at : 116 ≡ 114 = ap (λ t. get_or t 0 0) e in omega arith)
@@ -142,6 +164,7 @@ text_same kinds pages started count (command.Refuse a) (command.Start (Operation
 text_same kinds pages started count (command.Refuse a) (command.Start (Operation (Insert c d))) h k e = absurd (let at : 114 ≡ 105 = ap (λ t. get_or t 0 0) e in omega arith)
 text_same kinds pages started count (command.Refuse a) (command.Start (Operation (Delete c))) h k e = absurd (let at : 114 ≡ 100 = ap (λ t. get_or t 0 0) e in omega arith)
 text_same kinds pages started count (command.Refuse a) (command.Start (Operation (Part c))) h k e = absurd (let at : 114 ≡ 112 = ap (λ t. get_or t 0 0) e in omega arith)
+text_same kinds pages started count (command.Refuse a) (command.Start (PartNear c d)) h k e = absurd (let at : 114 ≡ 112 = ap (λ t. get_or t 0 0) e in omega arith)
 text_same kinds pages started count (command.Refuse a) (command.Start (Post c d)) h k e = absurd (let at : 114 ≡ 112 = ap (λ t. get_or t 0 0) e in omega arith)
 text_same kinds pages started count (command.Refuse a) (command.Start (Compress c d)) h k e = absurd (let at : 114 ≡ 99 = ap (λ t. get_or t 0 0) e in omega arith)
 text_same kinds pages started count (command.Refuse a) (command.Start (Reclaim c)) h k e = absurd (let at : 102 ≡ 99 = ap (λ t. get_or t 2 0) e in omega arith)
@@ -153,6 +176,7 @@ text_same kinds pages started count (command.Run a b) (command.Start (Operation 
 text_same kinds pages started count (command.Run a b) (command.Start (Operation (Insert c d))) h k e = absurd (let at : 114 ≡ 105 = ap (λ t. get_or t 0 0) e in omega arith)
 text_same kinds pages started count (command.Run a b) (command.Start (Operation (Delete c))) h k e = absurd (let at : 114 ≡ 100 = ap (λ t. get_or t 0 0) e in omega arith)
 text_same kinds pages started count (command.Run a b) (command.Start (Operation (Part c))) h k e = absurd (let at : 114 ≡ 112 = ap (λ t. get_or t 0 0) e in omega arith)
+text_same kinds pages started count (command.Run a b) (command.Start (PartNear c d)) h k e = absurd (let at : 114 ≡ 112 = ap (λ t. get_or t 0 0) e in omega arith)
 text_same kinds pages started count (command.Run a b) (command.Start (Post c d)) h k e = absurd (let at : 114 ≡ 112 = ap (λ t. get_or t 0 0) e in omega arith)
 text_same kinds pages started count (command.Run a b) (command.Start (Compress c d)) h k e = absurd (let at : 114 ≡ 99 = ap (λ t. get_or t 0 0) e in omega arith)
 text_same kinds pages started count (command.Run a b) (command.Start (Reclaim c)) h k e = absurd (let at : 117 ≡ 101 = ap (λ t. get_or t 1 0) e in omega arith)

@@ -2,7 +2,7 @@
 use Rattle.std.specs.Prelude.{ℕ, ◌+◌, ◌<◌, ◌≤◌, ◌^◌, List, [], ◌∷◌, ◌++◌, codes, decimal, IsTrue}
 use Rattle.bl_model.specs.declared.operation.Op.TheVariants.{Find, Insert, Delete, Part}
 use Rattle.bl_replay_script.specs.declared.command.Start.{Start}
-use Rattle.bl_replay_script.specs.declared.command.Start.TheVariants.{Operation, Post, Compress, Reclaim}
+use Rattle.bl_replay_script.specs.declared.command.Start.TheVariants.{Operation, PartNear, Post, Compress, Reclaim}
 use Rattle.bl_replay_script.specs.declared.command.Command.{Command}
 use Rattle.bl_replay_script.specs.declared.command.Command.TheVariants as command
 use Rattle.bl_replay_script.specs.declared.command.Kinds.{Kinds}
@@ -20,6 +20,7 @@ start_text (Operation (Find key)) = codes "find " ++ one key
 start_text (Operation (Insert key value)) = codes "insert " ++ two key value
 start_text (Operation (Delete key)) = codes "delete " ++ one key
 start_text (Operation (Part from)) = codes "part " ++ one from
+start_text (PartNear from page) = codes "partnear " ++ two from page
 start_text (Post level key) = codes "post " ++ two level key
 start_text (Compress level key) = codes "compress " ++ two level key
 start_text (Reclaim page) = codes "reclaim " ++ one page
@@ -56,6 +57,7 @@ MayStart kinds pages (Operation (Find key)) = Fits key
 MayStart kinds pages (Operation (Insert key value)) = Fits key × Fits value
 MayStart kinds pages (Operation (Delete key)) = Fits key
 MayStart kinds pages (Operation (Part from)) = IsTrue kinds.part × Fits from
+MayStart kinds pages (PartNear from page) = IsTrue kinds.part × Fits from × (page < pages)
 MayStart kinds pages (Post level key) = IsLevel level × Fits key
 MayStart kinds pages (Compress level key) = IsTrue kinds.compress × IsLevel level × Fits key
 MayStart kinds pages (Reclaim page) = IsTrue kinds.reclaim × (page < pages)

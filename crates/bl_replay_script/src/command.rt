@@ -7,6 +7,13 @@ use bl_model::Op;
 pub enum Start {
     /// An operation on the map.
     Operation(Op),
+    /// A part of the map, which looks at a page first.
+    PartNear {
+        /// The key that it begins with.
+        from: u64,
+        /// The page, from which its way may be short.
+        page: u32,
+    },
     /// Lists a child in its parent.
     Post {
         /// The level of the parent, 1 to 12.
@@ -52,7 +59,7 @@ pub struct Script {
 /// Which kinds of process a script may start, beside searches, insertions, deletions and posts.
 #[derive(Clone, Copy, Debug, PartialEq, Eq)]
 pub struct Kinds {
-    /// `part` lines.
+    /// `part` and `partnear` lines.
     pub part: bool,
     /// `compress` lines.
     pub compress: bool,

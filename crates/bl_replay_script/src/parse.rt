@@ -76,6 +76,22 @@ fn part_line(kinds: Kinds, line: &[u8]) -> Option<u64>
     }
 }
 
+/// A `partnear` line's key and page, where such a process may be started.
+fn part_near_line(kinds: Kinds, pages: u32, line: &[u8]) -> Option<(u64, u32)>
+    requires { 0 < pages }
+    ensures { MatchOption result
+        ((a b : ℕ) → IsTrue kinds.part → Fits a → b < pages → line.now ≢ codes "partnear " ++ two a b)
+        (λ p. IsTrue kinds.part × Fits p.0 × (p.1 < pages) × (line.now ≡ codes "partnear " ++ two p.0 p.1)) }
+{
+    if !kinds.part {
+        return None;
+    }
+    let Some((from, page)) = two_within(line, b"partnear ", 0, MOST, u64::from(pages) - 1) else {
+        return None;
+    };
+    Some((from, page as u32))
+}
+
 /// The level and the key of a line with that word.
 fn level_line(line: &[u8], word: &[u8]) -> Option<(u32, u64)>
     ensures { MatchOption result
@@ -135,6 +151,9 @@ fn start_of(kinds: Kinds, pages: u32, line: &[u8]) -> Option<Start>
     }
     if let Some(from) = part_line(kinds, line) {
         return Some(Start::Operation(Op::Part(from)));
+    }
+    if let Some((from, page)) = part_near_line(kinds, pages, line) {
+        return Some(Start::PartNear { from, page });
     }
     if let Some((level, key)) = level_line(line, b"post ") {
         return Some(Start::Post { level, key });

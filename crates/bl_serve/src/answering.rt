@@ -42,15 +42,22 @@ fn find<R: Wait>(rt: &R, index: &Index, pass: &mut Pass, key: u64) -> KeyReply
     unreachable!()
 }
 
-/// The rows of one leaf from a key on.
-fn part<R: Wait>(rt: &R, index: &Index, pass: &mut Pass, from: u64) -> Reply
+/// The rows of one leaf from a key on. It looks first at the page that is near, if there is one, and leaves there the page to which
+/// the leaf links.
+fn part<R: Wait>(
+    rt: &R,
+    index: &Index,
+    pass: &mut Pass,
+    from: u64,
+    near: &mut Option<u32>,
+) -> Reply
     requires { IsPassOf index.now pass.old }
     ensures same { IsSamePass pass.old pass.new }
     ensures works { Works (first_of index.now) (number_of pass.old) (op.Part from) result (trail pass.old) (trail pass.new) }
 {
     let turns = index.patience();
     for _ in rt.forever() {
-        if let Ok(reply) = index.part(pass, from, turns) {
+        if let Ok(reply) = index.part_near(pass, from, near, turns) {
             return reply;
         }
     }
@@ -117,6 +124,7 @@ fn write_part<R: Wait>(
     index: &Index,
     pass: &mut Pass,
     from: u64,
+    near: &mut Option<u32>,
     high: u64,
     text: &mut Vec<u8>,
 ) -> Result<Next, AllocError>
@@ -124,14 +132,15 @@ fn write_part<R: Wait>(
     ensures same { IsSamePass pass.old pass.new }
     ensures writes { IfOk result (λ next. WritesPart (first_of index.now) (number_of pass.old) from high next text.old.items text.new.items (trail pass.old) (trail pass.new)) }
 {
-    let Reply::Rows(rows, next) = part(rt, index, pass, from) else {
+    let Reply::Rows(rows, next) = part(rt, index, pass, from, near) else {
         unreachable!()
     };
     push_rows_below(text, rows.as_slice(), high)?;
     Ok(next)
 }
 
-/// Writes the rows of a scan: of one part after another, from a key on up to an end.
+/// Writes the rows of a scan: of one part after another, from a key on up to an end. The first part goes from the anchor, and each
+/// further one along the leaves.
 fn write_rows<R: Wait>(
     rt: &R,
     index: &Index,
@@ -145,8 +154,9 @@ fn write_rows<R: Wait>(
     ensures writes { OnOk result (WritesRows (first_of index.now) (number_of pass.old) low high text.old.items text.new.items (trail pass.old) (trail pass.new)) }
 {
     let mut at = low;
+    let mut near = None;
     while at < high {
-        match write_part(rt, index, pass, at, high, text)? {
+        match write_part(rt, index, pass, at, &mut near, high, text)? {
             Next::More(next) => at = next,
             Next::End => return Ok(()),
         }
@@ -192,7 +202,7 @@ fn list<R: Wait>(
     ensures same { IsSamePass pass.old pass.new }
     ensures answers { OnOk result (AnswersLine (first_of index.now) (number_of pass.old) number (Some (Request.Ask (op.Part from))) text.old.items text.new.items (trail pass.old) (trail pass.new)) }
 {
-    let reply = part(rt, index, pass, from);
+    let reply = part(rt, index, pass, from, &mut None);
     push_line(text, number, &Response::Replied(reply))
 }
 

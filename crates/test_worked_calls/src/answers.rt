@@ -52,6 +52,19 @@ pub fn listed(alloc: Global, reply: Result<Reply, OutOfTurns>) -> Result<Vec<u8>
     }
 }
 
+/// What a part got, and the page that it leaves for the next one.
+pub fn listed_near(
+    alloc: Global,
+    reply: Result<Reply, OutOfTurns>,
+    near: Option<u32>,
+) -> Result<Vec<u8>, AllocError> {
+    let mut text = listed(alloc, reply)?;
+    if let Some(page) = near {
+        push_number(&mut text, b" near ", u64::from(page))?;
+    }
+    Ok(text)
+}
+
 /// What a scan got, and all rows that were listed.
 pub fn scanned(
     alloc: Global,

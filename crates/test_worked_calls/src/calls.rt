@@ -30,6 +30,8 @@ pub enum PassCall {
     Delete(u64),
     Find(u64, u32),
     Part(u64, u32),
+    /// A part from that key on that has a page in mind, with so many turns.
+    Near(u64, u32, u32),
     /// From a key on, below an end if there is one, with so many turns for each part.
     Scan(u64, Option<u64>, u32),
     Post(Hint),
@@ -94,6 +96,7 @@ fn map_call(words: &[&str]) -> Option<PassCall> {
         ["insert", key, value] => insert_of(key, value),
         [call, key, turns] => search_of(call, key, turns),
         ["scan", from, end, turns] => scan_of(from, end, turns),
+        ["near", from, page, turns] => near_of(from, page, turns),
         _ => None,
     }
 }
@@ -118,6 +121,14 @@ fn scan_of(from: &str, end: &str, turns: &str) -> Option<PassCall> {
     Some(PassCall::Scan(
         from.parse().ok()?,
         Some(end.parse().ok()?),
+        turns.parse().ok()?,
+    ))
+}
+
+fn near_of(from: &str, page: &str, turns: &str) -> Option<PassCall> {
+    Some(PassCall::Near(
+        from.parse().ok()?,
+        page.parse().ok()?,
         turns.parse().ok()?,
     ))
 }

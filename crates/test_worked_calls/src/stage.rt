@@ -2,7 +2,7 @@
 
 ghost use Rattle.bl_index.specs.Calls.{IsPassOf};
 
-use crate::answers::{changed, compressed, found, listed, posted, scanned, yes};
+use crate::answers::{changed, compressed, found, listed, listed_near, posted, scanned, yes};
 use crate::calls::PassCall;
 use crate::races::{Race, raced};
 use bl_check::Quiet;
@@ -38,6 +38,11 @@ fn answer<R: Wait>(
         PassCall::Delete(key) => changed(alloc, index.delete(rt, pass, key)),
         PassCall::Find(key, turns) => found(alloc, index.find(pass, key, turns)),
         PassCall::Part(from, turns) => listed(alloc, index.part(pass, from, turns)),
+        PassCall::Near(from, page, turns) => {
+            let mut near = Some(page);
+            let reply = index.part_near(pass, from, &mut near, turns);
+            listed_near(alloc, reply, near)
+        }
         PassCall::Scan(from, end, turns) => {
             let end = index.scan_into(pass, from, end, turns, rows);
             scanned(alloc, end, rows.as_slice())

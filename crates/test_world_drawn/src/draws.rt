@@ -240,10 +240,20 @@ impl Lots {
         let key = self.draws.key(self.size.keys);
         match self.draws.below(14) {
             0 | 1 => Job::Find(key),
-            2 => Job::Part(key),
+            2 => self.part(key),
             3 => self.post(tree),
             4 | 5 => self.compression(tree),
             _ => self.draws.change(tree, &self.size, started),
+        }
+    }
+
+    /// A part from the key on. Mostly it has a page in mind: any one, a number of no page, or the last one that was retired.
+    fn part(&mut self, key: u64) -> Job {
+        let page = self.draws.page((self.size.pages as u64).wrapping_add(3));
+        match self.draws.below(4) {
+            0 => Job::Part(key),
+            1 => Job::PartNear(key, self.retired.last().copied().unwrap_or(page)),
+            _ => Job::PartNear(key, page),
         }
     }
 

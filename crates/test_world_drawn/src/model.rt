@@ -117,6 +117,10 @@ fn work(
             lists.own(at, Owner::Retired(place))?;
             (Act::Retire(at), Seen::Done)
         }
+        Action::Probe(at) => {
+            let owner = lists.owners.as_slice().get(at as usize);
+            (Act::See(at), Seen::Probed(owner == Some(&Owner::Open)))
+        }
         // a step takes no page
         _ => return Ok(Act::Miss),
     };

@@ -31,9 +31,9 @@ pub(crate) fn both(first: bool, law: Law, second: bool, other: Law) -> Result<()
 fn looks_at_page(before: Option<Owner>, after: Option<Owner>) -> Result<(), Law> {
     both(
         before.is_some(),
-        "a page is got or seen that is there",
+        "a page is got that is there",
         after == before,
-        "who gets or sees a page changes no owner",
+        "who gets a page changes no owner",
     )
 }
 
@@ -129,7 +129,9 @@ pub(crate) fn owns(
 ) -> Result<(), Law> {
     match event.act {
         Act::Get(_) if before == Some(Owner::Released) => Err("no released page is got"),
-        Act::Get(_) | Act::See(_) => looks_at_page(before, after),
+        Act::Get(_) => looks_at_page(before, after),
+        // a part may look at a number of no page
+        Act::See(_) => holds(after == before, "who sees a page changes no owner"),
         Act::Take(0) => Err("page 0 is not taken"),
         Act::Release(_) => releases(before, after),
         act => match change_of_page(act, Owner::Held(event.process), place) {

@@ -6,7 +6,7 @@ ghost use Rattle.bl_proc.specs.Processes.{next_of};
 
 use crate::model::Model;
 use crate::owners::{both, number_of};
-use bl_proc::{Answer, Proc};
+use bl_proc::{Answer, Part, Proc};
 use bl_world::{Event, Owner, Turn, WorldFault};
 use std::alloc::Global;
 use test_world_walks::{Job, Law, Lists, SizedWorld, Tree, descends, found, holds, keep};
@@ -27,6 +27,13 @@ fn only_event(steps: &[Event], place: usize, turn: Turn) -> Result<Event, Law> {
         "an event is of the process whose turn it is",
     )?;
     Ok(event)
+}
+
+/// A part from that key on that looks at that page first.
+fn part_near(from: u64, page: u32) -> Proc
+    ensures { next_of result ≡ act.Begin }
+{
+    Proc::Part(Part::near(from, page))
 }
 
 impl Twins {
@@ -84,6 +91,7 @@ impl Twins {
             ),
             Job::Delete(key) => self.begin(Proc::delete(key), Proc::delete(key)),
             Job::Part(from) => self.begin(Proc::part(from), Proc::part(from)),
+            Job::PartNear(from, page) => self.begin(part_near(from, page), part_near(from, page)),
             Job::Post(level, key) => self.enter_post(level, key),
             Job::Compress(level, key) => self.enter_compression(level, key),
             Job::Reclaim(page) => self.enter_release(page),

@@ -17,6 +17,8 @@ pub enum Job {
     Delete(u64),
     Post(u32, u64),
     Part(u64),
+    /// A part from that key on that has a page in mind.
+    PartNear(u64, u32),
     Compress(u32, u64),
     Reclaim(u32),
 }
@@ -95,7 +97,7 @@ fn rights_in(tree: &Tree, job: Job, right: &mut Vec<Answer>) -> Result<(), Law> 
                 None => Ok(()),
             }
         }
-        Job::Part(from) => rights_of_part(tree, from, right),
+        Job::Part(from) | Job::PartNear(from, _) => rights_of_part(tree, from, right),
         // it looks at owners, not at the tree
         Job::Reclaim(_) => Ok(()),
         Job::Compress(level, key) => rights_of(tree, level, key, right),
@@ -205,7 +207,15 @@ impl Running {
                 self.begun = Some(place);
                 Ok(())
             }
-            Act::See(_) | Act::Look(_) | Act::Release(_) => Err("who looks is to release a page"),
+            Act::See(at) => {
+                let is_near = matches!(self.job, Job::PartNear(_, page) if page == at);
+                let begun = self.begun.map(|begun| begun < place);
+                holds(
+                    is_near && begun == Some(true),
+                    "who sees a page is to release it, or has begun with that in mind",
+                )
+            }
+            Act::Look(_) | Act::Release(_) => Err("who looks is to release a page"),
             Act::Retire(page) => {
                 self.retired = true;
                 let is_own = match &self.squeeze {

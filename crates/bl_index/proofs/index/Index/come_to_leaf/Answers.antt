@@ -1,68 +1,41 @@
-use Rattle.std.proofs.Common.{rules, refl, ◌≡◌, ◌∙◌, None, arith}
+use Rattle.std.proofs.Common.{rules, ℕ, refl, sym, subst, ◌+◌, ◌-◌, ◌≡◌, ◌∙◌, arith}
+use Rattle.std.specs.Prelude.{MatchOption}
 use Rattle.bl_proc.specs.declared.parts.PartStage.TheVariants.{Descending, Ending}
-use Rattle.bl_index.proofs.Calls.{since_step, own_looks}
-use Rattle.bl_index.proofs.Silent.{gives_up}
-use Rattle.bl_index.proofs.Listings.{part_under_way, part_is_search, part_may_give_up}
-use Rattle.bl_index.proofs.Paces.{at_step, at_last, at_end}
+use Rattle.bl_store.specs.Hands.{known}
+use Rattle.bl_index.specs.Parts.{HasLeaf, HasGivenUp}
+use Rattle.bl_index.proofs.Calls.{since_step}
+use Rattle.bl_index.proofs.Listings.{part_under_way, part_is_search}
+use Rattle.bl_index.proofs.Paces.{at_step, at_last}
 use Rattle.bl_index.proofs.index.Index.come_to_leaf.Goals as goal
 
-pub loop-turn-init : goal.loop-turn-init
-loop-turn-init c =
-    record {
-      same = search rules;
-      running = search rules;
-      process = c.set_off-descent.ensures.process;
-      since = c.set_off-descent.ensures.begun;
-      turn = c.set_off-descent.ensures.turn;
-    }
+pub returns-then-turns-eq0-clause-came : goal.returns-then-turns-eq0-clause-came
+returns-then-turns-eq0-clause-came c =
+    let l = c.args.self.now.store.layout in let old = known c.args.hand.now.seat in
+    let off = c.set_off-way.ensures in
+    let came = c.seek_leaf.ensures.came old c.args.hand.now.number 0 off.begun off.turn in
+    subst (λ (z : ℕ). MatchOption c.seek_leaf.result (HasGivenUp l c.args.hand.now.number z old c.seek_leaf.new.hand.seat) (HasLeaf l c.args.hand.now.number c.args.from old c.seek_leaf.new.hand.seat)) (let z : 0 + 0 ≡ c.args.turns = omega (arith, c.if-turns-eq0.true) in z) came
 
-pub loop-turn-preserved : goal.loop-turn-preserved
-loop-turn-preserved c =
-    let inv = c.loop-turn.invariant in
-    let got = c.in-Further.ensures.got in
+pub returns-in-Further-clause-came : goal.returns-in-Further-clause-came
+returns-in-Further-clause-came c =
+    let l = c.args.self.now.store.layout in let old = known c.args.hand.now.seat in
+    let off = c.set_off-way.ensures in
+    let went = c.in-Further.ensures.got in
     let process = c.in-Further.ensures.reached in
-    record {
-      same = search rules;
-      running = search rules;
-      process = process;
-      since = since_step _ _ _ _ _ inv.since got;
-      turn = at_step _ _ _ _ _ inv.since.named inv.since.number inv.turn _ _ process.pages got (part_is_search c.args.from (Descending c.in-Further.next) _ process.state) (part_under_way c.args.from c.in-Further.next _ process.state);
-    }
+    let since = since_step _ _ _ _ _ off.begun went in
+    let turn = at_step _ _ _ _ _ off.begun.named off.begun.number off.turn _ _ process.pages went (part_is_search c.args.from (Descending c.in-Further.next) _ process.state) (part_under_way c.args.from c.in-Further.next _ process.state) in
+    let came = c.seek_leaf-in-Further.ensures.came old c.args.hand.now.number 1 since turn in
+    subst (λ (z : ℕ). MatchOption c.seek_leaf-in-Further.result (HasGivenUp l c.args.hand.now.number z old c.seek_leaf-in-Further.new.hand.seat) (HasLeaf l c.args.hand.now.number c.args.from old c.seek_leaf-in-Further.new.hand.seat)) (let z : 1 + (c.args.turns - 1) ≡ c.args.turns = omega (arith, c.if-turns-eq0.false) in z) came
 
 pub returns-in-Leaf-clause-came : goal.returns-in-Leaf-clause-came
 returns-in-Leaf-clause-came c =
-    let inv = c.loop-turn.invariant in
-    let got = c.in-Leaf.ensures.got in
+    let off = c.set_off-way.ensures in
+    let went = c.in-Leaf.ensures.got in
     let at = c.in-Leaf.ensures.reached in
     record {
       running = search rules;
       reads = at.0;
       leaf = at.1;
       process = at.2;
-      since = since_step _ _ _ _ _ inv.since got;
-      last = at_last _ _ _ _ _ inv.since.named inv.since.number inv.turn _ _ at.2.pages got (part_is_search c.args.from (Ending at.1.rows) _ at.1.state);
-    }
-
-pub give_up-requires-clause-may : goal.give_up-requires-clause-may
-give_up-requires-clause-may c = part_may_give_up c.args.from c.loop-turn.descent _ c.loop-turn.invariant.process.state
-
-pub returns-clause-came : goal.returns-clause-came
-returns-clause-came c =
-    let inv = c.loop-turn.invariant in
-    let told = c.give_up.ensures.told in
-    let end = at_end _ _ _ _ _ inv.since.named inv.since.number inv.turn None _ told in
-    let all : c.loop-turn._turn ≡ c.args.turns = omega arith in
-    record {
-      idle = c.give_up.ensures.idle;
-      within = c.give_up.ensures.within;
-      rests = told.runs;
-      first = told.notes.first ∙ inv.since.beginning;
-      seen = told.notes.seen;
-      out = record {
-        adds = gives_up _ _ _ _ _ refl inv.since (part_may_give_up c.args.from c.loop-turn.descent _ inv.process.state) told;
-        bounded = end.0;
-        gets = end.1 ∙ all;
-        below = end.2;
-        looks = own_looks _ _ _ _ inv.since c.give_up.ensures.looks;
-      };
+      since = since_step _ _ _ _ _ off.begun went;
+      last = at_last _ _ _ _ _ off.begun.named off.begun.number off.turn _ _ at.2.pages went (part_is_search c.args.from (Ending at.1.rows) _ at.1.state);
     }

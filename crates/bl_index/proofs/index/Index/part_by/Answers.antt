@@ -13,12 +13,12 @@ rows_in-rows-requires-clause-pairs c = leaf_pairs _ _ _ c.in-Some.ensures.came.l
 pub end_part-requires-clause-leaf : goal.end_part-requires-clause-leaf
 end_part-requires-clause-leaf c =
     let leaf = c.in-Some.ensures.came.leaf in
-    subst (λ (h : Hand Mine). (from : ℕ) × (words : List ℕ) × IsAtLeaf from words (known h.seat)) (sym (c.next_in-next.ensures.same ∙ c.rows_in-rows.ensures.same)) (c.args.from, _, leaf)
+    subst (λ (h : Hand Mine). (from : ℕ) × (words : List ℕ) × IsAtLeaf from words (known h.seat)) (sym (c.link_in.ensures.same ∙ (c.next_in-next.ensures.same ∙ c.rows_in-rows.ensures.same))) (c.args.from, _, leaf)
 
 pub returns-clause-answers : goal.returns-clause-answers
 returns-clause-answers c =
     let has = c.in-Some.ensures.came in
-    let same = c.next_in-next.ensures.same ∙ c.rows_in-rows.ensures.same in
+    let same = c.link_in.ensures.same ∙ (c.next_in-next.ensures.same ∙ c.rows_in-rows.ensures.same) in
     let ended = subst (λ (h : Hand Mine). ends (known h.seat) 0 (known c.end_part.new.hand.seat)) same c.end_part.ensures.ended in
     let goes : GoesOnBehind (read_words c.come_to_leaf.new.hand.seat) c.next_in-next.result = λ page tree e. c.next_in-next.ensures.next page tree (ap (λ (h : Hand Mine). read_words h.seat) c.rows_in-rows.ensures.same ∙ e) in
     record {

@@ -1,0 +1,15 @@
+use Rattle.std.proofs.Common.{◌≡◌, ℕ, ◌++◌, List}
+use Rattle.bl_index.specs.Calls.{first_of, IsSamePass, pages_of, number_of, trail}
+use Rattle.bl_index.proofs.PartByPart.{IsSoFar, left_behind}
+use Rattle.bl_index.proofs.index.Index.scan.Given as goal
+
+abbrev pub invariant-loop-behind : goal.invariant-loop-behind
+invariant-loop-behind l = record {
+  same : IsSamePass l.fn.pass l.pass;
+  listed : List (ℕ × ℕ);
+  grown : l.rows.items ≡ l.fn.rows.items ++ listed;
+  so_far : IsSoFar (first_of l.self) (pages_of l.self) (number_of l.fn.pass) l.from l.to l.behind listed (trail l.fn.pass) (trail l.pass);
+}
+
+abbrev pub decreases-loop-behind : goal.decreases-loop-behind
+decreases-loop-behind l = left_behind l.behind
