@@ -34,6 +34,7 @@ fn process_of(start: Start) -> Proc
         Start::Operation(Op::Part(from)) => Proc::part(from),
         Start::Compress { level, key } => Proc::compress(level, key),
         Start::Reclaim(page) => Proc::reclaim(page),
+        Start::Lower => Proc::lower(),
     }
 }
 
