@@ -12,7 +12,7 @@ use Rattle.bl_proc_base.specs.declared.answers.Answer.{Answer}
 use Rattle.bl_proc.specs.declared.kinds.Proc.{Proc}
 use Rattle.bl_proc.specs.declared.kinds.Proc.TheVariants as proc
 use Rattle.bl_proc.specs.declared.parts.PartStage.TheVariants as part
-use Rattle.bl_proc.specs.Processes.{answer_of, IsFind, IsInsert, IsDelete, IsPost, IsPart, IsCompress, IsReclaim}
+use Rattle.bl_proc.specs.Processes.{answer_of, IsFind, IsInsert, IsDelete, IsPost, IsPart, IsCompress, IsReclaim, IsLower}
 use Rattle.bl_world.specs.declared.turns.Event.{Event}
 use Rattle.bl_world.specs.declared.turns.Turn.{Turn}
 use Rattle.bl_world.specs.declared.turns.Turn.TheVariants as turn
@@ -73,6 +73,7 @@ IsStart (start.PartNear from page) p = IsPartNear from page p
 IsStart (start.Post level key) p = IsPost level key p
 IsStart (start.Compress level key) p = IsCompress level key p
 IsStart (start.Reclaim page) p = IsReclaim page p
+IsStart start.Lower p = IsLower p
 
 -- What one command does and prints. A run ends with its last turn, or when its process has answered.
 abbrev pub Does : View → Command → List ℕ → View → Type 0
@@ -103,7 +104,7 @@ PlaysInto pages commands text = (text ≡ []) ⊎ ((start : View) × IsOpening p
 
 -- the kinds of process that a script may start
 abbrev pub all_kinds : Kinds
-all_kinds = record { part = true; compress = true; reclaim = true }
+all_kinds = record { part = true; compress = true; reclaim = true; lower = true }
 
 -- A script as it is read: each of its commands may stand where it does.
 abbrev pub MayPlay : ℕ → List Command → Type 0

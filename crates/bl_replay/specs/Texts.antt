@@ -11,6 +11,8 @@ use Rattle.bl_proc_base.specs.declared.answers.Squeezed.{Squeezed}
 use Rattle.bl_proc_base.specs.declared.answers.Squeezed.TheVariants as squeezed
 use Rattle.bl_proc_base.specs.declared.answers.Reclaimed.{Reclaimed}
 use Rattle.bl_proc_base.specs.declared.answers.Reclaimed.TheVariants as reclaimed
+use Rattle.bl_proc_base.specs.declared.lowering.Lowered.{Lowered}
+use Rattle.bl_proc_base.specs.declared.lowering.Lowered.TheVariants as lowered
 use Rattle.bl_world.specs.declared.turns.Act.{Act}
 use Rattle.bl_world.specs.declared.turns.Act.TheVariants as act
 use Rattle.bl_world.specs.declared.turns.Event.{Event}
@@ -62,11 +64,18 @@ abbrev pub reclaimed_text : Reclaimed → List ℕ
 reclaimed_text reclaimed.Released = codes "released"
 reclaimed_text reclaimed.Kept = codes "kept"
 
+-- what became of a top level that was to be taken away
+abbrev pub lowered_text : Lowered → List ℕ
+lowered_text lowered.Lowered = codes "lowered"
+lowered_text lowered.Needed = codes "needed"
+lowered_text lowered.NoRoom = codes "noroom"
+
 abbrev pub answer_text : Answer → List ℕ
 answer_text (answer.Op reply hint) = reply_text reply ++ hint_text hint
 answer_text (answer.Post posted hint) = posted_text posted ++ hint_text hint
 answer_text (answer.Compress squeezed hint) = squeezed_text squeezed ++ hint_text hint
 answer_text (answer.Reclaim what) = reclaimed_text what
+answer_text (answer.Lower what) = lowered_text what
 
 -- the line of the answer of the process with that number
 abbrev pub answer_line : ℕ → Answer → List ℕ

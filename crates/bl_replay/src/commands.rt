@@ -35,6 +35,7 @@ fn process_of(start: Start) -> Proc
         Start::PartNear { from, page } => Proc::Part(Part::near(from, page)),
         Start::Compress { level, key } => Proc::compress(level, key),
         Start::Reclaim(page) => Proc::reclaim(page),
+        Start::Lower => Proc::lower(),
     }
 }
 

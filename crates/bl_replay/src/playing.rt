@@ -23,6 +23,7 @@ pub const PLAYED: Kinds = Kinds {
     part: true,
     compress: true,
     reclaim: true,
+    lower: true,
 };
 
 /// Carries out commands in their order, and prints what they do.

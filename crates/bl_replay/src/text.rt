@@ -1,9 +1,9 @@
 //! The printed form of events and answers.
 
 ghost use Rattle.std.specs.Prelude.{◌≡◌, ◌++◌, OnOk, Some};
-ghost use Rattle.bl_replay.specs.Texts.{act_text, event_line, hint_text, posted_text, squeezed_text, reclaimed_text, answer_text, answer_line};
+ghost use Rattle.bl_replay.specs.Texts.{act_text, event_line, hint_text, posted_text, squeezed_text, reclaimed_text, lowered_text, answer_text, answer_line};
 
-use bl_proc::{Answer, Hint, Posted, Reclaimed, Squeezed};
+use bl_proc::{Answer, Hint, Lowered, Posted, Reclaimed, Squeezed};
 use bl_serve_lines::print::{push_number, push_reply};
 use bl_world::{Act, Event};
 use std::alloc::AllocError;
@@ -97,6 +97,17 @@ fn push_reclaimed(out: &mut Vec<u8>, what: Reclaimed) -> Result<(), AllocError>
     }
 }
 
+/// Appends what became of a top level that was to be taken away.
+fn push_lowered(out: &mut Vec<u8>, what: Lowered) -> Result<(), AllocError>
+    ensures { OnOk result (out.new.items ≡ out.old.items ++ lowered_text what) }
+{
+    match what {
+        Lowered::Lowered => out.extend_from_slice(b"lowered"),
+        Lowered::Needed => out.extend_from_slice(b"needed"),
+        Lowered::NoRoom => out.extend_from_slice(b"noroom"),
+    }
+}
+
 /// Appends an answer, without its line.
 fn push_answer(out: &mut Vec<u8>, answer: &Answer) -> Result<(), AllocError>
     ensures { OnOk result (out.new.items ≡ out.old.items ++ answer_text answer.now) }
@@ -115,6 +126,7 @@ fn push_answer(out: &mut Vec<u8>, answer: &Answer) -> Result<(), AllocError>
             push_hint(out, hint)
         }
         Answer::Reclaim(what) => push_reclaimed(out, *what),
+        Answer::Lower(what) => push_lowered(out, *what),
     }
 }
 

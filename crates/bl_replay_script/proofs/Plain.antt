@@ -29,6 +29,9 @@ number_no_lf a small = All-from_get_or (λ b. b ≢ 10) (decimal a) 0 (λ i lt. 
 number_short : (a : ℕ) → a < 2 ^ 64 → length (one a) ≤ 20
 number_short a small = length-decimal-le 20 a (omega arith) (omega arith) small
 
+pub plain_word : (word : List ℕ) → is_free word ≡ true → length word ≤ 63 → IsPlain word
+plain_word word free few = record { cut = free_no_lf word free; short = omega (arith, few) }
+
 pub plain_one : (word : List ℕ) (a : ℕ) → is_free word ≡ true → length word ≤ 23 → a < 2 ^ 64 → IsPlain (word ++ one a)
 plain_one word a free few small = record {
   cut = All-append (λ b. b ≢ 10) word (one a) (free_no_lf word free) (number_no_lf a small);

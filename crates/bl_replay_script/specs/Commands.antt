@@ -2,7 +2,7 @@
 use Rattle.std.specs.Prelude.{ℕ, ◌+◌, ◌<◌, ◌≤◌, ◌^◌, List, [], ◌∷◌, ◌++◌, codes, decimal, IsTrue}
 use Rattle.bl_model.specs.declared.operation.Op.TheVariants.{Find, Insert, Delete, Part}
 use Rattle.bl_replay_script.specs.declared.command.Start.{Start}
-use Rattle.bl_replay_script.specs.declared.command.Start.TheVariants.{Operation, PartNear, Post, Compress, Reclaim}
+use Rattle.bl_replay_script.specs.declared.command.Start.TheVariants.{Operation, PartNear, Post, Compress, Reclaim, Lower}
 use Rattle.bl_replay_script.specs.declared.command.Command.{Command}
 use Rattle.bl_replay_script.specs.declared.command.Command.TheVariants as command
 use Rattle.bl_replay_script.specs.declared.command.Kinds.{Kinds}
@@ -24,6 +24,7 @@ start_text (PartNear from page) = codes "partnear " ++ two from page
 start_text (Post level key) = codes "post " ++ two level key
 start_text (Compress level key) = codes "compress " ++ two level key
 start_text (Reclaim page) = codes "reclaim " ++ one page
+start_text Lower = codes "lower"
 
 -- the text of each line behind the first, without its LF
 abbrev pub command_text : Command → List ℕ
@@ -61,6 +62,7 @@ MayStart kinds pages (PartNear from page) = IsTrue kinds.part × Fits from × (p
 MayStart kinds pages (Post level key) = IsLevel level × Fits key
 MayStart kinds pages (Compress level key) = IsTrue kinds.compress × IsLevel level × Fits key
 MayStart kinds pages (Reclaim page) = IsTrue kinds.reclaim × (page < pages)
+MayStart kinds pages Lower = IsTrue kinds.lower
 
 -- The command may stand behind lines that have started so many processes.
 abbrev pub MayStand : Kinds → ℕ → ℕ → Command → Type 0

@@ -30,6 +30,8 @@ pub enum Start {
     },
     /// Releases this page, if it is retired and no process may still read it.
     Reclaim(u32),
+    /// Takes the top level away, if that is one page with one pair.
+    Lower,
 }
 
 /// A line of a script behind the first. Processes are numbered from 1, in the order in which they are started.
@@ -65,4 +67,6 @@ pub struct Kinds {
     pub compress: bool,
     /// `reclaim` lines.
     pub reclaim: bool,
+    /// `lower` lines.
+    pub lower: bool,
 }

@@ -1,6 +1,6 @@
 //! What a line of a script says.
 
-ghost use Rattle.std.specs.Prelude.{◌≡◌, ◌≢◌, ℕ, ◌<◌, ◌≤◌, ◌^◌, ◌++◌, codes, IsTrue, MatchOption};
+ghost use Rattle.std.specs.Prelude.{◌≡◌, ◌≢◌, ℕ, ◌<◌, ◌≤◌, ◌^◌, ◌++◌, ◌↔◌, codes, IsTrue, MatchOption};
 ghost use Rattle.bl_replay_script.specs.declared.command.Start.{Start as StartSpec};
 ghost use Rattle.bl_replay_script.specs.declared.command.Command.{Command as CommandSpec};
 ghost use Rattle.bl_replay_script.specs.Commands.{one, two, head_text, start_text, command_text, Fits, IsLevel, IsPageCount, IsStarted, MayStart, MayStand};
@@ -133,6 +133,13 @@ fn reclaim_line(kinds: Kinds, pages: u32, line: &[u8]) -> Option<u32>
     Some(page as u32)
 }
 
+/// The line is `lower`, where such a process may be started.
+fn is_lower_line(kinds: Kinds, line: &[u8]) -> bool
+    ensures { IsTrue result ↔ (IsTrue kinds.lower × (line.now ≡ codes "lower")) }
+{
+    kinds.lower && line == b"lower".as_slice()
+}
+
 /// The process that the line starts.
 fn start_of(kinds: Kinds, pages: u32, line: &[u8]) -> Option<Start>
     requires { 0 < pages }
@@ -160,6 +167,9 @@ fn start_of(kinds: Kinds, pages: u32, line: &[u8]) -> Option<Start>
     }
     if let Some((level, key)) = compress_line(kinds, line) {
         return Some(Start::Compress { level, key });
+    }
+    if is_lower_line(kinds, line) {
+        return Some(Start::Lower);
     }
     let Some(page) = reclaim_line(kinds, pages, line) else {
         return None;

@@ -15,6 +15,8 @@ use Rattle.bl_proc_base.specs.declared.answers.Hint.{Hint}
 use Rattle.bl_proc_base.specs.declared.answers.Posted.{Posted}
 use Rattle.bl_proc.specs.declared.posting.Post.{Post}
 use Rattle.bl_proc_base.specs.declared.answers.Squeezed.{Squeezed}
+use Rattle.bl_proc_base.specs.declared.lowering.Lowered.{Lowered}
+use Rattle.bl_proc.specs.declared.lowering.Lower.{Lower}
 use Rattle.bl_proc_compress.specs.declared.squeezing.Compress.{Compress}
 use Rattle.bl_proc_base.specs.declared.answers.Reclaimed.{Reclaimed}
 use Rattle.bl_proc.specs.declared.reclaiming.ReclaimStage.{ReclaimStage}
@@ -26,12 +28,14 @@ use Rattle.bl_proc.specs.Processes.{answer_of}
 use Rattle.bl_proc_invariant.specs.Knowing.{Run, know_of, know}
 use Rattle.bl_proc_meanings.specs.Answers.{MeansPosted, MeansHint}
 use Rattle.bl_proc_meanings.specs.Squeezed.{MeansSqueezed}
+use Rattle.bl_proc_meanings.specs.Lowered.{MeansLowered}
 use Rattle.bl_proc_invariant.proofs.Logged.{bare_good}
 use Rattle.bl_proc_invariant.proofs.Answered.{post_means, post_hints}
 use Rattle.bl_proc_invariant.proofs.Beside.{beside_means}
 use Rattle.bl_proc_invariant.specs.Beside.{MeansBeside}
 use Rattle.bl_proc_invariant.specs.Logs.{proc_log}
 use Rattle.bl_proc_invariant.proofs.Pressed.{compress_means}
+use Rattle.bl_proc_invariant.proofs.LoweringLogs.{lower_means}
 use Rattle.bl_proc_invariant.proofs.Starting.{run_laws}
 use Rattle.bl_claims.specs.Bounds.{IsWithinBound}
 use Rattle.bl_proc_bounds.specs.Searches.{IsSearch}
@@ -119,6 +123,9 @@ module _ (v : View) (h : Has v) where
   squeezed : (n : ℕ) (p : Compress) (a : Squeezed) (hint : Option Hint) → slice_get v.processes n ≡ Some (proc.Compress p) → answer_of (proc.Compress p) ≡ Some (answer.Compress a hint) → MeansSqueezed p.level p.key a hint (marks_of (name_of (n + 1)) h.world.trail)
   squeezed n p a hint stood e = subst (λ k. MeansSqueezed p.level p.key a hint (marks_of (name_of k) h.world.trail)) (sym (one_more n)) (compress_means h.world (name_of (suc n)) p a hint h.good (h.runs n (proc.Compress p) stood) e)
 
+  lowered : (n : ℕ) (p : Lower) (a : Lowered) → slice_get v.processes n ≡ Some (proc.Lower p) → answer_of (proc.Lower p) ≡ Some (answer.Lower a) → MeansLowered a (marks_of (name_of (n + 1)) h.world.trail)
+  lowered n p a stood e = subst (λ k. MeansLowered a (marks_of (name_of k) h.world.trail)) (sym (one_more n)) (lower_means h.world (name_of (suc n)) p a h.good (h.runs n (proc.Lower p) stood) e)
+
   bounded : (n : ℕ) (p : Proc) → slice_get v.processes n ≡ Some p → IsSearch p → IsWithinBound (length v.pages) (name_of (n + 1)) h.world.trail
   bounded n p stood search =
       let name = name_of (suc n) in
@@ -159,6 +166,7 @@ module _ (v : View) (h : Has v) where
         hinted = hinted;
         beside = beside;
         squeezed = squeezed;
+        lowered = lowered;
         ended = λ n p a stood ends e. (let x = ended n p a stood ends e in (x.0, x.1.0, x.1.1));
         reclaimed = λ n p a stood e. rw (one_more n) (over_means v.events (suc n) p.page (w.proc (name_of (suc n))).time p.stage a e (h.reclaiming n p stood));
         releases = h.releases;

@@ -9,6 +9,9 @@ use Rattle.bl_proc_base.specs.declared.growing.Growth.{Growth}
 use Rattle.bl_proc_base.specs.declared.growing.Growth.TheVariants as growth
 use Rattle.bl_rearrange.specs.declared.sides.Side.{Side}
 use Rattle.bl_rearrange.specs.declared.sides.Side.TheVariants as side
+use Rattle.bl_proc_base.specs.declared.lowering.Lowering.{Lowering}
+use Rattle.bl_proc_base.specs.declared.lowering.Lowering.TheVariants as lowering
+use Rattle.bl_proc_base.specs.Lowerings.{lowering_next}
 use Rattle.bl_proc_compress.specs.declared.compressing.Puts.{Puts}
 use Rattle.bl_proc_compress.specs.declared.compressing.Compression.{Compression}
 use Rattle.bl_proc_compress.specs.declared.compressing.Compression.TheVariants.{PuttingFirst, PuttingLast}
@@ -50,3 +53,15 @@ pub squeeze_begins : {X : Type 0} (c : Compression) → compression_next c ≡ a
 squeeze_begins (PuttingFirst u) e = put_begins u.gains u e
 squeeze_begins (PuttingLast u) e = put_begins (other u.gains) u e
 squeeze_begins old e = absurd cc
+
+pub lowering_begins : {X : Type 0} (l : Lowering) → lowering_next l ≡ act.Begin → X
+lowering_begins lowering.Looking e = absurd cc
+lowering_begins lowering.LatchingAnchor e = absurd cc
+lowering_begins lowering.LatchedAnchor e = absurd cc
+lowering_begins (lowering.LatchingTop t) e = absurd cc
+lowering_begins (lowering.LatchedTop t) e = absurd cc
+lowering_begins (lowering.PuttingAnchor s) e = absurd cc
+lowering_begins (lowering.PuttingDead s) e = absurd cc
+lowering_begins (lowering.Retiring x) e = absurd cc
+lowering_begins (lowering.OpeningTop x what) e = absurd cc
+lowering_begins (lowering.OpeningAnchor what) e = absurd cc

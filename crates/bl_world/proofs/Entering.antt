@@ -22,6 +22,8 @@ use Rattle.bl_proc.specs.declared.reclaiming.Reclaim.{Reclaim}
 use Rattle.bl_proc.specs.declared.reclaiming.ReclaimStage.{ReclaimStage}
 use Rattle.bl_proc.specs.declared.reclaiming.ReclaimStage.TheVariants as reclaim
 use Rattle.bl_proc.specs.declared.kinds.Proc.{Proc}
+use Rattle.bl_proc.specs.declared.lowering.LowerStage.{LowerStage}
+use Rattle.bl_proc.specs.declared.lowering.LowerStage.TheVariants as lower
 use Rattle.bl_proc.specs.declared.kinds.Proc.TheVariants as proc
 use Rattle.bl_proc.specs.Processes.{next_of, IsReclaim}
 use Rattle.bl_proc.specs.Searches.{find_next_in}
@@ -31,7 +33,8 @@ use Rattle.bl_proc.specs.Deletes.{delete_next_in}
 use Rattle.bl_proc.specs.Posts.{post_next_in}
 use Rattle.bl_proc_compress.specs.Compresses.{compress_next_in}
 use Rattle.bl_proc.specs.Reclaims.{reclaim_next_in}
-use Rattle.bl_proc_invariant.specs.Knowing.{Run, know_of, know_find, know_part, know_insert, know_delete, know_post, know_compress, know_reclaim}
+use Rattle.bl_proc.specs.Lowers.{lower_next_in}
+use Rattle.bl_proc_invariant.specs.Knowing.{Run, know_of, know_find, know_part, know_insert, know_delete, know_post, know_compress, know_reclaim, know_lower}
 use Rattle.bl_proc_invariant.proofs.Logged.{full_blank}
 use Rattle.bl_proc_invariant.proofs.Starting.{with_proc, enters_good}
 use Rattle.bl_proc_bounds.proofs.Kept.{enter_kept}
@@ -40,7 +43,7 @@ use Rattle.bl_world.specs.declared.owners.Owner.{Owner}
 use Rattle.bl_world.specs.Views.{name_of}
 use Rattle.bl_world.specs.Worlds.{key_in, IsUnknown, IsReclaiming, HasWorld}
 use Rattle.bl_world.proofs.Stands.{Grows, name_differs}
-use Rattle.bl_world.proofs.Begins.{approach_begins, change_begins, growth_begins, squeeze_begins}
+use Rattle.bl_world.proofs.Begins.{approach_begins, change_begins, growth_begins, squeeze_begins, lowering_begins}
 use Rattle.bl_world.proofs.Places.{push_cases, push_length}
 
 -- A process that is to begin has done nothing.
@@ -79,6 +82,11 @@ compress_blank l k got (compress.Coming a) small e = approach_begins a e
 compress_blank l k got (compress.Compressing c) small e = squeeze_begins c e
 compress_blank l k got old small e = absurd cc
 
+lower_blank : (got : ℕ → Page) (a : LowerStage) → lower_next_in a ≡ act.Begin → IsBlank (know_lower got a)
+lower_blank got lower.New e = record { stage = refl; said = refl; holds = refl; goes = refl; children = refl; passed = refl; sound = tt; log = tt }
+lower_blank got (lower.Sinking l) e = lowering_begins l e
+lower_blank got old e = absurd cc
+
 reclaim_begins : {X : Type 0} (page : ℕ) (a : ReclaimStage) → reclaim_next_in page a ≡ act.Begin → X
 reclaim_begins page reclaim.Seeing e = absurd cc
 reclaim_begins page (reclaim.Looking r) e = absurd cc
@@ -100,6 +108,7 @@ blank size got child time (proc.Post p) small (inl e) = post_blank p.level p.key
 blank size got child time (proc.Part p) small (inl e) = part_blank p.from p.stage small e
 blank size got child time (proc.Compress p) small (inl e) = compress_blank p.level p.key got p.stage small e
 blank size got child time (proc.Reclaim p) small (inl e) = reclaim_begins p.page p.stage e
+blank size got child time (proc.Lower p) small (inl e) = lower_blank got p.stage e
 blank size got child time (proc.Find p) small (inr r) = absurd r.2
 blank size got child time (proc.Insert p) small (inr r) = absurd r.2
 blank size got child time (proc.Delete p) small (inr r) = absurd r.2
@@ -107,6 +116,7 @@ blank size got child time (proc.Post p) small (inr r) = absurd r.2
 blank size got child time (proc.Part p) small (inr r) = absurd r.2
 blank size got child time (proc.Compress p) small (inr r) = absurd r.2
 blank size got child time (proc.Reclaim p) small (inr r) = reclaim_blank time p.stage r.2.1
+blank size got child time (proc.Lower p) small (inr r) = absurd r.2
 
 -- a process that is to release a page is to look at the owner of a page of the world
 new_reclaim : (size : ℕ) (q : Reclaim) → IsNew size (proc.Reclaim q) → (q.page < size) × (q.stage ≡ reclaim.Seeing)

@@ -36,6 +36,10 @@ use Rattle.bl_proc_compress.specs.declared.squeezing.CompressStage.TheVariants a
 use Rattle.bl_proc.specs.declared.reclaiming.ReclaimStage.{ReclaimStage}
 use Rattle.bl_proc.specs.declared.reclaiming.ReclaimStage.TheVariants as reclaim
 use Rattle.bl_proc.specs.declared.kinds.Proc.{Proc}
+use Rattle.bl_proc_base.specs.declared.lowering.Lowering.{Lowering}
+use Rattle.bl_proc_base.specs.declared.lowering.Lowering.TheVariants as lowering
+use Rattle.bl_proc.specs.declared.lowering.LowerStage.{LowerStage}
+use Rattle.bl_proc.specs.declared.lowering.LowerStage.TheVariants as lower
 use Rattle.bl_proc.specs.declared.kinds.Proc.TheVariants as proc
 use Rattle.bl_proc.specs.Processes.{answer_of}
 use Rattle.bl_proc.specs.Searches.{find_answer_in}
@@ -44,10 +48,12 @@ use Rattle.bl_proc.specs.Inserts.{insert_answer_in}
 use Rattle.bl_proc.specs.Deletes.{delete_answer_in}
 use Rattle.bl_proc.specs.Posts.{post_answer_in}
 use Rattle.bl_proc_compress.specs.Compresses.{compress_answer_in}
+use Rattle.bl_proc.specs.Lowers.{lower_answer_in}
 use Rattle.bl_proc.specs.Reclaims.{reclaim_answer_in}
 use Rattle.bl_proc_invariant.specs.Tables.{Aim, know_approach, know_change}
 use Rattle.bl_proc_invariant.specs.Compressing.{know_squeeze}
-use Rattle.bl_proc_invariant.specs.Knowing.{know_of, know_find, know_part, know_insert, know_delete, know_post, know_compress, know_reclaim, know_growth, insert_aim, delete_aim, post_aim}
+use Rattle.bl_proc_invariant.specs.Lowering.{know_lowering}
+use Rattle.bl_proc_invariant.specs.Knowing.{know_of, know_find, know_part, know_insert, know_delete, know_post, know_compress, know_reclaim, know_lower, know_growth, insert_aim, delete_aim, post_aim}
 use Rattle.bl_world.specs.Accounts.{op_of, HasEnd}
 
 none_said : {X : Type 0} (s : Said) → None ≡ Some s → X
@@ -151,6 +157,24 @@ reclaim_none time (reclaim.Looking r) s e = none_said s e
 reclaim_none time reclaim.Releasing s e = none_said s e
 reclaim_none time (reclaim.Over what) s e = none_said s e
 
+lowering_said : (got : ℕ → Page) (l : Lowering) → (know_lowering got l).said ≡ None
+lowering_said got lowering.Looking = refl
+lowering_said got lowering.LatchingAnchor = refl
+lowering_said got lowering.LatchedAnchor = refl
+lowering_said got (lowering.LatchingTop t) = refl
+lowering_said got (lowering.LatchedTop t) = refl
+lowering_said got (lowering.PuttingAnchor s) = refl
+lowering_said got (lowering.PuttingDead s) = refl
+lowering_said got (lowering.Retiring x) = refl
+lowering_said got (lowering.OpeningTop x what) = refl
+lowering_said got (lowering.OpeningAnchor what) = refl
+
+lower_none : {X : Type 0} (got : ℕ → Page) (a : LowerStage) (s : Said) → (know_lower got a).said ≡ Some s → X
+lower_none got lower.New s e = none_said s e
+lower_none got (lower.Sinking l) s e = none_said s (sym (lowering_said got l) ∙ e)
+lower_none got (lower.Ending r) s e = none_said s e
+lower_none got (lower.Over r) s e = none_said s e
+
 pub said_op : (got : ℕ → Page) (child time : ℕ) (p : Proc) (s : Said) → (know_of got child time p).said ≡ Some s → op_of p ≡ Some s.op
 said_op got child time (proc.Find p) s e = find_op p.key p.stage s e
 said_op got child time (proc.Insert p) s e = insert_op p.key p.value got p.stage s e
@@ -159,6 +183,7 @@ said_op got child time (proc.Post p) s e = post_none p.level p.key got child p.s
 said_op got child time (proc.Part p) s e = part_op p.from p.stage s e
 said_op got child time (proc.Compress p) s e = compress_none p.level p.key got p.stage s e
 said_op got child time (proc.Reclaim p) s e = reclaim_none time p.stage s e
+said_op got child time (proc.Lower p) s e = lower_none got p.stage s e
 
 -- What it answers
 
@@ -170,6 +195,7 @@ reply_in (answer.Op reply hint) = Some reply
 reply_in (answer.Post posted hint) = None
 reply_in (answer.Compress squeezed hint) = None
 reply_in (answer.Reclaim what) = None
+reply_in (answer.Lower what) = None
 
 same_reply : (a b : Reply) (hint other : Option Hint) → Some (answer.Op a hint) ≡ Some (answer.Op b other) → a ≡ b
 same_reply a b hint other e =
@@ -257,6 +283,12 @@ reclaim_answered (reclaim.Looking r) reply hint e = none_answer _ e
 reclaim_answered reclaim.Releasing reply hint e = none_answer _ e
 reclaim_answered (reclaim.Over what) reply hint e = absurd (let f : Some (answer.Reclaim what) ≡ Some (answer.Op reply hint) = e in cc)
 
+lower_answered : {X : Type 0} (a : LowerStage) (reply : Reply) (hint : Option Hint) → lower_answer_in a ≡ Some (answer.Op reply hint) → X
+lower_answered lower.New reply hint e = none_answer _ e
+lower_answered (lower.Sinking l) reply hint e = none_answer _ e
+lower_answered (lower.Ending r) reply hint e = none_answer _ e
+lower_answered (lower.Over what) reply hint e = absurd (let f : Some (answer.Lower what) ≡ Some (answer.Op reply hint) = e in cc)
+
 pub answered_said : (got : ℕ → Page) (child time : ℕ) (p : Proc) (reply : Reply) (hint : Option Hint) → answer_of p ≡ Some (answer.Op reply hint) → HasAnswered (know_of got child time p).said reply
 answered_said got child time (proc.Find p) reply hint e = find_answered p.key p.stage reply hint e
 answered_said got child time (proc.Insert p) reply hint e = insert_answered p.key p.value got p.stage reply hint e
@@ -265,6 +297,7 @@ answered_said got child time (proc.Post p) reply hint e = post_answered p.level 
 answered_said got child time (proc.Part p) reply hint e = part_answered p.from p.stage reply hint e
 answered_said got child time (proc.Compress p) reply hint e = compress_answered p.stage reply hint e
 answered_said got child time (proc.Reclaim p) reply hint e = reclaim_answered p.stage reply hint e
+answered_said got child time (proc.Lower p) reply hint e = lower_answered p.stage reply hint e
 
 -- It has ended
 
@@ -316,6 +349,12 @@ compress_late l k got (compress.Staying x) b e = none_answer _ e
 compress_late l k got (compress.Ending r) b e = none_answer _ e
 compress_late l k got (compress.Over r) b e = refl
 
+lower_late : (got : ℕ → Page) (a : LowerStage) (b : Answer) → lower_answer_in a ≡ Some b → (know_lower got a).stage ≡ Stage.Late
+lower_late got lower.New b e = none_answer _ e
+lower_late got (lower.Sinking l) b e = none_answer _ e
+lower_late got (lower.Ending r) b e = none_answer _ e
+lower_late got (lower.Over r) b e = refl
+
 pub answered_late : (got : ℕ → Page) (child time : ℕ) (p : Proc) (b : Answer) → HasEnd p → answer_of p ≡ Some b → (know_of got child time p).stage ≡ Stage.Late
 answered_late got child time (proc.Find p) b ends e = find_late p.key p.stage b e
 answered_late got child time (proc.Insert p) b ends e = insert_late p.key p.value got p.stage b e
@@ -324,3 +363,4 @@ answered_late got child time (proc.Post p) b ends e = post_late p.level p.key go
 answered_late got child time (proc.Part p) b ends e = part_late p.from p.stage b e
 answered_late got child time (proc.Compress p) b ends e = compress_late p.level p.key got p.stage b e
 answered_late got child time (proc.Reclaim p) b ends e = absurd ends
+answered_late got child time (proc.Lower p) b ends e = lower_late got p.stage b e

@@ -34,6 +34,10 @@ use Rattle.bl_proc.specs.declared.reclaiming.Reclaim.{Reclaim}
 use Rattle.bl_proc.specs.declared.reclaiming.ReclaimStage.{ReclaimStage}
 use Rattle.bl_proc.specs.declared.reclaiming.ReclaimStage.TheVariants as reclaim
 use Rattle.bl_proc.specs.declared.kinds.Proc.{Proc}
+use Rattle.bl_proc_base.specs.declared.lowering.Lowering.{Lowering}
+use Rattle.bl_proc_base.specs.declared.lowering.Lowering.TheVariants as lowering
+use Rattle.bl_proc.specs.declared.lowering.LowerStage.{LowerStage}
+use Rattle.bl_proc.specs.declared.lowering.LowerStage.TheVariants as lower
 use Rattle.bl_proc.specs.declared.kinds.Proc.TheVariants as proc
 use Rattle.bl_proc.specs.Searches.{find_next_in}
 use Rattle.bl_proc.specs.Parts.{part_next_in}
@@ -42,6 +46,8 @@ use Rattle.bl_proc.specs.Deletes.{delete_next_in}
 use Rattle.bl_proc.specs.Posts.{post_next_in}
 use Rattle.bl_proc_compress.specs.Compresses.{compress_next_in}
 use Rattle.bl_proc.specs.Reclaims.{reclaim_next_in}
+use Rattle.bl_proc_base.specs.Lowerings.{lowering_next}
+use Rattle.bl_proc.specs.Lowers.{lower_next_in}
 use Rattle.bl_proc.specs.Processes.{next_of, Takes}
 
 abbrev pub IsOfTree : Action → Type 0
@@ -149,6 +155,24 @@ compress_tree (compress.Staying x) = tt
 compress_tree (compress.Ending r) = tt
 compress_tree (compress.Over r) = tt
 
+lowering_tree : (l : Lowering) → IsOfTree (lowering_next l)
+lowering_tree lowering.Looking = tt
+lowering_tree lowering.LatchingAnchor = tt
+lowering_tree lowering.LatchedAnchor = tt
+lowering_tree (lowering.LatchingTop t) = tt
+lowering_tree (lowering.LatchedTop t) = tt
+lowering_tree (lowering.PuttingAnchor s) = tt
+lowering_tree (lowering.PuttingDead s) = tt
+lowering_tree (lowering.Retiring x) = tt
+lowering_tree (lowering.OpeningTop x what) = tt
+lowering_tree (lowering.OpeningAnchor what) = tt
+
+lower_tree : (a : LowerStage) → IsOfTree (lower_next_in a)
+lower_tree lower.New = tt
+lower_tree (lower.Sinking l) = lowering_tree l
+lower_tree (lower.Ending r) = tt
+lower_tree (lower.Over r) = tt
+
 reclaim_tree : (page : ℕ) (a : ReclaimStage) → IsOfTree (reclaim_next_in page a) → ⊥
 reclaim_tree page reclaim.Seeing h = h
 reclaim_tree page (reclaim.Looking r) h = h
@@ -163,6 +187,7 @@ reclaims (proc.Post p) h = absurd (h (post_tree p.stage))
 reclaims (proc.Part p) h = absurd (h (part_tree p.stage))
 reclaims (proc.Compress p) h = absurd (h (compress_tree p.stage))
 reclaims (proc.Reclaim p) h = (p, refl)
+reclaims (proc.Lower p) h = absurd (h (lower_tree p.stage))
 
 -- what a process is told of an action on the tree makes none of this kind of it
 pub takes_tree : (p : Proc) (what : Seen) (q : Reclaim) → IsOfTree (next_of p) → Takes p what (proc.Reclaim q) → ⊥
@@ -173,6 +198,7 @@ takes_tree (proc.Post p) what q h t = t
 takes_tree (proc.Part p) what q h t = t
 takes_tree (proc.Compress p) what q h t = t
 takes_tree (proc.Reclaim p) what q h t = reclaim_tree p.page p.stage h
+takes_tree (proc.Lower p) what q h t = t
 
 pub see_page : (page x : ℕ) (a : ReclaimStage) → reclaim_next_in page a ≡ act.See x → page ≡ x
 see_page page x reclaim.Seeing e = (let f : act.See page ≡ act.See x = e in cc)

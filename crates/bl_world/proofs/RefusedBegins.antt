@@ -10,14 +10,17 @@ use Rattle.bl_proc.specs.declared.posting.PostStage.TheVariants as post
 use Rattle.bl_proc_compress.specs.declared.squeezing.CompressStage.{CompressStage}
 use Rattle.bl_proc_compress.specs.declared.squeezing.CompressStage.TheVariants as compress
 use Rattle.bl_proc.specs.declared.kinds.Proc.{Proc}
+use Rattle.bl_proc.specs.declared.lowering.LowerStage.{LowerStage}
+use Rattle.bl_proc.specs.declared.lowering.LowerStage.TheVariants as lower
 use Rattle.bl_proc.specs.declared.kinds.Proc.TheVariants as proc
 use Rattle.bl_proc.specs.Processes.{next_of, IsReclaim}
 use Rattle.bl_proc.specs.Inserts.{insert_next_in}
 use Rattle.bl_proc.specs.Deletes.{delete_next_in}
 use Rattle.bl_proc.specs.Posts.{post_next_in}
 use Rattle.bl_proc_compress.specs.Compresses.{compress_next_in}
-use Rattle.bl_proc_unique.specs.Refusals.{InsertRefused, DeleteRefused, PostRefused, CompressRefused, IsRefused}
-use Rattle.bl_world.proofs.Begins.{change_begins, growth_begins, squeeze_begins}
+use Rattle.bl_proc.specs.Lowers.{lower_next_in}
+use Rattle.bl_proc_unique.specs.Refusals.{InsertRefused, DeleteRefused, PostRefused, CompressRefused, LowerRefused, IsRefused}
+use Rattle.bl_world.proofs.Begins.{change_begins, growth_begins, squeeze_begins, lowering_begins}
 
 -- A process that is to begin was not refused.
 
@@ -55,6 +58,12 @@ compress_free (compress.Staying x) e r = r
 compress_free (compress.Ending s) e r = cc
 compress_free (compress.Over s) e r = cc
 
+lower_free : (a : LowerStage) → lower_next_in a ≡ act.Begin → LowerRefused a → ⊥
+lower_free lower.New e r = r
+lower_free (lower.Sinking l) e r = lowering_begins l e
+lower_free (lower.Ending q) e r = cc
+lower_free (lower.Over q) e r = cc
+
 pub begins_free : (p : Proc) → next_of p ≡ act.Begin → IsRefused p → ⊥
 begins_free (proc.Find p) e r = r
 begins_free (proc.Insert p) e r = insert_free p.stage e r
@@ -63,6 +72,7 @@ begins_free (proc.Post p) e r = post_free p.stage e r
 begins_free (proc.Part p) e r = r
 begins_free (proc.Compress p) e r = compress_free p.stage e r
 begins_free (proc.Reclaim p) e r = r
+begins_free (proc.Lower p) e r = lower_free p.stage e r
 
 -- Nor is one that is to release a page.
 pub reclaim_free : (x : ℕ) (p : Proc) → IsReclaim x p → IsRefused p → ⊥
@@ -73,3 +83,4 @@ reclaim_free x (proc.Delete p) e r = e
 reclaim_free x (proc.Post p) e r = e
 reclaim_free x (proc.Part p) e r = e
 reclaim_free x (proc.Compress p) e r = e
+reclaim_free x (proc.Lower p) e r = e

@@ -24,12 +24,18 @@ use Rattle.bl_proc_compress.specs.declared.compressing.Compression.TheVariants.{
 use Rattle.bl_proc_compress.specs.declared.squeezing.CompressStage.{CompressStage}
 use Rattle.bl_proc_compress.specs.declared.squeezing.CompressStage.TheVariants as compress
 use Rattle.bl_proc.specs.declared.kinds.Proc.{Proc}
+use Rattle.bl_proc_base.specs.declared.lowering.Lowering.{Lowering}
+use Rattle.bl_proc_base.specs.declared.lowering.Lowering.TheVariants as lowering
+use Rattle.bl_proc.specs.declared.lowering.LowerStage.{LowerStage}
+use Rattle.bl_proc.specs.declared.lowering.LowerStage.TheVariants as lower
 use Rattle.bl_proc.specs.declared.kinds.Proc.TheVariants as proc
 use Rattle.bl_proc.specs.Processes.{next_of, needs_of}
 use Rattle.bl_proc.specs.Inserts.{insert_next_in, insert_needs_in}
 use Rattle.bl_proc.specs.Deletes.{delete_next_in, delete_needs_in}
 use Rattle.bl_proc.specs.Posts.{post_next_in, post_needs_in}
 use Rattle.bl_proc_compress.specs.Compresses.{compress_next_in, compress_needs_in}
+use Rattle.bl_proc_base.specs.Lowerings.{lowering_next, lowering_needs}
+use Rattle.bl_proc.specs.Lowers.{lower_next_in, lower_needs_in}
 
 abbrev pub Reserves : Action → Type 0
 Reserves act.Begin = ⊥
@@ -84,9 +90,18 @@ compress_reserves : (a : CompressStage) → IsSome (compress_needs_in a) → Res
 compress_reserves (compress.Compressing c) h = squeeze_reserves c h
 compress_reserves old h = absurd (false≢true h)
 
+lowering_reserves : (l : Lowering) → IsSome (lowering_needs l) → Reserves (lowering_next l)
+lowering_reserves (lowering.PuttingAnchor s) h = tt
+lowering_reserves old h = absurd (false≢true h)
+
+lower_reserves : (a : LowerStage) → IsSome (lower_needs_in a) → Reserves (lower_next_in a)
+lower_reserves (lower.Sinking l) h = lowering_reserves l h
+lower_reserves old h = absurd (false≢true h)
+
 pub reserves : (p : Proc) → IsSome (needs_of p) → Reserves (next_of p)
 reserves (proc.Insert p) h = insert_reserves p.stage h
 reserves (proc.Delete p) h = delete_reserves p.stage h
 reserves (proc.Post p) h = post_reserves p.stage h
 reserves (proc.Compress p) h = compress_reserves p.stage h
+reserves (proc.Lower p) h = lower_reserves p.stage h
 reserves old h = absurd (false≢true h)

@@ -19,8 +19,11 @@ use Rattle.bl_proc_base.specs.declared.answers.Hint.{Hint}
 use Rattle.bl_proc_base.specs.declared.answers.Posted.{Posted}
 use Rattle.bl_proc.specs.declared.posting.Post.{Post}
 use Rattle.bl_proc_base.specs.declared.answers.Squeezed.{Squeezed}
+use Rattle.bl_proc_base.specs.declared.lowering.Lowered.{Lowered}
+use Rattle.bl_proc.specs.declared.lowering.Lower.{Lower}
 use Rattle.bl_proc_compress.specs.declared.squeezing.Compress.{Compress}
 use Rattle.bl_proc_meanings.specs.Squeezed.{MeansSqueezed}
+use Rattle.bl_proc_meanings.specs.Lowered.{MeansLowered}
 use Rattle.bl_proc_base.specs.declared.answers.Reclaimed.{Reclaimed}
 use Rattle.bl_proc.specs.declared.reclaiming.Reclaim.{Reclaim}
 use Rattle.bl_proc.specs.declared.kinds.Proc.{Proc}
@@ -58,6 +61,7 @@ op_of (proc.Post p) = None
 op_of (proc.Part p) = Some (op.Part p.from)
 op_of (proc.Compress p) = None
 op_of (proc.Reclaim p) = None
+op_of (proc.Lower p) = None
 
 -- a process that releases a page has neither a begin nor an end
 abbrev pub HasEnd : Proc → Type 0
@@ -116,13 +120,15 @@ pub record Account (v : View) : Type 0 where
   pub beside : (n : ℕ) (p : Proc) (reply : Reply) (hint : Option Hint) → slice_get v.processes n ≡ Some p → answer_of p ≡ Some (answer.Op reply hint) → MeansBeside p reply hint (marks_of (name_of (n + 1)) trail)
   -- so does what a compression answered, with the hint beside it
   pub squeezed : (n : ℕ) (p : Compress) (a : Squeezed) (hint : Option Hint) → slice_get v.processes n ≡ Some (proc.Compress p) → answer_of (proc.Compress p) ≡ Some (answer.Compress a hint) → MeansSqueezed p.level p.key a hint (marks_of (name_of (n + 1)) trail)
+  -- so does what a lowering answered
+  pub lowered : (n : ℕ) (p : Lower) (a : Lowered) → slice_get v.processes n ≡ Some (proc.Lower p) → answer_of (proc.Lower p) ≡ Some (answer.Lower a) → MeansLowered a (marks_of (name_of (n + 1)) trail)
   -- so does the answer of a process that was to release a page; and each release is of the retirement that its process saw
   pub reclaimed : (n : ℕ) (p : Reclaim) (a : Reclaimed) → slice_get v.processes n ≡ Some (proc.Reclaim p) → answer_of (proc.Reclaim p) ≡ Some (answer.Reclaim a) → MeansReclaimed v.events (n + 1) p.page a
   pub releases : ReleasesSeen v.events
   -- a search, and a part, gets no more pages than its bound beside the puts of others, at every moment so far
   pub bounded : (n : ℕ) (p : Proc) → slice_get v.processes n ≡ Some p → IsSearch p → IsWithinBound (length v.pages) (name_of (n + 1)) trail
-  -- when they latch a page, an insertion, a deletion and a post hold none, and a compression the parent and the left child at
-  -- most; a search and a part latch, take and put nothing
+  -- when they latch a page, an insertion, a deletion and a post hold none, a compression the parent and the left child at most,
+  -- and a lowering the anchor at most; a search and a part latch, take and put nothing
   pub latches : (n : ℕ) (p : Proc) → slice_get v.processes n ≡ Some p → IsTidy p (marks_of (name_of (n + 1)) trail)
   -- whichever the turns were: a process answers that there was no room only where one of them was a fit refusal of it
   pub refused : (way : Way v) (n : ℕ) (p : Proc) (a : Answer) → slice_get v.processes n ≡ Some p → answer_of p ≡ Some a → IsNoRoom a → WasRefused way.opened way.deeds n

@@ -33,6 +33,7 @@ key_in (proc.Post p) = p.key
 key_in (proc.Part p) = p.from
 key_in (proc.Compress p) = p.key
 key_in (proc.Reclaim p) = 0
+key_in (proc.Lower p) = 0
 
 -- none of the processes of that many has this name
 abbrev pub IsUnknown : ℕ → Name → Type 0

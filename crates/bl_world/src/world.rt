@@ -47,7 +47,7 @@ fn key_of(process: &Proc) -> u64
         Proc::Post(process) => process.key,
         Proc::Part(process) => process.from,
         Proc::Compress(process) => process.key,
-        Proc::Reclaim(_) => 0,
+        Proc::Reclaim(_) | Proc::Lower(_) => 0,
     }
 }
 

@@ -11,6 +11,7 @@ const ALL: Kinds = Kinds {
     part: true,
     compress: true,
     reclaim: true,
+    lower: true,
 };
 
 /// Searches, insertions, deletions and posts alone.
@@ -18,6 +19,7 @@ const FEW: Kinds = Kinds {
     part: false,
     compress: false,
     reclaim: false,
+    lower: false,
 };
 
 fn script_of(alloc: Global, text: &[u8], kinds: Kinds) -> Result<Script, ScriptFault> {
@@ -36,6 +38,7 @@ fn kinds_that_are_not_there(rt: HostRuntime) {
         b"pages 4\npartnear 1 0\n",
         b"pages 4\ncompress 1 9\n",
         b"pages 4\nreclaim 1\n",
+        b"pages 4\nlower\n",
     ];
     for text in texts {
         assert!(rt; is_of_more_kinds(rt.alloc(), text));

@@ -1,6 +1,6 @@
 //! Answers in words: those of replies are the server's, and a hint is `post` or `thin` with a level and a key.
 
-use bl_proc_base::{Answer, Hint, Level, Posted, Reclaimed, Squeezed};
+use bl_proc_base::{Answer, Hint, Level, Lowered, Posted, Reclaimed, Squeezed};
 use bl_serve_lines::print::{push_number, push_reply};
 use std::alloc::{AllocError, Global};
 
@@ -33,6 +33,7 @@ pub fn told(alloc: Global, answer: &Answer) -> Result<Vec<u8>, AllocError> {
             push_hint(&mut text, hint)?;
         }
         Answer::Reclaim(what) => text.extend_from_slice(reclaimed_word(*what).as_bytes())?,
+        Answer::Lower(what) => text.extend_from_slice(lowered_word(*what).as_bytes())?,
     }
     Ok(text)
 }
@@ -62,6 +63,14 @@ fn reclaimed_word(what: Reclaimed) -> &'static str {
     match what {
         Reclaimed::Released => "released",
         Reclaimed::Kept => "kept",
+    }
+}
+
+fn lowered_word(what: Lowered) -> &'static str {
+    match what {
+        Lowered::Lowered => "lowered",
+        Lowered::Needed => "needed",
+        Lowered::NoRoom => "noroom",
     }
 }
 

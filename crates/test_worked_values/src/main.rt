@@ -29,7 +29,7 @@
 //! | `processes` | from here on the calls are these |
 //! | `opening` | the pages of an opening tree, of which there are 8, in place of those before |
 //! | `page NUMBER`, `put NUMBER WORDS` | the words of a page, up to the last that is not 0; writes a page |
-//! | `find KEY`, `insert KEY VALUE`, `delete KEY`, `part KEY`, `post LEVEL KEY`, `compress LEVEL KEY` | runs such a process: its events and its answer |
+//! | `find KEY`, `insert KEY VALUE`, `delete KEY`, `part KEY`, `post LEVEL KEY`, `compress LEVEL KEY`, `lower` | runs such a process: its events and its answer |
 //! | `wait PROCESS` | starts one of these, which waits |
 //! | `go TURNS` | so many turns of the process that waits, and its answer if it has one |
 //! | `refuse`, `miss` | it is refused what it needs for its next action, or misses its latch |

@@ -23,6 +23,7 @@ fn process_of(call: &str, numbers: &[u64]) -> Option<Proc> {
         ("insert", [key, value]) => Some(Proc::insert(*key, *value)),
         ("delete", [key]) => Some(Proc::delete(*key)),
         ("part", [key]) => Some(Proc::part(*key)),
+        ("lower", []) => Some(Proc::lower()),
         (_, [level, key]) => helper_of(call, *level, *key),
         _ => None,
     }

@@ -1,6 +1,8 @@
 //! How keys are reached through work that is half done.
 
-use crate::worlds::{compress, delete, filled, insert, posted, run, split, step, thinned};
+use crate::worlds::{
+    compress, delete, filled, insert, lower, posted, run, split, step, thinned,
+};
 use bl_world::Turn;
 use std::alloc::Global;
 use std::test::Fail;
@@ -37,6 +39,22 @@ fn walks_beside_a_merge(rt: HostRuntime) -> Result<(), Fail> {
     assert!(rt; world.lone_walk(12) == (1, 3));
     step(&mut world, number, 1)?;
     assert!(rt; world.lone_walk(12) == (1, 3));
+    Ok(())
+}
+
+// The anchor names page 1 as the top before page 3 is dead.
+#[test]
+fn walks_beside_a_lowering(rt: HostRuntime) -> Result<(), Fail> {
+    let mut world = thinned(rt.alloc())?;
+    let merge = compress(&mut world, 1, 9)?;
+    step(&mut world, merge, 15)?;
+    let number = lower(&mut world)?;
+    step(&mut world, number, 6)?;
+    assert!(rt; world.lone_walk(12) == (1, 3));
+    step(&mut world, number, 1)?;
+    assert!(rt; world.lone_walk(12) == (1, 2));
+    step(&mut world, number, 1)?;
+    assert!(rt; world.lone_walk(12) == (1, 2));
     Ok(())
 }
 

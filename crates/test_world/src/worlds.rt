@@ -51,6 +51,10 @@ pub(crate) fn compress(world: &mut SizedWorld, level: u32, key: u64) -> Result<u
     )
 }
 
+pub(crate) fn lower(world: &mut SizedWorld) -> Result<usize, Fail> {
+    Ok(world.start(Proc::lower()).ok().ok_or("not started")?)
+}
+
 pub(crate) fn run(world: &mut SizedWorld, turns: &[Turn]) -> Result<(), Fail> {
     Ok(world.run(turns).ok().ok_or("not run")?)
 }

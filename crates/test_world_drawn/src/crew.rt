@@ -73,6 +73,19 @@ pub(crate) fn lists_first(running: &mut Running, before: &Tree, tree: &Tree) {
     }
 }
 
+/// A process that takes the top level away has put this page, which led from the one tree to the other.
+pub(crate) fn lowers(
+    running: &mut Running,
+    page: u32,
+    before: &Tree,
+    tree: &Tree,
+) -> Result<(), Law> {
+    match running.job {
+        Job::Lower => running.sinks(page, before, tree),
+        _ => Ok(()),
+    }
+}
+
 /// A running process has parted the named page from another one.
 pub(crate) fn parts(running: &mut Running, tree: &Tree, named: Option<u32>) -> Result<(), Law> {
     if let Some(page) = named {
@@ -231,12 +244,17 @@ impl Crew {
         true
     }
 
-    /// Who latches a page holds none, or compresses and holds two at most.
+    /// Who latches a page holds none, or compresses and holds two at most, or takes the top level away and holds the anchor at
+    /// most.
     pub(crate) fn latches(&self, number: usize, before: &[Owner]) -> Result<(), Law> {
         let held = held_by(number, before);
         for running in self.list.as_slice() {
             if running.number == number && matches!(running.job, Job::Compress(_, _)) {
                 return holds(held < 3, "who compresses latches three pages");
+            }
+            if running.number == number && matches!(running.job, Job::Lower) {
+                let anchor = before.first() == Some(&Owner::Held(number));
+                return holds(held == usize::from(anchor), "who lowers holds the anchor");
             }
         }
         holds(held == 0, "who latches a page holds none")

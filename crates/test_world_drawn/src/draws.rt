@@ -227,6 +227,9 @@ impl Lots {
         if !self.retired.is_empty() && self.draws.below(self.size.releases_of_retired) == 0 {
             return self.release();
         }
+        if tree.is_too_high() && self.draws.below(4) == 0 {
+            return Job::Lower;
+        }
         if !self.thin.is_empty() && self.draws.below(3) == 0 {
             return self.compression(tree);
         }
@@ -238,11 +241,12 @@ impl Lots {
 
     fn job_on_tree(&mut self, tree: &Tree, started: usize) -> Job {
         let key = self.draws.key(self.size.keys);
-        match self.draws.below(14) {
-            0 | 1 => Job::Find(key),
-            2 => self.part(key),
-            3 => self.post(tree),
-            4 | 5 => self.compression(tree),
+        match self.draws.below(28) {
+            0..=3 => Job::Find(key),
+            4 | 5 => self.part(key),
+            6 | 7 => self.post(tree),
+            8..=11 => self.compression(tree),
+            12 => Job::Lower,
             _ => self.draws.change(tree, &self.size, started),
         }
     }

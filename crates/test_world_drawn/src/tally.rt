@@ -1,7 +1,7 @@
 //! How often each kind of thing was met.
 
 use bl_model::Reply;
-use bl_proc::{Answer, Hint, Posted, Reclaimed, Squeezed};
+use bl_proc::{Answer, Hint, Lowered, Posted, Reclaimed, Squeezed};
 use test_world_walks::{Squeeze, Way, is_to_post};
 
 /// Answers of operations.
@@ -38,6 +38,14 @@ struct Compressions {
     to_the_right: u32,
 }
 
+/// Answers of those that were to take the top level away.
+#[derive(Clone, Copy, Debug)]
+struct Lowerings {
+    lowered: u32,
+    needed: u32,
+    refused: u32,
+}
+
 /// Pages that were to be released, and what came of dead pages.
 #[derive(Clone, Copy, Debug)]
 pub(crate) struct Pages {
@@ -68,6 +76,7 @@ pub(crate) struct Tally {
     operations: Operations,
     posts: Posts,
     compressions: Compressions,
+    lowerings: Lowerings,
     pub pages: Pages,
     leaves: Shapes,
     inner_pages: Shapes,
@@ -109,6 +118,11 @@ pub(crate) const NONE: Tally = Tally {
         refused: 0,
         to_the_left: 0,
         to_the_right: 0,
+    },
+    lowerings: Lowerings {
+        lowered: 0,
+        needed: 0,
+        refused: 0,
     },
     pages: Pages {
         released: 0,
@@ -185,6 +199,20 @@ impl Compressions {
     }
 }
 
+impl Lowerings {
+    fn answered(&mut self, lowered: &Lowered) {
+        match lowered {
+            Lowered::Lowered => one_more(&mut self.lowered),
+            Lowered::Needed => one_more(&mut self.needed),
+            Lowered::NoRoom => one_more(&mut self.refused),
+        }
+    }
+
+    fn least(&self) -> u32 {
+        self.lowered.min(self.needed).min(self.refused)
+    }
+}
+
 impl Pages {
     fn answered(&mut self, reclaimed: &Reclaimed) {
         match reclaimed {
@@ -232,6 +260,7 @@ impl Tally {
             Answer::Post(posted, _) => self.posts.answered(posted),
             Answer::Compress(squeezed, _) => self.compressions.answered(squeezed),
             Answer::Reclaim(reclaimed) => self.pages.answered(reclaimed),
+            Answer::Lower(lowered) => self.lowerings.answered(lowered),
         }
     }
 
@@ -278,6 +307,7 @@ impl Tally {
         let others = self.compressions.least().min(self.pages.least());
         self.operations.least().min(posts).min(shapes) > 9
             && others.min(self.waits).min(self.posts.refused) > 3
+            && self.lowerings.least() > 1
     }
 
     /// Enough of all that wide worlds are to meet.

@@ -95,6 +95,7 @@ impl Twins {
             Job::Post(level, key) => self.enter_post(level, key),
             Job::Compress(level, key) => self.enter_compression(level, key),
             Job::Reclaim(page) => self.enter_release(page),
+            Job::Lower => self.begin(Proc::lower(), Proc::lower()),
         }
     }
 

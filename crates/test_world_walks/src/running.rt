@@ -5,7 +5,7 @@ use crate::laws::{Law, add, holds};
 use crate::squeezes::{Squeeze, rights_of};
 use crate::trees::Tree;
 use bl_model::Reply;
-use bl_proc::{Answer, Hint, Posted, Reclaimed, Squeezed};
+use bl_proc::{Answer, Hint, Lowered, Posted, Reclaimed, Squeezed};
 use bl_world::{Act, Owner, Turn};
 use std::alloc::Global;
 
@@ -21,6 +21,7 @@ pub enum Job {
     PartNear(u64, u32),
     Compress(u32, u64),
     Reclaim(u32),
+    Lower,
 }
 
 /// A process that has not answered.
@@ -42,6 +43,8 @@ pub struct Running {
     pub squeeze: Option<Squeeze>,
     /// Its children have shown that it is in the middle of an evening.
     pub evens: bool,
+    /// The pages that it has put, of a process that takes the top level away.
+    pub sunk: Vec<u32>,
     /// It has retired a page.
     pub retired: bool,
     /// It is to release a page, and the owner that it has seen; how many processes had been started then; and the process at
@@ -101,6 +104,12 @@ fn rights_in(tree: &Tree, job: Job, right: &mut Vec<Answer>) -> Result<(), Law> 
         // it looks at owners, not at the tree
         Job::Reclaim(_) => Ok(()),
         Job::Compress(level, key) => rights_of(tree, level, key, right),
+        Job::Lower => {
+            if tree.is_too_high() {
+                return Ok(());
+            }
+            add(right, Answer::Lower(Lowered::Needed))
+        }
         Job::Post(level, key) => match posted_in(tree, level as usize, key) {
             Some(posted) => add(right, Answer::Post(posted, None)),
             None => Ok(()),
@@ -120,6 +129,7 @@ fn without_hint(answer: Answer) -> Answer {
         Answer::Post(posted, _) => Answer::Post(posted, None),
         Answer::Compress(squeezed, hint) => Answer::Compress(squeezed, hint),
         Answer::Reclaim(what) => Answer::Reclaim(what),
+        Answer::Lower(what) => Answer::Lower(what),
     }
 }
 
@@ -128,7 +138,7 @@ pub fn hint_of(answer: &Answer) -> Option<Hint> {
         Answer::Op(_, hint) => *hint,
         Answer::Post(_, hint) => *hint,
         Answer::Compress(_, hint) => *hint,
-        Answer::Reclaim(_) => None,
+        Answer::Reclaim(_) | Answer::Lower(_) => None,
     }
 }
 
@@ -144,6 +154,7 @@ fn is_no_room(answer: &Answer) -> bool {
         Answer::Op(reply, _) => *reply == Reply::NoRoom,
         Answer::Post(posted, _) => *posted == Posted::NoRoom,
         Answer::Compress(squeezed, _) => *squeezed == Squeezed::NoRoom,
+        Answer::Lower(what) => *what == Lowered::NoRoom,
         Answer::Reclaim(_) => false,
     }
 }
@@ -165,6 +176,7 @@ impl Running {
             parted: None,
             squeeze: None,
             evens: false,
+            sunk: Vec::new(alloc),
             retired: false,
             saw: None,
             started: 0,
@@ -220,11 +232,11 @@ impl Running {
                 self.retired = true;
                 let is_own = match &self.squeeze {
                     Some(squeeze) => squeeze.retires(page),
-                    None => false,
+                    None => self.sunk.len() == 2 && self.sunk.as_slice().last() == Some(&page),
                 };
                 holds(
                     is_own,
-                    "who has merged retires the dead page, and nobody else",
+                    "who has merged or lowered retires the dead page, and nobody else",
                 )
             }
             _ => Ok(()),
@@ -339,11 +351,47 @@ impl Running {
         )
     }
 
+    /// A process that takes the top level away has put this page, which led to this tree: first the anchor, of a level less than
+    /// before, and then the page that was the top.
+    pub fn sinks(&mut self, page: u32, before: &Tree, tree: &Tree) -> Result<(), Law> {
+        if self.sunk.is_empty() {
+            keep!(page == 0, "who lowers puts the anchor first");
+            keep!(
+                before.is_too_high(),
+                "who lowers takes a level that is not needed"
+            );
+            keep!(
+                before.levels == tree.levels.saturating_add(1),
+                "who lowers takes one level"
+            );
+        } else {
+            let was = before.live_at(page).map(|live| live.level);
+            keep!(
+                was == Some(tree.levels) && tree.live_at(page).is_none(),
+                "who lowers puts the page dead that was the top"
+            );
+            self.own = Some(Answer::Lower(Lowered::Lowered));
+        }
+        add(&mut self.sunk, page)
+    }
+
+    /// It has answered this, of the height.
+    fn judge_of_height(&self, what: Lowered) -> Result<(), Law> {
+        let puts = self.sunk.len();
+        let has_put = what == Lowered::Lowered;
+        keep!(
+            puts == if has_put { 2 } else { 0 },
+            "a lowering is done whole"
+        );
+        holds(self.retired == has_put, "a lowering retires the dead page")
+    }
+
     /// It has answered this.
     pub fn judge(&self, answer: Answer) -> Result<(), Law> {
         match &answer {
             Answer::Reclaim(what) => return self.judge_of_page(*what),
             Answer::Compress(what, _) => self.judge_of_children(*what)?,
+            Answer::Lower(what) => self.judge_of_height(*what)?,
             _ => self.judge_hint(hint_of(&answer))?,
         }
         keep!(self.begun.is_some(), "who answers has begun");

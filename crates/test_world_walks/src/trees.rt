@@ -1,7 +1,8 @@
 //! The laws of the tree, by plain walks over the pages. They hold at every moment, also in the middle of the work of any
 //! process, with these exceptions and no others: a page is fresh, and not of the tree yet, until the page is put that is to
-//! name it; and while a process is between the first and the last put of a compression, two pages that it holds may cover a
-//! key in common, and a child that it holds may begin before the key by which it is listed, which is so in an evening alone.
+//! name it; while a process is between the first and the last put of a compression, two pages that it holds may cover a
+//! key in common, and a child that it holds may begin before the key by which it is listed, which is so in an evening alone; and
+//! while a process is between the two puts by which it takes the top level away, it holds the anchor and the page that was the top.
 
 use crate::laws::{Law, add, holds};
 use crate::lists::Lists;
@@ -250,10 +251,34 @@ impl Tree {
         None
     }
 
-    /// Two pages that cover a key in common are in the hands of one compression, and each is of a level of the tree.
+    /// The page has no level any more, since the process that holds it and the anchor takes the top level away.
+    fn is_uprooted(&self, lists: &Lists, live: &Live) -> bool {
+        let owners = lists.owners.as_slice();
+        let owner = owners.get(live.page as usize).copied();
+        live.level == self.levels
+            && matches!(owner, Some(Owner::Held(_)))
+            && owner == owners.first().copied()
+    }
+
+    /// The tree has a top level that it does not need: one page with one pair, without bound and link.
+    pub fn is_too_high(&self) -> bool {
+        let top = self.levels.saturating_sub(1);
+        for live in self.live.as_slice() {
+            if live.level == top && top > 0 && live.is_alone() {
+                return live.count == 1 && live.right == 0;
+            }
+        }
+        false
+    }
+
+    /// Of all live pages, two that cover a key in common are in the hands of one compression, and each is of a level of the
+    /// tree, or was its top.
     fn overlap_in_compressions_alone(&self, lists: &Lists, moment: &Moment) -> Result<(), Law> {
         for (at, live) in self.live.as_slice().iter().enumerate() {
-            keep!(live.level < self.levels, "a page is of a level of the tree");
+            keep!(
+                live.level < self.levels || self.is_uprooted(lists, live),
+                "a page is of a level of the tree"
+            );
             self.overlaps_in_compression(lists, moment, at, live)?;
         }
         Ok(())
@@ -508,8 +533,10 @@ fn onwards(lists: &Lists, at: u32, key: u64) -> Result<Option<u32>, Law> {
     match lists.pages.as_slice().get(at as usize) {
         Some(Page::Leaf(leaf)) => onwards_from_leaf(leaf, key),
         Some(Page::Inner(inner)) => onwards_from_inner(inner, key),
+        // without a link it leads to page 0, and the way begins again
         Some(Page::Dead(dead)) => Ok(Some(dead.right)),
-        _ => Err("a descent goes by pages of the tree"),
+        Some(Page::Anchor(anchor)) => Ok(anchor.leftmost.as_slice().last().copied()),
+        None => Err("a descent goes by pages of the tree"),
     }
 }
 
@@ -536,9 +563,8 @@ fn onwards_from_inner(inner: &Inner, key: u64) -> Result<Option<u32>, Law> {
 /// A lone descent for the key comes to a live leaf that covers it, and to no page twice. Gives that leaf, and how many pages
 /// were got, page 0 included.
 pub fn descends(lists: &Lists, tree: &Tree, key: u64) -> Result<(u32, u32), Law> {
-    let top = lists.anchor()?.leftmost.as_slice().last().copied();
-    let mut at = found!(top, "there is a level");
-    let mut gets = 1u32;
+    let mut at = 0u32;
+    let mut gets = 0u32;
     for _ in 0..lists.pages.len() {
         gets = gets.saturating_add(1);
         match onwards(lists, at, key)? {
@@ -553,9 +579,12 @@ pub fn descends(lists: &Lists, tree: &Tree, key: u64) -> Result<(u32, u32), Law>
 }
 
 /// From a dead page the links lead to a live page of its level. That one may begin later, after an evening; then a search
-/// starts again.
+/// starts again. It does so too where the page has no link, which was the top of the tree.
 pub fn leads_back(lists: &Lists, tree: &Tree, dead: u32) -> Result<(), Law> {
     let first = found!(lists.dead(dead), "a retired page is dead");
+    if first.right == 0 {
+        return holds(first.level > 0, "a leaf that is dead has a link");
+    }
     let mut at = first.right;
     for _ in 0..lists.pages.len() {
         let Some(next) = lists.dead(at) else {

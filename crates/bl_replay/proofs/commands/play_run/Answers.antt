@@ -1,4 +1,4 @@
-use Rattle.std.proofs.Common.{◌++◌, ◌+◌, [], refl, ◌∙◌, arith, subst}
+use Rattle.std.proofs.Common.{◌++◌, [], refl, ◌∙◌, arith, subst}
 use Rattle.bl_replay.specs.Plays.{HasAnswer}
 use Rattle.bl_replay.specs.Plays.PrintsTurns.{Still, More}
 use Rattle.bl_replay.proofs.Emitting.{emits_start, emits_more, emits_stop, err_of}

@@ -1,4 +1,4 @@
-use Rattle.std.proofs.Common.{◌++◌, ◌+◌, [], length, refl, sym, ◌∙◌, arith, subst}
+use Rattle.std.proofs.Common.{◌++◌, [], length, refl, ◌∙◌, arith}
 use Rattle.std.proofs.lemmas.Option.{slice_get-get_or}
 use Rattle.bl_model.specs.declared.operation.Op.TheVariants as op
 use Rattle.bl_replay_script.specs.declared.command.Start.TheVariants as start

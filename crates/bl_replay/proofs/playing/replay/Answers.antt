@@ -1,4 +1,4 @@
-use Rattle.std.proofs.Common.{◌++◌, [], inr, subst, sym, append-nil}
+use Rattle.std.proofs.Common.{[], inr, subst, sym, append-nil}
 use Rattle.bl_replay.specs.Plays.{Plays, BreaksOff}
 use Rattle.bl_replay.specs.Plays.BreaksOff.{Behind}
 use Rattle.bl_replay.proofs.Emitting.{ok_map, err_map, err_of, emits_all, emits_last, stops_first}

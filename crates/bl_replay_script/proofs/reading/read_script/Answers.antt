@@ -1,4 +1,4 @@
-use Rattle.std.proofs.Common.{◌≡◌, ◌+◌, [], ◌∷◌, ◌++◌, length, refl, ap, sym, subst, ◌∙◌, append-nil, length-append, arith}
+use Rattle.std.proofs.Common.{◌≡◌, ◌+◌, [], ◌∷◌, ◌++◌, length, refl, ap, sym, subst, append-nil, length-append, arith}
 use Rattle.bl_serve_lines.proofs.Known.{consumes_next, consumes_line}
 use Rattle.bl_replay_script.specs.Commands.{head_text, command_text, started_by}
 use Rattle.bl_replay_script.specs.Scripts.{IsScript}

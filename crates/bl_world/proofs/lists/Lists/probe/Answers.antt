@@ -1,4 +1,4 @@
-use Rattle.std.proofs.Common.{ap, sym, ◌∙◌}
+use Rattle.std.proofs.Common.{ap, ◌∙◌}
 use Rattle.bl_world.specs.Views.{is_open as is_open_page}
 use Rattle.bl_world.proofs.Arms.{found_there}
 use Rattle.bl_world.proofs.Outcomes.{ok_map}
