@@ -1,4 +1,4 @@
-//! Hints are followed: pages are listed by their parents, merged and evened out.
+//! Hints are followed: pages are listed by their parents, merged and evened out, and the height falls.
 
 ghost use Rattle.std.specs.Prelude.{◌≡◌};
 ghost use Rattle.bl_index.specs.Calls.{first_of, IsPassOf, IsSamePass, number_of, trail};
@@ -6,8 +6,8 @@ ghost use Rattle.bl_serve.specs.Works.{Adds};
 
 use crate::room::make_room;
 use bl_hints::Hints;
-use bl_index::{Index, Pass};
-use bl_proc_base::{Hint, Posted};
+use bl_index::{Index, Lowered, Pass};
+use bl_proc_base::{Hint, Posted, Squeezed};
 use std::sync::Wait;
 use std::sync::atomic::{AtomicU64, Ordering};
 
@@ -61,6 +61,34 @@ pub fn post<R: Wait>(rt: &R, index: &Index, hints: &Hints, pass: &mut Pass, hint
     }
 }
 
+/// Takes top levels away that are not needed, one after another, where a compression may have left one: the top page had too few
+/// children to compress, or has one fewer now. Before each it makes room.
+fn lower<R: Wait>(rt: &R, index: &Index, pass: &mut Pass, squeezed: Squeezed)
+    requires { IsPassOf index.now pass.old }
+    ensures same { IsSamePass pass.old pass.new }
+    ensures adds { Adds (first_of index.now) (number_of pass.old) (trail pass.old) (trail pass.new) }
+{
+    let mut may_fall = matches!(squeezed, Squeezed::Merged | Squeezed::Alone);
+    for _level in 1..LEVELS {
+        if !may_fall {
+            return;
+        }
+        make_room(index, pass);
+        may_fall = index.lower(rt, pass) == Lowered::Lowered;
+    }
+}
+
+/// Compresses, and takes the top level away where it is not needed any more.
+fn compress<R: Wait>(rt: &R, index: &Index, hints: &Hints, pass: &mut Pass, hint: Hint)
+    requires { IsPassOf index.now pass.old }
+    ensures same { IsSamePass pass.old pass.new }
+    ensures adds { Adds (first_of index.now) (number_of pass.old) (trail pass.old) (trail pass.new) }
+{
+    let (squeezed, more) = index.compress(rt, pass, hint);
+    leave(rt, hints, more);
+    lower(rt, index, pass, squeezed);
+}
+
 /// Posts or compresses. What is left to do waits for a compressor.
 fn follow<R: Wait>(rt: &R, index: &Index, hints: &Hints, pass: &mut Pass, hint: Hint)
     requires { IsPassOf index.now pass.old }
@@ -73,8 +101,7 @@ fn follow<R: Wait>(rt: &R, index: &Index, hints: &Hints, pass: &mut Pass, hint: 
             leave(rt, hints, more);
         }
         Hint::Thin { .. } => {
-            let (_, more) = index.compress(rt, pass, hint);
-            leave(rt, hints, more);
+            compress(rt, index, hints, pass, hint);
         }
     }
 }
