@@ -18,6 +18,7 @@ use bl_model::Watched;
 use bl_serve::{Origin, Totals, dump_index, serve_index};
 use clap::Error;
 use clap::error::ErrorKind;
+use std::alloc::AllocError;
 use std::io;
 use std::process::ExitCode;
 use std::sync::Wait;
@@ -44,46 +45,45 @@ fn carry_out<T: Threads + Wait + Sync>(
     match read_words(alloc, words.as_slice()) {
         Ok(Invocation::Serve(server)) => serve(rt, threads, server),
         Ok(Invocation::Dump(server, file)) => dump(rt, threads, server, file.as_str()),
-        Ok(Invocation::Check(file)) => check(rt, file.as_str()),
-        Ok(Invocation::Draw(file, svg)) => draw(rt, file.as_str(), svg),
-        Ok(Invocation::Replay(file)) => replay(rt, file.as_str()),
+        Ok(Invocation::Check(file)) => Ok(check(rt, file.as_str())),
+        Ok(Invocation::Draw(file, svg)) => Ok(draw(rt, file.as_str(), svg)),
+        Ok(Invocation::Replay(file)) => Ok(replay(rt, file.as_str())),
         Ok(Invocation::Nothing) => Ok(ExitCode::from(2)),
         Err(error) => refuse(rt, error),
     }
 }
 
-/// Ends with a fault: its line, and where it is of that file, a second one that says so.
-fn end_with(rt: &HostRuntime, file: &str, fault: CommandFault) -> Result<ExitCode, CommandFault> {
-    let reason = reason_of(rt, file, fault)?;
-    // Where standard error fails too, the status still tells the fault.
-    let _ = eprintln!(rt; "{fault}");
-    if let Some(reason) = reason {
-        let _ = eprintln!(rt; "{reason}");
+/// Says a line on standard error. Where that fails, or there was no memory for the line, the status still tells the fault.
+fn say(rt: &HostRuntime, line: Result<Option<String>, AllocError>) {
+    if let Ok(Some(line)) = line {
+        let _ = eprintln!(rt; "{line}");
     }
-    Ok(ExitCode::from(fault.status()))
+}
+
+/// Ends with a fault: its line, and where it is of that file, a second one that says so.
+fn end_with(rt: &HostRuntime, file: &str, fault: CommandFault) -> ExitCode {
+    let _ = eprintln!(rt; "{fault}");
+    say(rt, reason_of(rt, file, fault));
+    ExitCode::from(fault.status())
 }
 
 /// Ends as the image in the file is sound, or as the fault says.
-fn end_of(
-    rt: &HostRuntime,
-    file: &str,
-    sound: Result<bool, CommandFault>,
-) -> Result<ExitCode, CommandFault> {
+fn end_of(rt: &HostRuntime, file: &str, sound: Result<bool, CommandFault>) -> ExitCode {
     match sound {
-        Ok(is_sound) => Ok(ExitCode::from(if is_sound { 0 } else { 1 })),
+        Ok(is_sound) => ExitCode::from(if is_sound { 0 } else { 1 }),
         Err(fault) => end_with(rt, file, fault),
     }
 }
 
 /// Checks the image in the file.
-fn check(rt: &HostRuntime, file: &str) -> Result<ExitCode, CommandFault> {
+fn check(rt: &HostRuntime, file: &str) -> ExitCode {
     let mut writer = Watched::new(io::writer(rt));
     let sound = check_file(rt, file, &mut writer);
     end_of(rt, file, sound)
 }
 
 /// Draws the image in the file.
-fn draw(rt: &HostRuntime, file: &str, svg: bool) -> Result<ExitCode, CommandFault> {
+fn draw(rt: &HostRuntime, file: &str, svg: bool) -> ExitCode {
     let form = if svg { Form::Svg } else { Form::Text };
     let mut writer = Watched::new(io::writer(rt));
     let sound = draw_file(rt, file, form, &mut writer);
@@ -91,7 +91,7 @@ fn draw(rt: &HostRuntime, file: &str, svg: bool) -> Result<ExitCode, CommandFaul
 }
 
 /// Carries out the script in the file.
-fn replay(rt: &HostRuntime, file: &str) -> Result<ExitCode, CommandFault> {
+fn replay(rt: &HostRuntime, file: &str) -> ExitCode {
     let mut writer = Watched::new(io::writer(rt));
     let replayed = replay_file(rt, file, &mut writer);
     end_of(rt, file, replayed.map(|()| true))
@@ -103,16 +103,16 @@ fn origin_of(
     rt: &HostRuntime,
     pages: u32,
     image: Option<&str>,
-) -> Result<Result<Origin, ExitCode>, CommandFault>
+) -> Result<Origin, ExitCode>
     requires { (4 ≤ pages) × (pages ≤ 65536) }
-    ensures { IfOk result (λ found. IfOk found HasPages) }
+    ensures { IfOk result HasPages }
 {
     let Some(file) = image else {
-        return Ok(Ok(Origin::Empty(pages)));
+        return Ok(Origin::Empty(pages));
     };
     match load_file(rt, file) {
-        Ok(quiet) => Ok(Ok(Origin::Image(quiet))),
-        Err(fault) => Ok(Err(end_with(rt, file, fault)?)),
+        Ok(quiet) => Ok(Origin::Image(quiet)),
+        Err(fault) => Err(end_with(rt, file, fault)),
     }
 }
 
@@ -126,23 +126,16 @@ struct Counts {
 }
 
 /// Says what was counted, where that was asked for; else, that requests found no room, where some did.
-fn say_counts(rt: &HostRuntime, server: &Server, counts: &Counts) -> Result<(), CommandFault> {
+fn say_counts(rt: &HostRuntime, server: &Server, counts: &Counts) {
     let alloc = rt.alloc();
-    let line = if server.stats {
-        stats_line(alloc, &counts.totals, counts.norooms, counts.usage)?
-    } else if counts.norooms > 0 {
-        noroom_line(
-            alloc,
-            counts.norooms,
-            server.options.pages,
-            server.image.is_some(),
-        )?
-    } else {
-        return Ok(());
-    };
-    // What was asked is answered, also where standard error fails.
-    let _ = eprintln!(rt; "{line}");
-    Ok(())
+    let (norooms, pages) = (counts.norooms, server.options.pages);
+    if server.stats {
+        let line = stats_line(alloc, &counts.totals, norooms, counts.usage);
+        say(rt, line.map(Some));
+    } else if norooms > 0 {
+        let line = noroom_line(alloc, norooms, pages, server.image.is_some());
+        say(rt, line.map(Some));
+    }
 }
 
 /// Serves standard input over an index that begins so. With `--stats` the index is closed at the end, so that its pages can be
@@ -203,24 +196,20 @@ fn serve<T: Threads + Wait + Sync>(
 ) -> Result<ExitCode, CommandFault>
     requires { AreWithin server.options }
 {
-    let origin = match origin_of(rt, server.options.pages, server.image.as_deref())? {
+    let origin = match origin_of(rt, server.options.pages, server.image.as_deref()) {
         Ok(origin) => origin,
         Err(code) => return Ok(code),
     };
     let counts = serve_from(rt, threads, origin, server.options, server.stats)?;
-    say_counts(rt, &server, &counts)?;
+    say_counts(rt, &server, &counts);
     Ok(ExitCode::SUCCESS)
 }
 
 /// Ends with the fault of a dump's file.
-fn fail(rt: &HostRuntime, fault: DumpFault) -> Result<ExitCode, CommandFault> {
-    let reason = fault.reason(rt.alloc())?;
-    // Where standard error fails too, the status still tells the fault.
+fn fail(rt: &HostRuntime, fault: DumpFault) -> ExitCode {
     let _ = eprintln!(rt; "{fault}");
-    if let Some(reason) = reason {
-        let _ = eprintln!(rt; "{reason}");
-    }
-    Ok(ExitCode::from(fault.status()))
+    say(rt, fault.reason(rt.alloc()));
+    ExitCode::from(fault.status())
 }
 
 /// Serves standard input, and then writes the image of the index to the file. Where the file cannot be replaced, that is said
@@ -234,14 +223,14 @@ fn dump<T: Threads + Wait + Sync>(
     requires { AreWithin server.options }
 {
     if let Err(fault) = may_replace(rt, file) {
-        return fail(rt, fault);
+        return Ok(fail(rt, fault));
     }
     let ServeOptions {
         pages,
         workers,
         compressors,
     } = server.options;
-    let origin = match origin_of(rt, pages, server.image.as_deref())? {
+    let origin = match origin_of(rt, pages, server.image.as_deref()) {
         Ok(origin) => origin,
         Err(code) => return Ok(code),
     };
@@ -263,9 +252,9 @@ fn dump<T: Threads + Wait + Sync>(
         usage: Some(used_pages(quiet.image())),
     };
     if let Err(fault) = replace_file(rt, file, quiet.image()) {
-        return fail(rt, fault);
+        return Ok(fail(rt, fault));
     }
-    say_counts(rt, &server, &counts)?;
+    say_counts(rt, &server, &counts);
     Ok(ExitCode::SUCCESS)
 }
 
