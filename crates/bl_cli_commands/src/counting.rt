@@ -33,22 +33,28 @@ impl<W> Counting<W> {
     pub fn norooms(&self) -> u64 {
         self.norooms
     }
+}
 
-    /// Counts what was written. Of all lines that a server writes only those of `noroom` end in an `m`.
-    fn count(&mut self, written: &[u8])
-        ensures { self.new.inner ≡ self.old.inner }
-    {
-        if self.ends_in_m && written.first().copied() == Some(b'\n') {
-            self.norooms = self.norooms.saturating_add(1);
+/// How many lines of `noroom` end in a text; whether an `m` was written before it. Of all lines that a server writes only those end in
+/// an `m`.
+fn norooms_in(text: &[u8], after_m: bool) -> u64 {
+    let mut norooms = 0u64;
+    if after_m && text.first().copied() == Some(b'\n') {
+        norooms = 1;
+    }
+    for at in memchr_iter(b'm', text) {
+        if at < text.len() && text[at..].get(1).copied() == Some(b'\n') {
+            norooms = norooms.saturating_add(1);
         }
-        for at in memchr_iter(b'm', written) {
-            if at < written.len() && written[at..].get(1).copied() == Some(b'\n') {
-                self.norooms = self.norooms.saturating_add(1);
-            }
-        }
-        if let Some(last) = written.last() {
-            self.ends_in_m = *last == b'm';
-        }
+    }
+    norooms
+}
+
+/// Whether the last byte that was written is an `m`, with what was so before this text.
+fn ends_in_m(text: &[u8], before: bool) -> bool {
+    match text.last() {
+        Some(last) => *last == b'm',
+        None => before,
     }
 }
 
@@ -61,7 +67,10 @@ impl<W: Write> Write for Counting<W> {
     {
         let result = self.inner.write(buf);
         if let Ok(count) = &result {
-            self.count(&buf[..*count]);
+            let written = &buf[..*count];
+            let more = norooms_in(written, self.ends_in_m);
+            self.norooms = self.norooms.saturating_add(more);
+            self.ends_in_m = ends_in_m(written, self.ends_in_m);
         }
         result
     }
