@@ -51,14 +51,14 @@ pub(crate) fn level_text(alloc: Global, level: &Level) -> Result<String, AllocEr
     format!(in alloc; "level {number}: {count} {pages}, {entries} {word}")
 }
 
-/// The line of a broken rule.
-pub(crate) fn broken_text(
-    alloc: Global,
-    rule: u32,
-    page: u32,
-    words: &str,
-) -> Result<String, AllocError> {
-    format!(in alloc; "fault C{rule} page {page}: broken is that {words}")
+/// The line of a broken rule, in the words of the checker.
+pub(crate) fn fault_text(alloc: Global, rule: u32, page: u32) -> Result<String, AllocError> {
+    format!(in alloc; "fault C{rule} page {page}")
+}
+
+/// The line behind it.
+pub(crate) fn rule_text(alloc: Global, words: &str) -> Result<String, AllocError> {
+    format!(in alloc; "    the rule: {words}")
 }
 
 /// The line over a tree: how many pages the image has, and how many of them are in use.

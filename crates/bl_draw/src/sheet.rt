@@ -127,7 +127,7 @@ pub(crate) fn sheet_of(alloc: Global, tree: &Tree, top: u64) -> Result<Sheet, Al
     let mut sheet = Sheet {
         spots: vec![in alloc; None; tree.pages.len()]?,
         headings: Vec::new(alloc),
-        wide: letters.saturating_mul(6).saturating_add(12),
+        wide: letters.saturating_mul(7),
         width: ROW.saturating_add(EDGE).saturating_add(EDGE),
         height: 0,
     };

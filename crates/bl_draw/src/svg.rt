@@ -2,7 +2,9 @@
 
 use crate::chart::{Fill, fill_of, most_of, part_for};
 use crate::node::Node;
-use crate::page_text::{broken_text, entries_word, head_text, level_text, marks_text, span_text};
+use crate::page_text::{
+    entries_word, fault_text, head_text, level_text, marks_text, rule_text, span_text,
+};
 use crate::rules::{rule_words, verdict};
 use crate::sheet::{CHART, EDGE, GAP, HIGH, Sheet, Spot, sheet_of};
 use crate::text::used_in;
@@ -307,8 +309,11 @@ fn push_head(
     let unread = tree.unread.len();
     let at = Spot { x: EDGE, y: 42 };
     if let Some((rule, page)) = broken {
-        let words = broken_text(alloc, rule, page, rule_words(rule))?;
+        let words = fault_text(alloc, rule, page)?;
         push_words(alloc, out, at, "b r", words.as_str())?;
+        let behind = Spot { x: 140, y: 42 };
+        let words = rule_text(alloc, rule_words(rule))?;
+        push_words(alloc, out, behind, "r", words.as_str())?;
     }
     if dead > 0 || unread > 0 {
         let words = format!(in alloc; "{dead} dead pages, {unread} that cannot be read")?;

@@ -2,7 +2,9 @@
 
 use crate::chart::{fill_of, most_of, part_for};
 use crate::node::Node;
-use crate::page_text::{broken_text, entries_word, head_text, level_text, marks_text, span_text};
+use crate::page_text::{
+    entries_word, fault_text, head_text, level_text, marks_text, rule_text, span_text,
+};
 use crate::rules::{rule_words, verdict};
 use crate::tree::{Level, Tree, tree_in};
 use bl_page::Page;
@@ -89,9 +91,13 @@ fn push_loose(alloc: Global, lines: &mut Lines, loose: &[Node]) -> Result<(), Al
         return Ok(());
     }
     lines.push_line("  on no chain:")?;
+    let mut left = loose.len();
     for node in loose {
+        left = left.saturating_sub(1);
         let mut word = node_text(alloc, node)?;
-        word.push_str(",")?;
+        if left > 0 {
+            word.push_str(",")?;
+        }
         lines.push(word.as_str())?;
     }
     lines.end_line()
@@ -189,7 +195,9 @@ pub fn text_of(alloc: Global, bytes: &[u8]) -> Result<(String, bool), AllocError
     };
     push_tree(alloc, &mut lines, &tree)?;
     if let Some((rule, page)) = broken {
-        let line = broken_text(alloc, rule, page, rule_words(rule))?;
+        let line = fault_text(alloc, rule, page)?;
+        lines.push_line(line.as_str())?;
+        let line = rule_text(alloc, rule_words(rule))?;
         lines.push_line(line.as_str())?;
     }
     Ok((lines.text, broken.is_none()))
