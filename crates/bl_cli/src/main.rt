@@ -99,11 +99,7 @@ fn replay(rt: &HostRuntime, file: &str) -> ExitCode {
 
 /// What a server begins with: the image in that file, where one is named. Where it cannot be had, that is said, and how the
 /// program ends.
-fn origin_of(
-    rt: &HostRuntime,
-    pages: u32,
-    image: Option<&str>,
-) -> Result<Origin, ExitCode>
+fn origin_of(rt: &HostRuntime, pages: u32, image: Option<&str>) -> Result<Origin, ExitCode>
     requires { (4 ≤ pages) × (pages ≤ 65536) }
     ensures { IfOk result HasPages }
 {
@@ -164,10 +160,7 @@ fn serve_from<T: Threads + Wait + Sync>(
             &mut reader,
             &mut writer,
         )?;
-        (
-            totals,
-            closed.ok().map(|quiet| used_pages(quiet.image())),
-        )
+        (totals, closed.ok().map(|quiet| used_pages(quiet.image())))
     } else {
         let totals = serve_index(
             threads,

@@ -6,11 +6,10 @@ ghost use Rattle.bl_cli_commands.specs.Statuses.{status_of_dump};
 use bl_image::Image;
 use bl_model::Watched;
 use std::alloc::{AllocError, Global};
-use std::fs;
 use std::fs::{File, OpenFile};
-use std::io;
 use std::io::Write;
 use std::rt::Files;
+use std::{fs, io};
 
 /// Why an image did not come to stand in its file, which is as it was. Its text is the first line on standard error. It keeps
 /// the path of the new file beside it, and where the system says why, that.

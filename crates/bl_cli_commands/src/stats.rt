@@ -1,6 +1,7 @@
 //! What a server says at its end. These lines are tested.
 
 use bl_image::Image;
+use bl_model::limits::MOST_PAGES;
 use bl_serve_lines::Totals;
 use std::alloc::{AllocError, Global};
 
@@ -55,10 +56,12 @@ pub fn noroom_line(
             "blink: {norooms} {requests} found no room; an index has as many pages as its image"
         );
     }
-    if pages >= 65_536 {
+    if pages >= MOST_PAGES {
         return format!(in alloc;
-            "blink: {norooms} {requests} found no room; 65536 pages are the most"
+            "blink: {norooms} {requests} found no room; {MOST_PAGES} pages are the most"
         );
     }
-    format!(in alloc; "blink: {norooms} {requests} found no room; more --pages than {pages} may help")
+    format!(in alloc;
+        "blink: {norooms} {requests} found no room; more --pages than {pages} may help"
+    )
 }

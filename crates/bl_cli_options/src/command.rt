@@ -4,7 +4,9 @@ ghost use Rattle.std.specs.Prelude.{IfOk};
 ghost use Rattle.bl_serve_lines.specs.Options.{AreWithin};
 ghost use Rattle.bl_cli_options.specs.Limits.{IsWithinLimits};
 
-use crate::texts::{ABOUT_ALL, ABOUT_CHECK, ABOUT_DRAW, ABOUT_DUMP, ABOUT_REPLAY, ABOUT_SERVE, VERSION};
+use crate::texts::{
+    ABOUT_ALL, ABOUT_CHECK, ABOUT_DRAW, ABOUT_DUMP, ABOUT_REPLAY, ABOUT_SERVE, VERSION,
+};
 use bl_serve_lines::ServeOptions;
 use clap::{Arg, ArgAction, ArgMatches, Command, Error, value_parser};
 use std::alloc::{AllocError, Global};

@@ -23,8 +23,7 @@ pub(crate) fn fill_of(level: &Level) -> Fill {
 }
 
 /// The most pages with one number of entries, and at least 1.
-pub(crate) fn most_of(fill: &Fill) -> u64
-{
+pub(crate) fn most_of(fill: &Fill) -> u64 {
     let mut most = 1;
     for pages in fill {
         if *pages > most {

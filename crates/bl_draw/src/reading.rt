@@ -1,5 +1,6 @@
 //! The pages of an image, as far as they can be read.
 
+use bl_model::limits::MOST_PAGES;
 use bl_page::{Page, from_words};
 use byteorder::{ByteOrder, LittleEndian};
 use std::alloc::{AllocError, Global};
@@ -8,8 +9,6 @@ use std::alloc::{AllocError, Global};
 const HEAD: usize = 32;
 /// The bytes of a page.
 const PAGE: usize = 256;
-/// No image has more pages.
-const MOST: usize = 65_536;
 
 /// What stands at the pages' places.
 #[derive(Drop)]
@@ -40,7 +39,7 @@ fn words_at(bytes: &[u8], at: usize) -> [u64; 32] {
 
 /// The pages behind a head, also where the head is damaged or a part of the last page is cut off, which is then left out.
 pub(crate) fn found_in(alloc: Global, bytes: &[u8]) -> Result<Found, AllocError> {
-    let count = (bytes.len().saturating_sub(HEAD) / PAGE).min(MOST);
+    let count = (bytes.len().saturating_sub(HEAD) / PAGE).min(MOST_PAGES as usize);
     let mut pages = Vec::new(alloc);
     let mut unread = Vec::new(alloc);
     for x in 0..count {

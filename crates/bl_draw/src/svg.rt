@@ -201,13 +201,7 @@ fn push_node(
     let Some(at) = spot_of(sheet, node.page as u64) else {
         return Ok(());
     };
-    push_rect(
-        alloc,
-        out,
-        class_of(node, is_loose),
-        at,
-        (sheet.wide, HIGH),
-    )?;
+    push_rect(alloc, out, class_of(node, is_loose), at, (sheet.wide, HIGH))?;
     let middle = Spot {
         x: at.x.saturating_add(sheet.wide / 2),
         y: at.y,
@@ -252,12 +246,7 @@ fn push_bar(
 }
 
 /// How full the pages of a level are.
-fn push_chart(
-    alloc: Global,
-    out: &mut String,
-    fill: &Fill,
-    at: Spot,
-) -> Result<(), AllocError> {
+fn push_chart(alloc: Global, out: &mut String, fill: &Fill, at: Spot) -> Result<(), AllocError> {
     let most = most_of(fill);
     let mut count = 0u64;
     for pages in fill {

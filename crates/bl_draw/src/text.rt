@@ -177,7 +177,12 @@ fn push_tree(alloc: Global, lines: &mut Lines, tree: &Tree) -> Result<(), AllocE
         push_level(alloc, lines, level)?;
     }
     push_numbers(alloc, lines, "dead pages:", tree.dead.as_slice())?;
-    push_numbers(alloc, lines, "no pages can be read at:", tree.unread.as_slice())
+    push_numbers(
+        alloc,
+        lines,
+        "no pages can be read at:",
+        tree.unread.as_slice(),
+    )
 }
 
 /// How many pages are in use.

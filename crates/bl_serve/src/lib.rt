@@ -15,7 +15,6 @@ mod gate;
 mod joining;
 mod meeting;
 mod origin;
-mod printing;
 mod reading;
 mod room;
 mod rounds;

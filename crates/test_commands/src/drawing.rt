@@ -2,9 +2,7 @@
 
 use crate::checking::{Byte, split};
 use crate::streams::Full;
-use bl_cli_commands::{
-    CommandFault, Counting, Form, Usage, draw_image, noroom_line, stats_line,
-};
+use bl_cli_commands::{CommandFault, Counting, Form, Usage, draw_image, noroom_line, stats_line};
 use bl_model::{Watched, write_text};
 use bl_serve_lines::Totals;
 use std::alloc::Global;
@@ -95,7 +93,10 @@ fn lines_on_no_room(rt: HostRuntime) -> Result<(), Fail> {
             "blink: 2 requests found no room; an index has as many pages as its image",
         ),
     ] {
-        assert!(rt; says(rt.alloc(), norooms, pages, image, wanted)?, "{wanted}");
+        assert!(rt;
+            says(rt.alloc(), norooms, pages, image, wanted)?,
+            "{wanted}"
+        );
     }
     Ok(())
 }

@@ -237,12 +237,30 @@ fn is_told(
 fn words_of_a_dump_that_fails(rt: HostRuntime) -> Result<(), Fail> {
     for (failing, text, reason, status) in [
         (Failing::Memory, "blink: out of memory", "", 4),
-        (Failing::Make, "blink: write failed", "blink: cannot make i.new", 3),
-        (Failing::Fill, "blink: write failed", "blink: cannot write i.new", 3),
-        (Failing::Rename, "blink: write failed", "blink: cannot rename i.new", 3),
+        (
+            Failing::Make,
+            "blink: write failed",
+            "blink: cannot make i.new",
+            3,
+        ),
+        (
+            Failing::Fill,
+            "blink: write failed",
+            "blink: cannot write i.new",
+            3,
+        ),
+        (
+            Failing::Rename,
+            "blink: write failed",
+            "blink: cannot rename i.new",
+            3,
+        ),
     ] {
         let fault = fault_of(rt.alloc(), failing)?;
-        assert!(rt; is_told(rt.alloc(), fault, text, reason, status)?, "{reason}");
+        assert!(rt;
+            is_told(rt.alloc(), fault, text, reason, status)?,
+            "{reason}"
+        );
     }
     Ok(())
 }
