@@ -3,7 +3,7 @@ use Rattle.bl_index.specs.declared.index.Pass.{Pass}
 use Rattle.bl_index.specs.Calls.{first_of}
 use Rattle.bl_serve.specs.Turns.{TakeTurns}
 use Rattle.bl_serve.proofs.Shares.{turns_append}
-use Rattle.bl_serve.proofs.rounds.+abreast.Goals as goal
+use Rattle.bl_serve.proofs.chunks.+abreast.Goals as goal
 
 pub returns-clause-turns : goal.returns-clause-turns
 returns-clause-turns g t c =

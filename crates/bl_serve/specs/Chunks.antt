@@ -31,7 +31,7 @@ abbrev pub Weaves : List Taken → List Answer → Type 0
 Weaves taken answers = (history : List Entry) → Interleaves (flat_map (λ t. t.share) taken) history → Interleaves (map entries answers) history
 
 -- The lines were answered by these passes, and the text prints the answers.
-pub record IsRound (first : List (Option Page)) (number : ℕ) (lines : List (Option Request)) (text : List ℕ) (old new : List Pass) : Type 0 where
+pub record IsChunk (first : List (Option Page)) (number : ℕ) (lines : List (Option Request)) (text : List ℕ) (old new : List Pass) : Type 0 where
   pub answers : List Answer
   pub each : AllZip IsFor lines answers
   pub prints : text ≡ answers_text number answers

@@ -1,5 +1,5 @@
 use Rattle.std.proofs.Common.{length}
-use Rattle.bl_serve.proofs.rounds.+abreast.Given as goal
+use Rattle.bl_serve.proofs.chunks.+abreast.Given as goal
 
 abbrev pub decreases-join_mut+arg3 : goal.decreases-join_mut+arg3
 decreases-join_mut+arg3 g l = length l.others.now

@@ -2,13 +2,13 @@ use Rattle.std.proofs.Common.{refl, ap, sym, subst, suc, length, arith, ℕ, Lis
 use Rattle.bl_index.specs.declared.index.Pass.{Pass}
 use Rattle.bl_index.specs.Calls.{first_of, IsPassOf}
 use Rattle.bl_serve.specs.declared.working.Desk.{Desk}
-use Rattle.bl_serve.specs.Rounds.{IsRound, Gathers}
+use Rattle.bl_serve.specs.Chunks.{IsChunk, Gathers}
 use Rattle.std.specs.Prelude.{All, Option}
 use Rattle.bl_serve_lines.specs.declared.request.Request.{Request}
 use Rattle.bl_serve.specs.Joining.{Chains, IsWithin, text_of}
 use Rattle.bl_serve.specs.Turns.{TakeTurns}
-use Rattle.bl_serve.proofs.Shares.{round, round_own, gathered_within, turns_long, lent}
-use Rattle.bl_serve.proofs.rounds.answer_section.Goals as goal
+use Rattle.bl_serve.proofs.Shares.{chunk, chunk_own, gathered_within, turns_long, lent}
+use Rattle.bl_serve.proofs.chunks.answer_chunk.Goals as goal
 
 pub collect-requires-clause-within : goal.collect-requires-clause-within
 collect-requires-clause-within g c =
@@ -21,8 +21,8 @@ collect-requires-clause-within g c =
     (gathered_within (first_of c.args.index.now) (suc c.args.done) c.args.lines.now c.as_mut_slice.result.now c.work_abreast.new.passes c.work_abreast.new.desks c.in_ok-written.written.items t
     (subst (λ (z : List Desk). Gathers z c.in_ok-written.written.items) (lent _ _ c.work_abreast.new.desks (omega (arith, long, same, desks, a))) c.in_ok-written.ensures.gathers))
 
-pub returns-clause-round : goal.returns-clause-round
-returns-clause-round g c =
+pub returns-clause-chunk : goal.returns-clause-chunk
+returns-clause-chunk g c =
     let t = subst (λ (z : List (Option Request)). TakeTurns (first_of c.args.index.now) (suc c.args.done) z c.as_mut_slice.result.now c.work_abreast.new.passes c.work_abreast.new.desks) c.as_slice.ensures c.work_abreast.ensures.turns in
     let longs = turns_long _ _ _ _ _ _ t in
     let news = longs.0 in
@@ -30,13 +30,13 @@ returns-clause-round g c =
     let same = ap length c.as_mut_slice.ensures.value in
     let desks = c.requires.desks in
     let a = c.args.passes.ok in
-    let r = round (first_of c.args.index.now) (suc c.args.done) c.args.lines.now (text_of c.in_ok-collect.ensures.text.0) c.as_mut_slice.result.now c.work_abreast.new.passes c.work_abreast.new.desks c.in_ok-written.written.items c.in_ok-collect.ensures.text.0 t
+    let r = chunk (first_of c.args.index.now) (suc c.args.done) c.args.lines.now (text_of c.in_ok-collect.ensures.text.0) c.as_mut_slice.result.now c.work_abreast.new.passes c.work_abreast.new.desks c.in_ok-written.written.items c.in_ok-collect.ensures.text.0 t
     (subst (λ (z : List Desk). Gathers z c.in_ok-written.written.items) (lent _ _ c.work_abreast.new.desks (omega (arith, long, same, desks, a))) c.in_ok-written.ensures.gathers)
     c.in_ok-collect.ensures.text.1 (subst (λ (n : ℕ). Chains 0 n c.in_ok-collect.ensures.text.0) c.len-count.ensures c.in_ok-collect.ensures.text.2) refl in (
       text_of c.in_ok-collect.ensures.text.0,
       c.in_ok-collect.ensures.text.3,
-      subst (λ (z : List Pass). IsRound (first_of c.args.index.now) (suc c.args.done) c.args.lines.now (text_of c.in_ok-collect.ensures.text.0) c.args.passes.items z) (sym (lent _ c.args.passes.items c.work_abreast.new.passes (omega (arith, news, same, a))))
-          (subst (λ (z : List Pass). IsRound (first_of c.args.index.now) (suc c.args.done) c.args.lines.now (text_of c.in_ok-collect.ensures.text.0) z c.work_abreast.new.passes) c.as_mut_slice.ensures.value r),
+      subst (λ (z : List Pass). IsChunk (first_of c.args.index.now) (suc c.args.done) c.args.lines.now (text_of c.in_ok-collect.ensures.text.0) c.args.passes.items z) (sym (lent _ c.args.passes.items c.work_abreast.new.passes (omega (arith, news, same, a))))
+          (subst (λ (z : List Pass). IsChunk (first_of c.args.index.now) (suc c.args.done) c.args.lines.now (text_of c.in_ok-collect.ensures.text.0) z c.work_abreast.new.passes) c.as_mut_slice.ensures.value r),
     )
 
 pub returns-clause-own : goal.returns-clause-own
@@ -48,13 +48,13 @@ returns-clause-own g c =
     let same = ap length c.as_mut_slice.ensures.value in
     let desks = c.requires.desks in
     let a = c.args.passes.ok in
-    let r = round (first_of c.args.index.now) (suc c.args.done) c.args.lines.now (text_of c.in_ok-collect.ensures.text.0) c.as_mut_slice.result.now c.work_abreast.new.passes c.work_abreast.new.desks c.in_ok-written.written.items c.in_ok-collect.ensures.text.0 t
+    let r = chunk (first_of c.args.index.now) (suc c.args.done) c.args.lines.now (text_of c.in_ok-collect.ensures.text.0) c.as_mut_slice.result.now c.work_abreast.new.passes c.work_abreast.new.desks c.in_ok-written.written.items c.in_ok-collect.ensures.text.0 t
     (subst (λ (z : List Desk). Gathers z c.in_ok-written.written.items) (lent _ _ c.work_abreast.new.desks (omega (arith, long, same, desks, a))) c.in_ok-written.ensures.gathers)
     c.in_ok-collect.ensures.text.1 (subst (λ (n : ℕ). Chains 0 n c.in_ok-collect.ensures.text.0) c.len-count.ensures c.in_ok-collect.ensures.text.2) refl in
     subst (All (IsPassOf c.args.index.now)) (sym (lent _ c.args.passes.items c.work_abreast.new.passes (omega (arith, news, same, a))))
-    (round_own _ c.args.index.now _ _ _ c.as_mut_slice.result.now c.work_abreast.new.passes (subst (All (IsPassOf c.args.index.now)) (sym c.as_mut_slice.ensures.value) c.requires.own) r)
+    (chunk_own _ c.args.index.now _ _ _ c.as_mut_slice.result.now c.work_abreast.new.passes (subst (All (IsPassOf c.args.index.now)) (sym c.as_mut_slice.ensures.value) c.requires.own) r)
 
--- what was read stays read, however the round ends
+-- what was read stays read, however the chunk ends
 pub returns-clause-consumes : goal.returns-clause-consumes
 returns-clause-consumes g c = let r = c.work_abreast.ensures.reads in (r.more, r.consumed)
 

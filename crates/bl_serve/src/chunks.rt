@@ -1,4 +1,4 @@
-//! A section is answered: its batches are given out, threads work on them, and all are joined.
+//! A chunk of a section is answered: its batches are given out, threads work on them, and all are joined.
 
 ghost use Rattle.std.specs.Prelude.{◌≡◌, ℕ, List, suc, ◌+◌, ◌<◌, ◌≤◌, ◌^◌, ◌++◌, true, false, length, All, IfOk, IfErr, OnOk, vec_len};
 ghost use Rattle.bl_index.specs.Calls.{first_of, IsPassOf};
@@ -6,7 +6,7 @@ ghost use Rattle.std.specs.Thread.{IsSync};
 ghost use Rattle.bl_serve.specs.Turns.{TakeTurns};
 ghost use Rattle.std.specs.Io.KnownBytes.{Consumes};
 ghost use Rattle.bl_serve.specs.Reading.{ReadsOn};
-ghost use Rattle.bl_serve.specs.Rounds.{IsRound, Gathers};
+ghost use Rattle.bl_serve.specs.Chunks.{IsChunk, Gathers};
 ghost use Rattle.bl_serve.specs.Serving.{AreTogether, HoldsSection, IsInside, seen_by};
 
 use crate::asked::Asked;
@@ -74,7 +74,7 @@ fn batches<R: Wait>(
     Ok(receiver)
 }
 
-/// Who works in a section.
+/// Who works on a chunk.
 #[derive(Clone, Copy, Debug, PartialEq, Eq)]
 pub struct Crew {
     /// So many passes answer lines, the first ones. The others follow hints.
@@ -254,9 +254,9 @@ fn gather(alloc: Global, desks: &mut Vec<Desk>) -> Result<Vec<Written>, AllocErr
     Ok(written)
 }
 
-/// Answers the lines of a section, before which so many others stood, each pass at the desk that has its place. The output goes
+/// Answers the lines of a chunk, before which so many others stood, each pass at the desk that has its place. The output goes
 /// behind the text, and the passes are given back.
-pub fn answer_section<R: Threads + Wait + Sync, G: Gate + Sync, I: Read>(
+pub fn answer_chunk<R: Threads + Wait + Sync, G: Gate + Sync, I: Read>(
     rt: &R,
     alloc: Global,
     index: &Index,
@@ -279,7 +279,7 @@ pub fn answer_section<R: Threads + Wait + Sync, G: Gate + Sync, I: Read>(
     ensures fault { IfErr result (IsInside done (length lines.now)) }
     ensures reads { OnOk result (ReadsOn ahead.old ahead.new (I.remaining reader.old.inner) (I.remaining reader.new.inner) (reader.new.failed ≡ true)) }
     ensures consumes { (more : List ℕ) × Consumes (I.remaining reader.old.inner) (I.remaining reader.new.inner) more }
-    ensures round { IfOk result (λ back. (more : List ℕ) × (text.new.items ≡ text.old.items ++ more) × IsRound (first_of index.now) (suc done) lines.now more passes.items back.items) }
+    ensures chunk { IfOk result (λ back. (more : List ℕ) × (text.new.items ≡ text.old.items ++ more) × IsChunk (first_of index.now) (suc done) lines.now more passes.items back.items) }
 {
     let mut passes = passes;
     let count = lines.len();
@@ -307,8 +307,8 @@ pub fn answer_section<R: Threads + Wait + Sync, G: Gate + Sync, I: Read>(
     Ok(passes)
 }
 
-/// Answers the lines of a section by passes that have met, and lets them meet again. The output goes behind the text.
-pub fn hold_section<R: Threads + Wait + Sync, G: Gate + Sync, I: Read>(
+/// Answers the lines of a chunk by passes that have met, and lets them meet again. The output goes behind the text.
+pub fn hold_chunk<R: Threads + Wait + Sync, G: Gate + Sync, I: Read>(
     rt: &R,
     alloc: Global,
     index: &Index,
@@ -333,7 +333,7 @@ pub fn hold_section<R: Threads + Wait + Sync, G: Gate + Sync, I: Read>(
     ensures held { IfOk result (λ back. (more : List ℕ) × (text.new.items ≡ text.old.items ++ more) × HoldsSection index.now done lines.now more passes.items back.items) }
     ensures fault { IfErr result (IsInside done (length lines.now)) }
 {
-    let mut passes = answer_section(
+    let mut passes = answer_chunk(
         rt, alloc, index, hints, gate, crew, passes, desks, done, lines, reader, ahead, text,
     )?;
     meet_all(index, passes.as_mut_slice());

@@ -1,6 +1,6 @@
 use Rattle.std.proofs.Common.{arith}
 use Rattle.bl_serve.proofs.Shares.{gather_none, gather_more, gathers_all}
-use Rattle.bl_serve.proofs.rounds.gather.Goals as goal
+use Rattle.bl_serve.proofs.chunks.gather.Goals as goal
 
 pub loop-number-init : goal.loop-number-init
 loop-number-init c = gather_none c.args.desks.now.items c.new-written.result.items c.new-written.ensures.items

@@ -4,7 +4,7 @@ use Rattle.bl_serve_lines.specs.Text.{numbered}
 use Rattle.bl_serve.specs.declared.reading.SectionEnd.TheVariants as section_end
 use Rattle.bl_serve.specs.Sections.{rests}
 use Rattle.bl_serve.proofs.Holding.{plain_section, rest_section}
-use Rattle.bl_serve.proofs.serving.serve_round.Goals as goal
+use Rattle.bl_serve.proofs.serving.serve_chunk.Goals as goal
 
 pub returns-then-ne-clause-serves : goal.returns-then-ne-clause-serves
 returns-then-ne-clause-serves g c = let h = c.in_ok-passes.ensures.held in let other : c.args.end ≢ section_end.Rest = search rules in
