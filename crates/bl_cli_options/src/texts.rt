@@ -30,12 +30,13 @@ before a sync are carried out before those after it; those between two syncs in
 any order, and by one worker in theirs.
 
 Sizes. The number of pages is fixed at the start, and a page has room for 14
-rows. Rows that were inserted into an empty index before the first noroom:
-  --pages   falling keys   rising keys   random keys   memory
-     1024          6,155         7,174        12,866     3 MB
-    65536        393,227       458,758       785,225    88 MB
-A request that finds no room changes nothing. --stats says how many did, and how
-many pages are in use.
+rows. Rows in an empty index before the first noroom, by the order of the keys,
+and rows in all where random keys went on:
+  --pages   falling    rising    random    in all   memory
+     1024     6,153     7,174     9,100    12,866     4 MB
+    65536   393,232   458,758   582,000   785,225    88 MB
+Six rows a page surely fit. A request that finds no room changes nothing.
+--stats says how many did, and how many pages are in use.
 
 With --image the index begins with the rows of the image, as `blink dump` writes
 it, and has as many pages; the file stays as it is.
