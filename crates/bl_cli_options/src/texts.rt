@@ -35,7 +35,7 @@ and rows in all where random keys went on:
   --pages   falling    rising    random    in all   memory
      1024     6,153     7,174     9,100    12,866     4 MB
     65536   393,232   458,758   582,000   785,225    88 MB
-Six rows a page surely fit. A request that finds no room changes nothing.
+Some six rows a page surely fit. A request that finds no room changes nothing.
 --stats says how many did, and how many pages are in use.
 
 With --image the index begins with the rows of the image, as `blink dump` writes
