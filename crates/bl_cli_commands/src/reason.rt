@@ -30,12 +30,12 @@ pub fn reason_of<R: Files + AllocGlobal>(
     match fault {
         CommandFault::Read => Ok(Some(unread(rt, path)?)),
         CommandFault::Script(line) => Ok(Some(format!(in alloc;
-            "blink: {path}: line {line} is none of a script, or tells of what is not there"
+            "blink: {path}: line {line} is no valid line there (see blink help replay)"
         )?)),
         CommandFault::Unsound(rule, page) => {
             let words = rule_words(rule);
             Ok(Some(format!(in alloc;
-                "blink: {path}: no sound image: at page {page} it is not so that {words}"
+                "blink: {path}: not a sound image: page {page} breaks the rule that {words}"
             )?))
         }
         CommandFault::Write | CommandFault::Memory | CommandFault::Lost(_) => Ok(None),

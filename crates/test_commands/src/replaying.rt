@@ -136,12 +136,12 @@ fn lines_that_name_a_file(rt: HostRuntime) -> Result<(), Fail> {
         (
             "s",
             CommandFault::Script(7),
-            Some("blink: s: line 7 is none of a script, or tells of what is not there"),
+            Some("blink: s: line 7 is no valid line there (see blink help replay)"),
         ),
         (
             "i",
             CommandFault::Unsound(8, 3),
-            Some("blink: i: no sound image: at page 3 it is not so that no page is dead"),
+            Some("blink: i: not a sound image: page 3 breaks the rule that no page is dead"),
         ),
         ("i", CommandFault::Write, None),
         ("i", CommandFault::Memory, None),
