@@ -9,6 +9,9 @@ use crate::report::Report;
 use bl_page::Page;
 use std::alloc::{AllocError, Global};
 
+/// Fewer pairs than this make a page thin.
+const THIN: usize = 7;
+
 /// How many pairs a leaf has, 0 of another page.
 fn rows_in(page: &Option<Page>) -> u32
     ensures rows { result ≡ the_rows_in page.now }
@@ -37,9 +40,9 @@ fn is_thin(page: &Option<Page>) -> bool
     ensures { result ≡ the_is_thin page.now }
 {
     match page {
-        Some(Page::Leaf(leaf)) => leaf.rows.len() < 7 && !(leaf.low == 0 && leaf.high == 0),
+        Some(Page::Leaf(leaf)) => leaf.rows.len() < THIN && !(leaf.low == 0 && leaf.high == 0),
         Some(Page::Inner(inner)) => {
-            inner.children.len() < 7 && !(inner.low == 0 && inner.high == 0)
+            inner.children.len() < THIN && !(inner.low == 0 && inner.high == 0)
         }
         _ => false,
     }

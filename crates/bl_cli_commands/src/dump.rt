@@ -6,25 +6,25 @@ ghost use Rattle.bl_cli_commands.specs.Statuses.{status_of_dump};
 use bl_image::Image;
 use bl_model::Watched;
 use std::alloc::{AllocError, Global};
-use std::fs;
 use std::fs::{File, OpenFile};
 use std::io::Write;
 use std::rt::Files;
+use std::{fs, io};
 
-/// Why an image did not come to stand in its file, which is as it was. Its text is the line on standard error, with the path
-/// of the new file beside it.
+/// Why an image did not come to stand in its file, which is as it was. Its text is the first line on standard error. It keeps
+/// the path of the new file beside it, and where the system says why, that.
 #[derive(Debug, PartialEq, Eq, Drop, thiserror::Error)]
 pub enum DumpFault {
     #[error("blink: out of memory")]
     Memory,
     /// The new file could not be made, as where there is one.
-    #[error("blink: write failed: cannot make {0}")]
+    #[error("blink: write failed")]
     Make(String),
     /// The image could not be written to it.
-    #[error("blink: write failed: cannot write {0}")]
+    #[error("blink: write failed")]
     Fill(String),
     /// It could not be given the name of the file.
-    #[error("blink: write failed: cannot rename {0}")]
+    #[error("blink: write failed")]
     Rename(String),
 }
 
@@ -36,6 +36,16 @@ impl DumpFault {
         match self {
             DumpFault::Memory => 4,
             DumpFault::Make(_) | DumpFault::Fill(_) | DumpFault::Rename(_) => 3,
+        }
+    }
+
+    /// The second line on standard error: what could not be done, and why. None where there was no memory.
+    pub fn reason(&self, alloc: Global) -> Result<Option<String>, AllocError> {
+        match self {
+            DumpFault::Memory => Ok(None),
+            DumpFault::Make(why) => Ok(Some(format!(in alloc; "blink: cannot make {why}")?)),
+            DumpFault::Fill(why) => Ok(Some(format!(in alloc; "blink: cannot write {why}")?)),
+            DumpFault::Rename(why) => Ok(Some(format!(in alloc; "blink: cannot rename {why}")?)),
         }
     }
 }
@@ -55,6 +65,11 @@ fn fill<F: Write + OpenFile + Drop>(file: F, image: &Image) -> bool {
     writer.into_inner().sync_all().is_ok()
 }
 
+/// A path, and what the system says of it.
+fn told(alloc: Global, path: &str, error: &io::Error) -> Result<String, AllocError> {
+    format!(in alloc; "{path}: {error}")
+}
+
 /// The path of the new file that is to replace the one at this path.
 fn new_path(alloc: Global, path: &str) -> Result<String, AllocError> {
     format!(in alloc; "{path}.new")
@@ -70,7 +85,7 @@ pub fn may_replace<R: Files + AllocGlobal>(rt: &R, path: &str) -> Result<(), Dum
             let _ = fs::remove_file(rt, new.as_str());
             Ok(())
         }
-        Err(_) => Err(DumpFault::Make(new)),
+        Err(error) => Err(DumpFault::Make(told(rt.alloc(), new.as_str(), &error)?)),
     }
 }
 
@@ -83,17 +98,20 @@ pub fn replace_file<R: Files + AllocGlobal>(
     image: &Image,
 ) -> Result<(), DumpFault> {
     let new = new_path(rt.alloc(), path)?;
-    let Ok(file) = File::create_new(rt, new.as_str()) else {
-        return Err(DumpFault::Make(new));
+    let file = match File::create_new(rt, new.as_str()) {
+        Ok(file) => file,
+        Err(error) => return Err(DumpFault::Make(told(rt.alloc(), new.as_str(), &error)?)),
     };
     if !fill(file, image) {
         // Where it cannot be removed either, it is left.
         let _ = fs::remove_file(rt, new.as_str());
         return Err(DumpFault::Fill(new));
     }
-    if fs::rename(rt, new.as_str(), path).is_err() {
-        let _ = fs::remove_file(rt, new.as_str());
-        return Err(DumpFault::Rename(new));
+    match fs::rename(rt, new.as_str(), path) {
+        Ok(()) => Ok(()),
+        Err(error) => {
+            let _ = fs::remove_file(rt, new.as_str());
+            Err(DumpFault::Rename(told(rt.alloc(), new.as_str(), &error)?))
+        }
     }
-    Ok(())
 }

@@ -1,19 +1,27 @@
-//! The commands `check` and `replay` of `blink` over readers and writers, the image that a server begins with, the file of a
-//! dump, and why a command ends early.
+//! The commands `check`, `draw` and `replay` of `blink` over readers and writers, the image that a server begins with, the file of
+//! a dump, what a server counts at its end, and why a command ends early.
 //!
 //! Promised to `bl_cli`: a check tells whether the bytes that it read are a sound image, an image that was loaded is what was
-//! read, and a replay prints one run of the
-//! script that it read; each fault has its exit status and its words.
+//! read, and a replay prints one run of the script that it read; each fault has its exit status and its words. Which file a
+//! fault is of, and why it cannot be read, is said by a second line, which is tested.
 #![tactic(auto)]
 
 mod check;
+mod counting;
+mod draw;
 mod dump;
 mod fault;
 mod load;
+mod reason;
 mod replay;
+mod stats;
 
 pub use check::{check_file, check_image};
+pub use counting::Counting;
+pub use draw::{Form, draw_file, draw_image};
 pub use dump::{DumpFault, may_replace, replace_file};
 pub use fault::CommandFault;
 pub use load::{load_file, load_image};
+pub use reason::reason_of;
 pub use replay::{replay_file, replay_script};
+pub use stats::{Usage, noroom_line, stats_line, used_pages};

@@ -4,7 +4,9 @@ ghost use Rattle.std.specs.Prelude.{IfOk};
 ghost use Rattle.bl_serve_lines.specs.Options.{AreWithin};
 ghost use Rattle.bl_cli_options.specs.Limits.{IsWithinLimits};
 
-use crate::texts::{ABOUT_ALL, ABOUT_CHECK, ABOUT_DUMP, ABOUT_REPLAY, ABOUT_SERVE, VERSION};
+use crate::texts::{
+    ABOUT_ALL, ABOUT_CHECK, ABOUT_DRAW, ABOUT_DUMP, ABOUT_REPLAY, ABOUT_SERVE, VERSION,
+};
 use bl_serve_lines::ServeOptions;
 use clap::{Arg, ArgAction, ArgMatches, Command, Error, value_parser};
 use std::alloc::{AllocError, Global};
@@ -16,6 +18,8 @@ pub struct Server {
     pub options: ServeOptions,
     /// The file of the image that it begins with; without one it begins without rows.
     pub image: Option<String>,
+    /// Whether it says at its end what it has counted.
+    pub stats: bool,
 }
 
 /// What the command line asks for.
@@ -27,6 +31,8 @@ pub enum Invocation {
     Dump(Server, String),
     /// `blink check` of this file.
     Check(String),
+    /// `blink draw` of this file, and whether as SVG.
+    Draw(String, bool),
     /// `blink replay` of this file.
     Replay(String),
     /// No command.
@@ -68,8 +74,16 @@ fn image_option<'a>(alloc: Global) -> Result<Arg<'a>, AllocError> {
     Arg::new(alloc, "image")
         .long("image")
         .value_name("FILE")
-        .help("Begin with the rows and the pages of this image, in place of an empty index")
+        .help("Begin with the rows and pages of this image")
         .conflicts_with("pages")
+}
+
+/// Whether the server says at its end what it has counted.
+fn stats_option<'a>(alloc: Global) -> Arg<'a> {
+    Arg::new(alloc, "stats")
+        .long("stats")
+        .action(ArgAction::SetTrue)
+        .help("At the end, say on standard error what was counted")
 }
 
 /// The command with the first options of a server.
@@ -80,7 +94,7 @@ fn with_pages_and_workers<'a>(
     command.arg(pages_option(alloc))?.arg(workers_option(alloc))
 }
 
-/// The command with the other options of a server.
+/// The command with the next options of a server.
 fn with_compressors_and_image<'a>(
     alloc: Global,
     command: Command<'a>,
@@ -92,7 +106,8 @@ fn with_compressors_and_image<'a>(
 /// The command with the options of a server, in the order in which help lists them.
 fn with_options<'a>(alloc: Global, command: Command<'a>) -> Result<Command<'a>, AllocError> {
     let command = with_pages_and_workers(alloc, command)?;
-    with_compressors_and_image(alloc, command)
+    let command = with_compressors_and_image(alloc, command)?;
+    command.arg(stats_option(alloc))
 }
 
 /// The file that a command is about.
@@ -115,10 +130,10 @@ fn serve_command<'a>(alloc: Global) -> Result<Command<'a>, AllocError> {
 fn dump_command<'a>(alloc: Global) -> Result<Command<'a>, AllocError> {
     let file = file_argument(
         alloc,
-        "Where the image is to stand; what stands there is replaced",
+        "Where the image is to stand; what is there is replaced",
     );
     let command = Command::new(alloc, "dump")
-        .about("Answers as serve does, and then writes the image of the index to a file")
+        .about("Serves, and then writes the image of the index to a file")
         .after_help(ABOUT_DUMP)
         .arg(file)?;
     with_options(alloc, command)
@@ -138,7 +153,12 @@ fn server_of(alloc: Global, found: &ArgMatches) -> Result<Server, AllocError>
         Some(file) => Some(String::from_str(alloc, file)?),
         None => None,
     };
-    Ok(Server { options, image })
+    let stats = found.get_flag("stats");
+    Ok(Server {
+        options,
+        image,
+        stats,
+    })
 }
 
 /// The command line of `check`.
@@ -149,10 +169,23 @@ fn check_command<'a>(alloc: Global) -> Result<Command<'a>, AllocError> {
         .arg(file_argument(alloc, "The image to check"))
 }
 
+/// The command line of `draw`.
+fn draw_command<'a>(alloc: Global) -> Result<Command<'a>, AllocError> {
+    let svg = Arg::new(alloc, "svg")
+        .long("svg")
+        .action(ArgAction::SetTrue)
+        .help("Print SVG, which a browser shows, in place of text");
+    Command::new(alloc, "draw")
+        .about("Draws the tree in an image")
+        .after_help(ABOUT_DRAW)
+        .arg(file_argument(alloc, "The image to draw"))?
+        .arg(svg)
+}
+
 /// The command line of `replay`.
 fn replay_command<'a>(alloc: Global) -> Result<Command<'a>, AllocError> {
     Command::new(alloc, "replay")
-        .about("Carries out a script of processes and turns, and prints each event")
+        .about("Carries out a script of turns, and prints each event")
         .after_help(ABOUT_REPLAY)
         .arg(file_argument(alloc, "The script to carry out"))
 }
@@ -180,6 +213,7 @@ fn blink_command<'a>(alloc: Global) -> Result<Command<'a>, AllocError> {
         .subcommand_required(true);
     let blink = with_servers(alloc, blink)?;
     let blink = with_command(blink, check_command(alloc))?;
+    let blink = with_command(blink, draw_command(alloc))?;
     with_command(blink, replay_command(alloc))
 }
 
@@ -204,6 +238,7 @@ fn invocation_of(alloc: Global, name: &str, found: &ArgMatches) -> Result<Invoca
     match name {
         "dump" => Ok(Invocation::Dump(server_of(alloc, found)?, file)),
         "check" => Ok(Invocation::Check(file)),
+        "draw" => Ok(Invocation::Draw(file, found.get_flag("svg"))),
         "replay" => Ok(Invocation::Replay(file)),
         _ => Ok(Invocation::Nothing),
     }

@@ -1,76 +1,126 @@
-//! What `--version` says, and what stands behind the options in the help of each command.
+//! What `--version` says, and what stands behind the options in the help of each command. No line has more than 80 columns.
 
 /// The version of the program, and the toolchain that it is proved with.
 pub(crate) const VERSION: &str = "0.1.0, proved with rattle-kit-13f logic dac8208d650f15bf";
 
 /// Of all commands.
 pub(crate) const ABOUT_ALL: &str = "\
-Exit status: 0 all is well; 1 an image breaks a rule; 2 the command line is refused; 3 reading or writing failed, or a \
-script is bad; 4 out of memory; 5 the answer of a request was lost.
+The index is in memory, and a dump is all that is kept of it. There is no
+network: requests are lines on standard input.
 
-`blink help COMMAND` has the lines that a command reads, and examples.";
+`blink help COMMAND` has the lines that a command reads, and examples.
+
+Exit status: 0 all is well; 1 an image breaks a rule; 2 the command line is
+refused; 3 reading or writing failed, or a script is bad; 4 out of memory; 5 the
+answer of a request was lost.";
 
 /// Of `serve`.
 pub(crate) const ABOUT_SERVE: &str = "\
-Request lines, in lower case with one space between words; numbers are 0 to 18446744073709551615:
-  find K          found V, or absent
-  insert K V      inserted; or present V, with the value that stays; or noroom
-  delete K        deleted V, or absent; or noroom
-  scan LO HI      rows K=V K=V, the rows from key LO on and below key HI, by rising keys
-  sync            synced: the end of a section
-Any other line is malformed. Each reply stands behind the number of its line. Replies are written at each sync and at \
-the end of the input. All requests before a sync are carried out before those behind it; requests between two syncs are \
-carried out in any order, and by number where there is one worker.
+Requests, a line each, in lower case with one space between words; numbers are 0
+to 18446744073709551615:
+  find K        found V, or absent
+  insert K V    inserted; or present V, with the value that stays; or noroom
+  delete K      deleted V, or absent; or noroom
+  scan LO HI    rows K=V K=V, the rows from key LO on and below key HI, by
+                rising keys
+  sync          synced: the end of a section
+Any other line is malformed. Each reply begins with the number of its line.
+Replies are written at each sync and at the end of the input. All requests
+before a sync are carried out before those after it; those between two syncs in
+any order, and by one worker in theirs.
+
+Sizes. The number of pages is fixed at the start, and a page has room for 14
+rows. Rows in an empty index before the first noroom, by the order of the keys,
+and rows in all where random keys went on:
+  --pages   falling    rising    random    in all   memory
+     1024     6,153     7,174     9,100    12,866     4 MB
+    65536   393,232   458,758   582,000   785,225    88 MB
+Some six rows a page surely fit. A request that finds no room changes nothing.
+--stats says how many did, and how many pages are in use.
+
+With --image the index begins with the rows of the image, as `blink dump` writes
+it, and has as many pages; the file stays as it is.
 
 Examples:
   printf 'insert 5 50\\nsync\\nfind 5\\n' | blink serve
   printf 'insert 5 50\\nfind 5\\n' | blink serve --workers 1
-  blink serve --pages 65536 --workers 8 <requests >replies
+  blink serve --pages 65536 --workers 8 --stats <requests >replies
   blink serve --image index.image <requests >replies
 
-With --image the index begins with the rows of the image, as `blink dump` writes it, and has as many pages; the file stays as it is.
-
-Exit status: 0 all is well; 1 the image breaks a rule, which standard error names as `blink check` does, and nothing is read; 3 \
-reading or writing failed; 4 out of memory; 5 the answer of a request was lost.";
+Exit status: 0 all is well, also where requests found no room; 1 the image
+breaks a rule, which standard error names as `blink check` does, and nothing is
+read; 3 reading or writing failed; 4 out of memory; 5 the answer of a request
+was lost.";
 
 /// Of `dump`.
 pub(crate) const ABOUT_DUMP: &str = "\
-Reads request lines and writes replies as `blink serve` does (`blink help serve` has the lines). Where that ends without a \
-fault, the image of the index is written to FILE.new, which must not be there, and FILE.new is then renamed to FILE: FILE has \
-the whole image, or what it had. `blink check FILE` says what is in it.
+Reads request lines and writes replies as `blink serve` does (`blink help serve`
+has the lines). Where that ends without a fault, the image of the index is
+written to FILE.new, which must not be there, and FILE.new is then renamed to
+FILE: FILE has the whole image, or what it had. `blink check FILE` says what is
+in it, and `blink draw FILE` shows it.
+
+With --image the index begins with the rows of that image, and has as many
+pages.
 
 Examples:
   printf 'insert 5 50\\n' | blink dump index.image
   blink dump index.image --pages 65536 <requests >replies
   blink dump index.image --image index.image <requests >replies
 
-With --image the index begins with the rows of that image, and has as many pages.
-
-Exit status: 0 all is well; 1 that image breaks a rule, which standard error names as `blink check` does; 3 reading or writing failed; 4 out of memory; 5 the answer of a request was lost. Where it is not 0, \
-FILE is as it was.";
+Exit status: 0 all is well; 1 that image breaks a rule, which standard error
+names as `blink check` does; 3 reading or writing failed; 4 out of memory; 5 the
+answer of a request was lost. Where it is not 0, FILE is as it was.";
 
 /// Of `check`.
 pub(crate) const ABOUT_CHECK: &str = "\
-Prints `ok rows A leaves B inners C levels D unposted E thin F`, or `fault Cn page X`: the least rule that is broken, and the \
-least page that breaks it.
+Prints `ok rows A leaves B inners C levels D unposted E thin F`, or `fault Cn
+page X`: the least rule that is broken, and the least page that breaks it.
+  C1  the head and the length are an image's
+  C2  each page's words are all zero, or a page's
+  C3  page 0 is the anchor, and no other page is one
+  C4  each level has a leftmost page, which begins at 0
+  C5  each link leads to the page that begins where this one ends
+  C6  each page stands on the chain of its level
+  C7  each entry names a page one level lower that begins with its key
+  C8  no page is dead
 
 Examples:
   blink check index.image
   blink check index.image && echo sound
 
-Exit status: 0 sound; 1 a rule is broken; 3 reading or writing failed; 4 out of memory.";
+Exit status: 0 sound; 1 a rule is broken; 3 reading or writing failed; 4 out of
+memory.";
+
+/// Of `draw`.
+pub(crate) const ABOUT_DRAW: &str = "\
+Prints each level of the tree as a row of pages: number, keys, entries, links,
+and which pages are thin or listed by no parent. A level of more than 64 pages
+is summed up. A file that is no sound image is drawn as far as it can be read,
+and the last line names the rule that it breaks (`blink help check`).
+
+Examples:
+  blink draw index.image
+  blink draw index.image --svg >index.svg
+
+Exit status: 0 sound; 1 a rule is broken; 3 reading or writing failed; 4 out of
+memory.";
 
 /// Of `replay`.
 pub(crate) const ABOUT_REPLAY: &str = "\
 The lines of a script; the first is `pages N`:
-  find K, insert K V, delete K, part K, post L K, compress L K, reclaim X     starts a process
-  turn P, turn P X     one turn of process P; a take tries page X
-  refuse P             process P is refused what it is about to reserve
-  run P M              turns of process P, at most M, until it has answered
-Processes are numbered from 1 in the order in which they start. Each turn prints its event.
+  find K, insert K V, delete K, part K         each starts a process
+  post L K, compress L K, reclaim X            so do these
+  turn P, turn P X   one turn of process P; a take tries page X
+  refuse P           process P is refused what it is about to reserve
+  run P M            turns of process P, at most M, until it has answered
+Processes are numbered from 1 in the order in which they start. Each turn prints
+its event.
 
 Examples:
   blink replay split.script
-  printf 'pages 4\\ninsert 5 50\\nfind 5\\nrun 1 4\\nrun 2 9\\nrun 1 9\\n' >s && blink replay s
+  printf 'pages 4\\ninsert 5 50\\nfind 5\\nrun 1 4\\nrun 2 9\\nrun 1 9\\n' >s
+  blink replay s
 
-Exit status: 0 all is well; 3 reading or writing failed, or a line is bad; 4 out of memory.";
+Exit status: 0 all is well; 3 reading or writing failed, or a line is bad; 4 out
+of memory.";

@@ -3,6 +3,7 @@
 ghost use Rattle.std.specs.Prelude.{◌≡◌, ℕ, ◌≤◌, length, MatchOption};
 ghost use Rattle.bl_image.specs.Images.{head_bytes, IsHead};
 
+use bl_model::limits::{LEAST_PAGES, MOST_PAGES};
 use byteorder::{ByteOrder, LittleEndian};
 
 /// The head of an image of so many pages.
@@ -25,7 +26,7 @@ pub fn count_in(bytes: &[u8]) -> Option<u32>
     }
     let (head, _) = bytes.split_at(32);
     let count = LittleEndian::read_u32(&head[12..]);
-    if count < 4 || count > 65536 || bytes.len() != 32 + 256 * count as usize {
+    if count < LEAST_PAGES || count > MOST_PAGES || bytes.len() != 32 + 256 * count as usize {
         return None;
     }
     if head != head_of(count).as_slice() {

@@ -1,18 +1,9 @@
--- Replies of operations on one key, and the replies of the map that they stand for.
+-- What a search answers, as a reply of the map, or that it ran out of turns.
 use Rattle.std.specs.Prelude.{Result, Ok, Err}
 use Rattle.bl_model.specs.declared.operation.Reply.{Reply}
-use Rattle.bl_model.specs.declared.operation.Reply.TheVariants as reply
+use Rattle.bl_model.specs.declared.operation.KeyReply.{KeyReply}
+use Rattle.bl_model.specs.Replies.{reply_of}
 use Rattle.bl_index.specs.declared.config.OutOfTurns.{OutOfTurns}
-use Rattle.bl_index.specs.declared.reply.KeyReply.{KeyReply}
-use Rattle.bl_index.specs.declared.reply.KeyReply.TheVariants.{Found, Absent, Inserted, Present, Deleted, NoRoom}
-
-abbrev pub reply_of : KeyReply → Reply
-reply_of (Found value) = reply.Found value
-reply_of Absent = reply.Absent
-reply_of Inserted = reply.Inserted
-reply_of (Present value) = reply.Present value
-reply_of (Deleted value) = reply.Deleted value
-reply_of NoRoom = reply.NoRoom
 
 abbrev pub found_of : Result KeyReply OutOfTurns → Result Reply OutOfTurns
 found_of (Ok r) = Ok (reply_of r)

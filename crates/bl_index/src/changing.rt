@@ -3,8 +3,8 @@
 ghost use Rattle.std.specs.Prelude.{◌≡◌, ◌≢◌, ℕ, None, Some, false};
 ghost use Rattle.bl_proc_base.specs.declared.acts.Action.TheVariants as act;
 ghost use Rattle.bl_model.specs.declared.operation.Op.TheVariants as op;
-ghost use Rattle.bl_index.specs.declared.reply.KeyReply.TheVariants as replies;
-ghost use Rattle.bl_index.specs.Replies.{reply_of};
+ghost use Rattle.bl_model.specs.declared.operation.KeyReply.TheVariants as replies;
+ghost use Rattle.bl_model.specs.Replies.{reply_of};
 ghost use Rattle.bl_proc_base.specs.declared.answers.Answer.{Answer as AnswerIs};
 ghost use Rattle.bl_proc_unique.specs.Refusals.{IsNoRoom, IsRefused, PutsRefused};
 ghost use Rattle.bl_store.specs.Hands.{known, IsIdle, IsRunning, IsSameHand, HasNoStock};
@@ -16,9 +16,9 @@ ghost use Rattle.bl_index.specs.Rooms.{LacksAsked};
 
 use crate::index::{Index, Pass};
 use crate::kinds::Kind;
-use crate::reply::KeyReply;
 use crate::stepping::Stepped;
 use bl_index_rule::Mine;
+use bl_model::KeyReply;
 use bl_proc::Hint;
 use bl_store::{Hand, Stock};
 use crossbeam_utils::Backoff;

@@ -1,7 +1,7 @@
 //! Deletions, by the words of pages: a leaf gets its new words from those that were read.
 
 ghost use Rattle.std.specs.Prelude.{◌≡◌, ℕ, None, Some, false};
-ghost use Rattle.bl_index.specs.declared.reply.KeyReply.TheVariants as replies;
+ghost use Rattle.bl_model.specs.declared.operation.KeyReply.TheVariants as replies;
 ghost use Rattle.bl_page.specs.declared.page.Page.{Page};
 ghost use Rattle.bl_page.specs.Words.{words_of};
 ghost use Rattle.bl_model.specs.Rows.{map_of};
@@ -22,13 +22,13 @@ ghost use Rattle.bl_store.specs.Owners.{IsHandOf};
 ghost use Rattle.bl_index_rule.specs.declared.known.Mine.{Mine as Knows};
 ghost use Rattle.bl_index.specs.Runs.{IsOn, IsSince, IsWithin};
 ghost use Rattle.bl_index.specs.Events.{IsThere, HasDeleted, HasDeletedBy};
-ghost use Rattle.bl_index.specs.Replies.{reply_of};
+ghost use Rattle.bl_model.specs.Replies.{reply_of};
 
 use crate::errands::Deleting;
 use crate::index::Index;
-use crate::reply::KeyReply;
 use crate::shown::Shown;
 use bl_index_rule::Mine;
+use bl_model::KeyReply;
 use bl_proc::{DeleteReply, Hint, Removed};
 use bl_proc_base::{Level, hint_of_thin, row_in, thin_in, words_without};
 use bl_store::{Glance, Hand};

@@ -9,13 +9,14 @@ ghost use Rattle.bl_claims.specs.Seeing.{IsSeen};
 ghost use Rattle.bl_proc_base.specs.declared.acts.Action.TheVariants as act;
 ghost use Rattle.bl_proc.specs.Searches.{find_next_in};
 ghost use Rattle.bl_index.specs.Runs.{IsWithin};
-ghost use Rattle.bl_index.specs.Replies.{reply_of, found_of};
+ghost use Rattle.bl_model.specs.Replies.{reply_of};
+ghost use Rattle.bl_index.specs.Replies.{found_of};
 ghost use Rattle.bl_index.specs.Searching.{IsSearching};
 
 use crate::config::OutOfTurns;
 use crate::index::{Index, Pass};
-use crate::reply::KeyReply;
 use bl_index_rule::Mine;
+use bl_model::KeyReply;
 use bl_proc::{Find, FindStage};
 use bl_store::Hand;
 

@@ -1,7 +1,7 @@
 //! Insertions, by the words of pages. A leaf that has room gets its new words from those that were read.
 
 ghost use Rattle.std.specs.Prelude.{◌≡◌, ℕ, ◌<◌, None, Some, false};
-ghost use Rattle.bl_index.specs.declared.reply.KeyReply.TheVariants as replies;
+ghost use Rattle.bl_model.specs.declared.operation.KeyReply.TheVariants as replies;
 ghost use Rattle.bl_page.specs.declared.page.Page.{Page};
 ghost use Rattle.bl_page.specs.Words.{words_of};
 ghost use Rattle.bl_claims.specs.Pages.{IsTreePage};
@@ -20,14 +20,14 @@ ghost use Rattle.bl_index_rule.specs.declared.known.Mine.{Mine as Knows};
 ghost use Rattle.bl_index.specs.Runs.{IsOn, IsSince, IsWithin};
 ghost use Rattle.bl_index.specs.Events.{IsThere, HasInserted, HasInsertedBy};
 ghost use Rattle.bl_index.specs.Rooms.{LacksPage};
-ghost use Rattle.bl_index.specs.Replies.{reply_of};
+ghost use Rattle.bl_model.specs.Replies.{reply_of};
 
 use crate::errands::Inserting;
 use crate::index::Index;
 use crate::placing::listed_at;
-use crate::reply::KeyReply;
 use crate::shown::Shown;
 use bl_index_rule::Mine;
+use bl_model::KeyReply;
 use bl_page::{LEVEL_UNIT, place_in, word, words_from};
 use bl_proc::{Hint, InsertReply};
 use bl_proc_base::{Level, Outcome};

@@ -32,16 +32,14 @@ mod opening;
 mod parting;
 mod placing;
 mod posting;
-mod reply;
 mod running;
 mod scanning;
 mod shown;
 mod stepping;
 mod sweeping;
 
-pub use bl_model::{Next, Reply};
+pub use bl_model::{KeyReply, Next, Reply};
 pub use bl_proc::{Hint, Level, Lowered, Posted, Squeezed};
 pub use config::{CloseFault, Config, OpenFault, OutOfTurns};
 pub use index::{Index, Pass};
-pub use reply::KeyReply;
 pub use scanning::ScanFault;

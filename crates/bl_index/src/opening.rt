@@ -11,6 +11,7 @@ use crate::index::{Index, Pass};
 use arrayvec::ArrayVec;
 use bl_check::Quiet;
 use bl_index_rule::{Beginning, Happened, Mine, Passes};
+use bl_model::limits::{LEAST_PAGES, MOST_PAGES};
 use bl_page::{Anchor, Leaf, Page};
 use bl_proc::{Find, FindStage, Proc};
 use bl_store::{Hand, Store};
@@ -115,7 +116,7 @@ impl Index {
         ensures ok { IfOk result (λ t. IsOpened config t.0 t.1.items) }
         ensures fault { IfErr result (IsRefusal config) }
     {
-        if config.pages < 4 || config.pages > 65536 {
+        if config.pages < LEAST_PAGES || config.pages > MOST_PAGES {
             return Err(OpenFault::Pages);
         }
         if config.passes < 1 || config.passes > 64 {

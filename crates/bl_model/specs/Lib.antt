@@ -4,3 +4,4 @@ pub mod Rows
 pub mod Plain
 pub mod Stream
 pub mod Parts
+pub mod Replies

@@ -6,12 +6,13 @@
 //! whether a reader or a writer that it lends has failed; `write_text` and `write_out` write whole texts to one.
 #![tactic(auto)]
 
+pub mod limits;
 pub mod operation;
 pub mod plain;
 pub mod stream;
 pub mod writing;
 
-pub use operation::{Entry, Next, Op, Reply};
+pub use operation::{Entry, KeyReply, Next, Op, Reply};
 pub use plain::PlainMap;
 pub use stream::{Failed, Watched};
 pub use writing::{write_out, write_text};

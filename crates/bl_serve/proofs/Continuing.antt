@@ -1,4 +1,4 @@
--- A section that is read and answered in rounds: two rounds that follow each other are one.
+-- A section that is read and answered in chunks: two chunks that follow each other are one.
 use Rattle.std.proofs.Common.{◌≡◌, ◌≢◌, ℕ, suc, ◌+◌, ◌≤◌, ◌<◌, ◌^◌, ◌-◌, List, [], ◌∷◌, ◌++◌, length, map, refl, sym, ap, ◌∙◌, subst, append_assoc, append-nil, arith, length-append, inl, inr}
 use Rattle.std.specs.Prelude.{All, Option, Some, Result, Ok, Err, is_none, cond, min}
 use Rattle.std.proofs.lemmas.List.{map-append}
@@ -151,7 +151,7 @@ inside_then done now xs ys Write at i = absurd i
 inside_then done now xs ys Memory at i = tt
 inside_then done now xs ys (Lost number) at i = let long = length-append xs ys in let a = i.0 in let b = i.1 in (omega (arith, at, a), omega (arith, at, long, b))
 
--- ---- from round to round
+-- ---- from chunk to chunk
 
 -- lines of a section were read and answered, and it goes on
 pub record HasServed (index : Index) (olds passes : List Pass) (start now : Totals) (unread mid : List ℕ) (asked : List (Option Request)) (text : List ℕ) : Type 0 where

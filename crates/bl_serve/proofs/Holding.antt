@@ -14,7 +14,7 @@ use Rattle.bl_index.specs.declared.index.Index.{Index}
 use Rattle.bl_index.specs.declared.index.Pass.{Pass}
 use Rattle.bl_index.specs.Calls.{first_of, IsPassOf, number_of, trail, passes_of}
 use Rattle.bl_index.proofs.Taken.{same_of}
-use Rattle.bl_serve.specs.Rounds.{Taken, IsTaken, IsRound}
+use Rattle.bl_serve.specs.Chunks.{Taken, IsTaken, IsChunk}
 use Rattle.bl_serve.specs.Meetings.{Comes, AllMeet}
 use Rattle.bl_serve.specs.declared.reading.SectionEnd.{SectionEnd}
 use Rattle.bl_serve.specs.declared.reading.SectionEnd.TheVariants.{Synced, Rest, Finished}
@@ -78,7 +78,7 @@ zip_long R [] (y ∷ ys) h = absurd h
 zip_long R (x ∷ xs) [] h = absurd h
 zip_long R (x ∷ xs) (y ∷ ys) h = ap suc (zip_long R xs ys h.1)
 
-pub holds : (index : Index) (done : ℕ) (lines : List (Option Request)) (text : List ℕ) (olds news met : List Pass) → 0 < length olds → AreTogether index (seen_by olds) olds → IsRound (first_of index) (suc done) lines text olds news → AllMeet (first_of index) news met → HoldsSection index done lines text olds met
+pub holds : (index : Index) (done : ℕ) (lines : List (Option Request)) (text : List ℕ) (olds news met : List Pass) → 0 < length olds → AreTogether index (seen_by olds) olds → IsChunk (first_of index) (suc done) lines text olds news → AllMeet (first_of index) news met → HoldsSection index done lines text olds met
 holds index done lines text olds news met some t r m =
     let first : List (Option Page) = first_of index in
     let old : Trail = seen_by olds in
@@ -97,7 +97,7 @@ holds index done lines text olds news met some t r m =
     }
 
 -- as many passes come back as were given
-pub same_many : (first : List (Option Page)) (number : ℕ) (lines : List (Option Request)) (text : List ℕ) (olds news : List Pass) → IsRound first number lines text olds news → length news ≡ length olds
+pub same_many : (first : List (Option Page)) (number : ℕ) (lines : List (Option Request)) (text : List ℕ) (olds news : List Pass) → IsChunk first number lines text olds news → length news ≡ length olds
 same_many first number lines text olds news r = sym (ap length r.new_are) ∙ (length-map r.taken (λ (x : Taken). x.new) ∙ (sym (length-map r.taken (λ (x : Taken). x.old)) ∙ ap length r.old_are))
 
 -- the passes that were lent to the meeting come back

@@ -14,7 +14,7 @@ use Rattle.bl_page.specs.Machine.{Name}
 use Rattle.bl_claims.specs.Trails.{Said, Trail, entries_at, history_of}
 use Rattle.bl_claims.specs.Seeing.{first_map, IsSeen, own, AreWithin, GoesOnFrom}
 use Rattle.bl_index.specs.Calls.{number_of, trail}
-use Rattle.bl_serve.specs.Rounds.{Taken, IsTaken, IsRound}
+use Rattle.bl_serve.specs.Chunks.{Taken, IsTaken, IsChunk}
 use Rattle.bl_serve.proofs.Weaving.{joined, all_of, parts, by_part, one_by_one}
 
 pub history_append : (xs ys : Trail) → history_of (xs ++ ys) ≡ history_of xs ++ history_of ys
@@ -70,7 +70,7 @@ pub record GoesOnBy (first : List (Option Page)) (old new : Trail) (answers : Li
   pub interleaves : Interleaves (map entries answers) (history_of more)
   pub legal : IsLegalFrom (first_map first) (history_of new)
 
-pub section : (first : List (Option Page)) (number : ℕ) (lines : List (Option Request)) (text : List ℕ) (olds news : List _) (old new : Trail) (r : IsRound first number lines text olds news) → GoesOnFrom old new → IsSeen first new → AreWithin (length r.taken) new → FitsFrom old new 0 r.taken → GoesOnBy first old new r.answers
+pub section : (first : List (Option Page)) (number : ℕ) (lines : List (Option Request)) (text : List ℕ) (olds news : List _) (old new : Trail) (r : IsChunk first number lines text olds news) → GoesOnFrom old new → IsSeen first new → AreWithin (length r.taken) new → FitsFrom old new 0 r.taken → GoesOnBy first old new r.answers
 section first number lines text olds news old new r on seen within fits =
     let more : Trail = on.0 in
     let below = all_below (length r.taken) more (within_rest (length r.taken) old more (subst (AreWithin (length r.taken)) on.1 within)) in

@@ -22,7 +22,7 @@ use Rattle.bl_serve.specs.declared.working.Written.{Written}
 use Rattle.bl_serve.specs.Answering.{IsFor, answers_text}
 use Rattle.bl_serve.specs.Turns.{Piece, IsPiece, TakeTurns, Logs, lines_in}
 use Rattle.bl_serve.specs.Joining.{Chains, IsWithin, text_of}
-use Rattle.bl_serve.specs.Rounds.{Taken, IsTaken, Weaves, IsRound, Gathers}
+use Rattle.bl_serve.specs.Chunks.{Taken, IsTaken, Weaves, IsChunk, Gathers}
 use Rattle.bl_serve.proofs.Lines.{zip_append, zip_length, text_append}
 use Rattle.bl_serve.proofs.Pieces.{lifted, cut, cut_length, flat_id, map_flat}
 use Rattle.bl_serve.proofs.Weaving.{joined, all_of, in_any_order, one_by_one}
@@ -160,9 +160,9 @@ module _ (first : List (Option Page)) (number : ℕ) (lines : List (Option Reque
       let c : Interleaves (all_of groups) history = one_by_one history groups (subst (λ (z : List (List Entry)). Interleaves z history) (sym (joined_lists after)) b) in
       subst (λ (z : List (List Entry)). Interleaves z history) (flat_id (λ (p : Piece). map entries p.answers) after ∙ sym (map_flat (λ (p : Piece). p.answers) entries after)) c
 
-  pub round : (text : List ℕ) (olds news : List Pass) (desks : List Desk) (written sorted : List Written) → TakeTurns first number lines olds news desks → Gathers desks written
-      → IsPermutation written sorted → Chains 0 (length lines) sorted → text ≡ text_of sorted → IsRound first number lines text olds news
-  round text olds news desks written sorted turns g perm chains text_is =
+  pub chunk : (text : List ℕ) (olds news : List Pass) (desks : List Desk) (written sorted : List Written) → TakeTurns first number lines olds news desks → Gathers desks written
+      → IsPermutation written sorted → Chains 0 (length lines) sorted → text ≡ text_of sorted → IsChunk first number lines text olds news
+  chunk text olds news desks written sorted turns g perm chains text_is =
       let s = spread olds news desks turns g.none_failed in
       let l = lifted (λ (p : Piece). p.written) s.pieces sorted (subst (λ (z : List Written). IsPermutation z sorted) (g.written_are ∙ sym s.written) perm) in
       let covers = chained 0 (length lines) l.0 (All-permutation (IsPiece number lines) s.pieces l.0 l.1 s.each) (subst (Chains 0 (length lines)) (sym l.2) chains) in record {
@@ -176,8 +176,8 @@ module _ (first : List (Option Page)) (number : ℕ) (lines : List (Option Reque
         weaves = weaving s.taken s.pieces l.0 s.shares l.1;
       }
 
-pub round_own : (first : List (Option Page)) (index : Index) (number : ℕ) (lines : List (Option Request)) (text : List ℕ) (olds news : List Pass) → All (IsPassOf index) olds → IsRound first number lines text olds news → All (IsPassOf index) news
-round_own first index number lines text olds news own_all r = subst (All (IsPassOf index)) r.new_are (go r.taken r.each_taken (subst (All (IsPassOf index)) (sym r.old_are) own_all))
+pub chunk_own : (first : List (Option Page)) (index : Index) (number : ℕ) (lines : List (Option Request)) (text : List ℕ) (olds news : List Pass) → All (IsPassOf index) olds → IsChunk first number lines text olds news → All (IsPassOf index) news
+chunk_own first index number lines text olds news own_all r = subst (All (IsPassOf index)) r.new_are (go r.taken r.each_taken (subst (All (IsPassOf index)) (sym r.old_are) own_all))
   where
     go : (taken : List Taken) → All (IsTaken first) taken → All (IsPassOf index) (map (λ t. t.old) taken) → All (IsPassOf index) (map (λ t. t.new) taken)
     go [] each h = All-nil (IsPassOf index)

@@ -2,7 +2,7 @@ pub mod Works
 pub mod Answering
 pub mod Turns
 pub mod Joining
-pub mod Rounds
+pub mod Chunks
 pub mod Meetings
 pub mod Reading
 pub mod Sections

@@ -3,18 +3,19 @@
 ghost use Rattle.std.specs.Prelude.{◌≡◌, suc, ◌+◌, ◌<◌, ◌≤◌, ◌^◌, ◌++◌, length, Some, IfOk, OnOk};
 ghost use Rattle.bl_model.specs.declared.operation.Op.TheVariants as op;
 ghost use Rattle.bl_index.specs.Calls.{first_of, IsPassOf, IsSamePass, number_of, trail};
-ghost use Rattle.bl_index.specs.Replies.{reply_of};
+ghost use Rattle.bl_model.specs.Replies.{reply_of};
 ghost use Rattle.bl_serve.specs.Works.{Works, Adds};
 ghost use Rattle.bl_serve.specs.Answering.{AnswersLine, AnswersLines, WritesPart, WritesRows};
 
 use crate::compressing::{leave, post};
 use crate::gate::Gate;
-use crate::printing::{push_key_line, push_word_line};
 use crate::room::make_room;
 use bl_hints::Hints;
 use bl_index::{Index, KeyReply, Pass};
 use bl_model::{Next, Op, Reply};
-use bl_serve_lines::print::{Response, push_line, push_number, push_rows_below};
+use bl_serve_lines::print::{
+    Response, push_key_line, push_line, push_number, push_rows_below, push_word_line,
+};
 use bl_serve_lines::request::Request;
 use std::alloc::{AllocError, Global};
 use std::sync::Wait;

@@ -1,4 +1,4 @@
-//! What the lines of a round ask for, counted as they are read.
+//! What the lines of a chunk ask for, counted as they are read.
 
 ghost use Rattle.std.specs.Prelude.{◌≡◌, List, [], ◌∷◌, ◌++◌, Option, length, is_none, count_by, OnOk};
 

@@ -10,9 +10,9 @@ ghost use Rattle.bl_serve.specs.Sections.{CountsSection, rests, syncs};
 ghost use Rattle.bl_serve.specs.Serving.{AreTogether, FailsSection, IsInside, Serves, ServesSection, seen_by};
 
 use crate::asked::Asked;
+use crate::chunks::{Crew, desks, hold_chunk};
 use crate::gate::Gate;
 use crate::reading::{Ahead, SectionEnd, read_on};
-use crate::rounds::{Crew, desks, hold_section};
 use crate::working::Desk;
 use bl_hints::Hints;
 use bl_index::{Index, Pass};
@@ -46,33 +46,33 @@ fn count(totals: &mut Totals, lines: &Asked, end: SectionEnd)
 }
 
 /// So many lines of a section are read before any is answered: nobody else works meanwhile.
-const FIRST_ROUND: u64 = 4_096;
+const FIRST_CHUNK: u64 = 4_096;
 
 /// While lines are answered, twice as many are read, and so many at most.
-const LONGEST_ROUND: u64 = 24_576;
+const LONGEST_CHUNK: u64 = 24_576;
 
-/// How many lines are read behind a round of so many.
-fn round_behind(round: u64) -> u64 {
-    round.saturating_mul(2).min(LONGEST_ROUND)
+/// How many lines are read behind a chunk of so many.
+fn chunk_behind(chunk: u64) -> u64 {
+    chunk.saturating_mul(2).min(LONGEST_CHUNK)
 }
 
-/// How many lines are read next, behind so many others, for a round of so many.
-fn most_behind(requests: u64, round: u64) -> u64
-    ensures { result ≡ min round (2 ^ 64 - 1 - requests) }
+/// How many lines are read next, behind so many others, for a chunk of so many.
+fn most_behind(requests: u64, chunk: u64) -> u64
+    ensures { result ≡ min chunk (2 ^ 64 - 1 - requests) }
 {
-    round.min(u64::MAX - requests)
+    chunk.min(u64::MAX - requests)
 }
 
-/// Whether a section may go on behind lines that were read together for a round of so many, with that end.
-fn goes_on(end: SectionEnd, count: usize, round: u64) -> bool
-    ensures { IsTrue result ↔ ((end ≡ SectionEnd.Finished) × (round ≤ count)) }
+/// Whether a section may go on behind lines that were read together for a chunk of so many, with that end.
+fn goes_on(end: SectionEnd, count: usize, chunk: u64) -> bool
+    ensures { IsTrue result ↔ ((end ≡ SectionEnd.Finished) × (chunk ≤ count)) }
 {
-    end == SectionEnd::Finished && round <= count as u64
+    end == SectionEnd::Finished && chunk <= count as u64
 }
 
 /// Answers lines that were read together, counts them, and reads on meanwhile. Bytes after the last LF are a malformed line. The output
 /// goes behind the text.
-fn serve_round<T: Threads + Wait + Sync, R: Read, G: Gate + Sync>(
+fn serve_chunk<T: Threads + Wait + Sync, R: Read, G: Gate + Sync>(
     rt: &T,
     alloc: Global,
     index: &Index,
@@ -101,7 +101,7 @@ fn serve_round<T: Threads + Wait + Sync, R: Read, G: Gate + Sync>(
     ensures consumes { (more : List ℕ) × Consumes (R.remaining reader.old.inner) (R.remaining reader.new.inner) more }
     ensures fault { IfErr result (IsInside totals.old.requests (length lines.now)) }
 {
-    let passes = hold_section(
+    let passes = hold_chunk(
         rt,
         alloc,
         index,
@@ -124,7 +124,7 @@ fn serve_round<T: Threads + Wait + Sync, R: Read, G: Gate + Sync>(
     Ok(passes)
 }
 
-/// Reads a section, answers it and counts its lines, in rounds: while the lines of one are answered, the next ones are read. The
+/// Reads a section, answers it and counts its lines, in chunks: while the lines of one are answered, the next ones are read. The
 /// text then holds the output, and nothing else.
 fn serve_section<T: Threads + Wait + Sync, R: Read, G: Gate + Sync>(
     rt: &T,
@@ -158,20 +158,20 @@ fn serve_section<T: Threads + Wait + Sync, R: Read, G: Gate + Sync>(
 {
     let mut passes = passes;
     text.clear();
-    let mut round = FIRST_ROUND;
-    ahead.most = most_behind(totals.requests, round);
+    let mut chunk = FIRST_CHUNK;
+    ahead.most = most_behind(totals.requests, chunk);
     read_on(reader, ahead);
     for _ in rt.forever() {
         let end = ahead.end?;
         mem::swap(lines, &mut ahead.lines);
-        let open = goes_on(end, lines.len(), round);
-        round = round_behind(round);
+        let open = goes_on(end, lines.len(), chunk);
+        chunk = chunk_behind(chunk);
         ahead.most = if open {
-            most_behind(totals.requests + lines.len() as u64, round)
+            most_behind(totals.requests + lines.len() as u64, chunk)
         } else {
             0
         };
-        let back = serve_round(
+        let back = serve_chunk(
             rt, alloc, index, hints, gate, crew, passes, desks, lines, end, totals, reader, ahead,
             text,
         )?;

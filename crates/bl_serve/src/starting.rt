@@ -7,9 +7,9 @@ ghost use Rattle.bl_index.specs.Opened.{IsBegun, IsReopened};
 ghost use Rattle.bl_serve.specs.Begun.{IsBegunFrom};
 ghost use Rattle.bl_serve.specs.Origins.{HasPages, ServedFrom, StopsFrom};
 
+use crate::chunks::Crew;
 use crate::gate::OpenGate;
 use crate::origin::Origin;
-use crate::rounds::Crew;
 use crate::serving::serve_with;
 use bl_check::Quiet;
 use bl_index::{Config, Index, OpenFault, Pass};

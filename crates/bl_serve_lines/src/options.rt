@@ -3,6 +3,19 @@
 ghost use Rattle.std.specs.Prelude.{◌≤◌};
 ghost use Rattle.bl_serve_lines.specs.Options.{AreWithin, IsHeld};
 
+use bl_model::limits::{LEAST_PAGES, MOST_PAGES};
+
+/// The pages of a server where none are asked for.
+pub const PAGES: u32 = 1024;
+/// Its workers then, and the most.
+pub const WORKERS: u32 = 4;
+
+pub const MOST_WORKERS: u32 = 32;
+/// Its compressors then, and the most.
+pub const COMPRESSORS: u32 = 1;
+
+pub const MOST_COMPRESSORS: u32 = 16;
+
 /// The options of a server.
 #[derive(Clone, Copy, Debug, PartialEq, Eq)]
 pub struct ServeOptions {
@@ -34,9 +47,9 @@ impl ServeOptions {
         ensures compressors { IsHeld compressors 1 0 16 result.compressors }
     {
         ServeOptions {
-            pages: held(pages, 1024, 4, 65536),
-            workers: held(workers, 4, 1, 32),
-            compressors: held(compressors, 1, 0, 16),
+            pages: held(pages, PAGES, LEAST_PAGES, MOST_PAGES),
+            workers: held(workers, WORKERS, 1, MOST_WORKERS),
+            compressors: held(compressors, COMPRESSORS, 0, MOST_COMPRESSORS),
         }
     }
 }

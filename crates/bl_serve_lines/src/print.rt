@@ -1,10 +1,11 @@
 //! The printed form of replies.
 
 ghost use Rattle.std.specs.Prelude.{◌≡◌, ◌++◌, flat_map, OnOk, codes, decimal};
+ghost use Rattle.bl_model.specs.Replies.{reply_of};
 ghost use Rattle.bl_serve_lines.specs.Lines.{rows_below};
 ghost use Rattle.bl_serve_lines.specs.Text.{row_text, next_text, reply_text, response_text, numbered};
 
-use bl_model::{Next, Reply};
+use bl_model::{KeyReply, Next, Reply};
 use itoa::Buffer;
 use std::alloc::AllocError;
 
@@ -68,22 +69,36 @@ fn push_next(out: &mut Vec<u8>, next: Next) -> Result<(), AllocError>
     }
 }
 
+/// Appends the text of a reply on one key.
+fn push_key_reply(out: &mut Vec<u8>, reply: KeyReply) -> Result<(), AllocError>
+    ensures { OnOk result (out.new.items ≡ out.old.items ++ reply_text (reply_of reply)) }
+{
+    match reply {
+        KeyReply::Found(value) => push_number(out, b"found ", value),
+        KeyReply::Absent => out.extend_from_slice(b"absent"),
+        KeyReply::Inserted => out.extend_from_slice(b"inserted"),
+        KeyReply::Present(value) => push_number(out, b"present ", value),
+        KeyReply::Deleted(value) => push_number(out, b"deleted ", value),
+        KeyReply::NoRoom => out.extend_from_slice(b"noroom"),
+    }
+}
+
 /// Appends the reply's text.
 pub fn push_reply(out: &mut Vec<u8>, reply: &Reply) -> Result<(), AllocError>
     ensures { OnOk result (out.new.items ≡ out.old.items ++ reply_text reply.now) }
 {
     match reply {
-        Reply::Found(value) => push_number(out, b"found ", *value),
-        Reply::Absent => out.extend_from_slice(b"absent"),
-        Reply::Inserted => out.extend_from_slice(b"inserted"),
-        Reply::Present(value) => push_number(out, b"present ", *value),
-        Reply::Deleted(value) => push_number(out, b"deleted ", *value),
+        Reply::Found(value) => push_key_reply(out, KeyReply::Found(*value)),
+        Reply::Absent => push_key_reply(out, KeyReply::Absent),
+        Reply::Inserted => push_key_reply(out, KeyReply::Inserted),
+        Reply::Present(value) => push_key_reply(out, KeyReply::Present(*value)),
+        Reply::Deleted(value) => push_key_reply(out, KeyReply::Deleted(*value)),
         Reply::Rows(rows, next) => {
             out.extend_from_slice(b"rows")?;
             push_rows(out, rows.as_slice())?;
             push_next(out, *next)
         }
-        Reply::NoRoom => out.extend_from_slice(b"noroom"),
+        Reply::NoRoom => push_key_reply(out, KeyReply::NoRoom),
     }
 }
 
@@ -105,6 +120,28 @@ pub fn push_line(out: &mut Vec<u8>, number: u64, response: &Response) -> Result<
     push_number(out, b"", number)?;
     out.extend_from_slice(b" ")?;
     push_response(out, response)?;
+    out.push(b'\n')?;
+    Ok(())
+}
+
+/// Appends a whole output line of a reply on one key. No reply that has room for rows is made on the way.
+pub fn push_key_line(out: &mut Vec<u8>, number: u64, reply: KeyReply) -> Result<(), AllocError>
+    ensures { OnOk result (out.new.items ≡ out.old.items ++ numbered number (reply_text (reply_of reply))) }
+{
+    push_number(out, b"", number)?;
+    out.extend_from_slice(b" ")?;
+    push_key_reply(out, reply)?;
+    out.push(b'\n')?;
+    Ok(())
+}
+
+/// Appends a whole output line of a word.
+pub fn push_word_line(out: &mut Vec<u8>, number: u64, word: &[u8]) -> Result<(), AllocError>
+    ensures { OnOk result (out.new.items ≡ out.old.items ++ numbered number word.now) }
+{
+    push_number(out, b"", number)?;
+    out.extend_from_slice(b" ")?;
+    out.extend_from_slice(word)?;
     out.push(b'\n')?;
     Ok(())
 }

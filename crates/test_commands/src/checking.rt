@@ -7,10 +7,10 @@ use std::alloc::Global;
 use std::io::Read;
 
 /// A byte of an image, and what it is.
-type Byte = (usize, u8);
+pub(crate) type Byte = (usize, u8);
 
 /// The image of an index of 8 pages with the keys 1 to 15, in two leaves and an inner page, with these bytes changed.
-fn split(changes: &[Byte]) -> [u8; 2080] {
+pub(crate) fn split(changes: &[Byte]) -> [u8; 2080] {
     let mut bytes = [0; 2080];
     bytes[..8].copy_from_slice(b"BLNKIDX1");
     bytes[8] = 1;

@@ -2,11 +2,14 @@
 //! compared by `test_worked_scripts`.
 
 use crate::streams::Full;
-use bl_cli_commands::{CommandFault, check_file, load_file, replay_file, replay_script};
+use bl_cli_commands::{
+    CommandFault, Form, check_file, draw_file, load_file, reason_of, replay_file, replay_script,
+};
 use bl_model::Watched;
 use std::alloc::Global;
 use std::io;
 use std::io::{ErrorKind, Read};
+use std::test::Fail;
 
 /// Gives a text in pieces of at most 5 bytes, and then fails.
 #[derive(Drop)]
@@ -87,12 +90,14 @@ fn memory_or_the_output(rt: HostRuntime) {
     assert!(rt; is_as_told);
 }
 
-/// `check`, the loading of an image and `replay` say that reading the path fails, and write nothing.
+/// `check`, `draw`, the loading of an image and `replay` say that reading the path fails, and write nothing.
 fn is_no_file(rt: &HostRuntime, path: &str) -> bool {
     let mut writer = Watched::new(Vec::new(rt.alloc()));
     let checked = check_file(rt, path, &mut writer);
+    let drawn = draw_file(rt, path, Form::Text, &mut writer);
     let replayed = replay_file(rt, path, &mut writer);
     checked == Err(CommandFault::Read)
+        && drawn == Err(CommandFault::Read)
         && replayed == Err(CommandFault::Read)
         && load_file(rt, path).err() == Some(CommandFault::Read)
         && writer.into_inner().is_empty()
@@ -103,4 +108,46 @@ fn paths_that_are_no_file(rt: HostRuntime) {
     for path in ["/", "no such file", ""] {
         assert!(rt; is_no_file(&rt, path), "{path}");
     }
+}
+
+/// Whether the line behind that of a fault of the path is that one.
+fn is_reason(
+    rt: &HostRuntime,
+    path: &str,
+    fault: CommandFault,
+    wanted: Option<&str>,
+) -> Result<bool, Fail> {
+    let reason = reason_of(rt, path, fault)?;
+    Ok(match &reason {
+        Some(line) => wanted == Some(line.as_str()),
+        None => wanted.is_none(),
+    })
+}
+
+#[test]
+fn lines_that_name_a_file(rt: HostRuntime) -> Result<(), Fail> {
+    let cases = [
+        ("/", CommandFault::Read, Some("blink: /: is a folder")),
+        (
+            "no such file",
+            CommandFault::Read,
+            Some("blink: no such file: No such file or directory (os error 2)"),
+        ),
+        (
+            "s",
+            CommandFault::Script(7),
+            Some("blink: s: line 7 is no valid line there (see blink help replay)"),
+        ),
+        (
+            "i",
+            CommandFault::Unsound(8, 3),
+            Some("blink: i: not a sound image: page 3 breaks the rule that no page is dead"),
+        ),
+        ("i", CommandFault::Write, None),
+        ("i", CommandFault::Memory, None),
+    ];
+    for (path, fault, wanted) in cases {
+        assert!(rt; is_reason(&rt, path, fault, wanted)?, "{path}");
+    }
+    Ok(())
 }

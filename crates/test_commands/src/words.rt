@@ -23,6 +23,27 @@ fn invoked(alloc: Global, text: &str) -> Result<Option<Invocation>, Fail> {
 /// What a server asks for: its pages, workers and compressors, and the image that it begins with.
 type Served<'a> = (u32, u32, u32, Option<&'a str>);
 
+/// Whether a server is to say what it has counted.
+fn says_counts(alloc: Global, text: &str) -> Result<Option<bool>, Fail> {
+    Ok(match invoked(alloc, text)? {
+        Some(Invocation::Serve(server)) | Some(Invocation::Dump(server, _)) => Some(server.stats),
+        _ => None,
+    })
+}
+
+#[test]
+fn words_that_ask_for_counts(rt: HostRuntime) -> Result<(), Fail> {
+    for (text, wanted) in [
+        ("blink serve", Some(false)),
+        ("blink serve --stats", Some(true)),
+        ("blink dump --stats index.image", Some(true)),
+        ("blink check --stats index.image", None),
+    ] {
+        assert!(rt; says_counts(rt.alloc(), text)? == wanted, "{text}");
+    }
+    Ok(())
+}
+
 /// Whether a server is of that kind.
 fn is_server(server: &Server, served: Served<'_>) -> bool {
     let (pages, workers, compressors, image) = served;
@@ -122,6 +143,26 @@ fn words_that_name_a_file(rt: HostRuntime) -> Result<(), Fail> {
     Ok(())
 }
 
+/// Whether a picture is asked for, and whether as SVG.
+fn draws(alloc: Global, text: &str) -> Result<Option<bool>, Fail> {
+    Ok(match invoked(alloc, text)? {
+        Some(Invocation::Draw(file, svg)) if file.as_str() == "index.image" => Some(svg),
+        _ => None,
+    })
+}
+
+#[test]
+fn words_that_ask_for_a_picture(rt: HostRuntime) -> Result<(), Fail> {
+    for (text, wanted) in [
+        ("blink draw index.image", Some(false)),
+        ("blink draw index.image --svg", Some(true)),
+        ("blink draw --svg", None),
+    ] {
+        assert!(rt; draws(rt.alloc(), text)? == wanted, "{text}");
+    }
+    Ok(())
+}
+
 const REFUSED: [&str; 19] = [
     "blink",
     "blink dump",
@@ -176,26 +217,50 @@ fn fault_of(alloc: Global, failing: Failing) -> Result<DumpFault, Fail> {
     })
 }
 
-/// Whether that is the line of the fault, and its status.
-fn is_told(alloc: Global, fault: DumpFault, text: &str, status: u8) -> Result<bool, Fail> {
+/// Whether those are the two lines of the fault, and its status.
+fn is_told(
+    alloc: Global,
+    fault: DumpFault,
+    text: &str,
+    reason: &str,
+    status: u8,
+) -> Result<bool, Fail> {
     let words = format!(in alloc; "{fault}")?;
-    Ok(words.as_str() == text && fault.status() == status)
+    let says = match fault.reason(alloc)? {
+        Some(line) => line.as_str() == reason,
+        None => reason.is_empty(),
+    };
+    Ok(says && words.as_str() == text && fault.status() == status)
 }
 
 #[test]
 fn words_of_a_dump_that_fails(rt: HostRuntime) -> Result<(), Fail> {
-    for (failing, text, status) in [
-        (Failing::Memory, "blink: out of memory", 4),
-        (Failing::Make, "blink: write failed: cannot make i.new", 3),
-        (Failing::Fill, "blink: write failed: cannot write i.new", 3),
+    for (failing, text, reason, status) in [
+        (Failing::Memory, "blink: out of memory", "", 4),
+        (
+            Failing::Make,
+            "blink: write failed",
+            "blink: cannot make i.new",
+            3,
+        ),
+        (
+            Failing::Fill,
+            "blink: write failed",
+            "blink: cannot write i.new",
+            3,
+        ),
         (
             Failing::Rename,
-            "blink: write failed: cannot rename i.new",
+            "blink: write failed",
+            "blink: cannot rename i.new",
             3,
         ),
     ] {
         let fault = fault_of(rt.alloc(), failing)?;
-        assert!(rt; is_told(rt.alloc(), fault, text, status)?, "{text}");
+        assert!(rt;
+            is_told(rt.alloc(), fault, text, reason, status)?,
+            "{reason}"
+        );
     }
     Ok(())
 }

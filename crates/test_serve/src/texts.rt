@@ -163,8 +163,8 @@ fn a_thousand_changes_of_one_key(rt: HostRuntime) -> Result<(), Fail> {
     Ok(())
 }
 
-/// The lines of two rounds, and a line behind them.
-fn two_rounds(alloc: Global) -> Result<Vec<u8>, Fail> {
+/// The lines of two chunks, and a line behind them.
+fn two_chunks(alloc: Global) -> Result<Vec<u8>, Fail> {
     let mut input = Vec::new(alloc);
     for (lines, times) in [
         (b"insert 7 70\n".as_slice(), 1),
@@ -202,10 +202,10 @@ fn seen_by<R: Threads + Wait + Sync>(
     }
 }
 
-// The first round of a section has 4,096 lines and the second one twice as many: this section fills both, the second with its sync.
+// The first chunk of a section has 4,096 lines and the second one twice as many: this section fills both, the second with its sync.
 #[test]
-fn a_section_of_two_rounds(rt: HostRuntime) -> Result<(), Fail> {
-    let input = two_rounds(rt.alloc())?;
+fn a_section_of_two_chunks(rt: HostRuntime) -> Result<(), Fail> {
+    let input = two_chunks(rt.alloc())?;
     for workers in 1..4 {
         let seen = seen_by(&rt, rt.alloc(), input.as_slice(), workers);
         assert_eq!(rt; seen, Some(((true, 4_095, 8_192, true), 12_289, 1)));

@@ -15,7 +15,7 @@ invariant-loop g l = record {
   mid : List ℕ;
   consumed : Consumes (g.R.Read.remaining l.fn.reader.inner) (g.R.Read.remaining l.reader.inner) more;
   served : HasServed l.index l.fn.passes.items l.passes.items l.fn.totals l.totals (l.fn.ahead.source ++ more) mid asked l.text.items;
-  reads : EndsReading l.ahead.end (min l.round (2 ^ 64 - 1 - l.totals.requests)) l.ahead.lines rest mid l.ahead.source (IsAtEnd (g.R.Read.remaining l.reader.inner)) (l.reader.failed ≡ true);
+  reads : EndsReading l.ahead.end (min l.chunk (2 ^ 64 - 1 - l.totals.requests)) l.ahead.lines rest mid l.ahead.source (IsAtEnd (g.R.Read.remaining l.reader.inner)) (l.reader.failed ≡ true);
   malformed : l.totals.malformed ≤ l.totals.requests;
   desks : vec_len l.desks ≡ vec_len l.passes;
 }

@@ -1,5 +1,5 @@
 use Rattle.std.proofs.Common.{rules, refl, ◌≡◌, ◌∙◌, None, arith}
-use Rattle.bl_index.specs.Replies.{reply_of}
+use Rattle.bl_model.specs.Replies.{reply_of}
 use Rattle.bl_index.specs.Searching.{IsSearching}
 use Rattle.bl_index.proofs.Calls.{since_step, own_looks}
 use Rattle.bl_index.proofs.Silent.{gives_up}

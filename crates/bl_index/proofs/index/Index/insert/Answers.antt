@@ -5,7 +5,7 @@ use Rattle.bl_proc.specs.declared.kinds.Proc.TheVariants as proc
 use Rattle.bl_proc.specs.Processes.{answer_of}
 use Rattle.bl_store.specs.Hands.{known, WasRefused}
 use Rattle.bl_index.specs.Refused.{LacksForPage}
-use Rattle.bl_index.specs.Replies.{reply_of}
+use Rattle.bl_model.specs.Replies.{reply_of}
 use Rattle.bl_index.proofs.Taken.{same_pass}
 use Rattle.bl_index.proofs.Ends.{op_answered, op_beside, op_in_call, done_first}
 use Rattle.bl_model.specs.declared.operation.Op.TheVariants as op

@@ -1,0 +1,67 @@
+//! What a server says at its end. These lines are tested.
+
+use bl_image::Image;
+use bl_model::limits::MOST_PAGES;
+use bl_serve_lines::Totals;
+use std::alloc::{AllocError, Global};
+
+/// The pages of an index that has been closed.
+#[derive(Clone, Copy, Debug, PartialEq, Eq)]
+pub struct Usage {
+    /// Those in use, the anchor among them.
+    pub used: usize,
+    /// All of them.
+    pub all: usize,
+}
+
+/// The pages of an image.
+pub fn used_pages(image: &Image) -> Usage {
+    Usage {
+        used: image.pages.iter().filter(|page| page.is_some()).count(),
+        all: image.pages.len(),
+    }
+}
+
+/// The line of `--stats`; without the pages where there was no memory to close the index.
+pub fn stats_line(
+    alloc: Global,
+    totals: &Totals,
+    norooms: u64,
+    usage: Option<Usage>,
+) -> Result<String, AllocError> {
+    let requests = totals.requests;
+    let malformed = totals.malformed;
+    let sections = totals.sections;
+    let mut line = format!(in alloc;
+        "blink: requests {requests} malformed {malformed} sections {sections} noroom {norooms}"
+    )?;
+    if let Some(usage) = usage {
+        let pages = format!(in alloc; " pages {} of {}", usage.used, usage.all)?;
+        line.push_str(pages.as_str())?;
+    }
+    Ok(line)
+}
+
+/// The line for requests that found no room, and what helps: of an index that began with an image, which has as many pages as
+/// that, and of one with so many pages.
+pub fn noroom_line(
+    alloc: Global,
+    norooms: u64,
+    pages: u32,
+    has_image: bool,
+) -> Result<String, AllocError> {
+    let requests = if norooms == 1 { "request" } else { "requests" };
+    if has_image {
+        return format!(in alloc;
+            "blink: {norooms} {requests} found no room; an index has as many pages as its image"
+        );
+    }
+    if pages >= MOST_PAGES {
+        return format!(in alloc;
+            "blink: {norooms} {requests} found no room; {MOST_PAGES} pages are the most"
+        );
+    }
+    format!(in alloc;
+        "blink: {norooms} {requests} found no room; more --pages than {pages} may help"
+    )
+}

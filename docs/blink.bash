@@ -1,0 +1,33 @@
+# Completions of blink for bash. ./install puts this file where bash looks for it.
+
+_blink() {
+    local word=${COMP_WORDS[COMP_CWORD]} before=${COMP_WORDS[COMP_CWORD - 1]} command=${COMP_WORDS[1]:-} words=
+    COMPREPLY=()
+    if [ "$COMP_CWORD" -eq 1 ]; then
+        words='serve dump check draw replay help --help --version'
+    else
+        case $before in
+            --pages | --workers | --compressors) return ;;
+            --image)
+                mapfile -t COMPREPLY < <(compgen -f -- "$word")
+                return
+                ;;
+        esac
+        case $command in
+            serve | dump) words='--pages --workers --compressors --image --stats --help' ;;
+            draw) words='--svg --help' ;;
+            check | replay) words='--help' ;;
+            help) words='serve dump check draw replay help' ;;
+        esac
+    fi
+    mapfile -t COMPREPLY < <(compgen -W "$words" -- "$word")
+    case $command in
+        dump | check | draw | replay)
+            local files
+            mapfile -t files < <(compgen -f -- "$word")
+            COMPREPLY+=("${files[@]}")
+            ;;
+    esac
+}
+
+complete -o filenames -F _blink blink
