@@ -64,14 +64,23 @@ fn delete<R: Wait>(rt: &R, index: &Index, hints: &Hints, pass: &mut Pass) -> (Ke
     }
 }
 
-/// What the steps of a merge answer: whether a hint was followed, the deletion, the rows of the only leaf, again whether one
-/// was followed, the rows, and whether one more was followed.
+/// Whether two gets lead to the leaf, the anchor's and its own: so the tree has one level.
+fn has_one_level(index: &Index, pass: &mut Pass) -> bool
+    requires { IsPassOf index.now pass.old }
+    ensures { IsPassOf index.now pass.new }
+{
+    index.find(pass, 12, 2).is_ok()
+}
+
+/// What the steps of a merge answer: whether a hint was followed, whether the tree has one level, the deletion, again whether one
+/// was followed, the rows of the only leaf, whether the tree has one level now, and whether one more hint was followed.
 type Steps = (
     bool,
+    bool,
     (KeyReply, bool),
-    Option<usize>,
     bool,
     Option<usize>,
+    bool,
     bool,
 );
 
@@ -82,24 +91,25 @@ fn merge<R: Wait>(rt: &R, index: &Index, hints: &Hints, pass: &mut Pass) -> Step
     fill(rt, index, hints, pass);
     (
         follow_hint(rt, index, hints, pass),
+        has_one_level(index, pass),
         delete(rt, index, hints, pass),
-        rows_of_the_only_leaf(index, pass),
         follow_hint(rt, index, hints, pass),
         rows_of_the_only_leaf(index, pass),
+        has_one_level(index, pass),
         follow_hint(rt, index, hints, pass),
     )
 }
 
-// A compressor's first step lists the upper leaf. A deletion leaves that thin, and its hint waits: the next step merges the
-// two leaves, and the one that stays has all 14 rows. Then no hint waits.
+// A compressor's first step lists the upper leaf, so the tree has two levels. A deletion leaves that leaf thin, and its hint waits: the
+// next step merges the two leaves, of which the one that stays has all 14 rows, and takes the top level away. Then no hint waits.
 #[test]
-fn a_compressor_merges_two_leaves(rt: HostRuntime) -> Result<(), Fail> {
+fn a_compressor_merges_two_leaves_and_takes_the_level_away(rt: HostRuntime) -> Result<(), Fail> {
     let hints = Hints::new(rt.alloc())?;
     let steps = match opened(rt.alloc()) {
         Some((index, mut pass)) => Some(merge(&rt, &index, &hints, &mut pass)),
         None => None,
     };
     let deleted = (KeyReply::Deleted(90), true);
-    assert!(rt; steps == Some((true, deleted, None, true, Some(14), false)));
+    assert!(rt; steps == Some((true, false, deleted, true, Some(14), true, false)));
     Ok(())
 }

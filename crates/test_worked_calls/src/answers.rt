@@ -1,7 +1,7 @@
 //! What calls get, in words.
 
 use bl_check::{Fault, Report};
-use bl_index::{CloseFault, Hint, KeyReply, OpenFault, OutOfTurns, ScanFault};
+use bl_index::{CloseFault, Hint, KeyReply, Lowered, OpenFault, OutOfTurns, ScanFault};
 use bl_model::Reply;
 use bl_proc::{Answer, Posted, Squeezed};
 use bl_serve_lines::print::push_number;
@@ -34,6 +34,11 @@ pub fn compressed(
     (squeezed, hint): (Squeezed, Option<Hint>),
 ) -> Result<Vec<u8>, AllocError> {
     told(alloc, &Answer::Compress(squeezed, hint))
+}
+
+/// What a lowering got.
+pub fn lowered(alloc: Global, lowered: Lowered) -> Result<Vec<u8>, AllocError> {
+    told(alloc, &Answer::Lower(lowered))
 }
 
 /// What a search got.

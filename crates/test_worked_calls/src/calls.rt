@@ -36,6 +36,7 @@ pub enum PassCall {
     Scan(u64, Option<u64>, u32),
     Post(Hint),
     Compress(Hint),
+    Lower,
     Sweep,
     Lacks,
 }
@@ -126,11 +127,7 @@ fn scan_of(from: &str, end: &str, turns: &str) -> Option<PassCall> {
 }
 
 fn near_of(from: &str, page: &str, turns: &str) -> Option<PassCall> {
-    Some(PassCall::Near(
-        from.parse().ok()?,
-        page.parse().ok()?,
-        turns.parse().ok()?,
-    ))
+    Some(PassCall::Near(from.parse().ok()?, page.parse().ok()?, turns.parse().ok()?))
 }
 
 /// A call that says nothing of the map.
@@ -138,6 +135,7 @@ fn work_call(words: &[&str]) -> Option<PassCall> {
     match *words {
         ["sweep"] => Some(PassCall::Sweep),
         ["lacks"] => Some(PassCall::Lacks),
+        ["lower"] => Some(PassCall::Lower),
         [call, level, key] => helper_of(call, level_of(level)?, key.parse().ok()?),
         _ => None,
     }

@@ -13,6 +13,7 @@
 //! | `PASS near FROM PAGE TURNS` | the reply of a part that has that page in mind, or `out of turns`; and the page that it leaves for the next one |
 //! | `PASS scan FROM END TURNS`, `PASS scan-all FROM TURNS` | `done`, or where it ran out of turns; and all rows that scans have listed in this index |
 //! | `PASS post LEVEL KEY`, `PASS compress LEVEL KEY` | the answer, and the hint beside it. A post is by a hint to post, and a compression by one of a thin page; `post-thin` and `compress-post` are by the other kind |
+//! | `PASS lower` | the answer |
 //! | `PASS sweep` | how much was released |
 //! | `PASS lacks` | whether frames are scarce |
 //! | `patience` | that of the index |

@@ -2,7 +2,9 @@
 
 ghost use Rattle.bl_index.specs.Calls.{IsPassOf};
 
-use crate::answers::{changed, compressed, found, listed, listed_near, posted, scanned, yes};
+use crate::answers::{
+    changed, compressed, found, listed, listed_near, lowered, posted, scanned, yes,
+};
 use crate::calls::PassCall;
 use crate::races::{Race, raced};
 use bl_check::Quiet;
@@ -49,6 +51,7 @@ fn answer<R: Wait>(
         }
         PassCall::Post(hint) => posted(alloc, index.post(rt, pass, hint)),
         PassCall::Compress(hint) => compressed(alloc, index.compress(rt, pass, hint)),
+        PassCall::Lower => lowered(alloc, index.lower(rt, pass)),
         PassCall::Sweep => count(alloc, u64::from(index.sweep(pass))),
         PassCall::Lacks => yes(alloc, index.lacks_frames(pass)),
     }
