@@ -53,10 +53,11 @@ fn prints(alloc: Global, bytes: &[u8], line: &[u8], is_sound: bool) -> bool {
     sound == Ok(is_sound) && writer.into_inner().as_slice() == line
 }
 
-// The sound image, and images with a damage: the version; page 1's bound; page 2's link; a page number in page 3.
+// The sound image, and images with a damage: the version; page 1's bound; page 2's link; a page number in page 3; a dead
+// leaf without a link in page 5.
 #[test]
 fn images_and_their_lines(rt: HostRuntime) {
-    let cases: [(&[Byte], &[u8], bool); 5] = [
+    let cases: [(&[Byte], &[u8], bool); 6] = [
         (
             &[],
             b"ok rows 15 leaves 2 inners 1 levels 2 unposted 0 thin 0\n",
@@ -66,6 +67,7 @@ fn images_and_their_lines(rt: HostRuntime) {
         (&[(304, 10)], b"fault C5 page 1\n", false),
         (&[(568, 1)], b"fault C5 page 2\n", false),
         (&[(856, 1)], b"fault C7 page 3\n", false),
+        (&[(1316, 4), (1320, 9)], b"fault C8 page 5\n", false),
     ];
     for (changes, line, is_sound) in cases {
         assert!(rt; prints(rt.alloc(), &split(changes), line, is_sound));
