@@ -1,6 +1,6 @@
 -- What a part tells its caller.
-use Rattle.std.proofs.Common.{ℕ, ◌≡◌, ◌+◌, Bool, true, false, List, None, refl, sym, subst, ◌∙◌}
-use Rattle.std.specs.Prelude.{◌↔◌, IsTrue}
+use Rattle.std.proofs.Common.{ℕ, ◌≡◌, ◌+◌, Bool, true, false, List, Option, None, Some, refl, sym, subst, ◌∙◌}
+use Rattle.std.specs.Prelude.{◌↔◌, IsTrue, MatchOption}
 use Rattle.atomic_table.specs.declared.shared.Seat.{Seat}
 use Rattle.bl_layout.specs.declared.layout.Layout.{Layout}
 use Rattle.bl_model.specs.declared.operation.Op.TheVariants as op
@@ -133,3 +133,8 @@ module _ (l : Layout) (pass from : ℕ) (old : Mine) (h h' : Seat (Unit {0}) (Vi
     bounded = at_answer l.pages pass (old.number + 1) _ (known h) (known h') has.since.named has.since.number has.last ended.0;
     looks = own_looks pass old (known h) (known h').trail has.since looks;
   }
+
+-- what is said where there is none
+pub none_given : {A : Type 0} {P : Type 0} (Q : A → Type 0) (r : Option A) → r ≡ None → P → MatchOption r P Q
+none_given Q None is p = p
+none_given Q (Some a) is p = let no : ⊥ = cc in absurd no

@@ -252,13 +252,16 @@ impl Index {
         ensures came { MatchOption result (HasGivenUp self.now.store.layout hand.old.number turns (known hand.old.seat) hand.new.seat) (HasLeaf self.now.store.layout hand.old.number from (known hand.old.seat) hand.new.seat) }
     {
         let way = self.set_off(hand, from, near);
+        // What the call gives is taken apart, so that a leaf that is found at once does not go by its memory.
         if turns == 0 {
-            return self.seek_leaf(hand, from, way, 0);
+            let glance = self.seek_leaf(hand, from, way, 0)?;
+            return Some(glance);
         }
-        match self.list_on(hand, from, way) {
-            Reached::Further(next) => self.seek_leaf(hand, from, next, turns - 1),
-            Reached::Leaf(glance) => Some(glance),
-        }
+        let glance = match self.list_on(hand, from, way) {
+            Reached::Further(next) => self.seek_leaf(hand, from, next, turns - 1)?,
+            Reached::Leaf(glance) => glance,
+        };
+        Some(glance)
     }
 
     /// The part, which has its leaf, ends.

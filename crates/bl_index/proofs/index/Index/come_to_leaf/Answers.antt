@@ -1,30 +1,43 @@
 use Rattle.std.proofs.Common.{rules, ℕ, refl, sym, subst, ◌+◌, ◌-◌, ◌≡◌, ◌∙◌, arith}
-use Rattle.std.specs.Prelude.{MatchOption}
 use Rattle.bl_proc.specs.declared.parts.PartStage.TheVariants.{Descending, Ending}
 use Rattle.bl_store.specs.Hands.{known}
-use Rattle.bl_index.specs.Parts.{HasLeaf, HasGivenUp}
+use Rattle.bl_index.specs.Parts.{HasGivenUp}
 use Rattle.bl_index.proofs.Calls.{since_step}
-use Rattle.bl_index.proofs.Listings.{part_under_way, part_is_search}
+use Rattle.bl_index.proofs.Listings.{part_under_way, part_is_search, none_given}
 use Rattle.bl_index.proofs.Paces.{at_step, at_last}
 use Rattle.bl_index.proofs.index.Index.come_to_leaf.Goals as goal
 
-pub returns-then-turns-eq0-clause-came : goal.returns-then-turns-eq0-clause-came
-returns-then-turns-eq0-clause-came c =
+pub returns-in_err-glance-clause-came : goal.returns-in_err-glance-clause-came
+returns-in_err-glance-clause-came c =
     let l = c.args.self.now.store.layout in let old = known c.args.hand.now.seat in
     let off = c.set_off-way.ensures in
-    let came = c.seek_leaf.ensures.came old c.args.hand.now.number 0 off.begun off.turn in
-    subst (λ (z : ℕ). MatchOption c.seek_leaf.result (HasGivenUp l c.args.hand.now.number z old c.seek_leaf.new.hand.seat) (HasLeaf l c.args.hand.now.number c.args.from old c.seek_leaf.new.hand.seat)) (let z : 0 + 0 ≡ c.args.turns = omega (arith, c.if-turns-eq0.true) in z) came
+    let came = c.in_err-glance.ensures.came old c.args.hand.now.number 0 off.begun off.turn in
+    none_given _ c.from_residual.result c.from_residual.ensures (subst (λ (z : ℕ). HasGivenUp l c.args.hand.now.number z old c.seek_leaf.new.hand.seat) (let z : 0 + 0 ≡ c.args.turns = omega (arith, c.if-turns-eq0.true) in z) came)
 
-pub returns-in-Further-clause-came : goal.returns-in-Further-clause-came
-returns-in-Further-clause-came c =
+pub returns-then-turns-eq0-clause-came : goal.returns-then-turns-eq0-clause-came
+returns-then-turns-eq0-clause-came c =
+    let off = c.set_off-way.ensures in
+    c.in_ok-glance.ensures.came (known c.args.hand.now.seat) c.args.hand.now.number 0 off.begun off.turn
+
+pub returns-in_err-glance-in-Further-clause-came : goal.returns-in_err-glance-in-Further-clause-came
+returns-in_err-glance-in-Further-clause-came c =
     let l = c.args.self.now.store.layout in let old = known c.args.hand.now.seat in
     let off = c.set_off-way.ensures in
     let went = c.in-Further.ensures.got in
     let process = c.in-Further.ensures.reached in
     let since = since_step _ _ _ _ _ off.begun went in
     let turn = at_step _ _ _ _ _ off.begun.named off.begun.number off.turn _ _ process.pages went (part_is_search c.args.from (Descending c.in-Further.next) _ process.state) (part_under_way c.args.from c.in-Further.next _ process.state) in
-    let came = c.seek_leaf-in-Further.ensures.came old c.args.hand.now.number 1 since turn in
-    subst (λ (z : ℕ). MatchOption c.seek_leaf-in-Further.result (HasGivenUp l c.args.hand.now.number z old c.seek_leaf-in-Further.new.hand.seat) (HasLeaf l c.args.hand.now.number c.args.from old c.seek_leaf-in-Further.new.hand.seat)) (let z : 1 + (c.args.turns - 1) ≡ c.args.turns = omega (arith, c.if-turns-eq0.false) in z) came
+    let came = c.in_err-glance-in-Further.ensures.came old c.args.hand.now.number 1 since turn in
+    none_given _ c.from_residual-in_err-glance-in-Further.result c.from_residual-in_err-glance-in-Further.ensures (subst (λ (z : ℕ). HasGivenUp l c.args.hand.now.number z old c.seek_leaf-in-Further.new.hand.seat) (let z : 1 + (c.args.turns - 1) ≡ c.args.turns = omega (arith, c.if-turns-eq0.false) in z) came)
+
+pub returns-in_ok-glance-in-Further-clause-came : goal.returns-in_ok-glance-in-Further-clause-came
+returns-in_ok-glance-in-Further-clause-came c =
+    let off = c.set_off-way.ensures in
+    let went = c.in-Further.ensures.got in
+    let process = c.in-Further.ensures.reached in
+    let since = since_step _ _ _ _ _ off.begun went in
+    let turn = at_step _ _ _ _ _ off.begun.named off.begun.number off.turn _ _ process.pages went (part_is_search c.args.from (Descending c.in-Further.next) _ process.state) (part_under_way c.args.from c.in-Further.next _ process.state) in
+    c.in_ok-glance-in-Further.ensures.came (known c.args.hand.now.seat) c.args.hand.now.number 1 since turn
 
 pub returns-in-Leaf-clause-came : goal.returns-in-Leaf-clause-came
 returns-in-Leaf-clause-came c =
