@@ -1,8 +1,6 @@
 //! How keys are reached through work that is half done.
 
-use crate::worlds::{
-    compress, delete, filled, insert, lower, posted, run, split, step, thinned,
-};
+use crate::worlds::{compress, delete, filled, insert, lower, posted, run, split, step, thinned};
 use bl_world::Turn;
 use std::alloc::Global;
 use std::test::Fail;
