@@ -20,8 +20,8 @@ mod walking;
 
 pub use bl_page::Words;
 pub use bl_proc_base::{
-    Action, Answer, Hint, Level, Lowered, Posted, Process, Reader, Reclaimed, Seen, Squeezed, Step, row_in,
-    step_in,
+    Action, Answer, Hint, Level, Lowered, Posted, Process, Reader, Reclaimed, Seen, Squeezed, Step,
+    row_in, step_in,
 };
 pub use bl_proc_compress::{Compress, CompressReply, CompressStage};
 pub use deleting::{Delete, DeleteReply, DeleteStage, Removed};
