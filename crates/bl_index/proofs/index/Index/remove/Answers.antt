@@ -14,6 +14,7 @@ use Rattle.bl_index.specs.Runs.{IsOn, IsSince}
 use Rattle.bl_index.proofs.Standing.{goes_put, same_goes, on_itself, on_after, opens_at}
 use Rattle.bl_index.proofs.Inserted.{outcome_by}
 use Rattle.bl_index.proofs.Deleted.{deleting, removing_courses, stands_removed, opens_removed, has_deleted}
+use Rattle.bl_index.proofs.Rooms.{refused_on}
 use Rattle.bl_index.proofs.index.Index.remove.Goals as goal
 
 pub words_without-requires-clause-page : goal.words_without-requires-clause-page
@@ -68,4 +69,4 @@ returns-else-changed-clause-deleted c = λ pass old since reply hint e.
     (ap (λ (z : Bool). deleted_answer (delete_reply removed (outcome_by z))) c.if-changed.false ∙ e)
 
 pub returns-else-changed-clause-no_room : goal.returns-else-changed-clause-no_room
-returns-else-changed-clause-no_room c = λ none. c.conclude.ensures.refusal ∙ c.replace-changed.ensures.asked c.if-changed.false
+returns-else-changed-clause-no_room c = λ none. refused_on _ _ 0 1 c.conclude.ensures.refusal (c.replace-changed.ensures.asked c.if-changed.false)

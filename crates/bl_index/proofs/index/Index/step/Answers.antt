@@ -177,4 +177,4 @@ pub returns-in-End-clause-after : goal.returns-in-End-clause-after
 returns-in-End-clause-after g c =
     let laws = g.met.P.Kind in
     let next = laws.acts c.args.process.now ∙ (sym c.next.ensures ∙ c.in-End.is) in
-    (next, refl, refl, has_none c.args.hand.now.seat c.args.held (g.P.Kind.proc_of c.args.process.now) act.End next tt (g.P.Kind.wants c.args.process.now) c.requires.stock, refl)
+    (next, refl, refl, has_none c.args.hand.now.seat c.args.held (g.P.Kind.proc_of c.args.process.now) act.End next tt (g.P.Kind.wants c.args.process.now) c.requires.stock, (refl, (refl, refl, refl)))
