@@ -57,4 +57,4 @@ returns-else-changed-clause-no_room c = λ none.
     let goes = c.replace_spread-changed.ensures.refused c.if-changed.false in
     let d = known c.args.hand.now.seat in let e = known c.replace_spread-changed.new.hand.seat in let f = known c.conclude.new.hand.seat in
     let latch = keeps_both d e f (goes_keeps seen.Refused d e goes (put_latches_not d _ c.args.at c.requires.page.0 (c.requires.page.2.state) refl)) c.conclude.ensures.keeps in
-    inl (refused_on _ _ 0 1 c.conclude.ensures.refusal (c.replace_spread-changed.ensures.asked c.if-changed.false), keeps_held 0 c.args.errand.key HasRoom d f latch (on_held _ d _ c.requires.page.2))
+    inl (refused_on c.replace_spread-changed.new.hand.seat c.conclude.new.hand.seat 0 1 c.conclude.ensures.refusal (c.replace_spread-changed.ensures.asked c.if-changed.false), keeps_held 0 c.args.errand.key HasRoom d f latch (on_held _ d _ c.requires.page.2))

@@ -38,4 +38,4 @@ returns-clause-inserted c = λ pass old since reply hint e.
 pub returns-clause-no_room : goal.returns-clause-no_room
 returns-clause-no_room c = λ none.
     let asked = c.part_full-outcome.ensures.asked (insert_refused _ (sym c.inserted_by.ensures ∙ none)) in
-    inr (refused_on _ _ 1 2 c.conclude.ensures.refusal asked.0, keeps_held 0 c.args.errand.key IsFull (known c.part_full-outcome.new.hand.seat) (known c.conclude.new.hand.seat) c.conclude.ensures.keeps asked.1)
+    inr (refused_on c.part_full-outcome.new.hand.seat c.conclude.new.hand.seat 1 2 c.conclude.ensures.refusal asked.0, keeps_held 0 c.args.errand.key IsFull (known c.part_full-outcome.new.hand.seat) (known c.conclude.new.hand.seat) c.conclude.ensures.keeps asked.1)

@@ -69,4 +69,4 @@ returns-else-changed-clause-deleted c = λ pass old since reply hint e.
     (ap (λ (z : Bool). deleted_answer (delete_reply removed (outcome_by z))) c.if-changed.false ∙ e)
 
 pub returns-else-changed-clause-no_room : goal.returns-else-changed-clause-no_room
-returns-else-changed-clause-no_room c = λ none. refused_on _ _ 0 1 c.conclude.ensures.refusal (c.replace-changed.ensures.asked c.if-changed.false)
+returns-else-changed-clause-no_room c = λ none. refused_on c.replace-changed.new.hand.seat c.conclude.new.hand.seat 0 1 c.conclude.ensures.refusal (c.replace-changed.ensures.asked c.if-changed.false)
