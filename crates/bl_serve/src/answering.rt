@@ -44,13 +44,7 @@ fn find<R: Wait>(rt: &R, index: &Index, pass: &mut Pass, key: u64) -> KeyReply
 
 /// The rows of one leaf from a key on. It looks first at the page that is near, if there is one, and leaves there the page to which
 /// the leaf links.
-fn part<R: Wait>(
-    rt: &R,
-    index: &Index,
-    pass: &mut Pass,
-    from: u64,
-    near: &mut Option<u32>,
-) -> Reply
+fn part<R: Wait>(rt: &R, index: &Index, pass: &mut Pass, from: u64, near: &mut Option<u32>) -> Reply
     requires { IsPassOf index.now pass.old }
     ensures same { IsSamePass pass.old pass.new }
     ensures works { Works (first_of index.now) (number_of pass.old) (op.Part from) result (trail pass.old) (trail pass.new) }

@@ -126,11 +126,7 @@ fn scan_of(from: &str, end: &str, turns: &str) -> Option<PassCall> {
 }
 
 fn near_of(from: &str, page: &str, turns: &str) -> Option<PassCall> {
-    Some(PassCall::Near(
-        from.parse().ok()?,
-        page.parse().ok()?,
-        turns.parse().ok()?,
-    ))
+    Some(PassCall::Near(from.parse().ok()?, page.parse().ok()?, turns.parse().ok()?))
 }
 
 /// A call that says nothing of the map.
