@@ -1,11 +1,11 @@
 -- What a scan reads of a leaf's words: that it begins with a key, and that it ends below the scan's end.
-use Rattle.std.proofs.Common.{◌≡◌, ℕ, zero, suc, ◌+◌, ◌*◌, ◌/◌, ◌^◌, ◌<◌, ◌≤◌, true, Option, Some, None, List, [], ◌∷◌, length, get_or, refl, sym, ap, ◌∙◌, subst, arith}
+use Rattle.std.proofs.Common.{◌≡◌, ℕ, zero, suc, ◌/◌, ◌^◌, ◌<◌, ◌≤◌, Option, Some, None, List, [], ◌∷◌, length, get_or, refl, sym, ap, ◌∙◌, subst, arith}
 use Rattle.std.proofs.lemmas.Bool.Decides.{nat_tests}
 use Rattle.bl_model.specs.Rows.{key_at}
 use Rattle.bl_model.proofs.Parts.{IsPlaceOf}
 use Rattle.bl_page.specs.declared.page.Page.{Page}
 use Rattle.bl_page.specs.declared.page.Page.TheVariants as page
-use Rattle.bl_page.specs.Faults.{kind_in, count_in, pairs_of, HasPairs}
+use Rattle.bl_page.specs.Faults.{kind_in, count_in, pairs_of}
 use Rattle.bl_page.specs.Pairs.{AllWithin, end_of}
 use Rattle.bl_page.specs.Words.{words_of}
 use Rattle.bl_page.proofs.FaultLemmas.{fits}

@@ -1,4 +1,4 @@
-use Rattle.std.proofs.Common.{ℕ, List, ◌≡◌, ◌+◌, ◌-◌, ◌*◌, ◌<◌, ◌++◌, get_or, take, drop, sym, subst, ap, ◌∙◌, append-nil, refl, arith}
+use Rattle.std.proofs.Common.{ℕ, ◌≡◌, ◌+◌, ◌-◌, ◌*◌, ◌<◌, ◌++◌, get_or, take, drop, sym, subst, ap, ◌∙◌, arith}
 use Rattle.bl_page.specs.Faults.{pairs_of, count_in}
 use Rattle.bl_index.proofs.Picked.{count_is, taken_more}
 use Rattle.bl_index.proofs.leaf_rows.append_between.Goals as goal

@@ -1,4 +1,4 @@
-use Rattle.std.proofs.Common.{ℕ, ◌≡◌, ◌≤◌, ◌%◌, ◌^◌, get_or, sym, subst, ap, ◌∙◌, arith}
+use Rattle.std.proofs.Common.{ℕ, ◌≡◌, ◌≤◌, ◌%◌, get_or, sym, subst, ap, ◌∙◌, arith}
 use Rattle.bl_model.proofs.Parts.{IsPlaceOf}
 use Rattle.bl_page.specs.Faults.{pairs_of, count_in, HasPairs}
 use Rattle.bl_proc_base.proofs.Spellings.{tree_pairs}

@@ -1,12 +1,9 @@
-use Rattle.std.proofs.Common.{◌≡◌, ◌-◌, ◌<◌, ◌≤◌, ◌++◌, take, drop, length, sym, ap, subst, ◌∙◌, arith}
-use Rattle.std.specs.Prelude.{vec_len}
-use Rattle.std.specs.Vec.{vec_capacity}
+use Rattle.std.proofs.Common.{◌≡◌, ◌-◌, ◌++◌, take, drop, sym, ap, subst, ◌∙◌, arith}
 use Rattle.bl_page.specs.Faults.{HasPairs, pairs_of}
 use Rattle.bl_store.specs.Hands.{known, read_words}
 use Rattle.bl_store.specs.declared.store.Hand.{Hand}
 use Rattle.bl_index_rule.specs.declared.known.Mine.{Mine}
 use Rattle.bl_index_rule.specs.Told.{ends}
-use Rattle.bl_index.specs.Scans.{IsBelow}
 use Rattle.bl_index.proofs.Appended.{leaf_pairs, part_appends, part_leaves}
 use Rattle.bl_index.proofs.Picked.{between_rows, between_length}
 use Rattle.bl_index.proofs.Ranges.{below_less}

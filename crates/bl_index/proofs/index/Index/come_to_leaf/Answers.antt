@@ -1,4 +1,4 @@
-use Rattle.std.proofs.Common.{rules, ℕ, refl, sym, subst, ◌+◌, ◌-◌, ◌≡◌, ◌∙◌, arith}
+use Rattle.std.proofs.Common.{rules, ℕ, subst, ◌+◌, ◌-◌, ◌≡◌, arith}
 use Rattle.bl_proc.specs.declared.parts.PartStage.TheVariants.{Descending, Ending}
 use Rattle.bl_store.specs.Hands.{known}
 use Rattle.bl_index.specs.Parts.{HasGivenUp}

@@ -1,4 +1,4 @@
-use Rattle.std.proofs.Common.{◌∙◌, sym, subst, Some}
+use Rattle.std.proofs.Common.{◌∙◌, sym, subst}
 use Rattle.bl_proc_base.specs.declared.answers.Answer.TheVariants as answer
 use Rattle.bl_proc_base.specs.declared.lowering.Lowered.{Lowered}
 use Rattle.bl_proc_unique.specs.Refusals.{IsNoRoom, LowerRefused}

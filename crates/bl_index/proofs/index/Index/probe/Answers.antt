@@ -1,4 +1,4 @@
-use Rattle.std.proofs.Common.{Bool, refl, ap}
+use Rattle.std.proofs.Common.{refl, ap}
 use Rattle.bl_proc.specs.Processes.{next_of}
 use Rattle.bl_proc.specs.declared.parts.PartStage.TheVariants.{Probing}
 use Rattle.bl_proc_base.specs.declared.acts.Seen.TheVariants as seen

@@ -1,5 +1,5 @@
 use Rattle.std.proofs.Common.{Some, [], sym, ◌∙◌, append-nil}
-use Rattle.bl_index.proofs.PartByPart.{scans_none, over, nothing_done}
+use Rattle.bl_index.proofs.PartByPart.{scans_none, over}
 use Rattle.bl_index.proofs.index.Index.scan_into.Goals as goal
 
 pub returns-then-not-is_below-clause-scans : goal.returns-then-not-is_below-clause-scans
