@@ -23,11 +23,20 @@ fn invoked(alloc: Global, text: &str) -> Result<Option<Invocation>, Fail> {
 /// What a server asks for: its pages, workers and compressors, and the image that it begins with.
 type Served<'a> = (u32, u32, u32, Option<&'a str>);
 
-/// Whether a server is to say what it has counted.
+/// Whether a server is asked for, and whether it is to say what it has counted.
+fn counts(invocation: &Invocation) -> Option<bool> {
+    match invocation {
+        Invocation::Serve(server) => Some(server.stats),
+        Invocation::Dump(server, _) => Some(server.stats),
+        _ => None,
+    }
+}
+
+/// The same of what a command line asks for.
 fn says_counts(alloc: Global, text: &str) -> Result<Option<bool>, Fail> {
     Ok(match invoked(alloc, text)? {
-        Some(Invocation::Serve(server)) | Some(Invocation::Dump(server, _)) => Some(server.stats),
-        _ => None,
+        Some(invocation) => counts(&invocation),
+        None => None,
     })
 }
 
@@ -143,11 +152,19 @@ fn words_that_name_a_file(rt: HostRuntime) -> Result<(), Fail> {
     Ok(())
 }
 
-/// Whether a picture is asked for, and whether as SVG.
+/// Whether a picture of `index.image` is asked for, and whether as SVG.
+fn pictures(invocation: &Invocation) -> Option<bool> {
+    match invocation {
+        Invocation::Draw(file, svg) if file.as_str() == "index.image" => Some(*svg),
+        _ => None,
+    }
+}
+
+/// The same of what a command line asks for.
 fn draws(alloc: Global, text: &str) -> Result<Option<bool>, Fail> {
     Ok(match invoked(alloc, text)? {
-        Some(Invocation::Draw(file, svg)) if file.as_str() == "index.image" => Some(svg),
-        _ => None,
+        Some(invocation) => pictures(&invocation),
+        None => None,
     })
 }
 

@@ -33,7 +33,7 @@ fn is_bad_at(alloc: Global, text: &[u8], kinds: Kinds, line: u64) -> bool {
 
 #[test]
 fn kinds_that_are_not_there(rt: HostRuntime) {
-    let texts: [&[u8]; 4] = [
+    let texts: [&[u8]; 5] = [
         b"pages 4\npart 1\n",
         b"pages 4\npartnear 1 0\n",
         b"pages 4\ncompress 1 9\n",
