@@ -11,7 +11,7 @@ use Rattle.bl_page.specs.Machine.Act.{Begin, End, Get, Put, Latch}
 use Rattle.bl_claims.specs.Nodes.{Covers}
 use Rattle.bl_claims.specs.Pages.{node_of, roots_of}
 use Rattle.bl_claims.specs.Trails.{Mark, Trail}
-use Rattle.bl_claims.specs.Meanings.{RaisesOnly, HasRaised, MeansDone, MeansAlready, MeansStale}
+use Rattle.bl_claims.specs.Meanings.{RaisesOnly, HasRaised, WritesBack, MeansDone, MeansAlready, MeansStale}
 
 abbrev plain : Act Page Reply → Mark
 plain act = record { event = record { process = record { pass = 1; number = 0 }; act = act }; saw = None; said = None }
@@ -43,8 +43,6 @@ listed_before anchor parent level covers lists = record {
       split = refl;
       first = nothing_yet anchor 1;
       latched = refl;
-      wrote = [];
-      puts_are = tt;
       no_more = refl;
       kept = λ m c o. (let e : Get 3 ≡ Act.Open 3 = ap (λ z. z.event.act) (only (got 3 parent) m c) ∙ o in cc);
     };
@@ -79,7 +77,7 @@ module _ (anchor parent left right new : Page) (level : (node_of parent).shape.l
   one_page : (page : Page) → Contains (new ∷ []) page → new ≡ page
   one_page page c = elim (Contains-push_cases [] new page c) [ inl i ↦ absurd (omega (arith, i.1)) | inr e ↦ e ]
 
-  entered : MeansDone 1 9 (plain Begin ∷ got 0 anchor ∷ plain (Latch 3) ∷ got 3 parent ∷ got 1 left ∷ got 2 right ∷ plain (Put 3 new) ∷ plain (Act.Open 3) ∷ plain (End None) ∷ [])
+  entered : MeansDone 1 9 None (plain Begin ∷ got 0 anchor ∷ plain (Latch 3) ∷ got 3 parent ∷ got 1 left ∷ got 2 right ∷ plain (Put 3 new) ∷ plain (Act.Open 3) ∷ plain (End None) ∷ [])
   unfolding walked
   entered = record {
     parent = record {
@@ -92,8 +90,6 @@ module _ (anchor parent left right new : Page) (level : (node_of parent).shape.l
         split = refl;
         first = nothing_yet anchor 1;
         latched = refl;
-        wrote = new ∷ [];
-        puts_are = ((3, refl), tt);
         no_more = refl;
         kept = no_opening;
       };
@@ -104,7 +100,9 @@ module _ (anchor parent left right new : Page) (level : (node_of parent).shape.l
     };
     child = record { at = 2; child = right; got = record { mark = got 2 right; is = (2, omega arith, refl); act = refl; saw = refl }; level_is = ap suc below; covers = right_covers };
     low = low;
-    puts = record {
+    pages = new ∷ [];
+    writes = WritesBack.Whole new;
+    lists = record {
       no_other = λ j c page m e. let f : (if j == 0 then Some 1 else if j == 9 then Some 2 else None) ≡ Some c = sym (is j) ∙ (ap (λ z. (node_of z).look j) (one_page page m) ∙ e) in
           elim (cases_eq j 0) [
             | inl z ↦ inl (was j ∙ grind (arith, f))

@@ -1,9 +1,9 @@
--- What the answers of a post mean, told of what its process has done: what it latched, what it got, and what it put.
+-- What the answers of a post mean, told of what its process has done: what it latched, what it got, and what it wrote.
 use Rattle.std.specs.Prelude.{◌≡◌, ◌≢◌, ◌⊎◌, ℕ, suc, ◌<◌, ◌++◌, Option, None, Some, List, [], ◌∷◌, Contains}
 use Rattle.bl_model.specs.declared.operation.Reply.{Reply}
 use Rattle.bl_page.specs.declared.page.Page.{Page}
 use Rattle.bl_page.specs.Machine.{Act}
-use Rattle.bl_page.specs.Machine.Act.{Begin, Get, Put, Latch, Retire, Release, Miss}
+use Rattle.bl_page.specs.Machine.Act.{Begin, Get, Put, Take, Latch, Retire, Release, Miss}
 use Rattle.bl_page.specs.declared.machine.Missed.TheVariants as missed
 use Rattle.bl_claims.specs.Nodes.{Covers}
 use Rattle.bl_claims.specs.Pages.{node_of, roots_of}
@@ -16,17 +16,9 @@ pub record HasGot (marks : Trail) (x : ℕ) (c : Page) : Type 0 where
   pub act : mark.event.act ≡ Get x
   pub saw : mark.saw ≡ Some c
 
-abbrev pub put_in : Act Page Reply → List Page
-put_in (Put x c) = c ∷ []
-put_in act = []
-
--- the pages that were put, in their order
-abbrev pub puts_of : Trail → List Page
-puts_of [] = []
-puts_of (m ∷ ms) = put_in m.event.act ++ puts_of ms
-
--- what of this writes: puts, retirements and releases
+-- what of this writes: pages taken, put, retired and released
 abbrev pub writes_in : Act Page Reply → List (Act Page Reply)
+writes_in (Take x) = Take x ∷ []
 writes_in (Put x c) = Put x c ∷ []
 writes_in (Retire x) = Retire x ∷ []
 writes_in (Release x) = Release x ∷ []
@@ -45,24 +37,33 @@ pub record Wrote (marks : Trail) (Is : List (Act Page Reply) → Type 0) : Type 
   pub begun : begin.event.act ≡ Begin
   pub is : Is (writes_of since)
 
--- These are puts of new top levels alone: of a page of that level and then of the anchor, once or more often or not at all.
+-- it has begun, and has written nothing since
+abbrev pub Unwritten : Trail → Type 0
+Unwritten marks = Wrote marks (λ acts. acts ≡ [])
+
+-- Page x is to be the top page of a new level, and this the anchor that names it there, as its last level.
+pub record IsNewTop (level x : ℕ) (top anchor : Page) : Type 0 where
+  pub top_level : (node_of top).shape.level ≡ level
+  pub levels : (roots_of anchor).levels ≡ suc level
+  pub named : (roots_of anchor).leftmost level ≡ x
+
+-- These write new top levels alone, one or more or none: each time a page is taken and put, and then the anchor that names it.
 pub data RaisesOnly (level : ℕ) : List (Act Page Reply) → Type 0 where
   Never : RaisesOnly level []
-  Again : {acts : List (Act Page Reply)} (x : ℕ) (top anchor : Page) → RaisesOnly level acts → (node_of top).shape.level ≡ level → RaisesOnly level (acts ++ Put x top ∷ Put 0 anchor ∷ [])
+  Again : {acts : List (Act Page Reply)} (x : ℕ) (top anchor : Page) → RaisesOnly level acts → IsNewTop level x top anchor → RaisesOnly level (acts ++ Take x ∷ Put x top ∷ Put 0 anchor ∷ [])
 
 -- it has begun, and has written nothing since but new top levels
 abbrev pub HasRaised : ℕ → Trail → Type 0
 HasRaised level marks = Wrote marks (RaisesOnly level)
 
--- these acts put these pages, in their order, and are no others
-abbrev pub ArePuts : List (Act Page Reply) → List Page → Type 0
-ArePuts [] [] = Unit {0}
-ArePuts [] (c ∷ cs) = ⊥
-ArePuts (a ∷ more) [] = ⊥
-ArePuts (a ∷ more) (c ∷ cs) = ((x : ℕ) × (a ≡ Put x c)) × ArePuts more cs
+-- These acts write page x back, as these pages: whole; or split at that separator. Then a page is taken and put as the upper one,
+-- whose low the separator is, before x is put as the lower one.
+pub data WritesBack (x : ℕ) : Option ℕ → List Page → List (Act Page Reply) → Type 0 where
+  Whole : (page : Page) → WritesBack x None (page ∷ []) (Put x page ∷ [])
+  Split : (new separator : ℕ) (upper lower : Page) → (node_of upper).shape.low ≡ separator → WritesBack x (Some separator) (upper ∷ lower ∷ []) (Take new ∷ Put new upper ∷ Put x lower ∷ [])
 
 -- The time during which the process held page x for its work: it latched the page, when it had written nothing but new top
--- levels, and has not opened it in what it did then; it put these pages then; and it has written nothing since.
+-- levels, and has not opened it in what it did then; and it has written nothing since.
 pub record UnderLatch (level : ℕ) (marks : Trail) (x : ℕ) : Type 0 where
   pub before : Trail
   pub latch : Mark
@@ -72,9 +73,21 @@ pub record UnderLatch (level : ℕ) (marks : Trail) (x : ℕ) : Type 0 where
   pub first : HasRaised level before
   pub latched : latch.event.act ≡ Latch x
   pub kept : (mark : Mark) → Contains during mark → mark.event.act ≢ Act.Open x
-  pub wrote : List Page
-  pub puts_are : ArePuts (writes_of during) wrote
   pub no_more : writes_of after ≡ []
+
+-- The process latched page x when it had written nothing; and this is what it has done since.
+pub record SinceLatch (marks : Trail) (x : ℕ) : Type 0 where
+  pub before : Trail
+  pub first : Unwritten before
+  pub latch : Mark
+  pub during : Trail
+  pub split : marks ≡ before ++ latch ∷ during
+  pub latched : latch.event.act ≡ Latch x
+
+-- It latched page x, and after that has written this, and nothing else since it began.
+pub record WroteHeld (marks : Trail) (x : ℕ) (acts : List (Act Page Reply)) : Type 0 where
+  pub since : SinceLatch marks x
+  pub writes_are : writes_of since.during ≡ acts
 
 -- The process held a page of that level that covers the key, and got it then.
 pub record AtParent (level key : ℕ) (marks : Trail) : Type 0 where
@@ -99,28 +112,20 @@ pub record ListTogether (pages : List Page) (old : Page) (key child : ℕ) : Typ
   pub kept : (j c : ℕ) → (node_of old).look j ≡ Some c → (page : Page) × Contains pages page × ((node_of page).look j ≡ Some c)
   pub listed : (page : Page) × Contains pages page × ((node_of page).look key ≡ Some child)
 
--- Done: the page below has the key as its low, and all that the process put, but for new top levels, lists it, with all that
--- the parent listed.
-pub record MeansDone (level key : ℕ) (marks : Trail) : Type 0 where
+-- Done: the page below has the key as its low; and all that the process wrote, but for new top levels, is the parent, whole or
+-- split at that separator, which lists the page below with all that the parent listed.
+pub record MeansDone (level key : ℕ) (separator : Option ℕ) (marks : Trail) : Type 0 where
   pub parent : AtParent level key marks
   pub child : AtChild level key parent.under.during
   pub low : (node_of child.child).shape.low ≡ key
-  pub puts : ListTogether parent.under.wrote parent.parent key child.at
+  pub pages : List Page
+  pub writes : WritesBack parent.at separator pages (writes_of parent.under.during)
+  pub lists : ListTogether pages parent.parent key child.at
 
--- The parent was put whole, or in two parts, the upper one first; the separator is the low of the upper part.
-abbrev pub ArePartedAt : Option ℕ → List Page → Type 0
-ArePartedAt None puts = (whole : Page) × (puts ≡ whole ∷ [])
-ArePartedAt (Some separator) puts = (upper : Page) × (lower : Page) × (puts ≡ upper ∷ lower ∷ []) × ((node_of upper).shape.low ≡ separator)
-
--- Done, and whether the parent was parted, and where.
-pub record MeansParted (level key : ℕ) (parted : Option ℕ) (marks : Trail) : Type 0 where
-  pub done : MeansDone level key marks
-  pub puts : ArePartedAt parted done.parent.under.wrote
-
--- Already: the parent listed the key, and nothing was put.
+-- Already: the parent listed the key, and nothing was written.
 pub record MeansAlready (level key : ℕ) (marks : Trail) : Type 0 where
   pub parent : AtParent level key marks
-  pub none : parent.under.wrote ≡ []
+  pub none : writes_of parent.under.during ≡ []
   pub child : ℕ
   pub listed : (node_of parent.parent).look key ≡ Some child
 
@@ -134,11 +139,11 @@ pub record HasTooFewLevels (level : ℕ) (marks : Trail) : Type 0 where
 -- the page below has another low
 pub record HasOtherLow (level key : ℕ) (marks : Trail) : Type 0 where
   pub parent : AtParent level key marks
-  pub none : parent.under.wrote ≡ []
+  pub none : writes_of parent.under.during ≡ []
   pub child : AtChild level key parent.under.during
   pub low : (node_of child.child).shape.low ≢ key
 
--- Stale: nothing was put, and the tree had too few levels, or the page below the parent has another low.
+-- Stale: nothing was written but new top levels, and the tree had too few levels, or the page below the parent has another low.
 abbrev pub MeansStale : ℕ → ℕ → Trail → Type 0
 MeansStale level key marks = HasTooFewLevels level marks ⊎ HasOtherLow level key marks
 
@@ -150,11 +155,11 @@ pub record MeansTooTall (level : ℕ) (marks : Trail) : Type 0 where
   pub got : HasGot marks 0 anchor
   pub full : (roots_of anchor).levels ≡ 12
 
--- NoRoom: the process was refused a reservation while it held a page, and put nothing then.
+-- NoRoom: the process was refused a reservation while it held a page, and wrote nothing then.
 pub record MeansNoRoom (level : ℕ) (marks : Trail) : Type 0 where
   pub at : ℕ
   pub under : UnderLatch level marks at
-  pub none : under.wrote ≡ []
+  pub none : writes_of under.during ≡ []
   pub mark : Mark
   pub is : Contains under.during mark
   pub refused : mark.event.act ≡ Miss missed.Reservation

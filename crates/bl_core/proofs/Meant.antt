@@ -4,17 +4,9 @@ use Rattle.std.proofs.lemmas.List.Elements.{Contains-push, Contains-append_left}
 use Rattle.bl_page.specs.declared.page.Page.{Page}
 use Rattle.bl_model.specs.declared.operation.Reply.{Reply}
 use Rattle.bl_page.specs.Machine.{Act}
-use Rattle.bl_page.specs.Machine.Act.{Get}
+use Rattle.bl_page.specs.Machine.Act.{Get, Latch}
 use Rattle.bl_claims.specs.Trails.{Mark, Trail}
-use Rattle.bl_claims.specs.Meanings.{HasGot, put_in, puts_of, writes_in, writes_of, Wrote, ArePuts, UnderLatch, AtParent, MeansDone, MeansParted, MeansAlready, MeansStale, MeansTooTall, MeansNoRoom}
-
-pub puts_of-push : (ms : Trail) (m : Mark) → puts_of (ms ++ m ∷ []) ≡ puts_of ms ++ put_in m.event.act
-puts_of-push [] m = append_nil (put_in m.event.act)
-  where
-    append_nil : (xs : List Page) → xs ++ [] ≡ xs
-    append_nil [] = refl
-    append_nil (x ∷ xs) = ap (λ z. x ∷ z) (append_nil xs)
-puts_of-push (n ∷ ms) m = ap (λ z. put_in n.event.act ++ z) (puts_of-push ms m) ∙ sym (append_assoc (put_in n.event.act) (puts_of ms) (put_in m.event.act))
+use Rattle.bl_claims.specs.Meanings.{HasGot, writes_in, writes_of, Wrote, Unwritten, SinceLatch, WroteHeld, UnderLatch, AtParent, MeansDone, MeansAlready, MeansStale, MeansTooTall, MeansNoRoom}
 
 pub writes_of-append : (xs ys : Trail) → writes_of (xs ++ ys) ≡ writes_of xs ++ writes_of ys
 writes_of-append [] ys = refl
@@ -24,15 +16,19 @@ writes_of-append (m ∷ ms) ys = ap (λ z. writes_in m.event.act ++ z) (writes_o
 pub writes_of-push : (ms : Trail) (m : Mark) → writes_of (ms ++ m ∷ []) ≡ writes_of ms ++ writes_in m.event.act
 writes_of-push ms m = writes_of-append ms (m ∷ []) ∙ ap (λ z. writes_of ms ++ z) (append-nil (writes_in m.event.act))
 
-pub puts_append : (xs ys : List (Act Page Reply)) (cs ds : List Page) → ArePuts xs cs → ArePuts ys ds → ArePuts (xs ++ ys) (cs ++ ds)
-puts_append [] ys [] ds p q = q
-puts_append (x ∷ xs) ys (c ∷ cs) ds p q = (p.0, puts_append xs ys cs ds p.1 q)
-puts_append [] ys (c ∷ cs) ds p q = absurd p
-puts_append (x ∷ xs) ys [] ds p q = absurd p
-
-pub no_puts : (xs : List (Act Page Reply)) → ArePuts xs [] → xs ≡ []
-no_puts [] p = refl
-no_puts (x ∷ xs) p = absurd p
+-- it has latched a page, and has written nothing since either
+pub latched_unwritten : {ms : Trail} {x : ℕ} → WroteHeld ms x [] → Unwritten ms
+latched_unwritten {ms} {x} h =
+    let l = h.since in
+    record {
+      earlier = l.first.earlier;
+      begin = l.first.begin;
+      since = l.first.since ++ l.latch ∷ l.during;
+      split = l.split ∙ (ap (λ z. z ++ l.latch ∷ l.during) l.first.split ∙ append_assoc l.first.earlier (l.first.begin ∷ l.first.since) (l.latch ∷ l.during));
+      begun = l.first.begun;
+      is = writes_of-append l.first.since (l.latch ∷ l.during)
+          ∙ (ap (λ z. z ++ writes_of (l.latch ∷ l.during)) l.first.is ∙ (ap (λ z. writes_in z ++ writes_of l.during) l.latched ∙ h.writes_are));
+    }
 
 module _ (ms : Trail) (m : Mark) where
   -- the process begins now; it writes this now
@@ -53,6 +49,33 @@ module _ (ms : Trail) (m : Mark) where
   pub wrote_still : (Is : List (Act Page Reply) → Type 0) → writes_in m.event.act ≡ [] → Wrote ms Is → Wrote (ms ++ m ∷ []) Is
   wrote_still Is quiet h = wrote_on (λ acts is. subst Is (sym (ap (λ z. acts ++ z) quiet ∙ append-nil acts)) is) h
 
+  pub unwritten_on : writes_in m.event.act ≡ [] → Unwritten ms → Unwritten (ms ++ m ∷ [])
+  unwritten_on quiet h = wrote_still (λ acts. acts ≡ []) quiet h
+
+  -- it latches a page now, and has written nothing before
+  pub latched_now : {x : ℕ} → m.event.act ≡ Latch x → Unwritten ms → WroteHeld (ms ++ m ∷ []) x []
+  latched_now e first = record { since = record { before = ms; first = first; latch = m; during = []; split = refl; latched = e }; writes_are = refl }
+
+  abbrev pub since_latch_on : {x : ℕ} → SinceLatch ms x → SinceLatch (ms ++ m ∷ []) x
+  since_latch_on h = record {
+    before = h.before;
+    first = h.first;
+    latch = h.latch;
+    during = h.during ++ m ∷ [];
+    split = ap (λ z. z ++ m ∷ []) h.split ∙ append_assoc h.before (h.latch ∷ h.during) (m ∷ []);
+    latched = h.latched;
+  }
+
+  -- it writes this now
+  pub held_writes : {x : ℕ} {acts : List (Act Page Reply)} (new : List (Act Page Reply)) → writes_in m.event.act ≡ new → WroteHeld ms x acts → WroteHeld (ms ++ m ∷ []) x (acts ++ new)
+  held_writes {x} {acts} new did h = record {
+    since = since_latch_on h.since;
+    writes_are = writes_of-push h.since.during m ∙ (ap (λ z. z ++ writes_in m.event.act) h.writes_are ∙ ap (λ z. acts ++ z) did);
+  }
+
+  pub held_still : {x : ℕ} {acts : List (Act Page Reply)} → writes_in m.event.act ≡ [] → WroteHeld ms x acts → WroteHeld (ms ++ m ∷ []) x acts
+  held_still {x} {acts} quiet h = subst (WroteHeld (ms ++ m ∷ []) x) (append-nil acts) (held_writes [] quiet h)
+
   abbrev pub got_on : {x : ℕ} {c : Page} → HasGot ms x c → HasGot (ms ++ m ∷ []) x c
   got_on h = record { mark = h.mark; is = Contains-append_left ms (m ∷ []) h.mark h.is; act = h.act; saw = h.saw }
 
@@ -70,20 +93,14 @@ module _ (ms : Trail) (m : Mark) where
     first = u.first;
     latched = u.latched;
     kept = u.kept;
-    wrote = u.wrote;
-    puts_are = u.puts_are;
     no_more = writes_of-push u.after m ∙ (ap (λ z. z ++ writes_in m.event.act) u.no_more ∙ quiet);
   }
 
   abbrev pub parent_on : {level key : ℕ} → writes_in m.event.act ≡ [] → AtParent level key ms → AtParent level key (ms ++ m ∷ [])
   parent_on quiet a = record { at = a.at; under = under_on quiet a.under; parent = a.parent; got = a.got; level_is = a.level_is; covers = a.covers }
 
-  abbrev pub done_on : {level key : ℕ} → writes_in m.event.act ≡ [] → MeansDone level key ms → MeansDone level key (ms ++ m ∷ [])
-  done_on quiet d = record { parent = parent_on quiet d.parent; child = d.child; low = d.low; puts = d.puts }
-
-  -- and so does how the parent was put
-  pub parted_on : {level key : ℕ} {parted : Option ℕ} → writes_in m.event.act ≡ [] → MeansParted level key parted ms → MeansParted level key parted (ms ++ m ∷ [])
-  parted_on quiet p = record { done = done_on quiet p.done; puts = p.puts }
+  pub done_on : {level key : ℕ} {separator : Option ℕ} → writes_in m.event.act ≡ [] → MeansDone level key separator ms → MeansDone level key separator (ms ++ m ∷ [])
+  done_on quiet d = record { parent = parent_on quiet d.parent; child = d.child; low = d.low; pages = d.pages; writes = d.writes; lists = d.lists }
 
   pub already_on : {level key : ℕ} → writes_in m.event.act ≡ [] → MeansAlready level key ms → MeansAlready level key (ms ++ m ∷ [])
   already_on quiet a = record { parent = parent_on quiet a.parent; none = a.none; child = a.child; listed = a.listed }

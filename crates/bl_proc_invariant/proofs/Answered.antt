@@ -22,7 +22,7 @@ same_posted : (p q : Posted) (h i : Option Hint) → answer.Post p h ≡ answer.
 same_posted p q h i e = cc
 
 reply_means : (level key : ℕ) (r : PostReply) (p : Posted) (h : Option Hint) (marks : Trail) → posted_answer level r ≡ answer.Post p h → reply_log level key r marks → MeansPosted level key p marks
-reply_means level key (reply.Done s) p h marks e log = subst (λ z. MeansPosted level key z marks) (same_posted _ _ _ _ e) log.done
+reply_means level key (reply.Done s) p h marks e log = subst (λ z. MeansPosted level key z marks) (same_posted _ _ _ _ e) (s, log)
 reply_means level key reply.Already p h marks e log = subst (λ z. MeansPosted level key z marks) (same_posted _ _ _ _ e) log
 reply_means level key reply.Stale p h marks e log = subst (λ z. MeansPosted level key z marks) (same_posted _ _ _ _ e) log
 reply_means level key reply.NoRoom p h marks e log = subst (λ z. MeansPosted level key z marks) (same_posted _ _ _ _ e) log

@@ -40,13 +40,13 @@ same_hint p q h i e = cc
 
 insert_beside : (r : InsertReply) (reply : Reply) (h : Option Hint) (marks : Trail) → inserted_answer r ≡ answer.Op reply h → inserted_log r marks → MeansInserted reply h marks
 insert_beside (inserted.Inserted separator) reply h marks e log = subst (λ z. MeansInserted z h marks) (same_reply _ _ _ _ e) (separator, log, sym (same_hint _ _ _ _ e))
-insert_beside (inserted.Present there) reply h marks e log = subst (λ z. MeansInserted z h marks) (same_reply _ _ _ _ e) (sym (same_hint _ _ _ _ e))
-insert_beside inserted.NoRoom reply h marks e log = subst (λ z. MeansInserted z h marks) (same_reply _ _ _ _ e) (sym (same_hint _ _ _ _ e))
+insert_beside (inserted.Present there) reply h marks e log = subst (λ z. MeansInserted z h marks) (same_reply _ _ _ _ e) (log, sym (same_hint _ _ _ _ e))
+insert_beside inserted.NoRoom reply h marks e log = subst (λ z. MeansInserted z h marks) (same_reply _ _ _ _ e) (log, sym (same_hint _ _ _ _ e))
 
 delete_beside : (r : DeleteReply) (reply : Reply) (h : Option Hint) (marks : Trail) → deleted_answer r ≡ answer.Op reply h → deleted_log r marks → MeansDeleted reply h marks
-delete_beside (deleted.Deleted removed) reply h marks e log = subst (λ z. MeansDeleted z h marks) (same_reply _ _ _ _ e) (log.0, log.1, subst (λ z. h ≡ thin_hint 1 z) log.2 (sym (same_hint _ _ _ _ e)))
-delete_beside deleted.Absent reply h marks e log = subst (λ z. MeansDeleted z h marks) (same_reply _ _ _ _ e) (sym (same_hint _ _ _ _ e))
-delete_beside deleted.NoRoom reply h marks e log = subst (λ z. MeansDeleted z h marks) (same_reply _ _ _ _ e) (sym (same_hint _ _ _ _ e))
+delete_beside (deleted.Deleted removed) reply h marks e log = subst (λ z. MeansDeleted z h marks) (same_reply _ _ _ _ e) (log.0, log.1, log.2, subst (λ z. h ≡ thin_hint 1 z) log.3 (sym (same_hint _ _ _ _ e)))
+delete_beside deleted.Absent reply h marks e log = subst (λ z. MeansDeleted z h marks) (same_reply _ _ _ _ e) (log, sym (same_hint _ _ _ _ e))
+delete_beside deleted.NoRoom reply h marks e log = subst (λ z. MeansDeleted z h marks) (same_reply _ _ _ _ e) (log, sym (same_hint _ _ _ _ e))
 
 find_beside : (stage : FindStage) (reply : Reply) (h : Option Hint) → find_answer_in stage ≡ Some (answer.Op reply h) → h ≡ None
 find_beside (find.Over (Some value)) reply h e = sym (same_hint _ _ _ _ (some_answer _ _ e))

@@ -8,16 +8,18 @@ use Rattle.bl_page.specs.declared.machine.Missed.{Missed}
 use Rattle.bl_page.specs.declared.machine.Missed.TheVariants as missed
 use Rattle.bl_page.specs.Machine.{Act}
 use Rattle.bl_page.specs.Machine.Act.{Get, Put, Latch, Retire, Miss}
+use Rattle.bl_rearrange.specs.Rearranged.{high_of}
 use Rattle.bl_claims.specs.Nodes.{Covers}
 use Rattle.bl_claims.specs.Pages.{node_of}
 use Rattle.bl_rearrange.specs.declared.sides.Side.{Side}
 use Rattle.bl_rearrange.specs.declared.sides.Side.TheVariants as side
 use Rattle.bl_claims.specs.Trails.{Mark, Trail}
-use Rattle.bl_claims.specs.Meanings.{writes_in, writes_of}
-use Rattle.bl_core.proofs.Meant.{writes_of-append, begun_now, wrote_still, got_on, got_last}
+use Rattle.bl_claims.specs.Meanings.{writes_in, writes_of, Unwritten}
+use Rattle.bl_core.proofs.Meant.{writes_of-append, begun_now, unwritten_on, got_on, got_last}
 use Rattle.bl_proc_base.specs.declared.acts.Seen.{Seen}
 use Rattle.bl_proc_base.specs.declared.acts.Seen.TheVariants as seen
 use Rattle.bl_proc_base.specs.declared.answers.Hint.{Hint}
+use Rattle.bl_proc_base.specs.declared.answers.Hint.TheVariants as post
 use Rattle.bl_proc_base.specs.declared.onwards.Step.TheVariants.{Here}
 use Rattle.bl_proc_compress.specs.declared.compressing.Trio.{Trio}
 use Rattle.bl_proc_compress.specs.declared.compressing.Family.{Family}
@@ -35,8 +37,9 @@ use Rattle.bl_proc_compress.specs.declared.squeezing.CompressStage.{CompressStag
 use Rattle.bl_proc_compress.specs.declared.squeezing.CompressStage.TheVariants as compress
 use Rattle.bl_proc_compress.specs.Compresses.{compress_reply, compress_next_in, CompressArrives}
 use Rattle.bl_proc_invariant.specs.Turns.{event_of}
-use Rattle.bl_proc_meanings.specs.Squeezed.{acts_in, acts_of, Unwritten, Since, AtFamily, AtLeft, AtBoth, to_right, put_act, to_last, Once, IsToSqueeze}
-use Rattle.bl_proc_invariant.specs.Logs.{way_log, fate_log, squeeze_log, pressed_log, compress_log}
+use Rattle.bl_proc_meanings.specs.Squeezed.{acts_in, acts_of, Since, AtFamily, AtLeft, AtBoth, to_right, LacksPlace, Once}
+use Rattle.bl_proc_invariant.specs.Logs.{put_act, to_last, IsToSqueeze, come_log, fate_log, squeeze_log, pressed_log, compress_log}
+use Rattle.bl_proc_invariant.proofs.ByPages.{merge_of, evened_of, evening_of, has_merged, has_evened}
 use Rattle.bl_proc_invariant.proofs.Logging.{way_stays, way_goes}
 use Rattle.bl_proc_unique.proofs.WayCases.{SqueezeCase, squeeze_case}
 use Rattle.bl_proc_unique.proofs.KindCases.{CompressCase}
@@ -92,9 +95,11 @@ act_put : (sd : Side) (u : Puts) → acts_in (put_act sd u) ≡ put_act sd u ∷
 act_put side.Left u = refl
 act_put side.Right u = refl
 
--- what is decided is a merge or an evening
-decided_fate : (f : Family) (c d : Page) (u : Puts) → Decides f c d (PuttingFirst u) → ((hint : Option Hint) × (u.fate ≡ fate.Merged hint)) ⊎ (u.fate ≡ fate.Evened)
-decided_fate f c d u h = elim h [ inl m ↦ inl (_, m.1.fate) | inr v ↦ inr v.fate ]
+same_merge : (h i : Option Hint) → fate.Merged h ≡ fate.Merged i → h ≡ i
+same_merge h i e = cc
+
+not_evened : (h : Option Hint) → fate.Merged h ≡ fate.Evened → ⊥
+not_evened h e = cc
 
 decided_at : (f : Family) (c d : Page) (u : Puts) → Decides f c d (PuttingFirst u) → u.at ≡ f.at
 decided_at f c d u h = elim h [ inl m ↦ m.1.at | inr v ↦ v.at ]
@@ -102,9 +107,6 @@ decided_at f c d u h = elim h [ inl m ↦ m.1.at | inr v ↦ v.at ]
 module _ (ms : Trail) (m : Mark) where
   abbrev more : Trail
   more = ms ++ m ∷ []
-
-  pub unwritten_on : writes_in m.event.act ≡ [] → Unwritten ms → Unwritten more
-  unwritten_on quiet h = wrote_still ms m (λ acts. acts ≡ []) quiet h
 
   pub since_now : (x : ℕ) → m.event.act ≡ Latch x → Unwritten ms → Since more x []
   since_now x e first = record { before = ms; first = first; latch = m; during = []; split = refl; latched = e; acts_are = refl }
@@ -159,7 +161,7 @@ module _ (ms : Trail) (m : Mark) where
     fate_on fate.Enough put h = once_on put h
     fate_on (fate.Unposted hint) put h = once_on put h
     fate_on fate.Refused put h = once_on put h
-    fate_on fate.Lost put h = unwritten_on put h
+    fate_on fate.Lost put h = unwritten_on ms m put h
 
     pressed_on : (r : CompressReply) → writes_in m.event.act ≡ [] → pressed_log level key r ms → pressed_log level key r more
     pressed_on (reply.Merged hint) put h = once_on put h
@@ -190,28 +192,49 @@ module _ (ms : Trail) (m : Mark) where
 
     -- all three pages were put
     last_on : (u : Puts) → IsToSqueeze level key more u (to_last u) → squeeze_log level key (after_puts u.at u.fate) more
-    last_on u h = elim (decided_fate h.family h.left h.right u h.decided) [
-      | inl e ↦ subst (λ z. squeeze_log level key (after_puts u.at z) more) (sym e.1) (u, refl, h, e.1, (e.0, refl))
-      | inr e ↦ subst (λ z. squeeze_log level key (after_puts u.at z) more) (sym e) (once_now (u, h, e))
+    last_on u h = elim h.decided [
+      | inl m ↦ subst (λ z. squeeze_log level key (after_puts u.at z) more) (sym m.1.fate) (u, refl, h, m.1.fate, (_, refl))
+      | inr v ↦ subst (λ z. squeeze_log level key (after_puts u.at z) more) (sym v.fate) (once_now (has_evened level key more u h v))
     ]
+
+    -- no frame was there for the first put
+    lacks : (u : Puts) → m.event.act ≡ Miss missed.Reservation → IsToSqueeze level key ms u (to_right u.at) → LacksPlace level key more
+    lacks u did h = record {
+      until = ms;
+      mark = m;
+      split = refl;
+      refused = did;
+      family = h.family;
+      left = h.left;
+      right = h.right;
+      both = subst (λ (t : Trio). AtBoth level key ms h.family h.left h.right (to_right t)) h.at h.both;
+      due = elim h.decided [
+        | inl d ↦ inl (u.left, u.parent, u.right, merge_of h.family h.left h.right u d.0 d.1)
+        | inr v ↦ inr (evened_of u v.separator, u.parent, evening_of h.family h.left h.right u v)
+      ];
+    }
 
     -- the right one was retired
     retired_on : (at : Trio) (ended : Fate) → m.event.act ≡ Retire at.right → squeeze_log level key (Retiring at ended) ms → fate_log level key ended more
     retired_on at ended did (u, same, h, is, one) =
         let e : acts_in m.event.act ≡ Retire u.at.right ∷ [] = ap acts_in did ∙ ap (λ (t : Trio). Retire t.right ∷ []) (sym same) in
-        subst (λ z. fate_log level key z more) (sym one.1) (once_now (u, puts_on (Retire u.at.right ∷ []) e h, is ∙ one.1))
+        let whole = puts_on (Retire u.at.right ∷ []) e h in
+        elim h.decided [
+          | inl m ↦ subst (λ z. fate_log level key z more) (sym m.1.fate ∙ is) (once_now (has_merged level key more u whole m.0 m.1))
+          | inr v ↦ absurd (not_evened one.0 (sym (is ∙ one.1) ∙ v.fate))
+        ]
 
     links_on : (f : Family) (c : Page) (d : Compression) → Links f c d → m.event.act ≡ Get f.at.left → m.saw ≡ Some c → AtFamily level key ms f (Get f.at.parent ∷ Latch f.at.left ∷ []) → squeeze_log level key d more
     links_on f c (LatchingRight h page) t did saw log = rw (← t.0, ← t.1) at (left_got c did saw log)
-    links_on f c (OpeningLeft at ended) t did saw log = subst (λ z. fate_log level key z more) (sym t.2) (once_now (f, c, left_got c did saw log, (refl, t.1, refl)))
+    links_on f c (OpeningLeft at ended) t did saw log = subst (λ z. fate_log level key z more) (sym t.2) (once_now (record { family = f; left = c; at = left_got c did saw log; between = t.1; hint_is = ap (λ l. post.Post l (high_of c)) log.level_is }))
     links_on f c old t did saw log = absurd t
 
     decides_on : (f : Family) (c d : Page) (new : Compression) → Decides f c d new → m.event.act ≡ Get f.at.right → m.saw ≡ Some d → AtLeft level key ms f c (Get f.at.parent ∷ Latch f.at.left ∷ Get f.at.left ∷ Latch f.at.right ∷ []) → squeeze_log level key new more
     decides_on f c d (PuttingFirst u) t did saw log =
         let same = decided_at f c d u t in
         record { family = f; left = c; right = d; at = same; both = subst (λ (z : Trio). AtBoth level key more f c d (to_right z)) (sym same) (right_got d did saw log); decided = t }
-    decides_on f c d (OpeningRight at fate.Enough) t did saw log = once_now (f, c, d, right_got d did saw log, (refl, t.1, t.2, t.3, t.4))
-    decides_on f c d (OpeningRight at fate.Lost) t did saw log = unwritten_on (ap writes_in did) (since_unwritten refl log.family.since)
+    decides_on f c d (OpeningRight at fate.Enough) t did saw log = once_now (record { family = f; left = c; right = d; both = right_got d did saw log; neighbours = t.1; past = t.2; left_many = t.3; right_many = t.4 })
+    decides_on f c d (OpeningRight at fate.Lost) t did saw log = unwritten_on ms m (ap writes_in did) (since_unwritten refl log.family.since)
     decides_on f c d old t did saw log = absurd t
 
     squeeze_on : {c d : Compression} {what : Seen} → SqueezeCase c what (step.On d) → m.event.act ≡ event_of None (compression_next c) what → ((x : ℕ) (e : Page) → m.event.act ≡ Get x → what ≡ seen.Words e → m.saw ≡ Some e) → squeeze_log level key c ms → squeeze_log level key d more
@@ -222,7 +245,7 @@ module _ (ms : Trail) (m : Mark) where
     squeeze_on (SqueezeCase.MissRight f c d t) did saw h = subst (λ z. squeeze_log level key z more) (sym t) (left_on [] (ap acts_in did) h)
     squeeze_on (SqueezeCase.GotRight f c e d t) did saw h = decides_on f c e d t did (saw f.at.right e did refl) h
     squeeze_on (SqueezeCase.PutFirst u d t) did saw h = subst (λ z. squeeze_log level key z more) (sym t) (puts_on (put_act u.gains u ∷ []) (ap acts_in (did ∙ put_event u.gains u) ∙ act_put u.gains u) h)
-    squeeze_on (SqueezeCase.FirstRefused u d t) did saw h = subst (λ z. squeeze_log level key z more) (sym t) (once_now (record { until = ms; mark = m; split = refl; refused = did ∙ refused_event u.gains u; puts = u; is = h }))
+    squeeze_on (SqueezeCase.FirstRefused u d t) did saw h = subst (λ z. squeeze_log level key z more) (sym t) (once_now (lacks u (did ∙ refused_event u.gains u) h))
     squeeze_on (SqueezeCase.PutParent u d t) did saw h = subst (λ z. squeeze_log level key z more) (sym t) (puts_on (Put u.at.parent u.parent ∷ []) (ap acts_in did) h)
     squeeze_on (SqueezeCase.PutLast u d t) did saw h = subst (λ z. squeeze_log level key z more) (sym t) (last_on u (puts_on (put_act (other u.gains) u ∷ []) (ap acts_in (did ∙ put_event (other u.gains) u) ∙ act_put (other u.gains) u) h))
     squeeze_on (SqueezeCase.Retired at ended d t) did saw h = subst (λ z. squeeze_log level key z more) (sym t) (retired_on at ended did h)
@@ -262,13 +285,13 @@ module _ (ms : Trail) (m : Mark) where
     module _ (least : 0 < level) where
       -- any step of a compression
       pub compress_on : {a a' : CompressStage} {what : Seen} → CompressCase level key a what a' → m.event.act ≡ event_of None (compress_next_in a) what → ((x : ℕ) (e : Page) → m.event.act ≡ Get x → what ≡ seen.Words e → m.saw ≡ Some e) → compress_log level key a ms → compress_log level key a' more
-      compress_on (CompressCase.Began a t) did saw h = subst (λ z. way_log z more) (sym t) (begun_now ms m (λ acts. acts ≡ []) did refl)
-      compress_on (CompressCase.NoLevel c t) did saw h = once_now (inl (record { first = unwritten_on (ap writes_in did) h; anchor = c; got = got_last ms m did (saw 0 c did refl); few = t }))
-      compress_on (CompressCase.Came a what b t) did saw h = way_goes m level key (λ x k. since_unwritten refl k) unwritten_on since_now a b what t did h
+      compress_on (CompressCase.Began a t) did saw h = subst (λ z. come_log z more) (sym t) (begun_now ms m (λ acts. acts ≡ []) did refl)
+      compress_on (CompressCase.NoLevel c t) did saw h = once_now (inl (record { first = unwritten_on ms m (ap writes_in did) h; anchor = c; got = got_last ms m did (saw 0 c did refl); few = t }))
+      compress_on (CompressCase.Came a what b t) did saw h = way_goes m level key (λ x k. since_unwritten refl k) (unwritten_on ms m) since_now a b what t did h
       compress_on (CompressCase.Met x parent f l t) did saw h = met_on x parent f t l did (saw x (InnerPage parent) did refl) h
       compress_on (CompressCase.Single x parent y l t) did saw h = single_on x parent y t l did (saw x (InnerPage parent) did refl) h
       compress_on (CompressCase.Squeezed c what d t) did saw h = squeeze_on (squeeze_case c what _ t) did saw h
-      compress_on (CompressCase.Lost c what a (ended, t, none, start)) did saw h = subst (λ z. way_log z more) (sym start) (lost_unwritten ended none (over_on (squeeze_case c what _ t) did h))
+      compress_on (CompressCase.Lost c what a (ended, t, none, start)) did saw h = subst (λ z. come_log z more) (sym start) (lost_unwritten ended none (over_on (squeeze_case c what _ t) did h))
       compress_on (CompressCase.Finished c what r (ended, t, some)) did saw h = fate_pressed ended r some (over_on (squeeze_case c what _ t) did h)
       compress_on (CompressCase.Opened x r t) did saw h = subst (λ z. pressed_log level key z more) (sym t) (once_on (ap writes_in did) h)
       compress_on (CompressCase.Ended r last t) did saw h = subst (λ z. pressed_log level key z more) (sym t) (pressed_on r (ap writes_in did) h)
@@ -290,7 +313,7 @@ module _ (ms : Trail) (m : Mark) where
 
     pub compress_stays : (a : CompressStage) → compress_log level key a ms → compress_log level key a more
     compress_stays compress.New h = tt
-    compress_stays (compress.Coming a) h = way_stays (unwritten_on (ap writes_in did)) (λ x k. since_on [] (ap acts_in did) k) a h
+    compress_stays (compress.Coming a) h = way_stays (unwritten_on ms m (ap writes_in did)) (λ x k. since_on [] (ap acts_in did) k) a h
     compress_stays (compress.Compressing c) h = squeeze_stays c h
     compress_stays (compress.Staying x) h = once_on (ap writes_in did) h
     compress_stays (compress.Ending r) h = pressed_on level key r (ap writes_in did) h

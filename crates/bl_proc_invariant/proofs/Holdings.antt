@@ -3,6 +3,7 @@ use Rattle.std.proofs.Common.{ℕ, ◌≡◌, ◌≢◌, ◌⊎◌, ◌<◌, ◌
 use Rattle.std.specs.Prelude.{Contains}
 use Rattle.std.proofs.lemmas.Bool.{cases_eq, cases_lt}
 use Rattle.std.proofs.lemmas.List.Elements.{Contains-push, Contains-push_cases}
+use Rattle.bl_model.specs.declared.operation.Reply.{Reply}
 use Rattle.bl_page.specs.declared.page.Page.{Page}
 use Rattle.bl_page.specs.declared.page.Page.TheVariants.{Anchor, Leaf, Inner, Dead}
 use Rattle.bl_page.specs.declared.machine.Missed.TheVariants as missed
@@ -15,8 +16,8 @@ use Rattle.bl_core_tree.specs.Moves.{IsRow, IsCut}
 use Rattle.bl_claims.specs.Pages.{node_of}
 use Rattle.bl_core_tree.proofs.SoundPages.{sound_node}
 use Rattle.bl_claims.specs.Trails.{Mark, Trail}
-use Rattle.bl_claims.specs.Meanings.{writes_in, writes_of, RaisesOnly, HasRaised, ArePuts, UnderLatch, ListTogether, MeansDone, ArePartedAt, MeansParted, MeansNoRoom}
-use Rattle.bl_core.proofs.Meant.{writes_of-append, writes_of-push, puts_append, no_puts, got_on, got_last}
+use Rattle.bl_claims.specs.Meanings.{writes_in, writes_of, RaisesOnly, HasRaised, WritesBack, UnderLatch, ListTogether, MeansDone, MeansNoRoom}
+use Rattle.bl_core.proofs.Meant.{writes_of-append, writes_of-push, got_on, got_last}
 use Rattle.bl_proc_invariant.specs.Logs.{Holding, HoldsParent, HoldsBoth, IsToPut}
 
 pub none_of : (mark : Mark) → Contains [] mark → ⊥
@@ -25,11 +26,11 @@ none_of mark c = absurd (omega (arith, c.1))
 module _ (ms : Trail) (m : Mark) where
   -- the page was latched just now
   pub held_now : {level : ℕ} (x : ℕ) → m.event.act ≡ Latch x → HasRaised level ms → Holding level (ms ++ m ∷ []) x []
-  held_now x e first = record { before = ms; first = first; latch = m; during = []; split = refl; latched = e; kept = λ n c. absurd (none_of n c); puts_are = tt }
+  held_now x e first = record { before = ms; first = first; latch = m; during = []; split = refl; latched = e; kept = λ n c. absurd (none_of n c); writes_are = refl }
 
-  -- the page is not opened by this mark, which may put another one
-  abbrev pub held_on : {level x : ℕ} {puts : List Page} (more : List Page) → m.event.act ≢ Act.Open x → ArePuts (writes_in m.event.act) more → Holding level ms x puts → Holding level (ms ++ m ∷ []) x (puts ++ more)
-  held_on {level} {x} {puts} more shut put h = record {
+  -- the page is not opened by this mark, which may write something
+  abbrev pub held_on : {level x : ℕ} {acts : List (Act Page Reply)} (more : List (Act Page Reply)) → m.event.act ≢ Act.Open x → writes_in m.event.act ≡ more → Holding level ms x acts → Holding level (ms ++ m ∷ []) x (acts ++ more)
+  held_on {level} {x} {acts} more shut put h = record {
     before = h.before;
     first = h.first;
     latch = h.latch;
@@ -37,13 +38,13 @@ module _ (ms : Trail) (m : Mark) where
     split = ap (λ z. z ++ m ∷ []) h.split ∙ append_assoc h.before (h.latch ∷ h.during) (m ∷ []);
     latched = h.latched;
     kept = λ n c. elim (Contains-push_cases h.during m n c) [ inl i ↦ h.kept n i | inr e ↦ λ o. shut (ap (λ z. z.event.act) e ∙ o) ];
-    puts_are = subst (λ z. ArePuts z (puts ++ more)) (sym (writes_of-push h.during m)) (puts_append (writes_of h.during) (writes_in m.event.act) puts more h.puts_are put);
+    writes_are = writes_of-push h.during m ∙ (ap (λ z. z ++ writes_in m.event.act) h.writes_are ∙ ap (λ z. acts ++ z) put);
   }
 
-  pub parent_held_on : {level key x : ℕ} {parent : Page} {puts : List Page} (more : List Page) → m.event.act ≢ Act.Open x → ArePuts (writes_in m.event.act) more → HoldsParent level key ms x parent puts → HoldsParent level key (ms ++ m ∷ []) x parent (puts ++ more)
+  pub parent_held_on : {level key x : ℕ} {parent : Page} {acts : List (Act Page Reply)} (more : List (Act Page Reply)) → m.event.act ≢ Act.Open x → writes_in m.event.act ≡ more → HoldsParent level key ms x parent acts → HoldsParent level key (ms ++ m ∷ []) x parent (acts ++ more)
   parent_held_on more shut put h = record { holding = held_on more shut put h.holding; got = got_on h.holding.during m h.got; level_is = h.level_is; covers = h.covers; unlisted = h.unlisted }
 
-  pub both_held_on : {level key x y : ℕ} {parent : Page} {puts : List Page} (more : List Page) → m.event.act ≢ Act.Open x → ArePuts (writes_in m.event.act) more → HoldsBoth level key ms x parent y puts → HoldsBoth level key (ms ++ m ∷ []) x parent y (puts ++ more)
+  pub both_held_on : {level key x y : ℕ} {parent : Page} {acts : List (Act Page Reply)} (more : List (Act Page Reply)) → m.event.act ≢ Act.Open x → writes_in m.event.act ≡ more → HoldsBoth level key ms x parent y acts → HoldsBoth level key (ms ++ m ∷ []) x parent y (acts ++ more)
   both_held_on more shut put h =
       let a = h.above in
       record {
@@ -56,9 +57,9 @@ module _ (ms : Trail) (m : Mark) where
       }
 
   -- the child was got just now
-  pub child_got : {level key x : ℕ} {parent : Page} {puts : List Page} (y : ℕ) (c : Page) → m.event.act ≡ Get y → m.saw ≡ Some c → HoldsParent level key ms x parent puts → ((node_of c).shape.level + 1 ≡ level) → Covers (node_of c).shape key → (node_of c).shape.low ≡ key → HoldsBoth level key (ms ++ m ∷ []) x parent y (puts ++ [])
+  pub child_got : {level key x : ℕ} {parent : Page} {acts : List (Act Page Reply)} (y : ℕ) (c : Page) → m.event.act ≡ Get y → m.saw ≡ Some c → HoldsParent level key ms x parent acts → ((node_of c).shape.level + 1 ≡ level) → Covers (node_of c).shape key → (node_of c).shape.low ≡ key → HoldsBoth level key (ms ++ m ∷ []) x parent y (acts ++ [])
   child_got y c act saw h level_is covers low = record {
-    above = record { holding = held_on [] (λ o. (let e = sym act ∙ o in cc)) (subst (λ a. ArePuts (writes_in a) []) (sym act) tt) h.holding; got = got_on h.holding.during m h.got; level_is = h.level_is; covers = h.covers; unlisted = h.unlisted };
+    above = record { holding = held_on [] (λ o. (let e = sym act ∙ o in cc)) (ap writes_in act) h.holding; got = got_on h.holding.during m h.got; level_is = h.level_is; covers = h.covers; unlisted = h.unlisted };
     child = c;
     got = got_last h.holding.during m act saw;
     below = omega (arith, level_is);
@@ -67,9 +68,9 @@ module _ (ms : Trail) (m : Mark) where
   }
 
   -- the parent was got just now
-  pub parent_got : {level key x : ℕ} {puts : List Page} (c : Page) → m.event.act ≡ Get x → m.saw ≡ Some c → Holding level ms x puts → (node_of c).shape.level ≡ level → Covers (node_of c).shape key → (node_of c).look key ≡ None → HoldsParent level key (ms ++ m ∷ []) x c (puts ++ [])
+  pub parent_got : {level key x : ℕ} {acts : List (Act Page Reply)} (c : Page) → m.event.act ≡ Get x → m.saw ≡ Some c → Holding level ms x acts → (node_of c).shape.level ≡ level → Covers (node_of c).shape key → (node_of c).look key ≡ None → HoldsParent level key (ms ++ m ∷ []) x c (acts ++ [])
   parent_got c act saw h level_is covers unlisted = record {
-    holding = held_on [] (λ o. (let e = sym act ∙ o in cc)) (subst (λ a. ArePuts (writes_in a) []) (sym act) tt) h;
+    holding = held_on [] (λ o. (let e = sym act ∙ o in cc)) (ap writes_in act) h;
     got = got_last h.during m act saw;
     level_is = level_is;
     covers = covers;
@@ -88,20 +89,18 @@ module _ (ms : Trail) (m : Mark) where
       split = ap (λ z. z ++ m ∷ []) h.split ∙ (append_assoc h.before (h.latch ∷ h.during) (m ∷ []) ∙ ap (λ z. h.before ++ h.latch ∷ z) (sym (append-nil (h.during ++ m ∷ []))));
       first = h.first;
       latched = h.latched;
-      wrote = [];
-      puts_are = subst (λ z. ArePuts z []) (sym (writes_of-push h.during m)) (puts_append (writes_of h.during) (writes_in m.event.act) [] [] h.puts_are (subst (λ a. ArePuts (writes_in a) []) (sym act) tt));
       no_more = refl;
       kept = λ n c. elim (Contains-push_cases h.during m n c) [ inl i ↦ h.kept n i | inr e ↦ λ o. (let f = ap (λ z. z.event.act) e ∙ o in let g = sym act ∙ f in cc) ];
     };
-    none = refl;
+    none = writes_of-push h.during m ∙ (ap (λ z. z ++ writes_in m.event.act) h.writes_are ∙ ap writes_in act);
     mark = m;
     is = Contains-push h.during m;
     refused = act;
   }
 
 -- while the page is held
-abbrev pub under : {level : ℕ} {ms : Trail} {x : ℕ} {puts : List Page} → Holding level ms x puts → UnderLatch level ms x
-under {level} {ms} {x} {puts} h = record {
+abbrev pub under : {level : ℕ} {ms : Trail} {x : ℕ} {acts : List (Act Page Reply)} → Holding level ms x acts → UnderLatch level ms x
+under {level} {ms} {x} {acts} h = record {
   before = h.before;
   latch = h.latch;
   during = h.during;
@@ -110,12 +109,10 @@ under {level} {ms} {x} {puts} h = record {
   first = h.first;
   latched = h.latched;
   kept = h.kept;
-  wrote = puts;
-  puts_are = h.puts_are;
   no_more = refl;
 }
 
--- while it holds the page and has put nothing, it has written nothing but new top levels
+-- while it holds the page and has written nothing there, it has written nothing but new top levels
 pub held_raised : {level : ℕ} {ms : Trail} {x : ℕ} → Holding level ms x [] → HasRaised level ms
 held_raised {level} h = record {
   earlier = h.first.earlier;
@@ -124,22 +121,21 @@ held_raised {level} h = record {
   split = h.split ∙ (ap (λ z. z ++ h.latch ∷ h.during) h.first.split ∙ append_assoc h.first.earlier (h.first.begin ∷ h.first.since) (h.latch ∷ h.during));
   begun = h.first.begun;
   is = subst (RaisesOnly level) (sym (writes_of-append h.first.since (h.latch ∷ h.during)
-      ∙ (ap (λ z. writes_of h.first.since ++ (writes_in z ++ writes_of h.during)) h.latched ∙ (ap (λ z. writes_of h.first.since ++ z) (no_puts (writes_of h.during) h.puts_are) ∙ append-nil (writes_of h.first.since))))) h.first.is;
+      ∙ (ap (λ z. writes_of h.first.since ++ (writes_in z ++ writes_of h.during)) h.latched ∙ (ap (λ z. writes_of h.first.since ++ z) h.writes_are ∙ append-nil (writes_of h.first.since))))) h.first.is;
 }
 
--- all that was to be put has been put
-abbrev pub is_done : {level key x : ℕ} {ms : Trail} (puts : List Page) (p : IsToPut level key ms x puts puts) → MeansDone level key ms
-is_done {level} {key} {x} {ms} puts p =
+-- all that was to be put has been put, as it is to be
+pub is_done : {level key x : ℕ} {ms : Trail} (separator : Option ℕ) (acts : List (Act Page Reply)) (pages : List Page) → IsToPut level key ms x acts pages → WritesBack x separator pages acts → MeansDone level key separator ms
+is_done {level} {key} {x} {ms} separator acts pages p back =
     let a = p.both.above in
     record {
       parent = record { at = x; under = under a.holding; parent = p.parent; got = a.got; level_is = a.level_is; covers = a.covers };
       child = record { at = p.child; child = p.both.child; got = p.both.got; level_is = p.both.below; covers = p.both.child_covers };
       low = p.both.low;
-      puts = p.together;
+      pages = pages;
+      writes = subst (WritesBack x separator pages) (sym a.holding.writes_are) back;
+      lists = p.together;
     }
-
-pub is_parted : {level key x : ℕ} {ms : Trail} (parted : Option ℕ) (puts : List Page) (p : IsToPut level key ms x puts puts) → ArePartedAt parted puts → MeansParted level key parted ms
-is_parted parted puts p is = record { done = is_done puts p; puts = is }
 
 -- the low of the upper part
 pub cut_low : (c left right : Page) (key word new separator : ℕ) → IsFitted c key word new (Split left right separator) → (node_of right).shape.low ≡ separator

@@ -7,7 +7,7 @@ use Rattle.bl_page.specs.declared.machine.Missed.{Missed}
 use Rattle.bl_page.specs.Machine.{Name, State, Act}
 use Rattle.bl_page.specs.Machine.Act.{Get, Miss}
 use Rattle.bl_claims.specs.Trails.{Mark, Trail, Saw, marks_of}
-use Rattle.bl_claims.specs.Meanings.{put_in, writes_in}
+use Rattle.bl_claims.specs.Meanings.{writes_in}
 use Rattle.bl_core.proofs.Pushes.{name_cases, marks_of-own, marks_of-other}
 use Rattle.bl_core.specs.Worlds.{Stage, World, IsGood}
 use Rattle.bl_core.specs.Blank.{IsBlank}
@@ -139,21 +139,15 @@ early_press level key got old e marks = absurd (let f = e in cc)
 
 early_insert : (key value : ℕ) (got : ℕ → Page) (a : InsertStage) → (know_insert key value got a).stage ≡ Stage.Early → (marks : Trail) → insert_log a marks
 early_insert key value got insert.New e marks = tt
-early_insert key value got (insert.Present x there) e marks = tt
-early_insert key value got (insert.Coming way.Start) e marks = tt
-early_insert key value got (insert.Coming (way.At x)) e marks = tt
-early_insert key value got (insert.Coming (way.Latching x)) e marks = tt
-early_insert key value got (insert.Coming (way.Leaving x to)) e marks = tt
+early_insert key value got (insert.Coming way.Start) e marks = absurd (let f = e in cc)
+early_insert key value got (insert.Coming (way.Leaving x None)) e marks = absurd (let f = e in cc)
 early_insert key value got (insert.Changing (change.Putting x page)) e marks = absurd (let f = e in cc)
 early_insert key value got old e marks = absurd (let f = e in cc)
 
 early_delete : (key : ℕ) (got : ℕ → Page) (a : DeleteStage) → (know_delete key got a).stage ≡ Stage.Early → (marks : Trail) → delete_log a marks
 early_delete key got delete.New e marks = tt
-early_delete key got (delete.Absent x) e marks = tt
-early_delete key got (delete.Coming way.Start) e marks = tt
-early_delete key got (delete.Coming (way.At x)) e marks = tt
-early_delete key got (delete.Coming (way.Latching x)) e marks = tt
-early_delete key got (delete.Coming (way.Leaving x to)) e marks = tt
+early_delete key got (delete.Coming way.Start) e marks = absurd (let f = e in cc)
+early_delete key got (delete.Coming (way.Leaving x None)) e marks = absurd (let f = e in cc)
 early_delete key got (delete.Changing v (change.Putting x page)) e marks = absurd (let f = e in cc)
 early_delete key got old e marks = absurd (let f = e in cc)
 
@@ -254,8 +248,8 @@ log_turn old new what marks m t did saw h = absurd t
 
 log_stays : {what : Missed} (old : Proc) (marks : Trail) (m : Mark) → m.event.act ≡ Miss what → proc_log old marks → proc_log old (marks ++ m ∷ [])
 log_stays (Find a) marks m did h = tt
-log_stays (Insert a) marks m did h = insert_stays marks m (λ x l. (let e = sym did ∙ l in cc)) (ap put_in did) a.stage h
-log_stays (Delete a) marks m did h = delete_stays marks m (λ x l. (let e = sym did ∙ l in cc)) (ap put_in did) a.stage h
+log_stays (Insert a) marks m did h = insert_stays marks m (ap writes_in did) a.stage h
+log_stays (Delete a) marks m did h = delete_stays marks m (ap writes_in did) a.stage h
 log_stays (Part a) marks m did h = tt
 log_stays (Compress a) marks m did h = compress_stays marks m a.level a.key did a.stage h
 log_stays (Reclaim a) marks m did h = tt

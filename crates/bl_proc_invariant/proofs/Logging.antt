@@ -1,15 +1,18 @@
 -- What a post has done, and one event more: what is told of it in the next state.
-use Rattle.std.proofs.Common.{ℕ, ◌≡◌, ◌≢◌, ◌<◌, ◌-◌, ◌++◌, List, [], ◌∷◌, None, Some, arith, ap, sym, ◌∙◌, refl, subst, inl, inr, append_assoc, append-nil}
+use Rattle.std.proofs.Common.{ℕ, suc, ◌≡◌, ◌≢◌, ◌<◌, ◌-◌, ◌++◌, List, [], ◌∷◌, length, get_or, None, Some, arith, ap, sym, ◌∙◌, refl, subst, inl, inr, append_assoc, append-nil}
+use Rattle.std.proofs.Math.Numerals.{add-one}
+use Rattle.std.proofs.Math.Seq.{get_or-append_seam}
+use Rattle.std.proofs.lemmas.List.{length-append}
 use Rattle.bl_model.specs.declared.operation.Reply.{Reply}
 use Rattle.bl_page.specs.declared.page.Page.{Page}
-use Rattle.bl_page.specs.declared.page.Page.TheVariants.{Inner as InnerPage}
+use Rattle.bl_page.specs.declared.page.Page.TheVariants.{Anchor as AnchorPage, Inner as InnerPage}
 use Rattle.bl_page.specs.declared.page.Inner.{Inner}
 use Rattle.bl_page.specs.Machine.{Act}
-use Rattle.bl_page.specs.Machine.Act.{Get, Put, Latch}
+use Rattle.bl_page.specs.Machine.Act.{Get, Put, Take, Latch}
 use Rattle.bl_claims.specs.Pages.{node_of, roots_of}
 use Rattle.bl_claims.specs.Trails.{Mark, Trail}
-use Rattle.bl_claims.specs.Meanings.{writes_in, RaisesOnly, HasRaised, ArePuts}
-use Rattle.bl_core.proofs.Meant.{begun_now, wrote_on, wrote_still, got_on, got_last, parted_on, already_on, stale_on, tall_on, no_room_on}
+use Rattle.bl_claims.specs.Meanings.{writes_in, IsNewTop, RaisesOnly, HasRaised, WritesBack}
+use Rattle.bl_core.proofs.Meant.{begun_now, wrote_on, wrote_still, got_on, got_last, done_on, already_on, stale_on, tall_on, no_room_on}
 use Rattle.bl_core.proofs.Fitted.{fits_row, split_cut}
 use Rattle.bl_rearrange.specs.declared.fitted.Fitted.TheVariants.{Split}
 use Rattle.bl_rearrange.specs.Rearranged.{IsFitted}
@@ -37,11 +40,11 @@ use Rattle.bl_proc.specs.declared.posting.PostStage.TheVariants as post
 use Rattle.bl_proc_base.specs.Onwards.{Leads}
 use Rattle.bl_proc_base.specs.Approaches.{approach_next, Turns, Approaches}
 use Rattle.bl_proc_base.specs.Changes.{change_next, EntersPair}
-use Rattle.bl_proc_base.specs.Growths.{growth_next, IsTop}
+use Rattle.bl_proc_base.specs.Growths.{growth_next, IsTop, IsAnchor, Raises}
 use Rattle.bl_proc.specs.Posts.{post_reply, post_next_in, PostArrives}
 use Rattle.bl_proc_invariant.specs.Turns.{event_of}
-use Rattle.bl_proc_invariant.specs.Logs.{Holding, HoldsParent, HoldsBoth, IsToPut, on_way, approach_log, outcome_log, change_log, growth_log, reply_log, post_log}
-use Rattle.bl_proc_invariant.proofs.Holdings.{held_raised, held_now, held_on, parent_held_on, both_held_on, child_got, parent_got, refused_while, under, is_parted, cut_low, row_together, cut_together}
+use Rattle.bl_proc_invariant.specs.Logs.{Holding, HoldsParent, HoldsBoth, IsToPut, on_way, approach_log, outcome_log, change_log, HasHalfRaised, growth_log, reply_log, post_log}
+use Rattle.bl_proc_invariant.proofs.Holdings.{held_raised, held_now, held_on, parent_held_on, both_held_on, child_got, parent_got, refused_while, under, is_done, cut_low, row_together, cut_together}
 use Rattle.bl_proc_unique.proofs.WayCases.{ApproachCase, approach_case, ChangeCase, change_case, GrowthCase, growth_case}
 use Rattle.bl_proc_unique.proofs.KindCases.{PostCase}
 
@@ -133,15 +136,15 @@ module _ (marks : Trail) (m : Mark) (level key : ℕ) (least : 0 < level) where
 
   -- an answer goes on meaning what it meant
   pub reply_on : (r : PostReply) → writes_in m.event.act ≡ [] → reply_log level key r marks → reply_log level key r more
-  reply_on (reply.Done s) quiet h = parted_on marks m quiet h
+  reply_on (reply.Done s) quiet h = done_on marks m quiet h
   reply_on reply.Already quiet h = already_on marks m quiet h
   reply_on reply.Stale quiet h = stale_on marks m quiet h
   reply_on reply.NoRoom quiet h = no_room_on marks m quiet h
   reply_on reply.TooTall quiet h = tall_on marks m quiet h
 
   outcome_on : (o : Outcome) → writes_in m.event.act ≡ [] → outcome_log level key o marks → outcome_log level key o more
-  outcome_on outcome.Changed quiet h = parted_on marks m quiet h
-  outcome_on (outcome.Parted s) quiet h = parted_on marks m quiet h
+  outcome_on outcome.Changed quiet h = done_on marks m quiet h
+  outcome_on (outcome.Parted s) quiet h = done_on marks m quiet h
   outcome_on outcome.Refused quiet h = no_room_on marks m quiet h
 
   outcome_reply : (o : Outcome) → outcome_log level key o more → reply_log level key (post_reply o) more
@@ -160,34 +163,49 @@ module _ (marks : Trail) (m : Mark) (level key : ℕ) (least : 0 < level) where
   listed_on x parent y l t did saw h = record {
     parent = record {
       at = x;
-      under = under (held_on marks m [] (λ o. (let e = sym did ∙ o in cc)) (subst (λ a. ArePuts (writes_in a) []) (sym did) tt) h);
+      under = under (held_on marks m [] (λ o. (let e = sym did ∙ o in cc)) (ap writes_in did) h);
       parent = InnerPage parent;
       got = got_last h.during m did saw;
       level_is = l.2;
       covers = l.1;
     };
-    none = refl;
+    none = writes_of-push h.during m ∙ (ap (λ z. z ++ writes_in m.event.act) h.writes_are ∙ ap writes_in did);
     child = t.1.0;
     listed = t.1.1;
   }
 
   -- the anchor was put, and with it a new top level
-  raised_more : (x : ℕ) (top anchor : Page) (acts : List (Act Page Reply)) → ((before : List (Act Page Reply)) × RaisesOnly level before × (acts ≡ before ++ Put x top ∷ [])) → (node_of top).shape.level ≡ level → m.event.act ≡ Put 0 anchor → RaisesOnly level (acts ++ writes_in m.event.act)
+  raised_more : (x : ℕ) (top anchor : Page) (acts : List (Act Page Reply)) → ((before : List (Act Page Reply)) × RaisesOnly level before × (acts ≡ before ++ Take x ∷ Put x top ∷ [])) → IsNewTop level x top anchor → m.event.act ≡ Put 0 anchor → RaisesOnly level (acts ++ writes_in m.event.act)
   raised_more x top anchor acts (before, raises, same) above did =
-      subst (RaisesOnly level) (sym (ap (λ z. acts ++ writes_in z) did ∙ (ap (λ z. z ++ Put 0 anchor ∷ []) same ∙ append_assoc before (Put x top ∷ []) (Put 0 anchor ∷ [])))) (RaisesOnly.Again x top anchor raises above)
+      subst (RaisesOnly level) (sym (ap (λ z. acts ++ writes_in z) did ∙ (ap (λ z. z ++ Put 0 anchor ∷ []) same ∙ append_assoc before (Take x ∷ Put x top ∷ []) (Put 0 anchor ∷ [])))) (RaisesOnly.Again x top anchor raises above)
+
+  -- of a new top level this was written, and now one thing more
+  half_more : (half : List (Act Page Reply)) → HasHalfRaised level half marks → (new : List (Act Page Reply)) → writes_in m.event.act ≡ new → HasHalfRaised level (half ++ new) more
+  half_more half h new did = wrote_on marks m (λ acts is. (is.0, is.1, ap (λ z. acts ++ z) did ∙ (ap (λ z. z ++ new) is.2 ∙ append_assoc is.0 half new))) h
 
   top_level : (above below : ℕ) (c : Page) → IsTop above below c → (node_of c).shape.level ≡ above
   top_level above below (InnerPage i) t = t.0
   top_level above below old t = absurd t
 
+  named_by : (leftmost : List ℕ) (x : ℕ) (c : Page) → IsAnchor (leftmost ++ x ∷ []) c → ((roots_of c).levels ≡ suc (length leftmost)) × ((roots_of c).leftmost (length leftmost) ≡ x)
+  named_by leftmost x (AnchorPage a) t = (ap length t ∙ (length-append leftmost (x ∷ []) ∙ add-one (length leftmost)), ap (λ z. get_or z (length leftmost) 0) t ∙ get_or-append_seam leftmost x [] 0)
+  named_by leftmost x old t = absurd t
+
+  new_top : (leftmost : List ℕ) (x : ℕ) (top anchor : Page) → length leftmost ≡ level → Raises leftmost x top anchor → IsNewTop level x top anchor
+  new_top leftmost x top anchor e t =
+      let n = named_by leftmost x anchor t.1 in
+      record { top_level = top_level _ _ top t.0 ∙ e; levels = n.0 ∙ ap suc e; named = ap (roots_of anchor).leftmost (sym e) ∙ n.1 }
+
   grow_on : {g h : Growth} {what : Seen} → GrowthCase level g what (grew.On h) → m.event.act ≡ event_of None (growth_next g) what → growth_log level g marks → growth_log level h more
   grow_on (GrowthCase.LatchedAnchor h t) did log = subst (λ z. growth_log level z more) (sym t) (held_now marks m 0 did log)
   grow_on (GrowthCase.Missed h t) did log = subst (λ z. growth_log level z more) (sym t) (raised_on (ap writes_in did) log)
-  grow_on (GrowthCase.Rises c q t) did log = (held_on marks m [] (λ o. (let e = sym did ∙ o in cc)) (subst (λ a. ArePuts (writes_in a) []) (sym did) tt) log, ap (λ z. (roots_of z).levels) (sym t.0) ∙ t.1)
+  grow_on (GrowthCase.Rises c q t) did log = (held_on marks m [] (λ o. (let e = sym did ∙ o in cc)) (ap writes_in did) log, ap (λ z. (roots_of z).levels) (sym t.0) ∙ t.1)
   grow_on (GrowthCase.Stands c t) did log = raised_on (ap writes_in did) (held_raised log)
-  grow_on (GrowthCase.TookTop rise n q t) did log = (raised_on (ap writes_in did) (held_raised log.0), top_level _ _ q.top t.1.0 ∙ log.1)
+  grow_on (GrowthCase.TookTop rise n q t) did log =
+      let half : HasHalfRaised level (Take n ∷ []) more = wrote_on marks m (λ acts is. (acts, is, ap (λ z. acts ++ writes_in z) did)) (held_raised log.0) in
+      (subst (λ z. HasHalfRaised level (Take z ∷ []) more) (sym t.0) half, new_top rise.anchor.leftmost.items q.new q.top q.anchor log.1 (subst (λ z. Raises rise.anchor.leftmost.items z q.top q.anchor) (sym t.0) t.1))
   grow_on (GrowthCase.TopRefused rise h t) did log = subst (λ z. growth_log level z more) (sym t) (refused_while marks m did log.0)
-  grow_on (GrowthCase.PutTop r h t) did log = subst (λ z. growth_log level z more) (sym t) (wrote_on marks m (λ acts is. (acts, is, ap (λ z. acts ++ writes_in z) did)) log.0, log.1)
+  grow_on (GrowthCase.PutTop r h t) did log = subst (λ z. growth_log level z more) (sym t) (half_more (Take r.new ∷ []) log.0 (Put r.new r.top ∷ []) (ap writes_in did), log.1)
   grow_on (GrowthCase.PutAnchor r h t) did log = subst (λ z. growth_log level z more) (sym t) (wrote_on marks m (λ acts is. raised_more r.new r.top r.anchor acts is log.1 did) log.0)
   grow_on (GrowthCase.OpenedTop x h t) did log = subst (λ z. growth_log level z more) (sym t) (raised_on (ap writes_in did) log)
 
@@ -209,29 +227,29 @@ module _ (marks : Trail) (m : Mark) (level key : ℕ) (least : 0 < level) where
   -- on with the change of the parent
   change_on : {c d : Change} {what : Seen} → ChangeCase c what (changed.On d) → m.event.act ≡ event_of None (change_next c) what → change_log level key c marks → change_log level key d more
   change_on (ChangeCase.Put x page d t) did h =
-      let both : HoldsBoth level key more x h.parent h.child (page ∷ []) = both_held_on marks m (page ∷ []) (λ o. (let e = sym did ∙ o in cc)) (subst (λ a. ArePuts (writes_in a) (page ∷ [])) (sym did) ((_, refl), tt)) h.both in
-      let put : IsToPut level key more x (page ∷ []) (page ∷ []) = record { parent = h.parent; child = h.child; both = both; together = h.together } in
-      subst (λ z. change_log level key z more) (sym t) (is_parted None (page ∷ []) put (page, refl))
+      let both : HoldsBoth level key more x h.parent h.child (Put x page ∷ []) = both_held_on marks m (Put x page ∷ []) (λ o. (let e = sym did ∙ o in cc)) (ap writes_in did) h.both in
+      let put : IsToPut level key more x (Put x page ∷ []) (page ∷ []) = record { parent = h.parent; child = h.child; both = both; together = h.together } in
+      subst (λ z. change_log level key z more) (sym t) (is_done None (Put x page ∷ []) (page ∷ []) put (WritesBack.Whole page))
   change_on (ChangeCase.PutRefused x page d t) did h =
       subst (λ z. change_log level key z more) (sym t) (refused_while marks m did h.both.above.holding)
   change_on (ChangeCase.Took full n q t) did h =
-      let both : HoldsBoth level key more full.at full.page full.word [] = both_held_on marks m [] (λ o. (let e = sym did ∙ o in cc)) (subst (λ a. ArePuts (writes_in a) []) (sym did) tt) h.0 in
+      let both : HoldsBoth level key more full.at full.page full.word (Take n ∷ []) = both_held_on marks m (Take n ∷ []) (λ o. (let e = sym did ∙ o in cc)) (ap writes_in did) h.0 in
       let cut = split_cut full.page q.left q.right key full.word n q.separator (subst (λ z. IsFitted full.page z full.word n (Split q.left q.right q.separator)) h.1 t.2) both.above.covers in
-      let put = subst (λ z. IsToPut level key more z [] (q.right ∷ q.left ∷ [])) (sym t.0) (record { parent = full.page; child = full.word; both = both; together = cut_together full.page q.left q.right n key full.word cut both.above.unlisted }) in
-      (put, cut_low full.page q.left q.right full.key full.word n q.separator t.2)
+      let put : IsToPut level key more full.at (Take n ∷ []) (q.right ∷ q.left ∷ []) = (record { parent = full.page; child = full.word; both = both; together = cut_together full.page q.left q.right n key full.word cut both.above.unlisted }) in
+      (rw (t.0, t.1) put, cut_low full.page q.left q.right full.key full.word n q.separator t.2)
   change_on (ChangeCase.TakeRefused full d t) did h =
       subst (λ z. change_log level key z more) (sym t) (refused_while marks m did h.0.above.holding)
   change_on (ChangeCase.PutNew p d t) did h =
       let put = h.0 in
-      let both : HoldsBoth level key more p.at put.parent put.child (p.right ∷ []) = both_held_on marks m (p.right ∷ []) (λ o. (let e = sym did ∙ o in cc)) (subst (λ a. ArePuts (writes_in a) (p.right ∷ [])) (sym did) ((_, refl), tt)) put.both in
+      let both : HoldsBoth level key more p.at put.parent put.child (Take p.new ∷ Put p.new p.right ∷ []) = both_held_on marks m (Put p.new p.right ∷ []) (λ o. (let e = sym did ∙ o in cc)) (ap writes_in did) put.both in
       subst (λ z. change_log level key z more) (sym t) (record { parent = put.parent; child = put.child; both = both; together = put.together }, h.1)
   change_on (ChangeCase.PutOld p d t) did h =
       let was = h.0 in
-      let both : HoldsBoth level key more p.at was.parent was.child (p.right ∷ p.left ∷ []) = both_held_on marks m (p.left ∷ []) (λ o. (let e = sym did ∙ o in cc)) (subst (λ a. ArePuts (writes_in a) (p.left ∷ [])) (sym did) ((_, refl), tt)) was.both in
-      let put : IsToPut level key more p.at (p.right ∷ p.left ∷ []) (p.right ∷ p.left ∷ []) = record { parent = was.parent; child = was.child; both = both; together = was.together } in
-      subst (λ z. change_log level key z more) (sym t) (is_parted (Some p.separator) (p.right ∷ p.left ∷ []) put (p.right, p.left, refl, h.1))
+      let both : HoldsBoth level key more p.at was.parent was.child (Take p.new ∷ Put p.new p.right ∷ Put p.at p.left ∷ []) = both_held_on marks m (Put p.at p.left ∷ []) (λ o. (let e = sym did ∙ o in cc)) (ap writes_in did) was.both in
+      let put : IsToPut level key more p.at (Take p.new ∷ Put p.new p.right ∷ Put p.at p.left ∷ []) (p.right ∷ p.left ∷ []) = record { parent = was.parent; child = was.child; both = both; together = was.together } in
+      subst (λ z. change_log level key z more) (sym t) (is_done (Some p.separator) _ (p.right ∷ p.left ∷ []) put (WritesBack.Split p.new p.separator p.right p.left h.1))
   change_on (ChangeCase.OpenedNew x new separator d t) did h =
-      subst (λ z. change_log level key z more) (sym t) (parted_on marks m (ap writes_in did) h)
+      subst (λ z. change_log level key z more) (sym t) (done_on marks m (ap writes_in did) h)
 
   change_end : {c : Change} {what : Seen} {o : Outcome} → ChangeCase c what (changed.Over o) → m.event.act ≡ event_of None (change_next c) what → change_log level key c marks → reply_log level key (post_reply o) more
   change_end (ChangeCase.Opened x o last t) did h = outcome_reply last (outcome_on last (ap writes_in did) (subst (λ z. outcome_log level key z marks) (sym t) h))
@@ -249,7 +267,7 @@ module _ (marks : Trail) (m : Mark) (level key : ℕ) (least : 0 < level) where
   post_on (PostCase.Grown g what b t) did saw h = subst (λ z. approach_log level z more) (sym t.1) (grown_on (growth_case level g what _ t.0) did h)
   post_on (PostCase.NoRoom g what last t) did saw h = subst (λ z. reply_log level key z more) (sym t.1) (grow_end (growth_case level g what _ t.0) did h)
   post_on (PostCase.Walked v c u t) did saw (h, same) =
-      let on : HoldsParent level key more v.at (InnerPage v.parent) [] = parent_held_on marks m [] (λ o. (let e = sym did ∙ o in cc)) (subst (λ a. ArePuts (writes_in a) []) (sym did) tt) h in
+      let on : HoldsParent level key more v.at (InnerPage v.parent) [] = parent_held_on marks m [] (λ o. (let e = sym did ∙ o in cc)) (ap writes_in did) h in
       (subst (λ z. HoldsParent level key more z (InnerPage u.parent) []) (sym t.0) (subst (λ z. HoldsParent level key more v.at (InnerPage z) []) (sym t.2) on), t.1 ∙ same)
   post_on (PostCase.Entered v c d t) did saw (h, same) =
       let l : Leads c key (level - 1) Here = subst (λ z. Leads c z (level - 1) Here) same t.0 in
@@ -257,11 +275,11 @@ module _ (marks : Trail) (m : Mark) (level key : ℕ) (least : 0 < level) where
       enter_on v.at (InnerPage v.parent) v.child d (subst (λ z. EntersPair v.at (InnerPage v.parent) z v.child d) same t.2) both
   post_on (PostCase.Stale v c x t) did saw (h, same) =
       let l : Leads c key (level - 1) Here = subst (λ z. Leads c z (level - 1) Here) same t.1 in
-      let on = held_on marks m [] (λ o. (let e = sym did ∙ o in cc)) (subst (λ a. ArePuts (writes_in a) []) (sym did) tt) h.holding in
+      let on = held_on marks m [] (λ o. (let e = sym did ∙ o in cc)) (ap writes_in did) h.holding in
       inr (record {
         parent = record { at = v.at; under = under on; parent = InnerPage v.parent; got = got_on h.holding.during m h.got; level_is = h.level_is; covers = h.covers };
         child = record { at = v.child; child = c; got = got_last h.holding.during m did (saw v.child c did refl); level_is = (let e = l.2 in omega (arith, least)); covers = l.1 };
-        none = refl;
+        none = on.writes_are;
         low = subst (λ z. (node_of c).shape.low ≢ z) same t.2;
       })
   post_on (PostCase.Lost v c a t) did saw (h, same) = subst (λ z. approach_log level z more) (sym t.0) (raised_on (ap writes_in did) (held_raised h.holding))
@@ -272,38 +290,35 @@ module _ (marks : Trail) (m : Mark) (level key : ℕ) (least : 0 < level) where
 
   -- a mark that neither writes nor opens a page
   module _ (quiet : writes_in m.event.act ≡ []) (shut : (x : ℕ) → m.event.act ≢ Act.Open x) where
-    put : ArePuts (writes_in m.event.act) []
-    put = subst (λ z. ArePuts z []) (sym quiet) tt
+    both_stay : {x y : ℕ} {c : Page} (acts : List (Act Page Reply)) → HoldsBoth level key marks x c y acts → HoldsBoth level key more x c y acts
+    both_stay {x} {y} {c} acts h = subst (λ z. HoldsBoth level key more x c y z) (append-nil acts) (both_held_on marks m [] (shut x) quiet h)
 
-    both_stay : {x y : ℕ} {c : Page} (puts : _) → HoldsBoth level key marks x c y puts → HoldsBoth level key more x c y puts
-    both_stay {x} {y} {c} puts h = subst (λ z. HoldsBoth level key more x c y z) (append-nil puts) (both_held_on marks m [] (shut x) put h)
-
-    to_put_stays : {x : ℕ} (puts pages : _) → IsToPut level key marks x puts pages → IsToPut level key more x puts pages
-    to_put_stays puts pages h = record { parent = h.parent; child = h.child; both = both_stay puts h.both; together = h.together }
+    to_put_stays : {x : ℕ} {acts : List (Act Page Reply)} {pages : List Page} → IsToPut level key marks x acts pages → IsToPut level key more x acts pages
+    to_put_stays {x} {acts} {pages} h = record { parent = h.parent; child = h.child; both = both_stay acts h.both; together = h.together }
 
     growth_stays : (g : Growth) → growth_log level g marks → growth_log level g more
     growth_stays growth.Latching h = raised_on quiet h
-    growth_stays growth.Latched h = held_on marks m [] (shut 0) put h
-    growth_stays (growth.Taking r) h = (held_on marks m [] (shut 0) put h.0, h.1)
-    growth_stays (growth.PuttingTop r) h = (raised_on quiet h.0, h.1)
+    growth_stays growth.Latched h = held_on marks m [] (shut 0) quiet h
+    growth_stays (growth.Taking r) h = (held_on marks m [] (shut 0) quiet h.0, h.1)
+    growth_stays (growth.PuttingTop r) h = (wrote_still marks m _ quiet h.0, h.1)
     growth_stays (growth.PuttingAnchor r) h = (wrote_still marks m _ quiet h.0, h.1)
     growth_stays (growth.OpeningTop x) h = raised_on quiet h
     growth_stays growth.OpeningGrown h = raised_on quiet h
     growth_stays growth.OpeningRefused h = no_room_on marks m quiet h
 
     change_stays : (c : Change) → change_log level key c marks → change_log level key c more
-    change_stays (change.Putting x page) h = to_put_stays [] (page ∷ []) h
+    change_stays (change.Putting x page) h = to_put_stays h
     change_stays (change.Taking full) h = (both_stay [] h.0, h.1)
-    change_stays (change.PuttingNew p) h = (to_put_stays [] (p.right ∷ p.left ∷ []) h.0, h.1)
-    change_stays (change.PuttingOld p) h = (to_put_stays (p.right ∷ []) (p.right ∷ p.left ∷ []) h.0, h.1)
-    change_stays (change.OpeningNew x new separator) h = parted_on marks m quiet h
+    change_stays (change.PuttingNew p) h = (to_put_stays h.0, h.1)
+    change_stays (change.PuttingOld p) h = (to_put_stays h.0, h.1)
+    change_stays (change.OpeningNew x new separator) h = done_on marks m quiet h
     change_stays (change.Opening x o) h = outcome_on o quiet h
 
     pub post_stays : (old : PostStage) → post_log level key old marks → post_log level key old more
     post_stays post.New h = tt
-    post_stays (post.Coming a) h = way_stays (raised_on quiet) (λ x k. held_on marks m [] (shut x) put k) a h
+    post_stays (post.Coming a) h = way_stays (raised_on quiet) (λ x k. held_on marks m [] (shut x) quiet k) a h
     post_stays (post.Growing g) h = growth_stays g h
-    post_stays (post.Walking v) h = (parent_held_on marks m [] (shut v.at) put h.0, h.1)
+    post_stays (post.Walking v) h = (parent_held_on marks m [] (shut v.at) quiet h.0, h.1)
     post_stays (post.Changing c) h = change_stays c h
     post_stays (post.Staying x r) h = reply_on r quiet h
     post_stays (post.Ending r) h = reply_on r quiet h

@@ -8,9 +8,9 @@ use Rattle.bl_page.specs.Machine.{Name, Act}
 use Rattle.bl_page.specs.Machine.Act.{Get, Put, Latch, Retire, Miss}
 use Rattle.bl_claims.specs.Pages.{roots_of}
 use Rattle.bl_claims.specs.Trails.{Mark, Trail, marks_of}
-use Rattle.bl_claims.specs.Meanings.{HasGot, writes_in}
+use Rattle.bl_claims.specs.Meanings.{HasGot, writes_in, Unwritten}
 use Rattle.bl_core.specs.Worlds.{World, IsGood}
-use Rattle.bl_core.proofs.Meant.{begun_now, got_on, got_last}
+use Rattle.bl_core.proofs.Meant.{begun_now, unwritten_on, got_on, got_last}
 use Rattle.bl_proc_base.specs.declared.acts.Seen.{Seen}
 use Rattle.bl_proc_base.specs.declared.acts.Seen.TheVariants as seen
 use Rattle.bl_proc_base.specs.declared.lowering.Lowered.{Lowered}
@@ -29,13 +29,13 @@ use Rattle.bl_proc.specs.Lowers.{lower_next_in, lower_answer_in}
 use Rattle.bl_proc_base.specs.declared.lowering.Sank.TheVariants.{On, Over}
 use Rattle.bl_proc_base.specs.Onwards.{top_of}
 use Rattle.bl_proc_base.specs.Lowerings.{lowering_next}
-use Rattle.bl_proc_meanings.specs.Squeezed.{acts_in, Unwritten}
-use Rattle.bl_proc_meanings.specs.Lowered.{AtTop, to_top, IsToLower, MeansLowered}
+use Rattle.bl_proc_meanings.specs.Squeezed.{acts_in}
+use Rattle.bl_proc_meanings.specs.Lowered.{AtTop, to_top, to_sunk, HasLowered, MeansLowered}
 use Rattle.bl_proc_invariant.specs.Turns.{event_of}
-use Rattle.bl_proc_invariant.specs.LoweringLog.{AtSummit, lowering_log}
+use Rattle.bl_proc_invariant.specs.LoweringLog.{AtSummit, IsToLowerBy, lowering_log}
 use Rattle.bl_proc_invariant.specs.Logs.{proc_log, lower_log}
 use Rattle.bl_proc_invariant.specs.Knowing.{Run, know}
-use Rattle.bl_proc_invariant.proofs.Doing.{unwritten_on, since_now, since_on, since_unwritten, once_on, once_now}
+use Rattle.bl_proc_invariant.proofs.Doing.{since_now, since_on, since_unwritten, once_on, once_now}
 use Rattle.bl_proc_unique.proofs.Lowerings.{LoweringCase, lowering_case}
 use Rattle.bl_proc_unique.proofs.KindCases.{LowerCase}
 
@@ -46,8 +46,8 @@ module _ (ms : Trail) (m : Mark) where
   top_on : {anchor : AnchorPage} {top : Page} {acts : List (Act Page Reply)} (new : List (Act Page Reply)) → acts_in m.event.act ≡ new → AtTop ms anchor top acts → AtTop more anchor top (acts ++ new)
   top_on new did h = record { since = since_on ms m new did h.since; got = got_on h.since.during m h.got; tall = h.tall; got_top = got_on h.since.during m h.got_top }
 
-  sinking_on : {s : Sinking} {acts : List (Act Page Reply)} (new : List (Act Page Reply)) → acts_in m.event.act ≡ new → IsToLower ms s acts → IsToLower more s (acts ++ new)
-  sinking_on new did h = record { anchor = h.anchor; top = h.top; at = top_on new did h.at; is = h.is; sole = h.sole; sinks = h.sinks }
+  sinking_on : {s : Sinking} {acts : List (Act Page Reply)} (new : List (Act Page Reply)) → acts_in m.event.act ≡ new → IsToLowerBy ms s acts → IsToLowerBy more s (acts ++ new)
+  sinking_on new did h = record { anchor = h.anchor; is = record { top = h.is.top; at = top_on new did h.is.at; is = h.is.is; sole = h.is.sole }; sinks = h.sinks }
 
   summit_on : {t : Summit} {acts : List (Act Page Reply)} (new : List (Act Page Reply)) → acts_in m.event.act ≡ new → AtSummit ms t acts → AtSummit more t (acts ++ new)
   summit_on new did h = record { since = since_on ms m new did h.since; got = got_on h.since.during m h.got; top = h.top }
@@ -60,6 +60,10 @@ module _ (ms : Trail) (m : Mark) where
     tall = t.tall;
     got_top = subst (λ z. HasGot (h.since.during ++ m ∷ []) z c) h.top (got_last h.since.during m did saw);
   }
+
+  -- all that was to be put has been put, and the page retired
+  sunk : (s : Sinking) → IsToLowerBy more s (to_sunk s.top s.anchor s.dead) → HasLowered more
+  sunk s h = record { x = s.top; anchor = h.anchor; lower = s.anchor; dead = s.dead; is = h.is; lower_is = h.sinks.0; dead_is = h.sinks.1 }
 
   lowered_on : (what : Lowered) → writes_in m.event.act ≡ [] → MeansLowered what ms → MeansLowered what more
   lowered_on lowered.Lowered put h = once_on ms m put h
@@ -84,17 +88,19 @@ module _ (ms : Trail) (m : Mark) where
   lowering_on (LoweringCase.MissedUpper t new k) did saw h = subst (λ z. lowering_log z more) (sym k) (summit_on [] (ap acts_in did) h)
   lowering_on (LoweringCase.IsSpare t c s k) did saw h = record {
     anchor = t.anchor;
-    top = c;
-    at = subst (λ z. AtTop more t.anchor c (to_top z)) (sym k.0) (top_got t c did (saw t.top c did refl) h);
-    is = k.0 ∙ h.top;
-    sole = k.1;
+    is = record {
+      top = c;
+      at = subst (λ z. AtTop more t.anchor c (to_top z)) (sym k.0) (top_got t c did (saw t.top c did refl) h);
+      is = k.0 ∙ h.top;
+      sole = k.1;
+    };
     sinks = k.2;
   }
   lowering_on (LoweringCase.IsNeeded t c x what k) did saw h = subst (λ z. MeansLowered z more) (sym k.1) (once_now ms m (inr (record { anchor = t.anchor; top = c; at = subst (λ z. AtTop more t.anchor c (to_top z)) h.top (top_got t c did (saw t.top c did refl) h); need = k.2 })))
   lowering_on (LoweringCase.PutAnchor s new k) did saw h = subst (λ z. lowering_log z more) (sym k) (sinking_on (Put 0 s.anchor ∷ []) (ap acts_in did) h)
-  lowering_on (LoweringCase.Refused s new k) did saw h = subst (λ z. lowering_log z more) (sym k) (once_now ms m (record { until = ms; mark = m; split = refl; refused = did; sinking = s; is = h }))
+  lowering_on (LoweringCase.Refused s new k) did saw h = subst (λ z. lowering_log z more) (sym k) (once_now ms m (record { until = ms; mark = m; split = refl; refused = did; x = s.top; anchor = h.anchor; is = h.is }))
   lowering_on (LoweringCase.PutDead s new k) did saw h = subst (λ z. lowering_log z more) (sym k) (s, refl, sinking_on (Put s.top s.dead ∷ []) (ap acts_in did) h)
-  lowering_on (LoweringCase.Retired x new k) did saw h = subst (λ z. lowering_log z more) (sym k) (once_now ms m (h.0, sinking_on (Retire h.0.top ∷ []) (ap acts_in did ∙ ap (λ z. Retire z ∷ []) h.1) h.2))
+  lowering_on (LoweringCase.Retired x new k) did saw h = subst (λ z. lowering_log z more) (sym k) (once_now ms m (sunk h.0 (sinking_on (Retire h.0.top ∷ []) (ap acts_in did ∙ ap (λ z. Retire z ∷ []) h.1) h.2)))
   lowering_on (LoweringCase.OpenedTop x what new k) did saw h = subst (λ z. lowering_log z more) (sym k) (lowered_on what (ap writes_in did) h)
 
   -- what it answers means what it says

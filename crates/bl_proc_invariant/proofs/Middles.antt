@@ -23,8 +23,8 @@ use Rattle.bl_proc_compress.specs.declared.compressing.Compression.TheVariants.{
 use Rattle.bl_proc_compress.specs.declared.squeezing.CompressStage.{CompressStage}
 use Rattle.bl_proc_compress.specs.declared.squeezing.CompressStage.TheVariants as compress
 use Rattle.bl_proc_invariant.specs.Compressing.{AreThree, left_now, right_now}
-use Rattle.bl_proc_meanings.specs.Squeezed.{acts_in, acts_of, Since, put_act, IsToSqueeze}
-use Rattle.bl_proc_invariant.specs.Logs.{proc_log, compress_log}
+use Rattle.bl_proc_meanings.specs.Squeezed.{acts_in, acts_of, Since}
+use Rattle.bl_proc_invariant.specs.Logs.{put_act, IsToSqueeze, proc_log, compress_log}
 use Rattle.bl_proc_invariant.specs.Knowing.{Run, know_of, know_compress, bare}
 use Rattle.bl_proc_invariant.proofs.Plain.{of_middle}
 

@@ -4,11 +4,11 @@ use Rattle.bl_model.specs.declared.operation.Reply.{Reply}
 use Rattle.bl_page.specs.declared.page.Page.{Page}
 use Rattle.bl_page.specs.declared.page.Page.TheVariants.{Inner}
 use Rattle.bl_page.specs.Machine.{Act}
-use Rattle.bl_page.specs.Machine.Act.{Get, Latch}
+use Rattle.bl_page.specs.Machine.Act.{Get, Put, Take, Latch}
 use Rattle.bl_claims.specs.Nodes.{Covers}
 use Rattle.bl_claims.specs.Pages.{node_of}
 use Rattle.bl_claims.specs.Trails.{Mark, Trail}
-use Rattle.bl_claims.specs.Meanings.{HasGot, writes_of, Wrote, RaisesOnly, HasRaised, ArePuts, ListTogether, MeansParted, MeansAlready, MeansStale, MeansTooTall, MeansNoRoom}
+use Rattle.bl_claims.specs.Meanings.{HasGot, writes_of, Wrote, Unwritten, WroteHeld, IsNewTop, RaisesOnly, HasRaised, ListTogether, MeansDone, MeansAlready, MeansStale, MeansTooTall, MeansNoRoom}
 use Rattle.bl_proc_base.specs.declared.approaching.Approach.{Approach}
 use Rattle.bl_proc_base.specs.declared.approaching.Approach.TheVariants as way
 use Rattle.bl_proc_base.specs.declared.changing.Outcome.{Outcome}
@@ -21,7 +21,9 @@ use Rattle.bl_proc.specs.declared.posting.PostReply.{PostReply}
 use Rattle.bl_proc.specs.declared.posting.PostReply.TheVariants as reply
 use Rattle.bl_proc.specs.declared.posting.PostStage.{PostStage}
 use Rattle.bl_proc.specs.declared.posting.PostStage.TheVariants as post
+use Rattle.bl_rearrange.specs.declared.sides.Side.{Side}
 use Rattle.bl_proc_compress.specs.declared.compressing.Puts.{Puts}
+use Rattle.bl_proc_compress.specs.declared.compressing.Family.{Family}
 use Rattle.bl_proc_base.specs.declared.answers.Hint.{Hint}
 use Rattle.bl_proc_compress.specs.declared.compressing.Fate.{Fate}
 use Rattle.bl_proc_compress.specs.declared.compressing.Fate.TheVariants as fate
@@ -31,7 +33,8 @@ use Rattle.bl_proc_compress.specs.declared.squeezing.CompressReply.{CompressRepl
 use Rattle.bl_proc_compress.specs.declared.squeezing.CompressReply.TheVariants as pressed
 use Rattle.bl_proc_compress.specs.declared.squeezing.CompressStage.{CompressStage}
 use Rattle.bl_proc_compress.specs.declared.squeezing.CompressStage.TheVariants as compress
-use Rattle.bl_proc_meanings.specs.Squeezed.{Unwritten, Since, AtFamily, AtLeft, to_left, to_right, to_first, to_second, to_last, IsToSqueeze, MeansMerged, MeansEvened, MeansEnough, MeansUnposted, MeansAlone, MeansNoPlace}
+use Rattle.bl_proc_meanings.specs.Squeezed.{Since, AtFamily, AtLeft, AtBoth, to_left, to_right, put_child, MeansMerged, MeansEvened, MeansEnough, MeansUnposted, MeansAlone, MeansNoPlace}
+use Rattle.bl_proc_compress.specs.Compressions.{Decides, other}
 use Rattle.bl_proc.specs.declared.inserting.InsertReply.{InsertReply}
 use Rattle.bl_proc.specs.declared.inserting.InsertReply.TheVariants as inserted
 use Rattle.bl_proc.specs.declared.inserting.InsertStage.{InsertStage}
@@ -42,7 +45,7 @@ use Rattle.bl_proc.specs.declared.deleting.DeleteReply.TheVariants as deleted
 use Rattle.bl_proc.specs.declared.deleting.DeleteStage.{DeleteStage}
 use Rattle.bl_proc.specs.declared.deleting.DeleteStage.TheVariants as delete
 use Rattle.bl_proc_base.specs.Thin.{thin_low}
-use Rattle.bl_proc_meanings.specs.Hinted.{PutSince, HasParted}
+use Rattle.bl_proc_meanings.specs.Hinted.{WroteLeaf}
 use Rattle.bl_proc_meanings.specs.Lowered.{MeansLowered}
 use Rattle.bl_proc_invariant.specs.LoweringLog.{lowering_log}
 use Rattle.bl_proc.specs.declared.lowering.LowerStage.{LowerStage}
@@ -50,8 +53,8 @@ use Rattle.bl_proc.specs.declared.lowering.LowerStage.TheVariants as lower
 use Rattle.bl_proc.specs.declared.kinds.Proc.{Proc}
 use Rattle.bl_proc.specs.declared.kinds.Proc.TheVariants as proc
 
--- page x is held since it was latched, when nothing was written but new top levels; these pages were put since
-pub record Holding (level : ℕ) (marks : Trail) (x : ℕ) (puts : List Page) : Type 0 where
+-- page x is held since it was latched, when nothing was written but new top levels; this was written since
+pub record Holding (level : ℕ) (marks : Trail) (x : ℕ) (acts : List (Act Page Reply)) : Type 0 where
   pub before : Trail
   pub first : HasRaised level before
   pub latch : Mark
@@ -59,19 +62,19 @@ pub record Holding (level : ℕ) (marks : Trail) (x : ℕ) (puts : List Page) : 
   pub split : marks ≡ before ++ latch ∷ during
   pub latched : latch.event.act ≡ Latch x
   pub kept : (mark : Mark) → Contains during mark → mark.event.act ≢ Act.Open x
-  pub puts_are : ArePuts (writes_of during) puts
+  pub writes_are : writes_of during ≡ acts
 
 -- the page is a parent of the key, as the process got it since
-pub record HoldsParent (level key : ℕ) (marks : Trail) (x : ℕ) (parent : Page) (puts : List Page) : Type 0 where
-  pub holding : Holding level marks x puts
+pub record HoldsParent (level key : ℕ) (marks : Trail) (x : ℕ) (parent : Page) (acts : List (Act Page Reply)) : Type 0 where
+  pub holding : Holding level marks x acts
   pub got : HasGot holding.during x parent
   pub level_is : (node_of parent).shape.level ≡ level
   pub covers : Covers (node_of parent).shape key
   pub unlisted : (node_of parent).look key ≡ None
 
 -- and so is its child, whose low is the key
-pub record HoldsBoth (level key : ℕ) (marks : Trail) (x : ℕ) (parent : Page) (y : ℕ) (puts : List Page) : Type 0 where
-  pub above : HoldsParent level key marks x parent puts
+pub record HoldsBoth (level key : ℕ) (marks : Trail) (x : ℕ) (parent : Page) (y : ℕ) (acts : List (Act Page Reply)) : Type 0 where
+  pub above : HoldsParent level key marks x parent acts
   pub child : Page
   pub got : HasGot above.holding.during y child
   pub below : suc (node_of child).shape.level ≡ level
@@ -89,43 +92,43 @@ on_way Off Held (way.Leaving x to) = Off
 abbrev pub approach_log : ℕ → Approach → Trail → Type 0
 approach_log level a marks = on_way (HasRaised level marks) (λ x. Holding level marks x []) a
 
--- What a change is to put, when it has put these pages: all that lists together what it is to list.
-pub record IsToPut (level key : ℕ) (marks : Trail) (x : ℕ) (puts pages : List Page) : Type 0 where
+-- What a change is to put, when it has written this: all that lists together what it is to list.
+pub record IsToPut (level key : ℕ) (marks : Trail) (x : ℕ) (acts : List (Act Page Reply)) (pages : List Page) : Type 0 where
   pub parent : Page
   pub child : ℕ
-  pub both : HoldsBoth level key marks x parent child puts
+  pub both : HoldsBoth level key marks x parent child acts
   pub together : ListTogether pages parent key child
 
 abbrev pub outcome_log : ℕ → ℕ → Outcome → Trail → Type 0
-outcome_log level key outcome.Changed marks = MeansParted level key None marks
-outcome_log level key (outcome.Parted separator) marks = MeansParted level key (Some separator) marks
+outcome_log level key outcome.Changed marks = MeansDone level key None marks
+outcome_log level key (outcome.Parted separator) marks = MeansDone level key (Some separator) marks
 outcome_log level key outcome.Refused marks = MeansNoRoom level marks
 
 abbrev pub change_log : ℕ → ℕ → Change → Trail → Type 0
 change_log level key (change.Putting x page) marks = IsToPut level key marks x [] (page ∷ [])
 change_log level key (change.Taking full) marks = HoldsBoth level key marks full.at full.page full.word [] × (full.key ≡ key)
-change_log level key (change.PuttingNew p) marks = IsToPut level key marks p.at [] (p.right ∷ p.left ∷ []) × ((node_of p.right).shape.low ≡ p.separator)
-change_log level key (change.PuttingOld p) marks = IsToPut level key marks p.at (p.right ∷ []) (p.right ∷ p.left ∷ []) × ((node_of p.right).shape.low ≡ p.separator)
-change_log level key (change.OpeningNew x new separator) marks = MeansParted level key (Some separator) marks
+change_log level key (change.PuttingNew p) marks = IsToPut level key marks p.at (Take p.new ∷ []) (p.right ∷ p.left ∷ []) × ((node_of p.right).shape.low ≡ p.separator)
+change_log level key (change.PuttingOld p) marks = IsToPut level key marks p.at (Take p.new ∷ Put p.new p.right ∷ []) (p.right ∷ p.left ∷ []) × ((node_of p.right).shape.low ≡ p.separator)
+change_log level key (change.OpeningNew x new separator) marks = MeansDone level key (Some separator) marks
 change_log level key (change.Opening x o) marks = outcome_log level key o marks
 
--- of a new top level the top page was put, and the anchor not yet
-abbrev pub HasHalfRaised : ℕ → ℕ → Page → Trail → Type 0
-HasHalfRaised level x top marks = Wrote marks (λ acts. (before : List (Act Page Reply)) × RaisesOnly level before × (acts ≡ before ++ Act.Put x top ∷ []))
+-- of a new top level this was written, and the anchor not yet
+abbrev pub HasHalfRaised : ℕ → List (Act Page Reply) → Trail → Type 0
+HasHalfRaised level half marks = Wrote marks (λ acts. (before : List (Act Page Reply)) × RaisesOnly level before × (acts ≡ before ++ half))
 
 abbrev pub growth_log : ℕ → Growth → Trail → Type 0
 growth_log level growth.Latching marks = HasRaised level marks
 growth_log level growth.Latched marks = Holding level marks 0 []
 growth_log level (growth.Taking rise) marks = Holding level marks 0 [] × (length rise.anchor.leftmost.items ≡ level)
-growth_log level (growth.PuttingTop r) marks = HasRaised level marks × ((node_of r.top).shape.level ≡ level)
-growth_log level (growth.PuttingAnchor r) marks = HasHalfRaised level r.new r.top marks × ((node_of r.top).shape.level ≡ level)
+growth_log level (growth.PuttingTop r) marks = HasHalfRaised level (Take r.new ∷ []) marks × IsNewTop level r.new r.top r.anchor
+growth_log level (growth.PuttingAnchor r) marks = HasHalfRaised level (Take r.new ∷ Put r.new r.top ∷ []) marks × IsNewTop level r.new r.top r.anchor
 growth_log level (growth.OpeningTop x) marks = HasRaised level marks
 growth_log level growth.OpeningGrown marks = HasRaised level marks
 growth_log level growth.OpeningRefused marks = MeansNoRoom level marks
 
 -- What the answer of a post means.
 abbrev pub reply_log : ℕ → ℕ → PostReply → Trail → Type 0
-reply_log level key (reply.Done separator) marks = MeansParted level key separator marks
+reply_log level key (reply.Done separator) marks = MeansDone level key separator marks
 reply_log level key reply.Already marks = MeansAlready level key marks
 reply_log level key reply.Stale marks = MeansStale level key marks
 reply_log level key reply.NoRoom marks = MeansNoRoom level marks
@@ -141,36 +144,37 @@ post_log level key (post.Staying x r) marks = reply_log level key r marks
 post_log level key (post.Ending r) marks = reply_log level key r marks
 post_log level key (post.Over r) marks = reply_log level key r marks
 
--- Insertions and deletions: what was put is whole, and so, or it is in parts, if it may be.
+-- A process that has written nothing before it holds its page: on its way, and at the page.
+abbrev pub way_log : Approach → Trail → Type 0
+way_log a marks = on_way (Unwritten marks) (λ x. WroteHeld marks x []) a
+
+-- Insertions and deletions: the leaf that was put is whole, and so, or it was split, if it may be.
 
 abbrev pub put_log : (Page → Type 0) → Type 0 → Outcome → Trail → Type 0
-put_log Whole Parts outcome.Changed marks = (page : Page) × PutSince marks (page ∷ []) × Whole page
-put_log Whole Parts (outcome.Parted separator) marks = HasParted (Some separator) marks × Parts
-put_log Whole Parts outcome.Refused marks = Unit {0}
+put_log Whole Parts outcome.Changed marks = (x : ℕ) × (page : Page) × WroteHeld marks x (Put x page ∷ []) × Whole page
+put_log Whole Parts (outcome.Parted separator) marks = WroteLeaf (Some separator) marks × Parts
+put_log Whole Parts outcome.Refused marks = Unwritten marks
 
 abbrev pub entry_log : (Page → Type 0) → Type 0 → Change → Trail → Type 0
-entry_log Whole Parts (change.Putting x page) marks = PutSince marks [] × Whole page
-entry_log Whole Parts (change.Taking full) marks = PutSince marks [] × Parts
-entry_log Whole Parts (change.PuttingNew p) marks = PutSince marks [] × ((node_of p.right).shape.low ≡ p.separator) × Parts
-entry_log Whole Parts (change.PuttingOld p) marks = PutSince marks (p.right ∷ []) × ((node_of p.right).shape.low ≡ p.separator) × Parts
+entry_log Whole Parts (change.Putting x page) marks = WroteHeld marks x [] × Whole page
+entry_log Whole Parts (change.Taking full) marks = WroteHeld marks full.at [] × Parts
+entry_log Whole Parts (change.PuttingNew p) marks = WroteHeld marks p.at (Take p.new ∷ []) × ((node_of p.right).shape.low ≡ p.separator) × Parts
+entry_log Whole Parts (change.PuttingOld p) marks = WroteHeld marks p.at (Take p.new ∷ Put p.new p.right ∷ []) × ((node_of p.right).shape.low ≡ p.separator) × Parts
 entry_log Whole Parts (change.OpeningNew x new separator) marks = put_log Whole Parts (outcome.Parted separator) marks
 entry_log Whole Parts (change.Opening x o) marks = put_log Whole Parts o marks
-
-abbrev pub coming_log : Approach → Trail → Type 0
-coming_log a marks = on_way (Unit {0}) (λ x. PutSince marks []) a
 
 abbrev pub AnyPage : Page → Type 0
 AnyPage page = Unit {0}
 
 abbrev pub inserted_log : InsertReply → Trail → Type 0
-inserted_log (inserted.Inserted separator) marks = HasParted separator marks
-inserted_log (inserted.Present there) marks = Unit {0}
-inserted_log inserted.NoRoom marks = Unit {0}
+inserted_log (inserted.Inserted separator) marks = WroteLeaf separator marks
+inserted_log (inserted.Present there) marks = Unwritten marks
+inserted_log inserted.NoRoom marks = Unwritten marks
 
 abbrev pub insert_log : InsertStage → Trail → Type 0
 insert_log insert.New marks = Unit {0}
-insert_log (insert.Coming a) marks = coming_log a marks
-insert_log (insert.Present x there) marks = Unit {0}
+insert_log (insert.Coming a) marks = way_log a marks
+insert_log (insert.Present x there) marks = Unwritten marks
 insert_log (insert.Changing c) marks = entry_log AnyPage (Unit {0}) c marks
 insert_log (insert.Ending r) marks = inserted_log r marks
 insert_log (insert.Over r) marks = inserted_log r marks
@@ -180,22 +184,44 @@ abbrev pub IsThinAs : Removed → Page → Type 0
 IsThinAs removed page = removed.thin ≡ thin_low page
 
 abbrev pub deleted_log : DeleteReply → Trail → Type 0
-deleted_log (deleted.Deleted removed) marks = (page : Page) × PutSince marks (page ∷ []) × IsThinAs removed page
-deleted_log deleted.Absent marks = Unit {0}
-deleted_log deleted.NoRoom marks = Unit {0}
+deleted_log (deleted.Deleted removed) marks = (x : ℕ) × (page : Page) × WroteHeld marks x (Put x page ∷ []) × IsThinAs removed page
+deleted_log deleted.Absent marks = Unwritten marks
+deleted_log deleted.NoRoom marks = Unwritten marks
 
 abbrev pub delete_log : DeleteStage → Trail → Type 0
 delete_log delete.New marks = Unit {0}
-delete_log (delete.Coming a) marks = coming_log a marks
-delete_log (delete.Absent x) marks = Unit {0}
+delete_log (delete.Coming a) marks = way_log a marks
+delete_log (delete.Absent x) marks = Unwritten marks
 delete_log (delete.Changing removed c) marks = entry_log (IsThinAs removed) ⊥ c marks
 delete_log (delete.Ending r) marks = deleted_log r marks
 delete_log (delete.Over r) marks = deleted_log r marks
 
 -- Compressions
 
-abbrev pub way_log : Approach → Trail → Type 0
-way_log a marks = on_way (Unwritten marks) (λ x. Since marks x []) a
+abbrev pub come_log : Approach → Trail → Type 0
+come_log a marks = on_way (Unwritten marks) (λ x. Since marks x []) a
+
+-- What is done after the latch of the parent, up to the first put, the second and the last one.
+abbrev pub put_act : Side → Puts → Act Page Reply
+put_act side p = put_child side p.at p.left p.right
+
+abbrev pub to_first : Puts → List (Act Page Reply)
+to_first p = Get p.at.parent ∷ Latch p.at.left ∷ Get p.at.left ∷ Latch p.at.right ∷ Get p.at.right ∷ put_act p.gains p ∷ []
+
+abbrev pub to_second : Puts → List (Act Page Reply)
+to_second p = Get p.at.parent ∷ Latch p.at.left ∷ Get p.at.left ∷ Latch p.at.right ∷ Get p.at.right ∷ put_act p.gains p ∷ Put p.at.parent p.parent ∷ []
+
+abbrev pub to_last : Puts → List (Act Page Reply)
+to_last p = Get p.at.parent ∷ Latch p.at.left ∷ Get p.at.left ∷ Latch p.at.right ∷ Get p.at.right ∷ put_act p.gains p ∷ Put p.at.parent p.parent ∷ put_act (other p.gains) p ∷ []
+
+-- What is to be put was decided, of these two children that were got.
+pub record IsToSqueeze (level key : ℕ) (marks : Trail) (p : Puts) (acts : List (Act Page Reply)) : Type 0 where
+  pub family : Family
+  pub left : Page
+  pub right : Page
+  pub at : p.at ≡ family.at
+  pub both : AtBoth level key marks family left right acts
+  pub decided : Decides family left right (PuttingFirst p)
 
 abbrev pub fate_log : ℕ → ℕ → Fate → Trail → Type 0
 fate_log level key (fate.Merged hint) marks = MeansMerged level key hint marks
@@ -228,7 +254,7 @@ pressed_log level key pressed.NoRoom marks = MeansNoPlace level key marks
 
 abbrev pub compress_log : ℕ → ℕ → CompressStage → Trail → Type 0
 compress_log level key compress.New marks = Unit {0}
-compress_log level key (compress.Coming a) marks = way_log a marks
+compress_log level key (compress.Coming a) marks = come_log a marks
 compress_log level key (compress.Compressing c) marks = squeeze_log level key c marks
 compress_log level key (compress.Staying x) marks = MeansAlone level key marks
 compress_log level key (compress.Ending r) marks = pressed_log level key r marks

@@ -1,5 +1,5 @@
 -- What the answers of a lowering mean, told of what its process has done from the latch of the anchor on.
-use Rattle.std.specs.Prelude.{◌≡◌, ◌⊎◌, ℕ, ◌<◌, ◌≤◌, ◌++◌, List, [], ◌∷◌}
+use Rattle.std.specs.Prelude.{◌≡◌, ◌⊎◌, ℕ, ◌<◌, ◌≤◌, ◌-◌, ◌++◌, List, [], ◌∷◌, length, take}
 use Rattle.bl_model.specs.declared.operation.Reply.{Reply}
 use Rattle.bl_page.specs.declared.page.Page.{Page}
 use Rattle.bl_page.specs.declared.page.Page.TheVariants.{Anchor}
@@ -9,13 +9,13 @@ use Rattle.bl_page.specs.Machine.Act.{Get, Put, Latch, Retire, Miss}
 use Rattle.bl_page.specs.declared.machine.Missed.TheVariants as missed
 use Rattle.bl_claims.specs.Pages.{roots_of}
 use Rattle.bl_claims.specs.Trails.{Mark, Trail}
-use Rattle.bl_claims.specs.Meanings.{HasGot}
+use Rattle.bl_claims.specs.Meanings.{HasGot, Unwritten}
 use Rattle.bl_proc_base.specs.declared.lowering.Lowered.{Lowered}
 use Rattle.bl_proc_base.specs.declared.lowering.Lowered.TheVariants as lowered
-use Rattle.bl_proc_base.specs.declared.lowering.Sinking.{Sinking}
 use Rattle.bl_proc_base.specs.Onwards.{top_of}
-use Rattle.bl_proc_base.specs.Lowerings.{IsSole, Sinks}
-use Rattle.bl_proc_meanings.specs.Squeezed.{Unwritten, Since, Once}
+use Rattle.bl_proc_base.specs.Lowerings.{IsSole, IsFallen}
+use Rattle.bl_proc_base.specs.Growths.{IsAnchor}
+use Rattle.bl_proc_meanings.specs.Squeezed.{Since, Once}
 
 -- The anchor was latched and got, and names more than one level; then the leftmost page of the last one was latched and got.
 pub record AtTop (marks : Trail) (anchor : AnchorPage) (top : Page) (acts : List (Act Page Reply)) : Type 0 where
@@ -28,21 +28,28 @@ pub record AtTop (marks : Trail) (anchor : AnchorPage) (top : Page) (acts : List
 abbrev pub to_top : ℕ → List (Act Page Reply)
 to_top x = Get 0 ∷ Latch x ∷ Get x ∷ []
 
-abbrev pub to_sunk : Sinking → List (Act Page Reply)
-to_sunk s = Get 0 ∷ Latch s.top ∷ Get s.top ∷ Put 0 s.anchor ∷ Put s.top s.dead ∷ Retire s.top ∷ []
+abbrev pub to_sunk : ℕ → Page → Page → List (Act Page Reply)
+to_sunk x lower dead = Get 0 ∷ Latch x ∷ Get x ∷ Put 0 lower ∷ Put x dead ∷ Retire x ∷ []
 
--- The top page that was got is not needed, and this is what is put then.
-pub record IsToLower (marks : Trail) (s : Sinking) (acts : List (Act Page Reply)) : Type 0 where
-  pub anchor : AnchorPage
+-- Page x, the top page that was got, is not needed.
+pub record IsToLower (marks : Trail) (x : ℕ) (anchor : AnchorPage) (acts : List (Act Page Reply)) : Type 0 where
   pub top : Page
   pub at : AtTop marks anchor top acts
-  pub is : s.top ≡ top_of (roots_of (Anchor anchor))
+  pub is : x ≡ top_of (roots_of (Anchor anchor))
   pub sole : IsSole top
-  pub sinks : Sinks anchor.leftmost.items s
 
--- Lowered: the anchor was put without the level, then the page dead, which was then retired.
+-- Lowered: the anchor was put without its last level, then the top page as a dead page of that level, which was then retired.
+pub record HasLowered (marks : Trail) : Type 0 where
+  pub x : ℕ
+  pub anchor : AnchorPage
+  pub lower : Page
+  pub dead : Page
+  pub is : IsToLower marks x anchor (to_sunk x lower dead)
+  pub lower_is : IsAnchor (take (length anchor.leftmost.items - 1) anchor.leftmost.items) lower
+  pub dead_is : IsFallen (length anchor.leftmost.items - 1) dead
+
 abbrev pub MeansSunk : Trail → Type 0
-MeansSunk marks = Once marks (λ ms. (s : Sinking) × IsToLower ms s (to_sunk s))
+MeansSunk marks = Once marks HasLowered
 
 -- Needed: nothing was written; the anchor that was got names one level, or the top page that was got is needed.
 pub record HasOneLevel (marks : Trail) : Type 0 where
@@ -66,8 +73,9 @@ pub record LacksFrames (marks : Trail) : Type 0 where
   pub mark : Mark
   pub split : marks ≡ until ++ mark ∷ []
   pub refused : mark.event.act ≡ Miss missed.Reservation
-  pub sinking : Sinking
-  pub is : IsToLower until sinking (to_top sinking.top)
+  pub x : ℕ
+  pub anchor : AnchorPage
+  pub is : IsToLower until x anchor (to_top x)
 
 abbrev pub MeansLowered : Lowered → Trail → Type 0
 MeansLowered lowered.Lowered marks = MeansSunk marks
