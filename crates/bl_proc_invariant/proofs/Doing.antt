@@ -131,7 +131,7 @@ module _ (ms : Trail) (m : Mark) where
   abbrev both_on : {level key : ℕ} {f : Family} {c d : Page} {acts : List (Act Page Reply)} (new : List (Act Page Reply)) → acts_in m.event.act ≡ new → AtBoth level key ms f c d acts → AtBoth level key more f c d (acts ++ new)
   both_on new did h = record { left = left_on new did h.left; got = got_on h.left.family.since.during m h.got }
 
-  puts_on : {level key : ℕ} {u : Puts} {acts : List (Act Page Reply)} (new : List (Act Page Reply)) → acts_in m.event.act ≡ new → IsToSqueeze level key ms u acts → IsToSqueeze level key more u (acts ++ new)
+  abbrev puts_on : {level key : ℕ} {u : Puts} {acts : List (Act Page Reply)} (new : List (Act Page Reply)) → acts_in m.event.act ≡ new → IsToSqueeze level key ms u acts → IsToSqueeze level key more u (acts ++ new)
   puts_on new did h = record { family = h.family; left = h.left; right = h.right; at = h.at; both = both_on new did h.both; decided = h.decided }
 
   -- the left child was got just now, and the right one

@@ -25,6 +25,7 @@ pub mod Turning
 pub mod Starting
 pub mod Answered
 pub mod Beside
+pub mod ByPages
 pub mod Pressed
 pub mod Gets
 pub mod GivingUp

@@ -12,7 +12,7 @@ use Rattle.bl_page.specs.Machine.Act.{Get, Put, Take, Latch}
 use Rattle.bl_claims.specs.Pages.{node_of, roots_of}
 use Rattle.bl_claims.specs.Trails.{Mark, Trail}
 use Rattle.bl_claims.specs.Meanings.{writes_in, IsNewTop, RaisesOnly, HasRaised, WritesBack}
-use Rattle.bl_core.proofs.Meant.{begun_now, wrote_on, wrote_still, got_on, got_last, done_on, already_on, stale_on, tall_on, no_room_on}
+use Rattle.bl_core.proofs.Meant.{writes_of-push, begun_now, wrote_on, wrote_still, got_on, got_last, done_on, already_on, stale_on, tall_on, no_room_on}
 use Rattle.bl_core.proofs.Fitted.{fits_row, split_cut}
 use Rattle.bl_rearrange.specs.declared.fitted.Fitted.TheVariants.{Split}
 use Rattle.bl_rearrange.specs.Rearranged.{IsFitted}
