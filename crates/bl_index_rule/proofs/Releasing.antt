@@ -62,7 +62,7 @@ module _ (s : Pages Mine) (f : Fits s) (n m : ℕ) (d : Mine) (at : Stands s n I
 
     -- each process keeps what it kept
     then_kept : AllKept turned.next
-    then_kept = idle_kept f.world turned.next _ turned.extends f.good turned.good refl refl (λ y. (λ e. cc, λ e. cc, λ c e. cc)) f.kept
+    then_kept = idle_kept f.world turned.next _ turned.extends f.good turned.good refl refl (λ y e. cc) f.kept
 
     abbrev then_known : Mine
     then_known = next_known s f n m Idle d at (Act.Release x) freed (f.world.proc p) turned false d.past

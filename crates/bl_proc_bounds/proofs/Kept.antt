@@ -1,6 +1,7 @@
 -- What each process keeps, at each kind of turn.
-use Rattle.std.proofs.Common.{◌≡◌, []}
+use Rattle.std.proofs.Common.{ℕ, ◌≡◌, ◌≢◌, []}
 use Rattle.bl_page.specs.Machine.{Name}
+use Rattle.bl_page.specs.Machine.Act.{Latch}
 use Rattle.bl_claims.specs.Trails.{Mark, marks_of}
 use Rattle.bl_core.specs.Worlds.{Stage, World, IsGood, Extends}
 use Rattle.bl_proc_base.specs.declared.acts.Seen.{Seen}
@@ -13,7 +14,6 @@ use Rattle.bl_proc_invariant.specs.Knowing.{Run, bare, end_of_proc}
 use Rattle.bl_proc_invariant.proofs.Starting.{with_proc}
 use Rattle.bl_claims.specs.Bounds.{gets_in, puts_in}
 use Rattle.bl_proc_bounds.specs.Searches.{IsSearch}
-use Rattle.bl_claims.specs.Latches.{IsLook}
 use Rattle.bl_proc_bounds.specs.Paces.{place_of, AllKept}
 use Rattle.bl_proc_bounds.specs.Paces.Place.{Nowhere}
 use Rattle.bl_proc_bounds.proofs.Keeping.{turn_paced}
@@ -29,8 +29,8 @@ turn_kept w w' m b what e g g' log t told act all = record {
   tidy = tidy_turn w w' m b what e g all.owned log t act all.tidy;
 }
 
--- A turn at which the process stays as it is, and neither gets, puts, latches nor takes a page.
-pub idle_kept : (w w' : World Run) (m : Mark) → Extends w w' m (w.proc m.event.process) → IsGood bare w → IsGood bare w' → gets_in m.event.act ≡ 0 → puts_in m.event.act ≡ 0 → IsLook m.event.act → AllKept w → AllKept w'
+-- A turn at which the process stays as it is, and neither gets, puts nor latches a page.
+pub idle_kept : (w w' : World Run) (m : Mark) → Extends w w' m (w.proc m.event.process) → IsGood bare w → IsGood bare w' → gets_in m.event.act ≡ 0 → puts_in m.event.act ≡ 0 → ((x : ℕ) → m.event.act ≢ Latch x) → AllKept w → AllKept w'
 idle_kept w w' m e g g' no_get no_put looks all = record {
   paced = idle_paced w w' m e g g' no_get no_put all.paced;
   owned = owned_on w w' m (w.proc m.event.process) e all.owned;
@@ -38,7 +38,7 @@ idle_kept w w' m e g g' no_get no_put looks all = record {
 }
 
 -- A search gives up: what stands for it then is a post that is over.
-pub left_kept : (w w' : World Run) (m : Mark) (b : Run) (post : Post) → Extends w w' m b → IsGood bare w → IsGood bare w' → b.state ≡ proc.Post post → place_of b.state ≡ Nowhere → IsSearch (w.proc m.event.process).state → IsLook m.event.act → AllKept w → AllKept w'
+pub left_kept : (w w' : World Run) (m : Mark) (b : Run) (post : Post) → Extends w w' m b → IsGood bare w → IsGood bare w' → b.state ≡ proc.Post post → place_of b.state ≡ Nowhere → IsSearch (w.proc m.event.process).state → ((x : ℕ) → m.event.act ≢ Latch x) → AllKept w → AllKept w'
 left_kept w w' m b post e g g' is none search looks all = record {
   paced = left_paced w w' m b e g g' none all.paced;
   owned = owned_on w w' m b e all.owned;

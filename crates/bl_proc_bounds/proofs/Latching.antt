@@ -63,7 +63,7 @@ use Rattle.bl_proc_invariant.specs.Knowing.{Run, know_growth, know_insert, know_
 use Rattle.bl_core.proofs.After.{is_put_name}
 use Rattle.bl_proc_invariant.proofs.Starting.{with_proc}
 use Rattle.bl_proc_bounds.specs.Searches.{IsSearch}
-use Rattle.bl_claims.specs.Latches.{Keeps, LatchesAlone, LatchesBelowAnchor, IsLook, OnlyLooks}
+use Rattle.bl_claims.specs.Latches.{Keeps, LatchesNone, LatchesAlone, LatchesBelowAnchor}
 use Rattle.bl_proc_meanings.specs.Families.{HoldsFamily, LatchesBeside}
 use Rattle.bl_proc_bounds.specs.Latches.{IsTidy, AllOwned, AllTidy}
 use Rattle.bl_proc_bounds.proofs.Counts.{take_front}
@@ -109,10 +109,10 @@ module _ (marks : Trail) (m : Mark) where
     | inr e ↦ subst (HoldsFew level key) (sym (take_now marks m i e.0)) (now x (ap (λ (v : Mark). v.event.act) e.1 ∙ does))
   ]
 
-  looks_on : OnlyLooks marks → IsLook m.event.act → OnlyLooks (marks ++ m ∷ [])
-  looks_on h now i n is = elim (push_cases marks m i n is) [
-    | inl e ↦ h i n e.0
-    | inr e ↦ subst IsLook (ap (λ (v : Mark). v.event.act) e.1) now
+  none_on : LatchesNone marks → ((x : ℕ) → m.event.act ≢ Latch x) → LatchesNone (marks ++ m ∷ [])
+  none_on h now i n x is does = elim (push_cases marks m i n is) [
+    | inl e ↦ h i n x e.0 does
+    | inr e ↦ now x (ap (λ (v : Mark). v.event.act) e.1 ∙ does)
   ]
 
 -- An event latches where the action does
@@ -131,36 +131,6 @@ latch_next reply (act.See y) (seen.Owner retired started own) x e = absurd (let 
 latch_next reply (act.Probe y) (seen.Probed free) x e = absurd (let f = e in cc)
 latch_next reply (act.Release y) seen.Done x e = absurd (let f = e in cc)
 latch_next reply a what x e = absurd (let f = e in cc)
-
-take_next : (reply : Option Reply) (a : Action) (what : Seen) (x : ℕ) → event_of reply a what ≡ Take x → a ≡ act.Take
-take_next reply act.Begin seen.Done x e = absurd (let f = e in cc)
-take_next reply act.End seen.Done x e = absurd (let f = e in cc)
-take_next reply (act.Get y) (seen.Words c') x e = absurd (let f = e in cc)
-take_next reply (act.Put y d) seen.Done x e = absurd (let f = e in cc)
-take_next reply (act.Latch y) seen.Done x e = absurd (let f = e in cc)
-take_next reply act.Take (seen.Took y) x e = refl
-take_next reply (act.Open y) seen.Done x e = absurd (let f = e in cc)
-take_next reply (act.Retire y) seen.Done x e = absurd (let f = e in cc)
-take_next reply (act.Look y) (seen.Blocks it) x e = absurd (let f = e in cc)
-take_next reply (act.See y) (seen.Owner retired started own) x e = absurd (let f = e in cc)
-take_next reply (act.Probe y) (seen.Probed free) x e = absurd (let f = e in cc)
-take_next reply (act.Release y) seen.Done x e = absurd (let f = e in cc)
-take_next reply a what x e = absurd (let f = e in cc)
-
-put_next : (reply : Option Reply) (a : Action) (what : Seen) (x : ℕ) (c : Page) → event_of reply a what ≡ Put x c → a ≡ act.Put x c
-put_next reply act.Begin seen.Done x c e = absurd (let f = e in cc)
-put_next reply act.End seen.Done x c e = absurd (let f = e in cc)
-put_next reply (act.Get y) (seen.Words c') x c e = absurd (let f = e in cc)
-put_next reply (act.Put y d) seen.Done x c e = (let f : y ≡ x = (let g = e in cc) in let h : d ≡ c = (let g = e in cc) in λ i. act.Put (f i) (h i))
-put_next reply (act.Latch y) seen.Done x c e = absurd (let f = e in cc)
-put_next reply act.Take (seen.Took y) x c e = absurd (let f = e in cc)
-put_next reply (act.Open y) seen.Done x c e = absurd (let f = e in cc)
-put_next reply (act.Retire y) seen.Done x c e = absurd (let f = e in cc)
-put_next reply (act.Look y) (seen.Blocks it) x c e = absurd (let f = e in cc)
-put_next reply (act.See y) (seen.Owner retired started own) x c e = absurd (let f = e in cc)
-put_next reply (act.Probe y) (seen.Probed free) x c e = absurd (let f = e in cc)
-put_next reply (act.Release y) seen.Done x c e = absurd (let f = e in cc)
-put_next reply a what x c e = absurd (let f = e in cc)
 
 -- What it holds then
 
@@ -234,19 +204,19 @@ lower_below : (got : ℕ → Page) (a : LowerStage) (x y : ℕ) → lower_next_i
 lower_below got (lower.Sinking l) x y e h = lowering_below got l x y e h
 lower_below got old x y e h = absurd (cc e)
 
-find_looks : (a : FindStage) → ((x : ℕ) → find_next_in a ≢ act.Latch x) × (find_next_in a ≢ act.Take) × ((x : ℕ) (c : Page) → find_next_in a ≢ act.Put x c)
-find_looks find.New = (λ x e. cc, λ e. cc, λ x c e. cc)
-find_looks (find.Descending d) = (λ x e. cc, λ e. cc, λ x c e. cc)
-find_looks (find.Ending v) = (λ x e. cc, λ e. cc, λ x c e. cc)
-find_looks (find.Over v) = (λ x e. cc, λ e. cc, λ x c e. cc)
+find_looks : (a : FindStage) (x : ℕ) → find_next_in a ≢ act.Latch x
+find_looks find.New x e = cc
+find_looks (find.Descending d) x e = cc
+find_looks (find.Ending v) x e = cc
+find_looks (find.Over v) x e = cc
 
-part_looks : (a : PartStage) → ((x : ℕ) → part_next_in a ≢ act.Latch x) × (part_next_in a ≢ act.Take) × ((x : ℕ) (c : Page) → part_next_in a ≢ act.Put x c)
-part_looks part.New = (λ x e. cc, λ e. cc, λ x c e. cc)
-part_looks (part.Near x) = (λ y e. cc, λ e. cc, λ y c e. cc)
-part_looks (part.Probing x) = (λ y e. cc, λ e. cc, λ y c e. cc)
-part_looks (part.Descending d) = (λ x e. cc, λ e. cc, λ x c e. cc)
-part_looks (part.Ending r) = (λ x e. cc, λ e. cc, λ x c e. cc)
-part_looks (part.Over r) = (λ x e. cc, λ e. cc, λ x c e. cc)
+part_looks : (a : PartStage) (x : ℕ) → part_next_in a ≢ act.Latch x
+part_looks part.New x e = cc
+part_looks (part.Near y) x e = cc
+part_looks (part.Probing y) x e = cc
+part_looks (part.Descending d) x e = cc
+part_looks (part.Ending r) x e = cc
+part_looks (part.Over r) x e = cc
 
 -- One turn
 
@@ -258,13 +228,10 @@ module _ (w : World Run) (p : Name) (g : IsGood bare w) (owned : AllOwned w) whe
   holds_kept : (k : Know) → bare (w.proc p) ≡ k → (y : ℕ) → Keeps (marks_of p w.trail) y → HoldsPage k.holds y
   holds_kept k is y keeps = subst (λ (z : Know). HoldsPage z.holds y) is (g.owned.held y p (owned p y keeps))
 
-  looks_turn : (m : Mark) → OnlyLooks (marks_of p w.trail) → IsLook m.event.act → OnlyLooks (marks_of p w.trail ++ m ∷ [])
-  looks_turn m h none = looks_on (marks_of p w.trail) m h none
-
   -- of a process of that state, which is told something of its next action
   state_turn : (m : Mark) (got : ℕ → Page) (child time : ℕ) (old new : Proc) (what : Seen) → bare (w.proc p) ≡ know_of got child time old → proc_log old (marks_of p w.trail) → Takes old what new → m.event.act ≡ event_of (end_of_proc old) (next_of old) what → IsTidy old (marks_of p w.trail) → IsTidy new (marks_of p w.trail ++ m ∷ [])
-  state_turn m got child time (proc.Find a) (proc.Find c) what is log t e h = looks_turn m h (λ x. (let l = find_looks a.stage in (λ f. l.0 x (latch_next _ _ what x (sym e ∙ f)), λ f. l.1 (take_next _ _ what x (sym e ∙ f)), λ d f. l.2 x d (put_next _ _ what x d (sym e ∙ f)))))
-  state_turn m got child time (proc.Part a) (proc.Part c) what is log t e h = looks_turn m h (λ x. (let l = part_looks a.stage in (λ f. l.0 x (latch_next _ _ what x (sym e ∙ f)), λ f. l.1 (take_next _ _ what x (sym e ∙ f)), λ d f. l.2 x d (put_next _ _ what x d (sym e ∙ f)))))
+  state_turn m got child time (proc.Find a) (proc.Find c) what is log t e h = none_on (marks_of p w.trail) m h (λ x f. find_looks a.stage x (latch_next _ _ what x (sym e ∙ f)))
+  state_turn m got child time (proc.Part a) (proc.Part c) what is log t e h = none_on (marks_of p w.trail) m h (λ x f. part_looks a.stage x (latch_next _ _ what x (sym e ∙ f)))
   state_turn m got child time (proc.Insert a) (proc.Insert c) what is log t e h = alone_turn m h (λ x f. ap (λ k. k.holds) is ∙ insert_alone a.key a.value got a.stage x (latch_next _ _ what x (sym e ∙ f)))
   state_turn m got child time (proc.Delete a) (proc.Delete c) what is log t e h = alone_turn m h (λ x f. ap (λ k. k.holds) is ∙ delete_alone a.key got a.stage x (latch_next _ _ what x (sym e ∙ f)))
   state_turn m got child time (proc.Post a) (proc.Post c) what is log t e h = alone_turn m h (λ x f. ap (λ k. k.holds) is ∙ post_alone a.level a.key got child a.stage x (latch_next _ _ what x (sym e ∙ f)))
@@ -275,16 +242,16 @@ module _ (w : World Run) (p : Name) (g : IsGood bare w) (owned : AllOwned w) whe
   state_turn m got child time (proc.Lower a) (proc.Lower c) what is log t e h = below_on (marks_of p w.trail) m h (λ x y f keeps. lower_below got a.stage x y (latch_next _ _ what x (sym e ∙ f)) (holds_kept (know_lower got a.stage) is y keeps))
   state_turn m got child time old new what is log t e h = absurd t
 
-  -- an act by which nothing is latched, taken or put leaves any process as it may be
-  still_turn : (m : Mark) (a : Proc) → IsLook m.event.act → IsTidy a (marks_of p w.trail) → IsTidy a (marks_of p w.trail ++ m ∷ [])
-  still_turn m (proc.Find a) looks h = looks_turn m h looks
-  still_turn m (proc.Part a) looks h = looks_turn m h looks
-  still_turn m (proc.Insert a) looks h = alone_turn m h (λ x f. absurd ((looks x).0 f))
-  still_turn m (proc.Delete a) looks h = alone_turn m h (λ x f. absurd ((looks x).0 f))
-  still_turn m (proc.Post a) looks h = alone_turn m h (λ x f. absurd ((looks x).0 f))
-  still_turn m (proc.Compress a) looks h = beside_on (marks_of p w.trail) m a.level a.key h (λ x f. absurd ((looks x).0 f))
-  still_turn m (proc.Reclaim a) looks h = tt
-  still_turn m (proc.Lower a) looks h = below_on (marks_of p w.trail) m h (λ x y f. absurd ((looks x).0 f))
+  -- an act by which nothing is latched leaves any process as it may be
+  still_turn : (m : Mark) (a : Proc) → ((x : ℕ) → m.event.act ≢ Latch x) → IsTidy a (marks_of p w.trail) → IsTidy a (marks_of p w.trail ++ m ∷ [])
+  still_turn m (proc.Find a) none h = none_on (marks_of p w.trail) m h none
+  still_turn m (proc.Part a) none h = none_on (marks_of p w.trail) m h none
+  still_turn m (proc.Insert a) none h = alone_turn m h (λ x f. absurd (none x f))
+  still_turn m (proc.Delete a) none h = alone_turn m h (λ x f. absurd (none x f))
+  still_turn m (proc.Post a) none h = alone_turn m h (λ x f. absurd (none x f))
+  still_turn m (proc.Compress a) none h = beside_on (marks_of p w.trail) m a.level a.key h (λ x f. absurd (none x f))
+  still_turn m (proc.Reclaim a) none h = tt
+  still_turn m (proc.Lower a) none h = below_on (marks_of p w.trail) m h (λ x y f. absurd (none x f))
 
 -- what the others have done stays
 tidy_on : (w w' : World Run) (m : Mark) (b : Run) → Extends w w' m b → ((p : Name) → p ≡ m.event.process → IsTidy b.state (marks_of p w.trail ++ m ∷ [])) → AllTidy w → AllTidy w'
@@ -305,27 +272,27 @@ tidy_turn w w' m b what e g owned log t does all =
     let r = w.proc m.event.process in
     tidy_on w w' m b e (λ p i. subst (λ q. IsTidy b.state (marks_of q w.trail ++ m ∷ [])) (sym i) (state_turn w m.event.process g owned m r.got r.child r.time r.state b.state what refl log t does (all m.event.process))) all
 
--- A turn at which the process stays as it is, and latches, takes and puts nothing.
-pub tidy_still : (w w' : World Run) (m : Mark) → Extends w w' m (w.proc m.event.process) → IsGood bare w → AllOwned w → IsLook m.event.act → AllTidy w → AllTidy w'
-tidy_still w w' m e g owned looks all = tidy_on w w' m (w.proc m.event.process) e (λ p i. subst (λ q. IsTidy (w.proc m.event.process).state (marks_of q w.trail ++ m ∷ [])) (sym i) (still_turn w m.event.process g owned m (w.proc m.event.process).state looks (all m.event.process))) all
+-- A turn at which the process stays as it is, and latches nothing.
+pub tidy_still : (w w' : World Run) (m : Mark) → Extends w w' m (w.proc m.event.process) → IsGood bare w → AllOwned w → ((x : ℕ) → m.event.act ≢ Latch x) → AllTidy w → AllTidy w'
+tidy_still w w' m e g owned none all = tidy_on w w' m (w.proc m.event.process) e (λ p i. subst (λ q. IsTidy (w.proc m.event.process).state (marks_of q w.trail ++ m ∷ [])) (sym i) (still_turn w m.event.process g owned m (w.proc m.event.process).state none (all m.event.process))) all
 
--- Who only looks latches alone.
-looks_alone : (marks : Trail) → OnlyLooks marks → LatchesAlone marks
-looks_alone marks h i m x y is does keeps = (h i m is x).0 does
+-- Who latches none latches alone.
+none_alone : (marks : Trail) → LatchesNone marks → LatchesAlone marks
+none_alone marks h i m x y is does keeps = h i m x is does
 
-only_looks : (a : Proc) (marks : Trail) → IsSearch a → IsTidy a marks → OnlyLooks marks
-only_looks (proc.Find a) marks s h = h
-only_looks (proc.Part a) marks s h = h
-only_looks old marks s h = absurd s
+search_none : (a : Proc) (marks : Trail) → IsSearch a → IsTidy a marks → LatchesNone marks
+search_none (proc.Find a) marks s h = h
+search_none (proc.Part a) marks s h = h
+search_none old marks s h = absurd s
 
--- A search that gives up has only looked, and is then a post that is over.
-pub looks_up : (w : World Run) (p : Name) (state : Proc) (m : Mark) → AllTidy w → (w.proc p).state ≡ state → IsSearch state → IsLook m.event.act → OnlyLooks (marks_of p w.trail ++ m ∷ [])
-looks_up w p state m all is search looks = looks_on (marks_of p w.trail) m (only_looks state (marks_of p w.trail) search (subst (λ z. IsTidy z (marks_of p w.trail)) is (all p))) looks
+-- A search that gives up has latched nothing, and is then a post that is over.
+pub none_up : (w : World Run) (p : Name) (state : Proc) (m : Mark) → AllTidy w → (w.proc p).state ≡ state → IsSearch state → ((x : ℕ) → m.event.act ≢ Latch x) → LatchesNone (marks_of p w.trail ++ m ∷ [])
+none_up w p state m all is search none = none_on (marks_of p w.trail) m (search_none state (marks_of p w.trail) search (subst (λ z. IsTidy z (marks_of p w.trail)) is (all p))) none
 
-pub tidy_left : (w w' : World Run) (m : Mark) (b : Run) (post : Post) → Extends w w' m b → b.state ≡ proc.Post post → IsSearch (w.proc m.event.process).state → IsLook m.event.act → AllTidy w → AllTidy w'
-tidy_left w w' m b post e is search looks all =
+pub tidy_left : (w w' : World Run) (m : Mark) (b : Run) (post : Post) → Extends w w' m b → b.state ≡ proc.Post post → IsSearch (w.proc m.event.process).state → ((x : ℕ) → m.event.act ≢ Latch x) → AllTidy w → AllTidy w'
+tidy_left w w' m b post e is search none all =
     let marks : Trail = marks_of m.event.process w.trail ++ m ∷ [] in
-    let alone : LatchesAlone marks = looks_alone marks (looks_up w m.event.process (w.proc m.event.process).state m all refl search looks) in
+    let alone : LatchesAlone marks = none_alone marks (none_up w m.event.process (w.proc m.event.process).state m all refl search none) in
     tidy_on w w' m b e (λ p i. subst (λ q. IsTidy b.state (marks_of q w.trail ++ m ∷ [])) (sym i) (subst (λ z. IsTidy z marks) (sym is) alone)) all
 
 -- A process that has done nothing yet

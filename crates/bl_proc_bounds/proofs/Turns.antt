@@ -52,4 +52,4 @@ paced_turn w p a new what s is g t told shown does =
 pub paced_idle : (w : World Run) (p : Name) (what : Missed) (s : State Page) → IsGood know w → Does w.now p (Miss what) s → Paced w p (Miss what) s (w.proc p)
 paced_idle w p what s g does =
     let r = idle_turn w p what s g does in
-    record { turned = r; kept = idle_kept w r.next _ r.extends (bare_good w g) (bare_good r.next r.good) refl refl (λ x. (λ e. cc, λ e. cc, λ c e. cc)) }
+    record { turned = r; kept = idle_kept w r.next _ r.extends (bare_good w g) (bare_good r.next r.good) refl refl (λ x e. cc) }

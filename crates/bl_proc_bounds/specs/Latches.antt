@@ -3,7 +3,7 @@ use Rattle.std.specs.Prelude.{ℕ, ◌≡◌}
 use Rattle.bl_page.specs.Machine.{Name}
 use Rattle.bl_page.specs.Machine.Owner.{Held}
 use Rattle.bl_claims.specs.Trails.{Trail, marks_of}
-use Rattle.bl_claims.specs.Latches.{Keeps, LatchesAlone, LatchesBelowAnchor, OnlyLooks}
+use Rattle.bl_claims.specs.Latches.{Keeps, LatchesNone, LatchesAlone, LatchesBelowAnchor}
 use Rattle.bl_core.specs.Worlds.{World}
 use Rattle.bl_proc.specs.declared.kinds.Proc.{Proc}
 use Rattle.bl_proc.specs.declared.kinds.Proc.TheVariants as proc
@@ -12,11 +12,11 @@ use Rattle.bl_proc_invariant.specs.Knowing.{Run}
 
 -- What holds of each kind of process. One that releases pages has no latch, which is not said here.
 abbrev pub IsTidy : Proc → Trail → Type 0
-IsTidy (proc.Find p) marks = OnlyLooks marks
+IsTidy (proc.Find p) marks = LatchesNone marks
 IsTidy (proc.Insert p) marks = LatchesAlone marks
 IsTidy (proc.Delete p) marks = LatchesAlone marks
 IsTidy (proc.Post p) marks = LatchesAlone marks
-IsTidy (proc.Part p) marks = OnlyLooks marks
+IsTidy (proc.Part p) marks = LatchesNone marks
 IsTidy (proc.Compress p) marks = LatchesBeside p.level p.key marks
 IsTidy (proc.Reclaim p) marks = Unit {0}
 IsTidy (proc.Lower p) marks = LatchesBelowAnchor marks

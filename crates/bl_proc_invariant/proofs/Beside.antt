@@ -2,6 +2,7 @@
 use Rattle.std.proofs.Common.{◌≡◌, Option, Some, None, sym, subst}
 use Rattle.bl_model.specs.declared.operation.Reply.{Reply}
 use Rattle.bl_claims.specs.Trails.{Trail}
+use Rattle.bl_claims.specs.Meanings.{Unwritten}
 use Rattle.bl_proc_base.specs.declared.answers.Answer.{Answer}
 use Rattle.bl_proc_base.specs.declared.answers.Answer.TheVariants as answer
 use Rattle.bl_proc_base.specs.declared.answers.Hint.{Hint}
@@ -27,7 +28,7 @@ use Rattle.bl_proc.specs.Deletes.{deleted_answer, delete_answer_in}
 use Rattle.bl_proc.specs.Processes.{answer_of}
 use Rattle.bl_proc_meanings.specs.Hinted.{MeansInserted, MeansDeleted}
 use Rattle.bl_proc_invariant.specs.Beside.{MeansBeside}
-use Rattle.bl_proc_invariant.specs.Logs.{inserted_log, insert_log, deleted_log, delete_log, proc_log}
+use Rattle.bl_proc_invariant.specs.Logs.{find_log, part_log, inserted_log, insert_log, deleted_log, delete_log, proc_log}
 
 some_answer : (a b : Answer) → Some a ≡ Some b → a ≡ b
 some_answer a b e = cc
@@ -48,14 +49,14 @@ delete_beside (deleted.Deleted removed) reply h marks e log = subst (λ z. Means
 delete_beside deleted.Absent reply h marks e log = subst (λ z. MeansDeleted z h marks) (same_reply _ _ _ _ e) (log, sym (same_hint _ _ _ _ e))
 delete_beside deleted.NoRoom reply h marks e log = subst (λ z. MeansDeleted z h marks) (same_reply _ _ _ _ e) (log, sym (same_hint _ _ _ _ e))
 
-find_beside : (stage : FindStage) (reply : Reply) (h : Option Hint) → find_answer_in stage ≡ Some (answer.Op reply h) → h ≡ None
-find_beside (find.Over (Some value)) reply h e = sym (same_hint _ _ _ _ (some_answer _ _ e))
-find_beside (find.Over None) reply h e = sym (same_hint _ _ _ _ (some_answer _ _ e))
-find_beside old reply h e = absurd (let f = e in cc)
+find_beside : (stage : FindStage) (reply : Reply) (h : Option Hint) (marks : Trail) → find_answer_in stage ≡ Some (answer.Op reply h) → find_log stage marks → Unwritten marks × (h ≡ None)
+find_beside (find.Over (Some value)) reply h marks e log = (log, sym (same_hint _ _ _ _ (some_answer _ _ e)))
+find_beside (find.Over None) reply h marks e log = (log, sym (same_hint _ _ _ _ (some_answer _ _ e)))
+find_beside old reply h marks e log = absurd (let f = e in cc)
 
-part_beside : (stage : PartStage) (reply : Reply) (h : Option Hint) → part_answer_in stage ≡ Some (answer.Op reply h) → h ≡ None
-part_beside (part.Over r) reply h e = sym (same_hint _ _ _ _ (some_answer _ _ e))
-part_beside old reply h e = absurd (let f = e in cc)
+part_beside : (stage : PartStage) (reply : Reply) (h : Option Hint) (marks : Trail) → part_answer_in stage ≡ Some (answer.Op reply h) → part_log stage marks → Unwritten marks × (h ≡ None)
+part_beside (part.Over r) reply h marks e log = (log, sym (same_hint _ _ _ _ (some_answer _ _ e)))
+part_beside old reply h marks e log = absurd (let f = e in cc)
 
 insert_stage : (stage : InsertStage) (reply : Reply) (h : Option Hint) (marks : Trail) → insert_answer_in stage ≡ Some (answer.Op reply h) → insert_log stage marks → MeansInserted reply h marks
 insert_stage (insert.Over r) reply h marks e log = insert_beside r reply h marks (some_answer _ _ e) log
@@ -66,11 +67,11 @@ delete_stage (delete.Over r) reply h marks e log = delete_beside r reply h marks
 delete_stage old reply h marks e log = absurd (let f = e in cc)
 
 pub beside_means : (p : Proc) (reply : Reply) (h : Option Hint) (marks : Trail) → answer_of p ≡ Some (answer.Op reply h) → proc_log p marks → MeansBeside p reply h marks
-beside_means (proc.Find p) reply h marks e log = find_beside p.stage reply h e
+beside_means (proc.Find p) reply h marks e log = find_beside p.stage reply h marks e log
 beside_means (proc.Insert p) reply h marks e log = insert_stage p.stage reply h marks e log
 beside_means (proc.Delete p) reply h marks e log = delete_stage p.stage reply h marks e log
 beside_means (proc.Post p) reply h marks e log = tt
-beside_means (proc.Part p) reply h marks e log = part_beside p.stage reply h e
+beside_means (proc.Part p) reply h marks e log = part_beside p.stage reply h marks e log
 beside_means (proc.Compress p) reply h marks e log = tt
 beside_means (proc.Reclaim p) reply h marks e log = tt
 beside_means (proc.Lower p) reply h marks e log = tt

@@ -1,5 +1,6 @@
 pub mod Holdings
 pub mod Logging
+pub mod Looking
 pub mod Acts
 pub mod Approaching
 pub mod Changing

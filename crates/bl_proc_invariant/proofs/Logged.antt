@@ -40,8 +40,9 @@ use Rattle.bl_proc_invariant.proofs.Plain.{plain}
 use Rattle.bl_proc_invariant.proofs.Logging.{post_on, post_stays}
 use Rattle.bl_proc_invariant.proofs.Doing.{compress_on, compress_stays}
 use Rattle.bl_proc_invariant.proofs.LoweringLogs.{lower_on, lower_stays}
+use Rattle.bl_proc_invariant.proofs.Looking.{find_on, part_on, find_stays, part_stays, early_find, early_part}
 use Rattle.bl_proc_invariant.proofs.Putting.{insert_on, insert_stays, delete_on, delete_stays}
-use Rattle.bl_proc_unique.proofs.KindCases.{insert_case, delete_case, post_case, compress_case, lower_case}
+use Rattle.bl_proc_unique.proofs.KindCases.{find_case, part_case, insert_case, delete_case, post_case, compress_case, lower_case}
 
 pub bare_good : (w : World Run) → IsGood know w → IsGood bare w
 bare_good w g = record {
@@ -157,11 +158,11 @@ early_lower got (lower.Sinking Looking) e marks = absurd (let f = e in cc)
 early_lower got old e marks = absurd (let f = e in cc)
 
 early_state : (got : ℕ → Page) (child time : ℕ) (a : Proc) → (know_of got child time a).stage ≡ Stage.Early → (marks : Trail) → proc_log a marks
-early_state got child time (Find a) e marks = tt
+early_state got child time (Find a) e marks = early_find a.key a.stage e marks
 early_state got child time (Insert a) e marks = early_insert a.key a.value got a.stage e marks
 early_state got child time (Delete a) e marks = early_delete a.key got a.stage e marks
 early_state got child time (Post a) e marks = early_post a.level a.key got child a.stage e marks
-early_state got child time (Part a) e marks = tt
+early_state got child time (Part a) e marks = early_part a.from a.stage e marks
 early_state got child time (Compress a) e marks = early_press a.level a.key got a.stage e marks
 early_state got child time (Reclaim a) e marks = tt
 early_state got child time (Lower a) e marks = early_lower got a.stage e marks
@@ -215,42 +216,21 @@ saw_words reply s size saw old what told is y d e f = absurd (let g = f in cc)
 pub log_turn : (old new : Proc) (what : Seen) (marks : Trail) (m : Mark) → Takes old what new → m.event.act ≡ event_of (end_of_proc old) (next_of old) what → ((x : ℕ) (c : Page) → m.event.act ≡ Get x → what ≡ seen.Words c → m.saw ≡ Some c) → proc_log old marks → proc_log new (marks ++ m ∷ [])
 log_turn (Post a) (Post c) what marks m t did saw h =
     subst (λ l. post_log l c.key c.stage (marks ++ m ∷ [])) (sym t.0) (subst (λ k. post_log a.level k c.stage (marks ++ m ∷ [])) (sym t.1) (post_on marks m a.level a.key a.least (post_case a.level a.key a.stage what c.stage t.2) did saw h))
-log_turn (Find a) (Find c) what marks m t did saw h = tt
-log_turn (Insert a) (Find c) what marks m t did saw h = tt
 log_turn (Insert a) (Insert c) what marks m t did saw h = insert_on marks m (insert_case a.key a.value a.stage what c.stage t.2) did h
-log_turn (Delete a) (Find c) what marks m t did saw h = tt
 log_turn (Delete a) (Delete c) what marks m t did saw h = delete_on marks m (delete_case a.key a.stage what c.stage t.1) did h
-log_turn (Post a) (Find c) what marks m t did saw h = tt
-log_turn (Find a) (Part c) what marks m t did saw h = tt
-log_turn (Insert a) (Part c) what marks m t did saw h = tt
-log_turn (Delete a) (Part c) what marks m t did saw h = tt
-log_turn (Post a) (Part c) what marks m t did saw h = tt
-log_turn (Part a) (Find c) what marks m t did saw h = tt
-log_turn (Part a) (Part c) what marks m t did saw h = tt
-log_turn (Find a) (Reclaim c) what marks m t did saw h = tt
-log_turn (Insert a) (Reclaim c) what marks m t did saw h = tt
-log_turn (Delete a) (Reclaim c) what marks m t did saw h = tt
-log_turn (Post a) (Reclaim c) what marks m t did saw h = tt
-log_turn (Part a) (Reclaim c) what marks m t did saw h = tt
 log_turn (Reclaim a) (Reclaim c) what marks m t did saw h = tt
-log_turn (Reclaim a) (Find c) what marks m t did saw h = tt
-log_turn (Reclaim a) (Part c) what marks m t did saw h = tt
 log_turn (Compress a) (Compress c) what marks m t did saw h =
     subst (λ l. compress_log l c.key c.stage (marks ++ m ∷ [])) (sym t.0) (subst (λ k. compress_log a.level k c.stage (marks ++ m ∷ [])) (sym t.1) (compress_on marks m a.level a.key a.least (compress_case a.level a.key a.stage what c.stage t.2) did saw h))
-log_turn (Compress a) (Find c) what marks m t did saw h = tt
-log_turn (Compress a) (Part c) what marks m t did saw h = tt
-log_turn (Compress a) (Reclaim c) what marks m t did saw h = tt
 log_turn (Lower a) (Lower c) what marks m t did saw h = lower_on marks m (lower_case a.stage what c.stage t) did saw h
-log_turn (Lower a) (Find c) what marks m t did saw h = tt
-log_turn (Lower a) (Part c) what marks m t did saw h = tt
-log_turn (Lower a) (Reclaim c) what marks m t did saw h = tt
+log_turn (Find a) (Find c) what marks m t did saw h = find_on marks m (find_case a.key a.stage what c.stage t.1) did h
+log_turn (Part a) (Part c) what marks m t did saw h = part_on marks m (part_case a.from a.stage what c.stage t.1) did h
 log_turn old new what marks m t did saw h = absurd t
 
 log_stays : {what : Missed} (old : Proc) (marks : Trail) (m : Mark) → m.event.act ≡ Miss what → proc_log old marks → proc_log old (marks ++ m ∷ [])
-log_stays (Find a) marks m did h = tt
+log_stays (Find a) marks m did h = find_stays marks m (ap writes_in did) a.stage h
 log_stays (Insert a) marks m did h = insert_stays marks m (ap writes_in did) a.stage h
 log_stays (Delete a) marks m did h = delete_stays marks m (ap writes_in did) a.stage h
-log_stays (Part a) marks m did h = tt
+log_stays (Part a) marks m did h = part_stays marks m (ap writes_in did) a.stage h
 log_stays (Compress a) marks m did h = compress_stays marks m a.level a.key did a.stage h
 log_stays (Reclaim a) marks m did h = tt
 log_stays (Lower a) marks m did h = lower_stays marks m did a.stage h
