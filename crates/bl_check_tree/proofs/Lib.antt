@@ -5,3 +5,4 @@ pub mod RowsFound
 pub mod Opened
 pub mod Resting
 mod Examples
+pub mod FirstMaps

@@ -10,7 +10,7 @@ use Rattle.bl_page.specs.Machine.{Name, Owner, State}
 use Rattle.bl_image.specs.Images.{IsImage}
 use Rattle.bl_claims.specs.Nodes.{Node, Roots}
 use Rattle.bl_claims.specs.Pages.{node_of, roots_of}
-use Rattle.bl_claims.specs.Starts.{AreSound, start_map}
+use Rattle.bl_core_tree.specs.Starts.{AreSound, start_map}
 use Rattle.bl_core_tree.proofs.SoundStarts.{none_paired, bool_cases}
 use Rattle.bl_core.specs.Worlds.{Stage, Know, World}
 use Rattle.bl_core.specs.Blank.{IsBlank}

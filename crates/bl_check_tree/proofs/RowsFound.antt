@@ -10,7 +10,7 @@ use Rattle.bl_page.specs.Pairs.{end_of, RisesFrom, AllWithin}
 use Rattle.bl_claims.specs.Nodes.{Node, Roots, unbounded}
 use Rattle.bl_claims.specs.Laws.{IsChain}
 use Rattle.bl_claims.specs.Pages.{node_of}
-use Rattle.bl_claims.specs.Starts.{AreSound, found, start_map}
+use Rattle.bl_core_tree.specs.Starts.{AreSound, found, start_map}
 use Rattle.bl_core_tree.proofs.LawsHold.{live, KnowsMiddles, has_chain}
 use Rattle.bl_core_tree.proofs.SoundStarts.{if_lt, if_ge, start_tree, alive, none_paired, sound_tree}
 use Rattle.bl_check.specs.Rows.{RowsFrom}
@@ -36,7 +36,7 @@ rows_same pages x a b (Next {rest = rest} l at some r) (Next {rest = rest'} m at
     ap (λ leaf. leaf.rows.items ++ rest) e ∙ ap (λ more. m.rows.items ++ more) f
 
 -- a live page of level 0 is a leaf
-leaf_there : (page : Option Page) → is_some (span_of page) ≡ true → (node_in page).shape.level ≡ 0 → (leaf : LeafPage) × (page ≡ Some (Leaf leaf))
+pub leaf_there : (page : Option Page) → is_some (span_of page) ≡ true → (node_in page).shape.level ≡ 0 → (leaf : LeafPage) × (page ≡ Some (Leaf leaf))
 leaf_there (Some (Leaf l)) alive level = (l, refl)
 leaf_there (Some (Inner i)) alive level = absurd (omega (arith, i.above_leaves))
 leaf_there old alive level = absurd (false≢true alive)

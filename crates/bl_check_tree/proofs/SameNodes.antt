@@ -2,7 +2,7 @@
 use Rattle.std.proofs.Common.{◌≡◌, ℕ, suc, ◌<◌, ◌≤◌, Bool, sym, subst, ap, ◌∙◌}
 use Rattle.std.specs.Prelude.{IsTrue}
 use Rattle.bl_claims.specs.Nodes.{Node, Roots, unbounded}
-use Rattle.bl_claims.specs.Starts.{IsReached, AreSound}
+use Rattle.bl_core_tree.specs.Starts.{IsReached, AreSound}
 
 module _ (live : ℕ → Bool) (node other : ℕ → Node) (roots : Roots) (same : (x : ℕ) → IsTrue (live x) → other x ≡ node x) (g : AreSound live node roots) where
   reached : (x y : ℕ) → IsTrue (live x) → IsReached node x y → IsReached other x y

@@ -1,7 +1,6 @@
 pub mod Nodes
 pub mod Laws
 pub mod Walks
-pub mod Starts
 pub mod Pages
 pub mod Trails
 pub mod Moments

@@ -27,11 +27,15 @@ pub record After (marks : Trail) (Last : Act Page Reply → Type 0) : Type 0 whe
   pub is : Last last.event.act
   pub never_again : (mark : Mark) → Contains since mark → Last mark.event.act → ⊥
 
--- these are the marks of a process that took the page, has not got it otherwise since, and has put no other page since
+-- an act by which a process gets hold of page y
+abbrev pub IsGain : ℕ → Act Page Reply → Type 0
+IsGain y a = (a ≡ Act.Take y) ⊎ (a ≡ Act.Latch y)
+
+-- these are the marks of a process that last got hold of the page by taking it, and has put no other page since
 pub record IsFreshBy (marks : Trail) (y : ℕ) : Type 0 where
-  pub taken : After marks (λ a. (a ≡ Act.Take y) ⊎ (a ≡ Act.Latch y))
-  pub by_take : taken.last.event.act ≡ Act.Take y
-  pub put_no_other : (x : ℕ) → x ≢ y → Puts taken.since x → ⊥
+  pub gained : After marks (IsGain y)
+  pub by_take : gained.last.event.act ≡ Act.Take y
+  pub put_no_other : (x : ℕ) → x ≢ y → Puts gained.since x → ⊥
 
 -- Fresh: a process holds the page since it took it, and has put no other page since. So no page names it yet.
 pub record IsFresh (s : State Page) (trail : Trail) (y : ℕ) : Type 0 where
@@ -48,10 +52,14 @@ pub record IsLivePage (s : State Page) (trail : Trail) (x : ℕ) : Type 0 where
 abbrev pub IsLatch : Act Page Reply → Type 0
 IsLatch a = (x : ℕ) × (a ≡ Act.Latch x)
 
+-- one of these puts page x, and none puts page y
+abbrev pub PutsOnly : Trail → ℕ → ℕ → Type 0
+PutsOnly marks x y = Puts marks x × (¬ Puts marks y)
+
 -- these are the marks of a process that has put one of the pages and not the other since it last latched a page
 pub record IsMiddleBy (marks : Trail) (x y : ℕ) : Type 0 where
   pub latched : After marks IsLatch
-  pub put_one : (Puts latched.since x × (Puts latched.since y → ⊥)) ⊎ (Puts latched.since y × (Puts latched.since x → ⊥))
+  pub put_one : PutsOnly latched.since x y ⊎ PutsOnly latched.since y x
 
 -- One process holds both pages and is between the first put and the last of one compression.
 pub record InMiddle (s : State Page) (trail : Trail) (x y : ℕ) : Type 0 where

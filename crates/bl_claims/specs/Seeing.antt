@@ -1,23 +1,31 @@
 -- What a pass has seen: all events up to its own last one, as a trail.
-use Rattle.std.specs.Prelude.{◌≡◌, ◌≢◌, ℕ, ◌<◌, ◌++◌, Option, List, [], ◌∷◌, Contains}
-use Rattle.bl_model.specs.Map.{Map, empty}
+use Rattle.std.specs.Prelude.{◌≡◌, ◌≢◌, ℕ, ◌<◌, ◌++◌, Option, Some, List, [], ◌∷◌, Contains}
+use Rattle.bl_model.specs.Map.{Map}
+use Rattle.bl_model.specs.Rows.{map_of}
 use Rattle.bl_model.specs.History.{IsLegalFrom, entries_of_pass}
 use Rattle.bl_model.specs.declared.operation.Entry.{Entry}
 use Rattle.bl_model.specs.declared.operation.Reply.{Reply}
 use Rattle.bl_page.specs.declared.page.Page.{Page}
+use Rattle.bl_page.specs.declared.page.Page.TheVariants.{Leaf}
 use Rattle.bl_page.specs.Machine.{Name, State}
 use Rattle.bl_page.specs.Machine.Act.{Begin, End}
 use Rattle.bl_claims.specs.Trails.{Mark, Trail, history_of, IsMarked, LeadsOn}
 use Rattle.bl_claims.specs.States.{HasMoments}
 use Rattle.bl_claims.specs.Walks.{Each}
-use Rattle.bl_claims.specs.Starts.{start_map}
-use Rattle.bl_page.specs.Pages.{page_at}
-use Rattle.bl_claims.specs.Opening.{Opening, node_in, roots_in, IsOpened}
+use Rattle.bl_claims.specs.Opening.{Opening, IsOpened}
 
--- the map that an index begins with: of an image what its leaves say, else the empty map
+-- the rows of all leaves of an image
+abbrev pub leaf_rows : Option Page → List (ℕ × ℕ)
+leaf_rows (Some (Leaf l)) = l.rows.items
+leaf_rows page = []
+
+abbrev pub rows_in : List (Option Page) → List (ℕ × ℕ)
+rows_in [] = []
+rows_in (page ∷ pages) = leaf_rows page ++ rows_in pages
+
+-- the map that an index begins with
 abbrev pub first_map : List (Option Page) → Map
-first_map [] = empty
-first_map (page ∷ pages) = start_map (λ x. node_in (page_at (page ∷ pages) x)) (roots_in (page_at (page ∷ pages) 0)) 0
+first_map pages = map_of (rows_in pages)
 
 -- the state that it begins with: it holds the pages of the image, or is the opening index
 abbrev pub BeginsFrom : List (Option Page) → State Page → Type 0

@@ -30,19 +30,19 @@ only m x h = only_at m x h.0 h.1 h.2
 
 pub fresh_on : (ms : Trail) (m : Mark) (y : ℕ) → m.event.act ≢ Act.Take y → m.event.act ≢ Act.Latch y → ((x : ℕ) (c : Page) → x ≢ y → m.event.act ≡ Act.Put x c → ⊥) → IsFreshBy ms y → IsFreshBy (ms ++ m ∷ []) y
 fresh_on ms m y no_take no_latch no_put h = record {
-  taken = record {
-    before = h.taken.before;
-    last = h.taken.last;
-    since = h.taken.since ++ m ∷ [];
-    split = ap (λ v. v ++ m ∷ []) h.taken.split ∙ append_assoc h.taken.before (h.taken.last ∷ h.taken.since) (m ∷ []);
-    is = h.taken.is;
-    never_again = λ n c d. elim (Contains-append_cases h.taken.since (m ∷ []) n c) [
-      | inl i ↦ h.taken.never_again n i d
+  gained = record {
+    before = h.gained.before;
+    last = h.gained.last;
+    since = h.gained.since ++ m ∷ [];
+    split = ap (λ v. v ++ m ∷ []) h.gained.split ∙ append_assoc h.gained.before (h.gained.last ∷ h.gained.since) (m ∷ []);
+    is = h.gained.is;
+    never_again = λ n c d. elim (Contains-append_cases h.gained.since (m ∷ []) n c) [
+      | inl i ↦ h.gained.never_again n i d
       | inr i ↦ let f : n ≡ m = only m n i in elim d [ inl a ↦ no_take (ap (λ v. v.event.act) (sym f) ∙ a) | inr a ↦ no_latch (ap (λ v. v.event.act) (sym f) ∙ a) ]
     ];
   };
   by_take = h.by_take;
-  put_no_other = λ x n p. elim (Contains-append_cases h.taken.since (m ∷ []) p.mark p.is) [
+  put_no_other = λ x n p. elim (Contains-append_cases h.gained.since (m ∷ []) p.mark p.is) [
     | inl i ↦ h.put_no_other x n (record { mark = p.mark; is = i; page = p.page; act = p.act })
     | inr i ↦ no_put x p.page n (ap (λ v. v.event.act) (sym (only m p.mark i)) ∙ p.act)
   ];
@@ -53,32 +53,32 @@ no_member n c = absurd (omega (arith, c.1))
 
 pub fresh_new : (ms : Trail) (m : Mark) (y : ℕ) → m.event.act ≡ Act.Take y → IsFreshBy (ms ++ m ∷ []) y
 fresh_new ms m y e = record {
-  taken = record { before = ms; last = m; since = []; split = refl; is = inl e; never_again = λ n c d. no_member n c };
+  gained = record { before = ms; last = m; since = []; split = refl; is = inl e; never_again = λ n c d. no_member n c };
   by_take = e;
   put_no_other = λ x n p. no_member p.mark p.is;
 }
 
 -- what was fresh before m, and why
 pub fresh_back : (ms : Trail) (m : Mark) (y : ℕ) → m.event.act ≢ Act.Take y → IsFreshBy (ms ++ m ∷ []) y → IsFreshBy ms y × (m.event.act ≢ Act.Latch y) × ((x : ℕ) (c : Page) → x ≢ y → m.event.act ≡ Act.Put x c → ⊥)
-fresh_back ms m y no_take h = elim (parted ms h.taken.before h.taken.since m h.taken.last h.taken.split) [
+fresh_back ms m y no_take h = elim (parted ms h.gained.before h.gained.since m h.gained.last h.gained.split) [
   | inl o ↦ absurd (no_take (ap (λ v. v.event.act) (sym o.0) ∙ h.by_take))
   | inr o ↦
       let rest = o.0 in
-      let inside : (n : Mark) → Contains rest n → Contains h.taken.since n = λ n c. rw o.1 (Contains-append_left rest (m ∷ []) n c) in
-      let last_in : Contains h.taken.since m = rw o.1 (Contains-push rest m) in (
+      let inside : (n : Mark) → Contains rest n → Contains h.gained.since n = λ n c. rw o.1 (Contains-append_left rest (m ∷ []) n c) in
+      let last_in : Contains h.gained.since m = rw o.1 (Contains-push rest m) in (
         record {
-          taken = record {
-            before = h.taken.before;
-            last = h.taken.last;
+          gained = record {
+            before = h.gained.before;
+            last = h.gained.last;
             since = rest;
             split = o.2;
-            is = h.taken.is;
-            never_again = λ n c d. h.taken.never_again n (inside n c) d;
+            is = h.gained.is;
+            never_again = λ n c d. h.gained.never_again n (inside n c) d;
           };
           by_take = h.by_take;
           put_no_other = λ x n p. h.put_no_other x n (record { mark = p.mark; is = inside p.mark p.is; page = p.page; act = p.act });
         },
-        λ e. h.taken.never_again m last_in (inr e),
+        λ e. h.gained.never_again m last_in (inr e),
         λ x c n e. h.put_no_other x n (record { mark = m; is = last_in; page = c; act = e }),
       )
 ]

@@ -14,7 +14,7 @@ use Rattle.std.proofs.lemmas.Bool.{cases_eq, cases_lt}
 use Rattle.std.proofs.lemmas.Bool.Decides.{nat_tests}
 use Rattle.bl_claims.specs.Pages.{node_of, roots_of}
 use Rattle.bl_core_tree.proofs.Opening.{opens}
-use Rattle.bl_claims.specs.Starts.{AreSound, start_map}
+use Rattle.bl_core_tree.specs.Starts.{AreSound, start_map}
 use Rattle.bl_core_tree.proofs.SoundStarts.{start_status, start_live, sound_tree, bool_cases}
 use Rattle.bl_core.specs.Blank.{IsBlank, IsStart}
 use Rattle.bl_claims.specs.Opening.{Opening}

@@ -1,3 +1,4 @@
 pub mod Trees
 pub mod Moves
 pub mod SoundNodes
+pub mod Starts

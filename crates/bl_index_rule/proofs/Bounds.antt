@@ -12,6 +12,7 @@ use Rattle.bl_page.specs.Machine as machine
 use Rattle.bl_claims.specs.Trails.{Said, Mark, Trail, entries_at, marks_of, IsMarked}
 use Rattle.bl_core.proofs.Pushes.{name_cases, marks_of-own, SaysAt-last, DoesAt-last}
 use Rattle.bl_core.specs.Worlds.{World}
+use Rattle.bl_core.specs.Worlds.Stage.{Busy}
 use Rattle.bl_claims.specs.Walks.{Each}
 use Rattle.bl_core.proofs.Frames.{Each-map}
 use Rattle.bl_core.proofs.After.{put_name, is_put_name}
@@ -19,19 +20,23 @@ use Rattle.bl_core.specs.Blank.{IsBlank}
 use Rattle.bl_proc_base.specs.declared.acts.Action.TheVariants as act
 use Rattle.bl_proc_base.specs.declared.acts.Seen.TheVariants as seen
 use Rattle.bl_proc.specs.declared.kinds.Proc.{Proc}
+use Rattle.bl_proc.specs.declared.kinds.Proc.TheVariants as proc
 use Rattle.bl_proc.specs.Processes.{next_of}
 use Rattle.bl_proc_invariant.specs.Logs.{proc_log}
 use Rattle.bl_proc_invariant.specs.Turns.{Does, Turned}
-use Rattle.bl_proc_invariant.specs.Knowing.{Run, bare as know, end_of_proc, run_next}
+use Rattle.bl_proc_invariant.specs.Knowing.{Run, know_of, bare as know, end_of_proc, run_next}
 use Rattle.bl_proc_invariant.proofs.Starting.{with_proc, bare_enters_good as enters_good}
 use Rattle.bl_proc_invariant.proofs.Logged.{early_log}
 use Rattle.bl_proc_invariant.proofs.Middles.{KeepsLogs}
 use Rattle.bl_proc_invariant.proofs.GivingUp.{given_up, give_up}
 use Rattle.bl_proc_bounds.specs.Searches.{IsSearch}
-use Rattle.bl_claims.specs.Latches.{IsLook, OnlyLooks}
+use Rattle.bl_claims.specs.Latches.{OnlyLooks}
+use Rattle.bl_claims.specs.Meanings.{Unwritten}
+use Rattle.bl_core.proofs.Meant.{unwritten_on}
+use Rattle.bl_proc_invariant.proofs.Looking.{find_unwritten, part_unwritten}
 use Rattle.bl_proc_bounds.specs.Paces.{AllKept}
 use Rattle.bl_proc_bounds.proofs.Turns.{state_kept}
-use Rattle.bl_proc_bounds.proofs.Latching.{looks_up}
+use Rattle.bl_proc_bounds.proofs.Latching.{none_up}
 use Rattle.bl_proc_bounds.proofs.Kept.{left_kept, enter_kept}
 use Rattle.bl_proc_unique.specs.Courses.{GoesOn}
 use Rattle.bl_layout.specs.declared.layout.Layout.{Layout}
@@ -234,6 +239,18 @@ ends_process l n d next course s since f o at =
       (z.3, record { course = course; state = z.5; log = subst (proc_log course.new) (λ i. marks_of (name (sym named.0 i) d.number) (sym z.4 i)) log }),
     )
 
+end_latches : (x : ℕ) → ◌≢◌ {A = Act Page Reply} (Act.End None) (Act.Latch x)
+end_latches x e = cc
+
+-- a search that runs has written nothing
+search_unwritten : (r : Run) → IsSearch r.state → (know r).stage ≡ Busy → (marks : Trail) → proc_log r.state marks → Unwritten marks
+search_unwritten r search busy marks log = by_state r.state search busy log
+  where
+    by_state : (a : Proc) → IsSearch a → (know_of r.got r.child r.time a).stage ≡ Busy → proc_log a marks → Unwritten marks
+    by_state (proc.Find a) search busy log = find_unwritten a.key a.stage marks busy log
+    by_state (proc.Part a) search busy log = part_unwritten a.from a.stage marks busy log
+    by_state old search busy log = absurd search
+
 pub gives_up_process : (l : Layout) (n : ℕ) (d : Mine) → MayGiveUp d.state → Ends Fits l n d gives_up
 gives_up_process l n d may s since f o at =
     let w = f.world in
@@ -244,10 +261,11 @@ gives_up_process l n d may s since f o at =
     let does : Does w.now p (Act.End None) s1 = record { changes = (λ x. refl, λ x. refl, is_put_name p machine.Ended w.now.phase); on = omega arith } in
     let t : Turned know w p (Act.End None) s1 (given_up r) = give_up w p s1 f.good (may.busy r is) (may.silent r is) (may.empty r is) (may.no_middle r is) does in
     let named = is_named s f n since d at in
-    let ends : IsLook (Act.End None) = λ x. (λ e. cc, λ e. cc, λ c e. cc) in
     let search : IsSearch r.state = subst IsSearch (sym is) may.search in
-    let z = finishes l n d s since f o at None _ t (left_kept w t.next _ (given_up r) _ t.extends f.good t.good refl refl search ends f.kept) in
+    let z = finishes l n d s since f o at None _ t (left_kept w t.next _ (given_up r) _ t.extends f.good t.good refl refl search end_latches f.kept) in
     let mk = turn_mark w f.good n d.number (Act.End None) s1 (given_up r) t in
-    let looks : OnlyLooks (marks_of p w.trail ++ mk ∷ []) = looks_up w p r.state mk f.kept.tidy refl search ends in
+    let log : proc_log r.state (marks_of p w.trail) = subst (λ (z : Proc). proc_log z (marks_of p w.trail)) (sym is) (standing s f n since d at).5 in
+    let quiet : Unwritten (marks_of p w.trail ++ mk ∷ []) = unwritten_on (marks_of p w.trail) mk refl (search_unwritten r search (may.busy r is) (marks_of p w.trail) log) in
+    let looks : OnlyLooks (marks_of p w.trail ++ mk ∷ []) = (none_up w p r.state mk f.kept.tidy refl search end_latches, quiet) in
     let marks : marks_of p z.1.trail ≡ marks_of p w.trail ++ mk ∷ [] = ap (marks_of p) (z.4 ∙ t.extends.trail) ∙ marks_of-own p w.trail mk refl in
     (z.0, z.1, z.2, (z.3, subst (λ (q : Name). OnlyLooks (marks_of q z.1.trail)) (λ i. name (sym named.0 i) d.number) (subst OnlyLooks (sym marks) looks)))

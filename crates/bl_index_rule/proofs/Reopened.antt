@@ -15,7 +15,7 @@ use Rattle.bl_check.specs.Rules.{AreSound, is_anchor}
 use Rattle.bl_check.specs.Rows.{AreRowsOf}
 use Rattle.bl_page.specs.Pages.{page_at}
 use Rattle.bl_claims.specs.Pages.{node_of, roots_of}
-use Rattle.bl_claims.specs.Starts.{start_map}
+use Rattle.bl_core_tree.specs.Starts.{start_map}
 use Rattle.bl_core_tree.proofs.SoundStarts.{bool_cases}
 use Rattle.bl_claims.specs.States.{HasMoments}
 use Rattle.bl_core.proofs.States.{moments_first}
@@ -23,6 +23,8 @@ use Rattle.bl_core.specs.Worlds.{World, IsGood}
 use Rattle.bl_core.proofs.Starts.{sound_world, sound_good}
 use Rattle.bl_claims.specs.Opening.{node_in, roots_in, IsStored, IsOpened}
 use Rattle.bl_check_tree.specs.Begins.{live_in}
+use Rattle.bl_check_tree.proofs.Beginnings.{begins}
+use Rattle.bl_check_tree.proofs.FirstMaps.{leaves_say}
 use Rattle.bl_check_tree.proofs.Opened.{anchor_at, opened_sound, opened_begins}
 use Rattle.bl_proc_invariant.specs.Knowing.{Run, bare as know}
 use Rattle.bl_proc_invariant.proofs.Middles.{KeepsLogs}
@@ -57,11 +59,6 @@ same_node (Some page) = refl
 same_roots : (page : Option Page) → is_anchor page ≡ true → roots_of (contents_in page) ≡ roots_in page
 same_roots None anchor = absurd (false≢true anchor)
 same_roots (Some page) anchor = refl
-
--- an image has pages
-map_is : (pages : List (Option Page)) → 0 < length pages → first_map pages ≡ start_map (λ x. node_in (page_at pages x)) (roots_in (page_at pages 0)) 0
-map_is [] many = absurd (omega arith)
-map_is (page ∷ pages) many = refl
 
 begins_so : (pages : List (Option Page)) (s : State Page) → 0 < length pages → IsOpened pages s → BeginsFrom pages s
 begins_so [] s many is = absurd (omega arith)
@@ -126,7 +123,7 @@ module _ (pages : List (Option Page)) (bytes : List ℕ) (image : IsImage pages 
   has_pages = let many = image.count.0 in omega arith
 
   first : world.first ≡ first_map pages
-  first = (let roots = same_roots (page_at pages 0) (anchor_at pages bytes image sound) in λ i. start_map (λ x. same_node (page_at pages x) i) (roots i) 0) ∙ sym (map_is pages has_pages)
+  first = (let roots = same_roots (page_at pages 0) (anchor_at pages bytes image sound) in λ i. start_map (λ x. same_node (page_at pages x) i) (roots i) 0) ∙ (λ i k. sym (leaves_say pages (begins pages bytes image sound) k) i)
 
   moments : HasMoments (first_map pages) start []
   moments = moments_first (first_map pages) start (world_moment world pages good logs first)

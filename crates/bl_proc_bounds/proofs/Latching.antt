@@ -3,7 +3,7 @@ use Rattle.std.proofs.Common.{ℕ, ◌≡◌, ◌≢◌, ◌⊎◌, ◌<◌, ◌
 use Rattle.bl_model.specs.declared.operation.Reply.{Reply}
 use Rattle.bl_page.specs.declared.page.Page.{Page}
 use Rattle.bl_page.specs.Machine.{Name}
-use Rattle.bl_page.specs.Machine.Act.{Put, Take, Latch}
+use Rattle.bl_page.specs.Machine.Act.{Latch}
 use Rattle.bl_claims.specs.Trails.{Mark, Trail, marks_of}
 use Rattle.bl_core.proofs.Pushes.{name_cases, marks_of-own, marks_of-other}
 use Rattle.bl_core.specs.Worlds.{Know, World, HoldsPage, IsGood, Extends}
@@ -301,8 +301,8 @@ none_at : {X : Type 0} (i : ℕ) (m : Mark) → slice_get {X = Mark} [] i ≡ So
 none_at i m e = absurd (cc e)
 
 nothing_done : (a : Proc) (marks : Trail) → marks ≡ [] → IsTidy a marks
-nothing_done (proc.Find a) marks e = λ i m is. none_at i m (sym (ap (λ (t : Trail). slice_get t i) e) ∙ is)
-nothing_done (proc.Part a) marks e = λ i m is. none_at i m (sym (ap (λ (t : Trail). slice_get t i) e) ∙ is)
+nothing_done (proc.Find a) marks e = λ i m x is does. none_at i m (sym (ap (λ (t : Trail). slice_get t i) e) ∙ is)
+nothing_done (proc.Part a) marks e = λ i m x is does. none_at i m (sym (ap (λ (t : Trail). slice_get t i) e) ∙ is)
 nothing_done (proc.Insert a) marks e = λ i m x y is does keeps. none_at i m (sym (ap (λ (t : Trail). slice_get t i) e) ∙ is)
 nothing_done (proc.Delete a) marks e = λ i m x y is does keeps. none_at i m (sym (ap (λ (t : Trail). slice_get t i) e) ∙ is)
 nothing_done (proc.Post a) marks e = λ i m x y is does keeps. none_at i m (sym (ap (λ (t : Trail). slice_get t i) e) ∙ is)

@@ -55,3 +55,15 @@ pub early_part : (from : ℕ) (a : PartStage) → (know_part from a).stage ≡ S
 early_part from part.New e marks = tt
 early_part from (part.Near x) e marks = tt
 early_part from old e marks = absurd (let f = e in cc)
+
+-- A search that runs has written nothing.
+pub find_unwritten : (key : ℕ) (a : FindStage) (marks : Trail) → (know_find key a).stage ≡ Stage.Busy → find_log a marks → Unwritten marks
+find_unwritten key (find.Descending d) marks e h = h
+find_unwritten key (find.Ending value) marks e h = h
+find_unwritten key old marks e h = absurd (let f = e in cc)
+
+pub part_unwritten : (from : ℕ) (a : PartStage) (marks : Trail) → (know_part from a).stage ≡ Stage.Busy → part_log a marks → Unwritten marks
+part_unwritten from (part.Probing x) marks e h = h
+part_unwritten from (part.Descending d) marks e h = h
+part_unwritten from (part.Ending r) marks e h = h
+part_unwritten from old marks e h = absurd (let f = e in cc)
