@@ -16,7 +16,7 @@ use Rattle.bl_core_tree.specs.Trees.Status.{Free, Live, Left, Right, Gone, Ancho
 use Rattle.bl_core_tree.proofs.Statuses.{live_live, right_live, anchored_dead}
 use Rattle.bl_claims.specs.Laws.{IsChain}
 use Rattle.bl_claims.specs.Pages.{node_of, roots_of, IsTreePage}
-use Rattle.bl_core_tree.proofs.LawsHold.{live, KnowsMiddles, has_chain, listing}
+use Rattle.bl_core_tree.proofs.LawsHold.{live, snapshot, KnowsMiddles, has_chain, listing}
 use Rattle.bl_claims.specs.Moments.{IsLivePage}
 use Rattle.bl_core.specs.Worlds.{Know, World, nodes, tree_of, IsGood}
 use Rattle.bl_core.proofs.WorldLaws.{tree_page, all_sound, live_page}
@@ -184,7 +184,7 @@ module _ {P : Type 0} (know : P → Know) (w : World P) (g : IsGood know w) (pag
       let wide = g.tree.side.wide y i in
       g.tree.side.apart x y (node y).shape.low h i l (le, lt) (omega arith, wide) (not_left x y h) (not_right x y h)
 
-  reach : (level first x : ℕ) (rest : List ℕ) → IsChain (live (tree_of w)) node (λ y z. ⊥) level first rest → IsLive (w.status x) → (node x).shape.level ≡ level → (node first).shape.low ≤ (node x).shape.low → Reaches pages first x
+  reach : (level first x : ℕ) (rest : List ℕ) → IsChain (snapshot (tree_of w) (λ y z. ⊥) (λ y. ⊥)) level first rest → IsLive (w.status x) → (node x).shape.level ≡ level → (node first).shape.low ≤ (node x).shape.low → Reaches pages first x
   reach level first x [] c h l le =
       let wide = g.tree.side.wide x h in let within = g.tree.side.within x h in let last = c.2 in
       subst (λ (z : ℕ). Reaches pages first z) (same_page first x c.0 h (c.1 ∙ sym l) le (omega (arith, wide, within, last))) Here

@@ -7,11 +7,11 @@ use Rattle.bl_page.specs.declared.page.Leaf.{Leaf as LeafPage}
 use Rattle.bl_page.specs.declared.page.Page.{Page}
 use Rattle.bl_page.specs.declared.page.Page.TheVariants.{Leaf, Inner}
 use Rattle.bl_page.specs.Pairs.{end_of, RisesFrom, AllWithin}
-use Rattle.bl_claims.specs.Nodes.{Node, Roots, unbounded}
+use Rattle.bl_claims.specs.Nodes.{Node, Roots, Snapshot, unbounded}
 use Rattle.bl_claims.specs.Laws.{IsChain}
 use Rattle.bl_claims.specs.Pages.{node_of}
 use Rattle.bl_core_tree.specs.Starts.{AreSound, found, start_map}
-use Rattle.bl_core_tree.proofs.LawsHold.{live, KnowsMiddles, has_chain}
+use Rattle.bl_core_tree.proofs.LawsHold.{snapshot, KnowsMiddles, has_chain}
 use Rattle.bl_core_tree.proofs.SoundStarts.{if_lt, if_ge, start_tree, alive, none_paired, sound_tree}
 use Rattle.bl_check.specs.Rows.{RowsFrom}
 use Rattle.bl_check.specs.Rows.RowsFrom.{Last, Next}
@@ -41,12 +41,9 @@ leaf_there (Some (Leaf l)) alive level = (l, refl)
 leaf_there (Some (Inner i)) alive level = absurd (omega (arith, i.above_leaves))
 leaf_there old alive level = absurd (false≢true alive)
 
-first_alive : (is_live : ℕ → Type 0) (node : ℕ → Node) (Middle : ℕ → ℕ → Type 0) (level x : ℕ) (rest : List ℕ) → IsChain is_live node Middle level x rest → is_live x
-first_alive is_live node Middle level x [] c = c.0
-first_alive is_live node Middle level x (y ∷ rest) c = c.0
-
-abbrev none : ℕ → ℕ → Type 0
-none x y = ⊥
+first_alive : (t : Snapshot) (level x : ℕ) (rest : List ℕ) → IsChain t level x rest → t.live x
+first_alive t level x [] c = c.0
+first_alive t level x (y ∷ rest) c = c.0
 
 module _ (pages : List (Option Page)) (node : ℕ → Node) (roots : Roots) (same : (x : ℕ) → IsTrue (live_in pages x) → node x ≡ node_in (page_at pages x)) (g : AreSound (live_in pages) node roots) where
   -- what is known of a leaf
@@ -144,8 +141,11 @@ module _ (pages : List (Option Page)) (node : ℕ → Node) (roots : Roots) (sam
         | inr ge ↦ here ∙ if_ge k unbounded _ None ge ∙ sym (none_outside (node (roots.leftmost 0)).shape.low 0 k rows (rows_bound (roots.leftmost 0) rows r).1 (λ in_it. absurd (omega (arith, ge, in_it.1))))
       ]
 
+  abbrev at_start : Snapshot
+  at_start = snapshot (start_tree (live_in pages) node roots) (λ x y. ⊥) (λ y. ⊥)
+
   -- there are rows: the chain of level 0 ends
-  chain_rows : (x : ℕ) (rest : List ℕ) → IsChain (live (start_tree (live_in pages) node roots)) node none 0 x rest → (rows : List (ℕ × ℕ)) × RowsFrom pages x rows
+  chain_rows : (x : ℕ) (rest : List ℕ) → IsChain at_start 0 x rest → (rows : List (ℕ × ℕ)) × RowsFrom pages x rows
   chain_rows x [] c =
       let a = alive (live_in pages) x c.0 in
       let leaf = leaf_there (page_at pages x) a (ap (λ n. n.shape.level) (sym (same x a)) ∙ c.1) in
@@ -153,7 +153,7 @@ module _ (pages : List (Option Page)) (node : ℕ → Node) (roots : Roots) (sam
   chain_rows x (y ∷ rest) c =
       let a = alive (live_in pages) x c.0 in
       let leaf = leaf_there (page_at pages x) a (ap (λ n. n.shape.level) (sym (same x a)) ∙ c.1) in
-      let b = alive (live_in pages) y (first_alive (live (start_tree (live_in pages) node roots)) node none 0 y rest c.3) in
+      let b = alive (live_in pages) y (first_alive at_start 0 y rest c.3) in
       let right : leaf.0.right ≡ y = ap (λ n. n.shape.right) (sym (leaf_node x leaf.0 leaf.1)) ∙ c.2.right in
       let more = chain_rows y rest c.3 in (
         leaf.0.rows.items ++ more.0,
@@ -163,7 +163,7 @@ module _ (pages : List (Option Page)) (node : ℕ → Node) (roots : Roots) (sam
 
   pub some_rows : (rows : List (ℕ × ℕ)) × RowsFrom pages (roots.leftmost 0) rows
   some_rows =
-      let knows : KnowsMiddles (start_tree (live_in pages) node roots) none (λ y. ⊥) = record {
+      let knows : KnowsMiddles (start_tree (live_in pages) node roots) (λ x y. ⊥) (λ y. ⊥) = record {
         middle = λ x y h. absurd ((none_paired (live_in pages) y x).1 h);
         evened = λ x y h. absurd ((none_paired (live_in pages) y x).1 h);
       } in

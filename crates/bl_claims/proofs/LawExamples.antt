@@ -1,6 +1,6 @@
 -- The laws on a small tree: an anchor, two leaves and their parent, with the keys 1 and 9 in the left leaf and the right.
 use Rattle.std.proofs.Common.{ℕ, ◌≤◌, ◌==◌, zero, suc, if◌then◌else◌, Some, None, [], ◌∷◌, arith, refl, inl}
-use Rattle.bl_claims.specs.Nodes.{Node, Look, unbounded}
+use Rattle.bl_claims.specs.Nodes.{Node, Look, Snapshot, unbounded}
 use Rattle.bl_claims.specs.Laws.{Agreement, Overlap, HasChain, IsListed}
 use Rattle.bl_claims.specs.Walks.{IsWalk, NoneTwice}
 use Rattle.bl_claims.specs.Walks.IsWalk.{Ends, Right, Down}
@@ -24,14 +24,14 @@ pages top x = if x == 1 then left_leaf else if x == 2 then right_leaf else top
 abbrev in_tree : ℕ → Type 0
 in_tree x = (1 ≤ x) × (x ≤ 3)
 
-abbrev nobody : ℕ → ℕ → Type 0
-nobody x y = ⊥
+abbrev small_tree : Snapshot
+small_tree = record { live = in_tree; node = pages parent; roots = record { levels = 2; leftmost = λ l. if l == 0 then 1 else 3 }; middle = λ x y. ⊥; evened = λ c. ⊥ }
 
 -- the leaves say what a map with the keys 1 and 9 says, each of the keys that it covers
 abbrev two_rows : Look
 two_rows k = if k == 1 then Some 10 else if k == 9 then Some 90 else None
 
-leaves_agree : Agreement in_tree (pages parent) two_rows
+leaves_agree : Agreement small_tree two_rows
 leaves_agree zero k live leaf covers = absurd (omega (arith, live.0))
 leaves_agree (suc zero) k live leaf covers = grind (arith, covers.1)
 leaves_agree (suc (suc zero)) k live leaf covers = grind (arith, covers.0)
@@ -39,7 +39,7 @@ leaves_agree (suc (suc (suc zero))) k live leaf covers = absurd (omega (arith, l
 leaves_agree (suc (suc (suc (suc n)))) k live leaf covers = absurd (omega (arith, live.1))
 
 -- no key is covered by both leaves
-none_overlap : Overlap in_tree (pages parent) nobody
+none_overlap : Overlap small_tree
 none_overlap zero y k live other level covers also = absurd (omega (arith, live.0))
 none_overlap (suc (suc (suc (suc n)))) y k live other level covers also = absurd (omega (arith, live.1))
 none_overlap x zero k live other level covers also = absurd (omega (arith, other.0))
@@ -55,7 +55,7 @@ none_overlap (suc (suc (suc zero))) (suc zero) k live other level covers also = 
 none_overlap (suc (suc (suc zero))) (suc (suc zero)) k live other level covers also = absurd (omega (arith, level))
 
 -- the leaves' chain: page 1, then page 2
-leaves_chain : HasChain in_tree (pages parent) (record { levels = 2; leftmost = λ l. if l == 0 then 1 else 3 }) nobody 0
+leaves_chain : HasChain small_tree 0
 leaves_chain = record {
   begins = refl;
   rest = 2 ∷ [];
@@ -63,7 +63,7 @@ leaves_chain = record {
 }
 
 -- the parent lists page 2 under its low
-second_listed : IsListed in_tree (pages parent) (λ c. ⊥) 1 9 2
+second_listed : IsListed small_tree 1 9 2
 second_listed = record { alive = (omega arith, omega arith); lower = refl; low = inl refl }
 
 -- The lone walk of 12 goes down to page 2. Before the post it goes down to page 1, and from there to the right.

@@ -5,7 +5,7 @@ use Rattle.bl_model.specs.declared.operation.Reply.{Reply}
 use Rattle.bl_page.specs.declared.page.Page.{Page}
 use Rattle.bl_page.specs.Machine.{Name, Owner, State, Act}
 use Rattle.bl_page.specs.Machine.Owner.{Held}
-use Rattle.bl_claims.specs.Nodes.{Look, unbounded}
+use Rattle.bl_claims.specs.Nodes.{Look, Snapshot, unbounded}
 use Rattle.bl_claims.specs.Pages.{node_of, roots_of, IsTreePage}
 use Rattle.bl_claims.specs.Laws.{Agreement, Overlap, HasChain, Listing}
 use Rattle.bl_claims.specs.Walks.{HasLoneWalk}
@@ -74,11 +74,18 @@ pub record InEvening (s : State Page) (trail : Trail) (y : ℕ) : Type 0 where
   pub linked : (node_of (s.contents left)).shape.right ≡ y
   pub middle : InMiddle s trail left y
 
--- The laws of the tree at a moment: its live leaves agree with the map, live pages overlap only in the middle of a
--- compression, each level has its chain, children are listed as they are, and the lone walk of each key finds its leaf.
-pub record HasLaws (s : State Page) (trail : Trail) (map : Look) : Type 0 where
-  pub agreement : Agreement (IsLivePage s trail) (λ x. node_of (s.contents x)) map
-  pub overlap : Overlap (IsLivePage s trail) (λ x. node_of (s.contents x)) (InMiddle s trail)
-  pub chains : (level : ℕ) → level < (roots_of (s.contents 0)).levels → HasChain (IsLivePage s trail) (λ x. node_of (s.contents x)) (roots_of (s.contents 0)) (InMiddle s trail) level
-  pub listing : Listing (IsLivePage s trail) (λ x. node_of (s.contents x)) (InEvening s trail)
-  pub walks : (k : ℕ) → k < unbounded → HasLoneWalk (IsLivePage s trail) (λ x. node_of (s.contents x)) (roots_of (s.contents 0)) k
+-- the tree at that moment
+abbrev pub snapshot_of : State Page → Trail → Snapshot
+snapshot_of s trail = record { live = IsLivePage s trail; node = λ x. node_of (s.contents x); roots = roots_of (s.contents 0); middle = InMiddle s trail; evened = InEvening s trail }
+
+-- The laws of the tree: its live leaves agree with the map, live pages overlap only in the middle of a compression, each level
+-- has its chain, children are listed as they are, and the lone walk of each key finds its leaf.
+pub record KeepsLaws (t : Snapshot) (map : Look) : Type 0 where
+  pub agreement : Agreement t map
+  pub overlap : Overlap t
+  pub chains : (level : ℕ) → level < t.roots.levels → HasChain t level
+  pub listing : Listing t
+  pub walks : (k : ℕ) → k < unbounded → HasLoneWalk t k
+
+abbrev pub HasLaws : State Page → Trail → Look → Type 0
+HasLaws s trail map = KeepsLaws (snapshot_of s trail) map

@@ -1,6 +1,6 @@
 -- The lone walk of a key: the pages that a search would meet if nothing changed meanwhile.
 use Rattle.std.specs.Prelude.{◌≡◌, ◌≢◌, ℕ, suc, ◌<◌, ◌≤◌, Some, List, [], ◌∷◌}
-use Rattle.bl_claims.specs.Nodes.{Node, Look, Covers, Roots}
+use Rattle.bl_claims.specs.Nodes.{Node, Look, Covers, Snapshot}
 
 -- The child of a key: the one listed with the greatest key that is not above it.
 pub record IsChildOf (look : Look) (k c : ℕ) : Type 0 where
@@ -32,14 +32,14 @@ NoneTwice (x ∷ xs) = IsNoneOf x xs × NoneTwice xs
 
 -- From page 0 the walk goes to the leftmost page of the top level. It meets live pages alone and none twice, and ends at
 -- a leaf that covers the key.
-pub record HasLoneWalk (live : ℕ → Type 0) (node : ℕ → Node) (roots : Roots) (k : ℕ) : Type 0 where
+pub record HasLoneWalk (t : Snapshot) (k : ℕ) : Type 0 where
   pub top_level : ℕ
-  pub is_top : suc top_level ≡ roots.levels
+  pub is_top : suc top_level ≡ t.roots.levels
   pub pages : List ℕ
   pub leaf : ℕ
-  pub walk : IsWalk node k (roots.leftmost top_level) pages leaf
-  pub all_live : Each live pages
-  pub alive : live leaf
-  pub is_leaf : (node leaf).shape.level ≡ 0
-  pub covers : Covers (node leaf).shape k
+  pub walk : IsWalk t.node k (t.roots.leftmost top_level) pages leaf
+  pub all_live : Each t.live pages
+  pub alive : t.live leaf
+  pub is_leaf : (t.node leaf).shape.level ≡ 0
+  pub covers : Covers (t.node leaf).shape k
   pub once : NoneTwice pages

@@ -12,10 +12,10 @@ use Rattle.bl_claims.specs.Pages.{node_of, roots_of, IsTreePage}
 use Rattle.bl_core_tree.specs.SoundNodes.{AllSound}
 use Rattle.bl_claims.specs.Laws.{IsChain}
 use Rattle.bl_claims.specs.Walks.{Each}
-use Rattle.bl_core_tree.proofs.LawsHold.{live, KnowsMiddles, agreement, overlap, has_chain, listing}
+use Rattle.bl_core_tree.proofs.LawsHold.{live, snapshot, KnowsMiddles, agreement, overlap, has_chain, listing}
 use Rattle.bl_core_tree.proofs.WalksEnd.{lone_walk}
 use Rattle.bl_core_tree.proofs.SoundPages.{sound_node, wide_page}
-use Rattle.bl_claims.specs.Moments.{IsLivePage, InMiddle, InEvening, HasLaws}
+use Rattle.bl_claims.specs.Moments.{IsLivePage, InMiddle, InEvening, snapshot_of, HasLaws}
 use Rattle.bl_core.specs.Worlds.{Know, World, nodes, tree_of, IsGood}
 use Rattle.bl_core.specs.Told.{TellsMiddles}
 
@@ -65,9 +65,9 @@ live_status know w x g h = by_status (w.status x) refl
 knows : {P : Type 0} (w : World P) → TellsMiddles w → KnowsMiddles (tree_of w) (InMiddle w.now w.trail) (InEvening w.now w.trail)
 knows w t = record { middle = t.middle; evened = t.evening }
 
-chain_live : {P : Type 0} (know : P → Know) (w : World P) (level x : ℕ) (rest : List ℕ) → IsGood know w → IsChain (live (tree_of w)) (nodes w.now) (InMiddle w.now w.trail) level x rest → IsChain (IsLivePage w.now w.trail) (nodes w.now) (InMiddle w.now w.trail) level x rest
+chain_live : {P : Type 0} (know : P → Know) (w : World P) (level x : ℕ) (rest : List ℕ) → IsGood know w → IsChain (snapshot (tree_of w) (InMiddle w.now w.trail) (InEvening w.now w.trail)) level x rest → IsChain (snapshot_of w.now w.trail) level x rest
 chain_live know w level x [] g c = (live_page know w x g c.0, c.1, c.2, c.3)
-chain_live know w level x (y ∷ rest) g c = (live_page know w x g c.0, c.1, c.2, chain_live know w level y rest g c.3)
+chain_live know w level x (y ∷ rest) g c = (live_page know w x g c.0, c.1, record { right = c.2.right; meets = c.2.meets }, chain_live know w level y rest g c.3)
 
 each_live : {P : Type 0} (know : P → Know) (w : World P) (pages : List ℕ) → IsGood know w → Each (live (tree_of w)) pages → Each (IsLivePage w.now w.trail) pages
 each_live know w [] g h = tt

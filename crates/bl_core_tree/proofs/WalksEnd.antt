@@ -1,12 +1,12 @@
 -- The lone walk of each key ends at the live leaf that covers it, and meets no page twice.
 use Rattle.std.proofs.Common.{length, ◌==◌, if◌then◌else◌, ℕ, ◌≡◌, ◌≢◌, ◌⊎◌, ◌≤◌, ◌<◌, ◌+◌, ◌-◌, Option, Some, None, zero, suc, List, [], ◌∷◌, arith, ap, sym, ◌∙◌, refl, inl, inr}
 use Rattle.std.proofs.lemmas.Bool.{cases_eq, cases_lt}
-use Rattle.bl_claims.specs.Nodes.{Roots, Node, Look, Covers, unbounded}
+use Rattle.bl_claims.specs.Nodes.{Roots, Node, Look, Covers, Snapshot, unbounded}
 use Rattle.bl_claims.specs.Walks.{Each, IsChildOf, IsWalk, IsNoneOf, NoneTwice, HasLoneWalk}
 use Rattle.bl_claims.specs.Walks.IsWalk.{Ends, Right, Down}
 use Rattle.bl_core_tree.specs.Trees.{Tree, IsTree}
 use Rattle.bl_core_tree.specs.SoundNodes.{AllSound}
-use Rattle.bl_core_tree.proofs.LawsHold.{live}
+use Rattle.bl_core_tree.proofs.LawsHold.{live, snapshot}
 
 some_or_none : (o : Option ℕ) → ((c : ℕ) × (o ≡ Some c)) ⊎ (o ≡ None)
 some_or_none (Some c) = inl (c, refl)
@@ -120,7 +120,7 @@ walk_from {t = t} k (suc l) x g s b h level low = right_walk k (suc l) (suc k) x
     let child_low = g.side.sep_low r.child o.alive in
     down z r.child i above c r.of (omega (arith, o.level_is)) (walk_from k l r.child g s b o.alive o.level_is (omega (arith, o.sep_is)))) h level low (omega arith)
 
-pub lone_walk : {t : Tree} (k : ℕ) → IsTree unbounded t → AllSound t → k < unbounded → HasLoneWalk (live t) t.node t.roots k
+pub lone_walk : {t : Tree} (k : ℕ) → IsTree unbounded t → AllSound t → k < unbounded → HasLoneWalk (snapshot t (λ x y. ⊥) (λ y. ⊥)) k
 lone_walk {t} k g s b =
     let some = g.some_level in
     let o = g.leftmost (t.roots.levels - 1) (omega arith) in
@@ -176,9 +176,9 @@ at_most zero (x ∷ xs) h b = absurd (omega (arith, b.0))
 at_most (suc n) xs h b = let r = below_without n xs h b in let i = at_most n (without n xs) r.0 r.1 in omega (arith, r.2)
 
 -- so a lone walk has no more pages than there are
-pub walk_is_short : {live : ℕ → Type 0} {node : ℕ → Node} {roots : Roots} {k : ℕ} (n : ℕ) (w : HasLoneWalk live node roots k) → ((x : ℕ) → live x → x < n) → length w.pages ≤ n
-walk_is_short {live = live} n w small = at_most n w.pages w.once (each w.pages w.all_live)
+pub walk_is_short : {t : Snapshot} {k : ℕ} (n : ℕ) (w : HasLoneWalk t k) → ((x : ℕ) → t.live x → x < n) → length w.pages ≤ n
+walk_is_short {t = t} n w small = at_most n w.pages w.once (each w.pages w.all_live)
   where
-    each : (xs : List ℕ) → Each live xs → Each (λ x. x < n) xs
+    each : (xs : List ℕ) → Each t.live xs → Each (λ x. x < n) xs
     each [] h = tt
     each (x ∷ xs) h = (small x h.0, each xs h.1)

@@ -9,7 +9,7 @@ use Rattle.bl_claims.specs.Pages.{node_of, roots_of, IsTreePage}
 use Rattle.bl_claims.specs.Walks.{IsWalk, Each, HasLoneWalk}
 use Rattle.bl_claims.specs.Walks.IsWalk.{Ends, Right, Down}
 use Rattle.bl_core_tree.proofs.WalksEnd.{walk_is_short}
-use Rattle.bl_claims.specs.Moments.{IsLivePage}
+use Rattle.bl_claims.specs.Moments.{IsLivePage, snapshot_of}
 use Rattle.bl_core.proofs.WorldLaws.{live_status}
 use Rattle.bl_core_tree.specs.Trees.{is_live}
 use Rattle.bl_core_tree.proofs.Statuses.{free_dead}
@@ -62,7 +62,7 @@ module _ (contents : ℕ → Page) (k : ℕ) where
 -- so far the walk has come to this page, by so many gets; and it goes on by these pages
 pub record Comes (v : View) (key page gets : ℕ) : Type 0 where
   pub has : HasWorld v.pages v.owners v.processes v.events
-  pub walk : HasLoneWalk (IsLivePage has.world.now has.world.trail) (λ x. node_of (has.world.now.contents x)) (roots_of (has.world.now.contents 0)) key
+  pub walk : HasLoneWalk (snapshot_of has.world.now has.world.trail) key
   pub pages : List ℕ
   pub on : IsWalk (λ x. node_of (has.world.now.contents x)) key page pages walk.leaf
   pub lives : Each (IsLivePage has.world.now has.world.trail) pages
