@@ -16,7 +16,7 @@ use Rattle.bl_core_tree.specs.Trees.Status.{Free, Live, Left, Right, Gone, Ancho
 use Rattle.bl_core_tree.proofs.Statuses.{live_live, right_live, anchored_dead}
 use Rattle.bl_claims.specs.Laws.{IsChain}
 use Rattle.bl_claims.specs.Pages.{node_of, roots_of, IsTreePage}
-use Rattle.bl_core_tree.proofs.LawsHold.{live, snapshot, KnowsMiddles, has_chain, listing}
+use Rattle.bl_core_tree.proofs.LawsHold.{snapshot, KnowsMiddles, has_chain, listing}
 use Rattle.bl_claims.specs.Moments.{IsLivePage}
 use Rattle.bl_core.specs.Worlds.{Know, World, nodes, tree_of, IsGood}
 use Rattle.bl_core.proofs.WorldLaws.{tree_page, all_sound, live_page}

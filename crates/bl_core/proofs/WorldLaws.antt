@@ -16,7 +16,7 @@ use Rattle.bl_core_tree.proofs.LawsHold.{live, snapshot, KnowsMiddles, agreement
 use Rattle.bl_core_tree.proofs.WalksEnd.{lone_walk}
 use Rattle.bl_core_tree.proofs.SoundPages.{sound_node, wide_page}
 use Rattle.bl_claims.specs.Moments.{IsLivePage, InMiddle, InEvening, snapshot_of, HasLaws}
-use Rattle.bl_core.specs.Worlds.{Know, World, nodes, tree_of, IsGood}
+use Rattle.bl_core.specs.Worlds.{Know, World, tree_of, IsGood}
 use Rattle.bl_core.specs.Told.{TellsMiddles}
 
 -- a page that covers keys is a leaf or an inner page

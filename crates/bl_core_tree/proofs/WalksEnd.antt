@@ -1,7 +1,7 @@
 -- The lone walk of each key ends at the live leaf that covers it, and meets no page twice.
 use Rattle.std.proofs.Common.{length, ◌==◌, if◌then◌else◌, ℕ, ◌≡◌, ◌≢◌, ◌⊎◌, ◌≤◌, ◌<◌, ◌+◌, ◌-◌, Option, Some, None, zero, suc, List, [], ◌∷◌, arith, ap, sym, ◌∙◌, refl, inl, inr}
 use Rattle.std.proofs.lemmas.Bool.{cases_eq, cases_lt}
-use Rattle.bl_claims.specs.Nodes.{Roots, Node, Look, Covers, Snapshot, unbounded}
+use Rattle.bl_claims.specs.Nodes.{Node, Look, Covers, Snapshot, unbounded}
 use Rattle.bl_claims.specs.Walks.{Each, IsChildOf, IsWalk, IsNoneOf, NoneTwice, HasLoneWalk}
 use Rattle.bl_claims.specs.Walks.IsWalk.{Ends, Right, Down}
 use Rattle.bl_core_tree.specs.Trees.{Tree, IsTree}
