@@ -67,3 +67,10 @@ part_unwritten from (part.Probing x) marks e h = h
 part_unwritten from (part.Descending d) marks e h = h
 part_unwritten from (part.Ending r) marks e h = h
 part_unwritten from old marks e h = absurd (let f = e in cc)
+
+-- One that has taken a step has written nothing.
+pub find_went : {key : ℕ} {a b : FindStage} {what : Seen} (marks : Trail) → FindCase key a what b → find_log b marks → Unwritten marks
+find_went marks (FindCase.Began d t) h = h
+find_went marks (FindCase.Went d c e t) h = h
+find_went marks (FindCase.Found d c value t) h = h
+find_went marks (FindCase.Ended value last t) h = h
