@@ -13,10 +13,11 @@ use Rattle.bl_claims.specs.Trails.{Trail, history_of, entries_at}
 use Rattle.bl_page.specs.declared.page.Page.{Page}
 use Rattle.bl_claims.specs.Seeing.{first_map, own}
 use Rattle.bl_index.specs.declared.scanning.ScanFault.{ScanFault}
-use Rattle.bl_index.specs.Calls.{Finds}
-use Rattle.bl_index.specs.declared.leaf_rows.Behind.{Behind}
-use Rattle.bl_index.specs.declared.leaf_rows.Behind.TheVariants.{Part, Nothing}
-use Rattle.bl_index.specs.Scans.{IsBelow, is_below, rows_below, AreParts, AreCalls, Scans, IsOver, EndsScan, MayScan, GoesOnWithin, AppendsPart, LeavesPart, StopsAt, StopsScan, left_from}
+use Rattle.bl_index_read.specs.Searching.{Finds}
+use Rattle.bl_index_read.specs.declared.leaf_rows.Behind.{Behind}
+use Rattle.bl_index_read.specs.declared.leaf_rows.Behind.TheVariants.{Part, Nothing}
+use Rattle.bl_index_read.specs.LeafRows.{IsBelow, is_below, IsOver, GoesOnWithin}
+use Rattle.bl_index.specs.Scans.{rows_below, AreParts, AreCalls, Scans, EndsScan, MayScan, AppendsPart, LeavesPart, StopsAt, StopsScan, left_from}
 use Rattle.bl_model.specs.Parts.{ended_at}
 use Rattle.bl_index.proofs.Scanned.{IsFrom, IsBehind, Answered, answered, part_is, only_rows, parts_push, right_more, from_more, rising_more}
 

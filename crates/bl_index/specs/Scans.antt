@@ -1,5 +1,5 @@
 -- What a scan tells the pass that makes it: parts, each from where the last one ended, and the rows that they list together.
-use Rattle.std.specs.Prelude.{◌≡◌, ℕ, ◌^◌, ◌<◌, ◌≤◌, ◌++◌, ◌↔◌, Bool, true, List, [], ◌∷◌, Option, Some, None, Result, All, Contains, filter, flat_map, length, nat_lt, OnOk, IfOk, IfErr}
+use Rattle.std.specs.Prelude.{◌≡◌, ℕ, ◌<◌, ◌≤◌, ◌++◌, ◌↔◌, List, [], ◌∷◌, Option, Some, None, Result, All, Contains, filter, flat_map, length, OnOk, IfOk, IfErr}
 use Rattle.bl_page.specs.declared.page.Page.{Page}
 use Rattle.bl_model.specs.History.{final_map}
 use Rattle.bl_model.specs.Rows.{HasRisingKeys}
@@ -9,21 +9,12 @@ use Rattle.bl_model.specs.declared.operation.Op.TheVariants.{Part}
 use Rattle.bl_model.specs.declared.operation.Reply.{Reply}
 use Rattle.bl_claims.specs.Trails.{Trail, history_of}
 use Rattle.bl_claims.specs.Seeing.{first_map, IsSeen, own, GoesOnFrom}
-use Rattle.bl_index.specs.Calls.{Finds, RunsOut}
-use Rattle.bl_index.specs.declared.leaf_rows.Behind.{Behind}
-use Rattle.bl_index.specs.declared.leaf_rows.Behind.TheVariants as behind
+use Rattle.bl_index_read.specs.Searching.{Finds, RunsOut}
+use Rattle.bl_index_read.specs.declared.leaf_rows.Behind.{Behind}
+use Rattle.bl_index_read.specs.declared.leaf_rows.Behind.TheVariants as behind
 use Rattle.bl_index.specs.declared.scanning.ScanFault.{ScanFault}
 use Rattle.bl_index.specs.declared.scanning.ScanFault.TheVariants.{Memory, OutOfTurns}
-
--- the key is below an end, if there is one
-abbrev pub IsBelow : Option ℕ → ℕ → Type 0
-IsBelow None key = Unit {0}
-IsBelow (Some end) key = key < end
-
--- the test of it
-abbrev pub is_below : Option ℕ → ℕ → Bool
-is_below None key = true
-is_below (Some end) key = nat_lt key end
+use Rattle.bl_index_read.specs.LeafRows.{is_below, IsBelow, IsOver, GoesOnWithin}
 
 -- the rows of a part that lie below the end of a scan
 abbrev pub rows_below : Option ℕ → Reply → List (ℕ × ℕ)
@@ -65,12 +56,6 @@ pub record Scans (first : List (Option Page)) (pages pass from : ℕ) (to upto :
   pub within : All (λ row. (from ≤ row.0) × IsBelow upto row.0) rows
   pub right : (key : ℕ) → from ≤ key → IsBelow upto key → IsBelow to key → IsRight first pass (history_of old) (history_of new) rows key
 
--- nothing of a scan is left from there on
-abbrev pub IsOver : Option ℕ → Option ℕ → Type 0
-IsOver to None = Unit {0}
-IsOver None (Some from) = ⊥
-IsOver (Some end) (Some from) = end ≤ from
-
 -- A scan has ended: it has come to the end of the map, or to its own.
 pub record EndsScan (first : List (Option Page)) (pages pass from : ℕ) (to : Option ℕ) (rows : List (ℕ × ℕ)) (old new : Trail) : Type 0 where
   pub upto : Option ℕ
@@ -106,11 +91,6 @@ pub record MayScan (first : List (Option Page)) (pages pass turns from : ℕ) (t
   pub appended : after ≡ before ++ rows
   pub ended : OnOk result (EndsScan first pages pass from to rows old new)
   pub stopped : IfErr result (λ fault. StopsScan first pages pass turns from to room fault rows old new)
-
--- A scan goes on from where a part ended, or is over. Of the page to which the part's leaf links nothing is said.
-abbrev pub GoesOnWithin : Option ℕ → Option ℕ → Behind → Type 0
-GoesOnWithin to upto (behind.Part from link) = (upto ≡ Some from) × (from < 2 ^ 64) × IsBelow to from
-GoesOnWithin to upto behind.Nothing = IsOver to upto
 
 -- One part of a scan was answered, and its rows below the scan's end stand behind those of before.
 pub record AppendsPart (first : List (Option Page)) (pages pass from : ℕ) (to : Option ℕ) (behind : Behind) (before after : List (ℕ × ℕ)) (old new : Trail) : Type 0 where

@@ -3,19 +3,16 @@
 ghost use Rattle.std.specs.Prelude.{◌≡◌, false};
 ghost use Rattle.bl_store.specs.Hands.{known, IsIdle, HasNoStock};
 ghost use Rattle.bl_claims.specs.Seeing.{IsSeen};
-ghost use Rattle.bl_index.specs.Runs.{IsWithin};
+ghost use Rattle.bl_index_steps.specs.Runs.{IsWithin};
 
-use bl_index_rule::{Mine, Passes};
-use bl_store::{Hand, Store};
+use bl_index_rule::Mine;
+use bl_index_steps::Tree;
+use bl_store::Hand;
 
 /// Pages of a tree that threads share.
 #[derive(Drop)]
 pub struct Index {
-    pub(crate) store: Store<Mine, Passes>,
-    pub(crate) pages: u32,
-    pub(crate) passes: u32,
-    pub ghost sized: { pages ≡ store.layout.pages },
-    pub ghost shared: { passes ≡ store.layout.passes },
+    pub(crate) tree: Tree,
 }
 
 /// One who works with an index. Each thread has a pass of its own, and between two calls it runs no process. What it has
@@ -44,6 +41,6 @@ impl Index {
     pub fn patience(&self) -> u32
         ensures { result ≡ pages_of self.now }
     {
-        self.pages
+        self.tree.pages
     }
 }

@@ -4,9 +4,10 @@ use Rattle.bl_store.specs.Hands.{known, read_words}
 use Rattle.bl_store.specs.declared.store.Hand.{Hand}
 use Rattle.bl_index_rule.specs.declared.known.Mine.{Mine}
 use Rattle.bl_index_rule.specs.Told.{ends}
-use Rattle.bl_index.proofs.Appended.{leaf_pairs, part_appends, part_leaves}
-use Rattle.bl_index.proofs.Picked.{between_rows, between_length}
-use Rattle.bl_index.proofs.Ranges.{below_less}
+use Rattle.bl_index_read.proofs.Leaves.{leaf_pairs}
+use Rattle.bl_index.proofs.Appended.{part_appends, part_leaves}
+use Rattle.bl_index_read.proofs.Picked.{between_rows, between_length}
+use Rattle.bl_index_read.proofs.Ranges.{below_less}
 use Rattle.bl_index.proofs.index.Index.append_part_by.Goals as goal
 
 pub come_to_leaf-requires-clause-own : goal.come_to_leaf-requires-clause-own

@@ -1,5 +1,5 @@
 use Rattle.std.proofs.Common.{rules, ◌<◌, subst, ◌++◌, List, [], sym, ap, ◌∙◌, append_assoc, append-nil, arith}
-use Rattle.bl_index.specs.declared.leaf_rows.Behind.{Behind}
+use Rattle.bl_index_read.specs.declared.leaf_rows.Behind.{Behind}
 use Rattle.bl_index.proofs.PartByPart.{scans_none, part_more, left_behind}
 use Rattle.bl_index.proofs.index.Index.scan.Goals as goal
 
