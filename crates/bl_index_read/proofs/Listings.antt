@@ -1,5 +1,5 @@
 -- What a part tells its caller.
-use Rattle.std.proofs.Common.{ℕ, ◌≡◌, ◌+◌, Bool, true, false, List, Option, None, Some, refl, sym, subst, ◌∙◌}
+use Rattle.std.proofs.Common.{ℕ, ◌≡◌, ◌+◌, ◌≤◌, Bool, true, false, List, Option, None, Some, refl, sym, subst, ◌∙◌}
 use Rattle.std.specs.Prelude.{◌↔◌, IsTrue, MatchOption}
 use Rattle.atomic_table.specs.declared.shared.Seat.{Seat}
 use Rattle.bl_layout.specs.declared.layout.Layout.{Layout}
@@ -30,6 +30,7 @@ use Rattle.bl_store.specs.declared.store.Glance.{Glance}
 use Rattle.bl_store.specs.declared.view.View.{View}
 use Rattle.bl_store.specs.Hands.{known, read_words, ReadsFrom}
 use Rattle.bl_index_rule.specs.declared.known.Mine.{Mine}
+use Rattle.bl_claims.specs.Bounds.{gets_of, IsWithinBound}
 use Rattle.bl_claims.specs.Seeing.{name}
 use Rattle.bl_store.specs.Pages.{Owner, Open}
 use Rattle.bl_page.specs.Machine.Act.{Look}
@@ -97,7 +98,7 @@ page_reached l from a c d h glance on goes reads is Here t =
 
 -- ---- a part that has its leaf, and has ended
 
-module _ (l : Layout) (pass from : ℕ) (old : Mine) (h h' : Seat (Unit {0}) (View Mine)) (glance : Glance) (has : HasLeaf l pass from old h glance) (ended : ends (known h) 0 (known h')) where
+module _ (l : Layout) (pass from turns : ℕ) (old : Mine) (h h' : Seat (Unit {0}) (View Mine)) (glance : Glance) (has : HasLeaf l pass from turns old h glance) (ended : ends (known h) 0 (known h')) where
   abbrev rows : PartRows
   rows = has.leaf.rows
 
@@ -127,10 +128,14 @@ module _ (l : Layout) (pass from : ℕ) (old : Mine) (h h' : Seat (Unit {0}) (Vi
     tidy = own_looks pass old (known h) (known h').trail has.since looks;
   }
 
-  pub part_finds : Finds old.first l.pages pass (op.Part from) (Rows rows.rows rows.next) old.trail (known h').trail
+  ended_within : IsWithinBound l.pages (name pass (old.number + 1)) (known h').trail × (gets_of (name pass (old.number + 1)) (known h').trail ≤ turns)
+  ended_within = at_answer l.pages pass (old.number + 1) turns _ (known h) (known h') has.since.named has.since.number has.last ended.0
+
+  pub part_finds : Finds old.first l.pages pass turns (op.Part from) (Rows rows.rows rows.next) old.trail (known h').trail
   part_finds = record {
     answers = op_answered old.first pass old (known h') (listing from (Ending rows)) (listing from (Over rows)) (op.Part from) (Rows rows.rows rows.next) None part_done refl refl refl;
-    bounded = at_answer l.pages pass (old.number + 1) _ (known h) (known h') has.since.named has.since.number has.last ended.0;
+    few = ended_within.1;
+    bounded = ended_within.0;
     looks = own_looks pass old (known h) (known h').trail has.since looks;
   }
 

@@ -125,22 +125,24 @@ module _ (pages pass number turns : ℕ) (d : Mine) (named : d.pass ≡ pass) (c
       )
 
   -- a get by which it has found its leaf
-  pub at_last : (x : ℕ) (e : Mine) → e.pages ≡ pages → Steps (Get x) d e → IsSearch e.state → IsAtLast pages pass number e.trail
-  at_last x e size s search = record {
+  pub at_last : (x : ℕ) (e : Mine) → e.pages ≡ pages → Steps (Get x) d e → IsSearch e.state → (most : ℕ) → turns + 1 ≤ most → IsAtLast pages pass number most e.trail
+  at_last x e size s search most le = record {
     begin = t.begin;
     begun = begun_on pages (name pass number) d.pass d.number (Get x) d e is_p s.notes t.begin t.begun;
     bounded = subst (λ (q : Name). IsWithinBound pages q e.trail) is_p (subst (λ (z : ℕ). IsWithinBound z (name d.pass d.number) e.trail) size (s.notes.bounded search));
+    few = (let more : gets_of (name pass number) e.trail ≡ gets_of (name pass number) d.trail + 1 = gets_more pages (name pass number) d.pass d.number (Get x) d e is_p s.notes t.begin t.begun in let got = t.gets in omega (arith, more, got, le));
   }
 
 -- and then its end
-pub at_answer : (pages pass number : ℕ) (answer : Option Reply) (e f : Mine) → e.pass ≡ pass → e.number ≡ number → IsAtLast pages pass number e.trail → Finishes answer e f → IsWithinBound pages (name pass number) f.trail
-at_answer pages pass number answer e f named counted last done =
+pub at_answer : (pages pass number most : ℕ) (answer : Option Reply) (e f : Mine) → e.pass ≡ pass → e.number ≡ number → IsAtLast pages pass number most e.trail → Finishes answer e f → IsWithinBound pages (name pass number) f.trail × (gets_of (name pass number) f.trail ≤ most)
+at_answer pages pass number most answer e f named counted last done =
     let p = name pass number in
     let n = done.notes in
     let then : name e.pass e.number ≡ p = λ i. name (named i) (counted i) in
     let q = whole pages p e.pass e.number (End answer) e f then n last.begin last.begun refl in
-    subst (IsWithinBound pages p) (sym n.trail) (q.within last.bounded)
+    let same = ap (gets_of p) n.trail ∙ q.gets in
+    (subst (IsWithinBound pages p) (sym n.trail) (q.within last.bounded), subst (λ (z : ℕ). z ≤ most) (sym same) last.few)
 
 -- both
-pub at_found : (pages pass number turns : ℕ) (d : Mine) (named : d.pass ≡ pass) (counted : d.number ≡ number) (t : IsAtTurn pages pass number turns d.trail) (x : ℕ) (answer : Option Reply) (e f : Mine) → e.pages ≡ pages → e.pass ≡ pass → e.number ≡ number → Steps (Get x) d e → IsSearch e.state → Finishes answer e f → IsWithinBound pages (name pass number) f.trail
-at_found pages pass number turns d named counted t x answer e f size named_then counted_then s search done = at_answer pages pass number answer e f named_then counted_then (at_last pages pass number turns d named counted t x e size s search) done
+pub at_found : (pages pass number turns : ℕ) (d : Mine) (named : d.pass ≡ pass) (counted : d.number ≡ number) (t : IsAtTurn pages pass number turns d.trail) (x : ℕ) (answer : Option Reply) (e f : Mine) → e.pages ≡ pages → e.pass ≡ pass → e.number ≡ number → Steps (Get x) d e → IsSearch e.state → Finishes answer e f → (most : ℕ) → turns + 1 ≤ most → IsWithinBound pages (name pass number) f.trail × (gets_of (name pass number) f.trail ≤ most)
+at_found pages pass number turns d named counted t x answer e f size named_then counted_then s search done most le = at_answer pages pass number most answer e f named_then counted_then (at_last pages pass number turns d named counted t x e size s search most le) done

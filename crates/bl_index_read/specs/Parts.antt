@@ -50,14 +50,14 @@ abbrev pub HasReached : ℕ → Layout → Seat (Unit {0}) (View Mine) → Reach
 HasReached from l h (reached.Further next) = IsOn l (known h) (part_at from next)
 HasReached from l h (reached.Leaf glance) = ReadsFrom h glance × IsAtLeaf from (read_words h) (known h) × IsOn l (known h) (known h).state
 
--- The part that the pass began when it knew old is at its leaf, within its bound.
-pub record HasLeaf (l : Layout) (pass from : ℕ) (old : Mine) (h : Seat (Unit {0}) (View Mine)) (glance : Glance) : Type 0 where
+-- The part that the pass began when it knew old is at its leaf, within its bound and so many turns.
+pub record HasLeaf (l : Layout) (pass from turns : ℕ) (old : Mine) (h : Seat (Unit {0}) (View Mine)) (glance : Glance) : Type 0 where
   pub running : IsRunning h
   pub reads : ReadsFrom h glance
   pub leaf : IsAtLeaf from (read_words h) (known h)
   pub process : IsOn l (known h) (known h).state
   pub since : IsSince pass old (known h)
-  pub last : IsAtLast l.pages pass (old.number + 1) (known h).trail
+  pub last : IsAtLast l.pages pass (old.number + 1) turns (known h).trail
 
 -- It has run out of turns, and has ended.
 pub record HasGivenUp (l : Layout) (pass turns : ℕ) (old : Mine) (h : Seat (Unit {0}) (View Mine)) : Type 0 where

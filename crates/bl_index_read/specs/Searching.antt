@@ -1,5 +1,5 @@
 -- What a search tells the pass that makes it.
-use Rattle.std.specs.Prelude.{Option, ◌≡◌, ℕ, List, Result, IfOk, IfErr, Ok, Err}
+use Rattle.std.specs.Prelude.{Option, ◌≡◌, ◌≤◌, ℕ, List, Result, IfOk, IfErr, Ok, Err}
 use Rattle.bl_proc.specs.declared.searching.FindStage.{FindStage}
 use Rattle.bl_proc_bounds.specs.Paces.{find_place}
 use Rattle.bl_proc_bounds.specs.Searches.{IsGoing}
@@ -15,10 +15,11 @@ use Rattle.bl_index_read.specs.declared.finding.OutOfTurns.{OutOfTurns}
 use Rattle.bl_model.specs.declared.operation.KeyReply.{KeyReply}
 use Rattle.bl_model.specs.Replies.{reply_of}
 
--- A search of an index of so many pages is answered. At every moment it had got no more pages than its bound, and it has latched,
--- taken and put none.
-pub record Finds (first : List (Option Page)) (pages pass : ℕ) (op : Op) (reply : Reply) (old new : Trail) : Type 0 where
+-- A search of an index of so many pages is answered, with a page for each of its turns at most. At every moment it had got no more
+-- pages than its bound, and it has latched, taken and put none.
+pub record Finds (first : List (Option Page)) (pages pass turns : ℕ) (op : Op) (reply : Reply) (old new : Trail) : Type 0 where
   pub answers : Answers first pass op reply old new
+  pub few : gets_of (name pass answers.number) new ≤ turns
   pub bounded : IsWithinBound pages (name pass answers.number) new
   pub looks : OnlyLooks (marks_of (name pass answers.number) new)
 
@@ -33,7 +34,7 @@ pub record RunsOut (first : List (Option Page)) (pages pass turns : ℕ) (old ne
 
 -- A search is answered, or runs out of turns.
 pub record AnswersOrRunsOut (first : List (Option Page)) (pages pass turns : ℕ) (op : Op) (result : Result Reply OutOfTurns) (old new : Trail) : Type 0 where
-  pub answered : IfOk result (λ reply. Finds first pages pass op reply old new)
+  pub answered : IfOk result (λ reply. Finds first pages pass turns op reply old new)
   pub refused : IfErr result (λ fault. RunsOut first pages pass turns old new)
 
 -- what a search of a key answers, as a reply of the map, or that it ran out of turns

@@ -193,7 +193,7 @@ fn seek_leaf(
     requires running { IsRunning hand.old.seat }
     requires process { IsOn tree.now.store.layout (known hand.old.seat) (part_at from way) }
     ensures same { IsSameHand hand.old.seat hand.new.seat × IsSameStock hand.old.seat hand.new.seat }
-    ensures came { (old : Knows) (pass got : ℕ) → IsSince pass old (known hand.old.seat) → IsAtTurn tree.now.store.layout.pages pass (old.number + 1) got (known hand.old.seat).trail → MatchOption result (HasGivenUp tree.now.store.layout pass (got + turns) old hand.new.seat) (HasLeaf tree.now.store.layout pass from old hand.new.seat) }
+    ensures came { (old : Knows) (pass got : ℕ) → IsSince pass old (known hand.old.seat) → IsAtTurn tree.now.store.layout.pages pass (old.number + 1) got (known hand.old.seat).trail → MatchOption result (HasGivenUp tree.now.store.layout pass (got + turns) old hand.new.seat) (HasLeaf tree.now.store.layout pass from (got + turns) old hand.new.seat) }
 {
     let mut way = way;
     for _turn in 0..turns {
@@ -219,7 +219,7 @@ pub fn come_to_leaf(
     requires own { IsHandOf tree.now.store hand.old }
     requires idle { IsIdle hand.old.seat }
     ensures same { IsSameHand hand.old.seat hand.new.seat × IsSameStock hand.old.seat hand.new.seat }
-    ensures came { MatchOption result (HasGivenUp tree.now.store.layout hand.old.number turns (known hand.old.seat) hand.new.seat) (HasLeaf tree.now.store.layout hand.old.number from (known hand.old.seat) hand.new.seat) }
+    ensures came { MatchOption result (HasGivenUp tree.now.store.layout hand.old.number turns (known hand.old.seat) hand.new.seat) (HasLeaf tree.now.store.layout hand.old.number from turns (known hand.old.seat) hand.new.seat) }
 {
     let way = set_off(tree, hand, from, near);
     // What the call gives is taken apart, so that a leaf that is found at once does not go by its memory.

@@ -1,4 +1,4 @@
-use Rattle.std.proofs.Common.{rules, refl, ◌≡◌, ◌∙◌, None, arith}
+use Rattle.std.proofs.Common.{rules, refl, ◌≡◌, ◌≤◌, ◌+◌, ◌∙◌, None, arith}
 use Rattle.bl_model.specs.Replies.{reply_of}
 use Rattle.bl_index_read.specs.Searching.{IsSearching}
 use Rattle.bl_index_steps.proofs.Calls.{since_step, own_looks}
@@ -43,10 +43,13 @@ returns-in-Ending-clause-answers c =
     let takes = c.read.ensures.takes in
     let process = c.read.ensures.process in
     let since = since_step _ _ _ _ _ inv.since c.read.ensures.moves.1.steps in
+    let le : c.loop-turn._turn + 1 ≤ c.args.turns = omega arith in
+    let found = at_found _ _ _ _ _ inv.since.named inv.since.number inv.turn _ _ _ _ process.pages since.named since.number c.read.ensures.got (find_is_search _ _ process.state) c.finish.ensures.told c.args.turns le in
     record {
       answered = record {
         answers = find_answers _ _ _ _ _ c.read.new.process c.args.key c.in-Ending.value (reply_of c.found.result) refl since process.state (takes.1.0 ∙ inv.key) c.in-Ending.is c.finish.ensures.told c.found.ensures;
-        bounded = at_found _ _ _ _ _ inv.since.named inv.since.number inv.turn _ _ _ _ process.pages since.named since.number c.read.ensures.got (find_is_search _ _ process.state) c.finish.ensures.told;
+        few = found.1;
+        bounded = found.0;
         looks = own_looks _ _ _ _ since c.finish.ensures.tidy;
       };
       refused = tt;

@@ -22,7 +22,7 @@ returns-clause-answers c =
     let ended = subst (λ (h : Hand Mine). ends (known h.seat) 0 (known c.end_part.new.hand.seat)) same c.end_part.ensures.ended in
     let goes : GoesOnBehind (read_words c.come_to_leaf.new.hand.seat) c.next_in-next.result = λ page tree e. c.next_in-next.ensures.next page tree (ap (λ (h : Hand Mine). read_words h.seat) c.rows_in-rows.ensures.same ∙ e) in
     record {
-      answered = part_answers _ _ c.args.from _ c.come_to_leaf.new.hand.seat c.end_part.new.hand.seat _ has ended c.next_in-next.result goes (record { rows = c.rows_in-rows.result; next = c.next_in-next.result }) c.rows_in-rows.ensures.rows refl;
+      answered = part_answers _ _ c.args.from c.args.turns _ c.come_to_leaf.new.hand.seat c.end_part.new.hand.seat _ has ended c.next_in-next.result goes (record { rows = c.rows_in-rows.result; next = c.next_in-next.result }) c.rows_in-rows.ensures.rows refl;
       refused = tt;
     }
 

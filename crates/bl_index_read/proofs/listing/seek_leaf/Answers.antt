@@ -1,4 +1,4 @@
-use Rattle.std.proofs.Common.{rules, ℕ, refl, subst, ap, ◌+◌, ◌≡◌, ◌∙◌, None, arith}
+use Rattle.std.proofs.Common.{rules, ℕ, refl, subst, ap, ◌+◌, ◌≡◌, ◌≤◌, ◌∙◌, None, arith}
 use Rattle.bl_proc.specs.declared.parts.PartStage.TheVariants.{Descending, Ending}
 use Rattle.bl_store.specs.Hands.{known}
 use Rattle.bl_index_read.specs.Turns.{IsAtTurn}
@@ -46,7 +46,7 @@ returns-in-Leaf-clause-came c = λ old pass got s t.
       leaf = at.1;
       process = at.2;
       since = since_step _ _ _ _ _ on went;
-      last = at_last _ _ _ _ _ on.named on.number (inv.turn old pass got s t) _ _ at.2.pages went (part_is_search c.args.from (Ending at.1.rows) _ at.1.state);
+      last = at_last _ _ _ _ _ on.named on.number (inv.turn old pass got s t) _ _ at.2.pages went (part_is_search c.args.from (Ending at.1.rows) _ at.1.state) (got + c.args.turns) (let le : got + c.loop-turn._turn + 1 ≤ got + c.args.turns = omega arith in le);
     }
 
 pub give_up-requires-clause-may : goal.give_up-requires-clause-may
