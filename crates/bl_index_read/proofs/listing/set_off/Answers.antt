@@ -6,11 +6,11 @@ use Rattle.bl_index_read.proofs.Listings.{part_under_way, probing_under_way, par
 use Rattle.bl_index_read.proofs.Paces.{at_begin, at_look}
 use Rattle.bl_index_read.proofs.listing.set_off.Goals as goal
 
-pub returns-then-page-self-clause-begun : goal.returns-then-page-self-clause-begun
-returns-then-page-self-clause-begun c = since_step _ _ _ _ _ c.begin_near.ensures.begun c.probe.ensures.looked
+pub returns-then-page-tree-clause-begun : goal.returns-then-page-tree-clause-begun
+returns-then-page-tree-clause-begun c = since_step _ _ _ _ _ c.begin_near.ensures.begun c.probe.ensures.looked
 
-pub returns-then-page-self-clause-turn : goal.returns-then-page-self-clause-turn
-returns-then-page-self-clause-turn c =
+pub returns-then-page-tree-clause-turn : goal.returns-then-page-tree-clause-turn
+returns-then-page-tree-clause-turn c =
     let state = c.begin_near.ensures.process.state in
     let began = at_begin _ _ _ _ _ _ c.begin_near.ensures.told (part_is_search c.args.from (Probing c.in-Some.page) _ state) (probing_under_way c.args.from c.in-Some.page _ state) in
     let since = c.begin_near.ensures.begun in
