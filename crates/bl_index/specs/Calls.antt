@@ -19,7 +19,7 @@ use Rattle.bl_proc_meanings.specs.Answers.{MeansPosted, MeansHint}
 use Rattle.bl_proc_meanings.specs.Hinted.{MeansInserted, MeansDeleted}
 use Rattle.bl_proc_meanings.specs.Squeezed.{MeansSqueezed}
 use Rattle.bl_proc_meanings.specs.Lowered.{MeansLowered}
-use Rattle.bl_store.specs.Hands.{WasRefused}
+use Rattle.bl_store.specs.Hands.{known, WasRefused}
 use Rattle.bl_claims.specs.Seeing.{first_map, IsSeen, own, name}
 use Rattle.bl_index_rule.specs.Told.{IsRelease}
 use Rattle.bl_index_steps.specs.Refused.{LacksForPage, LacksForPost}
@@ -39,14 +39,14 @@ first_of index = index.tree.store.table.shared.key.known.value.first
 
 -- the pass is of this index, and knows what it began with
 abbrev pub IsPassOf : Index → Pass → Type 0
-IsPassOf index pass = (pass.hand.seat.table_id ≡ index.tree.store.table.shared.table_id) × (pass.hand.seat.me.0.layout ≡ index.tree.store.layout) × (pass.hand.seat.me.0.known.first ≡ first_of index)
+IsPassOf index pass = (pass.hand.seat.table_id ≡ index.tree.store.table.shared.table_id) × (pass.hand.seat.me.0.layout ≡ index.tree.store.layout) × ((known pass.hand.seat).first ≡ first_of index)
 
 abbrev pub number_of : Pass → ℕ
 number_of pass = pass.hand.number
 
 -- all that has happened in the index, up to the pass's own last event
 abbrev pub trail : Pass → Trail
-trail pass = pass.hand.seat.me.0.known.trail
+trail pass = (known pass.hand.seat).trail
 
 -- the map after all that a trail tells, of an index that began so
 abbrev pub map_after : List (Option Page) → Trail → Map
@@ -71,7 +71,7 @@ PostLacks old level key new = InCall (number_of old) None (trail old) (trail new
 
 -- The same pass of the same index
 abbrev pub IsSamePass : Pass → Pass → Type 0
-IsSamePass old new = (new.hand.seat.table_id ≡ old.hand.seat.table_id) × (new.hand.seat.me.0.layout ≡ old.hand.seat.me.0.layout) × (new.hand.number ≡ old.hand.number) × (new.hand.seat.me.0.known.first ≡ old.hand.seat.me.0.known.first)
+IsSamePass old new = (new.hand.seat.table_id ≡ old.hand.seat.table_id) × (new.hand.seat.me.0.layout ≡ old.hand.seat.me.0.layout) × (new.hand.number ≡ old.hand.number) × ((known new.hand.seat).first ≡ (known old.hand.seat).first)
 
 -- In an index of one pass each call is a step of one map.
 abbrev pub StepsAlone : List (Option Page) → Index → Op → Reply → Trail → Trail → Type 0

@@ -32,6 +32,13 @@ impl Pass {
     pub fn is_due(&self) -> bool {
         self.hand.is_due()
     }
+
+    /// The hand by which it works, for one who runs a process event by event.
+    pub fn into_hand(self) -> Hand<Mine>
+        ensures { result ≡ self.hand }
+    {
+        self.hand
+    }
 }
 
 impl Index {
@@ -42,5 +49,12 @@ impl Index {
         ensures { result ≡ pages_of self.now }
     {
         self.tree.pages
+    }
+
+    /// The tree that its passes share, for one who runs a process event by event.
+    pub fn tree(&self) -> &Tree
+        ensures { result.now ≡ self.now.tree }
+    {
+        &self.tree
     }
 }

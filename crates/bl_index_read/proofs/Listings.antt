@@ -1,6 +1,6 @@
 -- What a part tells its caller.
 use Rattle.std.proofs.Common.{ℕ, ◌≡◌, ◌+◌, ◌≤◌, Bool, true, false, List, Option, None, Some, refl, sym, subst, ◌∙◌}
-use Rattle.std.specs.Prelude.{◌↔◌, IsTrue, MatchOption}
+use Rattle.std.specs.Prelude.{MatchOption}
 use Rattle.atomic_table.specs.declared.shared.Seat.{Seat}
 use Rattle.bl_layout.specs.declared.layout.Layout.{Layout}
 use Rattle.bl_model.specs.declared.operation.Op.TheVariants as op
@@ -32,12 +32,10 @@ use Rattle.bl_store.specs.Hands.{known, read_words, ReadsFrom}
 use Rattle.bl_index_rule.specs.declared.known.Mine.{Mine}
 use Rattle.bl_claims.specs.Bounds.{gets_of, IsWithinBound}
 use Rattle.bl_claims.specs.Seeing.{name}
-use Rattle.bl_store.specs.Pages.{Owner, Open}
 use Rattle.bl_page.specs.Machine.Act.{Look}
 use Rattle.bl_page.specs.Machine.Looked.{Page as OfPage}
 use Rattle.bl_proc_invariant.specs.Turns.{event_of}
-use Rattle.std.proofs.lemmas.Bool.{false≢true}
-use Rattle.bl_index_rule.specs.Told.{Steps, Finishes, Goes, MayGiveUp, probes, ends}
+use Rattle.bl_index_rule.specs.Told.{Steps, Finishes, Goes, MayGiveUp, ends}
 use Rattle.bl_index_read.specs.declared.listing.Reached.{Reached}
 use Rattle.bl_index_read.specs.declared.listing.Reached.TheVariants as reached
 use Rattle.bl_index_read.specs.Searching.{Finds}
@@ -63,11 +61,6 @@ probing_under_way from x state e = subst IsUnderWay (sym e) tt
 -- it goes on whatever it sees
 pub probing_course : (from x : ℕ) (free : Bool) (state : Proc) → state ≡ listing from (Probing x) → GoesOn state (seen.Probed free)
 probing_course from x free state e = subst (λ (z : Proc). GoesOn z (seen.Probed free)) (sym e) (part_goes (record { from = from; stage = Probing x }) (seen.Probed free) refl tt)
-
--- by what it was told
-pub probed_as : (free : Bool) (d e : Mine) (x : ℕ) (owner : Owner) (words : List ℕ) → (IsTrue free ↔ (owner ≡ Open)) → probes d x owner words e → Goes (seen.Probed free) d e
-probed_as true d e x owner words is told = told.0 (is.0 refl)
-probed_as false d e x owner words is told = told.1 (λ same. false≢true (is.1 same))
 
 pub probing_steps : (from x : ℕ) (free : Bool) (d e : Mine) → d.state ≡ listing from (Probing x) → Goes (seen.Probed free) d e → Steps (Look (OfPage x)) d e
 probing_steps from x free d e is goes = subst (λ (z : Proc). Steps (event_of (end_of_proc z) (next_of z) (seen.Probed free)) d e) is goes.steps

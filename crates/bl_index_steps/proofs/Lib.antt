@@ -3,6 +3,7 @@ pub mod Got
 pub mod Held
 pub mod Standing
 pub mod Withins
+pub mod Looks
 pub mod Ends
 pub mod Quiet
 pub mod Asked

@@ -142,6 +142,52 @@ fn delete_there(
     }
 }
 
+/// A deletion begins, and comes to its leaf, which it holds then and got last.
+#[inline(always)]
+pub fn begin_deletion<R: Wait>(
+    tree: &Tree,
+    rt: &R,
+    hand: &mut Hand<Mine>,
+    key: u64,
+) -> (u32, Glance)
+    requires own { IsHandOf tree.now.store hand.old }
+    requires idle { IsIdle hand.old.seat × HasNoStock hand.old.seat }
+    ensures same { IsSameHand hand.old.seat hand.new.seat }
+    ensures running { IsRunning hand.new.seat × HasNoStock hand.new.seat }
+    ensures reads { ReadsFrom hand.new.seat result.1 }
+    ensures process { IsOn tree.now.store.layout (known hand.new.seat) (known hand.new.seat).state }
+    ensures there { IsThere 0 key (proc.Delete (record { key = key; stage = delete.Coming (approach.Latched result.0) })) (read_words hand.new.seat) (known hand.new.seat) }
+    ensures since { IsSince hand.old.number (known hand.old.seat) (known hand.new.seat) }
+{
+    let errand = Deleting { key };
+    depart(tree, hand, &errand);
+    come(tree, rt, hand, &errand)
+}
+
+/// A deletion that holds its leaf goes on to its end.
+#[inline(always)]
+pub fn end_deletion(
+    tree: &Tree,
+    hand: &mut Hand<Mine>,
+    at: u32,
+    key: u64,
+    glance: Glance,
+) -> (KeyReply, Option<Hint>)
+    requires own { IsHandOf tree.now.store hand.old }
+    requires running { IsRunning hand.old.seat × HasNoStock hand.old.seat }
+    requires reads { ReadsFrom hand.old.seat glance }
+    requires process { IsOn tree.now.store.layout (known hand.old.seat) (known hand.old.seat).state }
+    requires there { IsThere 0 key (proc.Delete (record { key = key; stage = delete.Coming (approach.Latched at) })) (read_words hand.old.seat) (known hand.old.seat) }
+    ensures same { IsSameHand hand.old.seat hand.new.seat }
+    ensures idle { IsIdle hand.new.seat × HasNoStock hand.new.seat }
+    ensures within { IsWithin hand.new.seat }
+    ensures rests { (known hand.new.seat).runs ≡ false }
+    ensures deleted { (pass : ℕ) (old : Knows) → IsSince pass old (known hand.old.seat) → HasDeleted pass old (known hand.new.seat) (proc.Delete (record { key = key; stage = delete.New })) (reply_of result.0) result.1 }
+    ensures no_room { result.0 ≡ replies.NoRoom → WasRefused hand.new.seat 0 1 }
+{
+    answer_of(delete_there(tree, hand, at, Deleting { key }, glance))
+}
+
 /// Carries a deletion out, from its begin to its end.
 pub fn delete_key<R: Wait>(
     tree: &Tree,
@@ -158,8 +204,6 @@ pub fn delete_key<R: Wait>(
     ensures deleted { HasDeleted hand.old.number (known hand.old.seat) (known hand.new.seat) (proc.Delete (record { key = key; stage = delete.New })) (reply_of result.0) result.1 }
     ensures no_room { result.0 ≡ replies.NoRoom → WasRefused hand.new.seat 0 1 }
 {
-    let errand = Deleting { key };
-    depart(tree, hand, &errand);
-    let (at, glance) = come(tree, rt, hand, &errand);
-    answer_of(delete_there(tree, hand, at, errand, glance))
+    let (at, glance) = begin_deletion(tree, rt, hand, key);
+    end_deletion(tree, hand, at, key, glance)
 }

@@ -15,6 +15,6 @@ mod parting;
 mod placing;
 mod posting;
 
-pub use deleting::delete_key;
+pub use deleting::{begin_deletion, delete_key, end_deletion};
 pub use inserting::insert_pair;
 pub use posting::post_key;

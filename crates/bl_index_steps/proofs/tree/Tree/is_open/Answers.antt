@@ -1,6 +1,6 @@
 use Rattle.bl_store.specs.Hands.{known}
 use Rattle.bl_index_rule.proofs.Pages.{probes_page}
-use Rattle.bl_index_read.proofs.Listings.{probed_as}
+use Rattle.bl_index_steps.proofs.Looks.{probed_as}
 use Rattle.bl_index_steps.proofs.tree.Tree.is_open.Goals as goal
 
 pub probe-requires-clause-rule : goal.probe-requires-clause-rule
