@@ -10,7 +10,7 @@ ghost use Rattle.bl_proc_base.specs.declared.acts.Action.TheVariants as act;
 ghost use Rattle.bl_proc.specs.Searches.{find_next_in};
 ghost use Rattle.bl_index_steps.specs.Runs.{IsWithin};
 ghost use Rattle.bl_model.specs.Replies.{reply_of};
-ghost use Rattle.bl_index_read.specs.Searching.{found_of, IsSearching};
+ghost use Rattle.bl_index_read.specs.Searching.{AnswersOrRunsOut, found_of, IsSearching};
 
 use bl_index_rule::Mine;
 use bl_index_steps::Tree;

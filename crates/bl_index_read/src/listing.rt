@@ -18,6 +18,7 @@ ghost use Rattle.bl_index_rule.specs.declared.known.Mine.{Mine as Knows};
 ghost use Rattle.bl_index_rule.specs.Told.{Begins, Steps, ends, IsUnborn};
 ghost use Rattle.bl_index_steps.specs.Runs.{IsOn, IsSince, IsWithin};
 ghost use Rattle.bl_index_read.specs.Turns.{IsAtTurn};
+ghost use Rattle.bl_index_read.specs.Searching.{AnswersOrRunsOut};
 ghost use Rattle.bl_index_read.specs.Parts.{listing, first_stage, part_at, IsAtLeaf, HasReached, HasLeaf, HasGivenUp};
 
 use crate::finding::OutOfTurns;

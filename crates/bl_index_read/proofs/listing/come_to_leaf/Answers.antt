@@ -18,7 +18,7 @@ pub returns-then-turns-eq0-clause-came : goal.returns-then-turns-eq0-clause-came
 returns-then-turns-eq0-clause-came c =
     let l = c.args.tree.now.store.layout in let old = known c.args.hand.now.seat in
     let off = c.set_off-way.ensures in
-    subst (λ (z : ℕ). HasLeaf l c.args.hand.now.number c.args.from z old c.seek_leaf.new.hand.seat _) (let z : 0 + 0 ≡ c.args.turns = omega (arith, c.if-turns-eq0.true) in z) (c.in_ok-glance.ensures.came old c.args.hand.now.number 0 off.begun off.turn)
+    subst (λ (z : ℕ). HasLeaf l c.args.hand.now.number c.args.from z old c.seek_leaf.new.hand.seat c.in_ok-glance.glance) (let z : 0 + 0 ≡ c.args.turns = omega (arith, c.if-turns-eq0.true) in z) (c.in_ok-glance.ensures.came old c.args.hand.now.number 0 off.begun off.turn)
 
 pub returns-in_err-glance-in-Further-clause-came : goal.returns-in_err-glance-in-Further-clause-came
 returns-in_err-glance-in-Further-clause-came c =
@@ -39,7 +39,7 @@ returns-in_ok-glance-in-Further-clause-came c =
     let process = c.in-Further.ensures.reached in
     let since = since_step _ _ _ _ _ off.begun went in
     let turn = at_step _ _ _ _ _ off.begun.named off.begun.number off.turn _ _ process.pages went (part_is_search c.args.from (Descending c.in-Further.next) _ process.state) (part_under_way c.args.from c.in-Further.next _ process.state) in
-    subst (λ (z : ℕ). HasLeaf l c.args.hand.now.number c.args.from z old c.seek_leaf-in-Further.new.hand.seat _) (let z : 1 + (c.args.turns - 1) ≡ c.args.turns = omega (arith, c.if-turns-eq0.false) in z) (c.in_ok-glance-in-Further.ensures.came old c.args.hand.now.number 1 since turn)
+    subst (λ (z : ℕ). HasLeaf l c.args.hand.now.number c.args.from z old c.seek_leaf-in-Further.new.hand.seat c.in_ok-glance-in-Further.glance) (let z : 1 + (c.args.turns - 1) ≡ c.args.turns = omega (arith, c.if-turns-eq0.false) in z) (c.in_ok-glance-in-Further.ensures.came old c.args.hand.now.number 1 since turn)
 
 pub returns-in-Leaf-clause-came : goal.returns-in-Leaf-clause-came
 returns-in-Leaf-clause-came c =
