@@ -16,11 +16,12 @@ use Rattle.bl_claims.specs.Seeing.{first_map, IsSeen, own, AreWithin}
 use Rattle.bl_index.specs.declared.index.Index.{Index}
 use Rattle.bl_index.specs.declared.index.Pass.{Pass}
 use Rattle.bl_model.specs.Replies.{reply_of}
-use Rattle.bl_index.specs.Replies.{found_of}
-use Rattle.bl_index.specs.declared.config.OutOfTurns.{OutOfTurns}
+use Rattle.bl_index_read.specs.Searching.{found_of, AnswersOrRunsOut}
+use Rattle.bl_index_read.specs.declared.finding.OutOfTurns.{OutOfTurns}
 use Rattle.bl_model.specs.declared.operation.KeyReply.{KeyReply}
-use Rattle.bl_index.specs.Calls.{passes_of, first_of, number_of, trail, IsPassOf, Answers, AnswersOrRunsOut, StepsAlone, map_after}
-use Rattle.bl_index.specs.Runs.{IsWithin}
+use Rattle.bl_index.specs.Calls.{passes_of, first_of, number_of, trail, IsPassOf, StepsAlone, map_after}
+use Rattle.bl_index_steps.specs.Answered.{Answers}
+use Rattle.bl_index_steps.specs.Runs.{IsWithin}
 use Rattle.atomic_table.specs.declared.shared.Seat.{Seat}
 use Rattle.bl_store.specs.declared.view.View.{View}
 use Rattle.bl_store.specs.Hands.{known, IsSameHand}

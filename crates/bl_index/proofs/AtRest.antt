@@ -150,15 +150,15 @@ module _ (l : Layout) (hands : List (Hand Mine)) (result : List (List ℕ)) (c :
     closed_sound = rests_sound _ w c.kept.good pages fit are_left
 
 module _ (index : Index) (passes : List Pass) (hands : List (Hand Mine)) (of : AreHandsOf passes hands) where
-  pub each_hand : AreAll index passes → HasEach index.store.layout.passes hands
+  pub each_hand : AreAll index passes → HasEach index.tree.store.layout.passes hands
   each_hand all n lt = let has = all n lt in let a = of.all has.place has.pass has.at in (a.0, has.pass.hand, a.1, has.numbered)
 
-  pub hand_own : AreOf index passes → (k : ℕ) (hand : Hand Mine) → get_elem? hands k ≡ some hand → IsOf index.store.table.shared.table_id index.store.layout hand.seat × IsIdle hand.seat
+  pub hand_own : AreOf index passes → (k : ℕ) (hand : Hand Mine) → get_elem? hands k ≡ some hand → IsOf index.tree.store.table.shared.table_id index.tree.store.layout hand.seat × IsIdle hand.seat
   hand_own own k hand at =
       let h = of.only k hand at in let is = all_there (IsPassOf index) passes h.place h.pass own h.at in
-      subst (λ (z : Hand Mine). IsOf index.store.table.shared.table_id index.store.layout z.seat × IsIdle z.seat) h.is ((is.0, is.1), h.pass.idle)
+      subst (λ (z : Hand Mine). IsOf index.tree.store.table.shared.table_id index.tree.store.layout z.seat × IsIdle z.seat) h.is ((is.0, is.1), h.pass.idle)
 
-  module _ (result : List (List ℕ)) (c : IsClosed Fits index.store.layout hands result) (own : AreOf index passes) (all : AreAll index passes) (pages : List (Option Page)) (spells : map page_words pages ≡ result) (fit : AllFit pages) where
+  module _ (result : List (List ℕ)) (c : IsClosed Fits index.tree.store.layout hands result) (own : AreOf index passes) (all : AreAll index passes) (pages : List (Option Page)) (spells : map page_words pages ≡ result) (fit : AllFit pages) where
     knows : (k : ℕ) (pass : Pass) → get_elem? passes k ≡ some pass → IsHand c.kept.world (number_of pass) Idle (known pass.hand.seat)
     knows k pass at = let a = of.all k pass at in c.kept.hands (number_of pass) Idle (known pass.hand.seat) (c.stand a.0 pass.hand a.1)
 
@@ -166,22 +166,22 @@ module _ (index : Index) (passes : List Pass) (hands : List (Hand Mine)) (of : A
     page_count = sym (map_length pages) ∙ (ap length spells ∙ c.count)
 
     counted : IsCount (length pages)
-    counted = let within = index.store.layout.pages_within in (omega (arith, within.0, page_count), omega (arith, within.1, page_count))
+    counted = let within = index.tree.store.layout.pages_within in (omega (arith, within.0, page_count), omega (arith, within.1, page_count))
 
     sound : AreSound pages
-    sound = closed_sound index.store.layout hands result c (each_hand all) pages spells fit
+    sound = closed_sound index.tree.store.layout hands result c (each_hand all) pages spells fit
 
     -- the world began with what the index did, since its passes know so
     begins_so : c.kept.image ≡ first_of index
     begins_so =
-        let within = index.store.layout.passes_within in
+        let within = index.tree.store.layout.passes_within in
         let has = all 0 (omega (arith, within.0)) in let a = of.all has.place has.pass has.at in
         sym (c.kept.firsts (number_of has.pass) Idle (known has.pass.hand.seat) (c.stand a.0 has.pass.hand a.1)) ∙ (all_there (IsPassOf index) passes has.place has.pass own has.at).2
 
     pub closes : Closes index passes pages
     closes =
         let f = c.kept in let w = f.world in
-        let left = are_left index.store.layout hands result c (each_hand all) pages spells fit in
+        let left = are_left index.tree.store.layout hands result c (each_hand all) pages spells fit in
         let list = one_list pages (image_bytes pages) (record { count = counted; words = fit; bytes_are = refl }) sound in
         record {
           whole = w.trail;

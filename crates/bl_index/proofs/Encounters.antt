@@ -1,8 +1,8 @@
 -- Two passes that have learned of each other, one after the other.
 use Rattle.std.proofs.Common.{ℕ, List, Option, ◌≡◌, sym, ap, ◌∙◌, subst}
 use Rattle.bl_page.specs.declared.page.Page.{Page}
-use Rattle.bl_claims.specs.Trails.{Trail}
-use Rattle.bl_claims.specs.Seeing.{IsSeen, own}
+use Rattle.bl_claims.specs.Trails.{Trail, marks_of}
+use Rattle.bl_claims.specs.Seeing.{IsSeen, own, name}
 use Rattle.bl_index.specs.Meetings.{Learns, Meet}
 
 -- one learned, two was told then, and neither forgot
@@ -14,4 +14,6 @@ met first one two old_one old_two learned new_one new_two l seen kept told = rec
   begins_two = (l.begins_theirs.0, kept ∙ l.begins_theirs.1);
   none_one = ap (own one) kept ∙ l.none;
   none_two = ap (own two) kept ∙ l.none_theirs;
+  still_one = λ number. ap (marks_of (name one number)) kept ∙ l.still number;
+  still_two = λ number. ap (marks_of (name two number)) kept ∙ l.still_theirs number;
 }

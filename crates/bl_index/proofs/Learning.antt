@@ -8,28 +8,38 @@ use Rattle.std.proofs.Math.ListN.{length-set}
 use Rattle.atomic_table.proofs.Lists.{at_set, set_else}
 use Rattle.bl_page.specs.declared.page.Page.{Page}
 use Rattle.bl_page.specs.Machine.{Name}
-use Rattle.bl_claims.specs.Trails.{Mark, Trail}
+use Rattle.bl_claims.specs.Trails.{Mark, Trail, marks_of}
 use Rattle.bl_core.specs.Worlds.{World}
 use Rattle.bl_claims.specs.Walks.{Each}
 use Rattle.bl_core.proofs.Frames.{Each-map}
+use Rattle.bl_core.proofs.Pushes.{marks_of-other}
 use Rattle.bl_proc_invariant.specs.Knowing.{Run}
 use Rattle.bl_layout.specs.declared.layout.Layout.{Layout}
 use Rattle.bl_store.specs.Pages.{Stage, Idle, Running, Pages, Stands, told, Meets}
 use Rattle.bl_index_rule.specs.declared.known.Mine.{Mine}
-use Rattle.bl_claims.specs.Seeing.{IsSeen, AreWithin, AreElse, own, GoesOnFrom}
+use Rattle.bl_claims.specs.Seeing.{IsSeen, AreWithin, AreElse, own, GoesOnFrom, name}
 use Rattle.bl_index_rule.specs.Fitting.{AreUpTo, IsAtStage, IsHand, IsRun, Fits}
 use Rattle.bl_index_rule.proofs.Entries.{own-other}
 use Rattle.bl_index_rule.proofs.Marks.{each_append}
 use Rattle.bl_index_rule.proofs.Sights.{world_seen}
 use Rattle.bl_index_rule.proofs.Shown.{same_owner, set_there}
 use Rattle.bl_index_rule.proofs.Runners.{one_hand}
-use Rattle.bl_index.specs.Meetings.{learned, heard}
+use Rattle.bl_index.specs.Meetings.{IsStill, learned, heard}
 
 -- ---- events of other passes
 
 pub own_else : (pass : ℕ) (trail rest : Trail) → AreElse pass rest → own pass (trail ++ rest) ≡ own pass trail
 own_else pass trail [] none = ap (own pass) (append-nil trail)
 own_else pass trail (m ∷ rest) none = ap (own pass) (sym (append_assoc trail (m ∷ []) rest)) ∙ (own_else pass (trail ++ m ∷ []) rest none.1 ∙ own-other pass trail m none.0)
+
+-- nor has a process of this one done anything
+pub marks_else : (p : Name) (trail rest : Trail) → AreElse p.pass rest → marks_of p (trail ++ rest) ≡ marks_of p trail
+marks_else p trail [] none = ap (marks_of p) (append-nil trail)
+marks_else p trail (m ∷ rest) none = ap (marks_of p) (sym (append_assoc trail (m ∷ []) rest))
+    ∙ (marks_else p (trail ++ m ∷ []) rest none.1 ∙ marks_of-other p trail m (λ e. none.0 (ap (λ (q : Name). q.pass) e)))
+
+pub still_else : (pass : ℕ) (old new more : Trail) → new ≡ old ++ more → AreElse pass more → IsStill pass old new
+still_else pass old new more is none = λ number. ap (marks_of (name pass number)) is ∙ marks_else (name pass number) old more none
 
 each_parts : {A : Type 0} (P : A → Type 0) (xs ys : List A) → Each P (xs ++ ys) → Each P xs × Each P ys
 each_parts P [] ys h = (tt, h)
@@ -118,6 +128,8 @@ learns_all l n m d e s st f o at at_m ne =
           begins_theirs = (k.begins.0, theirs);
           none = h.mine;
           none_theirs = k.mine;
+          still = still_else n d.trail w.trail h.begins.0 mine h.begins.2;
+          still_theirs = still_else m e.trail w.trail k.begins.0 theirs k.begins.2;
         };
         first = refl;
         seen = subst (λ (z : List (Option Page)). IsSeen z w.trail) (sym (f.firsts n st d at)) (world_seen w f.image f.good f.opening f.first f.moments);
@@ -138,7 +150,7 @@ hears_all l n m d e on s st f o at at_m ne =
       d',
       knows_more s f n st d at d' refl refl refl (hand_more w n d e.trail more on.1 k.begins.0 k.begins.1 parts.0 parts.1 st h),
       record {
-        hears = record { is = refl; none = ap (own n) on.1 ∙ own_else n d.trail more parts.0 };
+        hears = record { is = refl; none = ap (own n) on.1 ∙ own_else n d.trail more parts.0; still = still_else n d.trail e.trail more on.1 parts.0 };
         first = refl;
         runs = refl;
       },

@@ -22,9 +22,9 @@ use Rattle.bl_proc_invariant.specs.Knowing.{know_of, know_lower}
 use Rattle.bl_proc_invariant.proofs.LoweringLogs.{stage_means}
 use Rattle.bl_index_rule.specs.declared.known.Mine.{Mine}
 use Rattle.bl_index.specs.Calls.{LowersTree}
-use Rattle.bl_index.specs.Runs.{IsDone}
-use Rattle.bl_index.specs.Searching.{IsLowerAnswer}
-use Rattle.bl_index.proofs.Quiet.{quiet_adds}
+use Rattle.bl_index_steps.specs.Runs.{IsDone}
+use Rattle.bl_index.specs.Kinds.{IsLowerAnswer}
+use Rattle.bl_index_steps.proofs.Quiet.{quiet_adds}
 
 not_end_lowering : (l : Lowering) → lowering_next l ≢ act.End
 not_end_lowering lowering.Looking e = cc

@@ -13,10 +13,11 @@ use Rattle.bl_claims.specs.Trails.{Trail, history_of, entries_at}
 use Rattle.bl_page.specs.declared.page.Page.{Page}
 use Rattle.bl_claims.specs.Seeing.{first_map, own}
 use Rattle.bl_index.specs.declared.scanning.ScanFault.{ScanFault}
-use Rattle.bl_index.specs.Calls.{Finds}
-use Rattle.bl_index.specs.declared.leaf_rows.Behind.{Behind}
-use Rattle.bl_index.specs.declared.leaf_rows.Behind.TheVariants.{Part, Nothing}
-use Rattle.bl_index.specs.Scans.{IsBelow, is_below, rows_below, AreParts, AreCalls, Scans, IsOver, EndsScan, MayScan, GoesOnWithin, AppendsPart, LeavesPart, StopsAt, StopsScan, left_from}
+use Rattle.bl_index_read.specs.Searching.{Finds}
+use Rattle.bl_index_read.specs.declared.leaf_rows.Behind.{Behind}
+use Rattle.bl_index_read.specs.declared.leaf_rows.Behind.TheVariants.{Part, Nothing}
+use Rattle.bl_index_read.specs.LeafRows.{IsBelow, is_below, IsOver, GoesOnWithin}
+use Rattle.bl_index.specs.Scans.{rows_below, AreParts, AreCalls, Scans, EndsScan, MayScan, AppendsPart, LeavesPart, StopsAt, StopsScan, left_from}
 use Rattle.bl_model.specs.Parts.{ended_at}
 use Rattle.bl_index.proofs.Scanned.{IsFrom, IsBehind, Answered, answered, part_is, only_rows, parts_push, right_more, from_more, rising_more}
 
@@ -24,13 +25,13 @@ history_append : (xs ys : Trail) → history_of (xs ++ ys) ≡ history_of xs ++ 
 history_append [] ys = refl
 history_append (m ∷ ms) ys = ap (λ (z : List Entry). entries_at m.event.process m.said ++ z) (history_append ms ys) ∙ sym (append_assoc (entries_at m.event.process m.said) (history_of ms) (history_of ys))
 
-calls_push : (first : List (Option Page)) (pages pass : ℕ) (es : List Entry) (e : Entry) (old mid new : Trail) → AreCalls first pages pass es old mid → Finds first pages pass e.op e.reply mid new → AreCalls first pages pass (es ++ e ∷ []) old new
-calls_push first pages pass [] e old mid new calls finds = (new, subst (λ (z : Trail). Finds first pages pass e.op e.reply z new) calls finds, refl)
-calls_push first pages pass (x ∷ xs) e old mid new calls finds = (calls.0, calls.1, calls_push first pages pass xs e calls.0 mid new calls.2 finds)
+calls_push : (first : List (Option Page)) (pages pass turns : ℕ) (es : List Entry) (e : Entry) (old mid new : Trail) → AreCalls first pages pass turns es old mid → Finds first pages pass turns e.op e.reply mid new → AreCalls first pages pass turns (es ++ e ∷ []) old new
+calls_push first pages pass turns [] e old mid new calls finds = (new, subst (λ (z : Trail). Finds first pages pass turns e.op e.reply z new) calls finds, refl)
+calls_push first pages pass turns (x ∷ xs) e old mid new calls finds = (calls.0, calls.1, calls_push first pages pass turns xs e calls.0 mid new calls.2 finds)
 
 -- a scan that is about to begin
-pub scans_none : (first : List (Option Page)) (pages pass from : ℕ) (to : Option ℕ) (old : Trail) → Scans first pages pass from to (Some from) [] old old
-scans_none first pages pass from to old = record {
+pub scans_none : (first : List (Option Page)) (pages pass turns from : ℕ) (to : Option ℕ) (old : Trail) → Scans first pages pass turns from to (Some from) [] old old
+scans_none first pages pass turns from to old = record {
   parts = [];
   are_parts = refl;
   calls = refl;
@@ -43,7 +44,7 @@ scans_none first pages pass from to old = record {
   right = λ key low high below. absurd (omega arith);
 }
 
-module _ (first : List (Option Page)) (pages pass at : ℕ) (reply : Reply) (mid new : Trail) (finds : Finds first pages pass (OpPart at) reply mid new) where
+module _ (first : List (Option Page)) (pages pass turns at : ℕ) (reply : Reply) (mid new : Trail) (finds : Finds first pages pass turns (OpPart at) reply mid new) where
   abbrev entry : Entry
   entry = record { pass = pass; op = OpPart at; reply = reply }
 
@@ -62,14 +63,14 @@ module _ (first : List (Option Page)) (pages pass at : ℕ) (reply : Reply) (mid
   ends_behind = (part_is _ at reply stands_there.may).further
 
   -- the scan has gone on by the part
-  pub scans_more : (from : ℕ) (to : Option ℕ) (listed : List (ℕ × ℕ)) (old : Trail) → Scans first pages pass from to (Some at) listed old mid → from ≤ at → IsBelow to at → Scans first pages pass from to (ended_at reply) (listed ++ rows_below to reply) old new
+  pub scans_more : (from : ℕ) (to : Option ℕ) (listed : List (ℕ × ℕ)) (old : Trail) → Scans first pages pass turns from to (Some at) listed old mid → from ≤ at → IsBelow to at → Scans first pages pass turns from to (ended_at reply) (listed ++ rows_below to reply) old new
   scans_more from to listed old s low below =
       let is_part : (m : Map) → MayAnswer m (OpPart at) reply → _ = λ m may. part_is m at reply may in
       let on : history_of mid ≡ history_of old ++ history_of s.begins.0 = ap history_of s.begins.1 ∙ history_append old s.begins.0 in
       record {
         parts = s.parts ++ entry ∷ [];
         are_parts = parts_push pass to (Some from) s.parts at reply s.are_parts below;
-        calls = calls_push first pages pass s.parts entry old mid new s.calls finds;
+        calls = calls_push first pages pass turns s.parts entry old mid new s.calls finds;
         begins = (s.begins.0 ++ more, finds.answers.holds.begins ∙ (ap (λ (z : Trail). z ++ more) s.begins.1 ∙ append_assoc old s.begins.0 more));
         seen = λ _. finds.answers.seen;
         mine = finds.answers.once ∙ (ap (λ (z : List Entry). z ++ entry ∷ []) s.mine ∙ append_assoc (own pass old) s.parts (entry ∷ []));
@@ -97,7 +98,7 @@ pub nothing_done : (first : List (Option Page)) (pages pass turns from : ℕ) (t
     → MayScan first pages pass turns from to room result before after old new → IsOver to (Some from) → new ≡ old
 nothing_done first pages pass turns from to room (Ok done) before after old new m is =
     let s = m.ended.scans in
-    subst (λ (z : List Entry). AreCalls first pages pass z old new) (no_parts pass to from s.parts m.ended.upto s.are_parts is) s.calls
+    subst (λ (z : List Entry). AreCalls first pages pass turns z old new) (no_parts pass to from s.parts m.ended.upto s.are_parts is) s.calls
 nothing_done first pages pass turns from to room (Err fault) before after old new m is =
     let s = m.stopped.scans in
     let none : s.parts ≡ [] = no_parts pass to from s.parts (Some (left_from fault)) s.are_parts is in
@@ -105,36 +106,36 @@ nothing_done first pages pass turns from to room (Err fault) before after old ne
     let key : left_from fault ≡ from = cc in
     absurd (not_both to from is (subst (IsBelow to) key m.stopped.left))
 
-module _ (first : List (Option Page)) (pages pass it from at : ℕ) (to : Option ℕ) (behind : Behind) (listed before after : List (ℕ × ℕ)) (old mid new : Trail) (same : it ≡ pass) (s : Scans first pages pass from to (Some at) listed old mid) (low : from ≤ at) (below : IsBelow to at) where
+module _ (first : List (Option Page)) (pages pass it turns from at : ℕ) (to : Option ℕ) (behind : Behind) (listed before after : List (ℕ × ℕ)) (old mid new : Trail) (same : it ≡ pass) (s : Scans first pages pass turns from to (Some at) listed old mid) (low : from ≤ at) (below : IsBelow to at) where
   abbrev Step : Option ℕ → Type 0
-  Step upto = (rows : List (ℕ × ℕ)) × (after ≡ before ++ rows) × Scans first pages pass from to upto (listed ++ rows) old new
+  Step upto = (rows : List (ℕ × ℕ)) × (after ≡ before ++ rows) × Scans first pages pass turns from to upto (listed ++ rows) old new
 
-  by_part : (a : AppendsPart first pages it at to behind before after mid new) → Step (ended_at a.reply)
-  by_part a = let finds : Finds first pages pass (OpPart at) a.reply mid new = subst (λ (z : ℕ). Finds first pages z (OpPart at) a.reply mid new) same a.finds in (
+  by_part : (a : AppendsPart first pages it turns at to behind before after mid new) → Step (ended_at a.reply)
+  by_part a = let finds : Finds first pages pass turns (OpPart at) a.reply mid new = subst (λ (z : ℕ). Finds first pages z turns (OpPart at) a.reply mid new) same a.finds in (
     rows_below to a.reply,
     a.appended,
-    scans_more first pages pass at a.reply mid new finds from to listed old s low below,
+    scans_more first pages pass turns at a.reply mid new finds from to listed old s low below,
   )
 
   -- a scan that goes on behind a part
-  pub goes_on : (n link : ℕ) → behind ≡ Part n link → AppendsPart first pages it at to behind before after mid new → (at < n) × (n < 2 ^ 64) × IsBelow to n × Step (Some n)
+  pub goes_on : (n link : ℕ) → behind ≡ Part n link → AppendsPart first pages it turns at to behind before after mid new → (at < n) × (n < 2 ^ 64) × IsBelow to n × Step (Some n)
   goes_on n link is a = let on = subst (GoesOnWithin to (ended_at a.reply)) is a.ends in (
-    subst (IsBehind at) on.0 (ends_behind first pages it at a.reply mid new a.finds),
+    subst (IsBehind at) on.0 (ends_behind first pages it turns at a.reply mid new a.finds),
     on.1,
     on.2,
     subst Step on.0 (by_part a),
   )
 
   -- a scan that is over behind it
-  pub ends_there : behind ≡ Nothing → AppendsPart first pages it at to behind before after mid new → (rows : List (ℕ × ℕ)) × (after ≡ before ++ rows) × EndsScan first pages pass from to (listed ++ rows) old new
+  pub ends_there : behind ≡ Nothing → AppendsPart first pages it turns at to behind before after mid new → (rows : List (ℕ × ℕ)) × (after ≡ before ++ rows) × EndsScan first pages pass turns from to (listed ++ rows) old new
   ends_there is a = let on = by_part a in (on.0, on.1, record { upto = ended_at a.reply; over = subst (GoesOnWithin to (ended_at a.reply)) is a.ends; scans = on.2 })
 
 -- ---- a scan that has come so far
 
 -- it goes on from a key below its end, or it has ended
-abbrev pub IsSoFar : List (Option Page) → ℕ → ℕ → ℕ → Option ℕ → Behind → List (ℕ × ℕ) → Trail → Trail → Type 0
-IsSoFar first pages pass from to (Part at link) listed old new = (from ≤ at) × (at < 2 ^ 64) × IsBelow to at × Scans first pages pass from to (Some at) listed old new
-IsSoFar first pages pass from to Nothing listed old new = EndsScan first pages pass from to listed old new
+abbrev pub IsSoFar : List (Option Page) → ℕ → ℕ → ℕ → ℕ → Option ℕ → Behind → List (ℕ × ℕ) → Trail → Trail → Type 0
+IsSoFar first pages pass turns from to (Part at link) listed old new = (from ≤ at) × (at < 2 ^ 64) × IsBelow to at × Scans first pages pass turns from to (Some at) listed old new
+IsSoFar first pages pass turns from to Nothing listed old new = EndsScan first pages pass turns from to listed old new
 
 -- what is left of the keys
 abbrev pub left_behind : Behind → ℕ
@@ -142,27 +143,27 @@ left_behind (Part at link) = 2 ^ 64 - at
 left_behind Nothing = 0
 
 -- what a part more makes of it
-pub record HasGone (first : List (Option Page)) (pages pass from at : ℕ) (to : Option ℕ) (behind : Behind) (listed before after : List (ℕ × ℕ)) (old new : Trail) : Type 0 where
+pub record HasGone (first : List (Option Page)) (pages pass turns from at : ℕ) (to : Option ℕ) (behind : Behind) (listed before after : List (ℕ × ℕ)) (old new : Trail) : Type 0 where
   pub rows : List (ℕ × ℕ)
   pub appended : after ≡ before ++ rows
-  pub so_far : IsSoFar first pages pass from to behind (listed ++ rows) old new
+  pub so_far : IsSoFar first pages pass turns from to behind (listed ++ rows) old new
   pub less : left_behind behind < 2 ^ 64 - at
 
-pub part_more : (first : List (Option Page)) (pages pass it from at link : ℕ) (to : Option ℕ) (behind : Behind) (listed before after : List (ℕ × ℕ)) (old mid new : Trail) → it ≡ pass
-    → IsSoFar first pages pass from to (Part at link) listed old mid → AppendsPart first pages it at to behind before after mid new → HasGone first pages pass from at to behind listed before after old new
-part_more first pages pass it from at link to (Part n more) listed before after old mid new same (low, fits, below, s) a =
-    let on = goes_on first pages pass it from at to (Part n more) listed before after old mid new same s low below n more refl a in
+pub part_more : (first : List (Option Page)) (pages pass it turns from at link : ℕ) (to : Option ℕ) (behind : Behind) (listed before after : List (ℕ × ℕ)) (old mid new : Trail) → it ≡ pass
+    → IsSoFar first pages pass turns from to (Part at link) listed old mid → AppendsPart first pages it turns at to behind before after mid new → HasGone first pages pass turns from at to behind listed before after old new
+part_more first pages pass it turns from at link to (Part n more) listed before after old mid new same (low, fits, below, s) a =
+    let on = goes_on first pages pass it turns from at to (Part n more) listed before after old mid new same s low below n more refl a in
     record { rows = on.3.0; appended = on.3.1; so_far = (omega (arith, on.0, low), on.1, on.2, on.3.2); less = omega (arith, on.0, on.1) }
-part_more first pages pass it from at link to Nothing listed before after old mid new same (low, fits, below, s) a =
-    let on = ends_there first pages pass it from at to Nothing listed before after old mid new same s low below refl a in
+part_more first pages pass it turns from at link to Nothing listed before after old mid new same (low, fits, below, s) a =
+    let on = ends_there first pages pass it turns from at to Nothing listed before after old mid new same s low below refl a in
     record { rows = on.0; appended = on.1; so_far = on.2; less = omega (arith, fits) }
 
 -- where it stops
 pub stops_there : (first : List (Option Page)) (pages pass it turns from at link : ℕ) (to : Option ℕ) (room : ℕ) (fault : ScanFault) (listed before after : List (ℕ × ℕ)) (old mid new : Trail) → it ≡ pass
-    → IsSoFar first pages pass from to (Part at link) listed old mid → LeavesPart first pages it turns at to room fault before after mid new → StopsScan first pages pass turns from to room fault listed old new
+    → IsSoFar first pages pass turns from to (Part at link) listed old mid → LeavesPart first pages it turns at to room fault before after mid new → StopsScan first pages pass turns from to room fault listed old new
 stops_there first pages pass it turns from at link to room fault listed before after old mid new same (low, fits, below, s) left = record {
   mid = mid;
-  scans = subst (λ (z : ℕ). Scans first pages pass from to (Some z) listed old mid) (sym left.key) s;
+  scans = subst (λ (z : ℕ). Scans first pages pass turns from to (Some z) listed old mid) (sym left.key) s;
   left = subst (IsBelow to) (sym left.key) below;
   stops = subst (λ (z : ℕ). StopsAt first pages z turns to room fault mid new) same left.stops;
 }

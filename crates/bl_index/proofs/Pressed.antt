@@ -30,10 +30,10 @@ use Rattle.bl_proc_unique.proofs.Retirements.{put_done}
 use Rattle.bl_index_rule.specs.declared.known.Mine.{Mine}
 use Rattle.bl_claims.specs.Seeing.{name}
 use Rattle.bl_index.specs.Calls.{Compresses}
-use Rattle.bl_index.specs.Runs.{IsDone}
-use Rattle.bl_index.specs.Searching.{IsCompressAnswer}
-use Rattle.bl_index.proofs.Quiet.{first_of, second_of, quiet_adds}
-use Rattle.bl_index.proofs.Ends.{not_end_way}
+use Rattle.bl_index_steps.specs.Runs.{IsDone}
+use Rattle.bl_index.specs.Kinds.{IsCompressAnswer}
+use Rattle.bl_index_steps.proofs.Quiet.{first_of, second_of, quiet_adds}
+use Rattle.bl_index_steps.proofs.Ends.{not_end_way}
 
 not_end_put : (a : Action) → IsPutDone a seen.Done → a ≢ act.End
 not_end_put a put e = subst (λ (z : Action). IsPutDone z seen.Done) e put

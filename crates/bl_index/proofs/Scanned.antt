@@ -15,9 +15,10 @@ use Rattle.bl_model.specs.declared.operation.Reply.{Reply}
 use Rattle.bl_model.specs.declared.operation.Reply.TheVariants.{Found, Absent, Inserted, Present, Deleted, Rows, NoRoom}
 use Rattle.bl_page.specs.declared.page.Page.{Page}
 use Rattle.bl_claims.specs.Seeing.{first_map}
-use Rattle.bl_index.specs.Scans.{IsBelow, is_below, rows_below, AreParts, IsRight}
+use Rattle.bl_index_read.specs.LeafRows.{IsBelow, is_below}
+use Rattle.bl_index.specs.Scans.{rows_below, AreParts, IsRight}
 use Rattle.bl_model.specs.Parts.{rows_of, ended_at}
-use Rattle.bl_index.proofs.Ranges.{below_true, filter_keeps, filter_has, rising_filter, rising_behind}
+use Rattle.bl_index_read.proofs.Ranges.{below_true, filter_keeps, filter_has, rising_filter, rising_behind}
 
 -- an end behind a key
 abbrev pub IsBehind : ℕ → Option ℕ → Type 0

@@ -11,11 +11,12 @@ use Rattle.bl_claims.specs.Trails.{Trail}
 use Rattle.bl_store.specs.declared.store.Hand.{Hand}
 use Rattle.bl_store.specs.Hands.{known, IsSameHand}
 use Rattle.bl_index_rule.specs.declared.known.Mine.{Mine}
-use Rattle.bl_index.specs.declared.config.OutOfTurns.{OutOfTurns}
+use Rattle.bl_index_read.specs.declared.finding.OutOfTurns.{OutOfTurns}
 use Rattle.bl_index.specs.declared.config.Config.{Config}
 use Rattle.bl_index.specs.declared.index.Index.{Index}
 use Rattle.bl_index.specs.declared.index.Pass.{Pass}
-use Rattle.bl_index.specs.Calls.{IsPassOf, IsSamePass, AnswersOrRunsOut}
+use Rattle.bl_index.specs.Calls.{IsPassOf, IsSamePass}
+use Rattle.bl_index_read.specs.Searching.{AnswersOrRunsOut}
 use Rattle.bl_index.specs.Opened.{IsBegun, IsOpened}
 
 -- the last pass of an index, and all but the last one

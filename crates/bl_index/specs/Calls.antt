@@ -1,5 +1,5 @@
 -- What a call tells the pass that makes it.
-use Rattle.std.specs.Prelude.{◌≡◌, ◌≢◌, ℕ, ◌++◌, Option, Some, None, List, [], ◌∷◌, length, ◌≤◌, Result, IfOk, IfErr}
+use Rattle.std.specs.Prelude.{◌≡◌, ◌≢◌, ℕ, ◌++◌, Option, Some, None, List, length, ◌≤◌}
 use Rattle.bl_model.specs.Map.{Map, IsMapStep}
 use Rattle.bl_model.specs.History.{final_map}
 use Rattle.bl_model.specs.declared.operation.Op.{Op}
@@ -9,8 +9,7 @@ use Rattle.bl_model.specs.declared.operation.Reply.TheVariants as reply
 use Rattle.bl_page.specs.declared.page.Page.{Page}
 use Rattle.bl_claims.specs.Trails.{Mark, Trail, history_of, marks_of}
 use Rattle.bl_claims.specs.Walks.{Each}
-use Rattle.bl_claims.specs.Bounds.{gets_of, IsWithinBound, IsBelowBound}
-use Rattle.bl_claims.specs.Latches.{LatchesAlone, LatchesBelowAnchor, OnlyLooks}
+use Rattle.bl_claims.specs.Latches.{LatchesAlone, LatchesBelowAnchor}
 use Rattle.bl_proc_meanings.specs.Families.{LatchesBeside}
 use Rattle.bl_proc_base.specs.declared.answers.Hint.{Hint}
 use Rattle.bl_proc_base.specs.declared.answers.Posted.{Posted}
@@ -20,34 +19,34 @@ use Rattle.bl_proc_meanings.specs.Answers.{MeansPosted, MeansHint}
 use Rattle.bl_proc_meanings.specs.Hinted.{MeansInserted, MeansDeleted}
 use Rattle.bl_proc_meanings.specs.Squeezed.{MeansSqueezed}
 use Rattle.bl_proc_meanings.specs.Lowered.{MeansLowered}
-use Rattle.bl_store.specs.Hands.{WasRefused}
-use Rattle.bl_claims.specs.Seeing.{first_map, IsSeen, own, Holds, name}
+use Rattle.bl_store.specs.Hands.{known, WasRefused}
+use Rattle.bl_claims.specs.Seeing.{first_map, IsSeen, own, name}
 use Rattle.bl_index_rule.specs.Told.{IsRelease}
-use Rattle.bl_index.specs.Refused.{LacksForPage, LacksForPost}
-use Rattle.bl_index.specs.declared.config.OutOfTurns.{OutOfTurns}
+use Rattle.bl_index_steps.specs.Refused.{LacksForPage, LacksForPost}
 use Rattle.bl_index.specs.declared.index.Index.{Index}
 use Rattle.bl_index.specs.declared.index.Pass.{Pass}
+use Rattle.bl_index_steps.specs.Answered.{Answers, Adds, InCall}
 
 abbrev pub pages_of : Index → ℕ
-pages_of index = index.store.layout.pages
+pages_of index = index.tree.store.layout.pages
 
 abbrev pub passes_of : Index → ℕ
-passes_of index = index.store.layout.passes
+passes_of index = index.tree.store.layout.passes
 
 -- what the index began with, as its store lent it to each pass: the pages of an image, or no pages where it was opened empty
 abbrev pub first_of : Index → List (Option Page)
-first_of index = index.store.table.shared.key.known.value.first
+first_of index = index.tree.store.table.shared.key.known.value.first
 
 -- the pass is of this index, and knows what it began with
 abbrev pub IsPassOf : Index → Pass → Type 0
-IsPassOf index pass = (pass.hand.seat.table_id ≡ index.store.table.shared.table_id) × (pass.hand.seat.me.0.layout ≡ index.store.layout) × (pass.hand.seat.me.0.known.first ≡ first_of index)
+IsPassOf index pass = (pass.hand.seat.table_id ≡ index.tree.store.table.shared.table_id) × (pass.hand.seat.me.0.layout ≡ index.tree.store.layout) × ((known pass.hand.seat).first ≡ first_of index)
 
 abbrev pub number_of : Pass → ℕ
 number_of pass = pass.hand.number
 
 -- all that has happened in the index, up to the pass's own last event
 abbrev pub trail : Pass → Trail
-trail pass = pass.hand.seat.me.0.known.trail
+trail pass = (known pass.hand.seat).trail
 
 -- the map after all that a trail tells, of an index that began so
 abbrev pub map_after : List (Option Page) → Trail → Map
@@ -62,12 +61,6 @@ released_by pass = pass.hand.seat.me.0.releases
 abbrev pub MetNoRoom : Pass → ℕ → ℕ → Type 0
 MetNoRoom pass pages frames = WasRefused pass.hand.seat pages frames
 
--- The process of a call, whose events stand in what is new of the trail, answered that, and what it did is so.
-pub record InCall (pass : ℕ) (answer : Option Reply) (old new : Trail) (IsSo : Trail → Type 0) : Type 0 where
-  pub number : ℕ
-  pub holds : Holds (name pass number) answer old new
-  pub is : IsSo (marks_of (name pass number) new)
-
 -- An insertion of that key found no room for its leaf.
 abbrev pub InsertLacks : Pass → ℕ → Pass → Type 0
 InsertLacks old key new = InCall (number_of old) (Some reply.NoRoom) (trail old) (trail new) (λ marks. LacksForPage 0 key marks (MetNoRoom new))
@@ -78,27 +71,11 @@ PostLacks old level key new = InCall (number_of old) None (trail old) (trail new
 
 -- The same pass of the same index
 abbrev pub IsSamePass : Pass → Pass → Type 0
-IsSamePass old new = (new.hand.seat.table_id ≡ old.hand.seat.table_id) × (new.hand.seat.me.0.layout ≡ old.hand.seat.me.0.layout) × (new.hand.number ≡ old.hand.number) × (new.hand.seat.me.0.known.first ≡ old.hand.seat.me.0.known.first)
-
--- A call of the pass is answered: it is one process, begun and ended after all that the pass had seen, and the pass has done
--- nothing else since. What the pass has seen then is a trail that an index may have, and its only new entry of this pass is
--- this operation with this reply.
-pub record Answers (first : List (Option Page)) (pass : ℕ) (op : Op) (reply : Reply) (old new : Trail) : Type 0 where
-  pub number : ℕ
-  pub holds : Holds (name pass number) (Some reply) old new
-  pub seen : IsSeen first new
-  pub once : own pass new ≡ own pass old ++ record { pass = pass; op = op; reply = reply } ∷ []
+IsSamePass old new = (new.hand.seat.table_id ≡ old.hand.seat.table_id) × (new.hand.seat.me.0.layout ≡ old.hand.seat.me.0.layout) × (new.hand.number ≡ old.hand.number) × ((known new.hand.seat).first ≡ (known old.hand.seat).first)
 
 -- In an index of one pass each call is a step of one map.
 abbrev pub StepsAlone : List (Option Page) → Index → Op → Reply → Trail → Trail → Type 0
 StepsAlone first index op reply old new = passes_of index ≡ 1 → IsMapStep (map_after first old) op reply (map_after first new)
-
--- The same of a call that says nothing of the map.
-pub record Adds (first : List (Option Page)) (pass : ℕ) (old new : Trail) : Type 0 where
-  pub number : ℕ
-  pub holds : Holds (name pass number) None old new
-  pub seen : IsSeen first new
-  pub none : own pass new ≡ own pass old
 
 -- A sweep of the pass that answered a number. Its events are releases of pages, no more than that number, all of them by one
 -- process of its own, which had done nothing before and does not begin. The entries of the pass are those of before, and if what the pass had seen was a trail that an index
@@ -112,27 +89,6 @@ pub record Sweeps (first : List (Option Page)) (pass answer : ℕ) (old new : Tr
   pub few : length (marks_of (name pass number) more) ≤ answer
   pub seen : IsSeen first old → IsSeen first new
   pub none : own pass new ≡ own pass old
-
--- A search of an index of so many pages is answered. At every moment it had got no more pages than its bound, and it has latched,
--- taken and put none.
-pub record Finds (first : List (Option Page)) (pages pass : ℕ) (op : Op) (reply : Reply) (old new : Trail) : Type 0 where
-  pub answers : Answers first pass op reply old new
-  pub bounded : IsWithinBound pages (name pass answers.number) new
-  pub looks : OnlyLooks (marks_of (name pass answers.number) new)
-
--- It ran out of so many turns and said nothing: it has got so many pages, which are fewer than its bound, and has latched, taken
--- and put none.
-pub record RunsOut (first : List (Option Page)) (pages pass turns : ℕ) (old new : Trail) : Type 0 where
-  pub adds : Adds first pass old new
-  pub bounded : IsWithinBound pages (name pass adds.number) new
-  pub gets : gets_of (name pass adds.number) new ≡ turns
-  pub below : IsBelowBound pages (name pass adds.number) new
-  pub looks : OnlyLooks (marks_of (name pass adds.number) new)
-
--- A search is answered, or runs out of turns.
-pub record AnswersOrRunsOut (first : List (Option Page)) (pages pass turns : ℕ) (op : Op) (result : Result Reply OutOfTurns) (old new : Trail) : Type 0 where
-  pub answered : IfOk result (λ reply. Finds first pages pass op reply old new)
-  pub refused : IfErr result (λ fault. RunsOut first pages pass turns old new)
 
 -- An insertion is answered, and the hint beside its reply means what its process has put. It held no page when it latched
 -- one.

@@ -1,16 +1,6 @@
-pub mod Replies
 pub mod Calls
-pub mod Runs
-pub mod Ways
-pub mod Events
-pub mod Halves
 pub mod Opened
-pub mod Searching
+pub mod Kinds
 pub mod Meetings
 pub mod Scans
-pub mod LeafRows
-pub mod Parts
-pub mod Refused
-pub mod Held
-pub mod Rooms
 pub mod Closed

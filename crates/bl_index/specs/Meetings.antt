@@ -1,25 +1,32 @@
 -- What passes learn of each other. It is no event.
 use Rattle.std.specs.Prelude.{◌≡◌, ℕ, List, Option}
 use Rattle.bl_page.specs.declared.page.Page.{Page}
-use Rattle.bl_claims.specs.Trails.{Trail}
+use Rattle.bl_claims.specs.Trails.{Trail, marks_of}
 use Rattle.bl_index_rule.specs.declared.known.Mine.{Mine}
-use Rattle.bl_claims.specs.Seeing.{IsSeen, AreWithin, own, GoesOnFrom}
+use Rattle.bl_claims.specs.Seeing.{IsSeen, AreWithin, own, GoesOnFrom, name}
 
--- What the pass has seen begins with what both had seen, and has the entries of these two passes that they knew, and no
+-- no process of the pass has done anything since
+abbrev pub IsStill : ℕ → Trail → Trail → Type 0
+IsStill pass old new = (number : ℕ) → marks_of (name pass number) new ≡ marks_of (name pass number) old
+
+-- What the pass has seen begins with what both had seen, and has the entries and the events of these two passes that they knew, and no
 -- others of theirs.
 pub record Learns (pass other : ℕ) (old theirs new : Trail) : Type 0 where
   pub begins : GoesOnFrom old new
   pub begins_theirs : GoesOnFrom theirs new
   pub none : own pass new ≡ own pass old
   pub none_theirs : own other new ≡ own other theirs
+  pub still : IsStill pass old new
+  pub still_theirs : IsStill other theirs new
 
--- The pass has seen what the other has seen, which has no further entry of this pass.
+-- The pass has seen what the other has seen, which has no further entry and no further event of this pass.
 pub record Hears (pass : ℕ) (old theirs new : Trail) : Type 0 where
   pub is : new ≡ theirs
   pub none : own pass new ≡ own pass old
+  pub still : IsStill pass old new
 
 -- Two passes have met: both have seen one trail, which an index may have. It begins with what each of them had seen, and has no
--- further entry of either.
+-- further entry and no further event of either.
 pub record Meet (first : List (Option Page)) (one two : ℕ) (old_one old_two new_one new_two : Trail) : Type 0 where
   pub same : new_two ≡ new_one
   pub seen : IsSeen first new_one
@@ -27,6 +34,8 @@ pub record Meet (first : List (Option Page)) (one two : ℕ) (old_one old_two ne
   pub begins_two : GoesOnFrom old_two new_one
   pub none_one : own one new_one ≡ own one old_one
   pub none_two : own two new_one ≡ own two old_two
+  pub still_one : IsStill one old_one new_one
+  pub still_two : IsStill two old_two new_one
 
 -- of what the pass knew, what the other knows, and what the pass knows then
 pub record Learned (pass other among : ℕ) (d e f : Mine) : Type 0 where

@@ -1,5 +1,5 @@
 -- What a scan tells the pass that makes it: parts, each from where the last one ended, and the rows that they list together.
-use Rattle.std.specs.Prelude.{◌≡◌, ℕ, ◌^◌, ◌<◌, ◌≤◌, ◌++◌, ◌↔◌, Bool, true, List, [], ◌∷◌, Option, Some, None, Result, All, Contains, filter, flat_map, length, nat_lt, OnOk, IfOk, IfErr}
+use Rattle.std.specs.Prelude.{◌≡◌, ℕ, ◌<◌, ◌≤◌, ◌++◌, ◌↔◌, List, [], ◌∷◌, Option, Some, None, Result, All, Contains, filter, flat_map, length, OnOk, IfOk, IfErr}
 use Rattle.bl_page.specs.declared.page.Page.{Page}
 use Rattle.bl_model.specs.History.{final_map}
 use Rattle.bl_model.specs.Rows.{HasRisingKeys}
@@ -9,21 +9,12 @@ use Rattle.bl_model.specs.declared.operation.Op.TheVariants.{Part}
 use Rattle.bl_model.specs.declared.operation.Reply.{Reply}
 use Rattle.bl_claims.specs.Trails.{Trail, history_of}
 use Rattle.bl_claims.specs.Seeing.{first_map, IsSeen, own, GoesOnFrom}
-use Rattle.bl_index.specs.Calls.{Finds, RunsOut}
-use Rattle.bl_index.specs.declared.leaf_rows.Behind.{Behind}
-use Rattle.bl_index.specs.declared.leaf_rows.Behind.TheVariants as behind
+use Rattle.bl_index_read.specs.Searching.{Finds, RunsOut}
+use Rattle.bl_index_read.specs.declared.leaf_rows.Behind.{Behind}
+use Rattle.bl_index_read.specs.declared.leaf_rows.Behind.TheVariants as behind
 use Rattle.bl_index.specs.declared.scanning.ScanFault.{ScanFault}
 use Rattle.bl_index.specs.declared.scanning.ScanFault.TheVariants.{Memory, OutOfTurns}
-
--- the key is below an end, if there is one
-abbrev pub IsBelow : Option ℕ → ℕ → Type 0
-IsBelow None key = Unit {0}
-IsBelow (Some end) key = key < end
-
--- the test of it
-abbrev pub is_below : Option ℕ → ℕ → Bool
-is_below None key = true
-is_below (Some end) key = nat_lt key end
+use Rattle.bl_index_read.specs.LeafRows.{is_below, IsBelow, IsOver, GoesOnWithin}
 
 -- the rows of a part that lie below the end of a scan
 abbrev pub rows_below : Option ℕ → Reply → List (ℕ × ℕ)
@@ -36,10 +27,10 @@ AreParts pass to from [] upto = upto ≡ from
 AreParts pass to None (e ∷ es) upto = ⊥
 AreParts pass to (Some from) (e ∷ es) upto = (e.pass ≡ pass) × (e.op ≡ Part from) × IsBelow to from × AreParts pass to (ended_at e.reply) es upto
 
--- The pass has made calls that were answered so, one after another, and nothing else.
-abbrev pub AreCalls : List (Option Page) → ℕ → ℕ → List Entry → Trail → Trail → Type 0
-AreCalls first pages pass [] old new = new ≡ old
-AreCalls first pages pass (e ∷ es) old new = (mid : Trail) × Finds first pages pass e.op e.reply old mid × AreCalls first pages pass es mid new
+-- The pass has made calls that were answered so, one after another, each with so many turns, and nothing else.
+abbrev pub AreCalls : List (Option Page) → ℕ → ℕ → ℕ → List Entry → Trail → Trail → Type 0
+AreCalls first pages pass turns [] old new = new ≡ old
+AreCalls first pages pass turns (e ∷ es) old new = (mid : Trail) × Finds first pages pass turns e.op e.reply old mid × AreCalls first pages pass turns es mid new
 
 -- A scan answers a key right: its rows list the key with the value that the map had for it, or do not list it, as the map stood
 -- where one of its parts stands in the history. The history was old before the scan, and is new after it.
@@ -53,10 +44,10 @@ pub record IsRight (first : List (Option Page)) (pass : ℕ) (old new : List Ent
 
 -- The pass has scanned from a key on up to another, or to the end of the map: its new entries are the parts, and their rows below
 -- the scan's end are these, whose keys rise, and which answer each key on the way right.
-pub record Scans (first : List (Option Page)) (pages pass from : ℕ) (to upto : Option ℕ) (rows : List (ℕ × ℕ)) (old new : Trail) : Type 0 where
+pub record Scans (first : List (Option Page)) (pages pass turns from : ℕ) (to upto : Option ℕ) (rows : List (ℕ × ℕ)) (old new : Trail) : Type 0 where
   pub parts : List Entry
   pub are_parts : AreParts pass to (Some from) parts upto
-  pub calls : AreCalls first pages pass parts old new
+  pub calls : AreCalls first pages pass turns parts old new
   pub begins : GoesOnFrom old new
   pub seen : IsSeen first old → IsSeen first new
   pub mine : own pass new ≡ own pass old ++ parts
@@ -65,17 +56,11 @@ pub record Scans (first : List (Option Page)) (pages pass from : ℕ) (to upto :
   pub within : All (λ row. (from ≤ row.0) × IsBelow upto row.0) rows
   pub right : (key : ℕ) → from ≤ key → IsBelow upto key → IsBelow to key → IsRight first pass (history_of old) (history_of new) rows key
 
--- nothing of a scan is left from there on
-abbrev pub IsOver : Option ℕ → Option ℕ → Type 0
-IsOver to None = Unit {0}
-IsOver None (Some from) = ⊥
-IsOver (Some end) (Some from) = end ≤ from
-
 -- A scan has ended: it has come to the end of the map, or to its own.
-pub record EndsScan (first : List (Option Page)) (pages pass from : ℕ) (to : Option ℕ) (rows : List (ℕ × ℕ)) (old new : Trail) : Type 0 where
+pub record EndsScan (first : List (Option Page)) (pages pass turns from : ℕ) (to : Option ℕ) (rows : List (ℕ × ℕ)) (old new : Trail) : Type 0 where
   pub upto : Option ℕ
   pub over : IsOver to upto
-  pub scans : Scans first pages pass from to upto rows old new
+  pub scans : Scans first pages pass turns from to upto rows old new
 
 -- the key from which a scan that stopped goes on
 abbrev pub left_from : ScanFault → ℕ
@@ -83,20 +68,20 @@ left_from (Memory from) = from
 left_from (OutOfTurns from) = from
 
 -- A part was answered, and of its rows more lie below the scan's end than there is room for.
-pub record FindsNoRoom (first : List (Option Page)) (pages pass from : ℕ) (to : Option ℕ) (room : ℕ) (old new : Trail) : Type 0 where
+pub record FindsNoRoom (first : List (Option Page)) (pages pass turns from : ℕ) (to : Option ℕ) (room : ℕ) (old new : Trail) : Type 0 where
   pub reply : Reply
-  pub finds : Finds first pages pass (Part from) reply old new
+  pub finds : Finds first pages pass turns (Part from) reply old new
   pub more : room < length (rows_below to reply)
 
 -- why a scan stopped at a part: its rows had no room, or it ran out of turns
 abbrev pub StopsAt : List (Option Page) → ℕ → ℕ → ℕ → Option ℕ → ℕ → ScanFault → Trail → Trail → Type 0
-StopsAt first pages pass turns to room (Memory from) old new = FindsNoRoom first pages pass from to room old new
+StopsAt first pages pass turns to room (Memory from) old new = FindsNoRoom first pages pass turns from to room old new
 StopsAt first pages pass turns to room (OutOfTurns from) old new = RunsOut first pages pass turns old new
 
 -- A scan has stopped at a part below its end. Up to there it has scanned, and nothing of that part is among its rows.
 pub record StopsScan (first : List (Option Page)) (pages pass turns from : ℕ) (to : Option ℕ) (room : ℕ) (fault : ScanFault) (rows : List (ℕ × ℕ)) (old new : Trail) : Type 0 where
   pub mid : Trail
-  pub scans : Scans first pages pass from to (Some (left_from fault)) rows old mid
+  pub scans : Scans first pages pass turns from to (Some (left_from fault)) rows old mid
   pub left : IsBelow to (left_from fault)
   pub stops : StopsAt first pages pass turns to room fault mid new
 
@@ -104,18 +89,13 @@ pub record StopsScan (first : List (Option Page)) (pages pass turns from : ℕ) 
 pub record MayScan (first : List (Option Page)) (pages pass turns from : ℕ) (to : Option ℕ) (room : ℕ) (result : Result (Unit {0}) ScanFault) (before after : List (ℕ × ℕ)) (old new : Trail) : Type 0 where
   pub rows : List (ℕ × ℕ)
   pub appended : after ≡ before ++ rows
-  pub ended : OnOk result (EndsScan first pages pass from to rows old new)
+  pub ended : OnOk result (EndsScan first pages pass turns from to rows old new)
   pub stopped : IfErr result (λ fault. StopsScan first pages pass turns from to room fault rows old new)
 
--- A scan goes on from where a part ended, or is over. Of the page to which the part's leaf links nothing is said.
-abbrev pub GoesOnWithin : Option ℕ → Option ℕ → Behind → Type 0
-GoesOnWithin to upto (behind.Part from link) = (upto ≡ Some from) × (from < 2 ^ 64) × IsBelow to from
-GoesOnWithin to upto behind.Nothing = IsOver to upto
-
 -- One part of a scan was answered, and its rows below the scan's end stand behind those of before.
-pub record AppendsPart (first : List (Option Page)) (pages pass from : ℕ) (to : Option ℕ) (behind : Behind) (before after : List (ℕ × ℕ)) (old new : Trail) : Type 0 where
+pub record AppendsPart (first : List (Option Page)) (pages pass turns from : ℕ) (to : Option ℕ) (behind : Behind) (before after : List (ℕ × ℕ)) (old new : Trail) : Type 0 where
   pub reply : Reply
-  pub finds : Finds first pages pass (Part from) reply old new
+  pub finds : Finds first pages pass turns (Part from) reply old new
   pub ends : GoesOnWithin to (ended_at reply) behind
   pub appended : after ≡ before ++ rows_below to reply
 
@@ -127,5 +107,5 @@ pub record LeavesPart (first : List (Option Page)) (pages pass turns from : ℕ)
 
 -- One or the other.
 pub record MayAppend (first : List (Option Page)) (pages pass turns from : ℕ) (to : Option ℕ) (room : ℕ) (result : Result Behind ScanFault) (before after : List (ℕ × ℕ)) (old new : Trail) : Type 0 where
-  pub listed : IfOk result (λ behind. AppendsPart first pages pass from to behind before after old new)
+  pub listed : IfOk result (λ behind. AppendsPart first pages pass turns from to behind before after old new)
   pub left : IfErr result (λ fault. LeavesPart first pages pass turns from to room fault before after old new)

@@ -83,10 +83,10 @@ impl Index {
         ensures ok { IfOk result (λ quiet. Closes self passes.items quiet.image.pages.items) }
         ensures fault { IfErr result (λ t. IsRefused self passes.items t.0 t.1.items t.2) }
     {
-        if !has_all(passes.as_slice(), self.passes) {
+        if !has_all(passes.as_slice(), self.tree.passes) {
             return Err((self, passes, CloseFault::Pass));
         }
-        match Room::of(alloc, passes.len(), self.pages as usize) {
+        match Room::of(alloc, passes.len(), self.tree.pages as usize) {
             Ok(room) => Ok(self.shut(passes, room)),
             Err(_) => Err((self, passes, CloseFault::Memory)),
         }
@@ -95,7 +95,7 @@ impl Index {
     fn shut(self, passes: Vec<Pass>, room: Room) -> Quiet
         requires own { AreOf self passes.items }
         requires all { AreAll self passes.items }
-        requires room { HasRoom (length passes.items) self.pages room }
+        requires room { HasRoom (length passes.items) self.tree.pages room }
         ensures { Closes self passes.items result.image.pages.items }
     {
         let Room {
@@ -104,7 +104,7 @@ impl Index {
             pages,
         } = room;
         let hands = hands_of(passes, hands);
-        let words = self.store.close(hands, words);
+        let words = self.tree.store.close(hands, words);
         let image = Image::from_words(words.as_slice(), pages);
         Quiet::new(image)
     }

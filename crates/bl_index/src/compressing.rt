@@ -3,11 +3,11 @@
 ghost use Rattle.std.specs.Prelude.{◌≡◌, Some};
 ghost use Rattle.bl_proc_base.specs.declared.answers.Answer.TheVariants as answers;
 ghost use Rattle.bl_proc_base.specs.declared.answers.Squeezed.TheVariants as answer;
-ghost use Rattle.bl_index.specs.Searching.{IsCompressAnswer};
+ghost use Rattle.bl_index.specs.Kinds.{IsCompressAnswer};
 ghost use Rattle.bl_proc_base.specs.Hints.{level_of, key_of};
 
 use crate::index::{Index, Pass};
-use bl_proc::{Answer, Compress, Hint, Process, Squeezed};
+use bl_proc::{Answer, Compress, Hint, Squeezed};
 use std::sync::Wait;
 
 /// What became of a compression, and its hint.
@@ -37,7 +37,7 @@ impl Index {
         ensures no_room { result.0 ≡ answer.NoRoom → MetNoRoom pass.new 0 3 }
     {
         let compress = Compress::new(hint.level(), hint.key());
-        let process = self.carry_out(rt, &mut pass.hand, compress);
+        let process = self.tree.carry_out(rt, &mut pass.hand, compress);
         squeezed(process.answer())
     }
 }

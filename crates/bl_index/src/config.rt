@@ -28,7 +28,3 @@ pub enum CloseFault {
     /// There was no memory.
     Memory,
 }
-
-/// A search or a part has got as many pages as it was allowed, and has answered nothing.
-#[derive(Clone, Copy, Debug, PartialEq, Eq)]
-pub struct OutOfTurns;

@@ -3,19 +3,16 @@
 ghost use Rattle.std.specs.Prelude.{◌≡◌, false};
 ghost use Rattle.bl_store.specs.Hands.{known, IsIdle, HasNoStock};
 ghost use Rattle.bl_claims.specs.Seeing.{IsSeen};
-ghost use Rattle.bl_index.specs.Runs.{IsWithin};
+ghost use Rattle.bl_index_steps.specs.Runs.{IsWithin};
 
-use bl_index_rule::{Mine, Passes};
-use bl_store::{Hand, Store};
+use bl_index_rule::Mine;
+use bl_index_steps::Tree;
+use bl_store::Hand;
 
 /// Pages of a tree that threads share.
 #[derive(Drop)]
 pub struct Index {
-    pub(crate) store: Store<Mine, Passes>,
-    pub(crate) pages: u32,
-    pub(crate) passes: u32,
-    pub ghost sized: { pages ≡ store.layout.pages },
-    pub ghost shared: { passes ≡ store.layout.passes },
+    pub(crate) tree: Tree,
 }
 
 /// One who works with an index. Each thread has a pass of its own, and between two calls it runs no process. What it has
@@ -35,6 +32,13 @@ impl Pass {
     pub fn is_due(&self) -> bool {
         self.hand.is_due()
     }
+
+    /// The hand by which it works, for one who runs a process event by event.
+    pub fn into_hand(self) -> Hand<Mine>
+        ensures { result ≡ self.hand }
+    {
+        self.hand
+    }
 }
 
 impl Index {
@@ -44,6 +48,13 @@ impl Index {
     pub fn patience(&self) -> u32
         ensures { result ≡ pages_of self.now }
     {
-        self.pages
+        self.tree.pages
+    }
+
+    /// The tree that its passes share, for one who runs a process event by event.
+    pub fn tree(&self) -> &Tree
+        ensures { result.now ≡ self.now.tree }
+    {
+        &self.tree
     }
 }

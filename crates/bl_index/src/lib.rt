@@ -10,36 +10,23 @@
 //! their hints, mean what they did.
 #![tactic(auto)]
 
-mod changers;
 mod changing;
 mod closing;
-mod coming;
 mod compressing;
 mod config;
-mod deleting;
-mod errands;
-mod events;
 mod finding;
-mod halves;
 mod index;
-mod inserting;
-mod kinds;
-mod leaf_rows;
 mod listing;
 mod lowering;
 mod meeting;
 mod opening;
-mod parting;
-mod placing;
 mod posting;
-mod running;
 mod scanning;
-mod shown;
-mod stepping;
 mod sweeping;
 
+pub use bl_index_read::OutOfTurns;
 pub use bl_model::{KeyReply, Next, Reply};
 pub use bl_proc::{Hint, Level, Lowered, Posted, Squeezed};
-pub use config::{CloseFault, Config, OpenFault, OutOfTurns};
+pub use config::{CloseFault, Config, OpenFault};
 pub use index::{Index, Pass};
 pub use scanning::ScanFault;

@@ -1,46 +1,15 @@
-//! Parts of the map, by the words of pages: a part goes by its events, and its rows are read from its leaf's words.
+//! Parts of the map.
 
-ghost use Rattle.std.specs.Prelude.{◌≡◌, ℕ, ◌+◌, ◌<◌, List, false, IfOk, MatchOption};
+ghost use Rattle.std.specs.Prelude.{IfOk};
 ghost use Rattle.bl_model.specs.declared.operation.Op.TheVariants as op;
-ghost use Rattle.bl_page.specs.Machine.Act.{Get, Look};
-ghost use Rattle.bl_page.specs.Machine.Looked.{Page as OfPage};
-ghost use Rattle.bl_proc_base.specs.declared.acts.Action.TheVariants as act;
-ghost use Rattle.bl_proc_base.specs.declared.acts.Seen.TheVariants as seen;
-ghost use Rattle.bl_proc_base.specs.declared.descent.Descent.TheVariants as descent;
-ghost use Rattle.bl_proc_base.specs.Descents.{descent_page};
-ghost use Rattle.bl_proc.specs.declared.parts.PartStage.TheVariants as part_stage;
-ghost use Rattle.bl_proc.specs.Processes.{next_of};
-ghost use Rattle.bl_proc_unique.specs.Courses.{GoesOn};
-ghost use Rattle.bl_store.specs.Hands.{known, IsIdle, IsRunning, IsSameHand, IsSameStage, IsSameStock};
-ghost use Rattle.bl_store.specs.Owners.{IsHandOf};
-ghost use Rattle.bl_claims.specs.Seeing.{IsSeen};
-ghost use Rattle.bl_index_rule.specs.declared.known.Mine.{Mine as Knows};
-ghost use Rattle.bl_index_rule.specs.Told.{Begins, Steps, ends, IsUnborn};
-ghost use Rattle.bl_index.specs.Runs.{IsOn, IsSince, IsWithin, IsAtTurn};
-ghost use Rattle.bl_index.specs.Parts.{listing, first_stage, part_at, IsAtLeaf, HasReached, HasLeaf, HasGivenUp};
 
-use crate::config::OutOfTurns;
 use crate::index::{Index, Pass};
-use crate::leaf_rows::{descended, link_in, next_in, rows_in};
-use crate::shown::Shown;
-use bl_index_rule::{Began, Ended, Launch, Mine};
+use bl_index_read::{OutOfTurns, list_part};
 use bl_model::Reply;
-use bl_proc::first_way;
-use bl_proc_base::{Descended, Descent};
-use bl_store::{Glance, Hand};
-use std::marker::Brand;
-
-/// Where a part has come by a get.
-#[derive(Clone, Copy)]
-pub(crate) enum Reached {
-    /// It is to get another page.
-    Further(Descent),
-    /// It has its leaf, whose rows it lists.
-    Leaf(Glance),
-}
 
 impl Index {
-    ghost use Rattle.bl_index.specs.Calls.{first_of, IsPassOf, IsSamePass, pages_of, number_of, trail, AnswersOrRunsOut, StepsAlone};
+    ghost use Rattle.bl_index.specs.Calls.{first_of, IsPassOf, IsSamePass, pages_of, number_of, trail, StepsAlone};
+    ghost use Rattle.bl_index_read.specs.Searching.{AnswersOrRunsOut};
 
     /// The pairs of one leaf from a key on, in rising order, and the key from which the next part begins, where there is
     /// one. It gets at most so many pages, the anchor included.
@@ -50,7 +19,7 @@ impl Index {
         ensures answers { AnswersOrRunsOut (first_of self.now) (pages_of self.now) (number_of pass.old) turns (op.Part from) result (trail pass.old) (trail pass.new) }
         ensures alone { IfOk result (λ reply. StepsAlone (first_of self.now) self.now (op.Part from) reply (trail pass.old) (trail pass.new)) }
     {
-        self.part_by(&mut pass.hand, from, &mut None, turns)
+        list_part(&self.tree, &mut pass.hand, from, &mut None, turns)
     }
 
     /// The same for one who goes along the leaves: with `None` for the first part, it takes the page from which the way to each further
@@ -68,214 +37,6 @@ impl Index {
         ensures answers { AnswersOrRunsOut (first_of self.now) (pages_of self.now) (number_of pass.old) turns (op.Part from) result (trail pass.old) (trail pass.new) }
         ensures alone { IfOk result (λ reply. StepsAlone (first_of self.now) self.now (op.Part from) reply (trail pass.old) (trail pass.new)) }
     {
-        self.part_by(&mut pass.hand, from, near, turns)
-    }
-
-    fn part_by(
-        &self,
-        hand: &mut Hand<Mine>,
-        from: u64,
-        near: &mut Option<u32>,
-        turns: u32,
-    ) -> Result<Reply, OutOfTurns>
-        requires own { IsHandOf self.now.store hand.old }
-        requires idle { IsIdle hand.old.seat }
-        ensures same { IsSameHand hand.old.seat hand.new.seat × IsSameStock hand.old.seat hand.new.seat }
-        ensures idle { IsIdle hand.new.seat }
-        ensures within { IsWithin hand.new.seat }
-        ensures rests { (known hand.new.seat).runs ≡ false }
-        ensures first { (known hand.new.seat).first ≡ (known hand.old.seat).first }
-        ensures seen { IsSeen (known hand.new.seat).first (known hand.new.seat).trail }
-        ensures answers { AnswersOrRunsOut (known hand.old.seat).first self.now.store.layout.pages hand.old.number turns (op.Part from) result (known hand.old.seat).trail (known hand.new.seat).trail }
-    {
-        let Some(glance) = self.come_to_leaf(hand, from, *near, turns) else {
-            return Err(OutOfTurns);
-        };
-        let shown = Shown {
-            store: &self.store,
-            glance,
-        };
-        let rows = rows_in(&shown, hand, from);
-        let next = next_in(&shown, hand);
-        *near = Some(link_in(&shown, hand));
-        self.end_part(hand);
-        Ok(Reply::Rows(rows, next))
-    }
-
-    // The part from that key on begins, which the bound names beside its pass.
-    #[inline(always)]
-    fn launch_part<J: Launch>(&self, hand: &mut Hand<Mine>, from: u64, near: Option<u32>)
-        requires own { IsHandOf self.now.store hand.old }
-        requires idle { IsIdle hand.old.seat }
-        requires names { (hand.old.number ≡ J.pass) × (self.now.store.layout.pages ≡ J.pages) × (self.now.store.layout.passes ≡ J.passes) × (listing from (first_stage near) ≡ J.process) }
-        requires next { next_of J.process ≡ act.Begin }
-        requires unborn { IsUnborn J.process }
-        requires course { GoesOn J.process seen.Done }
-        ensures same { IsSameHand hand.old.seat hand.new.seat × IsSameStock hand.old.seat hand.new.seat }
-        ensures running { IsRunning hand.new.seat }
-        ensures told { Begins J.pass J.pages J.passes J.process (known hand.old.seat) (known hand.new.seat) }
-    {
-        let _ = from;
-        let _ = near;
-        self.store.begin::<Began<J>>(hand);
-    }
-
-    /// A part from that key on begins.
-    #[inline(always)]
-    fn begin_part(&self, hand: &mut Hand<Mine>, from: u64)
-        requires own { IsHandOf self.now.store hand.old }
-        requires idle { IsIdle hand.old.seat }
-        ensures same { IsSameHand hand.old.seat hand.new.seat × IsSameStock hand.old.seat hand.new.seat }
-        ensures running { IsRunning hand.new.seat }
-        ensures process { IsOn self.now.store.layout (known hand.new.seat) (part_at from descent.AtAnchor) }
-        ensures begun { IsSince hand.old.number (known hand.old.seat) (known hand.new.seat) }
-        ensures told { Begins hand.old.number self.now.store.layout.pages self.now.store.layout.passes (listing from part_stage.New) (known hand.old.seat) (known hand.new.seat) }
-    {
-        self.launch_part::<Brand>(hand, from, None);
-    }
-
-    /// A part from that key on begins, which has that page in mind.
-    #[inline(always)]
-    fn begin_near(&self, hand: &mut Hand<Mine>, from: u64, page: u32)
-        requires own { IsHandOf self.now.store hand.old }
-        requires idle { IsIdle hand.old.seat }
-        ensures same { IsSameHand hand.old.seat hand.new.seat × IsSameStock hand.old.seat hand.new.seat }
-        ensures running { IsRunning hand.new.seat }
-        ensures process { IsOn self.now.store.layout (known hand.new.seat) (listing from (part_stage.Probing page)) }
-        ensures begun { IsSince hand.old.number (known hand.old.seat) (known hand.new.seat) }
-        ensures told { Begins hand.old.number self.now.store.layout.pages self.now.store.layout.passes (listing from (part_stage.Near page)) (known hand.old.seat) (known hand.new.seat) }
-    {
-        self.launch_part::<Brand>(hand, from, Some(page));
-    }
-
-    /// It looks whether that page is open, and where it is, its way begins there.
-    #[inline(always)]
-    fn probe(&self, hand: &mut Hand<Mine>, from: u64, page: u32) -> Descent
-        requires own { IsHandOf self.now.store hand.old }
-        requires running { IsRunning hand.old.seat }
-        requires page { page < self.now.store.layout.pages }
-        requires process { IsOn self.now.store.layout (known hand.old.seat) (listing from (part_stage.Probing page)) }
-        ensures same { IsSameHand hand.old.seat hand.new.seat × IsSameStage hand.old.seat hand.new.seat × IsSameStock hand.old.seat hand.new.seat }
-        ensures process { IsOn self.now.store.layout (known hand.new.seat) (part_at from result) }
-        ensures looked { Steps (Look (OfPage page)) (known hand.old.seat) (known hand.new.seat) }
-    {
-        let _ = from;
-        let free = self.is_open(hand, page);
-        first_way(page, free)
-    }
-
-    /// A part from that key on begins, and looks at that page first, if there is one. Any number will do for it.
-    #[inline(always)]
-    fn set_off(&self, hand: &mut Hand<Mine>, from: u64, near: Option<u32>) -> Descent
-        requires own { IsHandOf self.now.store hand.old }
-        requires idle { IsIdle hand.old.seat }
-        ensures same { IsSameHand hand.old.seat hand.new.seat × IsSameStock hand.old.seat hand.new.seat }
-        ensures running { IsRunning hand.new.seat }
-        ensures process { IsOn self.now.store.layout (known hand.new.seat) (part_at from result) }
-        ensures begun { IsSince hand.old.number (known hand.old.seat) (known hand.new.seat) }
-        ensures turn { IsAtTurn self.now.store.layout.pages hand.old.number ((known hand.old.seat).number + 1) 0 (known hand.new.seat).trail }
-    {
-        match near {
-            Some(page) => {
-                if page < self.pages {
-                    self.begin_near(hand, from, page);
-                    return self.probe(hand, from, page);
-                }
-            }
-            None => {}
-        }
-        self.begin_part(hand, from);
-        Descent::AtAnchor
-    }
-
-    /// The part gets the page that is next, and goes on by its words.
-    #[inline(always)]
-    fn list_on(&self, hand: &mut Hand<Mine>, from: u64, descent: Descent) -> Reached
-        requires own { IsHandOf self.now.store hand.old }
-        requires running { IsRunning hand.old.seat }
-        requires process { IsOn self.now.store.layout (known hand.old.seat) (part_at from descent) }
-        ensures same { IsSameHand hand.old.seat hand.new.seat × IsSameStage hand.old.seat hand.new.seat × IsSameStock hand.old.seat hand.new.seat }
-        ensures reached { HasReached from self.now.store.layout hand.new.seat result }
-        ensures got { Steps (Get (descent_page descent)) (known hand.old.seat) (known hand.new.seat) }
-    {
-        let glance = self.look(hand, descent.page());
-        let shown = Shown {
-            store: &self.store,
-            glance,
-        };
-        match descended(descent, &shown, hand, from) {
-            Descended::On(next) => Reached::Further(next),
-            Descended::Here => Reached::Leaf(glance),
-        }
-    }
-
-    /// The part gets so many pages at most, until it has its leaf. Where it runs out of turns, it ends. In a scan only its first part
-    /// comes here, and one that has lost its way.
-    #[inline(never)]
-    fn seek_leaf(
-        &self,
-        hand: &mut Hand<Mine>,
-        from: u64,
-        way: Descent,
-        turns: u32,
-    ) -> Option<Glance>
-        requires own { IsHandOf self.now.store hand.old }
-        requires running { IsRunning hand.old.seat }
-        requires process { IsOn self.now.store.layout (known hand.old.seat) (part_at from way) }
-        ensures same { IsSameHand hand.old.seat hand.new.seat × IsSameStock hand.old.seat hand.new.seat }
-        ensures came { (old : Knows) (pass got : ℕ) → IsSince pass old (known hand.old.seat) → IsAtTurn self.now.store.layout.pages pass (old.number + 1) got (known hand.old.seat).trail → MatchOption result (HasGivenUp self.now.store.layout pass (got + turns) old hand.new.seat) (HasLeaf self.now.store.layout pass from old hand.new.seat) }
-    {
-        let mut way = way;
-        for _turn in 0..turns {
-            match self.list_on(hand, from, way) {
-                Reached::Further(next) => way = next,
-                Reached::Leaf(glance) => return Some(glance),
-            }
-        }
-        self.give_up(hand);
-        None
-    }
-
-    /// A part begins, at that page if there is one and it is open, and gets so many pages at most, until it has its leaf. Where it
-    /// runs out of turns, it ends.
-    #[inline(always)]
-    pub(crate) fn come_to_leaf(
-        &self,
-        hand: &mut Hand<Mine>,
-        from: u64,
-        near: Option<u32>,
-        turns: u32,
-    ) -> Option<Glance>
-        requires own { IsHandOf self.now.store hand.old }
-        requires idle { IsIdle hand.old.seat }
-        ensures same { IsSameHand hand.old.seat hand.new.seat × IsSameStock hand.old.seat hand.new.seat }
-        ensures came { MatchOption result (HasGivenUp self.now.store.layout hand.old.number turns (known hand.old.seat) hand.new.seat) (HasLeaf self.now.store.layout hand.old.number from (known hand.old.seat) hand.new.seat) }
-    {
-        let way = self.set_off(hand, from, near);
-        // What the call gives is taken apart, so that a leaf that is found at once does not go by its memory.
-        if turns == 0 {
-            let glance = self.seek_leaf(hand, from, way, 0)?;
-            return Some(glance);
-        }
-        let glance = match self.list_on(hand, from, way) {
-            Reached::Further(next) => self.seek_leaf(hand, from, next, turns - 1)?,
-            Reached::Leaf(glance) => glance,
-        };
-        Some(glance)
-    }
-
-    /// The part, which has its leaf, ends.
-    #[inline(always)]
-    pub(crate) fn end_part(&self, hand: &mut Hand<Mine>)
-        requires own { IsHandOf self.now.store hand.old }
-        requires running { IsRunning hand.old.seat }
-        requires process { IsOn self.now.store.layout (known hand.old.seat) (known hand.old.seat).state }
-        requires leaf { (from : ℕ) × (words : List ℕ) × IsAtLeaf from words (known hand.old.seat) }
-        ensures same { IsSameHand hand.old.seat hand.new.seat × IsSameStock hand.old.seat hand.new.seat }
-        ensures idle { IsIdle hand.new.seat }
-        ensures within { IsWithin hand.new.seat }
-        ensures ended { ends (known hand.old.seat) 0 (known hand.new.seat) }
-    {
-        self.store.end::<Ended>(hand);
+        list_part(&self.tree, &mut pass.hand, from, near, turns)
     }
 }

@@ -3,10 +3,10 @@
 ghost use Rattle.std.specs.Prelude.{◌≡◌, Some};
 ghost use Rattle.bl_proc_base.specs.declared.answers.Answer.TheVariants as answers;
 ghost use Rattle.bl_proc_base.specs.declared.lowering.Lowered.TheVariants as answer;
-ghost use Rattle.bl_index.specs.Searching.{IsLowerAnswer};
+ghost use Rattle.bl_index.specs.Kinds.{IsLowerAnswer};
 
 use crate::index::{Index, Pass};
-use bl_proc::{Answer, Lower, Lowered, Process};
+use bl_proc::{Answer, Lower, Lowered};
 use std::sync::Wait;
 
 /// What became of a lowering.
@@ -32,7 +32,7 @@ impl Index {
         ensures no_room { result ≡ answer.NoRoom → MetNoRoom pass.new 0 2 }
     {
         let lower = Lower::new();
-        let process = self.carry_out(rt, &mut pass.hand, lower);
+        let process = self.tree.carry_out(rt, &mut pass.hand, lower);
         lowered(process.answer())
     }
 }

@@ -1,10 +1,9 @@
 //! A pass learns of another, or is told what another knows.
 
-ghost use Rattle.std.specs.Prelude.{◌≡◌, ℕ, false};
+ghost use Rattle.std.specs.Prelude.{◌≡◌, ℕ};
 ghost use Rattle.bl_store.specs.Hands.{known, IsIdle, HasNoStock, IsSameHand, IsSameStage, IsSameStock};
 ghost use Rattle.bl_store.specs.Owners.{IsHandOf};
 ghost use Rattle.bl_claims.specs.Seeing.{GoesOnFrom};
-ghost use Rattle.bl_index.specs.Runs.{IsWithin};
 ghost use Rattle.bl_index.specs.Meetings.{learned, heard};
 
 use crate::index::{Index, Pass};
@@ -74,14 +73,14 @@ impl Index {
     }
 
     fn learn_by<J: Meeting>(&self, hand: &mut Hand<Mine>, other: &mut Hand<Mine>)
-        requires own { IsHandOf self.now.store hand.old × IsHandOf self.now.store other.old }
+        requires own { IsHandOf self.now.tree.store hand.old × IsHandOf self.now.tree.store other.old }
         requires idle { IsIdle other.old.seat × HasNoStock other.old.seat }
-        requires names { (hand.old.number ≡ J.pass) × (other.old.number ≡ J.other) × (self.now.store.layout.passes ≡ J.passes) }
+        requires names { (hand.old.number ≡ J.pass) × (other.old.number ≡ J.other) × (self.now.tree.store.layout.passes ≡ J.passes) }
         ensures same { IsSameHand hand.old.seat hand.new.seat × IsSameStage hand.old.seat hand.new.seat × IsSameStock hand.old.seat hand.new.seat }
         ensures other { IsSameHand other.old.seat other.new.seat × IsIdle other.new.seat × HasNoStock other.new.seat × (known other.new.seat ≡ known other.old.seat) }
         ensures told { learned J.pass J.other J.passes (known hand.old.seat) (known other.old.seat) (known hand.new.seat) }
     {
-        self.store.meet::<Learned<J>>(hand, other);
+        self.tree.store.meet::<Learned<J>>(hand, other);
     }
 
     /// The pass is told what the other one knows, which begins with what it knew.
@@ -96,7 +95,7 @@ impl Index {
     }
 
     fn tell_by<J: Meeting>(&self, hand: &mut Hand<Mine>, other: &mut Hand<Mine>)
-        requires own { IsHandOf self.now.store hand.old × IsHandOf self.now.store other.old }
+        requires own { IsHandOf self.now.tree.store hand.old × IsHandOf self.now.tree.store other.old }
         requires idle { IsIdle other.old.seat × HasNoStock other.old.seat }
         requires names { hand.old.number ≡ J.pass }
         requires begins { GoesOnFrom (known hand.old.seat).trail (known other.old.seat).trail }
@@ -104,6 +103,6 @@ impl Index {
         ensures other { IsSameHand other.old.seat other.new.seat × IsIdle other.new.seat × HasNoStock other.new.seat × (known other.new.seat ≡ known other.old.seat) }
         ensures told { heard J.pass (known hand.old.seat) (known other.old.seat) (known hand.new.seat) }
     {
-        self.store.meet::<Heard<J>>(hand, other);
+        self.tree.store.meet::<Heard<J>>(hand, other);
     }
 }

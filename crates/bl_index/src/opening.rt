@@ -11,6 +11,7 @@ use crate::index::{Index, Pass};
 use arrayvec::ArrayVec;
 use bl_check::Quiet;
 use bl_index_rule::{Beginning, Happened, Mine, Passes};
+use bl_index_steps::Tree;
 use bl_model::limits::{LEAST_PAGES, MOST_PAGES};
 use bl_page::{Anchor, Leaf, Page};
 use bl_proc::{Find, FindStage, Proc};
@@ -156,12 +157,13 @@ impl Index {
         let known = beginner(alloc, told);
         let (store, hands) = Store::new(alloc, words, passes, &known)?;
         let made = passes_of(alloc, &store, &first, hands)?;
-        let index = Index {
+        let pages = words.len() as u32;
+        let tree = Tree {
             store,
-            pages: words.len() as u32,
+            pages,
             passes,
         };
-        Ok((index, made))
+        Ok((Index { tree }, made))
     }
 
     /// An index that begins with the pages of a sound image, each at its number, and so with the map of the image's rows; and

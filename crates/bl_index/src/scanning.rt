@@ -5,13 +5,14 @@ ghost use Rattle.std.specs.Vec.{vec_capacity};
 ghost use Rattle.bl_store.specs.Hands.{known, IsIdle, IsSameHand, IsSameStock};
 ghost use Rattle.bl_store.specs.Owners.{IsHandOf};
 ghost use Rattle.bl_claims.specs.Seeing.{IsSeen};
-ghost use Rattle.bl_index.specs.Runs.{IsWithin};
-ghost use Rattle.bl_index.specs.Scans.{is_below as below, IsBelow, IsOver, MayAppend, MayScan};
+ghost use Rattle.bl_index_steps.specs.Runs.{IsWithin};
+ghost use Rattle.bl_index_read.specs.LeafRows.{is_below as below, IsBelow, IsOver};
+ghost use Rattle.bl_index.specs.Scans.{MayAppend, MayScan};
 
 use crate::index::{Index, Pass};
-use crate::leaf_rows::{Behind, append_rows, portion_in};
-use crate::shown::Shown;
+use bl_index_read::{Behind, append_rows, come_to_leaf, end_part, portion_in};
 use bl_index_rule::Mine;
+use bl_index_steps::Shown;
 use bl_store::Hand;
 use std::mem;
 
@@ -122,7 +123,7 @@ impl Index {
         turns: u32,
         rows: Vec<(u64, u64)>,
     ) -> (Vec<(u64, u64)>, Result<Behind, ScanFault>)
-        requires own { IsHandOf self.now.store hand.old }
+        requires own { IsHandOf self.now.tree.store hand.old }
         requires idle { IsIdle hand.old.seat }
         requires below { IsBelow to from }
         ensures same { IsSameHand hand.old.seat hand.new.seat × IsSameStock hand.old.seat hand.new.seat }
@@ -131,18 +132,18 @@ impl Index {
         ensures rests { (known hand.new.seat).runs ≡ false }
         ensures first { (known hand.new.seat).first ≡ (known hand.old.seat).first }
         ensures seen { IsSeen (known hand.new.seat).first (known hand.new.seat).trail }
-        ensures appends { MayAppend (known hand.old.seat).first self.now.store.layout.pages hand.old.number turns from to (vec_capacity result.0 - vec_len result.0) result.1 rows.items result.0.items (known hand.old.seat).trail (known hand.new.seat).trail }
+        ensures appends { MayAppend (known hand.old.seat).first self.now.tree.store.layout.pages hand.old.number turns from to (vec_capacity result.0 - vec_len result.0) result.1 rows.items result.0.items (known hand.old.seat).trail (known hand.new.seat).trail }
     {
-        let Some(glance) = self.come_to_leaf(hand, from, Some(near), turns) else {
+        let Some(glance) = come_to_leaf(&self.tree, hand, from, Some(near), turns) else {
             return (rows, Err(ScanFault::OutOfTurns(from)));
         };
         let shown = Shown {
-            store: &self.store,
+            store: &self.tree.store,
             glance,
         };
         let portion = portion_in(&shown, hand, from, to);
         let (rows, appended) = append_rows(&shown, hand, portion.first, portion.last, rows);
-        self.end_part(hand);
+        end_part(&self.tree, hand);
         match appended {
             Ok(()) => (rows, Ok(portion.behind)),
             Err(_) => (rows, Err(ScanFault::Memory(from))),

@@ -4,7 +4,7 @@ ghost use Rattle.std.specs.Prelude.{◌≡◌, ℕ, ◌+◌, ◌≤◌, false};
 ghost use Rattle.bl_store.specs.Hands.{known, IsSameHand, IsSameStage, IsSameStock};
 ghost use Rattle.bl_store.specs.Owners.{IsHandOf};
 ghost use Rattle.bl_index_rule.specs.Told.{sweeps};
-ghost use Rattle.bl_index.specs.Runs.{IsWithin};
+ghost use Rattle.bl_index_steps.specs.Runs.{IsWithin};
 
 use crate::index::{Index, Pass};
 use bl_index_rule::{Mine, Sweeper, Swept};
@@ -29,20 +29,20 @@ impl Index {
 
     /// Whether a change may find too few frames now, while some wait to be released. It is a hint of which nothing is promised.
     pub fn lacks_frames(&self, pass: &Pass) -> bool {
-        self.store.lacks_frames(&pass.hand)
+        self.tree.store.lacks_frames(&pass.hand)
     }
 
     // The releases of a sweep, by the process that the bound names beside its pass.
     fn release<J: Sweeper>(&self, hand: &mut Hand<Mine>) -> u32
-        requires own { IsHandOf self.now.store hand.old }
+        requires own { IsHandOf self.now.tree.store hand.old }
         requires rests { (known hand.old.seat).runs ≡ false }
-        requires names { (hand.old.number ≡ J.pass) × ((known hand.old.seat).number + 1 ≡ J.number) × (self.now.store.layout.passes ≡ J.passes) }
+        requires names { (hand.old.number ≡ J.pass) × ((known hand.old.seat).number + 1 ≡ J.number) × (self.now.tree.store.layout.passes ≡ J.passes) }
         requires within { IsWithin hand.old.seat }
         ensures same { IsSameHand hand.old.seat hand.new.seat × IsSameStage hand.old.seat hand.new.seat × IsSameStock hand.old.seat hand.new.seat }
         ensures told { (pages : ℕ) × (pages ≤ result) × sweeps J.pass J.number J.passes (known hand.old.seat) pages (known hand.new.seat) }
         ensures within { IsWithin hand.new.seat }
         ensures count { hand.new.seat.me.0.releases ≡ hand.old.seat.me.0.releases + result }
     {
-        self.store.sweep::<Swept<J>>(hand)
+        self.tree.store.sweep::<Swept<J>>(hand)
     }
 }

@@ -4,9 +4,10 @@ use Rattle.bl_store.specs.Hands.{known, read_words}
 use Rattle.bl_store.specs.declared.store.Hand.{Hand}
 use Rattle.bl_index_rule.specs.declared.known.Mine.{Mine}
 use Rattle.bl_index_rule.specs.Told.{ends}
-use Rattle.bl_index.proofs.Appended.{leaf_pairs, part_appends, part_leaves}
-use Rattle.bl_index.proofs.Picked.{between_rows, between_length}
-use Rattle.bl_index.proofs.Ranges.{below_less}
+use Rattle.bl_index_read.proofs.Leaves.{leaf_pairs}
+use Rattle.bl_index.proofs.Appended.{part_appends, part_leaves}
+use Rattle.bl_index_read.proofs.Picked.{between_rows, between_length}
+use Rattle.bl_index_read.proofs.Ranges.{below_less}
 use Rattle.bl_index.proofs.index.Index.append_part_by.Goals as goal
 
 pub come_to_leaf-requires-clause-own : goal.come_to_leaf-requires-clause-own
@@ -32,7 +33,7 @@ returns-in-Ok-clause-appends c =
     let all = rw c.in-Ok.is at c.append_rows-rows.ensures.all in
     let grown = subst (λ (h : Hand Mine). c.append_rows-rows.result.0.items ≡ c.args.rows.items ++ take (portion.result.last - portion.result.first) (drop portion.result.first (pairs_of (read_words h.seat)))) portion.ensures.same all
     ∙ ap (λ z. c.args.rows.items ++ z) (between_rows _ c.args.from c.args.to _ _ portion.ensures.first portion.ensures.last) in
-    record { listed = part_appends _ _ c.args.from _ c.come_to_leaf.new.hand.seat c.end_part.new.hand.seat _ has ended c.args.turns c.args.to _ _ portion.result.behind portion.ensures.behind grown; left = tt }
+    record { listed = part_appends _ _ c.args.from c.args.turns _ c.come_to_leaf.new.hand.seat c.end_part.new.hand.seat _ has ended c.args.to _ _ portion.result.behind portion.ensures.behind grown; left = tt }
 
 pub returns-in-Err-clause-appends : goal.returns-in-Err-clause-appends
 returns-in-Err-clause-appends c =
@@ -42,7 +43,7 @@ returns-in-Err-clause-appends c =
     let none = rw c.in-Err.is at c.append_rows-rows.ensures.none in
     let full = rw c.in-Err.is at c.append_rows-rows.ensures.more in
     let many = between_length _ has.reads.3 (leaf_pairs _ _ _ has.leaf) c.args.from c.args.to _ _ portion.ensures.first portion.ensures.last in
-    record { listed = tt; left = part_leaves _ _ c.args.from _ c.come_to_leaf.new.hand.seat c.end_part.new.hand.seat _ has ended c.args.turns c.args.to _ _ _ none (omega (arith, full, many)) }
+    record { listed = tt; left = part_leaves _ _ c.args.from c.args.turns _ c.come_to_leaf.new.hand.seat c.end_part.new.hand.seat _ has ended c.args.to _ _ _ none (omega (arith, full, many)) }
 
 pub returns-in-Ok-clause-idle : goal.returns-in-Ok-clause-idle
 returns-in-Ok-clause-idle c = c.end_part.ensures.idle

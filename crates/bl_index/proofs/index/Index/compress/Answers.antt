@@ -3,8 +3,8 @@ use Rattle.bl_proc_base.specs.declared.answers.Answer.TheVariants as answer
 use Rattle.bl_proc_base.specs.declared.answers.Squeezed.{Squeezed}
 use Rattle.bl_proc_unique.specs.Refusals.{IsNoRoom, CompressRefused, CompressPuts}
 use Rattle.bl_index.proofs.Taken.{same_pass}
-use Rattle.bl_index.proofs.Ends.{done_first}
-use Rattle.bl_index.proofs.Rooms.{lacks_three}
+use Rattle.bl_index_steps.proofs.Ends.{done_first}
+use Rattle.bl_index_steps.proofs.Rooms.{lacks_three}
 use Rattle.bl_index.proofs.Pressed.{compress_has_answer, compress_answered}
 use Rattle.bl_index.proofs.index.Index.compress.Goals as goal
 

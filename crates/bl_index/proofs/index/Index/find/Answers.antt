@@ -4,10 +4,10 @@ use Rattle.bl_index.proofs.Alone.{keys_alone}
 use Rattle.bl_index.proofs.index.Index.find.Goals as goal
 
 pub returns-clause-same : goal.returns-clause-same
-returns-clause-same c = same_pass c.args.pass.now.hand c.find_by.new.hand c.find_by.ensures.same.0 c.find_by.ensures.first
+returns-clause-same c = same_pass c.args.pass.now.hand c.find_key.new.hand c.find_key.ensures.same.0 c.find_key.ensures.first
 
 pub returns-clause-answers : goal.returns-clause-answers
-returns-clause-answers c = told_from _ _ _ _ _ _ _ _ _ c.requires.2 c.find_by.ensures.answers
+returns-clause-answers c = told_from _ _ _ _ _ _ _ _ _ c.requires.2 c.find_key.ensures.answers
 
 pub returns-clause-alone : goal.returns-clause-alone
-returns-clause-alone c = let e = c.find_by.ensures in keys_alone c.args.self.now c.args.pass.now c.find_by.new.hand.seat (op.Find c.args.key) c.requires e.same.0 e.within _ _ c.find_by.result (returns-clause-answers c)
+returns-clause-alone c = let e = c.find_key.ensures in keys_alone c.args.self.now c.args.pass.now c.find_key.new.hand.seat (op.Find c.args.key) c.requires e.same.0 e.within _ _ c.find_key.result (returns-clause-answers c)

@@ -3,9 +3,9 @@ use Rattle.bl_proc_base.specs.declared.answers.Answer.TheVariants as answer
 use Rattle.bl_proc_base.specs.declared.lowering.Lowered.{Lowered}
 use Rattle.bl_proc_unique.specs.Refusals.{IsNoRoom, LowerRefused}
 use Rattle.bl_index.proofs.Taken.{same_pass}
-use Rattle.bl_index.proofs.Ends.{done_first}
+use Rattle.bl_index_steps.proofs.Ends.{done_first}
 use Rattle.bl_index.proofs.Lowerings.{lower_has_answer, lower_answered}
-use Rattle.bl_index.proofs.Rooms.{lacks_two}
+use Rattle.bl_index_steps.proofs.Rooms.{lacks_two}
 use Rattle.bl_index.proofs.index.Index.lower.Goals as goal
 
 pub lowered-requires : goal.lowered-requires

@@ -4,9 +4,8 @@ use Rattle.bl_image.specs.declared.image.Image.{Image}
 use Rattle.bl_check_tree.proofs.Beginnings.{AllFit}
 use Rattle.bl_store.specs.Opening.{first_pages}
 use Rattle.bl_index_rule.specs.Fitting.{beginner, Fits}
-use Rattle.bl_index_rule.proofs.Reopened.{beginner_seen, reopens}
+use Rattle.bl_index_rule.proofs.Reopened.{beginner_seen, reopens, map_length}
 use Rattle.std.specs.Prelude.{IfOk}
-use Rattle.bl_index_rule.proofs.Reopened.{map_length}
 use Rattle.bl_index.specs.Opened.{IsReopened}
 use Rattle.bl_index.proofs.Firsts.{if_ok}
 use Rattle.bl_index.proofs.Reopening.{is_image, is_reopened}

@@ -8,7 +8,7 @@ invariant-loop-behind l = record {
   same : IsSamePass l.fn.pass l.pass;
   listed : List (ℕ × ℕ);
   grown : l.rows.items ≡ l.fn.rows.items ++ listed;
-  so_far : IsSoFar (first_of l.self) (pages_of l.self) (number_of l.fn.pass) l.from l.to l.behind listed (trail l.fn.pass) (trail l.pass);
+  so_far : IsSoFar (first_of l.self) (pages_of l.self) (number_of l.fn.pass) l.turns l.from l.to l.behind listed (trail l.fn.pass) (trail l.pass);
 }
 
 abbrev pub decreases-loop-behind : goal.decreases-loop-behind

@@ -15,12 +15,12 @@ close-words-requires-clause-all c = each_hand c.args.self c.args.passes.items c.
 pub from_words-image-requires-clause-spelled : goal.from_words-image-requires-clause-spelled
 from_words-image-requires-clause-spelled c =
     let each = each_hand c.args.self c.args.passes.items c.hands_of-hands.result.items c.hands_of-hands.ensures c.requires.all in
-    subst (λ (z : List (List ℕ)). AllByRecursion IsSpelled z) (sym c.as_slice.ensures.value) (all_spelled c.args.self.store.layout c.hands_of-hands.result.items c.close-words.result.items c.close-words.ensures each)
+    subst (λ (z : List (List ℕ)). AllByRecursion IsSpelled z) (sym c.as_slice.ensures.value) (all_spelled c.args.self.tree.store.layout c.hands_of-hands.result.items c.close-words.result.items c.close-words.ensures each)
 
 pub new-requires : goal.new-requires
 new-requires c =
     let each = each_hand c.args.self c.args.passes.items c.hands_of-hands.result.items c.hands_of-hands.ensures c.requires.all in let spelled = c.from_words-image.ensures in
-    closed_sound c.args.self.store.layout c.hands_of-hands.result.items c.close-words.result.items c.close-words.ensures each c.from_words-image.result.pages.items (spelled.words ∙ c.as_slice.ensures.value) spelled.fits
+    closed_sound c.args.self.tree.store.layout c.hands_of-hands.result.items c.close-words.result.items c.close-words.ensures each c.from_words-image.result.pages.items (spelled.words ∙ c.as_slice.ensures.value) spelled.fits
 
 pub returns : goal.returns
 returns c =

@@ -1,0 +1,68 @@
+-- What a scan reads of a leaf's words: that it begins with a key, and that it ends below the scan's end.
+use Rattle.std.proofs.Common.{◌≡◌, ℕ, zero, suc, ◌/◌, ◌^◌, ◌<◌, ◌≤◌, Option, Some, None, List, [], ◌∷◌, length, get_or, refl, sym, ap, ◌∙◌, subst, arith}
+use Rattle.std.proofs.lemmas.Bool.Decides.{nat_tests}
+use Rattle.bl_model.specs.Rows.{key_at}
+use Rattle.bl_model.proofs.Parts.{IsPlaceOf}
+use Rattle.bl_page.specs.declared.page.Page.{Page}
+use Rattle.bl_page.specs.declared.page.Page.TheVariants as page
+use Rattle.bl_page.specs.Faults.{kind_in, count_in, pairs_of}
+use Rattle.bl_page.specs.Pairs.{AllWithin, end_of}
+use Rattle.bl_page.specs.Words.{words_of}
+use Rattle.bl_page.proofs.FaultLemmas.{fits}
+use Rattle.bl_claims.specs.Pages.{IsTreePage}
+use Rattle.bl_proc_base.specs.declared.onwards.Step.TheVariants as onward
+use Rattle.bl_proc_base.specs.Onwards.{Leads}
+use Rattle.bl_proc_base.proofs.Spellings.{tree_pairs}
+use Rattle.bl_index_read.specs.LeafRows.{IsBelow, EndsBefore, IsLastBelow}
+use Rattle.bl_index_read.proofs.Picked.{count_is}
+use Rattle.bl_index_read.proofs.Ranges.{below_true}
+
+-- a page whose head is that of a leaf is of that kind
+kind_two : (head : ℕ) → head / 2 ^ 16 ≡ 131072 → head / 2 ^ 32 ≡ 2
+kind_two head e = omega arith
+
+-- a leaf covers the key with which it begins
+pub leaf_here : (c : Page) (words : List ℕ) (key : ℕ) → words ≡ words_of c → get_or words 0 0 / 2 ^ 16 ≡ 131072 → get_or words 1 0 ≡ key → Leads c key 0 onward.Here
+leaf_here (page.Anchor a) words key e two low = absurd (let k : kind_in words ≡ 1 = ap kind_in e ∙ (fits (page.Anchor a)).is_of in let is = kind_two (get_or words 0 0) two in omega (arith, k, is))
+leaf_here (page.Leaf l) words key e two low = let is : l.low ≡ key = sym (ap (λ w. get_or w 1 0) e) ∙ low in let bounds = l.bounds in (tt, (omega (arith, is), omega (arith, is, bounds)), refl)
+leaf_here (page.Inner n) words key e two low = absurd (let k : kind_in words ≡ 3 = ap kind_in e ∙ (fits (page.Inner n)).is_of in let is = kind_two (get_or words 0 0) two in omega (arith, k, is))
+leaf_here (page.Dead d) words key e two low = absurd (let k : kind_in words ≡ 4 = ap kind_in e ∙ (fits (page.Dead d)).is_of in let is = kind_two (get_or words 0 0) two in omega (arith, k, is))
+
+-- the keys of a page are within its bounds
+within_each : (low high : ℕ) (rows : List (ℕ × ℕ)) → AllWithin low high rows → (i : ℕ) → i < length rows → (low ≤ key_at rows i) × (key_at rows i < end_of high)
+within_each low high [] all i lt = absurd (omega arith)
+within_each low high (row ∷ rows) all zero lt = all.0
+within_each low high (row ∷ rows) all (suc i) lt = within_each low high rows all.1 i (omega arith)
+
+all_within : (c : Page) (words : List ℕ) → IsTreePage c → words ≡ words_of c → AllWithin (get_or words 1 0) (get_or words 2 0) (pairs_of words)
+all_within (page.Anchor a) words tree e = absurd tree
+all_within (page.Leaf l) words tree e = subst (λ w. AllWithin (get_or w 1 0) (get_or w 2 0) (pairs_of w)) (sym e) (fits (page.Leaf l)).cover
+all_within (page.Inner n) words tree e = subst (λ w. AllWithin (get_or w 1 0) (get_or w 2 0) (pairs_of w)) (sym e) (fits (page.Inner n)).cover.0
+all_within (page.Dead d) words tree e = absurd tree
+
+end_is : (high : ℕ) → 0 < high → end_of high ≡ high
+end_is zero some = absurd (omega (arith, some))
+end_is (suc n) some = grind (arith, nat_tests)
+
+module _ (c : Page) (words : List ℕ) (tree : IsTreePage c) (e : words ≡ words_of c) where
+  -- its first row is the first from its low on
+  pub place_first : (from : ℕ) → get_or words 1 0 ≡ from → IsPlaceOf (pairs_of words) from 0
+  place_first from is = record {
+    in_range = omega arith;
+    before = λ j lt. absurd (omega arith);
+    behind = λ j low lt. (let w = within_each (get_or words 1 0) (get_or words 2 0) (pairs_of words) (all_within c words tree e) j lt in omega (arith, w.0, is));
+  }
+
+  -- all its rows lie below an end that is not below its bound
+  pub ends_with : length words ≡ 32 → (to : Option ℕ) (first count last high : ℕ) → IsLastBelow to last → high ≡ get_or words 2 0 → 0 < high → high ≤ last → first ≤ count → count ≡ count_in words → EndsBefore (pairs_of words) to first count
+  ends_with long to first count last high is bound some low before all =
+      let n = count_is words long (tree_pairs c words tree e) in record {
+        behind = before;
+        in_range = omega (arith, n, all);
+        below = λ i least lt. below_true to (key_at (pairs_of words) i) (below to is i (omega (arith, n, all, lt)));
+        others = λ i least lt. absurd (omega (arith, n, all, least, lt));
+      }
+    where
+      below : (end : Option ℕ) → IsLastBelow end last → (i : ℕ) → i < length (pairs_of words) → IsBelow end (key_at (pairs_of words) i)
+      below None l i lt = tt
+      below (Some end) l i lt = let w = within_each (get_or words 1 0) (get_or words 2 0) (pairs_of words) (all_within c words tree e) i lt in let h = end_is (get_or words 2 0) (omega (arith, some, bound)) in omega (arith, l, w.1, h, bound, low)

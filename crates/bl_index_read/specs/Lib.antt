@@ -1,0 +1,4 @@
+pub mod Searching
+pub mod Turns
+pub mod LeafRows
+pub mod Parts

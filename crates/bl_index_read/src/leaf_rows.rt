@@ -1,0 +1,349 @@
+//! The rows of a leaf from a key on, by the leaf's words.
+
+ghost use Rattle.std.specs.Prelude.{◌≡◌, ◌+◌, ◌-◌, ◌<◌, ◌≤◌, ◌++◌, Some, IsTrue, OnOk, OnErr, length, slice_index_or, take, drop, vec_len};
+ghost use Rattle.std.specs.Vec.{vec_capacity};
+ghost use Rattle.bl_model.proofs.Parts.{IsPlaceOf};
+ghost use Rattle.bl_model.specs.Parts.{next_key};
+ghost use Rattle.bl_model.specs.declared.operation.Next.{Next};
+ghost use Rattle.bl_page.specs.declared.page.Page.{Page};
+ghost use Rattle.bl_page.specs.Faults.{HasPairs, count_in, pairs_of};
+ghost use Rattle.bl_page.specs.Pairs.{end_of};
+ghost use Rattle.bl_page.specs.Words.{words_of};
+ghost use Rattle.bl_claims.specs.Pages.{node_of, IsTreePage};
+ghost use Rattle.bl_proc_base.specs.declared.onwards.Step.TheVariants as onward;
+ghost use Rattle.bl_proc_base.specs.Onwards.{Leads};
+ghost use Rattle.bl_proc_base.specs.Descents.{Descends};
+ghost use Rattle.bl_proc.specs.Parts.{GoesOnAt};
+ghost use Rattle.bl_index_read.specs.LeafRows.{IsBelow, GoesOnWithin, rows_from, EndsBefore, IsLastBelow};
+
+use arrayvec::ArrayVec;
+use bl_model::Next;
+use bl_page::{KIND_UNIT, LEVEL_UNIT, Pairs, Words, word};
+use bl_proc_base::{Descended, Descent};
+use std::alloc::AllocError;
+
+/// The head of each leaf has so many units of levels: its kind, which is 2, and level 0.
+const LEAF_UNITS: u64 = 2 * (KIND_UNIT / LEVEL_UNIT);
+
+/// The place of the first of so many rows whose key is not below that one.
+#[inline(always)]
+fn place_from<W: Words>(source: &W, hand: &mut W::Hand, count: usize, from: u64) -> usize
+    requires sees { W.Sees source.now hand.old }
+    requires count { count ≡ count_in (W.shown source.now hand.old) }
+    requires pairs { HasPairs (W.shown source.now hand.old) }
+    ensures same { hand.new ≡ hand.old }
+    ensures place { IsPlaceOf (pairs_of (W.shown source.now hand.old)) from result }
+{
+    for place in 0..count {
+        if from <= word(source, hand, 4 + 2 * place) {
+            return place;
+        }
+    }
+    count
+}
+
+/// The place behind the last of so many rows, from that one on, whose key is below the end. It looks at them from the back, since
+/// most leaves of a scan lie below its end.
+#[inline(always)]
+fn place_below<W: Words>(
+    source: &W,
+    hand: &mut W::Hand,
+    first: usize,
+    count: usize,
+    end: u64,
+) -> usize
+    requires sees { W.Sees source.now hand.old }
+    requires count { count ≡ count_in (W.shown source.now hand.old) }
+    requires pairs { HasPairs (W.shown source.now hand.old) }
+    requires first { first ≤ count }
+    ensures same { hand.new ≡ hand.old }
+    ensures ends { EndsBefore (pairs_of (W.shown source.now hand.old)) (Some end) first result }
+{
+    for behind in 0..count - first {
+        let last = count - behind;
+        if word(source, hand, 2 + 2 * last) < end {
+            return last;
+        }
+    }
+    first
+}
+
+/// The same, where there may be no end.
+#[inline(always)]
+fn place_before<W: Words>(
+    source: &W,
+    hand: &mut W::Hand,
+    first: usize,
+    count: usize,
+    to: Option<u64>,
+) -> usize
+    requires sees { W.Sees source.now hand.old }
+    requires count { count ≡ count_in (W.shown source.now hand.old) }
+    requires pairs { HasPairs (W.shown source.now hand.old) }
+    requires first { first ≤ count }
+    ensures same { hand.new ≡ hand.old }
+    ensures ends { EndsBefore (pairs_of (W.shown source.now hand.old)) to first result }
+{
+    match to {
+        Some(end) => place_below(source, hand, first, count, end),
+        None => count,
+    }
+}
+
+/// The row at a place.
+#[inline(always)]
+fn row_at<W: Words>(source: &W, hand: &mut W::Hand, place: usize) -> (u64, u64)
+    requires sees { W.Sees source.now hand.old }
+    requires pairs { HasPairs (W.shown source.now hand.old) }
+    requires place { place < count_in (W.shown source.now hand.old) }
+    ensures same { hand.new ≡ hand.old }
+    ensures row { result ≡ slice_index_or (pairs_of (W.shown source.now hand.old)) place (0, 0) }
+{
+    let key = word(source, hand, 4 + 2 * place);
+    let value = word(source, hand, 5 + 2 * place);
+    (key, value)
+}
+
+/// How a scan goes on behind a leaf.
+#[derive(Clone, Copy)]
+pub enum Behind {
+    /// By the part from that key on. The leaf links to that page.
+    Part(u64, u32),
+    /// It is over: it has come to its end, or to the end of the map.
+    Nothing,
+}
+
+/// What a scan takes of a leaf: the rows from one place up to another, and how it goes on behind them.
+#[derive(Clone, Copy)]
+pub struct Portion {
+    pub first: usize,
+    pub last: usize,
+    pub behind: Behind,
+}
+
+/// Whether the page with these words is a leaf that begins with that key.
+#[inline(always)]
+fn begins_with<W: Words>(source: &W, hand: &mut W::Hand, key: u64) -> bool
+    requires sees { W.Sees source.now hand.old }
+    ensures same { hand.new ≡ hand.old }
+    ensures leads { (c : Page) → IsTrue result → W.shown source.now hand.old ≡ words_of c → Leads c key 0 onward.Here }
+{
+    let head = word(source, hand, 0);
+    let low = word(source, hand, 1);
+    head / LEVEL_UNIT == LEAF_UNITS && low == key
+}
+
+/// What becomes of the way of a part by the page that it got. Where it goes by the link of a leaf, that page mostly begins with its
+/// key.
+#[inline(always)]
+pub(crate) fn descended<W: Words>(
+    way: Descent,
+    source: &W,
+    hand: &mut W::Hand,
+    from: u64,
+) -> Descended
+    requires sees { W.Sees source.now hand.old }
+    requires page { (c : Page) × (W.shown source.now hand.old ≡ words_of c) }
+    ensures same { hand.new ≡ hand.old }
+    ensures goes { (c : Page) → W.shown source.now hand.old ≡ words_of c → Descends from way c result }
+{
+    if let Descent::At(_) = way
+        && begins_with(source, hand, from)
+    {
+        return Descended::Here;
+    }
+    way.took_words(source, hand, from)
+}
+
+/// The place of the leaf's first row whose key is not below that one. Mostly the leaf begins with it.
+#[inline(always)]
+fn first_from<W: Words>(source: &W, hand: &mut W::Hand, count: usize, from: u64) -> usize
+    requires sees { W.Sees source.now hand.old }
+    requires count { count ≡ count_in (W.shown source.now hand.old) }
+    requires leaf { (c : Page) × IsTreePage c × (W.shown source.now hand.old ≡ words_of c) }
+    ensures same { hand.new ≡ hand.old }
+    ensures place { IsPlaceOf (pairs_of (W.shown source.now hand.old)) from result }
+{
+    if word(source, hand, 1) == from {
+        0
+    } else {
+        place_from(source, hand, count, from)
+    }
+}
+
+/// The greatest key below an end, if there is one.
+#[inline(always)]
+fn last_below(to: Option<u64>) -> u64
+    requires { IsBelow to 0 }
+    ensures { IsLastBelow to result }
+{
+    match to {
+        Some(end) => end - 1,
+        None => u64::MAX,
+    }
+}
+
+/// What a scan takes of a leaf, from a key on and below an end, if there is one. It looks for its last row only where the leaf goes
+/// on behind that.
+#[inline(always)]
+pub fn portion_in<W: Words>(source: &W, hand: &mut W::Hand, from: u64, to: Option<u64>) -> Portion
+    requires sees { W.Sees source.now hand.old }
+    requires leaf { (c : Page) × IsTreePage c × (W.shown source.now hand.old ≡ words_of c) }
+    requires below { IsBelow to 0 }
+    ensures same { hand.new ≡ hand.old }
+    ensures first { IsPlaceOf (pairs_of (W.shown source.now hand.old)) from result.first }
+    ensures last { EndsBefore (pairs_of (W.shown source.now hand.old)) to result.first result.last }
+    ensures behind { (c : Page) (next : Next) → IsTreePage c → W.shown source.now hand.old ≡ words_of c → GoesOnAt (node_of c).shape.end next → GoesOnWithin to (next_key next) result.behind }
+{
+    let count = (word(source, hand, 0) % LEVEL_UNIT) as usize;
+    let first = first_from(source, hand, count, from);
+    let high = word(source, hand, 2);
+    if high.wrapping_sub(1) < last_below(to) {
+        let behind = Behind::Part(high, link_in(source, hand));
+        Portion {
+            first,
+            last: count,
+            behind,
+        }
+    } else {
+        Portion {
+            first,
+            last: place_before(source, hand, first, count, to),
+            behind: Behind::Nothing,
+        }
+    }
+}
+
+/// Makes room for so many rows more, or gives the rows back without it.
+#[inline(never)]
+fn grown(rows: Vec<(u64, u64)>, more: usize) -> (Vec<(u64, u64)>, Result<(), AllocError>)
+    ensures rows { result.0.items ≡ rows.items }
+    ensures ok { OnOk result.1 (vec_len result.0 + more ≤ vec_capacity result.0) }
+    ensures full { OnErr result.1 (vec_capacity result.0 < vec_len result.0 + more) }
+{
+    let mut rows = rows;
+    let done = rows.reserve(more);
+    (rows, done)
+}
+
+/// The same, without a call where there is room.
+#[inline(always)]
+fn with_room(rows: Vec<(u64, u64)>, more: usize) -> (Vec<(u64, u64)>, Result<(), AllocError>)
+    ensures rows { result.0.items ≡ rows.items }
+    ensures ok { OnOk result.1 (vec_len result.0 + more ≤ vec_capacity result.0) }
+    ensures full { OnErr result.1 (vec_capacity result.0 < vec_len result.0 + more) }
+{
+    if more <= rows.capacity() - rows.len() {
+        (rows, Ok(()))
+    } else {
+        grown(rows, more)
+    }
+}
+
+/// Appends the leaf's rows from one place up to another, two at a time, for which there is room.
+#[inline(always)]
+fn append_between<W: Words>(
+    source: &W,
+    hand: &mut W::Hand,
+    first: usize,
+    last: usize,
+    rows: Vec<(u64, u64)>,
+) -> Vec<(u64, u64)>
+    requires sees { W.Sees source.now hand.old }
+    requires pairs { HasPairs (W.shown source.now hand.old) }
+    requires order { first ≤ last }
+    requires within { last ≤ length (pairs_of (W.shown source.now hand.old)) }
+    requires room { vec_len rows + (last - first) ≤ vec_capacity rows }
+    ensures same { hand.new ≡ hand.old }
+    ensures rows { result.items ≡ rows.items ++ take (last - first) (drop first (pairs_of (W.shown source.now hand.old))) }
+{
+    let mut rows = rows;
+    let many = last - first;
+    for pair in 0..many / 2 {
+        let place = first + 2 * pair;
+        let row = row_at(source, hand, place);
+        let next = row_at(source, hand, place + 1);
+        rows.push_reserved(row);
+        rows.push_reserved(next);
+    }
+    if many % 2 == 1 {
+        let row = row_at(source, hand, last - 1);
+        rows.push_reserved(row);
+    }
+    rows
+}
+
+/// Appends the leaf's rows from one place up to another; or none of them, where there is no room. The rows come and go by value, so that
+/// they are not read again behind each word of the leaf.
+#[inline(always)]
+pub fn append_rows<W: Words>(
+    source: &W,
+    hand: &mut W::Hand,
+    first: usize,
+    last: usize,
+    rows: Vec<(u64, u64)>,
+) -> (Vec<(u64, u64)>, Result<(), AllocError>)
+    requires sees { W.Sees source.now hand.old }
+    requires pairs { HasPairs (W.shown source.now hand.old) }
+    requires order { first ≤ last }
+    requires within { last ≤ length (pairs_of (W.shown source.now hand.old)) }
+    ensures same { hand.new ≡ hand.old }
+    ensures all { OnOk result.1 (result.0.items ≡ rows.items ++ take (last - first) (drop first (pairs_of (W.shown source.now hand.old)))) }
+    ensures none { OnErr result.1 (result.0.items ≡ rows.items) }
+    ensures more { OnErr result.1 (vec_capacity result.0 - vec_len result.0 < last - first) }
+{
+    let (rows, room) = with_room(rows, last - first);
+    match room {
+        Ok(()) => (append_between(source, hand, first, last, rows), Ok(())),
+        Err(full) => (rows, Err(full)),
+    }
+}
+
+/// The leaf's rows from a key on.
+#[inline(always)]
+pub(crate) fn rows_in<W: Words>(source: &W, hand: &mut W::Hand, from: u64) -> Pairs
+    requires sees { W.Sees source.now hand.old }
+    requires pairs { HasPairs (W.shown source.now hand.old) }
+    ensures same { hand.new ≡ hand.old }
+    ensures rows { result.items ≡ rows_from from (pairs_of (W.shown source.now hand.old)) }
+{
+    let count = (word(source, hand, 0) % LEVEL_UNIT) as usize;
+    let first = place_from(source, hand, count, from);
+    let mut rows = ArrayVec::new();
+    for place in first..count {
+        let row = row_at(source, hand, place);
+        rows.push(row);
+    }
+    rows
+}
+
+/// Where the part behind a leaf with that bound begins.
+#[inline(always)]
+fn next_after(high: u64) -> Next
+    ensures { GoesOnAt (end_of high) result }
+{
+    if high == 0 {
+        Next::End
+    } else {
+        Next::More(high)
+    }
+}
+
+/// Where the part behind a leaf begins.
+#[inline(always)]
+pub(crate) fn next_in<W: Words>(source: &W, hand: &mut W::Hand) -> Next
+    requires sees { W.Sees source.now hand.old }
+    ensures same { hand.new ≡ hand.old }
+    ensures next { (c : Page) → IsTreePage c → W.shown source.now hand.old ≡ words_of c → GoesOnAt (node_of c).shape.end result }
+{
+    next_after(word(source, hand, 2))
+}
+
+/// The page to which the leaf links. Nothing is said of it.
+#[inline(always)]
+pub(crate) fn link_in<W: Words>(source: &W, hand: &mut W::Hand) -> u32
+    requires sees { W.Sees source.now hand.old }
+    ensures same { hand.new ≡ hand.old }
+{
+    (word(source, hand, 3) % LEVEL_UNIT) as u32
+}

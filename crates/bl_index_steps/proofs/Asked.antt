@@ -1,0 +1,155 @@
+-- What a process asks for, by the page that it holds.
+use Rattle.std.proofs.Common.{ℕ, ◌≡◌, ◌≢◌, None, Some, inl, inr, sym, ap, subst, ◌∙◌}
+use Rattle.bl_claims.specs.Trails.{Trail}
+use Rattle.bl_proc_base.specs.declared.acts.Action.TheVariants as act
+use Rattle.bl_proc_base.specs.declared.acts.Seen.{Seen}
+use Rattle.bl_proc_base.specs.declared.changing.Change.{Change}
+use Rattle.bl_proc_base.specs.declared.changing.Change.TheVariants as change
+use Rattle.bl_proc_base.specs.declared.growing.Growth.{Growth}
+use Rattle.bl_proc_base.specs.declared.growing.Growth.TheVariants as growth
+use Rattle.bl_proc_base.specs.Changes.{change_next, change_needs}
+use Rattle.bl_proc_base.specs.Growths.{growth_next, growth_needs}
+use Rattle.bl_proc.specs.declared.inserting.InsertStage.{InsertStage}
+use Rattle.bl_proc.specs.declared.inserting.InsertStage.TheVariants as insert
+use Rattle.bl_proc.specs.declared.posting.Post.{Post as PostIs}
+use Rattle.bl_proc.specs.declared.posting.PostStage.{PostStage}
+use Rattle.bl_proc.specs.declared.posting.PostStage.TheVariants as post
+use Rattle.bl_proc.specs.declared.kinds.Proc.{Proc}
+use Rattle.bl_proc.specs.declared.kinds.Proc.TheVariants.{Find, Insert, Delete, Post, Part, Compress, Reclaim, Lower}
+use Rattle.bl_proc.specs.Inserts.{insert_next_in, insert_needs_in}
+use Rattle.bl_proc.specs.Posts.{post_next_in, post_needs_in}
+use Rattle.bl_proc.specs.Processes.{next_of, needs_of, Takes}
+use Rattle.bl_index_rule.specs.declared.known.Mine.{Mine}
+use Rattle.bl_index_rule.specs.Told.{Goes}
+use Rattle.bl_index_steps.specs.Refused.{HasRoom, IsFull, GotAnchor}
+use Rattle.bl_index_steps.specs.Held.{own_marks, KeepsLatch, change_held, growth_held, insert_held, post_held, proc_held, AsksForPage, AsksFor}
+use Rattle.bl_index_steps.proofs.Held.{goes_keeps, keeps_held, keeps_anchor}
+
+same_ask : {a b : ℕ × ℕ} → Some a ≡ Some b → b ≡ a
+same_ask {a} {b} e = (let f : b ≡ a = cc in f)
+
+no_ask : {X : Type 0} {b : ℕ × ℕ} → None ≡ Some b → X
+no_ask {b = b} e = absurd (let f : None ≡ Some b = e in cc)
+
+-- it asks for what the page takes that it holds
+change_asks : (level key : ℕ) (c : Change) (ask : ℕ × ℕ) (marks : Trail) → change_needs c ≡ Some ask → change_held level key c marks → AsksForPage level key ask marks
+change_asks level key (change.Putting x page) ask marks e held = inl (same_ask e, held)
+change_asks level key (change.Taking full) ask marks e held = inr (same_ask e, held)
+change_asks level key (change.PuttingNew p) ask marks e held = no_ask e
+change_asks level key (change.PuttingOld p) ask marks e held = no_ask e
+change_asks level key (change.OpeningNew x new separator) ask marks e held = no_ask e
+change_asks level key (change.Opening x o) ask marks e held = no_ask e
+
+growth_asks : (level : ℕ) (g : Growth) (ask : ℕ × ℕ) (marks : Trail) → growth_needs g ≡ Some ask → growth_held level g marks → (ask ≡ (1, 2)) × GotAnchor level marks
+growth_asks level growth.Latching ask marks e held = no_ask e
+growth_asks level growth.Latched ask marks e held = no_ask e
+growth_asks level (growth.Taking rise) ask marks e held = (same_ask e, held)
+growth_asks level (growth.PuttingTop r) ask marks e held = no_ask e
+growth_asks level (growth.PuttingAnchor r) ask marks e held = no_ask e
+growth_asks level (growth.OpeningTop x) ask marks e held = no_ask e
+growth_asks level growth.OpeningGrown ask marks e held = no_ask e
+growth_asks level growth.OpeningRefused ask marks e held = no_ask e
+
+insert_asks : (key : ℕ) (a : InsertStage) (ask : ℕ × ℕ) (marks : Trail) → insert_needs_in a ≡ Some ask → insert_held key a marks → AsksForPage 0 key ask marks
+insert_asks key insert.New ask marks e held = no_ask e
+insert_asks key (insert.Coming a) ask marks e held = no_ask e
+insert_asks key (insert.Present x there) ask marks e held = no_ask e
+insert_asks key (insert.Changing c) ask marks e held = change_asks 0 key c ask marks e held
+insert_asks key (insert.Ending r) ask marks e held = no_ask e
+insert_asks key (insert.Over r) ask marks e held = no_ask e
+
+post_asks : (p : PostIs) (ask : ℕ × ℕ) (marks : Trail) → needs_of (Post p) ≡ Some ask → proc_held (Post p) marks → AsksFor (Post p) ask marks
+post_asks p ask marks e held = by p.stage e held
+  where
+    by : (a : PostStage) → post_needs_in a ≡ Some ask → post_held p.level p.key a marks → AsksFor (Post p) ask marks
+    by post.New e held = no_ask e
+    by (post.Coming a) e held = no_ask e
+    by (post.Growing g) e held = inr (growth_asks p.level g ask marks e held)
+    by (post.Walking w) e held = no_ask e
+    by (post.Changing c) e held = inl (change_asks p.level p.key c ask marks e held)
+    by (post.Staying x r) e held = no_ask e
+    by (post.Ending r) e held = no_ask e
+    by (post.Over r) e held = no_ask e
+
+-- where it asks it latches nothing
+change_away : (c : Change) (x : ℕ) → change_next c ≢ act.Latch x
+change_away (change.Putting y page) x e = cc
+change_away (change.Taking full) x e = cc
+change_away (change.PuttingNew p) x e = cc
+change_away (change.PuttingOld p) x e = cc
+change_away (change.OpeningNew y new separator) x e = cc
+change_away (change.Opening y o) x e = cc
+
+growth_away : (g : Growth) (ask : ℕ × ℕ) → growth_needs g ≡ Some ask → (x : ℕ) → growth_next g ≢ act.Latch x
+growth_away growth.Latching ask needs x e = no_ask needs
+growth_away growth.Latched ask needs x e = cc
+growth_away (growth.Taking rise) ask needs x e = cc
+growth_away (growth.PuttingTop r) ask needs x e = cc
+growth_away (growth.PuttingAnchor r) ask needs x e = cc
+growth_away (growth.OpeningTop y) ask needs x e = cc
+growth_away growth.OpeningGrown ask needs x e = cc
+growth_away growth.OpeningRefused ask needs x e = cc
+
+insert_away : (a : InsertStage) (ask : ℕ × ℕ) → insert_needs_in a ≡ Some ask → (x : ℕ) → insert_next_in a ≢ act.Latch x
+insert_away insert.New ask needs x e = cc
+insert_away (insert.Coming a) ask needs x e = no_ask needs
+insert_away (insert.Present y there) ask needs x e = cc
+insert_away (insert.Changing c) ask needs x e = change_away c x e
+insert_away (insert.Ending r) ask needs x e = cc
+insert_away (insert.Over r) ask needs x e = cc
+
+post_away : (a : PostStage) (ask : ℕ × ℕ) → post_needs_in a ≡ Some ask → (x : ℕ) → post_next_in a ≢ act.Latch x
+post_away post.New ask needs x e = cc
+post_away (post.Coming a) ask needs x e = no_ask needs
+post_away (post.Growing g) ask needs x e = growth_away g ask needs x e
+post_away (post.Walking w) ask needs x e = cc
+post_away (post.Changing c) ask needs x e = change_away c x e
+post_away (post.Staying y r) ask needs x e = cc
+post_away (post.Ending r) ask needs x e = cc
+post_away (post.Over r) ask needs x e = cc
+
+-- that page stays the one that it latched last
+page_keeps : (level key : ℕ) (ask : ℕ × ℕ) (d e : Mine) → KeepsLatch d e → AsksForPage level key ask (own_marks d) → AsksForPage level key ask (own_marks e)
+page_keeps level key ask d e latch asks = elim asks [
+  | inl one ↦ inl (one.0, keeps_held level key HasRoom d e latch one.1)
+  | inr two ↦ inr (two.0, keeps_held level key IsFull d e latch two.1)
+]
+
+pub asks_keep : (p : Proc) (ask : ℕ × ℕ) (d e : Mine) → KeepsLatch d e → AsksFor p ask (own_marks d) → AsksFor p ask (own_marks e)
+asks_keep (Find p) ask d e latch asks = tt
+asks_keep (Insert p) ask d e latch asks = page_keeps 0 p.key ask d e latch asks
+asks_keep (Delete p) ask d e latch asks = tt
+asks_keep (Post p) ask d e latch asks = elim asks [
+  | inl page ↦ inl (page_keeps p.level p.key ask d e latch page)
+  | inr top ↦ inr (top.0, keeps_anchor p.level d e latch top.1)
+]
+asks_keep (Part p) ask d e latch asks = tt
+asks_keep (Compress p) ask d e latch asks = tt
+asks_keep (Reclaim p) ask d e latch asks = tt
+asks_keep (Lower p) ask d e latch asks = tt
+
+-- by the event at which it was refused
+pub asks_told : (p : Proc) (ask : ℕ × ℕ) (d e : Mine) (what : Seen) → d.state ≡ p → needs_of p ≡ Some ask → proc_held p (own_marks d) → Goes what d e → AsksFor p ask (own_marks e)
+asks_told (Find p) ask d e what is needs held goes = tt
+asks_told (Insert p) ask d e what is needs held goes = asks_keep (Insert p) ask d e (goes_keeps what d e goes (λ x l. insert_away p.stage ask needs x (ap next_of (sym is) ∙ l))) (insert_asks p.key p.stage ask (own_marks d) needs held)
+asks_told (Delete p) ask d e what is needs held goes = tt
+asks_told (Post p) ask d e what is needs held goes = asks_keep (Post p) ask d e (goes_keeps what d e goes (λ x l. post_away p.stage ask needs x (ap next_of (sym is) ∙ l))) (post_asks p ask (own_marks d) needs held)
+asks_told (Part p) ask d e what is needs held goes = tt
+asks_told (Compress p) ask d e what is needs held goes = tt
+asks_told (Reclaim p) ask d e what is needs held goes = tt
+asks_told (Lower p) ask d e what is needs held goes = tt
+
+-- the process goes on
+pub asks_on : (p : Proc) (what : Seen) (q : Proc) (ask : ℕ × ℕ) (marks : Trail) → Takes p what q → AsksFor p ask marks → AsksFor q ask marks
+asks_on (Insert p) what (Insert q) ask marks t asks = subst (λ (k : ℕ). AsksForPage 0 k ask marks) (sym t.0) asks
+asks_on (Post p) what (Post q) ask marks t asks = elim asks [
+  | inl page ↦ inl (subst (λ (z : ℕ × ℕ). AsksForPage z.0 z.1 ask marks) (λ i. (sym t.0 i, sym t.1 i)) page)
+  | inr top ↦ inr (top.0, subst (λ (k : ℕ). GotAnchor k marks) (sym t.0) top.1)
+]
+asks_on old what (Find q) ask marks t asks = tt
+asks_on old what (Delete q) ask marks t asks = tt
+asks_on old what (Part q) ask marks t asks = tt
+asks_on old what (Compress q) ask marks t asks = tt
+asks_on old what (Reclaim q) ask marks t asks = tt
+asks_on old what (Lower q) ask marks t asks = tt
+asks_on old what new ask marks t asks = absurd t

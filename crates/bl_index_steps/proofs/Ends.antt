@@ -1,0 +1,201 @@
+-- What is said at the end of an operation.
+use Rattle.std.proofs.Common.{ℕ, ◌≡◌, ◌≢◌, ◌+◌, Option, Some, None, List, sym, ap, ◌∙◌, subst}
+use Rattle.bl_model.specs.declared.operation.Op.{Op as Operation}
+use Rattle.bl_model.specs.declared.operation.Op.TheVariants as op
+use Rattle.bl_model.specs.declared.operation.Reply.{Reply}
+use Rattle.bl_model.specs.declared.operation.Reply.TheVariants.{Rows}
+use Rattle.bl_page.specs.declared.page.Page.{Page}
+use Rattle.bl_claims.specs.Trails.{Trail, marks_of}
+use Rattle.bl_proc_base.specs.declared.acts.Action.TheVariants as act
+use Rattle.bl_proc_base.specs.declared.acts.Seen.TheVariants as seen
+use Rattle.bl_proc_base.specs.declared.answers.Hint.{Hint}
+use Rattle.bl_proc_base.specs.declared.answers.Answer.{Answer}
+use Rattle.bl_proc_base.specs.declared.answers.Answer.TheVariants.{Op}
+use Rattle.bl_proc_base.specs.declared.approaching.Approach.{Approach}
+use Rattle.bl_proc_base.specs.declared.approaching.Approach.TheVariants as way
+use Rattle.bl_proc_base.specs.declared.changing.Change.{Change}
+use Rattle.bl_proc_base.specs.declared.changing.Change.TheVariants as change
+use Rattle.bl_proc_base.specs.Approaches.{approach_next}
+use Rattle.bl_proc_base.specs.Changes.{change_next}
+use Rattle.bl_proc.specs.declared.inserting.InsertStage.{InsertStage}
+use Rattle.bl_proc.specs.declared.inserting.InsertStage.TheVariants as insert
+use Rattle.bl_proc.specs.declared.inserting.InsertReply.{InsertReply}
+use Rattle.bl_proc.specs.declared.inserting.InsertReply.TheVariants as inserted
+use Rattle.bl_proc.specs.declared.deleting.DeleteStage.{DeleteStage}
+use Rattle.bl_proc.specs.declared.deleting.DeleteStage.TheVariants as delete
+use Rattle.bl_proc.specs.declared.deleting.DeleteReply.{DeleteReply}
+use Rattle.bl_proc.specs.declared.deleting.DeleteReply.TheVariants as deleted
+use Rattle.bl_proc.specs.declared.searching.FindStage.{FindStage}
+use Rattle.bl_proc.specs.declared.searching.FindStage.TheVariants as find
+use Rattle.bl_proc.specs.declared.parts.PartRows.{PartRows}
+use Rattle.bl_proc.specs.declared.parts.PartStage.{PartStage}
+use Rattle.bl_proc.specs.declared.parts.PartStage.TheVariants as part
+use Rattle.bl_proc.specs.declared.kinds.Proc.{Proc}
+use Rattle.bl_proc.specs.declared.kinds.Proc.TheVariants as proc
+use Rattle.bl_proc.specs.Inserts.{inserted_answer, insert_next_in, insert_answer_in, InsertGoes}
+use Rattle.bl_proc.specs.Deletes.{deleted_answer, delete_next_in, delete_answer_in, DeleteGoes}
+use Rattle.bl_proc.specs.Searches.{found_answer, find_next_in, find_answer_in, FindGoes}
+use Rattle.bl_proc.specs.Parts.{part_next_in, part_answer_in, PartGoes}
+use Rattle.bl_proc.specs.Processes.{next_of, answer_of, Takes}
+use Rattle.bl_proc_invariant.specs.Beside.{MeansBeside}
+use Rattle.bl_proc_invariant.proofs.Beside.{beside_means}
+use Rattle.bl_proc_invariant.specs.Knowing.{Run, bare as know, know_of, inserted_reply, deleted_reply, found_reply, know_find, know_part, know_insert, know_delete, find_end, part_end, insert_end, delete_end, end_of_proc}
+use Rattle.bl_proc_unique.specs.Frames.{op_of}
+use Rattle.bl_index_rule.specs.declared.known.Mine.{Mine}
+use Rattle.bl_claims.specs.Seeing.{Holds, name}
+use Rattle.bl_index_steps.specs.Answered.{Answers, InCall}
+use Rattle.bl_index_steps.specs.Held.{own_marks}
+use Rattle.bl_index_steps.specs.Runs.{IsDone}
+use Rattle.bl_index_steps.proofs.Calls.{since_end, since_said, end_seen}
+
+some_one : {a b : Answer} → Some a ≡ Some b → a ≡ b
+some_one e = cc
+
+pub not_end_way : (a : Approach) → approach_next a ≢ act.End
+not_end_way way.Start e = cc
+not_end_way (way.At x) e = cc
+not_end_way (way.Latching x) e = cc
+not_end_way (way.Latched x) e = cc
+not_end_way (way.Leaving x to) e = cc
+
+pub not_end : (c : Change) → change_next c ≢ act.End
+not_end (change.Putting x page) e = cc
+not_end (change.Taking full) e = cc
+not_end (change.PuttingNew p) e = cc
+not_end (change.PuttingOld p) e = cc
+not_end (change.OpeningNew x new s) e = cc
+not_end (change.Opening x what) e = cc
+
+insert_reply_said : (q : InsertReply) (reply : Reply) (hint : Option Hint) → inserted_answer q ≡ Op reply hint → inserted_reply q ≡ reply
+insert_reply_said (inserted.Inserted s) reply hint e = cc
+insert_reply_said (inserted.Present v) reply hint e = cc
+insert_reply_said inserted.NoRoom reply hint e = cc
+
+insert_ends : (key value : ℕ) (a b : InsertStage) (reply : Reply) (hint : Option Hint) → insert_next_in a ≡ act.End → InsertGoes key value a seen.Done b → insert_answer_in b ≡ Some (Op reply hint) → (insert_end a ≡ Some reply) × ((got : ℕ → Page) → (know_insert key value got a).said ≡ Some (record { op = op.Insert key value; reply = reply }))
+insert_ends key value insert.New b reply hint e t h = cc
+insert_ends key value (insert.Coming w) b reply hint e t h = absurd (not_end_way w e)
+insert_ends key value (insert.Present x there) b reply hint e t h = cc
+insert_ends key value (insert.Changing c) b reply hint e t h = absurd (not_end c e)
+insert_ends key value (insert.Over r) b reply hint e t h = absurd t
+insert_ends key value (insert.Ending r) insert.New reply hint e t h = absurd t
+insert_ends key value (insert.Ending r) (insert.Coming w) reply hint e t h = absurd t
+insert_ends key value (insert.Ending r) (insert.Present y z) reply hint e t h = absurd t
+insert_ends key value (insert.Ending r) (insert.Changing c) reply hint e t h = absurd t
+insert_ends key value (insert.Ending r) (insert.Ending q) reply hint e t h = absurd t
+insert_ends key value (insert.Ending r) (insert.Over q) reply hint e t h =
+    let some : inserted_answer q ≡ Op reply hint = some_one h in
+    let is : inserted_reply r ≡ reply = ap inserted_reply (sym t) ∙ insert_reply_said q reply hint some in
+    (ap (λ (z : Reply). Some z) is, λ got. ap (λ (z : Reply). Some (record { op = op.Insert key value; reply = z })) is)
+
+delete_reply_said : (q : DeleteReply) (reply : Reply) (hint : Option Hint) → deleted_answer q ≡ Op reply hint → deleted_reply q ≡ reply
+delete_reply_said (deleted.Deleted v) reply hint e = cc
+delete_reply_said deleted.Absent reply hint e = cc
+delete_reply_said deleted.NoRoom reply hint e = cc
+
+delete_ends : (key : ℕ) (a b : DeleteStage) (reply : Reply) (hint : Option Hint) → delete_next_in a ≡ act.End → DeleteGoes key a seen.Done b → delete_answer_in b ≡ Some (Op reply hint) → (delete_end a ≡ Some reply) × ((got : ℕ → Page) → (know_delete key got a).said ≡ Some (record { op = op.Delete key; reply = reply }))
+delete_ends key delete.New b reply hint e t h = cc
+delete_ends key (delete.Coming w) b reply hint e t h = absurd (not_end_way w e)
+delete_ends key (delete.Absent x) b reply hint e t h = cc
+delete_ends key (delete.Changing v c) b reply hint e t h = absurd (not_end c e)
+delete_ends key (delete.Over r) b reply hint e t h = absurd t
+delete_ends key (delete.Ending r) delete.New reply hint e t h = absurd t
+delete_ends key (delete.Ending r) (delete.Coming w) reply hint e t h = absurd t
+delete_ends key (delete.Ending r) (delete.Absent y) reply hint e t h = absurd t
+delete_ends key (delete.Ending r) (delete.Changing v c) reply hint e t h = absurd t
+delete_ends key (delete.Ending r) (delete.Ending q) reply hint e t h = absurd t
+delete_ends key (delete.Ending r) (delete.Over q) reply hint e t h =
+    let some : deleted_answer q ≡ Op reply hint = some_one h in
+    let is : deleted_reply r ≡ reply = ap deleted_reply (sym t) ∙ delete_reply_said q reply hint some in
+    (ap (λ (z : Reply). Some z) is, λ got. ap (λ (z : Reply). Some (record { op = op.Delete key; reply = z })) is)
+
+find_reply_said : (v : Option ℕ) (reply : Reply) (hint : Option Hint) → found_answer v ≡ Op reply hint → found_reply v ≡ reply
+find_reply_said (Some v) reply hint e = cc
+find_reply_said None reply hint e = cc
+
+find_ends : (key : ℕ) (a b : FindStage) (reply : Reply) (hint : Option Hint) → find_next_in a ≡ act.End → FindGoes key a seen.Done b → find_answer_in b ≡ Some (Op reply hint) → (find_end a ≡ Some reply) × ((know_find key a).said ≡ Some (record { op = op.Find key; reply = reply }))
+find_ends key find.New b reply hint e t h = cc
+find_ends key (find.Descending d) b reply hint e t h = cc
+find_ends key (find.Over v) b reply hint e t h = absurd t
+find_ends key (find.Ending v) find.New reply hint e t h = absurd t
+find_ends key (find.Ending v) (find.Descending d) reply hint e t h = absurd t
+find_ends key (find.Ending v) (find.Ending u) reply hint e t h = absurd t
+find_ends key (find.Ending v) (find.Over u) reply hint e t h =
+    let some : found_answer u ≡ Op reply hint = some_one h in
+    let is : found_reply v ≡ reply = ap found_reply (sym t) ∙ find_reply_said u reply hint some in
+    (ap (λ (z : Reply). Some z) is, ap (λ (z : Reply). Some (record { op = op.Find key; reply = z })) is)
+
+same_reply : (a b : Reply) (hint other : Option Hint) → Op a hint ≡ Op b other → a ≡ b
+same_reply a b hint other e = cc
+
+abbrev rows_of : PartRows → Reply
+rows_of r = Rows r.rows r.next
+
+part_ends : (from : ℕ) (a b : PartStage) (reply : Reply) (hint : Option Hint) → part_next_in a ≡ act.End → PartGoes from a seen.Done b → part_answer_in b ≡ Some (Op reply hint) → (part_end a ≡ Some reply) × ((know_part from a).said ≡ Some (record { op = op.Part from; reply = reply }))
+part_ends from part.New b reply hint e t h = cc
+part_ends from (part.Near x) b reply hint e t h = cc
+part_ends from (part.Probing x) b reply hint e t h = cc
+part_ends from (part.Descending d) b reply hint e t h = cc
+part_ends from (part.Over r) b reply hint e t h = absurd t
+part_ends from (part.Ending r) part.New reply hint e t h = absurd t
+part_ends from (part.Ending r) (part.Near x) reply hint e t h = absurd t
+part_ends from (part.Ending r) (part.Probing x) reply hint e t h = absurd t
+part_ends from (part.Ending r) (part.Descending d) reply hint e t h = absurd t
+part_ends from (part.Ending r) (part.Ending q) reply hint e t h = absurd t
+part_ends from (part.Ending r) (part.Over q) reply hint e t h =
+    let some : Op (rows_of q) None ≡ Op reply hint = some_one h in
+    let is : rows_of r ≡ reply = ap rows_of (sym t) ∙ same_reply _ _ _ _ some in
+    (ap (λ (z : Reply). Some z) is, ap (λ (z : Reply). Some (record { op = op.Part from; reply = z })) is)
+
+-- what a process that ended with this answer had said
+pub record Says (before : Proc) (o : Operation) (reply : Reply) : Type 0 where
+  pub end : end_of_proc before ≡ Some reply
+  pub said : (r : Run) → r.state ≡ before → (know r).said ≡ Some (record { op = o; reply = reply })
+
+op_one : {a b : Operation} → Some a ≡ Some b → a ≡ b
+op_one e = cc
+
+says_of : (before : Proc) (o o' : Operation) (reply : Reply) → end_of_proc before ≡ Some reply → ((got : ℕ → Page) (child time : ℕ) → (know_of got child time before).said ≡ Some (record { op = o'; reply = reply })) → Some o' ≡ Some o → Says before o reply
+says_of before o o' reply end said e = record {
+  end = end;
+  said = λ r h. ap (λ (z : Proc). (know_of r.got r.child r.time z).said) h ∙ (said r.got r.child r.time ∙ ap (λ (z : Operation). Some (record { op = z; reply = reply })) (op_one e));
+}
+
+pub end_says : (before last : Proc) (o : Operation) (reply : Reply) (hint : Option Hint) → op_of before ≡ Some o → next_of before ≡ act.End → Takes before seen.Done last → answer_of last ≡ Some (Op reply hint) → Says before o reply
+end_says (proc.Find p) (proc.Find q) o reply hint i e t h = (let s = find_ends p.key p.stage q.stage reply hint e t.1 h in says_of (proc.Find p) o (op.Find p.key) reply s.0 (λ got child time. s.1) i)
+end_says (proc.Insert p) (proc.Insert q) o reply hint i e t h = (let s = insert_ends p.key p.value p.stage q.stage reply hint e t.2 h in says_of (proc.Insert p) o (op.Insert p.key p.value) reply s.0 (λ got child time. s.1 got) i)
+end_says (proc.Delete p) (proc.Delete q) o reply hint i e t h = (let s = delete_ends p.key p.stage q.stage reply hint e t.1 h in says_of (proc.Delete p) o (op.Delete p.key) reply s.0 (λ got child time. s.1 got) i)
+end_says (proc.Part p) (proc.Part q) o reply hint i e t h = (let s = part_ends p.from p.stage q.stage reply hint e t.1 h in says_of (proc.Part p) o (op.Part p.from) reply s.0 (λ got child time. s.1) i)
+end_says (proc.Post p) last o reply hint i e t h = cc
+end_says (proc.Compress p) last o reply hint i e t h = cc
+end_says (proc.Reclaim p) last o reply hint i e t h = cc
+end_says (proc.Lower p) last o reply hint i e t h = cc
+end_says before last o reply hint i e t h = absurd t
+
+-- what the index began with, as the pass knows when a process has ended
+pub done_first : (pass : ℕ) (old e : Mine) (first last : Proc) → IsDone pass old e first last → e.first ≡ old.first
+done_first pass old e first last d = d.told.notes.first ∙ d.since.beginning
+
+-- the hint beside its reply means what it has put
+pub op_beside : (pass : ℕ) (old e : Mine) (first last : Proc) (reply : Reply) (hint : Option Hint) → IsDone pass old e first last → answer_of last ≡ Some (Op reply hint) → MeansBeside last reply hint (marks_of (name pass (old.number + 1)) e.trail)
+op_beside pass old e first last reply hint d answer = beside_means last reply hint (marks_of (name pass (old.number + 1)) e.trail) answer d.log
+
+abbrev pub op_answered : (from : List (Option Page)) (pass : ℕ) (old e : Mine) (first last : Proc) (o : Operation) (reply : Reply) (hint : Option Hint) → IsDone pass old e first last → old.first ≡ from → op_of first ≡ Some o → answer_of last ≡ Some (Op reply hint) → Answers from pass o reply old.trail e.trail
+op_answered from pass old e first last o reply hint d begins is answer =
+    let s = end_says d.before last o reply hint (d.op ∙ is) d.at_end d.takes answer in
+    record {
+      number = old.number + 1;
+      holds = subst (λ (z : Option Reply). Holds (name pass (old.number + 1)) z old.trail e.trail) s.end (since_end pass (end_of_proc d.before) old d.d e d.since d.told);
+      seen = (end_seen pass (end_of_proc d.before) old d.d e from d.since d.told begins).1;
+      once = since_said pass (end_of_proc d.before) old d.d e (Some (record { op = o; reply = reply })) d.since d.told (λ r h. s.said r (h ∙ d.state));
+    }
+
+-- what its process has done, by its name in the call
+pub own_done : (pass : ℕ) (old e : Mine) (first last : Proc) → IsDone pass old e first last → own_marks e ≡ marks_of (name pass (old.number + 1)) e.trail
+own_done pass old e first last d = ap (λ (z : ℕ × ℕ). marks_of (name z.0 z.1) e.trail) (λ i. ((d.told.notes.pass ∙ d.since.named) i, (d.told.notes.number ∙ d.since.number) i))
+
+pub op_in_call : (from : List (Option Page)) (pass : ℕ) (old e : Mine) (first last : Proc) (o : Operation) (reply : Reply) (hint : Option Hint) (IsSo : Trail → Type 0) → IsDone pass old e first last → old.first ≡ from → op_of first ≡ Some o → answer_of last ≡ Some (Op reply hint) → IsSo (own_marks e) → InCall pass (Some reply) old.trail e.trail IsSo
+op_in_call from pass old e first last o reply hint IsSo d begins is answer so = record {
+  number = old.number + 1;
+  holds = (op_answered from pass old e first last o reply hint d begins is answer).holds;
+  is = subst IsSo (own_done pass old e first last d) so;
+}

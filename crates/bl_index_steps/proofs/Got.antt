@@ -1,0 +1,216 @@
+-- What a process has got of the page that it latched last, and one event more.
+use Rattle.std.proofs.Common.{ℕ, ◌≡◌, ◌≢◌, ◌++◌, ◌≤◌, [], ◌∷◌, None, Some, length, ap, sym, ◌∙◌, refl, subst, inl, inr, append_assoc}
+use Rattle.std.proofs.lemmas.List.Elements.{Contains-push_cases}
+use Rattle.bl_page.specs.declared.page.Page.{Page}
+use Rattle.bl_page.specs.declared.page.Page.TheVariants.{Inner}
+use Rattle.bl_page.specs.Machine.Act.{Get, Latch}
+use Rattle.bl_claims.specs.Trails.{Mark, Trail}
+use Rattle.bl_claims.specs.Moments.{After, IsLatch}
+use Rattle.bl_rearrange.specs.Rearranged.{pairs_of}
+use Rattle.bl_proc_base.specs.declared.acts.Seen.{Seen}
+use Rattle.bl_proc_base.specs.declared.acts.Seen.TheVariants as seen
+use Rattle.bl_proc_base.specs.declared.acts.Action.TheVariants as act
+use Rattle.bl_proc_base.specs.declared.approaching.Approach.{Approach}
+use Rattle.bl_proc_base.specs.declared.approaching.Approach.TheVariants as way
+use Rattle.bl_proc_base.specs.declared.approaching.Approached.TheVariants as came
+use Rattle.bl_proc_base.specs.declared.changing.Change.{Change}
+use Rattle.bl_proc_base.specs.declared.changing.Change.TheVariants as change
+use Rattle.bl_proc_base.specs.declared.changing.Changed.TheVariants as changed
+use Rattle.bl_proc_base.specs.declared.growing.Growth.{Growth}
+use Rattle.bl_proc_base.specs.declared.growing.Growth.TheVariants as growth
+use Rattle.bl_proc_base.specs.declared.growing.Grew.TheVariants as grew
+use Rattle.bl_proc_base.specs.Approaches.{approach_next, Approaches}
+use Rattle.bl_proc_base.specs.Changes.{change_next, EntersPair}
+use Rattle.bl_proc_base.specs.Growths.{growth_next}
+use Rattle.bl_proc.specs.declared.inserting.InsertStage.{InsertStage}
+use Rattle.bl_proc.specs.declared.inserting.InsertStage.TheVariants as insert
+use Rattle.bl_proc.specs.declared.posting.PostStage.{PostStage}
+use Rattle.bl_proc.specs.declared.posting.PostStage.TheVariants as post
+use Rattle.bl_proc.specs.declared.kinds.Proc.{Proc}
+use Rattle.bl_proc.specs.declared.kinds.Proc.TheVariants.{Find, Insert, Delete, Post, Part, Compress, Reclaim, Lower}
+use Rattle.bl_proc.specs.Inserts.{insert_next_in}
+use Rattle.bl_proc.specs.Posts.{post_next_in}
+use Rattle.bl_proc.specs.Processes.{next_of, Takes}
+use Rattle.bl_proc_unique.proofs.WayCases.{approach_case, ChangeCase, change_case, GrowthCase, growth_case}
+use Rattle.bl_proc_unique.proofs.KindCases.{InsertCase, insert_case, PostCase, post_case}
+use Rattle.bl_proc_invariant.specs.Turns.{event_of}
+use Rattle.bl_proc_invariant.specs.Knowing.{insert_end, end_of_proc}
+use Rattle.bl_proc_invariant.proofs.Holdings.{none_of}
+use Rattle.bl_proc_invariant.proofs.Logging.{latched_on}
+use Rattle.bl_index_steps.specs.Refused.{GotLatched, GotHeld, GotAnchor}
+use Rattle.bl_index_steps.specs.Held.{LatchedLast, GotAt, approach_held, change_held, growth_held, insert_held, post_held, proc_held}
+
+module _ (marks : Trail) (m : Mark) where
+  abbrev more : Trail
+  more = marks ++ m ∷ []
+
+  -- a page was latched just now
+  latched_now : (x : ℕ) → m.event.act ≡ Latch x → LatchedLast more x
+  latched_now x e = record { latched = record { before = marks; last = m; since = []; split = refl; is = (x, e); never_again = λ n c l. absurd (none_of n c) }; is = e; none = refl }
+
+  -- none was
+  module _ (away : (x : ℕ) → m.event.act ≢ Latch x) where
+    abbrev after_on : After marks IsLatch → After more IsLatch
+    after_on a = record {
+      before = a.before;
+      last = a.last;
+      since = a.since ++ m ∷ [];
+      split = ap (λ (z : Trail). z ++ m ∷ []) a.split ∙ append_assoc a.before (a.last ∷ a.since) (m ∷ []);
+      is = a.is;
+      never_again = λ n c l. elim (Contains-push_cases a.since m n c) [ inl i ↦ a.never_again n i l | inr e ↦ away l.0 (ap (λ (z : Mark). z.event.act) e ∙ l.1) ];
+    }
+
+    latched_still : {x : ℕ} {c : Page} → GotLatched marks x c → GotLatched more x c
+    latched_still h = record { latched = after_on h.latched; is = h.is; get = h.get; rest = h.rest ++ m ∷ []; next = ap (λ (z : Trail). z ++ m ∷ []) h.next; act = h.act; saw = h.saw }
+
+    at_still : {level key x : ℕ} {c : Page} → GotAt level key marks x c → GotAt level key more x c
+    at_still h = record { got = latched_still h.got; level_is = h.level_is; covers = h.covers }
+
+    pub held_still : {level key : ℕ} {WasSo : Page → Type 0} → GotHeld level key marks WasSo → GotHeld level key more WasSo
+    held_still h = record { at = h.at; page = h.page; got = latched_still h.got; level_is = h.level_is; covers = h.covers; was = h.was }
+
+    pub anchor_still : {level : ℕ} → GotAnchor level marks → GotAnchor level more
+    anchor_still h = record { anchor = h.anchor; got = latched_still h.got; levels = h.levels }
+
+  -- the page was got just now
+  got_now : (x : ℕ) (c : Page) → m.event.act ≡ Get x → m.saw ≡ Some c → LatchedLast marks x → GotLatched more x c
+  got_now x c did saw h = record { latched = after_on (λ z l. (let e = sym did ∙ l in cc)) h.latched; is = h.is; get = m; rest = []; next = ap (λ (z : Trail). z ++ m ∷ []) h.none; act = did; saw = saw }
+
+  -- on the way
+  coming : (level key : ℕ) (a b : Approach) (what : Seen) → Approaches level key a what (came.On b) → m.event.act ≡ event_of None (approach_next a) what → approach_held b more
+  coming level key a way.Start what t did = tt
+  coming level key a (way.At x) what t did = tt
+  coming level key a (way.Latching x) what t did = tt
+  coming level key a (way.Latched x) what t did = latched_now x (latched_on m level key (approach_case level key a what _ t) did)
+  coming level key a (way.Leaving x to) what t did = tt
+
+  -- a pair is to enter the page
+  held_as : {level key x : ℕ} {c : Page} {WasSo : Page → Type 0} → GotAt level key more x c → WasSo c → GotHeld level key more WasSo
+  held_as {x = x} {c = c} h was = record { at = x; page = c; got = h.got; level_is = h.level_is; covers = h.covers; was = was }
+
+  entering : (level key x word : ℕ) (c : Page) (d : Change) → EntersPair x c key word d → GotAt level key more x c → change_held level key d more
+  entering level key x word c (change.Putting y page) t h = held_as h t.1.0
+  entering level key x word c (change.Taking full) t h = held_as h (subst (λ (z : Page). 14 ≤ length (pairs_of z)) t.3 full.full)
+  entering level key x word c old t h = absurd t
+
+  changing : (level key : ℕ) {c d : Change} {what : Seen} → ChangeCase c what (changed.On d) → change_held level key d more
+  changing level key (ChangeCase.Put x page d t) = subst (λ (z : Change). change_held level key z more) (sym t) tt
+  changing level key (ChangeCase.PutRefused x page d t) = subst (λ (z : Change). change_held level key z more) (sym t) tt
+  changing level key (ChangeCase.Took full y p t) = tt
+  changing level key (ChangeCase.TakeRefused full d t) = subst (λ (z : Change). change_held level key z more) (sym t) tt
+  changing level key (ChangeCase.PutNew p d t) = subst (λ (z : Change). change_held level key z more) (sym t) tt
+  changing level key (ChangeCase.PutOld p d t) = subst (λ (z : Change). change_held level key z more) (sym t) tt
+  changing level key (ChangeCase.OpenedNew x y separator d t) = subst (λ (z : Change). change_held level key z more) (sym t) tt
+
+  -- an insertion
+  inserting : {key value : ℕ} {old new : InsertStage} {what : Seen} → InsertCase key value old what new → m.event.act ≡ event_of (insert_end old) (insert_next_in old) what → ((x : ℕ) (c : Page) → m.event.act ≡ Get x → what ≡ seen.Words c → m.saw ≡ Some c) → insert_held key old marks → insert_held key new more
+  inserting (InsertCase.Began a t) did saw h = subst (λ (z : Approach). approach_held z more) (sym t) tt
+  inserting {key = key} (InsertCase.Came a what b t) did saw h = coming 0 key a b what t did
+  inserting (InsertCase.Found x c y there l t) did saw h = tt
+  inserting {key = key} {value = value} (InsertCase.Entered x c d l t) did saw h = entering 0 key x value c d t.1 (record { got = got_now x c did (saw x c did refl) h; level_is = l.2; covers = l.1 })
+  inserting (InsertCase.Opened x there last t) did saw h = tt
+  inserting {key = key} (InsertCase.Changed c what d t) did saw h = changing 0 key (change_case c what _ t)
+  inserting (InsertCase.Finished c what last t) did saw h = tt
+  inserting (InsertCase.Ended r last t) did saw h = tt
+
+  -- a post
+  growing : (level : ℕ) {g k : Growth} {what : Seen} → GrowthCase level g what (grew.On k) → m.event.act ≡ event_of None (growth_next g) what → ((x : ℕ) (c : Page) → m.event.act ≡ Get x → what ≡ seen.Words c → m.saw ≡ Some c) → growth_held level g marks → growth_held level k more
+  growing level (GrowthCase.LatchedAnchor k t) did saw h = subst (λ (z : Growth). growth_held level z more) (sym t) (latched_now 0 did)
+  growing level (GrowthCase.Missed k t) did saw h = subst (λ (z : Growth). growth_held level z more) (sym t) tt
+  growing level (GrowthCase.Rises c rise t) did saw h = record { anchor = c; got = got_now 0 c did (saw 0 c did refl) h; levels = t.1 }
+  growing level (GrowthCase.Stands c t) did saw h = tt
+  growing level (GrowthCase.TookTop rise y r t) did saw h = tt
+  growing level (GrowthCase.TopRefused rise k t) did saw h = subst (λ (z : Growth). growth_held level z more) (sym t) tt
+  growing level (GrowthCase.PutTop r k t) did saw h = subst (λ (z : Growth). growth_held level z more) (sym t) tt
+  growing level (GrowthCase.PutAnchor r k t) did saw h = subst (λ (z : Growth). growth_held level z more) (sym t) tt
+  growing level (GrowthCase.OpenedTop x k t) did saw h = subst (λ (z : Growth). growth_held level z more) (sym t) tt
+
+  posting : {level key : ℕ} {old new : PostStage} {what : Seen} → PostCase level key old what new → m.event.act ≡ event_of None (post_next_in old) what → ((x : ℕ) (c : Page) → m.event.act ≡ Get x → what ≡ seen.Words c → m.saw ≡ Some c) → post_held level key old marks → post_held level key new more
+  posting (PostCase.Began a t) did saw h = subst (λ (z : Approach). approach_held z more) (sym t) tt
+  posting (PostCase.NoLevel c t) did saw h = tt
+  posting (PostCase.Tallest c t) did saw h = tt
+  posting (PostCase.ToGrow c t) did saw h = tt
+  posting {level = level} {key = key} (PostCase.Came a what b t) did saw h = coming level key a b what t did
+  posting (PostCase.Listed x parent y l t) did saw h = tt
+  posting {level = level} {key = key} (PostCase.ToWalk x parent v l t) did saw h =
+      let here : GotAt level key more x (Inner parent) = record { got = got_now x (Inner parent) did (saw x (Inner parent) did refl) h; level_is = l.2; covers = l.1 } in
+      (t.1, subst (λ (z : ℕ × Page). GotAt level key more z.0 z.1) (λ i. (sym t.0 i, Inner (sym t.2 i))) here)
+  posting {level = level} (PostCase.Grew g what k t) did saw h = growing level (growth_case level g what _ t) did saw h
+  posting (PostCase.Grown g what a t) did saw h = subst (λ (z : Approach). approach_held z more) (sym t.1) tt
+  posting (PostCase.NoRoom g what last t) did saw h = tt
+  posting {level = level} {key = key} (PostCase.Walked v c u t) did saw (same, got) =
+      (t.1 ∙ same, subst (λ (z : ℕ × Page). GotAt level key more z.0 z.1) (λ i. (sym t.0 i, Inner (sym t.2 i))) (at_still (λ z l. (let e = sym did ∙ l in cc)) got))
+  posting {level = level} {key = key} (PostCase.Entered v c d t) did saw (same, got) =
+      entering level key v.at v.child (Inner v.parent) d (subst (λ (z : ℕ). EntersPair v.at (Inner v.parent) z v.child d) same t.2) (at_still (λ z l. (let e = sym did ∙ l in cc)) got)
+  posting (PostCase.Stale v c x t) did saw h = tt
+  posting (PostCase.Lost v c a t) did saw h = subst (λ (z : Approach). approach_held z more) (sym t.0) tt
+  posting {level = level} {key = key} (PostCase.Changed c what d t) did saw h = changing level key (change_case c what _ t)
+  posting (PostCase.Finished c what last t) did saw h = tt
+  posting (PostCase.Opened x r last t) did saw h = tt
+  posting (PostCase.Ended r last t) did saw h = tt
+
+-- A turn of a process of any kind.
+pub held_turn : (old new : Proc) (what : Seen) (marks : Trail) (m : Mark) → Takes old what new → m.event.act ≡ event_of (end_of_proc old) (next_of old) what → ((x : ℕ) (c : Page) → m.event.act ≡ Get x → what ≡ seen.Words c → m.saw ≡ Some c) → proc_held old marks → proc_held new (marks ++ m ∷ [])
+held_turn (Insert a) (Insert c) what marks m t did saw h = subst (λ (k : ℕ). insert_held k c.stage (marks ++ m ∷ [])) (sym t.0) (inserting marks m (insert_case a.key a.value a.stage what c.stage t.2) did saw h)
+held_turn (Post a) (Post c) what marks m t did saw h = subst (λ (z : ℕ × ℕ). post_held z.0 z.1 c.stage (marks ++ m ∷ [])) (λ i. (sym t.0 i, sym t.1 i)) (posting marks m (post_case a.level a.key a.stage what c.stage t.2) did saw h)
+held_turn old (Find c) what marks m t did saw h = tt
+held_turn old (Delete c) what marks m t did saw h = tt
+held_turn old (Part c) what marks m t did saw h = tt
+held_turn old (Compress c) what marks m t did saw h = tt
+held_turn old (Reclaim c) what marks m t did saw h = tt
+held_turn old (Lower c) what marks m t did saw h = tt
+held_turn old new what marks m t did saw h = absurd t
+
+-- One that is to begin has latched nothing.
+waiting_way : (a : Approach) → approach_next a ≡ act.Begin → (marks : Trail) → approach_held a marks
+waiting_way way.Start e marks = tt
+waiting_way (way.At x) e marks = tt
+waiting_way (way.Latching x) e marks = tt
+waiting_way (way.Latched x) e marks = absurd (let f : act.Get x ≡ act.Begin = e in cc)
+waiting_way (way.Leaving x to) e marks = tt
+
+waiting_change : (level key : ℕ) (c : Change) → change_next c ≡ act.Begin → (marks : Trail) → change_held level key c marks
+waiting_change level key (change.Putting x page) e marks = absurd (let f : act.Put x page ≡ act.Begin = e in cc)
+waiting_change level key (change.Taking full) e marks = absurd (let f : act.Take ≡ act.Begin = e in cc)
+waiting_change level key (change.PuttingNew p) e marks = tt
+waiting_change level key (change.PuttingOld p) e marks = tt
+waiting_change level key (change.OpeningNew x new separator) e marks = tt
+waiting_change level key (change.Opening x o) e marks = tt
+
+waiting_growth : (level : ℕ) (g : Growth) → growth_next g ≡ act.Begin → (marks : Trail) → growth_held level g marks
+waiting_growth level growth.Latched e marks = absurd (let f : act.Get 0 ≡ act.Begin = e in cc)
+waiting_growth level (growth.Taking rise) e marks = absurd (let f : act.Take ≡ act.Begin = e in cc)
+waiting_growth level growth.Latching e marks = tt
+waiting_growth level (growth.PuttingTop r) e marks = tt
+waiting_growth level (growth.PuttingAnchor r) e marks = tt
+waiting_growth level (growth.OpeningTop x) e marks = tt
+waiting_growth level growth.OpeningGrown e marks = tt
+waiting_growth level growth.OpeningRefused e marks = tt
+
+waiting_insert : (key : ℕ) (a : InsertStage) → insert_next_in a ≡ act.Begin → (marks : Trail) → insert_held key a marks
+waiting_insert key insert.New e marks = tt
+waiting_insert key (insert.Coming a) e marks = waiting_way a e marks
+waiting_insert key (insert.Present x there) e marks = tt
+waiting_insert key (insert.Changing c) e marks = waiting_change 0 key c e marks
+waiting_insert key (insert.Ending r) e marks = tt
+waiting_insert key (insert.Over r) e marks = tt
+
+waiting_post : (level key : ℕ) (a : PostStage) → post_next_in a ≡ act.Begin → (marks : Trail) → post_held level key a marks
+waiting_post level key post.New e marks = tt
+waiting_post level key (post.Coming a) e marks = waiting_way a e marks
+waiting_post level key (post.Growing g) e marks = waiting_growth level g e marks
+waiting_post level key (post.Walking w) e marks = absurd (let f : act.Get w.child ≡ act.Begin = e in cc)
+waiting_post level key (post.Changing c) e marks = waiting_change level key c e marks
+waiting_post level key (post.Staying x r) e marks = tt
+waiting_post level key (post.Ending r) e marks = tt
+waiting_post level key (post.Over r) e marks = tt
+
+pub waiting_held : (p : Proc) → next_of p ≡ act.Begin → (marks : Trail) → proc_held p marks
+waiting_held (Find p) e marks = tt
+waiting_held (Insert p) e marks = waiting_insert p.key p.stage e marks
+waiting_held (Delete p) e marks = tt
+waiting_held (Post p) e marks = waiting_post p.level p.key p.stage e marks
+waiting_held (Part p) e marks = tt
+waiting_held (Compress p) e marks = tt
+waiting_held (Reclaim p) e marks = tt
+waiting_held (Lower p) e marks = tt

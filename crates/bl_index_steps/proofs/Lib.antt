@@ -1,0 +1,11 @@
+pub mod Calls
+pub mod Got
+pub mod Held
+pub mod Standing
+pub mod Withins
+pub mod Looks
+pub mod Ends
+pub mod Quiet
+pub mod Asked
+pub mod Rooms
+pub mod Reserved

@@ -1,0 +1,136 @@
+-- What a hand was refused that found no room, from one event of its process to the next.
+use Rattle.std.proofs.Common.{ℕ, List, ◌≡◌, ◌≢◌, None, Some, inl, inr, refl, sym, ap, subst, ◌∙◌}
+use Rattle.atomic_table.specs.declared.shared.Seat.{Seat}
+use Rattle.bl_proc_base.specs.declared.acts.Action.TheVariants as act
+use Rattle.bl_proc_base.specs.declared.acts.Seen.{Seen}
+use Rattle.bl_proc_base.specs.declared.acts.Seen.TheVariants as seen
+use Rattle.bl_page.specs.declared.page.Page.{Page}
+use Rattle.bl_proc.specs.declared.kinds.Proc.{Proc}
+use Rattle.bl_proc.specs.Processes.{next_of, needs_of, Takes}
+use Rattle.bl_proc_unique.specs.Refusals.{IsRefused, PutsRefused}
+use Rattle.bl_proc_unique.proofs.RefusedTurns.{takes_refused, takes_puts}
+use Rattle.bl_proc_unique.proofs.RefusedNexts.{refused_opens, may_ask, may_ask_on}
+use Rattle.bl_store.specs.declared.view.View.{View}
+use Rattle.bl_layout.specs.declared.layout.Layout.{Layout}
+use Rattle.bl_store.specs.Hands.{known, IsWhyOf, WasRefused, IsSameRefusal}
+use Rattle.bl_index_rule.specs.declared.known.Mine.{Mine}
+use Rattle.bl_proc_base.specs.declared.changing.Outcome.{Outcome}
+use Rattle.bl_proc_base.specs.declared.changing.Outcome.TheVariants as outcome
+use Rattle.bl_proc.specs.declared.posting.PostReply.TheVariants as reply
+use Rattle.bl_proc.specs.declared.posting.Post.{Post}
+use Rattle.bl_proc.specs.declared.kinds.Proc.TheVariants as proc
+use Rattle.bl_proc.specs.declared.lowering.Lower.{Lower}
+use Rattle.bl_proc_compress.specs.declared.squeezing.Compress.{Compress}
+use Rattle.bl_proc.specs.declared.inserting.InsertReply.TheVariants as inserted
+use Rattle.bl_proc.specs.Inserts.{insert_reply}
+use Rattle.bl_proc.specs.Posts.{post_reply}
+use Rattle.bl_index_steps.specs.Refused.{HasRoom, IsFull}
+use Rattle.bl_index_steps.specs.Held.{own_marks, KeepsLatch, proc_held, AsksFor}
+use Rattle.bl_index_steps.specs.Rooms.{LacksPage, LacksPost, LacksAsked, TellsRoom}
+use Rattle.bl_index_steps.specs.Runs.{Moves}
+use Rattle.bl_index_steps.proofs.Held.{goes_keeps, keeps_held}
+use Rattle.bl_index_steps.proofs.Asked.{asks_on, asks_keep, asks_told}
+
+abbrev H : Type 0
+H = Seat (Unit {0}) (View Mine)
+
+-- the hand has not reserved since, so what it was refused it still is
+pub refused_on : (h h' : H) (pages frames : ℕ) → IsSameRefusal h h' → WasRefused h pages frames → WasRefused h' pages frames
+refused_on h h' pages frames same was = (same.1.0 ∙ was.0, (was.1.0, subst (λ (v : Layout × List ℕ × List ℕ). IsWhyOf v.0 v.1 v.2 pages frames was.1.0) (λ i. (sym same.0 i, sym same.1.1 i, sym same.1.2 i)) was.1.1))
+
+pub tells_done : (h h' : H) (p : Proc) → ((x : ℕ) → next_of p ≡ act.Open x → IsSameRefusal h h') → TellsRoom h h' p seen.Done
+tells_done h h' p same = ((λ e. absurd (let f : seen.Done ≡ seen.Refused = e in cc)), same)
+
+pub tells_missed : (h h' : H) (p : Proc) (x : ℕ) → next_of p ≡ act.Latch x → TellsRoom h h' p seen.Missed
+tells_missed h h' p x next = ((λ e. absurd (let f : seen.Missed ≡ seen.Refused = e in cc)), λ y opens. absurd (let f : act.Latch x ≡ act.Open y = sym next ∙ opens in cc))
+
+pub tells_words : (h h' : H) (p : Proc) (x : ℕ) (c : Page) → next_of p ≡ act.Get x → TellsRoom h h' p (seen.Words c)
+tells_words h h' p x c next = ((λ e. absurd (let f : seen.Words c ≡ seen.Refused = e in cc)), λ y opens. absurd (let f : act.Get x ≡ act.Open y = sym next ∙ opens in cc))
+
+pub tells_took : (h h' : H) (p : Proc) (y : ℕ) → next_of p ≡ act.Take → TellsRoom h h' p (seen.Took y)
+tells_took h h' p y next = ((λ e. absurd (let f : seen.Took y ≡ seen.Refused = e in cc)), λ z opens. absurd (let f : act.Take ≡ act.Open z = sym next ∙ opens in cc))
+
+pub tells_refused : (h h' : H) (p : Proc) (ask : ℕ × ℕ) → ((x : ℕ) → next_of p ≢ act.Open x) → needs_of p ≡ Some ask → WasRefused h' ask.0 ask.1 → TellsRoom h h' p seen.Refused
+tells_refused h h' p ask not needs was = ((λ e. (ask, needs, was)), λ x opens. absurd (not x opens))
+
+pub latch_opens_not : (p : Proc) (x : ℕ) → next_of p ≡ act.Latch x → (y : ℕ) → next_of p ≢ act.Open y
+latch_opens_not p x next y opens = (let f : act.Latch x ≡ act.Open y = sym next ∙ opens in cc)
+
+pub put_opens_not : (p : Proc) (x : ℕ) (c : Page) → next_of p ≡ act.Put x c → (y : ℕ) → next_of p ≢ act.Open y
+put_opens_not p x c next y opens = (let f : act.Put x c ≡ act.Open y = sym next ∙ opens in cc)
+
+pub take_opens_not : (p : Proc) → next_of p ≡ act.Take → (y : ℕ) → next_of p ≢ act.Open y
+take_opens_not p next y opens = (let f : act.Take ≡ act.Open y = sym next ∙ opens in cc)
+
+pub retire_opens_not : (p : Proc) (x : ℕ) → next_of p ≡ act.Retire x → (y : ℕ) → next_of p ≢ act.Open y
+retire_opens_not p x next y opens = (let f : act.Retire x ≡ act.Open y = sym next ∙ opens in cc)
+
+-- A process that goes on without room was refused what it had asked for.
+abbrev pub KeepsRoom : H → Proc → Type 0
+KeepsRoom h p = (IsRefused p → LacksAsked h p) × (PutsRefused p → ⊥)
+
+pub keeps_room : (h h' : H) (p : Proc) (what : Seen) (q : Proc) → (known h).state ≡ p → proc_held p (own_marks (known h)) → Moves (known h) (known h') → Takes p what q → TellsRoom h h' p what → next_of p ≢ act.End → KeepsRoom h p → KeepsRoom h' q
+keeps_room h h' p what q is held moves takes tells going keeps = (
+  (λ r. elim (takes_refused p what q takes r) [
+    | inl was ↦ elim (refused_opens p was keeps.1) [
+      | inl opens ↦
+          let lacks = keeps.0 was in
+          let latch = goes_keeps moves.0 (known h) (known h') moves.1 (λ x l. (let f : act.Open opens.0 ≡ act.Latch x = sym opens.1 ∙ (ap next_of (sym is) ∙ l) in cc)) in
+          (lacks.0, may_ask_on p what q lacks.0 takes lacks.1, refused_on h h' _ _ (tells.1 opens.0 opens.1) lacks.2, asks_on p what q lacks.0 (own_marks (known h')) takes (asks_keep p lacks.0 (known h) (known h') latch lacks.3))
+      | inr end ↦ absurd (going end)
+    ]
+    | inr told ↦
+        let asked = tells.0 told in
+        (asked.0, may_ask_on p what q asked.0 takes (may_ask p asked.0 asked.1), asked.2, asks_on p what q asked.0 (own_marks (known h')) takes (asks_told p asked.0 (known h) (known h') moves.0 is asked.1 held moves.1))
+  ]),
+  λ r. keeps.1 (takes_puts p what q takes r),
+)
+
+-- nothing has happened
+pub stays_room : (h h' : H) (p q : Proc) → q ≡ p → IsSameRefusal h h' → known h' ≡ known h → KeepsRoom h p → KeepsRoom h' q
+stays_room h h' p q is same still keeps = subst (KeepsRoom h') (sym is) ((λ r. let lacks = keeps.0 r in (lacks.0, lacks.1, refused_on h h' _ _ same lacks.2, subst (λ (d : Mine). AsksFor p lacks.0 (own_marks d)) (sym still) lacks.3)), keeps.1)
+
+-- and it ends so
+pub ends_room : (h h' : H) (p q : Proc) → Takes p seen.Done q → IsSameRefusal h h' → KeepsLatch (known h) (known h') → KeepsRoom h p → IsRefused q → LacksAsked h' q
+ends_room h h' p q takes same latch keeps r = elim (takes_refused p seen.Done q takes r) [
+  | inl was ↦ let lacks = keeps.0 was in (lacks.0, may_ask_on p seen.Done q lacks.0 takes lacks.1, refused_on h h' _ _ same lacks.2, asks_on p seen.Done q lacks.0 (own_marks (known h')) takes (asks_keep p lacks.0 (known h) (known h') latch lacks.3))
+  | inr told ↦ absurd (let f : seen.Done ≡ seen.Refused = told in cc)
+]
+
+-- By what a hand lacks
+pub lacks_on : (level key : ℕ) (h h' : H) → IsSameRefusal h h' → KeepsLatch (known h) (known h') → LacksPage level key h → LacksPage level key h'
+lacks_on level key h h' same latch lacks = elim lacks [
+  | inl one ↦ inl (refused_on h h' 0 1 same one.0, keeps_held level key HasRoom (known h) (known h') latch one.1)
+  | inr two ↦ inr (refused_on h h' 1 2 same two.0, keeps_held level key IsFull (known h) (known h') latch two.1)
+]
+
+pub lacks_asked : (h : H) (p : Post) → LacksAsked h (proc.Post p) → LacksPost p.level p.key h
+lacks_asked h p lacks = elim lacks.3 [
+  | inl page ↦ elim page [
+    | inl one ↦ inl (inl (subst (λ (z : ℕ × ℕ). WasRefused h z.0 z.1) one.0 lacks.2, one.1))
+    | inr two ↦ inl (inr (subst (λ (z : ℕ × ℕ). WasRefused h z.0 z.1) two.0 lacks.2, two.1))
+  ]
+  | inr top ↦ inr (subst (λ (z : ℕ × ℕ). WasRefused h z.0 z.1) top.0 lacks.2, top.1)
+]
+
+pub lacks_three : (h : H) (p : Compress) → LacksAsked h (proc.Compress p) → WasRefused h 0 3
+lacks_three h p lacks = subst (λ (z : ℕ × ℕ). WasRefused h z.0 z.1) lacks.1 lacks.2
+
+pub lacks_two : (h : H) (p : Lower) → LacksAsked h (proc.Lower p) → WasRefused h 0 2
+lacks_two h p lacks = subst (λ (z : ℕ × ℕ). WasRefused h z.0 z.1) lacks.1 lacks.2
+
+pub reply_refused : (o : Outcome) → post_reply o ≡ reply.NoRoom → o ≡ outcome.Refused
+reply_refused outcome.Changed e = absurd (let f : reply.Done None ≡ reply.NoRoom = e in cc)
+reply_refused (outcome.Parted k) e = absurd (let f : reply.Done (Some k) ≡ reply.NoRoom = e in cc)
+reply_refused outcome.Refused e = refl
+
+pub words_not_refused : (c : Page) → seen.Words c ≡ seen.Refused → ⊥
+words_not_refused c e = (let f : seen.Words c ≡ seen.Refused = e in cc)
+
+pub done_not_refused : seen.Done ≡ seen.Refused → ⊥
+done_not_refused e = (let f : seen.Done ≡ seen.Refused = e in cc)
+
+pub insert_refused : (o : Outcome) → insert_reply o ≡ inserted.NoRoom → o ≡ outcome.Refused
+insert_refused outcome.Changed e = absurd (let f : inserted.Inserted None ≡ inserted.NoRoom = e in cc)
+insert_refused (outcome.Parted k) e = absurd (let f : inserted.Inserted (Some k) ≡ inserted.NoRoom = e in cc)
+insert_refused outcome.Refused e = refl

@@ -1,0 +1,146 @@
+-- A process of which a pass has no value: it knows where the process stands.
+use Rattle.std.specs.Prelude.{◌≡◌, ◌<◌, ℕ, false, Option, Some, None, List}
+use Rattle.atomic_table.specs.declared.shared.Seat.{Seat}
+use Rattle.bl_model.specs.Rows.{map_of}
+use Rattle.bl_page.specs.declared.page.Page.{Page}
+use Rattle.bl_page.specs.declared.page.Page.TheVariants.{Inner}
+use Rattle.bl_page.specs.Pages.{Covers}
+use Rattle.bl_claims.specs.Pages.{IsTreePage}
+use Rattle.bl_rearrange.specs.Rearranged.{pairs_of, MayHold}
+use Rattle.bl_page.specs.Words.{words_of}
+use Rattle.bl_layout.specs.declared.layout.Layout.{Layout}
+use Rattle.bl_model.specs.declared.operation.Reply.{Reply}
+use Rattle.bl_store.specs.declared.view.View.{View}
+use Rattle.bl_store.specs.declared.store.Glance.{Glance}
+use Rattle.bl_store.specs.Hands.{known, read_words, IsIdle, IsRunning, HasNoStock, ReadsFrom}
+use Rattle.bl_proc_base.specs.declared.acts.Seen.TheVariants as seen
+use Rattle.bl_proc_base.specs.declared.answers.Answer.TheVariants.{Op}
+use Rattle.bl_proc_base.specs.declared.answers.Answer.TheVariants as answer
+use Rattle.bl_proc_base.specs.declared.answers.Hint.{Hint}
+use Rattle.bl_proc_base.specs.declared.answers.Posted.{Posted}
+use Rattle.bl_proc_base.specs.declared.approaching.Approach.{Approach}
+use Rattle.bl_proc_base.specs.declared.approaching.Approach.TheVariants.{Start, At, Latching, Latched, Leaving}
+use Rattle.bl_proc_base.specs.declared.changing.Change.{Change}
+use Rattle.bl_proc_base.specs.declared.onwards.Step.TheVariants.{Here}
+use Rattle.bl_proc_base.specs.Changes.{EntersPair}
+use Rattle.bl_proc_base.specs.Onwards.{Leads}
+use Rattle.bl_proc.specs.declared.inserting.Insert.{Insert}
+use Rattle.bl_proc.specs.declared.inserting.InsertReply.{InsertReply}
+use Rattle.bl_proc.specs.declared.deleting.DeleteReply.{DeleteReply}
+use Rattle.bl_proc.specs.Inserts.{inserted_answer}
+use Rattle.bl_proc.specs.Deletes.{deleted_answer}
+use Rattle.bl_proc.specs.declared.deleting.Delete.{Delete}
+use Rattle.bl_proc.specs.declared.posting.Post.{Post}
+use Rattle.bl_proc.specs.declared.posting.PostStage.{PostStage}
+use Rattle.bl_proc.specs.declared.posting.PostStage.TheVariants as post
+use Rattle.bl_proc.specs.declared.posting.PostReply.TheVariants as reply
+use Rattle.bl_proc.specs.declared.walking.Walk.{Walk}
+use Rattle.bl_proc.specs.Levels.{IsBelowTop}
+use Rattle.bl_proc.specs.declared.kinds.Proc.{Proc}
+use Rattle.bl_proc.specs.declared.kinds.Proc.TheVariants as proc
+use Rattle.bl_proc.specs.Processes.{answer_of, Takes}
+use Rattle.bl_index_rule.specs.declared.known.Mine.{Mine}
+use Rattle.bl_index_write.specs.declared.coming.Arrived.{Arrived}
+use Rattle.bl_index_write.specs.declared.coming.Arrived.TheVariants.{There, Away}
+use Rattle.bl_index_write.specs.declared.errands.Posting.{Posting}
+use Rattle.bl_index_write.specs.declared.posting.Walked.{Walked}
+use Rattle.bl_index_write.specs.declared.posting.Walked.TheVariants.{On, Found, Stale, Lost}
+use Rattle.bl_index_steps.specs.Runs.{IsOn, IsSince, IsWithin, IsDone}
+use Rattle.bl_index_steps.specs.Rooms.{LacksPost}
+use Rattle.bl_proc_base.specs.declared.answers.Posted.TheVariants as posted
+use Rattle.bl_proc_base.specs.declared.answers.Answer.{Answer}
+
+-- a writer on its way that holds no page
+abbrev pub HoldsNone : Approach → Type 0
+HoldsNone Start = Unit {0}
+HoldsNone (At x) = Unit {0}
+HoldsNone (Latching x) = Unit {0}
+HoldsNone (Latched x) = ⊥
+HoldsNone (Leaving x to) = ⊥
+
+-- The writer that held a page of its level, to cover that key, has got it: the page has these words, and covers the key.
+pub record IsThere (level key : ℕ) (latched : Proc) (words : List ℕ) (d : Mine) : Type 0 where
+  pub page : Page
+  pub is : words ≡ words_of page
+  pub leads : Leads page key level Here
+  pub takes : Takes latched (seen.Words page) d.state
+
+-- It is there; or it is to open the page, and goes on as that says.
+abbrev pub HasArrived : ℕ → ℕ → (Approach → Proc) → ℕ → Layout → Seat (Unit {0}) (View Mine) → Arrived → Type 0
+HasArrived level key at x l h (There glance) = ReadsFrom h glance × IsThere level key (at (Latched x)) (read_words h) (known h) × IsOn l (known h) (known h).state
+HasArrived level key at x l h (Away to) = IsOn l (known h) (at (Leaving x to))
+
+-- It is at the page of its level that covers its key; or its way begins again.
+abbrev pub HasCome : ℕ → ℕ → (Approach → Proc) → Layout → Seat (Unit {0}) (View Mine) → Option (ℕ × Glance) → Type 0
+HasCome level key at l h (Some t) = ReadsFrom h t.1 × IsThere level key (at (Latched t.0)) (read_words h) (known h) × IsOn l (known h) (known h).state
+HasCome level key at l h None = IsOn l (known h) (at Start)
+
+-- The insertion that began as first has ended, and has answered that.
+pub record HasInserted (pass : ℕ) (old e : Mine) (first : Proc) (reply : Reply) (hint : Option Hint) : Type 0 where
+  pub last : Insert
+  pub done : IsDone pass old e first (proc.Insert last)
+  pub answer : answer_of (proc.Insert last) ≡ Some (Op reply hint)
+
+-- It has ended with that reply, which says what it answers.
+abbrev pub HasInsertedBy : ℕ → Mine → Mine → Proc → InsertReply → Type 0
+HasInsertedBy pass old e first r = (reply : Reply) (hint : Option Hint) → inserted_answer r ≡ Op reply hint → HasInserted pass old e first reply hint
+
+-- The same of a deletion.
+pub record HasDeleted (pass : ℕ) (old e : Mine) (first : Proc) (reply : Reply) (hint : Option Hint) : Type 0 where
+  pub last : Delete
+  pub done : IsDone pass old e first (proc.Delete last)
+  pub answer : answer_of (proc.Delete last) ≡ Some (Op reply hint)
+
+abbrev pub HasDeletedBy : ℕ → Mine → Mine → Proc → DeleteReply → Type 0
+HasDeletedBy pass old e first r = (reply : Reply) (hint : Option Hint) → deleted_answer r ≡ Op reply hint → HasDeleted pass old e first reply hint
+
+-- The same of a post.
+pub record HasPosted (pass : ℕ) (old e : Mine) (first : Proc) (what : Posted) (hint : Option Hint) : Type 0 where
+  pub last : Post
+  pub done : IsDone pass old e first (proc.Post last)
+  pub answer : answer_of (proc.Post last) ≡ Some (answer.Post what hint)
+
+-- a post that has come so far
+abbrev pub posting : (j : Posting) (stage : PostStage) → IsBelowTop j.level stage → Proc
+posting j stage below = proc.Post (record { level = j.level; key = j.key; stage = stage; least = j.least; most = j.most; below = below })
+
+-- Page x, which has these words and has been got, may get that pair more, and is to.
+pub record IsToEnter (x key word : ℕ) (words : List ℕ) (change : Change) : Type 0 where
+  pub page : Page
+  pub tree : IsTreePage page
+  pub is : words ≡ words_of page
+  pub covers : Covers page key
+  pub absent : map_of (pairs_of page) key ≡ None
+  pub fits : MayHold page word
+  pub enters : EntersPair x page key word change
+
+-- It has got its parent x, which has these words, and is to get page y on its way to the child that covers its key.
+pub record IsWalking (j : Posting) (x : ℕ) (words : List ℕ) (y : ℕ) (state : Proc) : Type 0 where
+  pub walk : Walk
+  pub below : j.level < 12
+  pub is : state ≡ posting j (post.Walking walk) below
+  pub at : walk.at ≡ x
+  pub key : walk.key ≡ j.key
+  pub parent : words ≡ words_of (Inner walk.parent)
+  pub child : walk.child ≡ y
+
+-- It is to get the next page; or it has got the child, and its parent is to list it, or not; or it is to open its parent, and begins again.
+abbrev pub HasWalked : Layout → Posting → ℕ → List ℕ → ℕ → Mine → Walked → Type 0
+HasWalked l j x words y d (On z) = IsOn l d d.state × IsWalking j x words z d.state
+HasWalked l j x words y d Found = (below : j.level < 12) × (c : Change) × IsToEnter x j.key y words c × IsOn l d (posting j (post.Changing c) below)
+HasWalked l j x words y d Stale = IsOn l d (posting j (post.Staying x reply.Stale) tt)
+HasWalked l j x words y d Lost = IsOn l d (posting j (post.Coming (Leaving x None)) tt)
+
+-- It has ended, and has answered that; or its way begins again.
+abbrev pub IsPostOver : Layout → Posting → Mine → Seat (Unit {0}) (View Mine) → Option (Posted × Option Hint) → Type 0
+IsPostOver l j d h (Some t) = (IsIdle h × HasNoStock h) × IsWithin h × ((known h).runs ≡ false) × (t.0 ≡ posted.NoRoom → LacksPost j.level j.key h) × ((pass : ℕ) (old : Mine) → IsSince pass old d → HasPosted pass old (known h) (posting j post.New tt) t.0 t.1)
+IsPostOver l j d h None = (IsRunning h × HasNoStock h) × IsOn l (known h) (posting j (post.Coming Start) tt) × IsSameProcess d (known h)
+
+-- the answer of a post
+abbrev pub IsPostAnswer : Option Answer → Type 0
+IsPostAnswer None = ⊥
+IsPostAnswer (Some (answer.Op reply hint)) = ⊥
+IsPostAnswer (Some (answer.Post what hint)) = Unit {0}
+IsPostAnswer (Some (answer.Reclaim what)) = ⊥
+IsPostAnswer (Some (answer.Compress what hint)) = ⊥
+IsPostAnswer (Some (answer.Lower what)) = ⊥

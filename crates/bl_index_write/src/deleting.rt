@@ -1,0 +1,209 @@
+//! Deletions, by the words of pages: a leaf gets its new words from those that were read.
+
+ghost use Rattle.std.specs.Prelude.{◌≡◌, ℕ, None, Some, false};
+ghost use Rattle.bl_model.specs.declared.operation.KeyReply.TheVariants as replies;
+ghost use Rattle.bl_page.specs.declared.page.Page.{Page};
+ghost use Rattle.bl_page.specs.Words.{words_of};
+ghost use Rattle.bl_model.specs.Rows.{map_of};
+ghost use Rattle.bl_claims.specs.Pages.{IsTreePage};
+ghost use Rattle.bl_rearrange.specs.Entered.{dropped};
+ghost use Rattle.bl_rearrange.specs.Rearranged.{pairs_of};
+ghost use Rattle.bl_proc_base.specs.declared.answers.Answer.TheVariants as answers;
+ghost use Rattle.bl_proc_base.specs.declared.approaching.Approach.TheVariants as approach;
+ghost use Rattle.bl_proc_base.specs.declared.changing.Change.TheVariants as change;
+ghost use Rattle.bl_proc_base.specs.Respelled.{words_by};
+ghost use Rattle.bl_proc_base.specs.Thin.{thin_low, thin_hint};
+ghost use Rattle.bl_proc.specs.Deletes.{deleted_answer};
+ghost use Rattle.bl_proc.specs.declared.deleting.DeleteReply.TheVariants as removal;
+ghost use Rattle.bl_proc.specs.declared.deleting.DeleteStage.TheVariants as delete;
+ghost use Rattle.bl_proc.specs.declared.kinds.Proc.TheVariants as proc;
+ghost use Rattle.bl_store.specs.Hands.{known, read_words, IsIdle, IsRunning, IsSameHand, HasNoStock, ReadsFrom, WasRefused};
+ghost use Rattle.bl_store.specs.Owners.{IsHandOf};
+ghost use Rattle.bl_index_rule.specs.declared.known.Mine.{Mine as Knows};
+ghost use Rattle.bl_index_steps.specs.Runs.{IsOn, IsSince, IsWithin};
+ghost use Rattle.bl_index_write.specs.Events.{IsThere, HasDeleted, HasDeletedBy};
+ghost use Rattle.bl_model.specs.Replies.{reply_of};
+
+use crate::coming::{come, depart};
+use crate::errands::Deleting;
+use bl_index_rule::Mine;
+use bl_index_steps::{Shown, Tree};
+use bl_model::KeyReply;
+use bl_proc::{DeleteReply, Hint, Removed};
+use bl_proc_base::{Level, hint_of_thin, row_in, thin_in, words_without};
+use bl_store::{Glance, Hand};
+use std::sync::Wait;
+
+/// The hint for the parent of a leaf that is thin and has that low.
+fn hint_of(thin: Option<u64>) -> Option<Hint>
+    ensures { result ≡ thin_hint 1 thin }
+{
+    match thin {
+        Some(low) => Some(hint_of_thin(Level::new(1), low)),
+        None => None,
+    }
+}
+
+/// What a deletion answers, with its hint.
+#[inline(always)]
+fn answer_of(reply: DeleteReply) -> (KeyReply, Option<Hint>)
+    ensures answer { deleted_answer reply ≡ answers.Op (reply_of result.0) result.1 }
+    ensures no_room { result.0 ≡ replies.NoRoom → reply ≡ removal.NoRoom }
+{
+    match reply {
+        DeleteReply::Deleted(removed) => (KeyReply::Deleted(removed.value), hint_of(removed.thin)),
+        DeleteReply::Absent => (KeyReply::Absent, None),
+        DeleteReply::NoRoom => (KeyReply::NoRoom, None),
+    }
+}
+
+/// The leaf that it holds does not have the key.
+fn keep_absent(tree: &Tree, hand: &mut Hand<Mine>, at: u32, errand: Deleting) -> DeleteReply
+    requires own { IsHandOf tree.now.store hand.old }
+    requires running { IsRunning hand.old.seat × HasNoStock hand.old.seat }
+    requires process { IsOn tree.now.store.layout (known hand.old.seat) (proc.Delete (record { key = errand.key; stage = delete.Absent at })) }
+    ensures same { IsSameHand hand.old.seat hand.new.seat }
+    ensures idle { IsIdle hand.new.seat × HasNoStock hand.new.seat }
+    ensures within { IsWithin hand.new.seat }
+    ensures rests { (known hand.new.seat).runs ≡ false }
+    ensures deleted { (pass : ℕ) (old : Knows) → IsSince pass old (known hand.old.seat) → HasDeletedBy pass old (known hand.new.seat) (proc.Delete (record { key = errand.key; stage = delete.New })) result }
+    ensures reply { result ≡ removal.Absent }
+{
+    let _ = errand;
+    tree.conclude(hand, at);
+    DeleteReply::Absent
+}
+
+/// The key leaves the leaf that it holds, which has it with that value.
+#[inline(always)]
+fn remove(
+    tree: &Tree,
+    hand: &mut Hand<Mine>,
+    at: u32,
+    errand: Deleting,
+    value: u64,
+    glance: Glance,
+) -> DeleteReply
+    requires own { IsHandOf tree.now.store hand.old }
+    requires running { IsRunning hand.old.seat × HasNoStock hand.old.seat }
+    requires reads { ReadsFrom hand.old.seat glance }
+    requires page { (c : Page) × (p : Page) × IsTreePage c × IsTreePage p × (read_words hand.old.seat ≡ words_of c) × (map_of (pairs_of c) errand.key ≡ Some value) × (words_of p ≡ words_by c (dropped errand.key (pairs_of c))) × IsOn tree.now.store.layout (known hand.old.seat) (proc.Delete (record { key = errand.key; stage = delete.Changing (record { value = value; thin = thin_low p }) (change.Putting at p) })) }
+    ensures same { IsSameHand hand.old.seat hand.new.seat }
+    ensures idle { IsIdle hand.new.seat × HasNoStock hand.new.seat }
+    ensures within { IsWithin hand.new.seat }
+    ensures rests { (known hand.new.seat).runs ≡ false }
+    ensures deleted { (pass : ℕ) (old : Knows) → IsSince pass old (known hand.old.seat) → HasDeletedBy pass old (known hand.new.seat) (proc.Delete (record { key = errand.key; stage = delete.New })) result }
+    ensures no_room { result ≡ removal.NoRoom → WasRefused hand.new.seat 0 1 }
+{
+    let shown = Shown {
+        store: &tree.store,
+        glance,
+    };
+    let mut words = [0; 32];
+    words_without(&shown, hand, errand.key, &mut words);
+    let thin = thin_in(&words);
+    let changed = tree.replace(hand, at, &words);
+    tree.conclude(hand, at);
+    if changed {
+        DeleteReply::Deleted(Removed { value, thin })
+    } else {
+        DeleteReply::NoRoom
+    }
+}
+
+/// At the leaf that it holds, which covers the key.
+#[inline(always)]
+fn delete_there(
+    tree: &Tree,
+    hand: &mut Hand<Mine>,
+    at: u32,
+    errand: Deleting,
+    glance: Glance,
+) -> DeleteReply
+    requires own { IsHandOf tree.now.store hand.old }
+    requires running { IsRunning hand.old.seat × HasNoStock hand.old.seat }
+    requires reads { ReadsFrom hand.old.seat glance }
+    requires process { IsOn tree.now.store.layout (known hand.old.seat) (known hand.old.seat).state }
+    requires there { IsThere 0 errand.key (proc.Delete (record { key = errand.key; stage = delete.Coming (approach.Latched at) })) (read_words hand.old.seat) (known hand.old.seat) }
+    ensures same { IsSameHand hand.old.seat hand.new.seat }
+    ensures idle { IsIdle hand.new.seat × HasNoStock hand.new.seat }
+    ensures within { IsWithin hand.new.seat }
+    ensures rests { (known hand.new.seat).runs ≡ false }
+    ensures deleted { (pass : ℕ) (old : Knows) → IsSince pass old (known hand.old.seat) → HasDeletedBy pass old (known hand.new.seat) (proc.Delete (record { key = errand.key; stage = delete.New })) result }
+    ensures no_room { result ≡ removal.NoRoom → WasRefused hand.new.seat 0 1 }
+{
+    let shown = Shown {
+        store: &tree.store,
+        glance,
+    };
+    match row_in(&shown, hand, &mut 0, errand.key) {
+        Some(value) => remove(tree, hand, at, errand, value, glance),
+        None => keep_absent(tree, hand, at, errand),
+    }
+}
+
+/// A deletion begins, and comes to its leaf, which it holds then and got last.
+#[inline(always)]
+pub fn begin_deletion<R: Wait>(
+    tree: &Tree,
+    rt: &R,
+    hand: &mut Hand<Mine>,
+    key: u64,
+) -> (u32, Glance)
+    requires own { IsHandOf tree.now.store hand.old }
+    requires idle { IsIdle hand.old.seat × HasNoStock hand.old.seat }
+    ensures same { IsSameHand hand.old.seat hand.new.seat }
+    ensures running { IsRunning hand.new.seat × HasNoStock hand.new.seat }
+    ensures reads { ReadsFrom hand.new.seat result.1 }
+    ensures process { IsOn tree.now.store.layout (known hand.new.seat) (known hand.new.seat).state }
+    ensures there { IsThere 0 key (proc.Delete (record { key = key; stage = delete.Coming (approach.Latched result.0) })) (read_words hand.new.seat) (known hand.new.seat) }
+    ensures since { IsSince hand.old.number (known hand.old.seat) (known hand.new.seat) }
+{
+    let errand = Deleting { key };
+    depart(tree, hand, &errand);
+    come(tree, rt, hand, &errand)
+}
+
+/// A deletion that holds its leaf goes on to its end.
+#[inline(always)]
+pub fn end_deletion(
+    tree: &Tree,
+    hand: &mut Hand<Mine>,
+    at: u32,
+    key: u64,
+    glance: Glance,
+) -> (KeyReply, Option<Hint>)
+    requires own { IsHandOf tree.now.store hand.old }
+    requires running { IsRunning hand.old.seat × HasNoStock hand.old.seat }
+    requires reads { ReadsFrom hand.old.seat glance }
+    requires process { IsOn tree.now.store.layout (known hand.old.seat) (known hand.old.seat).state }
+    requires there { IsThere 0 key (proc.Delete (record { key = key; stage = delete.Coming (approach.Latched at) })) (read_words hand.old.seat) (known hand.old.seat) }
+    ensures same { IsSameHand hand.old.seat hand.new.seat }
+    ensures idle { IsIdle hand.new.seat × HasNoStock hand.new.seat }
+    ensures within { IsWithin hand.new.seat }
+    ensures rests { (known hand.new.seat).runs ≡ false }
+    ensures deleted { (pass : ℕ) (old : Knows) → IsSince pass old (known hand.old.seat) → HasDeleted pass old (known hand.new.seat) (proc.Delete (record { key = key; stage = delete.New })) (reply_of result.0) result.1 }
+    ensures no_room { result.0 ≡ replies.NoRoom → WasRefused hand.new.seat 0 1 }
+{
+    answer_of(delete_there(tree, hand, at, Deleting { key }, glance))
+}
+
+/// Carries a deletion out, from its begin to its end.
+pub fn delete_key<R: Wait>(
+    tree: &Tree,
+    rt: &R,
+    hand: &mut Hand<Mine>,
+    key: u64,
+) -> (KeyReply, Option<Hint>)
+    requires own { IsHandOf tree.now.store hand.old }
+    requires idle { IsIdle hand.old.seat × HasNoStock hand.old.seat }
+    ensures same { IsSameHand hand.old.seat hand.new.seat }
+    ensures idle { IsIdle hand.new.seat × HasNoStock hand.new.seat }
+    ensures within { IsWithin hand.new.seat }
+    ensures rests { (known hand.new.seat).runs ≡ false }
+    ensures deleted { HasDeleted hand.old.number (known hand.old.seat) (known hand.new.seat) (proc.Delete (record { key = key; stage = delete.New })) (reply_of result.0) result.1 }
+    ensures no_room { result.0 ≡ replies.NoRoom → WasRefused hand.new.seat 0 1 }
+{
+    let (at, glance) = begin_deletion(tree, rt, hand, key);
+    end_deletion(tree, hand, at, key, glance)
+}

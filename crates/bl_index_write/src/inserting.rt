@@ -1,0 +1,218 @@
+//! Insertions, by the words of pages. A leaf that has room gets its new words from those that were read.
+
+ghost use Rattle.std.specs.Prelude.{◌≡◌, ℕ, ◌<◌, None, Some, false};
+ghost use Rattle.bl_model.specs.declared.operation.KeyReply.TheVariants as replies;
+ghost use Rattle.bl_page.specs.declared.page.Page.{Page};
+ghost use Rattle.bl_page.specs.Words.{words_of};
+ghost use Rattle.bl_proc_base.specs.declared.answers.Answer.TheVariants as answers;
+ghost use Rattle.bl_proc_base.specs.declared.approaching.Approach.TheVariants as approach;
+ghost use Rattle.bl_proc_base.specs.declared.changing.Change.TheVariants as change;
+ghost use Rattle.bl_proc_base.specs.declared.changing.Full.{Full};
+ghost use Rattle.bl_proc.specs.declared.inserting.InsertReply.TheVariants as inserted;
+ghost use Rattle.bl_proc.specs.declared.inserting.InsertStage.TheVariants as insert;
+ghost use Rattle.bl_proc.specs.Inserts.{insert_reply, inserted_answer};
+ghost use Rattle.bl_proc.specs.declared.kinds.Proc.TheVariants as proc;
+ghost use Rattle.bl_store.specs.Drafts.{IsSpread};
+ghost use Rattle.bl_store.specs.Hands.{known, read_words, IsIdle, IsRunning, IsSameHand, HasNoStock, ReadsFrom};
+ghost use Rattle.bl_store.specs.Owners.{IsHandOf};
+ghost use Rattle.bl_index_rule.specs.declared.known.Mine.{Mine as Knows};
+ghost use Rattle.bl_index_steps.specs.Runs.{IsOn, IsSince, IsWithin};
+ghost use Rattle.bl_index_write.specs.Events.{IsThere, HasInserted, HasInsertedBy};
+ghost use Rattle.bl_index_steps.specs.Rooms.{LacksPage};
+ghost use Rattle.bl_model.specs.Replies.{reply_of};
+
+use crate::coming::{come, depart};
+use crate::errands::Inserting;
+use crate::parting::part_full;
+use crate::placing::listed_at;
+use bl_index_rule::Mine;
+use bl_index_steps::{Shown, Tree};
+use bl_model::KeyReply;
+use bl_page::{LEVEL_UNIT, place_in, word, words_from};
+use bl_proc::{Hint, InsertReply};
+use bl_proc_base::{Level, Outcome};
+use bl_store::{Glance, Hand, Spread};
+use std::sync::Wait;
+
+/// The reply of an insertion, by what became of its leaf.
+fn inserted_by(outcome: Outcome) -> InsertReply
+    ensures { result ≡ insert_reply outcome }
+{
+    match outcome {
+        Outcome::Changed => InsertReply::Inserted(None),
+        Outcome::Parted(separator) => InsertReply::Inserted(Some(separator)),
+        Outcome::Refused => InsertReply::NoRoom,
+    }
+}
+
+/// What an insertion answers, with its hint.
+#[inline(always)]
+fn answer_of(reply: InsertReply) -> (KeyReply, Option<Hint>)
+    ensures answer { inserted_answer reply ≡ answers.Op (reply_of result.0) result.1 }
+    ensures no_room { result.0 ≡ replies.NoRoom → reply ≡ inserted.NoRoom }
+{
+    match reply {
+        InsertReply::Inserted(None) => (KeyReply::Inserted, None),
+        InsertReply::Inserted(Some(separator)) => {
+            let hint = Hint::Post {
+                level: Level::new(1),
+                key: separator,
+            };
+            (KeyReply::Inserted, Some(hint))
+        }
+        InsertReply::Present(value) => (KeyReply::Present(value), None),
+        InsertReply::NoRoom => (KeyReply::NoRoom, None),
+    }
+}
+
+/// The leaf that it holds has the key, and stays as it is.
+fn keep_present(
+    tree: &Tree,
+    hand: &mut Hand<Mine>,
+    at: u32,
+    errand: Inserting,
+    there: u64,
+) -> InsertReply
+    requires own { IsHandOf tree.now.store hand.old }
+    requires running { IsRunning hand.old.seat × HasNoStock hand.old.seat }
+    requires process { IsOn tree.now.store.layout (known hand.old.seat) (proc.Insert (record { key = errand.key; value = errand.value; stage = insert.Present at there })) }
+    ensures same { IsSameHand hand.old.seat hand.new.seat }
+    ensures idle { IsIdle hand.new.seat × HasNoStock hand.new.seat }
+    ensures within { IsWithin hand.new.seat }
+    ensures rests { (known hand.new.seat).runs ≡ false }
+    ensures inserted { (pass : ℕ) (old : Knows) → IsSince pass old (known hand.old.seat) → HasInsertedBy pass old (known hand.new.seat) (proc.Insert (record { key = errand.key; value = errand.value; stage = insert.New })) result }
+    ensures reply { result ≡ inserted.Present there }
+{
+    let _ = errand;
+    tree.conclude(hand, at);
+    InsertReply::Present(there)
+}
+
+/// The pair enters the leaf that it holds, which has room: its words are spread so.
+#[inline(always)]
+fn enter(
+    tree: &Tree,
+    hand: &mut Hand<Mine>,
+    at: u32,
+    errand: Inserting,
+    glance: Glance,
+    spread: Spread,
+) -> InsertReply
+    requires own { IsHandOf tree.now.store hand.old }
+    requires running { IsRunning hand.old.seat × HasNoStock hand.old.seat }
+    requires reads { ReadsFrom hand.old.seat glance }
+    requires place { spread.place < 14 }
+    requires page { (p : Page) × IsSpread spread (read_words hand.old.seat) (words_of p) × IsOn tree.now.store.layout (known hand.old.seat) (proc.Insert (record { key = errand.key; value = errand.value; stage = insert.Changing (change.Putting at p) })) }
+    ensures same { IsSameHand hand.old.seat hand.new.seat }
+    ensures idle { IsIdle hand.new.seat × HasNoStock hand.new.seat }
+    ensures within { IsWithin hand.new.seat }
+    ensures rests { (known hand.new.seat).runs ≡ false }
+    ensures inserted { (pass : ℕ) (old : Knows) → IsSince pass old (known hand.old.seat) → HasInsertedBy pass old (known hand.new.seat) (proc.Insert (record { key = errand.key; value = errand.value; stage = insert.New })) result }
+    ensures no_room { result ≡ inserted.NoRoom → LacksPage 0 errand.key hand.new.seat }
+{
+    let _ = errand;
+    let changed = tree.replace_spread(hand, at, glance, spread);
+    tree.conclude(hand, at);
+    if changed {
+        InsertReply::Inserted(None)
+    } else {
+        InsertReply::NoRoom
+    }
+}
+
+/// The leaf that it holds is full, and is parted.
+#[inline(never)]
+fn part_leaf(
+    tree: &Tree,
+    hand: &mut Hand<Mine>,
+    at: u32,
+    errand: Inserting,
+    glance: Glance,
+) -> InsertReply
+    requires own { IsHandOf tree.now.store hand.old }
+    requires running { IsRunning hand.old.seat × HasNoStock hand.old.seat }
+    requires reads { ReadsFrom hand.old.seat glance }
+    requires full { (f : Full) × (f.at ≡ at) × (f.key ≡ errand.key) × (f.word ≡ errand.value) × (read_words hand.old.seat ≡ words_of f.page) × IsOn tree.now.store.layout (known hand.old.seat) (proc.Insert (record { key = errand.key; value = errand.value; stage = insert.Changing (change.Taking f) })) }
+    ensures same { IsSameHand hand.old.seat hand.new.seat }
+    ensures idle { IsIdle hand.new.seat × HasNoStock hand.new.seat }
+    ensures within { IsWithin hand.new.seat }
+    ensures rests { (known hand.new.seat).runs ≡ false }
+    ensures inserted { (pass : ℕ) (old : Knows) → IsSince pass old (known hand.old.seat) → HasInsertedBy pass old (known hand.new.seat) (proc.Insert (record { key = errand.key; value = errand.value; stage = insert.New })) result }
+    ensures no_room { result ≡ inserted.NoRoom → LacksPage 0 errand.key hand.new.seat }
+{
+    let shown = Shown {
+        store: &tree.store,
+        glance,
+    };
+    let words = words_from(&shown, hand);
+    let outcome = part_full(tree, hand, &errand, at, &words, errand.key, errand.value);
+    tree.conclude(hand, at);
+    inserted_by(outcome)
+}
+
+/// At the leaf that it holds, which covers the key.
+#[inline(always)]
+fn insert_there(
+    tree: &Tree,
+    hand: &mut Hand<Mine>,
+    at: u32,
+    errand: Inserting,
+    glance: Glance,
+) -> InsertReply
+    requires own { IsHandOf tree.now.store hand.old }
+    requires running { IsRunning hand.old.seat × HasNoStock hand.old.seat }
+    requires reads { ReadsFrom hand.old.seat glance }
+    requires process { IsOn tree.now.store.layout (known hand.old.seat) (known hand.old.seat).state }
+    requires there { IsThere 0 errand.key (proc.Insert (record { key = errand.key; value = errand.value; stage = insert.Coming (approach.Latched at) })) (read_words hand.old.seat) (known hand.old.seat) }
+    ensures same { IsSameHand hand.old.seat hand.new.seat }
+    ensures idle { IsIdle hand.new.seat × HasNoStock hand.new.seat }
+    ensures within { IsWithin hand.new.seat }
+    ensures rests { (known hand.new.seat).runs ≡ false }
+    ensures inserted { (pass : ℕ) (old : Knows) → IsSince pass old (known hand.old.seat) → HasInsertedBy pass old (known hand.new.seat) (proc.Insert (record { key = errand.key; value = errand.value; stage = insert.New })) result }
+    ensures no_room { result ≡ inserted.NoRoom → LacksPage 0 errand.key hand.new.seat }
+{
+    let shown = Shown {
+        store: &tree.store,
+        glance,
+    };
+    let head = word(&shown, hand, 0);
+    let count = (head % LEVEL_UNIT) as usize;
+    let place = place_in(&shown, hand, &mut 0, count, errand.key);
+    if let Some(there) = listed_at(&shown, hand, place, errand.key) {
+        return keep_present(tree, hand, at, errand, there);
+    }
+    if count < 14 {
+        let spread = Spread {
+            first: head + 1,
+            place,
+            key: errand.key,
+            word: errand.value,
+        };
+        enter(tree, hand, at, errand, glance, spread)
+    } else {
+        part_leaf(tree, hand, at, errand, glance)
+    }
+}
+
+/// Carries an insertion out, from its begin to its end.
+pub fn insert_pair<R: Wait>(
+    tree: &Tree,
+    rt: &R,
+    hand: &mut Hand<Mine>,
+    key: u64,
+    value: u64,
+) -> (KeyReply, Option<Hint>)
+    requires own { IsHandOf tree.now.store hand.old }
+    requires idle { IsIdle hand.old.seat × HasNoStock hand.old.seat }
+    ensures same { IsSameHand hand.old.seat hand.new.seat }
+    ensures idle { IsIdle hand.new.seat × HasNoStock hand.new.seat }
+    ensures within { IsWithin hand.new.seat }
+    ensures rests { (known hand.new.seat).runs ≡ false }
+    ensures inserted { HasInserted hand.old.number (known hand.old.seat) (known hand.new.seat) (proc.Insert (record { key = key; value = value; stage = insert.New })) (reply_of result.0) result.1 }
+    ensures no_room { result.0 ≡ replies.NoRoom → LacksPage 0 key hand.new.seat }
+{
+    let errand = Inserting { key, value };
+    depart(tree, hand, &errand);
+    let (at, glance) = come(tree, rt, hand, &errand);
+    answer_of(insert_there(tree, hand, at, errand, glance))
+}

@@ -1,0 +1,20 @@
+//! Writers over the pages that threads share: insertions, deletions and posts.
+//!
+//! Promised to the index: what each answers, with its hint, and that its process did what a process of its kind does. They go by
+//! their events and by the words of the pages, so that no page is made of words that are only looked at. Where a tree is to get one
+//! more level, which is rare, a post goes by a process value.
+#![tactic(auto)]
+
+mod changers;
+mod coming;
+mod deleting;
+mod errands;
+mod halves;
+mod inserting;
+mod parting;
+mod placing;
+mod posting;
+
+pub use deleting::{begin_deletion, delete_key, end_deletion};
+pub use inserting::insert_pair;
+pub use posting::post_key;

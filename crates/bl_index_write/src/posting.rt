@@ -1,0 +1,370 @@
+//! Posts, by the words of pages.
+
+ghost use Rattle.std.specs.Prelude.{◌≡◌, ◌≢◌, ◌<◌, ◌≤◌, ◌-◌, ℕ, Some, None, false};
+ghost use Rattle.bl_page.specs.declared.page.Page.{Page};
+ghost use Rattle.bl_page.specs.Words.{words_of};
+ghost use Rattle.bl_claims.specs.Pages.{node_of, IsTreePage};
+ghost use Rattle.bl_proc_base.specs.declared.acts.Seen.TheVariants as seen;
+ghost use Rattle.bl_proc_base.specs.declared.answers.Answer.TheVariants as answers;
+ghost use Rattle.bl_proc_base.specs.declared.approaching.Approach.TheVariants as approach;
+ghost use Rattle.bl_proc_base.specs.declared.changing.Change.{Change};
+ghost use Rattle.bl_proc_base.specs.declared.onwards.Step.TheVariants as onward;
+ghost use Rattle.bl_proc_base.specs.Onwards.{Leads};
+ghost use Rattle.bl_proc.specs.declared.kinds.Proc.{Proc};
+ghost use Rattle.bl_proc.specs.declared.posting.PostStage.TheVariants as post;
+ghost use Rattle.bl_proc.specs.Levels.{MayReply};
+ghost use Rattle.bl_proc.specs.Posts.{post_reply, posted_answer};
+ghost use Rattle.bl_proc.specs.Processes.{Takes};
+ghost use Rattle.bl_proc_unique.specs.Frames.{work_of};
+ghost use Rattle.bl_store.specs.Hands.{known, read_words, IsIdle, IsRunning, IsSameHand, IsSameStage, IsSameStock, HasNoStock, ReadsFrom};
+ghost use Rattle.bl_store.specs.Owners.{IsHandOf};
+ghost use Rattle.bl_index_rule.specs.declared.known.Mine.{Mine as Knows};
+ghost use Rattle.bl_index_steps.specs.Runs.{IsOn, IsSince, IsWithin, IsSameProcess};
+ghost use Rattle.bl_index_write.specs.Events.{posting, IsThere, IsToEnter, IsWalking, HasWalked, HasPosted, IsPostOver, IsPostAnswer};
+ghost use Rattle.bl_index_steps.specs.Rooms.{LacksPost};
+ghost use Rattle.bl_proc_base.specs.declared.answers.Posted.TheVariants as postings;
+ghost use Rattle.bl_proc.specs.declared.posting.PostReply.TheVariants as replies;
+
+use crate::changers::Listing;
+use crate::coming::{come_from, depart};
+use crate::errands::Posting;
+use crate::parting::enter_page;
+use bl_index_rule::Mine;
+use bl_index_steps::{Shown, Tree};
+use bl_page::{Words, word, words_from};
+use bl_proc::{Answer, Hint, Post, PostReply, PostStage, Posted};
+use bl_proc_base::{Approach, Level, Outcome, Step, levels_in, row_in, step_in};
+use bl_store::{Glance, Hand};
+use std::sync::Wait;
+
+/// What a walk from a parent to a child sees at a page.
+#[derive(Clone, Copy)]
+pub(crate) enum Walked {
+    /// It is to get that page.
+    On(u32),
+    /// It is the child that the parent is to list.
+    Found,
+    /// It is the child that covers the key, and has another low.
+    Stale,
+    /// The way begins again.
+    Lost,
+}
+
+/// What became of a post, and its hint.
+fn posted(answer: Option<Answer>) -> (Posted, Option<Hint>)
+    requires { IsPostAnswer answer }
+    ensures { answer ≡ Some (answers.Post result.0 result.1) }
+{
+    match answer {
+        Some(Answer::Post(posted, hint)) => (posted, hint),
+        _ => unreachable!(),
+    }
+}
+
+/// The same of a post to that level, by its reply.
+fn posted_by(level: u32, reply: PostReply) -> (Posted, Option<Hint>)
+    requires { MayReply level reply }
+    ensures answer { posted_answer level reply ≡ answers.Post result.0 result.1 }
+    ensures no_room { result.0 ≡ postings.NoRoom → reply ≡ replies.NoRoom }
+{
+    match reply {
+        PostReply::Done(None) => (Posted::Done, None),
+        PostReply::Done(Some(separator)) => {
+            let hint = Hint::Post {
+                level: Level::new(level + 1),
+                key: separator,
+            };
+            (Posted::Done, Some(hint))
+        }
+        PostReply::Already => (Posted::Already, None),
+        PostReply::Stale => (Posted::Stale, None),
+        PostReply::NoRoom => (Posted::NoRoom, None),
+        PostReply::TooTall => (Posted::TooTall, None),
+    }
+}
+
+/// The reply of a post, by what became of its parent.
+fn reply_by(outcome: Outcome) -> PostReply
+    ensures { result ≡ post_reply outcome }
+{
+    match outcome {
+        Outcome::Changed => PostReply::Done(None),
+        Outcome::Parted(separator) => PostReply::Done(Some(separator)),
+        Outcome::Refused => PostReply::NoRoom,
+    }
+}
+
+/// The child that a walk begins with, by the words of its parent, which covers the key.
+fn first_child(parent: &[u64; 32], level: u32, key: u64) -> u32
+    requires least { 0 < level }
+    requires page { (c : Page) × (parent.now ≡ words_of c) × Leads c key level onward.Here }
+    ensures { (c : Page) → parent.now ≡ words_of c → Leads c key (level - 1) (onward.Down result) }
+{
+    match step_in(parent, &mut (), &mut 0, key, level - 1) {
+        Step::Down(child) => child,
+        _ => unreachable!(),
+    }
+}
+
+/// The low of a leaf or an inner page with these words.
+fn low_in<W: Words>(source: &W, hand: &mut W::Hand) -> u64
+    requires sees { W.Sees source.now hand.old }
+    ensures same { hand.new ≡ hand.old }
+    ensures low { (c : Page) → IsTreePage c → W.shown source.now hand.old ≡ words_of c → result ≡ (node_of c).shape.low }
+{
+    word(source, hand, 1)
+}
+
+/// The parent that it holds stays as it is.
+fn stay(
+    tree: &Tree,
+    hand: &mut Hand<Mine>,
+    errand: Posting,
+    at: u32,
+    reply: PostReply,
+) -> (Posted, Option<Hint>)
+    requires own { IsHandOf tree.now.store hand.old }
+    requires running { IsRunning hand.old.seat × HasNoStock hand.old.seat }
+    requires reply { reply ≢ replies.NoRoom }
+    requires process { (below : MayReply errand.level reply) × IsOn tree.now.store.layout (known hand.old.seat) (posting errand (post.Staying at reply) below) }
+    ensures same { IsSameHand hand.old.seat hand.new.seat }
+    ensures over { IsPostOver tree.now.store.layout errand (known hand.old.seat) hand.new.seat (Some result) }
+{
+    tree.conclude(hand, at);
+    posted_by(errand.level, reply)
+}
+
+/// The parent that it holds, with these words, lists the child.
+fn list(
+    tree: &Tree,
+    hand: &mut Hand<Mine>,
+    errand: Posting,
+    at: u32,
+    parent: &[u64; 32],
+    child: u32,
+) -> (Posted, Option<Hint>)
+    requires own { IsHandOf tree.now.store hand.old }
+    requires running { IsRunning hand.old.seat × HasNoStock hand.old.seat }
+    requires page { (below : errand.level < 12) × (c : Change) × IsToEnter at errand.key child parent.now c × IsOn tree.now.store.layout (known hand.old.seat) (posting errand (post.Changing c) below) }
+    ensures same { IsSameHand hand.old.seat hand.new.seat }
+    ensures over { IsPostOver tree.now.store.layout errand (known hand.old.seat) hand.new.seat (Some result) }
+{
+    let listing = Listing { posting: errand };
+    let outcome = enter_page(tree, hand, &listing, at, parent, errand.key, child as u64);
+    tree.conclude(hand, at);
+    posted_by(errand.level, reply_by(outcome))
+}
+
+/// It gets the next page on its way from the parent, with these words, to the child that covers its key.
+fn walk_on(
+    tree: &Tree,
+    hand: &mut Hand<Mine>,
+    errand: Posting,
+    at: u32,
+    parent: &[u64; 32],
+    child: u32,
+) -> Walked
+    requires own { IsHandOf tree.now.store hand.old }
+    requires running { IsRunning hand.old.seat }
+    requires process { IsOn tree.now.store.layout (known hand.old.seat) (known hand.old.seat).state }
+    requires walking { IsWalking errand at parent.now child (known hand.old.seat).state }
+    ensures same { IsSameHand hand.old.seat hand.new.seat × IsSameStage hand.old.seat hand.new.seat × IsSameStock hand.old.seat hand.new.seat }
+    ensures walked { HasWalked tree.now.store.layout errand at parent.now child (known hand.new.seat) result }
+    ensures since { IsSameProcess (known hand.old.seat) (known hand.new.seat) }
+{
+    let _ = at;
+    let _ = parent;
+    let glance = tree.look(hand, child);
+    let shown = Shown {
+        store: &tree.store,
+        glance,
+    };
+    match step_in(&shown, hand, &mut 0, errand.key, errand.level - 1) {
+        Step::Here => {
+            if low_in(&shown, hand) == errand.key {
+                Walked::Found
+            } else {
+                Walked::Stale
+            }
+        }
+        Step::Right(next) => {
+            if next == 0 {
+                Walked::Lost
+            } else {
+                Walked::On(next)
+            }
+        }
+        Step::Again => Walked::Lost,
+        Step::Down(_child) => Walked::Lost,
+    }
+}
+
+/// It walks from the parent, with these words, to the child that covers its key. What it answers, unless its way begins
+/// again.
+fn walk<R: Wait>(
+    tree: &Tree,
+    rt: &R,
+    hand: &mut Hand<Mine>,
+    errand: Posting,
+    at: u32,
+    parent: &[u64; 32],
+    child: u32,
+) -> Option<(Posted, Option<Hint>)>
+    requires own { IsHandOf tree.now.store hand.old }
+    requires running { IsRunning hand.old.seat × HasNoStock hand.old.seat }
+    requires process { IsOn tree.now.store.layout (known hand.old.seat) (known hand.old.seat).state }
+    requires walking { IsWalking errand at parent.now child (known hand.old.seat).state }
+    ensures same { IsSameHand hand.old.seat hand.new.seat }
+    ensures over { IsPostOver tree.now.store.layout errand (known hand.old.seat) hand.new.seat result }
+{
+    let mut child = child;
+    for _ in rt.forever() {
+        match walk_on(tree, hand, errand, at, parent, child) {
+            Walked::On(next) => child = next,
+            Walked::Found => return Some(list(tree, hand, errand, at, parent, child)),
+            Walked::Stale => return Some(stay(tree, hand, errand, at, PostReply::Stale)),
+            Walked::Lost => {
+                tree.reopen(hand, at);
+                return None;
+            }
+        }
+    }
+    unreachable!()
+}
+
+/// At the parent that it holds, which covers the key.
+fn post_there<R: Wait>(
+    tree: &Tree,
+    rt: &R,
+    hand: &mut Hand<Mine>,
+    errand: Posting,
+    at: u32,
+    glance: Glance,
+) -> Option<(Posted, Option<Hint>)>
+    requires own { IsHandOf tree.now.store hand.old }
+    requires running { IsRunning hand.old.seat × HasNoStock hand.old.seat }
+    requires reads { ReadsFrom hand.old.seat glance }
+    requires process { IsOn tree.now.store.layout (known hand.old.seat) (known hand.old.seat).state }
+    requires there { IsThere errand.level errand.key (posting errand (post.Coming (approach.Latched at)) tt) (read_words hand.old.seat) (known hand.old.seat) }
+    ensures same { IsSameHand hand.old.seat hand.new.seat }
+    ensures over { IsPostOver tree.now.store.layout errand (known hand.old.seat) hand.new.seat result }
+{
+    let shown = Shown {
+        store: &tree.store,
+        glance,
+    };
+    if let Some(_child) = row_in(&shown, hand, &mut 0, errand.key) {
+        return Some(stay(tree, hand, errand, at, PostReply::Already));
+    }
+    let parent = words_from(&shown, hand);
+    let child = first_child(&parent, errand.level, errand.key);
+    walk(tree, rt, hand, errand, at, &parent, child)
+}
+
+/// The tree has no such level: it gets one more, or the post ends. This is rare, and goes by a process value.
+#[inline(never)]
+fn post_above<R: Wait>(
+    tree: &Tree,
+    rt: &R,
+    hand: &mut Hand<Mine>,
+    errand: Posting,
+    glance: Glance,
+) -> (Posted, Option<Hint>)
+    requires own { IsHandOf tree.now.store hand.old }
+    requires running { IsRunning hand.old.seat × HasNoStock hand.old.seat }
+    requires reads { ReadsFrom hand.old.seat glance }
+    requires process { IsOn tree.now.store.layout (known hand.old.seat) (known hand.old.seat).state }
+    requires since { (pass : ℕ) × (old : Knows) × IsSince pass old (known hand.old.seat) }
+    requires anchor { (c : Page) × (read_words hand.old.seat ≡ words_of c) × Takes (posting errand (post.Coming approach.Start) tt) (seen.Words c) (known hand.old.seat).state }
+    ensures same { IsSameHand hand.old.seat hand.new.seat }
+    ensures over { IsPostOver tree.now.store.layout errand (known hand.old.seat) hand.new.seat (Some result) }
+{
+    let shown = Shown {
+        store: &tree.store,
+        glance,
+    };
+    let mut process = Post {
+        level: errand.level,
+        key: errand.key,
+        stage: PostStage::Coming(Approach::Start),
+    };
+    process.took_words(&shown, hand);
+    let process = tree.carry_on(rt, hand, process);
+    posted(process.answer())
+}
+
+/// From the anchor on. What it answers, unless its way begins again.
+fn post_on<R: Wait>(
+    tree: &Tree,
+    rt: &R,
+    hand: &mut Hand<Mine>,
+    errand: Posting,
+) -> Option<(Posted, Option<Hint>)>
+    requires own { IsHandOf tree.now.store hand.old }
+    requires running { IsRunning hand.old.seat × HasNoStock hand.old.seat }
+    requires process { IsOn tree.now.store.layout (known hand.old.seat) (posting errand (post.Coming approach.Start) tt) }
+    requires since { (pass : ℕ) × (old : Knows) × IsSince pass old (known hand.old.seat) }
+    ensures same { IsSameHand hand.old.seat hand.new.seat }
+    ensures over { IsPostOver tree.now.store.layout errand (known hand.old.seat) hand.new.seat result }
+{
+    let glance = tree.look(hand, 0);
+    let shown = Shown {
+        store: &tree.store,
+        glance,
+    };
+    if levels_in(&shown, hand) <= errand.level {
+        return Some(post_above(tree, rt, hand, errand, glance));
+    }
+    let from = Approach::Start.took_words(errand.level, errand.key, &shown, hand);
+    match come_from(tree, rt, hand, &errand, from) {
+        Some((at, glance)) => post_there(tree, rt, hand, errand, at, glance),
+        None => None,
+    }
+}
+
+/// On to its end.
+fn post_until<R: Wait>(
+    tree: &Tree,
+    rt: &R,
+    hand: &mut Hand<Mine>,
+    errand: Posting,
+) -> (Posted, Option<Hint>)
+    requires own { IsHandOf tree.now.store hand.old }
+    requires running { IsRunning hand.old.seat × HasNoStock hand.old.seat }
+    requires process { IsOn tree.now.store.layout (known hand.old.seat) (posting errand (post.Coming approach.Start) tt) }
+    requires since { (pass : ℕ) × (old : Knows) × IsSince pass old (known hand.old.seat) }
+    ensures same { IsSameHand hand.old.seat hand.new.seat }
+    ensures over { IsPostOver tree.now.store.layout errand (known hand.old.seat) hand.new.seat (Some result) }
+{
+    for _ in rt.forever() {
+        match post_on(tree, rt, hand, errand) {
+            Some(answer) => return answer,
+            None => {}
+        }
+    }
+    unreachable!()
+}
+
+/// Carries a post out, from its begin to its end.
+pub fn post_key<R: Wait>(
+    tree: &Tree,
+    rt: &R,
+    hand: &mut Hand<Mine>,
+    level: u32,
+    key: u64,
+) -> (Posted, Option<Hint>)
+    requires own { IsHandOf tree.now.store hand.old }
+    requires idle { IsIdle hand.old.seat × HasNoStock hand.old.seat }
+    requires least { 0 < level }
+    requires most { level ≤ 12 }
+    ensures same { IsSameHand hand.old.seat hand.new.seat }
+    ensures idle { IsIdle hand.new.seat × HasNoStock hand.new.seat }
+    ensures within { IsWithin hand.new.seat }
+    ensures rests { (known hand.new.seat).runs ≡ false }
+    ensures posted { (first : Proc) × (work_of first ≡ Some (level, key)) × HasPosted hand.old.number (known hand.old.seat) (known hand.new.seat) first result.0 result.1 }
+    ensures no_room { result.0 ≡ postings.NoRoom → LacksPost level key hand.new.seat }
+{
+    let errand = Posting { level, key };
+    depart(tree, hand, &errand);
+    post_until(tree, rt, hand, errand)
+}
