@@ -72,15 +72,26 @@ AreElse pass marks = Each (λ (m : Mark). m.event.process.pass ≢ pass) marks
 abbrev pub AreOnlyOf : Name → Trail → Type 0
 AreOnlyOf p marks = Each (λ (m : Mark). m.event.process.pass ≡ p.pass → m.event.process ≡ p) marks
 
--- The new part of the trail has of the pass of p the events of p alone: its begin is the first of them, and its end, with that
--- answer, is the last event of all.
-pub record Holds (p : Name) (answer : Option Reply) (old new : Trail) : Type 0 where
+-- The first that the pass of p does there is the begin of p.
+pub record BeginsBy (p : Name) (marks : Trail) : Type 0 where
   pub before : Trail
   pub first : Mark
-  pub between : Trail
-  pub last : Mark
-  pub begins : new ≡ old ++ (before ++ first ∷ (between ++ last ∷ []))
+  pub rest : Trail
+  pub split : marks ≡ before ++ first ∷ rest
   pub begun : first.event ≡ record { process = p; act = Begin }
-  pub ended : last.event ≡ record { process = p; act = End answer }
   pub none : AreElse p.pass before
-  pub only : AreOnlyOf p between
+
+-- The last event of all is the end of p, with that answer.
+pub record EndsBy (p : Name) (answer : Option Reply) (marks : Trail) : Type 0 where
+  pub before : Trail
+  pub last : Mark
+  pub split : marks ≡ before ++ last ∷ []
+  pub ended : last.event ≡ record { process = p; act = End answer }
+
+-- In the new part of the trail no process of the pass of p acts but p, which begins there and ends with that answer.
+pub record Holds (p : Name) (answer : Option Reply) (old new : Trail) : Type 0 where
+  pub more : Trail
+  pub begins : new ≡ old ++ more
+  pub alone : AreOnlyOf p more
+  pub first : BeginsBy p more
+  pub last : EndsBy p answer more

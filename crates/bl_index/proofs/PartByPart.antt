@@ -49,7 +49,7 @@ module _ (first : List (Option Page)) (pages pass turns at : ℕ) (reply : Reply
   entry = record { pass = pass; op = OpPart at; reply = reply }
 
   abbrev more : Trail
-  more = finds.answers.holds.before ++ finds.answers.holds.first ∷ (finds.answers.holds.between ++ finds.answers.holds.last ∷ [])
+  more = finds.answers.holds.more
 
   stands_there : Answered (first_map first) entry (history_of mid) (history_of new)
   stands_there = answered (first_map first) pass entry (history_of mid) (history_of more) (history_of new) (ap history_of finds.answers.holds.begins ∙ history_append mid more) finds.answers.seen.linear.legal finds.answers.once

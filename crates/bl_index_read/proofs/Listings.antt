@@ -25,7 +25,9 @@ use Rattle.bl_proc_invariant.specs.Knowing.{end_of_proc}
 use Rattle.bl_proc_unique.specs.Courses.{GoesOn}
 use Rattle.bl_proc_unique.proofs.Parts.{part_goes}
 use Rattle.bl_proc_unique.proofs.Listings.{part_some}
-use Rattle.bl_claims.specs.Trails.{marks_of}
+use Rattle.bl_claims.specs.Trails.{Trail, marks_of}
+use Rattle.bl_claims.specs.Meanings.{Unwritten}
+use Rattle.bl_proc_invariant.specs.Logs.{proc_log}
 use Rattle.bl_store.specs.declared.store.Glance.{Glance}
 use Rattle.bl_store.specs.declared.view.View.{View}
 use Rattle.bl_store.specs.Hands.{known, read_words, ReadsFrom}
@@ -100,8 +102,16 @@ module _ (l : Layout) (pass from turns : ℕ) (old : Mine) (h h' : Seat (Unit {0
       let done = ended.1 in
       done.state ∙ sym (done.course.only (listing from (Over rows)) (subst (λ (z : Proc). Takes z seen.Done (listing from (Over rows))) (sym has.leaf.state) (refl, refl)))
 
-  looks : OnlyLooks (marks_of (name (known h).pass (known h).number) (known h').trail)
-  looks = subst (λ (z : Proc). IsTidy z (marks_of (name (known h).pass (known h).number) (known h').trail)) over ended.0.notes.tidy
+  abbrev marks : Trail
+  marks = marks_of (name (known h).pass (known h).number) (known h').trail
+
+  unwritten : Unwritten marks
+  unwritten =
+      let done = ended.1 in
+      subst (λ (z : Proc). proc_log z marks) (sym done.state ∙ over) done.log
+
+  looks : OnlyLooks (marks_of (name pass (old.number + 1)) (known h').trail)
+  looks = own_looks pass old (known h) (known h').trail has.since (subst (λ (z : Proc). IsTidy z marks) over ended.0.notes.tidy, unwritten)
 
   told : Finishes (end_of_proc (listing from (Ending rows))) (known h) (known h')
   told = subst (λ (z : Proc). Finishes (end_of_proc z) (known h) (known h')) has.leaf.state ended.0
@@ -117,8 +127,8 @@ module _ (l : Layout) (pass from turns : ℕ) (old : Mine) (h h' : Seat (Unit {0
     takes = (refl, refl);
     op = refl;
     work = refl;
-    log = tt;
-    tidy = own_looks pass old (known h) (known h').trail has.since looks;
+    log = looks.1;
+    tidy = looks.0;
   }
 
   ended_within : IsWithinBound l.pages (name pass (old.number + 1)) (known h').trail × (gets_of (name pass (old.number + 1)) (known h').trail ≤ turns)
@@ -129,7 +139,7 @@ module _ (l : Layout) (pass from turns : ℕ) (old : Mine) (h h' : Seat (Unit {0
     answers = op_answered old.first pass old (known h') (listing from (Ending rows)) (listing from (Over rows)) (op.Part from) (Rows rows.rows rows.next) None part_done refl refl refl;
     few = ended_within.1;
     bounded = ended_within.0;
-    looks = own_looks pass old (known h) (known h').trail has.since looks;
+    looks = looks;
   }
 
 -- what is said where there is none

@@ -16,15 +16,15 @@ use Rattle.bl_model.specs.declared.operation.KeyReply.{KeyReply}
 use Rattle.bl_model.specs.Replies.{reply_of}
 
 -- A search of an index of so many pages is answered, with a page for each of its turns at most. At every moment it had got no more
--- pages than its bound, and it has latched, taken and put none.
+-- pages than its bound, and it has latched and written nothing.
 pub record Finds (first : List (Option Page)) (pages pass turns : ℕ) (op : Op) (reply : Reply) (old new : Trail) : Type 0 where
   pub answers : Answers first pass op reply old new
   pub few : gets_of (name pass answers.number) new ≤ turns
   pub bounded : IsWithinBound pages (name pass answers.number) new
   pub looks : OnlyLooks (marks_of (name pass answers.number) new)
 
--- It ran out of so many turns and said nothing: it has got so many pages, which are fewer than its bound, and has latched, taken
--- and put none.
+-- It ran out of so many turns and said nothing: it has got so many pages, which are fewer than its bound, and has latched and
+-- written nothing.
 pub record RunsOut (first : List (Option Page)) (pages pass turns : ℕ) (old new : Trail) : Type 0 where
   pub adds : Adds first pass old new
   pub bounded : IsWithinBound pages (name pass adds.number) new

@@ -79,16 +79,19 @@ pub since_end : (pass : ℕ) (answer : Option Reply) (old d e : Mine) → IsSinc
 since_end pass answer old d e s t =
     let p = name pass (old.number + 1) in
     let tail : Trail = t.notes.between ++ t.notes.last ∷ [] in
+    let here : AreOnlyOf p tail = each_append _ t.notes.between (t.notes.last ∷ []) (others_only p t.notes.between (subst (λ (z : ℕ). AreElse z t.notes.between) s.named t.notes.others)) ((λ e. ap (λ v. v.process) t.notes.event ∙ (λ i. name (s.named i) (s.number i))), tt) in
+    let rest : AreOnlyOf p (s.first ∷ (s.since ++ tail)) = ((λ e. ap (λ v. v.process) s.begun), each_append _ s.since tail s.only here) in
     record {
-      before = s.before;
-      first = s.first;
-      between = s.since ++ t.notes.between;
-      last = t.notes.last;
-      begins = t.notes.trail ∙ (ap (λ (z : Trail). z ++ tail) s.begins ∙ (longer old.trail s.before s.first s.since tail ∙ ap (λ (z : Trail). old.trail ++ (s.before ++ s.first ∷ z)) (sym (append_assoc s.since t.notes.between (t.notes.last ∷ [])))));
-      begun = s.begun;
-      ended = t.notes.event ∙ (λ i. record { process = name (s.named i) (s.number i); act = End answer });
-      none = s.none;
-      only = each_append _ s.since t.notes.between s.only (others_only p t.notes.between (subst (λ (z : ℕ). AreElse z t.notes.between) s.named t.notes.others));
+      more = s.before ++ s.first ∷ (s.since ++ tail);
+      begins = t.notes.trail ∙ (ap (λ (z : Trail). z ++ tail) s.begins ∙ longer old.trail s.before s.first s.since tail);
+      alone = each_append _ s.before (s.first ∷ (s.since ++ tail)) (others_only p s.before s.none) rest;
+      first = record { before = s.before; first = s.first; rest = s.since ++ tail; split = refl; begun = s.begun; none = s.none };
+      last = record {
+        before = s.before ++ s.first ∷ (s.since ++ t.notes.between);
+        last = t.notes.last;
+        split = sym (append_assoc s.before (s.first ∷ (s.since ++ t.notes.between)) (t.notes.last ∷ []) ∙ ap (λ (z : Trail). s.before ++ s.first ∷ z) (append_assoc s.since t.notes.between (t.notes.last ∷ [])));
+        ended = t.notes.event ∙ (λ i. record { process = name (s.named i) (s.number i); act = End answer });
+      };
     }
 
 -- what the index began with, and what the pass has seen by then
