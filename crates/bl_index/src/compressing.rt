@@ -7,7 +7,7 @@ ghost use Rattle.bl_index.specs.Kinds.{IsCompressAnswer};
 ghost use Rattle.bl_proc_base.specs.Hints.{level_of, key_of};
 
 use crate::index::{Index, Pass};
-use bl_proc::{Answer, Compress, Hint, Squeezed};
+use bl_proc::{Answer, Compress, Hint, Process, Squeezed};
 use std::sync::Wait;
 
 /// What became of a compression, and its hint.

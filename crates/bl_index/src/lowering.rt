@@ -6,7 +6,7 @@ ghost use Rattle.bl_proc_base.specs.declared.lowering.Lowered.TheVariants as ans
 ghost use Rattle.bl_index.specs.Kinds.{IsLowerAnswer};
 
 use crate::index::{Index, Pass};
-use bl_proc::{Answer, Lower, Lowered};
+use bl_proc::{Answer, Lower, Lowered, Process};
 use std::sync::Wait;
 
 /// What became of a lowering.

@@ -45,7 +45,7 @@ use Rattle.bl_index_write.specs.declared.coming.Arrived.TheVariants.{There, Away
 use Rattle.bl_index_write.specs.declared.errands.Posting.{Posting}
 use Rattle.bl_index_write.specs.declared.posting.Walked.{Walked}
 use Rattle.bl_index_write.specs.declared.posting.Walked.TheVariants.{On, Found, Stale, Lost}
-use Rattle.bl_index_steps.specs.Runs.{IsOn, IsSince, IsWithin, IsDone}
+use Rattle.bl_index_steps.specs.Runs.{IsOn, IsSince, IsWithin, IsDone, IsSameProcess}
 use Rattle.bl_index_steps.specs.Rooms.{LacksPost}
 use Rattle.bl_proc_base.specs.declared.answers.Posted.TheVariants as posted
 use Rattle.bl_proc_base.specs.declared.answers.Answer.{Answer}

@@ -32,7 +32,7 @@ use crate::parting::enter_page;
 use bl_index_rule::Mine;
 use bl_index_steps::{Shown, Tree};
 use bl_page::{Words, word, words_from};
-use bl_proc::{Answer, Hint, Post, PostReply, PostStage, Posted};
+use bl_proc::{Answer, Hint, Post, PostReply, PostStage, Posted, Process, Reader};
 use bl_proc_base::{Approach, Level, Outcome, Step, levels_in, row_in, step_in};
 use bl_store::{Glance, Hand};
 use std::sync::Wait;

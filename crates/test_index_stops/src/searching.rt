@@ -1,0 +1,94 @@
+//! A search that has read two pages stands still while a merge and sweeps go on beside it.
+
+ghost use Rattle.std.specs.Prelude.{◌≡◌};
+ghost use Rattle.bl_proc_base.specs.declared.acts.Action.TheVariants as act;
+ghost use Rattle.bl_proc.specs.Searches.{find_next_in};
+ghost use Rattle.bl_proc.specs.declared.kinds.Proc.TheVariants as proc;
+ghost use Rattle.bl_store.specs.Hands.{known, IsIdle, IsRunning, IsSameHand, IsSameStage, IsSameStock};
+ghost use Rattle.bl_store.specs.Owners.{IsHandOf};
+ghost use Rattle.bl_index_read.specs.Searching.{IsSearching};
+ghost use Rattle.bl_index_steps.specs.Runs.{IsOn};
+
+use crate::begun::{fill, opened};
+use bl_index::KeyReply;
+use bl_index_rule::Mine;
+use bl_index_steps::Tree;
+use bl_proc::{Find, FindStage, Squeezed};
+use bl_store::Hand;
+use std::test::Fail;
+
+/// The page that a search is to get next.
+fn page_of(stage: FindStage) -> u32
+    requires { IsSearching stage }
+    ensures { find_next_in stage ≡ act.Get result }
+{
+    match stage {
+        FindStage::Descending(descent) => descent.page(),
+        _ => unreachable!(),
+    }
+}
+
+/// The search gets its next page, if it is to get one.
+fn read_on(tree: &Tree, hand: &mut Hand<Mine>, search: &mut Find)
+    requires own { IsHandOf tree.now.store hand.old }
+    requires running { IsRunning hand.old.seat }
+    requires process { IsOn tree.now.store.layout (known hand.old.seat) (proc.Find search.old) }
+    ensures same { IsSameHand hand.old.seat hand.new.seat × IsSameStage hand.old.seat hand.new.seat × IsSameStock hand.old.seat hand.new.seat }
+    ensures process { IsOn tree.now.store.layout (known hand.new.seat) (proc.Find search.new) }
+{
+    if let FindStage::Descending(_) = search.stage {
+        let page = page_of(search.stage);
+        tree.read(hand, search, page);
+    }
+}
+
+/// A search begins, and gets two pages.
+fn read_two(tree: &Tree, hand: &mut Hand<Mine>, key: u64) -> Find
+    requires own { IsHandOf tree.now.store hand.old }
+    requires idle { IsIdle hand.old.seat }
+    ensures same { IsSameHand hand.old.seat hand.new.seat × IsSameStock hand.old.seat hand.new.seat }
+    ensures running { IsRunning hand.new.seat }
+    ensures process { IsOn tree.now.store.layout (known hand.new.seat) (proc.Find result) }
+{
+    let mut search = Find::new(key);
+    tree.begin(hand, &mut search);
+    read_on(tree, hand, &mut search);
+    read_on(tree, hand, &mut search);
+    search
+}
+
+/// The search gets two pages more, and ends with what it found, if it has come to its leaf.
+fn read_rest(tree: &Tree, hand: &mut Hand<Mine>, search: Find) -> Option<Option<u64>>
+    requires own { IsHandOf tree.now.store hand.old }
+    requires running { IsRunning hand.old.seat }
+    requires process { IsOn tree.now.store.layout (known hand.old.seat) (proc.Find search) }
+{
+    let mut search = search;
+    read_on(tree, hand, &mut search);
+    read_on(tree, hand, &mut search);
+    match search.stage {
+        FindStage::Ending(value) => {
+            tree.finish(hand, &mut search);
+            Some(value)
+        }
+        _ => None,
+    }
+}
+
+// It finds its key in the page into which the other one was merged, and that one is not released before it has ended.
+#[test]
+fn a_search_stands_still_beside_a_merge(rt: HostRuntime) -> Result<(), Fail> {
+    let (index, mut first, mut second, third) = opened(rt.alloc()).ok_or("no index")?;
+    assert!(rt; fill(&rt, &index, &mut first));
+    let (reply, hint) = index.delete(&rt, &mut first, 9);
+    assert!(rt; reply == KeyReply::Deleted(90));
+    assert!(rt; index.sweep(&mut first) == 18);
+    let hint = hint.ok_or("no hint")?;
+    let mut hand = third.into_hand();
+    let search = read_two(index.tree(), &mut hand, 12);
+    assert!(rt; index.compress(&rt, &mut second, hint) == (Squeezed::Merged, None));
+    assert!(rt; index.sweep(&mut second) == 0);
+    assert!(rt; read_rest(index.tree(), &mut hand, search) == Some(Some(120)));
+    assert!(rt; index.sweep(&mut second) == 4);
+    Ok(())
+}
