@@ -21,7 +21,7 @@ use Rattle.bl_index_write.specs.Events.{IsPostAnswer}
 use Rattle.bl_index_steps.proofs.Quiet.{first_of, second_of}
 use Rattle.bl_index_steps.proofs.Ends.{not_end_way, not_end}
 
-not_end_growth : (g : Growth) → growth_next g ≢ act.End
+pub not_end_growth : (g : Growth) → growth_next g ≢ act.End
 not_end_growth growth.Latching e = cc
 not_end_growth growth.Latched e = cc
 not_end_growth (growth.Taking rise) e = cc
@@ -61,7 +61,7 @@ pub record IsPosting (before : Proc) (q : Post) (level key : ℕ) : Type 0 where
   pub at_end : post_next_in old.stage ≡ act.End
   pub goes : PostGoes old.level old.key old.stage seen.Done q.stage
 
-posting : (before : Proc) (q : Post) (level key : ℕ) → work_of before ≡ Some (level, key) → next_of before ≡ act.End → Takes before seen.Done (proc.Post q) → IsPosting before q level key
+pub posting : (before : Proc) (q : Post) (level key : ℕ) → work_of before ≡ Some (level, key) → next_of before ≡ act.End → Takes before seen.Done (proc.Post q) → IsPosting before q level key
 posting (proc.Post p) q level key is e t = record { old = p; before_is = refl; level_is = t.0 ∙ first_of is; key_is = t.1 ∙ second_of is; at_end = e; goes = t.2 }
 posting other q level key is e t = absurd t
 
