@@ -12,7 +12,7 @@ use Rattle.bl_claims.specs.Nodes.{Node, Roots, Covers, unbounded}
 use Rattle.bl_claims.specs.Pages.{node_of}
 use Rattle.bl_core_tree.specs.Starts.{start_map}
 use Rattle.bl_claims.specs.Opening.{node_in, roots_in}
-use Rattle.bl_claims.specs.Seeing.{leaf_rows, rows_in}
+use Rattle.bl_claims.specs.Seeing.{rows_in}
 use Rattle.bl_core_tree.proofs.SoundPages.{sound_node}
 use Rattle.bl_core_tree.proofs.SoundStarts.{if_lt, if_ge, map_says, start_live, sound_tree}
 use Rattle.bl_core_tree.proofs.Statuses.{live_live}
@@ -39,23 +39,35 @@ two_say k says a b h i = by_value (map_of a k) refl
       | inr s ↦ inr (map_of-first a b k v e ∙ (sym e ∙ s))
     ]
 
+-- the rows of one page, if it is a leaf
+abbrev leaf_rows : Option Page → List (ℕ × ℕ)
+leaf_rows (Some (Leaf l)) = l.rows.items
+leaf_rows page = []
+
+rows_first : (page : Option Page) (pages : List (Option Page)) → rows_in (page ∷ pages) ≡ leaf_rows page ++ rows_in pages
+rows_first None pages = refl
+rows_first (Some (Anchor a)) pages = refl
+rows_first (Some (Leaf l)) pages = refl
+rows_first (Some (Inner i)) pages = refl
+rows_first (Some (Dead d)) pages = refl
+
 -- what each page says so
 abbrev EachSays : ℕ → Option ℕ → List (Option Page) → Type 0
 EachSays k says pages = (x : ℕ) → (map_of (leaf_rows (page_at pages x)) k ≡ None) ⊎ (map_of (leaf_rows (page_at pages x)) k ≡ says)
 
 all_say : (k : ℕ) (says : Option ℕ) (pages : List (Option Page)) → EachSays k says pages → (map_of (rows_in pages) k ≡ None) ⊎ (map_of (rows_in pages) k ≡ says)
 all_say k says [] h = inl refl
-all_say k says (page ∷ pages) h = two_say k says (leaf_rows page) (rows_in pages) (h 0) (all_say k says pages (λ x. h (suc x)))
+all_say k says (page ∷ pages) h = subst (λ (z : List (ℕ × ℕ)). (map_of z k ≡ None) ⊎ (map_of z k ≡ says)) (sym (rows_first page pages)) (two_say k says (leaf_rows page) (rows_in pages) (h 0) (all_say k says pages (λ x. h (suc x))))
 
 -- what one page lists is among all rows
 some_say : (k v x : ℕ) (pages : List (Option Page)) → map_of (leaf_rows (page_at pages x)) k ≡ Some v → map_of (rows_in pages) k ≢ None
 some_say k v x [] e none = (let f : None ≡ Some v = e in cc)
-some_say k v zero (page ∷ pages) e none = (let f : Some v ≡ None = sym (map_of-first (leaf_rows page) (rows_in pages) k v e) ∙ none in cc)
-some_say k v (suc x) (page ∷ pages) e none = by_value (some_say k v x pages e) (map_of (leaf_rows page) k) refl
+some_say k v zero (page ∷ pages) e none = (let f : Some v ≡ None = sym (map_of-first (leaf_rows page) (rows_in pages) k v e) ∙ (ap (λ (z : List (ℕ × ℕ)). map_of z k) (sym (rows_first page pages)) ∙ none) in cc)
+some_say k v (suc x) (page ∷ pages) e none = by_value (ap (λ (z : List (ℕ × ℕ)). map_of z k) (sym (rows_first page pages)) ∙ none) (some_say k v x pages e) (map_of (leaf_rows page) k) refl
   where
-    by_value : map_of (rows_in pages) k ≢ None → (o : Option ℕ) → map_of (leaf_rows page) k ≡ o → ⊥
-    by_value rest None n = rest (sym (map_of-back (leaf_rows page) (rows_in pages) k n) ∙ none)
-    by_value rest (Some u) n = (let f : Some u ≡ None = sym (map_of-first (leaf_rows page) (rows_in pages) k u n) ∙ none in cc)
+    by_value : map_of (leaf_rows page ++ rows_in pages) k ≡ None → map_of (rows_in pages) k ≢ None → (o : Option ℕ) → map_of (leaf_rows page) k ≡ o → ⊥
+    by_value all rest None n = rest (sym (map_of-back (leaf_rows page) (rows_in pages) k n) ∙ all)
+    by_value all rest (Some u) n = (let f : Some u ≡ None = sym (map_of-first (leaf_rows page) (rows_in pages) k u n) ∙ all in cc)
 
 module _ (pages : List (Option Page)) (g : MayBegin pages) where
   abbrev node : ℕ → Node

@@ -6,7 +6,7 @@ use Rattle.bl_page.specs.declared.page.Page.{Page}
 use Rattle.bl_page.specs.Machine.{Name, Owner, State}
 use Rattle.bl_claims.specs.Pages.{node_of, roots_of}
 use Rattle.bl_core_tree.specs.Starts.{AreSound, start_map}
-use Rattle.bl_claims.specs.Moments.{HasLaws}
+use Rattle.bl_claims.specs.Moments.{snapshot_of, HasLaws}
 use Rattle.bl_claims.specs.Opening.{node_in, roots_in}
 use Rattle.bl_check.specs.Rows.{AreRowsOf}
 use Rattle.bl_page.specs.Pages.{page_at}
@@ -29,7 +29,7 @@ pub record HasOneListOfRows (pages : List (Option Page)) : Type 0 where
 -- What its leaves say is the map of the image's rows, and the laws of the tree hold with that map.
 pub record BeginsWithRows (s : State Page) (rows : List (ℕ × ℕ)) : Type 0 where
   pub map : SameMap (map_of rows) (start_map (λ x. node_of (s.contents x)) (roots_of (s.contents 0)) 0)
-  pub laws : HasLaws s [] (map_of rows)
+  pub laws : HasLaws (snapshot_of s []) (map_of rows)
 
 -- what an image keeps of page x as the machine has it: what it holds where it is open, else nothing
 abbrev pub IsLeft : State Page → ℕ → Option Page → Type 0

@@ -3,9 +3,8 @@ use Rattle.std.specs.Prelude.{ℕ, ◌≡◌, ◌≢◌, ◌==◌, Bool, true, f
 use Rattle.bl_model.specs.declared.operation.Reply.{Reply}
 use Rattle.bl_page.specs.declared.page.Page.{Page}
 use Rattle.bl_page.specs.Machine.{Act}
-use Rattle.bl_page.specs.Machine.Act.{Take, Latch, Retire}
+use Rattle.bl_page.specs.Machine.Act.{Put, Take, Latch, Retire, Release}
 use Rattle.bl_claims.specs.Trails.{Mark, Trail}
-use Rattle.bl_claims.specs.Meanings.{Unwritten}
 
 -- whether it holds page y after an act, where it did or did not before
 abbrev pub holds_after : ℕ → Bool → Act Page Reply → Bool
@@ -35,6 +34,10 @@ LatchesBelowAnchor marks = (i : ℕ) (m : Mark) (x y : ℕ) → slice_get marks 
 abbrev pub LatchesNone : Trail → Type 0
 LatchesNone marks = (i : ℕ) (m : Mark) (x : ℕ) → slice_get marks i ≡ Some m → m.event.act ≢ Latch x
 
--- It latches no page, and since it began it has taken, put, retired and released none.
+-- an act that latches, takes, puts, retires and releases nothing
+abbrev pub IsLook : Act Page Reply → Type 0
+IsLook a = (x : ℕ) → (a ≢ Latch x) × (a ≢ Take x) × ((c : Page) → a ≢ Put x c) × (a ≢ Retire x) × (a ≢ Release x)
+
+-- It latches, takes, puts, retires and releases nothing.
 abbrev pub OnlyLooks : Trail → Type 0
-OnlyLooks marks = LatchesNone marks × Unwritten marks
+OnlyLooks marks = (i : ℕ) (m : Mark) → slice_get marks i ≡ Some m → IsLook m.event.act

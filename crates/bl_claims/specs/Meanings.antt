@@ -75,19 +75,15 @@ pub record UnderLatch (level : ℕ) (marks : Trail) (x : ℕ) : Type 0 where
   pub kept : (mark : Mark) → Contains during mark → mark.event.act ≢ Act.Open x
   pub no_more : writes_of after ≡ []
 
--- The process latched page x when it had written nothing; and this is what it has done since.
-pub record SinceLatch (marks : Trail) (x : ℕ) : Type 0 where
+-- The process latched page x when it had written nothing, and has written this since.
+pub record WroteHeld (marks : Trail) (x : ℕ) (acts : List (Act Page Reply)) : Type 0 where
   pub before : Trail
   pub first : Unwritten before
   pub latch : Mark
-  pub during : Trail
-  pub split : marks ≡ before ++ latch ∷ during
+  pub since : Trail
+  pub split : marks ≡ before ++ latch ∷ since
   pub latched : latch.event.act ≡ Latch x
-
--- It latched page x, and after that has written this, and nothing else since it began.
-pub record WroteHeld (marks : Trail) (x : ℕ) (acts : List (Act Page Reply)) : Type 0 where
-  pub since : SinceLatch marks x
-  pub writes_are : writes_of since.during ≡ acts
+  pub writes_are : writes_of since ≡ acts
 
 -- The process held a page of that level that covers the key, and got it then.
 pub record AtParent (level key : ℕ) (marks : Trail) : Type 0 where

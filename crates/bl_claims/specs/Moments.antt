@@ -80,12 +80,9 @@ snapshot_of s trail = record { live = IsLivePage s trail; node = λ x. node_of (
 
 -- The laws of the tree: its live leaves agree with the map, live pages overlap only in the middle of a compression, each level
 -- has its chain, children are listed as they are, and the lone walk of each key finds its leaf.
-pub record KeepsLaws (t : Snapshot) (map : Look) : Type 0 where
+pub record HasLaws (t : Snapshot) (map : Look) : Type 0 where
   pub agreement : Agreement t map
   pub overlap : Overlap t
   pub chains : (level : ℕ) → level < t.roots.levels → HasChain t level
   pub listing : Listing t
   pub walks : (k : ℕ) → k < unbounded → HasLoneWalk t k
-
-abbrev pub HasLaws : State Page → Trail → Look → Type 0
-HasLaws s trail map = KeepsLaws (snapshot_of s trail) map

@@ -15,13 +15,10 @@ use Rattle.bl_claims.specs.Walks.{Each}
 use Rattle.bl_claims.specs.Opening.{Opening, IsOpened}
 
 -- the rows of all leaves of an image
-abbrev pub leaf_rows : Option Page → List (ℕ × ℕ)
-leaf_rows (Some (Leaf l)) = l.rows.items
-leaf_rows page = []
-
 abbrev pub rows_in : List (Option Page) → List (ℕ × ℕ)
 rows_in [] = []
-rows_in (page ∷ pages) = leaf_rows page ++ rows_in pages
+rows_in (Some (Leaf l) ∷ pages) = l.rows.items ++ rows_in pages
+rows_in (page ∷ pages) = rows_in pages
 
 -- the map that an index begins with
 abbrev pub first_map : List (Option Page) → Map
@@ -73,20 +70,12 @@ abbrev pub AreOnlyOf : Name → Trail → Type 0
 AreOnlyOf p marks = Each (λ (m : Mark). m.event.process.pass ≡ p.pass → m.event.process ≡ p) marks
 
 -- The first that the pass of p does there is the begin of p.
-pub record BeginsBy (p : Name) (marks : Trail) : Type 0 where
-  pub before : Trail
-  pub first : Mark
-  pub rest : Trail
-  pub split : marks ≡ before ++ first ∷ rest
-  pub begun : first.event ≡ record { process = p; act = Begin }
-  pub none : AreElse p.pass before
+abbrev pub BeginsBy : Name → Trail → Type 0
+BeginsBy p marks = (before : Trail) × (first : Mark) × (rest : Trail) × (marks ≡ before ++ first ∷ rest) × (first.event ≡ record { process = p; act = Begin }) × AreElse p.pass before
 
 -- The last event of all is the end of p, with that answer.
-pub record EndsBy (p : Name) (answer : Option Reply) (marks : Trail) : Type 0 where
-  pub before : Trail
-  pub last : Mark
-  pub split : marks ≡ before ++ last ∷ []
-  pub ended : last.event ≡ record { process = p; act = End answer }
+abbrev pub EndsBy : Name → Option Reply → Trail → Type 0
+EndsBy p answer marks = (before : Trail) × (last : Mark) × (marks ≡ before ++ last ∷ []) × (last.event ≡ record { process = p; act = End answer })
 
 -- In the new part of the trail no process of the pass of p acts but p, which begins there and ends with that answer.
 pub record Holds (p : Name) (answer : Option Reply) (old new : Trail) : Type 0 where

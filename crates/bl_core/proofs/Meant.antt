@@ -6,7 +6,7 @@ use Rattle.bl_model.specs.declared.operation.Reply.{Reply}
 use Rattle.bl_page.specs.Machine.{Act}
 use Rattle.bl_page.specs.Machine.Act.{Get, Latch}
 use Rattle.bl_claims.specs.Trails.{Mark, Trail}
-use Rattle.bl_claims.specs.Meanings.{HasGot, writes_in, writes_of, Wrote, Unwritten, SinceLatch, WroteHeld, UnderLatch, AtParent, MeansDone, MeansAlready, MeansStale, MeansTooTall, MeansNoRoom}
+use Rattle.bl_claims.specs.Meanings.{HasGot, writes_in, writes_of, Wrote, Unwritten, WroteHeld, UnderLatch, AtParent, MeansDone, MeansAlready, MeansStale, MeansTooTall, MeansNoRoom}
 
 pub writes_of-append : (xs ys : Trail) → writes_of (xs ++ ys) ≡ writes_of xs ++ writes_of ys
 writes_of-append [] ys = refl
@@ -18,17 +18,14 @@ writes_of-push ms m = writes_of-append ms (m ∷ []) ∙ ap (λ z. writes_of ms 
 
 -- it has latched a page, and has written nothing since either
 pub latched_unwritten : {ms : Trail} {x : ℕ} → WroteHeld ms x [] → Unwritten ms
-latched_unwritten {ms} {x} h =
-    let l = h.since in
-    record {
-      earlier = l.first.earlier;
-      begin = l.first.begin;
-      since = l.first.since ++ l.latch ∷ l.during;
-      split = l.split ∙ (ap (λ z. z ++ l.latch ∷ l.during) l.first.split ∙ append_assoc l.first.earlier (l.first.begin ∷ l.first.since) (l.latch ∷ l.during));
-      begun = l.first.begun;
-      is = writes_of-append l.first.since (l.latch ∷ l.during)
-          ∙ (ap (λ z. z ++ writes_of (l.latch ∷ l.during)) l.first.is ∙ (ap (λ z. writes_in z ++ writes_of l.during) l.latched ∙ h.writes_are));
-    }
+latched_unwritten {ms} {x} h = record {
+  earlier = h.first.earlier;
+  begin = h.first.begin;
+  since = h.first.since ++ h.latch ∷ h.since;
+  split = h.split ∙ (ap (λ z. z ++ h.latch ∷ h.since) h.first.split ∙ append_assoc h.first.earlier (h.first.begin ∷ h.first.since) (h.latch ∷ h.since));
+  begun = h.first.begun;
+  is = writes_of-append h.first.since (h.latch ∷ h.since) ∙ (ap (λ z. z ++ writes_of (h.latch ∷ h.since)) h.first.is ∙ (ap (λ z. writes_in z ++ writes_of h.since) h.latched ∙ h.writes_are));
+}
 
 module _ (ms : Trail) (m : Mark) where
   -- the process begins now; it writes this now
@@ -54,23 +51,18 @@ module _ (ms : Trail) (m : Mark) where
 
   -- it latches a page now, and has written nothing before
   pub latched_now : {x : ℕ} → m.event.act ≡ Latch x → Unwritten ms → WroteHeld (ms ++ m ∷ []) x []
-  latched_now e first = record { since = record { before = ms; first = first; latch = m; during = []; split = refl; latched = e }; writes_are = refl }
-
-  abbrev pub since_latch_on : {x : ℕ} → SinceLatch ms x → SinceLatch (ms ++ m ∷ []) x
-  since_latch_on h = record {
-    before = h.before;
-    first = h.first;
-    latch = h.latch;
-    during = h.during ++ m ∷ [];
-    split = ap (λ z. z ++ m ∷ []) h.split ∙ append_assoc h.before (h.latch ∷ h.during) (m ∷ []);
-    latched = h.latched;
-  }
+  latched_now e first = record { before = ms; first = first; latch = m; since = []; split = refl; latched = e; writes_are = refl }
 
   -- it writes this now
   pub held_writes : {x : ℕ} {acts : List (Act Page Reply)} (new : List (Act Page Reply)) → writes_in m.event.act ≡ new → WroteHeld ms x acts → WroteHeld (ms ++ m ∷ []) x (acts ++ new)
   held_writes {x} {acts} new did h = record {
-    since = since_latch_on h.since;
-    writes_are = writes_of-push h.since.during m ∙ (ap (λ z. z ++ writes_in m.event.act) h.writes_are ∙ ap (λ z. acts ++ z) did);
+    before = h.before;
+    first = h.first;
+    latch = h.latch;
+    since = h.since ++ m ∷ [];
+    split = ap (λ z. z ++ m ∷ []) h.split ∙ append_assoc h.before (h.latch ∷ h.since) (m ∷ []);
+    latched = h.latched;
+    writes_are = writes_of-push h.since m ∙ (ap (λ z. z ++ writes_in m.event.act) h.writes_are ∙ ap (λ z. acts ++ z) did);
   }
 
   pub held_still : {x : ℕ} {acts : List (Act Page Reply)} → writes_in m.event.act ≡ [] → WroteHeld ms x acts → WroteHeld (ms ++ m ∷ []) x acts

@@ -74,7 +74,7 @@ each_live know w [] g h = tt
 each_live know w (x ∷ xs) g h = (live_page know w x g h.0, each_live know w xs g h.1)
 
 -- the laws, where whoever is in the middle of a compression has the trail say so
-pub laws : {P : Type 0} (know : P → Know) (w : World P) → TellsMiddles w → IsGood know w → HasLaws w.now w.trail (w.map 0)
+pub laws : {P : Type 0} (know : P → Know) (w : World P) → TellsMiddles w → IsGood know w → HasLaws (snapshot_of w.now w.trail) (w.map 0)
 laws know w t g =
     let to : (x : ℕ) → IsLivePage w.now w.trail x → live (tree_of w) x = λ x h. live_status know w x g h in
     let from : (x : ℕ) → live (tree_of w) x → IsLivePage w.now w.trail x = λ x h. live_page know w x g h in

@@ -18,7 +18,8 @@ use Rattle.bl_proc.specs.declared.parts.PartRows.{PartRows}
 use Rattle.bl_proc.specs.declared.parts.PartStage.{PartStage}
 use Rattle.bl_proc.specs.declared.parts.PartStage.TheVariants.{Probing, Descending, Ending, Over}
 use Rattle.bl_proc.specs.Processes.{next_of, Takes}
-use Rattle.bl_claims.specs.Latches.{OnlyLooks}
+use Rattle.bl_claims.specs.Latches.{LatchesNone}
+use Rattle.bl_proc_invariant.proofs.Looking.{only_looks}
 use Rattle.bl_proc_bounds.specs.Latches.{IsTidy}
 use Rattle.bl_proc_bounds.specs.Searches.{IsSearch, IsUnderWay}
 use Rattle.bl_proc_invariant.specs.Knowing.{end_of_proc}
@@ -26,7 +27,7 @@ use Rattle.bl_proc_unique.specs.Courses.{GoesOn}
 use Rattle.bl_proc_unique.proofs.Parts.{part_goes}
 use Rattle.bl_proc_unique.proofs.Listings.{part_some}
 use Rattle.bl_claims.specs.Trails.{Trail, marks_of}
-use Rattle.bl_claims.specs.Meanings.{Unwritten}
+use Rattle.bl_claims.specs.Meanings.{writes_of}
 use Rattle.bl_proc_invariant.specs.Logs.{proc_log}
 use Rattle.bl_store.specs.declared.store.Glance.{Glance}
 use Rattle.bl_store.specs.declared.view.View.{View}
@@ -105,13 +106,17 @@ module _ (l : Layout) (pass from turns : ℕ) (old : Mine) (h h' : Seat (Unit {0
   abbrev marks : Trail
   marks = marks_of (name (known h).pass (known h).number) (known h').trail
 
-  unwritten : Unwritten marks
-  unwritten =
-      let done = ended.1 in
-      subst (λ (z : Proc). proc_log z marks) (sym done.state ∙ over) done.log
+  own : marks ≡ marks_of (name pass (old.number + 1)) (known h').trail
+  own = λ i. marks_of (name (has.since.named i) (has.since.number i)) (known h').trail
 
-  looks : OnlyLooks (marks_of (name pass (old.number + 1)) (known h').trail)
-  looks = own_looks pass old (known h) (known h').trail has.since (subst (λ (z : Proc). IsTidy z marks) over ended.0.notes.tidy, unwritten)
+  -- it has written nothing, and latched nothing
+  writes : writes_of (marks_of (name pass (old.number + 1)) (known h').trail) ≡ []
+  writes =
+      let done = ended.1 in
+      ap writes_of (sym own) ∙ subst (λ (z : Proc). proc_log z marks) (sym done.state ∙ over) done.log
+
+  latches : LatchesNone (marks_of (name pass (old.number + 1)) (known h').trail)
+  latches = subst LatchesNone own (subst (λ (z : Proc). IsTidy z marks) over ended.0.notes.tidy)
 
   told : Finishes (end_of_proc (listing from (Ending rows))) (known h) (known h')
   told = subst (λ (z : Proc). Finishes (end_of_proc z) (known h) (known h')) has.leaf.state ended.0
@@ -127,8 +132,8 @@ module _ (l : Layout) (pass from turns : ℕ) (old : Mine) (h h' : Seat (Unit {0
     takes = (refl, refl);
     op = refl;
     work = refl;
-    log = looks.1;
-    tidy = looks.0;
+    log = writes;
+    tidy = latches;
   }
 
   ended_within : IsWithinBound l.pages (name pass (old.number + 1)) (known h').trail × (gets_of (name pass (old.number + 1)) (known h').trail ≤ turns)
@@ -139,7 +144,7 @@ module _ (l : Layout) (pass from turns : ℕ) (old : Mine) (h h' : Seat (Unit {0
     answers = op_answered old.first pass old (known h') (listing from (Ending rows)) (listing from (Over rows)) (op.Part from) (Rows rows.rows rows.next) None part_done refl refl refl;
     few = ended_within.1;
     bounded = ended_within.0;
-    looks = looks;
+    looks = only_looks _ latches writes;
   }
 
 -- what is said where there is none

@@ -12,7 +12,6 @@ use Rattle.bl_page.specs.Machine as machine
 use Rattle.bl_claims.specs.Trails.{Said, Mark, Trail, entries_at, marks_of, IsMarked}
 use Rattle.bl_core.proofs.Pushes.{name_cases, marks_of-own, SaysAt-last, DoesAt-last}
 use Rattle.bl_core.specs.Worlds.{World}
-use Rattle.bl_core.specs.Worlds.Stage.{Busy}
 use Rattle.bl_claims.specs.Walks.{Each}
 use Rattle.bl_core.proofs.Frames.{Each-map}
 use Rattle.bl_core.proofs.After.{put_name, is_put_name}
@@ -24,16 +23,15 @@ use Rattle.bl_proc.specs.declared.kinds.Proc.TheVariants as proc
 use Rattle.bl_proc.specs.Processes.{next_of}
 use Rattle.bl_proc_invariant.specs.Logs.{proc_log}
 use Rattle.bl_proc_invariant.specs.Turns.{Does, Turned}
-use Rattle.bl_proc_invariant.specs.Knowing.{Run, know_of, bare as know, end_of_proc, run_next}
+use Rattle.bl_proc_invariant.specs.Knowing.{Run, bare as know, end_of_proc, run_next}
 use Rattle.bl_proc_invariant.proofs.Starting.{with_proc, bare_enters_good as enters_good}
 use Rattle.bl_proc_invariant.proofs.Logged.{early_log}
 use Rattle.bl_proc_invariant.proofs.Middles.{KeepsLogs}
 use Rattle.bl_proc_invariant.proofs.GivingUp.{given_up, give_up}
 use Rattle.bl_proc_bounds.specs.Searches.{IsSearch}
 use Rattle.bl_claims.specs.Latches.{OnlyLooks}
-use Rattle.bl_claims.specs.Meanings.{Unwritten}
-use Rattle.bl_core.proofs.Meant.{unwritten_on}
-use Rattle.bl_proc_invariant.proofs.Looking.{find_unwritten, part_unwritten}
+use Rattle.bl_claims.specs.Meanings.{writes_of}
+use Rattle.bl_proc_invariant.proofs.Looking.{looking_on, only_looks}
 use Rattle.bl_proc_bounds.specs.Paces.{AllKept}
 use Rattle.bl_proc_bounds.proofs.Turns.{state_kept}
 use Rattle.bl_proc_bounds.proofs.Latching.{none_up}
@@ -150,7 +148,7 @@ begins_process l n d process next unborn course s g o at =
     let t : Turned know w p Act.Begin s1 (run_next w.now (w.proc p) seen.Done course.new) = turn_of w p process seen.Done s1 f.good (ap (λ (r : Run). r.state) here) course act.Begin next tt tt does in
     let b' = run_next w.now (w.proc p) seen.Done course.new in
     let h = g.hands n Idle d at in
-    let early : proc_log process (marks_of p w.trail) = early_log b blank.stage (marks_of p w.trail) in
+    let early : proc_log process (marks_of p w.trail) = early_log b blank.stage (marks_of p w.trail) (ap writes_of (none_yet s g n d at b blank)) in
     let kept : AllKept t.next = state_kept w t.next p process b' seen.Done act.Begin _ refl (ap (λ (r : Run). r.state) here) next t.extends f.good t.good early course.takes tt f.kept in
     let log : proc_log course.new (marks_of p t.next.trail) = log_after w p process seen.Done course act.Begin s1 b' t next tt early in
     let past : List Entry = own n d.trail in
@@ -242,14 +240,11 @@ ends_process l n d next course s since f o at =
 end_latches : (x : ℕ) → ◌≢◌ {A = Act Page Reply} (Act.End None) (Act.Latch x)
 end_latches x e = cc
 
--- a search that runs has written nothing
-search_unwritten : (r : Run) → IsSearch r.state → (know r).stage ≡ Busy → (marks : Trail) → proc_log r.state marks → Unwritten marks
-search_unwritten r search busy marks log = by_state r.state search busy log
-  where
-    by_state : (a : Proc) → IsSearch a → (know_of r.got r.child r.time a).stage ≡ Busy → proc_log a marks → Unwritten marks
-    by_state (proc.Find a) search busy log = find_unwritten a.key a.stage marks busy log
-    by_state (proc.Part a) search busy log = part_unwritten a.from a.stage marks busy log
-    by_state old search busy log = absurd search
+-- a search has written nothing
+search_writes : (a : Proc) → IsSearch a → (marks : Trail) → proc_log a marks → writes_of marks ≡ []
+search_writes (proc.Find a) search marks log = log
+search_writes (proc.Part a) search marks log = log
+search_writes old search marks log = absurd search
 
 pub gives_up_process : (l : Layout) (n : ℕ) (d : Mine) → MayGiveUp d.state → Ends Fits l n d gives_up
 gives_up_process l n d may s since f o at =
@@ -265,7 +260,7 @@ gives_up_process l n d may s since f o at =
     let z = finishes l n d s since f o at None _ t (left_kept w t.next _ (given_up r) _ t.extends f.good t.good refl refl search end_latches f.kept) in
     let mk = turn_mark w f.good n d.number (Act.End None) s1 (given_up r) t in
     let log : proc_log r.state (marks_of p w.trail) = subst (λ (z : Proc). proc_log z (marks_of p w.trail)) (sym is) (standing s f n since d at).5 in
-    let quiet : Unwritten (marks_of p w.trail ++ mk ∷ []) = unwritten_on (marks_of p w.trail) mk refl (search_unwritten r search (may.busy r is) (marks_of p w.trail) log) in
-    let looks : OnlyLooks (marks_of p w.trail ++ mk ∷ []) = (none_up w p r.state mk f.kept.tidy refl search end_latches, quiet) in
+    let quiet = looking_on (marks_of p w.trail) mk refl (search_writes r.state search (marks_of p w.trail) log) in
+    let looks : OnlyLooks (marks_of p w.trail ++ mk ∷ []) = only_looks (marks_of p w.trail ++ mk ∷ []) (none_up w p r.state mk f.kept.tidy refl search end_latches) quiet in
     let marks : marks_of p z.1.trail ≡ marks_of p w.trail ++ mk ∷ [] = ap (marks_of p) (z.4 ∙ t.extends.trail) ∙ marks_of-own p w.trail mk refl in
     (z.0, z.1, z.2, (z.3, subst (λ (q : Name). OnlyLooks (marks_of q z.1.trail)) (λ i. name (sym named.0 i) d.number) (subst OnlyLooks (sym marks) looks)))

@@ -85,13 +85,13 @@ since_end pass answer old d e s t =
       more = s.before ++ s.first ∷ (s.since ++ tail);
       begins = t.notes.trail ∙ (ap (λ (z : Trail). z ++ tail) s.begins ∙ longer old.trail s.before s.first s.since tail);
       alone = each_append _ s.before (s.first ∷ (s.since ++ tail)) (others_only p s.before s.none) rest;
-      first = record { before = s.before; first = s.first; rest = s.since ++ tail; split = refl; begun = s.begun; none = s.none };
-      last = record {
-        before = s.before ++ s.first ∷ (s.since ++ t.notes.between);
-        last = t.notes.last;
-        split = sym (append_assoc s.before (s.first ∷ (s.since ++ t.notes.between)) (t.notes.last ∷ []) ∙ ap (λ (z : Trail). s.before ++ s.first ∷ z) (append_assoc s.since t.notes.between (t.notes.last ∷ [])));
-        ended = t.notes.event ∙ (λ i. record { process = name (s.named i) (s.number i); act = End answer });
-      };
+      first = (s.before, s.first, s.since ++ tail, refl, s.begun, s.none);
+      last = (
+        s.before ++ s.first ∷ (s.since ++ t.notes.between),
+        t.notes.last,
+        sym (append_assoc s.before (s.first ∷ (s.since ++ t.notes.between)) (t.notes.last ∷ []) ∙ ap (λ (z : Trail). s.before ++ s.first ∷ z) (append_assoc s.since t.notes.between (t.notes.last ∷ []))),
+        t.notes.event ∙ (λ i. record { process = name (s.named i) (s.number i); act = End answer }),
+      );
     }
 
 -- what the index began with, and what the pass has seen by then

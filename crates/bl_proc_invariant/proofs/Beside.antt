@@ -1,8 +1,8 @@
 -- The hint beside the reply of a process means what it says.
-use Rattle.std.proofs.Common.{◌≡◌, Option, Some, None, sym, subst}
+use Rattle.std.proofs.Common.{◌≡◌, [], Option, Some, None, sym, subst}
 use Rattle.bl_model.specs.declared.operation.Reply.{Reply}
 use Rattle.bl_claims.specs.Trails.{Trail}
-use Rattle.bl_claims.specs.Meanings.{Unwritten}
+use Rattle.bl_claims.specs.Meanings.{writes_of}
 use Rattle.bl_proc_base.specs.declared.answers.Answer.{Answer}
 use Rattle.bl_proc_base.specs.declared.answers.Answer.TheVariants as answer
 use Rattle.bl_proc_base.specs.declared.answers.Hint.{Hint}
@@ -28,7 +28,7 @@ use Rattle.bl_proc.specs.Deletes.{deleted_answer, delete_answer_in}
 use Rattle.bl_proc.specs.Processes.{answer_of}
 use Rattle.bl_proc_meanings.specs.Hinted.{MeansInserted, MeansDeleted}
 use Rattle.bl_proc_invariant.specs.Beside.{MeansBeside}
-use Rattle.bl_proc_invariant.specs.Logs.{find_log, part_log, inserted_log, insert_log, deleted_log, delete_log, proc_log}
+use Rattle.bl_proc_invariant.specs.Logs.{inserted_log, insert_log, deleted_log, delete_log, proc_log}
 
 some_answer : (a b : Answer) → Some a ≡ Some b → a ≡ b
 some_answer a b e = cc
@@ -49,12 +49,12 @@ delete_beside (deleted.Deleted removed) reply h marks e log = subst (λ z. Means
 delete_beside deleted.Absent reply h marks e log = subst (λ z. MeansDeleted z h marks) (same_reply _ _ _ _ e) (log, sym (same_hint _ _ _ _ e))
 delete_beside deleted.NoRoom reply h marks e log = subst (λ z. MeansDeleted z h marks) (same_reply _ _ _ _ e) (log, sym (same_hint _ _ _ _ e))
 
-find_beside : (stage : FindStage) (reply : Reply) (h : Option Hint) (marks : Trail) → find_answer_in stage ≡ Some (answer.Op reply h) → find_log stage marks → Unwritten marks × (h ≡ None)
+find_beside : (stage : FindStage) (reply : Reply) (h : Option Hint) (marks : Trail) → find_answer_in stage ≡ Some (answer.Op reply h) → writes_of marks ≡ [] → (writes_of marks ≡ []) × (h ≡ None)
 find_beside (find.Over (Some value)) reply h marks e log = (log, sym (same_hint _ _ _ _ (some_answer _ _ e)))
 find_beside (find.Over None) reply h marks e log = (log, sym (same_hint _ _ _ _ (some_answer _ _ e)))
 find_beside old reply h marks e log = absurd (let f = e in cc)
 
-part_beside : (stage : PartStage) (reply : Reply) (h : Option Hint) (marks : Trail) → part_answer_in stage ≡ Some (answer.Op reply h) → part_log stage marks → Unwritten marks × (h ≡ None)
+part_beside : (stage : PartStage) (reply : Reply) (h : Option Hint) (marks : Trail) → part_answer_in stage ≡ Some (answer.Op reply h) → writes_of marks ≡ [] → (writes_of marks ≡ []) × (h ≡ None)
 part_beside (part.Over r) reply h marks e log = (log, sym (same_hint _ _ _ _ (some_answer _ _ e)))
 part_beside old reply h marks e log = absurd (let f = e in cc)
 

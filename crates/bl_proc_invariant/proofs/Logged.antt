@@ -7,7 +7,7 @@ use Rattle.bl_page.specs.declared.machine.Missed.{Missed}
 use Rattle.bl_page.specs.Machine.{Name, State, Act}
 use Rattle.bl_page.specs.Machine.Act.{Get, Miss}
 use Rattle.bl_claims.specs.Trails.{Mark, Trail, Saw, marks_of}
-use Rattle.bl_claims.specs.Meanings.{writes_in}
+use Rattle.bl_claims.specs.Meanings.{writes_in, writes_of}
 use Rattle.bl_core.proofs.Pushes.{name_cases, marks_of-own, marks_of-other}
 use Rattle.bl_core.specs.Worlds.{Stage, World, IsGood}
 use Rattle.bl_core.specs.Blank.{IsBlank}
@@ -40,7 +40,7 @@ use Rattle.bl_proc_invariant.proofs.Plain.{plain}
 use Rattle.bl_proc_invariant.proofs.Logging.{post_on, post_stays}
 use Rattle.bl_proc_invariant.proofs.Doing.{compress_on, compress_stays}
 use Rattle.bl_proc_invariant.proofs.LoweringLogs.{lower_on, lower_stays}
-use Rattle.bl_proc_invariant.proofs.Looking.{find_on, part_on, find_stays, part_stays, early_find, early_part}
+use Rattle.bl_proc_invariant.proofs.Looking.{looking_on, find_on, part_on}
 use Rattle.bl_proc_invariant.proofs.Putting.{insert_on, insert_stays, delete_on, delete_stays}
 use Rattle.bl_proc_unique.proofs.KindCases.{find_case, part_case, insert_case, delete_case, post_case, compress_case, lower_case}
 
@@ -157,18 +157,18 @@ early_lower got lower.New e marks = tt
 early_lower got (lower.Sinking Looking) e marks = absurd (let f = e in cc)
 early_lower got old e marks = absurd (let f = e in cc)
 
-early_state : (got : ℕ → Page) (child time : ℕ) (a : Proc) → (know_of got child time a).stage ≡ Stage.Early → (marks : Trail) → proc_log a marks
-early_state got child time (Find a) e marks = early_find a.key a.stage e marks
-early_state got child time (Insert a) e marks = early_insert a.key a.value got a.stage e marks
-early_state got child time (Delete a) e marks = early_delete a.key got a.stage e marks
-early_state got child time (Post a) e marks = early_post a.level a.key got child a.stage e marks
-early_state got child time (Part a) e marks = early_part a.from a.stage e marks
-early_state got child time (Compress a) e marks = early_press a.level a.key got a.stage e marks
-early_state got child time (Reclaim a) e marks = tt
-early_state got child time (Lower a) e marks = early_lower got a.stage e marks
+early_state : (got : ℕ → Page) (child time : ℕ) (a : Proc) → (know_of got child time a).stage ≡ Stage.Early → (marks : Trail) → writes_of marks ≡ [] → proc_log a marks
+early_state got child time (Find a) e marks none = none
+early_state got child time (Insert a) e marks none = early_insert a.key a.value got a.stage e marks
+early_state got child time (Delete a) e marks none = early_delete a.key got a.stage e marks
+early_state got child time (Post a) e marks none = early_post a.level a.key got child a.stage e marks
+early_state got child time (Part a) e marks none = none
+early_state got child time (Compress a) e marks none = early_press a.level a.key got a.stage e marks
+early_state got child time (Reclaim a) e marks none = tt
+early_state got child time (Lower a) e marks none = early_lower got a.stage e marks
 
-pub early_log : (b : Run) → (know b).stage ≡ Stage.Early → (marks : Trail) → proc_log b.state marks
-early_log b e marks = early_state b.got b.child b.time b.state e marks
+pub early_log : (b : Run) → (know b).stage ≡ Stage.Early → (marks : Trail) → writes_of marks ≡ [] → proc_log b.state marks
+early_log b e marks none = early_state b.got b.child b.time b.state e marks none
 
 pub full_blank : (b : Run) → IsBlank (bare b) → IsBlank (know b)
 full_blank b is = record {
@@ -179,7 +179,7 @@ full_blank b is = record {
   children = is.children;
   passed = is.passed;
   sound = is.sound;
-  log = early_log b is.stage [];
+  log = early_log b is.stage [] refl;
 }
 
 pub bare_blank : (b : Run) → IsBlank (know b) → IsBlank (bare b)
@@ -227,10 +227,10 @@ log_turn (Part a) (Part c) what marks m t did saw h = part_on marks m (part_case
 log_turn old new what marks m t did saw h = absurd t
 
 log_stays : {what : Missed} (old : Proc) (marks : Trail) (m : Mark) → m.event.act ≡ Miss what → proc_log old marks → proc_log old (marks ++ m ∷ [])
-log_stays (Find a) marks m did h = find_stays marks m (ap writes_in did) a.stage h
+log_stays (Find a) marks m did h = looking_on marks m (ap writes_in did) h
 log_stays (Insert a) marks m did h = insert_stays marks m (ap writes_in did) a.stage h
 log_stays (Delete a) marks m did h = delete_stays marks m (ap writes_in did) a.stage h
-log_stays (Part a) marks m did h = part_stays marks m (ap writes_in did) a.stage h
+log_stays (Part a) marks m did h = looking_on marks m (ap writes_in did) h
 log_stays (Compress a) marks m did h = compress_stays marks m a.level a.key did a.stage h
 log_stays (Reclaim a) marks m did h = tt
 log_stays (Lower a) marks m did h = lower_stays marks m did a.stage h

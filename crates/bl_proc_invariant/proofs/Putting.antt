@@ -43,12 +43,12 @@ module _ (marks : Trail) (m : Mark) where
 
   -- a mark that writes nothing
   module _ (quiet : writes_in m.event.act ≡ []) where
-    leaf_stays : {separator : Option ℕ} → WroteLeaf separator marks → WroteLeaf separator more
-    leaf_stays h = record { at = h.at; acts = h.acts; wrote = held_still marks m quiet h.wrote; pages = h.pages; back = h.back }
+    leaf_stays : (separator : Option ℕ) → WroteLeaf separator marks → WroteLeaf separator more
+    leaf_stays separator h = (h.0, h.1, h.2, held_still marks m quiet h.3, h.4)
 
     outcome_stays : (Whole : Page → Type 0) (Parts : Type 0) (o : Outcome) → put_log Whole Parts o marks → put_log Whole Parts o more
     outcome_stays Whole Parts outcome.Changed h = (h.0, h.1, held_still marks m quiet h.2, h.3)
-    outcome_stays Whole Parts (outcome.Parted separator) h = (leaf_stays h.0, h.1)
+    outcome_stays Whole Parts (outcome.Parted separator) h = (leaf_stays (Some separator) h.0, h.1)
     outcome_stays Whole Parts outcome.Refused h = unwritten_on marks m quiet h
 
     entry_stays : (Whole : Page → Type 0) (Parts : Type 0) (c : Change) → entry_log Whole Parts c marks → entry_log Whole Parts c more
@@ -60,7 +60,7 @@ module _ (marks : Trail) (m : Mark) where
     entry_stays Whole Parts (change.Opening x o) h = outcome_stays Whole Parts o h
 
     inserted_stays : (r : InsertReply) → inserted_log r marks → inserted_log r more
-    inserted_stays (inserted.Inserted separator) h = leaf_stays h
+    inserted_stays (inserted.Inserted separator) h = leaf_stays separator h
     inserted_stays (inserted.Present there) h = unwritten_on marks m quiet h
     inserted_stays inserted.NoRoom h = unwritten_on marks m quiet h
 
@@ -109,13 +109,13 @@ module _ (marks : Trail) (m : Mark) where
     entry_on (ChangeCase.TakeRefused full d t) did h = subst (λ z. entry_log Whole Parts z more) (sym t) (refused did h.0)
     entry_on (ChangeCase.PutNew p d t) did h = subst (λ z. entry_log Whole Parts z more) (sym t) (held_writes marks m (Put p.new p.right ∷ []) (ap writes_in did) h.0, h.1, h.2)
     entry_on (ChangeCase.PutOld p d t) did h =
-        let leaf : WroteLeaf (Some p.separator) more = record {
-          at = p.at;
-          acts = Take p.new ∷ Put p.new p.right ∷ Put p.at p.left ∷ [];
-          wrote = held_writes marks m (Put p.at p.left ∷ []) (ap writes_in did) h.0;
-          pages = p.right ∷ p.left ∷ [];
-          back = WritesBack.Split p.new p.separator p.right p.left h.1;
-        } in
+        let leaf : WroteLeaf (Some p.separator) more = (
+          p.at,
+          Take p.new ∷ Put p.new p.right ∷ Put p.at p.left ∷ [],
+          p.right ∷ p.left ∷ [],
+          held_writes marks m (Put p.at p.left ∷ []) (ap writes_in did) h.0,
+          WritesBack.Split p.new p.separator p.right p.left h.1,
+        ) in
         subst (λ z. entry_log Whole Parts z more) (sym t) (leaf, h.2)
     entry_on (ChangeCase.OpenedNew x new separator d t) did h = subst (λ z. entry_log Whole Parts z more) (sym t) (opened new (outcome.Parted separator) did h)
 
@@ -124,7 +124,7 @@ module _ (marks : Trail) (m : Mark) where
 
   -- an insertion
   outcome_inserted : (o : Outcome) → put_log AnyPage (Unit {0}) o more → inserted_log (insert_reply o) more
-  outcome_inserted outcome.Changed h = record { at = h.0; acts = Put h.0 h.1 ∷ []; wrote = h.2; pages = h.1 ∷ []; back = WritesBack.Whole h.1 }
+  outcome_inserted outcome.Changed h = (h.0, Put h.0 h.1 ∷ [], h.1 ∷ [], h.2, WritesBack.Whole h.1)
   outcome_inserted (outcome.Parted separator) h = h.0
   outcome_inserted outcome.Refused h = h
 

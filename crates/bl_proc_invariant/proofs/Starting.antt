@@ -1,10 +1,11 @@
 -- Where worlds of processes begin, how a process enters one, and the laws of each.
-use Rattle.std.proofs.Common.{ℕ, ◌≡◌, None, Some, ap, sym, ◌∙◌, subst, inl, inr}
+use Rattle.std.proofs.Common.{ℕ, ◌≡◌, None, Some, ap, sym, ◌∙◌, subst, inl, inr, []}
 use Rattle.bl_page.specs.Machine.{Name}
 use Rattle.bl_page.specs.Machine.Phase.{Waiting}
-use Rattle.bl_claims.specs.Moments.{HasLaws}
+use Rattle.bl_claims.specs.Moments.{snapshot_of, HasLaws}
 use Rattle.bl_claims.specs.Trails.{marks_of, HasSaid}
 use Rattle.bl_core.proofs.Pushes.{name_cases}
+use Rattle.bl_claims.specs.Meanings.{writes_of}
 use Rattle.bl_core.specs.Worlds.{Know, World, HoldsPage, IsHeld, IsGoes, IsRelied, IsSure, IsGood, IsPassed, MayGet}
 use Rattle.bl_core.proofs.Frames.{Each-map}
 use Rattle.bl_core.proofs.After.{put_name, is_put_name}
@@ -17,10 +18,10 @@ use Rattle.bl_proc_invariant.proofs.Middles.{KeepsLogs, tells_middles}
 use Rattle.bl_proc_invariant.proofs.Logged.{bare_good, full_good, bare_blank, early_log}
 
 -- The laws of the tree hold in every good world of these processes.
-pub bare_laws : (w : World Run) → IsGood bare w → KeepsLogs w → HasLaws w.now w.trail (w.map 0)
+pub bare_laws : (w : World Run) → IsGood bare w → KeepsLogs w → HasLaws (snapshot_of w.now w.trail) (w.map 0)
 bare_laws w g logs = laws bare w (tells_middles w g logs) g
 
-pub run_laws : (w : World Run) → IsGood know w → HasLaws w.now w.trail (w.map 0)
+pub run_laws : (w : World Run) → IsGood know w → HasLaws (snapshot_of w.now w.trail) (w.map 0)
 run_laws w g = bare_laws w (bare_good w g) (λ p since runs. (g.sure p).log)
 
 -- the same world with another process at one name
@@ -121,10 +122,10 @@ bare_enters_good w p b g waiting old new =
       ];
     }
 
-pub enters_good : (w : World Run) (p : Name) (b : Run) → IsGood know w → w.now.phase p ≡ Waiting → IsBlank (know (w.proc p)) → IsBlank (know b) → IsGood know (with_proc w p b)
-enters_good w p b g waiting old new =
+pub enters_good : (w : World Run) (p : Name) (b : Run) → IsGood know w → w.now.phase p ≡ Waiting → marks_of p w.trail ≡ [] → IsBlank (know (w.proc p)) → IsBlank (know b) → IsGood know (with_proc w p b)
+enters_good w p b g waiting none old new =
     let put = is_put_name p b w.proc in
     full_good (with_proc w p b) (bare_enters_good w p b (bare_good w g) waiting (bare_blank (w.proc p) old) (bare_blank b new)) (λ q. elim (name_cases q p) [
-      | inl e ↦ subst (λ r. proc_log r.state (marks_of q w.trail)) (sym (ap (put_name p b w.proc) e ∙ put.at)) (early_log b new.stage (marks_of q w.trail))
+      | inl e ↦ subst (λ r. proc_log r.state (marks_of q w.trail)) (sym (ap (put_name p b w.proc) e ∙ put.at)) (early_log b new.stage (marks_of q w.trail) (ap writes_of (ap (λ n. marks_of n w.trail) e ∙ none)))
       | inr n ↦ subst (λ r. proc_log r.state (marks_of q w.trail)) (sym (put.others q n)) (g.sure q).log
     ])

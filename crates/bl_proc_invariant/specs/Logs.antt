@@ -50,10 +50,6 @@ use Rattle.bl_proc_meanings.specs.Lowered.{MeansLowered}
 use Rattle.bl_proc_invariant.specs.LoweringLog.{lowering_log}
 use Rattle.bl_proc.specs.declared.lowering.LowerStage.{LowerStage}
 use Rattle.bl_proc.specs.declared.lowering.LowerStage.TheVariants as lower
-use Rattle.bl_proc.specs.declared.searching.FindStage.{FindStage}
-use Rattle.bl_proc.specs.declared.searching.FindStage.TheVariants as find
-use Rattle.bl_proc.specs.declared.parts.PartStage.{PartStage}
-use Rattle.bl_proc.specs.declared.parts.PartStage.TheVariants as part
 use Rattle.bl_proc.specs.declared.kinds.Proc.{Proc}
 use Rattle.bl_proc.specs.declared.kinds.Proc.TheVariants as proc
 
@@ -271,26 +267,12 @@ lower_log (lower.Ending r) marks = MeansLowered r marks
 lower_log (lower.Over r) marks = MeansLowered r marks
 
 -- Searches and parts write nothing.
-abbrev pub find_log : FindStage → Trail → Type 0
-find_log find.New marks = Unit {0}
-find_log (find.Descending d) marks = Unwritten marks
-find_log (find.Ending value) marks = Unwritten marks
-find_log (find.Over value) marks = Unwritten marks
-
-abbrev pub part_log : PartStage → Trail → Type 0
-part_log part.New marks = Unit {0}
-part_log (part.Near x) marks = Unit {0}
-part_log (part.Probing x) marks = Unwritten marks
-part_log (part.Descending d) marks = Unwritten marks
-part_log (part.Ending r) marks = Unwritten marks
-part_log (part.Over r) marks = Unwritten marks
-
 abbrev pub proc_log : Proc → Trail → Type 0
-proc_log (proc.Find p) marks = find_log p.stage marks
+proc_log (proc.Find p) marks = writes_of marks ≡ []
 proc_log (proc.Insert p) marks = insert_log p.stage marks
 proc_log (proc.Delete p) marks = delete_log p.stage marks
 proc_log (proc.Post p) marks = post_log p.level p.key p.stage marks
-proc_log (proc.Part p) marks = part_log p.stage marks
+proc_log (proc.Part p) marks = writes_of marks ≡ []
 proc_log (proc.Compress p) marks = compress_log p.level p.key p.stage marks
 proc_log (proc.Reclaim p) marks = Unit {0}
 proc_log (proc.Lower p) marks = lower_log p.stage marks

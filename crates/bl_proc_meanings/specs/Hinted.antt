@@ -12,12 +12,8 @@ use Rattle.bl_proc_base.specs.Thin.{thin_low, thin_hint}
 use Rattle.bl_proc.specs.Inserts.{post_hint}
 
 -- It has written back the page that it latched, whole or split at that separator, and has written nothing else.
-pub record WroteLeaf (separator : Option ℕ) (marks : Trail) : Type 0 where
-  pub at : ℕ
-  pub acts : List (Act Page Reply)
-  pub wrote : WroteHeld marks at acts
-  pub pages : List Page
-  pub back : WritesBack at separator pages acts
+abbrev pub WroteLeaf : Option ℕ → Trail → Type 0
+WroteLeaf separator marks = (x : ℕ) × (acts : List (Act Page Reply)) × (pages : List Page) × WroteHeld marks x acts × WritesBack x separator pages acts
 
 -- Inserted: the leaf was written back; where it was split, the hint is that the upper half is to be listed, by its low. Any other
 -- answer: nothing was written, and there is no hint.

@@ -7,7 +7,7 @@ use Rattle.bl_page.specs.Machine.{Name}
 use Rattle.bl_page.specs.Machine.Act.{End}
 use Rattle.bl_page.specs.Machine.Phase.{Waiting, Ended}
 use Rattle.bl_claims.specs.Trails.{Said, marks_of, history_of, SaysAt, DoesAt, HasSaid}
-use Rattle.bl_claims.specs.Moments.{HasLaws}
+use Rattle.bl_claims.specs.Moments.{snapshot_of, HasLaws}
 use Rattle.bl_core.specs.Worlds.{IsStage, World as ModelWorld, IsSure, IsGood}
 use Rattle.bl_proc_base.specs.declared.answers.Answer.{Answer}
 use Rattle.bl_proc_base.specs.declared.answers.Answer.TheVariants as answer
@@ -155,7 +155,7 @@ module _ (v : View) (h : Has v) where
         unreleased = none_released w.start w.now w.trail r.leads;
         contents = h.contents;
         owner = h.owner;
-        laws = subst (λ f. HasLaws w.now w.trail f) (world_map w h.good h.first) (run_laws w h.good);
+        laws = subst (λ f. HasLaws (snapshot_of w.now w.trail) f) (world_map w h.good h.first) (run_laws w h.good);
         moments = h.moments;
         marked = r.marked;
         legal = subst (λ m. IsLegalFrom m (history_of w.trail)) h.first r.legal;

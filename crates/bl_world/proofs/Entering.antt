@@ -136,7 +136,7 @@ enters pages owners processes events p small next h =
     let more : length (processes ++ p ∷ []) ≡ suc n = push_length processes p in (
       record {
         world = with_proc old name b;
-        good = enters_good old name b h.good free.0 free.1 (full_blank b (blank (length pages) b.got 0 0 p small next));
+        good = enters_good old name b h.good free.0 free.2 free.1 (full_blank b (blank (length pages) b.got 0 0 p small next));
         kept = enter_kept old name b free.2 (blank (length pages) b.got 0 0 p small next).stage h.kept;
         opening = h.opening;
         first = h.first;

@@ -3,7 +3,7 @@ use Rattle.std.proofs.Common.{◌≡◌, ap, ◌∙◌, subst}
 use Rattle.bl_model.specs.Map.{empty}
 use Rattle.bl_model.specs.History.{final_map}
 use Rattle.bl_claims.specs.Trails.{history_of}
-use Rattle.bl_claims.specs.Moments.{HasLaws}
+use Rattle.bl_claims.specs.Moments.{snapshot_of, HasLaws}
 use Rattle.bl_claims.specs.States.{Moment}
 use Rattle.bl_core.specs.Worlds.{World as ModelWorld, IsGood}
 use Rattle.bl_proc_invariant.specs.Knowing.{Run, know}
@@ -17,5 +17,5 @@ pub world_moment : (w : ModelWorld Run) → IsGood know w → w.first ≡ empty 
 world_moment w g first = record {
   now = w.now;
   leads = g.recorded.leads;
-  laws = subst (λ f. HasLaws w.now w.trail f) (world_map w g first) (run_laws w g);
+  laws = subst (λ f. HasLaws (snapshot_of w.now w.trail) f) (world_map w g first) (run_laws w g);
 }

@@ -10,7 +10,7 @@ use Rattle.bl_page.specs.Machine.{Name, State}
 use Rattle.bl_page.specs.Machine.Act.{Begin, End, Get}
 use Rattle.bl_page.specs.Machine.Owner.{Released}
 use Rattle.bl_claims.specs.Trails.{Said, Mark, Trail, marks_of, events_of, history_of, DoesAt, SaysAt, IsMarked, LeadsOn}
-use Rattle.bl_claims.specs.Moments.{HasLaws}
+use Rattle.bl_claims.specs.Moments.{snapshot_of, HasLaws}
 use Rattle.bl_claims.specs.States.{HasMoments}
 use Rattle.bl_claims.specs.Opening.{Opening}
 use Rattle.bl_proc_base.specs.declared.answers.Answer.{Answer}
@@ -102,7 +102,7 @@ pub record Account (v : View) : Type 0 where
   pub contents : (x : ℕ) (c : Page) → slice_get v.pages x ≡ Some c → now.contents x ≡ c
   pub owner : (x : ℕ) (o : Owner) → slice_get v.owners x ≡ Some o → now.owner x ≡ owner_of o
   -- the laws of the tree hold with the map after the history, now and at every moment so far
-  pub laws : HasLaws now trail (final_map empty (history_of trail))
+  pub laws : HasLaws (snapshot_of now trail) (final_map empty (history_of trail))
   pub moments : HasMoments empty start trail
   -- the history is one of the step list: each entry stands once, at its point between begin and end; it is legal from the
   -- empty map; and an operation that ended before another began stands before it

@@ -2,8 +2,7 @@ use Rattle.std.proofs.Common.{rules, refl, ◌≡◌, ◌≤◌, ◌+◌, ◌∙
 use Rattle.bl_model.specs.Replies.{reply_of}
 use Rattle.bl_index_read.specs.Searching.{IsSearching}
 use Rattle.bl_index_steps.proofs.Calls.{since_step, own_looks}
-use Rattle.bl_proc_unique.proofs.KindCases.{find_case}
-use Rattle.bl_proc_invariant.proofs.Looking.{find_went}
+use Rattle.bl_proc_invariant.proofs.Looking.{only_looks}
 use Rattle.bl_index_read.proofs.Silent.{gives_up}
 use Rattle.bl_index_read.proofs.Searches.{searches_on, find_under_way, find_is_search, find_may_give_up, find_answers}
 use Rattle.bl_index_read.proofs.Paces.{at_begin, at_step, at_found, at_end}
@@ -52,7 +51,7 @@ returns-in-Ending-clause-answers c =
         answers = find_answers _ _ _ _ _ c.read.new.process c.args.key c.in-Ending.value (reply_of c.found.result) refl since process.state (takes.1.0 ∙ inv.key) c.in-Ending.is c.finish.ensures.told c.found.ensures;
         few = found.1;
         bounded = found.0;
-        looks = own_looks _ _ _ _ since (c.finish.ensures.tidy, find_went _ (find_case _ _ _ _ c.finish.ensures.takes.1) c.finish.ensures.log);
+        looks = own_looks _ _ _ _ since (only_looks _ c.finish.ensures.tidy c.finish.ensures.log);
       };
       refused = tt;
     }
