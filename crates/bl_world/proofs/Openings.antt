@@ -47,7 +47,7 @@ abbrev nobody : Page → Run
 nobody c = record { state = proc.Find (record { key = 0; stage = find.New }); got = λ x. c; child = 0; time = 0 }
 
 nobody_blank : (c : Page) → IsBlank (know (nobody c))
-nobody_blank c = record { stage = refl; said = refl; holds = refl; goes = refl; children = refl; passed = refl; sound = omega arith; log = tt }
+nobody_blank c = record { stage = refl; said = refl; holds = refl; goes = refl; children = refl; passed = refl; sound = omega arith; log = refl }
 
 -- where there is no event, none stands
 no_event : (events : List Event) (i number : ℕ) (act : Act) → events ≡ [] → Stands events i number act → ⊥
