@@ -110,7 +110,7 @@ opened_sound pages bytes s image sound opened =
 
 -- a process that has done nothing and is not known to do anything
 abbrev idle : Unit {0} → Know
-idle p = record { stage = Stage.Early; said = None; holds = []; goes = []; children = []; middle = None; passed = None; sound = Unit {0}; log = λ marks. Unit {0} }
+idle p = record { stage = Stage.Early; said = None; holds = []; goes = []; children = []; middle = None; passed = None; sound = Unit {0} }
 
 pub opened_begins : (pages : List (Option Page)) (bytes : List ℕ) (rows : List (ℕ × ℕ)) (s : State Page) → IsImage pages bytes → AreSoundPages pages → AreRowsOf pages rows → IsOpened pages s → BeginsWithRows s rows
 opened_begins pages bytes rows s image sound are opened =
@@ -124,7 +124,7 @@ opened_begins pages bytes rows s image sound are opened =
       middle = λ x y h. absurd ((none_paired (live_in pages) y x).1 h);
       evening = λ x y h. absurd ((none_paired (live_in pages) y x).1 h);
     } in
-    let blank : (p : Name) → IsBlank (idle tt) = λ p. record { stage = refl; said = refl; holds = refl; goes = refl; children = refl; passed = refl; sound = tt; log = tt } in
+    let blank : (p : Name) → IsBlank (idle tt) = λ p. record { stage = refl; said = refl; holds = refl; goes = refl; children = refl; passed = refl; sound = tt } in
     let h = laws idle w tells (sound_good idle (live_in pages) s (length pages) (λ p. tt) o blank) in
     record {
       map = same;

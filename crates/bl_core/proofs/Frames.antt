@@ -67,7 +67,6 @@ others_sure w w' m b q k e f n h = record {
   children = Each-map (IsRelied w q) (IsRelied w' q) k.children (relied_kept m.event.process q w w' n f) h.children;
   passed = passed_kept m.event.process w w' f k.passed h.passed;
   sound = h.sound;
-  log = rw (e.trail, marks_of-other q w.trail m (λ i. n (sym i))) h.log;
 }
 
 pub all_sure : {P : Type 0} (know : P → Know) (w w' : World P) (m : Mark) (b : P) → Extends w w' m b → Leaves w w' m.event.process → ((q : Name) → IsSure w q (know (w.proc q))) → IsSure w' m.event.process (know b) → (q : Name) → IsSure w' q (know (w'.proc q))

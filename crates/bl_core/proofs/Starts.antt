@@ -42,7 +42,6 @@ blank_sure know w p s =
       children = rw b.children tt;
       passed = rw b.passed tt;
       sound = b.sound;
-      log = rw s.trail b.log;
     }
 
 pub starts_good : {P : Type 0} (know : P → Know) (w : World P) → IsStart know w → IsGood know w

@@ -24,7 +24,6 @@ pub record Learns {P : Type 0} (w w' : World P) (m : Mark) (k : Know) : Type 0 w
   pub children : Each (λ c. (w'.now.owner c.parent ≡ Held m.event.process) × IsRelied w m.event.process c) k.children
   pub passed : IsPassed w k.passed
   pub sound : k.sound
-  pub log : k.log (marks_of m.event.process w.trail ++ m ∷ [])
 
 pub learns_sure : {P : Type 0} (know : P → Know) (w w' : World P) (m : Mark) (b : P) (k : Know) → Still know w w' m b → Learns w w' m k → IsSure w' m.event.process k
 learns_sure know w w' m b k s l =
@@ -45,7 +44,6 @@ learns_sure know w w' m b k s l =
       }) l.children;
       passed = passed_all k.passed l.passed;
       sound = l.sound;
-      log = rw (s.extends.trail, marks_of-own p w.trail m refl) l.log;
     }
   where
     passed_all : (q : _) → IsPassed w q → IsPassed w' q

@@ -17,7 +17,6 @@ pub record IsBlank (k : Know) : Type 0 where
   pub children : k.children ≡ []
   pub passed : k.passed ≡ None
   pub sound : k.sound
-  pub log : k.log []
 
 -- Its pages are a tree that says what the first map says; those of the tree are open and all others released.
 pub record IsStart {P : Type 0} (know : P → Know) (w : World P) : Type 0 where

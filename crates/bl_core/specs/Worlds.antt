@@ -70,8 +70,6 @@ pub record Know : Type 1 where
   pub passed : Option Passed
   -- what is true of its own data
   pub sound : Type 0
-  -- what it has done
-  pub log : Trail → Type 0
 
 pub record World (P : Type 0) : Type 0 where
   pub start : State Page
@@ -148,7 +146,6 @@ pub record IsSure {P : Type 0} (w : World P) (p : Name) (k : Know) : Type 0 wher
   pub children : Each (IsRelied w p) k.children
   pub passed : IsPassed w k.passed
   pub sound : k.sound
-  pub log : k.log (marks_of p w.trail)
 
 abbrev pub HoldsPage : List Hold → ℕ → Type 0
 HoldsPage [] x = ⊥

@@ -5,6 +5,7 @@ pub mod SplitShapes
 pub mod Splits
 pub mod MergeShapes
 pub mod Merges
+pub mod TakeShapes
 pub mod GainShapes
 pub mod LossShapes
 pub mod Evenings

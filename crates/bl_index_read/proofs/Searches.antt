@@ -13,7 +13,7 @@ use Rattle.bl_proc.specs.declared.searching.FindStage.{FindStage}
 use Rattle.bl_proc.specs.declared.searching.FindStage.TheVariants.{New, Descending, Ending, Over}
 use Rattle.bl_proc.specs.Searches.{FindGoes}
 use Rattle.bl_proc_bounds.specs.Searches.{IsSearch, IsUnderWay}
-use Rattle.bl_proc_invariant.specs.Knowing.{Run, bare as know, know_of, know_find, found, found_reply, end_of_proc}
+use Rattle.bl_proc_invariant.specs.Knowing.{Run, know, know_of, know_find, found, found_reply, end_of_proc}
 use Rattle.bl_index_rule.specs.declared.known.Mine.{Mine}
 use Rattle.bl_claims.specs.Seeing.{own, Holds, name}
 use Rattle.bl_index_rule.specs.Told.{Finishes, MayGiveUp}

@@ -15,8 +15,8 @@ use Rattle.bl_core.proofs.States.{moments_on}
 use Rattle.bl_proc.specs.Processes.{next_of}
 use Rattle.bl_proc_invariant.specs.Logs.{proc_log}
 use Rattle.bl_proc_invariant.specs.Turns.{Turned}
-use Rattle.bl_proc_invariant.specs.Knowing.{Run, bare as know}
-use Rattle.bl_proc_invariant.proofs.Near.{bare_near as near}
+use Rattle.bl_proc_invariant.specs.Knowing.{Run, know}
+use Rattle.bl_proc_invariant.proofs.Near.{near}
 use Rattle.bl_proc_invariant.proofs.Middles.{KeepsLogs}
 use Rattle.bl_claims.specs.Bounds.{IsWithinBound, IsBelowBound}
 use Rattle.bl_proc_bounds.specs.Searches.{IsSearch, IsUnderWay}

@@ -23,8 +23,8 @@ use Rattle.bl_proc.specs.declared.kinds.Proc.TheVariants as proc
 use Rattle.bl_proc.specs.Processes.{next_of}
 use Rattle.bl_proc_invariant.specs.Logs.{proc_log}
 use Rattle.bl_proc_invariant.specs.Turns.{Does, Turned}
-use Rattle.bl_proc_invariant.specs.Knowing.{Run, bare as know, end_of_proc, run_next}
-use Rattle.bl_proc_invariant.proofs.Starting.{with_proc, bare_enters_good as enters_good}
+use Rattle.bl_proc_invariant.specs.Knowing.{Run, know, end_of_proc, run_next}
+use Rattle.bl_proc_invariant.proofs.Starting.{with_proc, enters_good}
 use Rattle.bl_proc_invariant.proofs.Logged.{early_log}
 use Rattle.bl_proc_invariant.proofs.Middles.{KeepsLogs}
 use Rattle.bl_proc_invariant.proofs.GivingUp.{given_up, give_up}

@@ -11,7 +11,7 @@ use Rattle.bl_proc.specs.declared.kinds.Proc.{Proc}
 use Rattle.bl_proc.specs.Processes.{next_of}
 use Rattle.bl_proc_invariant.specs.Logs.{proc_log}
 use Rattle.bl_proc_invariant.specs.Turns.{event_of, IsTold, Turned}
-use Rattle.bl_proc_invariant.specs.Knowing.{Run, bare as know, end_of_proc}
+use Rattle.bl_proc_invariant.specs.Knowing.{Run, know, end_of_proc}
 use Rattle.bl_proc_invariant.proofs.Logged.{saw_words, log_turn}
 use Rattle.bl_proc_unique.specs.Courses.{GoesOn}
 

@@ -9,7 +9,7 @@ use Rattle.bl_core.proofs.Pushes.{name_cases}
 use Rattle.bl_proc.specs.declared.kinds.Proc.{Proc}
 use Rattle.bl_proc_invariant.specs.Logs.{proc_log}
 use Rattle.bl_proc_invariant.specs.Turns.{Turned}
-use Rattle.bl_proc_invariant.specs.Knowing.{Run, bare as know}
+use Rattle.bl_proc_invariant.specs.Knowing.{Run, know}
 use Rattle.bl_proc_invariant.proofs.Middles.{KeepsLogs}
 use Rattle.bl_store.specs.Pages.{Running, Pages}
 use Rattle.bl_index_rule.specs.declared.known.Mine.{Mine}

@@ -20,7 +20,7 @@ use Rattle.bl_proc_base.specs.declared.acts.Seen.{Seen}
 use Rattle.bl_proc_base.specs.declared.acts.Seen.TheVariants as seen
 use Rattle.bl_proc.specs.Processes.{next_of}
 use Rattle.bl_proc_invariant.specs.Turns.{event_of, IsTold, IsShown, Does}
-use Rattle.bl_proc_invariant.specs.Knowing.{bare as know, end_of_proc}
+use Rattle.bl_proc_invariant.specs.Knowing.{know, end_of_proc}
 use Rattle.bl_proc_invariant.proofs.Gets.{IsGot, got_next_is}
 use Rattle.bl_proc_unique.specs.Courses.{GoesOn}
 use Rattle.bl_layout.specs.declared.layout.Layout.{Layout}

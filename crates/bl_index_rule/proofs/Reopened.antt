@@ -26,7 +26,7 @@ use Rattle.bl_check_tree.specs.Begins.{live_in}
 use Rattle.bl_check_tree.proofs.Beginnings.{begins}
 use Rattle.bl_check_tree.proofs.FirstMaps.{leaves_say}
 use Rattle.bl_check_tree.proofs.Opened.{anchor_at, opened_sound, opened_begins}
-use Rattle.bl_proc_invariant.specs.Knowing.{Run, bare as know}
+use Rattle.bl_proc_invariant.specs.Knowing.{Run, know}
 use Rattle.bl_proc_invariant.proofs.Middles.{KeepsLogs}
 use Rattle.bl_proc_bounds.proofs.Kept.{first_kept}
 use Rattle.bl_store.specs.Pages.{Owner, Stage, Idle}

@@ -13,7 +13,7 @@ use Rattle.bl_page.specs.Machine as machine
 use Rattle.bl_claims.specs.Pages.{node_of}
 use Rattle.bl_core.specs.Worlds.{World, MayGet, IsGood}
 use Rattle.bl_core.proofs.Descents.{is_dead_page}
-use Rattle.bl_proc_invariant.specs.Knowing.{Run, bare as know}
+use Rattle.bl_proc_invariant.specs.Knowing.{Run, know}
 use Rattle.bl_store.specs.Pages.{Owner, Released, Open, Held, Retired, Stage}
 use Rattle.bl_index_rule.specs.declared.known.Mine.{Mine}
 use Rattle.bl_claims.specs.Seeing.{name}

@@ -12,9 +12,9 @@ use Rattle.bl_claims.specs.States.{Moment, HasMoments}
 use Rattle.bl_core.specs.Worlds.{World, IsGood}
 use Rattle.bl_proc_base.specs.declared.acts.Action.{Action}
 use Rattle.bl_proc_base.specs.declared.acts.Action.TheVariants as action
-use Rattle.bl_proc_invariant.specs.Knowing.{Run, bare as know}
+use Rattle.bl_proc_invariant.specs.Knowing.{Run, know}
 use Rattle.bl_proc_invariant.proofs.Middles.{KeepsLogs}
-use Rattle.bl_proc_invariant.proofs.Starting.{bare_laws}
+use Rattle.bl_proc_invariant.proofs.Starting.{run_laws}
 use Rattle.bl_proc_invariant.proofs.Near.{IsNear as IsNearIn}
 use Rattle.bl_claims.specs.Seeing.{first_map, BeginsFrom, IsSeen}
 use Rattle.bl_index_rule.specs.Told.{IsNear}
@@ -23,7 +23,7 @@ use Rattle.bl_index_rule.specs.Told.{IsNear}
 laws_now : (w : World Run) (image : List (Option Page)) → IsGood know w → KeepsLogs w → w.first ≡ first_map image → HasLaws (snapshot_of w.now w.trail) (final_map (first_map image) (history_of w.trail))
 laws_now w image good logs first =
     let map : w.map 0 ≡ final_map (first_map image) (history_of w.trail) = λ i k. (good.recorded.map k ∙ ap (λ (z : Map). final_map z (history_of w.trail) k) first) i in
-    subst (λ (z : Look). HasLaws (snapshot_of w.now w.trail) z) map (bare_laws w good logs)
+    subst (λ (z : Look). HasLaws (snapshot_of w.now w.trail) z) map (run_laws w good logs)
 
 pub world_moment : (w : World Run) (image : List (Option Page)) → IsGood know w → KeepsLogs w → w.first ≡ first_map image → Moment (first_map image) w.start w.trail
 world_moment w image good logs first = record { now = w.now; leads = good.recorded.leads; laws = laws_now w image good logs first }

@@ -14,7 +14,7 @@ use Rattle.bl_core.specs.Worlds.{World, IsGood}
 use Rattle.bl_core.specs.Blank.{IsBlank}
 use Rattle.bl_claims.specs.Opening.{Opening}
 use Rattle.bl_core.proofs.Starts.{opening_world, opening_good}
-use Rattle.bl_proc_invariant.specs.Knowing.{Run, bare as know}
+use Rattle.bl_proc_invariant.specs.Knowing.{Run, know}
 use Rattle.bl_proc_invariant.proofs.Middles.{KeepsLogs}
 use Rattle.bl_proc_bounds.proofs.Kept.{first_kept}
 use Rattle.bl_store.specs.Pages.{Stage, Idle}
@@ -66,7 +66,7 @@ opening_is = record {
 }
 
 pub blank_is : IsBlank (know (fresh_run unborn))
-blank_is = record { stage = refl; said = refl; holds = refl; goes = refl; children = refl; passed = refl; sound = omega arith; log = tt }
+blank_is = record { stage = refl; said = refl; holds = refl; goes = refl; children = refl; passed = refl; sound = omega arith }
 
 abbrev first_world : ℕ → World Run
 first_world size = opening_world opening_state size (λ p. fresh_run unborn)

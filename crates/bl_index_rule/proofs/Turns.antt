@@ -15,8 +15,8 @@ use Rattle.bl_proc.specs.Processes.{next_of, Takes}
 use Rattle.bl_claims.specs.Trails.{marks_of}
 use Rattle.bl_proc_invariant.specs.Logs.{proc_log}
 use Rattle.bl_proc_invariant.specs.Turns.{event_of, IsTold, IsShown, Does, Turned}
-use Rattle.bl_proc_invariant.specs.Knowing.{Run, bare as know, end_of_proc, run_next}
-use Rattle.bl_proc_invariant.proofs.Turning.{bare_turn as turn}
+use Rattle.bl_proc_invariant.specs.Knowing.{Run, know, end_of_proc, run_next}
+use Rattle.bl_proc_invariant.proofs.Turning.{turn}
 use Rattle.bl_proc_invariant.proofs.Middles.{KeepsLogs}
 use Rattle.bl_proc_invariant.proofs.Logged.{saw_words}
 use Rattle.bl_proc_bounds.specs.Paces.{AllKept}

@@ -15,7 +15,7 @@ use Rattle.bl_core.specs.Blank.{IsBlank}
 use Rattle.bl_proc.specs.declared.kinds.Proc.{Proc}
 use Rattle.bl_proc.specs.declared.kinds.Proc.TheVariants.{Find}
 use Rattle.bl_proc.specs.declared.searching.FindStage.TheVariants as find
-use Rattle.bl_proc_invariant.specs.Knowing.{Run, bare as know}
+use Rattle.bl_proc_invariant.specs.Knowing.{Run, know}
 use Rattle.bl_proc_invariant.specs.Logs.{proc_log}
 use Rattle.bl_proc_bounds.specs.Paces.{AllKept}
 use Rattle.bl_store.specs.Pages.{Owner, Released, Open, Held, Retired, Stage, Idle, Running, Pages, Stands}

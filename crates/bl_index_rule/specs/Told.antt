@@ -13,7 +13,7 @@ use Rattle.bl_proc.specs.declared.kinds.Proc.{Proc}
 use Rattle.bl_proc.specs.Processes.{next_of}
 use Rattle.bl_proc_invariant.specs.Logs.{proc_log}
 use Rattle.bl_proc_invariant.specs.Turns.{event_of}
-use Rattle.bl_proc_invariant.specs.Knowing.{Run, bare as know, end_of_proc}
+use Rattle.bl_proc_invariant.specs.Knowing.{Run, know, end_of_proc}
 use Rattle.bl_claims.specs.Bounds.{IsWithinBound, IsBelowBound}
 use Rattle.bl_proc_bounds.specs.Searches.{IsSearch, IsUnderWay}
 use Rattle.bl_claims.specs.Latches.{OnlyLooks}

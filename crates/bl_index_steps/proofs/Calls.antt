@@ -9,7 +9,7 @@ use Rattle.bl_claims.specs.Trails.{Said, Mark, Trail, DoesAt, entries_at, marks_
 use Rattle.bl_core.proofs.Pushes.{DoesAt-push}
 use Rattle.bl_core.proofs.Frames.{Each-map}
 use Rattle.bl_proc.specs.declared.kinds.Proc.{Proc}
-use Rattle.bl_proc_invariant.specs.Knowing.{Run, bare as know}
+use Rattle.bl_proc_invariant.specs.Knowing.{Run, know}
 use Rattle.bl_claims.specs.Latches.{OnlyLooks}
 use Rattle.bl_index_rule.specs.declared.known.Mine.{Mine}
 use Rattle.bl_claims.specs.Seeing.{IsSeen, AreElse, AreOnlyOf, own, Holds, name}

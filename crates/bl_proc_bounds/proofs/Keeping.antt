@@ -29,7 +29,7 @@ use Rattle.bl_proc.specs.Parts.{part_next_in, way_by, PartGoes}
 use Rattle.bl_proc.specs.Processes.{next_of, Takes}
 use Rattle.bl_proc_invariant.specs.Turns.{event_of, IsTold}
 use Rattle.bl_proc_invariant.specs.Tables.{descent_goes}
-use Rattle.bl_proc_invariant.specs.Knowing.{Run, know_find, know_part, know_of, bare, find_end, part_end, end_of_proc}
+use Rattle.bl_proc_invariant.specs.Knowing.{Run, know_find, know_part, know_of, know, find_end, part_end, end_of_proc}
 use Rattle.bl_claims.specs.Bounds.{gets_in, puts_in}
 use Rattle.bl_proc_bounds.proofs.Counts.{own_gets, other_puts, gets_on, own_gets_own, own_gets_other, other_puts_own, other_puts_other}
 use Rattle.bl_proc_bounds.specs.Paces.{Place, AreLeft, Spends, find_place, part_place, place_of, sought, IsKept, AllPaced}
@@ -71,7 +71,7 @@ knows_of w p got child time (proc.Compress a) is = tt
 knows_of w p got child time (proc.Reclaim a) is = tt
 knows_of w p got child time (proc.Lower a) is = tt
 
-pub knows : (w : World Run) (p : Name) → IsGood bare w → Knows w p (sought (w.proc p).state) (place_of (w.proc p).state)
+pub knows : (w : World Run) (p : Name) → IsGood know w → Knows w p (sought (w.proc p).state) (place_of (w.proc p).state)
 knows w p g = knows_of w p (w.proc p).got (w.proc p).child (w.proc p).time (w.proc p).state (g.sure p)
 
 -- How a search goes on
@@ -159,7 +159,7 @@ same_contents s s' p (Look it) h c = fun_ext c.0
 same_contents s s' p (Release x) h c = fun_ext c.0
 same_contents s s' p (Miss what) h c = fun_ext c.0
 
-module _ (w w' : World Run) (m : Mark) (b : Run) (e : Extends w w' m b) (g : IsGood bare w) (g' : IsGood bare w') where
+module _ (w w' : World Run) (m : Mark) (b : Run) (e : Extends w w' m b) (g : IsGood know w) (g' : IsGood know w') where
   abbrev pub IsKeptThen : Name → ℕ → Place → Type 0
   IsKeptThen p k place = IsKept w.size w'.now.contents (w.trail ++ m ∷ []) p k place
 
@@ -171,7 +171,7 @@ module _ (w w' : World Run) (m : Mark) (b : Run) (e : Extends w w' m b) (g : IsG
   on_way p k d none put may low h = elim (put_cases m.event.act) [
     | inl same ↦ spends_still w.size w.now.contents w'.now.contents w.trail m p k (Going d) h none (subst (λ c. AreLeft c k (Going d) h.left) (sym (unchanged same)) h.ahead)
     | inr changed ↦
-        let t = descent_near bare w' g' k low p d may in
+        let t = descent_near know w' g' k low p d may in
         let few : t.gets ≤ 2 * w.size = subst (λ n. t.gets ≤ 2 * n) e.size t.few in
         spends_put w.size w.now.contents w'.now.contents w.trail m p k (Going d) h none (put changed) t.gets few t.ahead
   ]
@@ -195,16 +195,16 @@ module _ (w w' : World Run) (m : Mark) (b : Run) (e : Extends w w' m b) (g : IsG
   goes p k Nowhere what Nowhere own d sure h = tt
   goes p k Before seen.Done (Going to) own d sure h =
       let phase : IsPhase w.trail p Waiting = subst (IsPhase w.trail p) sure.0 (g.recorded.phases p) in
-      let t = anchor_near bare w' g' k sure.1 in
+      let t = anchor_near know w' g' k sure.1 in
       let few : t.gets ≤ w.size = subst (λ n. t.gets ≤ n) e.size t.few in
       subst (λ v. IsKeptThen p k (Going v)) (sym d.goes) (spends_begin w.size w'.now.contents w.trail m p k (Going AtAnchor) t.gets own d.act phase.0 few t.ahead)
   goes p k Before seen.Done (Trying x) own d sure h =
       let phase : IsPhase w.trail p Waiting = subst (IsPhase w.trail p) sure.0 (g.recorded.phases p) in
-      let t = anchor_near bare w' g' k sure.1 in
+      let t = anchor_near know w' g' k sure.1 in
       let few : t.gets ≤ w.size = subst (λ n. t.gets ≤ n) e.size t.few in
       (spends_begin w.size w'.now.contents w.trail m p k (Going AtAnchor) t.gets own d.act phase.0 few t.ahead, none_got w.trail m p phase.0)
   goes p k (Trying x) (seen.Probed free) (Going to) own d sure h =
-      let t = probed_near bare w g k sure x free d.told in
+      let t = probed_near know w g k sure x free d.told in
       let none : own_gets p m ≡ 0 = own_gets_own p m own ∙ ap gets_in d.act in
       let ahead : AreLeft w'.now.contents k (Going (way_by x free)) t.gets = subst (λ c. AreLeft c k (Going (way_by x free)) t.gets) (sym (unchanged (ap puts_in d.act))) t.ahead in
       subst (λ v. IsKeptThen p k (Going v)) (sym d.goes) (spends_first w.size w.now.contents w'.now.contents w.trail m p k (Going AtAnchor) h.0 none h.1 (Going (way_by x free)) t.gets t.few ahead)
@@ -229,7 +229,7 @@ module _ (w w' : World Run) (m : Mark) (b : Run) (e : Extends w w' m b) (g : IsG
       subst (λ t. IsKept w'.size w'.now.contents t p (sought (w'.proc p).state) (place_of (w'.proc p).state)) (sym e.trail) (subst (λ n. IsKept n w'.now.contents (w.trail ++ m ∷ []) p (sought (w'.proc p).state) (place_of (w'.proc p).state)) (sym e.size) there)
 
 -- A turn of a process that is told something of its next action, truly.
-pub turn_paced : (w w' : World Run) (m : Mark) (b : Run) (what : Seen) → Extends w w' m b → IsGood bare w → IsGood bare w' → Takes (w.proc m.event.process).state what b.state → IsTold w.now w.size (next_of (w.proc m.event.process).state) what → m.event.act ≡ event_of (end_of_proc (w.proc m.event.process).state) (next_of (w.proc m.event.process).state) what → AllPaced w → AllPaced w'
+pub turn_paced : (w w' : World Run) (m : Mark) (b : Run) (what : Seen) → Extends w w' m b → IsGood know w → IsGood know w' → Takes (w.proc m.event.process).state what b.state → IsTold w.now w.size (next_of (w.proc m.event.process).state) what → m.event.act ≡ event_of (end_of_proc (w.proc m.event.process).state) (next_of (w.proc m.event.process).state) what → AllPaced w → AllPaced w'
 turn_paced w w' m b what e g g' t told act all =
     let old = (w.proc m.event.process).state in
     let d = moved w.now w.size old what b.state t told in

@@ -59,7 +59,7 @@ use Rattle.bl_proc_invariant.specs.Tables.{know_approach}
 use Rattle.bl_proc_invariant.specs.Logs.{squeeze_log, compress_log, proc_log}
 use Rattle.bl_proc_invariant.specs.Compressing.{know_squeeze}
 use Rattle.bl_proc_invariant.specs.Lowering.{know_lowering}
-use Rattle.bl_proc_invariant.specs.Knowing.{Run, know_growth, know_insert, know_delete, know_post, know_compress, know_lower, know_of, bare, end_of_proc}
+use Rattle.bl_proc_invariant.specs.Knowing.{Run, know_growth, know_insert, know_delete, know_post, know_compress, know_lower, know_of, know, end_of_proc}
 use Rattle.bl_core.proofs.After.{is_put_name}
 use Rattle.bl_proc_invariant.proofs.Starting.{with_proc}
 use Rattle.bl_proc_bounds.specs.Searches.{IsSearch}
@@ -221,15 +221,15 @@ part_looks (part.Over r) x e = cc
 -- One turn
 
 -- what the process holds is what it knows to hold
-module _ (w : World Run) (p : Name) (g : IsGood bare w) (owned : AllOwned w) where
-  alone_turn : (m : Mark) → LatchesAlone (marks_of p w.trail) → ((x : ℕ) → m.event.act ≡ Latch x → (bare (w.proc p)).holds ≡ []) → LatchesAlone (marks_of p w.trail ++ m ∷ [])
+module _ (w : World Run) (p : Name) (g : IsGood know w) (owned : AllOwned w) where
+  alone_turn : (m : Mark) → LatchesAlone (marks_of p w.trail) → ((x : ℕ) → m.event.act ≡ Latch x → (know (w.proc p)).holds ≡ []) → LatchesAlone (marks_of p w.trail ++ m ∷ [])
   alone_turn m h none = alone_on (marks_of p w.trail) m h (λ x y e keeps. subst (λ hs. HoldsPage hs y) (none x e) (g.owned.held y p (owned p y keeps)))
 
-  holds_kept : (k : Know) → bare (w.proc p) ≡ k → (y : ℕ) → Keeps (marks_of p w.trail) y → HoldsPage k.holds y
+  holds_kept : (k : Know) → know (w.proc p) ≡ k → (y : ℕ) → Keeps (marks_of p w.trail) y → HoldsPage k.holds y
   holds_kept k is y keeps = subst (λ (z : Know). HoldsPage z.holds y) is (g.owned.held y p (owned p y keeps))
 
   -- of a process of that state, which is told something of its next action
-  state_turn : (m : Mark) (got : ℕ → Page) (child time : ℕ) (old new : Proc) (what : Seen) → bare (w.proc p) ≡ know_of got child time old → proc_log old (marks_of p w.trail) → Takes old what new → m.event.act ≡ event_of (end_of_proc old) (next_of old) what → IsTidy old (marks_of p w.trail) → IsTidy new (marks_of p w.trail ++ m ∷ [])
+  state_turn : (m : Mark) (got : ℕ → Page) (child time : ℕ) (old new : Proc) (what : Seen) → know (w.proc p) ≡ know_of got child time old → proc_log old (marks_of p w.trail) → Takes old what new → m.event.act ≡ event_of (end_of_proc old) (next_of old) what → IsTidy old (marks_of p w.trail) → IsTidy new (marks_of p w.trail ++ m ∷ [])
   state_turn m got child time (proc.Find a) (proc.Find c) what is log t e h = none_on (marks_of p w.trail) m h (λ x f. find_looks a.stage x (latch_next _ _ what x (sym e ∙ f)))
   state_turn m got child time (proc.Part a) (proc.Part c) what is log t e h = none_on (marks_of p w.trail) m h (λ x f. part_looks a.stage x (latch_next _ _ what x (sym e ∙ f)))
   state_turn m got child time (proc.Insert a) (proc.Insert c) what is log t e h = alone_turn m h (λ x f. ap (λ k. k.holds) is ∙ insert_alone a.key a.value got a.stage x (latch_next _ _ what x (sym e ∙ f)))
@@ -267,13 +267,13 @@ tidy_on w w' m b e own all p = elim (name_cases m.event.process p) [
 ]
 
 -- A turn of a process that is told something of its next action.
-pub tidy_turn : (w w' : World Run) (m : Mark) (b : Run) (what : Seen) → Extends w w' m b → IsGood bare w → AllOwned w → proc_log (w.proc m.event.process).state (marks_of m.event.process w.trail) → Takes (w.proc m.event.process).state what b.state → m.event.act ≡ event_of (end_of_proc (w.proc m.event.process).state) (next_of (w.proc m.event.process).state) what → AllTidy w → AllTidy w'
+pub tidy_turn : (w w' : World Run) (m : Mark) (b : Run) (what : Seen) → Extends w w' m b → IsGood know w → AllOwned w → proc_log (w.proc m.event.process).state (marks_of m.event.process w.trail) → Takes (w.proc m.event.process).state what b.state → m.event.act ≡ event_of (end_of_proc (w.proc m.event.process).state) (next_of (w.proc m.event.process).state) what → AllTidy w → AllTidy w'
 tidy_turn w w' m b what e g owned log t does all =
     let r = w.proc m.event.process in
     tidy_on w w' m b e (λ p i. subst (λ q. IsTidy b.state (marks_of q w.trail ++ m ∷ [])) (sym i) (state_turn w m.event.process g owned m r.got r.child r.time r.state b.state what refl log t does (all m.event.process))) all
 
 -- A turn at which the process stays as it is, and latches nothing.
-pub tidy_still : (w w' : World Run) (m : Mark) → Extends w w' m (w.proc m.event.process) → IsGood bare w → AllOwned w → ((x : ℕ) → m.event.act ≢ Latch x) → AllTidy w → AllTidy w'
+pub tidy_still : (w w' : World Run) (m : Mark) → Extends w w' m (w.proc m.event.process) → IsGood know w → AllOwned w → ((x : ℕ) → m.event.act ≢ Latch x) → AllTidy w → AllTidy w'
 tidy_still w w' m e g owned none all = tidy_on w w' m (w.proc m.event.process) e (λ p i. subst (λ q. IsTidy (w.proc m.event.process).state (marks_of q w.trail ++ m ∷ [])) (sym i) (still_turn w m.event.process g owned m (w.proc m.event.process).state none (all m.event.process))) all
 
 -- Who latches none latches alone.

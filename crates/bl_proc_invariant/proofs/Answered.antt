@@ -2,7 +2,7 @@
 use Rattle.std.proofs.Common.{ℕ, ◌≡◌, Option, Some, sym, subst}
 use Rattle.bl_claims.specs.Trails.{Trail, marks_of}
 use Rattle.bl_page.specs.Machine.{Name}
-use Rattle.bl_core.specs.Worlds.{World, IsGood}
+use Rattle.bl_core.specs.Worlds.{World}
 use Rattle.bl_proc_base.specs.declared.answers.Answer.{Answer}
 use Rattle.bl_proc_base.specs.declared.answers.Answer.TheVariants as answer
 use Rattle.bl_proc_base.specs.declared.answers.Posted.{Posted}
@@ -14,9 +14,9 @@ use Rattle.bl_proc.specs.declared.posting.PostStage.{PostStage}
 use Rattle.bl_proc.specs.declared.posting.PostStage.TheVariants as post
 use Rattle.bl_proc.specs.declared.kinds.Proc.TheVariants as proc
 use Rattle.bl_proc.specs.Posts.{posted_answer, post_answer_in}
-use Rattle.bl_proc_invariant.specs.Logs.{reply_log, post_log, proc_log}
+use Rattle.bl_proc_invariant.specs.Logs.{reply_log, post_log, proc_log, AllLogs}
 use Rattle.bl_proc_meanings.specs.Answers.{MeansPosted, MeansHint}
-use Rattle.bl_proc_invariant.specs.Knowing.{Run, know}
+use Rattle.bl_proc_invariant.specs.Knowing.{Run}
 
 same_posted : (p q : Posted) (h i : Option Hint) → answer.Post p h ≡ answer.Post q i → p ≡ q
 same_posted p q h i e = cc
@@ -49,10 +49,10 @@ pub stage_hints : (level key : ℕ) (stage : PostStage) (p : Posted) (h : Option
 stage_hints level key (post.Over r) p h marks e log = reply_hints level key r p h marks (some_answer _ _ e) log
 stage_hints level key old p h marks e log = absurd (let f = e in cc)
 
--- In every good world, what a post has answered means what it says.
-pub post_means : (w : World Run) (n : Name) (a : Post) (p : Posted) (h : Option Hint) → IsGood know w → (w.proc n).state ≡ proc.Post a → post_answer_in a.level a.stage ≡ Some (answer.Post p h) → MeansPosted a.level a.key p (marks_of n w.trail)
-post_means w n a p h g is e = stage_means a.level a.key a.stage p h (marks_of n w.trail) e (subst (λ s. proc_log s (marks_of n w.trail)) is (g.sure n).log)
+-- In every world whose processes have done what they tell, what a post has answered means what it says.
+pub post_means : (w : World Run) (n : Name) (a : Post) (p : Posted) (h : Option Hint) → AllLogs w → (w.proc n).state ≡ proc.Post a → post_answer_in a.level a.stage ≡ Some (answer.Post p h) → MeansPosted a.level a.key p (marks_of n w.trail)
+post_means w n a p h logs is e = stage_means a.level a.key a.stage p h (marks_of n w.trail) e (subst (λ s. proc_log s (marks_of n w.trail)) is (logs n))
 
 -- And so does its hint.
-pub post_hints : (w : World Run) (n : Name) (a : Post) (p : Posted) (h : Option Hint) → IsGood know w → (w.proc n).state ≡ proc.Post a → post_answer_in a.level a.stage ≡ Some (answer.Post p h) → MeansHint a.level a.key p h (marks_of n w.trail)
-post_hints w n a p h g is e = stage_hints a.level a.key a.stage p h (marks_of n w.trail) e (subst (λ s. proc_log s (marks_of n w.trail)) is (g.sure n).log)
+pub post_hints : (w : World Run) (n : Name) (a : Post) (p : Posted) (h : Option Hint) → AllLogs w → (w.proc n).state ≡ proc.Post a → post_answer_in a.level a.stage ≡ Some (answer.Post p h) → MeansHint a.level a.key p h (marks_of n w.trail)
+post_hints w n a p h logs is e = stage_hints a.level a.key a.stage p h (marks_of n w.trail) e (subst (λ s. proc_log s (marks_of n w.trail)) is (logs n))

@@ -43,7 +43,6 @@ walks w w' p a saw goes S stage said may s = record {
   children = tt;
   passed = tt;
   sound = s;
-  log = tt;
 }
 
 pub walks_held : {P : Type 0} (w w' : World P) (p : Name) (a : Act Page _) (saw : Option Page) (x : ℕ) (goes : List Goes) (S : Type 0) → IsStage Stage.Busy (w.now.phase p) → HasSaid w.trail p None → w'.now.owner x ≡ Held p → w.status x ≡ Live → Each (IsGoes w p) goes → S → Learns w w' (record { event = record { process = p; act = a }; saw = saw; said = None }) (record (idle Stage.Busy) { holds = holds_live x ∷ []; goes = goes; sound = S })
@@ -55,7 +54,6 @@ walks_held w w' p a saw x goes S stage said held live may s = record {
   children = tt;
   passed = tt;
   sound = s;
-  log = tt;
 }
 
 module _ {P : Type 0} (know : P → Know) (w : World P) (g : IsGood know w) (p : Name) where

@@ -156,7 +156,6 @@ module _ {P : Type 0} (know : P → Know) (w : World P) (g : IsGood know w) (p :
               children = tt;
               passed = tt;
               sound = tt;
-              log = tt;
             });
           };
           live = held.status;
@@ -187,7 +186,6 @@ module _ {P : Type 0} (know : P → Know) (w : World P) (g : IsGood know w) (p :
         children = tt;
         passed = tt;
         sound = tt;
-        log = tt;
       })
 
   -- a page is taken for the upper part
@@ -222,7 +220,6 @@ module _ {P : Type 0} (know : P → Know) (w : World P) (g : IsGood know w) (p :
         children = rw at (Each-map (IsRelied w p) (IsRelied next p) (aim.children full.at) (λ c r. aside_relied w next p y c aside r) is.children);
         passed = tt;
         sound = (rw (at, known) due, rw (at, new) cut_here);
-        log = tt;
       })
 
   -- the upper part is put first, in the page that nobody names yet
@@ -263,7 +260,6 @@ module _ {P : Type 0} (know : P → Know) (w : World P) (g : IsGood know w) (p :
               children = Each-map (IsRelied w p) (IsRelied next p) (aim.children t.at) (λ c r. aside_relied w next p t.new c aside r) is.children;
               passed = tt;
               sound = is.sound;
-              log = tt;
             });
           };
           fresh = fresh.status;
@@ -317,7 +313,6 @@ module _ {P : Type 0} (know : P → Know) (w : World P) (g : IsGood know w) (p :
               children = tt;
               passed = tt;
               sound = n;
-              log = tt;
             });
           };
           live = held.status;
@@ -348,7 +343,6 @@ module _ {P : Type 0} (know : P → Know) (w : World P) (g : IsGood know w) (p :
         children = tt;
         passed = tt;
         sound = tt;
-        log = tt;
       })
 
   -- the old page is opened, and the change is over
@@ -365,7 +359,6 @@ module _ {P : Type 0} (know : P → Know) (w : World P) (g : IsGood know w) (p :
         children = tt;
         passed = tt;
         sound = sound;
-        log = tt;
       })
 
   -- every turn of a change that does not end it

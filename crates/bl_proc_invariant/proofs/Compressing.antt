@@ -41,7 +41,6 @@ module _ {P : Type 0} (know : P → Know) (w : World P) (g : IsGood know w) (p :
         children = tt;
         passed = tt;
         sound = (is.sound, n);
-        log = tt;
       })
 
   pub latch_right_turn : (f : Family) (c : Page) (s : State Page) → know (w.proc p) ≡ know_compression level key got at new (LatchingRight f c) → know b ≡ know_compression level key got at new (LatchedRight f c) → w.now.owner f.at.right ≡ Owner.Open → Does w.now p (Latch f.at.right) s → Turned know w p (Latch f.at.right) s b
@@ -59,7 +58,6 @@ module _ {P : Type 0} (know : P → Know) (w : World P) (g : IsGood know w) (p :
         children = tt;
         passed = tt;
         sound = (is.sound.0, record { left = is.sound.1; right = n; both = m }, is.sound.2, is.sound.3);
-        log = tt;
       })
 
   -- a latch of a child is missed, and tried again
@@ -75,7 +73,6 @@ module _ {P : Type 0} (know : P → Know) (w : World P) (g : IsGood know w) (p :
         children = tt;
         passed = tt;
         sound = is.sound;
-        log = tt;
       })
 
   pub miss_right_turn : {what : Missed} (f : Family) (c : Page) (s : State Page) → know (w.proc p) ≡ know_compression level key got at new (LatchingRight f c) → know b ≡ know_compression level key got at new (LatchingRight f c) → Does w.now p (Miss what) s → Turned know w p (Miss what) s b
@@ -90,7 +87,6 @@ module _ {P : Type 0} (know : P → Know) (w : World P) (g : IsGood know w) (p :
         children = tt;
         passed = tt;
         sound = is.sound;
-        log = tt;
       })
 
   -- the left child is got, and links to the right one
@@ -114,7 +110,6 @@ module _ {P : Type 0} (know : P → Know) (w : World P) (g : IsGood know w) (p :
         children = tt;
         passed = tt;
         sound = (is.sound.0, is.sound.1, linked, level_is);
-        log = tt;
       })
 
   -- the left child is got, and a page stands between the two
@@ -132,7 +127,6 @@ module _ {P : Type 0} (know : P → Know) (w : World P) (g : IsGood know w) (p :
         children = tt;
         passed = tt;
         sound = (is.sound.0.0, is.sound.1);
-        log = tt;
       })
 
   -- the right child is got, and the three stay as they are
@@ -150,7 +144,6 @@ module _ {P : Type 0} (know : P → Know) (w : World P) (g : IsGood know w) (p :
         children = tt;
         passed = tt;
         sound = (is.sound.0.0, is.sound.1);
-        log = tt;
       })
 
   -- the reservation is refused
@@ -166,7 +159,6 @@ module _ {P : Type 0} (know : P → Know) (w : World P) (g : IsGood know w) (p :
         children = tt;
         passed = tt;
         sound = (is.sound.0.small, is.sound.1);
-        log = tt;
       })
 
   -- the pages are opened, the right one first
@@ -184,7 +176,6 @@ module _ {P : Type 0} (know : P → Know) (w : World P) (g : IsGood know w) (p :
         children = tt;
         passed = tt;
         sound = (is.sound.0, three.left);
-        log = tt;
       })
 
   pub open_left_turn : (t : Trio) (fate : Fate) (s : State Page) → know (w.proc p) ≡ know_compression level key got at new (OpeningLeft t fate) → know b ≡ know_compression level key got at new (OpeningParent t.parent fate) → Does w.now p (Act.Open t.left) s → Turned know w p (Act.Open t.left) s b
@@ -200,7 +191,6 @@ module _ {P : Type 0} (know : P → Know) (w : World P) (g : IsGood know w) (p :
         children = tt;
         passed = tt;
         sound = is.sound.0;
-        log = tt;
       })
 
   -- the parent is opened last, and the process ends or begins its way again
@@ -217,5 +207,4 @@ module _ {P : Type 0} (know : P → Know) (w : World P) (g : IsGood know w) (p :
         children = tt;
         passed = tt;
         sound = on is.sound;
-        log = tt;
       })

@@ -83,7 +83,6 @@ module _ {P : Type 0} (know : P → Know) (w : World P) (g : IsGood know w) (p :
             children = tt;
             passed = tt;
             sound = sure.sound;
-            log = tt;
           });
         };
         live = sure.holds.1.0.status;
@@ -195,7 +194,6 @@ retire_turn know w g p b level key got at new t fate s before then does =
           children = tt;
           passed = tt;
           sound = (is.sound.0, three.left);
-          log = tt;
         });
       }) g;
     }

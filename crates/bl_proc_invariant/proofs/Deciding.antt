@@ -97,7 +97,6 @@ module _ {P : Type 0} (know : P → Know) (w : World P) (g : IsGood know w) (p :
           },
           subst AreThree (sym same) sure.sound.1,
         );
-        log = tt;
       })
     where
       linked_is : got' u.at.left ≡ c → (node_of (got' u.at.left)).shape.right ≡ u.at.right

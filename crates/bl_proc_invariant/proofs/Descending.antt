@@ -73,4 +73,4 @@ module _ {P : Type 0} (know : P → Know) (w : World P) (g : IsGood know w) (p :
         let m : Mark = record { event = record { process = p; act = Get x }; saw = Some (w.now.contents x); said = said } in
         watched know w g p b _ _ before then (Get x) (Some (w.now.contents x)) said s tt (is.stage, descent_there key d is) does refl refl (λ y h. h) (λ it e. (is.stage, is.said))
         (maps leaf.0 leaf.1)
-        (record { stage = is.stage; said = says w m is.said; holds = tt; goes = tt; children = tt; passed = tt; sound = tt; log = tt })
+        (record { stage = is.stage; said = says w m is.said; holds = tt; goes = tt; children = tt; passed = tt; sound = tt })

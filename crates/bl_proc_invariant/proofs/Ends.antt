@@ -34,7 +34,6 @@ module _ {P : Type 0} (know : P → Know) (w : World P) (g : IsGood know w) (p :
         children = tt;
         passed = tt;
         sound = is.sound;
-        log = tt;
       })
 
   pub begin_turn : (key : ℕ) (s : State _) → know (w.proc p) ≡ early key → know b ≡ record (idle Stage.Busy) { sound = key < unbounded } → Does w.now p Begin s → Turned know w p Begin s b
@@ -52,5 +51,4 @@ module _ {P : Type 0} (know : P → Know) (w : World P) (g : IsGood know w) (p :
         children = tt;
         passed = tt;
         sound = tt;
-        log = tt;
       })

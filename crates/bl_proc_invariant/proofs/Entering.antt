@@ -34,7 +34,6 @@ enters_learns w w' p a saw aim x word c (Putting y page) h is e = record {
   children = subst (λ z. Each (λ k. (w'.now.owner k.parent ≡ Held p) × IsRelied w p k) (aim.children z)) (sym e.0) h.children;
   passed = tt;
   sound = (h.due, rw is (fits_row c page aim.key word 0 e.1 h.due.covers));
-  log = tt;
 }
 enters_learns w w' p a saw aim x word c (Taking full) h is e = record {
   stage = h.stage;
@@ -44,7 +43,6 @@ enters_learns w w' p a saw aim x word c (Taking full) h is e = record {
   children = subst (λ z. Each (λ k. (w'.now.owner k.parent ≡ Held p) × IsRelied w p k) (aim.children z)) (sym e.0) h.children;
   passed = tt;
   sound = (rw e.3 h.due, e.1, ap Some e.2 ∙ sym is, sym e.3);
-  log = tt;
 }
 enters_learns w w' p a saw aim x word c (PuttingNew t) h is e = absurd e
 enters_learns w w' p a saw aim x word c (PuttingOld t) h is e = absurd e
@@ -60,7 +58,6 @@ drops_learns w w' p a saw aim x c (Putting y page) h is e = record {
   children = subst (λ z. Each (λ k. (w'.now.owner k.parent ≡ Held p) × IsRelied w p k) (aim.children z)) (sym e.0) h.children;
   passed = tt;
   sound = (h.due, rw is (without_row c page aim.key e.1 h.due.covers));
-  log = tt;
 }
 drops_learns w w' p a saw aim x c (Taking full) h is e = absurd e
 drops_learns w w' p a saw aim x c (PuttingNew t) h is e = absurd e

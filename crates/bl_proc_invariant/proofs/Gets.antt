@@ -57,7 +57,7 @@ use Rattle.bl_proc_base.specs.Lowerings.{lowering_next}
 use Rattle.bl_proc.specs.Processes.{next_of}
 use Rattle.bl_proc_invariant.specs.Compressing.{know_squeeze}
 use Rattle.bl_proc_invariant.specs.Tables.{Aim, holds_live, know_descent, know_approach, know_change}
-use Rattle.bl_proc_invariant.specs.Knowing.{know_growth, know_find, know_part, know_insert, know_delete, know_post, know_compress, know_reclaim, know_lower, know_of, Run, bare}
+use Rattle.bl_proc_invariant.specs.Knowing.{know_growth, know_find, know_part, know_insert, know_delete, know_post, know_compress, know_reclaim, know_lower, know_of, Run, know}
 
 -- page 0, or one that it may get
 abbrev pub IsGot : {P : Type 0} → World P → Name → Action → Type 0
@@ -199,5 +199,5 @@ module _ {P : Type 0} (w : World P) (p : Name) where
   of_got got child time (Reclaim a) is = reclaim_got a.page time a.stage is
   of_got got child time (Lower a) is = lower_gets got a.stage is
 
-pub got_next_is : (w : World Run) (p : Name) → IsGood bare w → IsGot w p (next_of (w.proc p).state)
+pub got_next_is : (w : World Run) (p : Name) → IsGood know w → IsGot w p (next_of (w.proc p).state)
 got_next_is w p g = of_got w p (w.proc p).got (w.proc p).child (w.proc p).time (w.proc p).state (g.sure p)

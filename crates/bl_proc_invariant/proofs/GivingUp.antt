@@ -9,17 +9,17 @@ use Rattle.bl_proc.specs.declared.posting.PostStage.TheVariants.{Over}
 use Rattle.bl_proc.specs.declared.posting.PostReply.TheVariants.{Stale}
 use Rattle.bl_page.specs.declared.page.Page.{Page}
 use Rattle.bl_proc_invariant.specs.Turns.{Does, Turned}
-use Rattle.bl_proc_invariant.specs.Knowing.{Run, bare, late}
+use Rattle.bl_proc_invariant.specs.Knowing.{Run, know, late}
 use Rattle.bl_proc_invariant.proofs.Acts.{finished}
 
 -- what stands for it then: a process that is over and has said nothing
 abbrev pub given_up : Run → Run
 given_up r = record { state = Post (record { level = 1; key = 0; stage = Over Stale; least = omega arith; most = omega arith; below = tt }); got = r.got; child = r.child; time = r.time }
 
-pub give_up : (w : World Run) (p : Name) (s : State Page) → IsGood bare w → (bare (w.proc p)).stage ≡ Stage.Busy → (bare (w.proc p)).said ≡ None → (bare (w.proc p)).holds ≡ [] → (bare (w.proc p)).middle ≡ None → Does w.now p (End None) s → Turned bare w p (End None) s (given_up (w.proc p))
+pub give_up : (w : World Run) (p : Name) (s : State Page) → IsGood know w → (know (w.proc p)).stage ≡ Stage.Busy → (know (w.proc p)).said ≡ None → (know (w.proc p)).holds ≡ [] → (know (w.proc p)).middle ≡ None → Does w.now p (End None) s → Turned know w p (End None) s (given_up (w.proc p))
 give_up w p s g busy none empty middle does =
     let is = g.sure p in
-    finished bare w g p (given_up (w.proc p)) (bare (w.proc p)) (late None) refl refl None s
+    finished know w g p (given_up (w.proc p)) (know (w.proc p)) (late None) refl refl None s
     (rw busy at is.stage, λ x o. rw empty at (g.owned.held x p o))
     does (rw none at is.said) (rw middle refl) (λ x h. rw empty at h)
     (record {
@@ -30,5 +30,4 @@ give_up w p s g busy none empty middle does =
       children = tt;
       passed = tt;
       sound = tt;
-      log = tt;
     })

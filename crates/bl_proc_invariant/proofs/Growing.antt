@@ -90,7 +90,6 @@ holds_anchor w w' p a saw c S stage said held anchored known s = record {
   children = tt;
   passed = tt;
   sound = s;
-  log = tt;
 }
 
 module _ {P : Type 0} (know : P → Know) (w : World P) (g : IsGood know w) (p : Name) (b : P) (level key : ℕ) where
@@ -151,7 +150,6 @@ module _ {P : Type 0} (know : P → Know) (w : World P) (g : IsGood know w) (p :
         children = tt;
         passed = tt;
         sound = (is.sound.0, (rise.anchor.leftmost.items, rw known is.sound.1, rw new raises));
-        log = tt;
       })
 
   -- the new top page is put, which nobody names yet
@@ -190,7 +188,6 @@ module _ {P : Type 0} (know : P → Know) (w : World P) (g : IsGood know w) (p :
               children = tt;
               passed = tt;
               sound = is.sound;
-              log = tt;
             });
           };
           fresh = fresh.status;
@@ -251,7 +248,6 @@ module _ {P : Type 0} (know : P → Know) (w : World P) (g : IsGood know w) (p :
               children = tt;
               passed = tt;
               sound = (is.sound.0, n);
-              log = tt;
             });
           };
           fresh = fresh.status;

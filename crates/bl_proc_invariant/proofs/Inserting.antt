@@ -55,7 +55,7 @@ module _ {P : Type 0} (know : P → Know) (w : World P) (g : IsGood know w) (p :
       let says_map : (nodes w.now x).look key ≡ w.map 0 key = held_leaf_says know w g x key (rw held.status live_live) l.2 l.1 in
       watched know w g p b _ _ before then (Get x) (Some (w.now.contents x)) said s tt (is.stage, not_released know w g p x is.goes.0.may) does refl refl (λ y h. h) (λ it e. (is.stage, is.said))
       (sym says_map ∙ look, λ k. refl)
-      (record { stage = is.stage; said = says w m is.said; holds = ((does.changes.1 x ∙ held.owner, held.status, tt, tt), tt); goes = tt; children = tt; passed = tt; sound = tt; log = tt })
+      (record { stage = is.stage; said = says w m is.said; holds = ((does.changes.1 x ∙ held.owner, held.status, tt, tt), tt); goes = tt; children = tt; passed = tt; sound = tt })
 
   -- at the leaf, which lacks it
   enter_turn : (x : ℕ) (c : Change) (s : State Page) → know (w.proc p) ≡ know_approach 0 key (way.Latched x) → know b ≡ know_change (insert_aim key value) (λ z. w.now.contents x) c → Leads (w.now.contents x) key 0 Here → (nodes w.now x).look key ≡ None → EntersPair x (w.now.contents x) key value c → Does w.now p (Get x) s → Turned know w p (Get x) s b
@@ -81,7 +81,7 @@ module _ {P : Type 0} (know : P → Know) (w : World P) (g : IsGood know w) (p :
       let is : IsSure w p (know_insert key value got (insert.Present x there)) = rw before at (g.sure p) in
       opened know w g p b _ _ before then x s is.holds.0.owner does (inl is.holds.0.status) refl refl ((λ e. cc, λ e. cc), tt)
       (λ z n h. elim h [ inl e ↦ absurd (n (sym e)) | inr u ↦ absurd u ])
-      (record { stage = is.stage; said = HasSaid-silent w.trail (silent p (Act.Open x)) p (inserts key value (inserted.Present there)) refl is.said; holds = tt; goes = tt; children = tt; passed = tt; sound = tt; log = tt })
+      (record { stage = is.stage; said = HasSaid-silent w.trail (silent p (Act.Open x)) p (inserts key value (inserted.Present there)) refl is.said; holds = tt; goes = tt; children = tt; passed = tt; sound = tt })
 
   -- every turn of an insertion
   pub insert_turn : {a a' : InsertStage} {what : Seen} → InsertCase key value a what a' → (got : ℕ → Page) (s : State Page) → know (w.proc p) ≡ know_insert key value got a → know b ≡ know_insert key value (insert_got got a what) a' → IsTold w.now w.size (insert_next_in a) what → Does w.now p (event_of (insert_end a) (insert_next_in a) what) s → Turned know w p (event_of (insert_end a) (insert_next_in a) what) s b

@@ -82,7 +82,7 @@ module _ {P : Type 0} (know : P → Know) (w : World P) (g : IsGood know w) (p :
       let is : IsSure w p (know_part from (Probing x)) = rw before at (g.sure p) in
       let m : Mark = silent p (Looks (OfPage x)) in
       watched know w g p b _ _ before then (Looks (OfPage x)) None None s tt tt does tt refl (λ y h. h) (λ it e. cc) (λ k. refl)
-      (record { stage = is.stage; said = HasSaid-silent w.trail m p None refl is.said; holds = tt; goes = rw t (probed x free is.stage told); children = tt; passed = tt; sound = is.sound; log = tt })
+      (record { stage = is.stage; said = HasSaid-silent w.trail m p None refl is.said; holds = tt; goes = rw t (probed x free is.stage told); children = tt; passed = tt; sound = is.sound })
   part_turn (Descending d) (Descending e) (seen.Words c) s before then t told does = descent_turn know w g p b from d c s before told does e then t
   part_turn (Descending d) (Ending r) (seen.Words c) s before then t told does =
       let part : IsPartOf (w.now.contents (descent_page d)) from r = rw told at t.1 in

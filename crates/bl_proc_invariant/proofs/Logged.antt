@@ -1,5 +1,4 @@
--- The step lemma with what each process has done: a world that is good by the states of its processes is good also by their
--- logs, which every turn keeps.
+-- What each process has done, through every turn.
 use Rattle.std.proofs.Common.{ℕ, ◌≡◌, ◌++◌, Option, Some, None, [], ◌∷◌, ap, sym, ◌∙◌, refl, subst, inl, inr}
 use Rattle.bl_model.specs.declared.operation.Reply.{Reply}
 use Rattle.bl_page.specs.declared.page.Page.{Page}
@@ -34,93 +33,14 @@ use Rattle.bl_proc.specs.declared.kinds.Proc.{Proc}
 use Rattle.bl_proc.specs.declared.kinds.Proc.TheVariants.{Find, Insert, Delete, Post, Part, Compress, Reclaim, Lower}
 use Rattle.bl_proc.specs.Processes.{next_of, Takes}
 use Rattle.bl_proc_invariant.specs.Turns.{event_of, IsTold, Turned}
-use Rattle.bl_proc_invariant.specs.Logs.{proc_log, insert_log, delete_log, post_log, compress_log, lower_log}
-use Rattle.bl_proc_invariant.specs.Knowing.{Run, know_of, bare, know, know_insert, know_delete, know_post, know_compress, know_lower, end_of_proc, run_next}
-use Rattle.bl_proc_invariant.proofs.Plain.{plain}
+use Rattle.bl_proc_invariant.specs.Logs.{proc_log, insert_log, delete_log, post_log, compress_log, lower_log, AllLogs}
+use Rattle.bl_proc_invariant.specs.Knowing.{Run, know_of, know, know_insert, know_delete, know_post, know_compress, know_lower, end_of_proc, run_next}
 use Rattle.bl_proc_invariant.proofs.Logging.{post_on, post_stays}
 use Rattle.bl_proc_invariant.proofs.Doing.{compress_on, compress_stays}
 use Rattle.bl_proc_invariant.proofs.LoweringLogs.{lower_on, lower_stays}
 use Rattle.bl_proc_invariant.proofs.Looking.{looking_on, find_on, part_on}
 use Rattle.bl_proc_invariant.proofs.Putting.{insert_on, insert_stays, delete_on, delete_stays}
 use Rattle.bl_proc_unique.proofs.KindCases.{find_case, part_case, insert_case, delete_case, post_case, compress_case, lower_case}
-
-pub bare_good : (w : World Run) → IsGood know w → IsGood bare w
-bare_good w g = record {
-  tree = g.tree;
-  owned = record {
-    released = g.owned.released;
-    free = g.owned.free;
-    opened = g.owned.opened;
-    retired = g.owned.retired;
-    held = g.owned.held;
-    small = g.owned.small;
-    one_anchor = g.owned.one_anchor;
-    uprooted = λ x e. let k = g.owned.uprooted x e in record { by = k.by; held = k.held; anchor_held = k.anchor_held };
-  };
-  recorded = g.recorded;
-  bounded = g.bounded;
-  names = g.names;
-  gone = g.gone;
-  middles = λ x y e. let m = g.middles x y e in record {
-    by = m.by;
-    parent = m.parent;
-    is = m.is;
-    held = m.held;
-    parent_held = m.parent_held;
-    parent_live = m.parent_live;
-    parent_level = m.parent_level;
-    parent_covers = m.parent_covers;
-  };
-  sure = λ p. let is = g.sure p in record {
-    stage = is.stage;
-    said = is.said;
-    holds = is.holds;
-    goes = is.goes;
-    children = is.children;
-    passed = is.passed;
-    sound = is.sound;
-    log = (plain (w.proc p)).log (marks_of p w.trail);
-  };
-}
-
-pub full_good : (w : World Run) → IsGood bare w → ((p : Name) → proc_log (w.proc p).state (marks_of p w.trail)) → IsGood know w
-full_good w g logs = record {
-  tree = g.tree;
-  owned = record {
-    released = g.owned.released;
-    free = g.owned.free;
-    opened = g.owned.opened;
-    retired = g.owned.retired;
-    held = g.owned.held;
-    small = g.owned.small;
-    one_anchor = g.owned.one_anchor;
-    uprooted = λ x e. let k = g.owned.uprooted x e in record { by = k.by; held = k.held; anchor_held = k.anchor_held };
-  };
-  recorded = g.recorded;
-  bounded = g.bounded;
-  names = g.names;
-  gone = g.gone;
-  middles = λ x y e. let m = g.middles x y e in record {
-    by = m.by;
-    parent = m.parent;
-    is = m.is;
-    held = m.held;
-    parent_held = m.parent_held;
-    parent_live = m.parent_live;
-    parent_level = m.parent_level;
-    parent_covers = m.parent_covers;
-  };
-  sure = λ p. let is = g.sure p in record {
-    stage = is.stage;
-    said = is.said;
-    holds = is.holds;
-    goes = is.goes;
-    children = is.children;
-    passed = is.passed;
-    sound = is.sound;
-    log = logs p;
-  };
-}
 
 -- a process that has not begun has nothing to tell
 early_post : (level key : ℕ) (got : ℕ → Page) (child : ℕ) (a : PostStage) → (know_post level key got child a).stage ≡ Stage.Early → (marks : Trail) → post_log level key a marks
@@ -170,30 +90,6 @@ early_state got child time (Lower a) e marks none = early_lower got a.stage e ma
 pub early_log : (b : Run) → (know b).stage ≡ Stage.Early → (marks : Trail) → writes_of marks ≡ [] → proc_log b.state marks
 early_log b e marks none = early_state b.got b.child b.time b.state e marks none
 
-pub full_blank : (b : Run) → IsBlank (bare b) → IsBlank (know b)
-full_blank b is = record {
-  stage = is.stage;
-  said = is.said;
-  holds = is.holds;
-  goes = is.goes;
-  children = is.children;
-  passed = is.passed;
-  sound = is.sound;
-  log = early_log b is.stage [] refl;
-}
-
-pub bare_blank : (b : Run) → IsBlank (know b) → IsBlank (bare b)
-bare_blank b is = record {
-  stage = is.stage;
-  said = is.said;
-  holds = is.holds;
-  goes = is.goes;
-  children = is.children;
-  passed = is.passed;
-  sound = is.sound;
-  log = (plain b).log [];
-}
-
 same_words : (c d : Page) → seen.Words c ≡ seen.Words d → c ≡ d
 same_words c d e = cc
 
@@ -237,8 +133,8 @@ log_stays (Lower a) marks m did h = lower_stays marks m did a.stage h
 log_stays (Post a) marks m did h = post_stays marks m a.level a.key a.least (ap writes_in did) (λ x o. (let e = sym did ∙ o in cc)) a.stage h
 
 -- the logs of all processes after a turn of p
-logs_after : (w : World Run) (p : Name) (a : Act Page Reply) (s : State Page) (b : Run) (t : Turned bare w p a s b) → IsGood know w → ((marks : Trail) (m : Mark) → marks ≡ marks_of p w.trail → m ≡ record { event = record { process = p; act = a }; saw = t.saw; said = t.said } → proc_log b.state (marks ++ m ∷ [])) → (q : Name) → proc_log (t.next.proc q).state (marks_of q t.next.trail)
-logs_after w p a s b t g mine q =
+logs_after : (w : World Run) (p : Name) (a : Act Page Reply) (s : State Page) (b : Run) (t : Turned know w p a s b) → AllLogs w → ((marks : Trail) (m : Mark) → marks ≡ marks_of p w.trail → m ≡ record { event = record { process = p; act = a }; saw = t.saw; said = t.said } → proc_log b.state (marks ++ m ∷ [])) → AllLogs t.next
+logs_after w p a s b t logs mine q =
     let m : Mark = record { event = record { process = p; act = a }; saw = t.saw; said = t.said } in
     elim (name_cases q p) [
       | inl e ↦
@@ -247,21 +143,18 @@ logs_after w p a s b t g mine q =
           subst (λ r. proc_log r.state (marks_of q t.next.trail)) (sym state) (subst (proc_log b.state) (sym trail) (mine (marks_of p w.trail) m refl refl))
       | inr n ↦
           let trail : marks_of q t.next.trail ≡ marks_of q w.trail = ap (marks_of q) t.extends.trail ∙ marks_of-other q w.trail m (λ e. n (sym e)) in
-          subst (λ r. proc_log r.state (marks_of q t.next.trail)) (sym (t.extends.proc.others q n)) (subst (proc_log (w.proc q).state) (sym trail) (g.sure q).log)
+          subst (λ r. proc_log r.state (marks_of q t.next.trail)) (sym (t.extends.proc.others q n)) (subst (proc_log (w.proc q).state) (sym trail) (logs q))
     ]
 
-full_turned : (w : World Run) (p : Name) (a : Act Page Reply) (s : State Page) (b : Run) (t : Turned bare w p a s b) → ((q : Name) → proc_log (t.next.proc q).state (marks_of q t.next.trail)) → Turned know w p a s b
-full_turned w p a s b t logs = record { next = t.next; saw = t.saw; said = t.said; extends = t.extends; now = t.now; good = full_good t.next t.good logs }
-
-pub with_logs : (w : World Run) (p : Name) (a : Run) (new : Proc) (what : Seen) (s : State Page) (did : Act Page Reply) → w.proc p ≡ a → IsGood know w → Takes a.state what new → IsTold w.now w.size (next_of a.state) what → did ≡ event_of (end_of_proc a.state) (next_of a.state) what → Turned bare w p did s (run_next w.now a what new) → Turned know w p did s (run_next w.now a what new)
-with_logs w p a new what s did is g t told same turned =
-    full_turned w p did s (run_next w.now a what new) turned (logs_after w p did s (run_next w.now a what new) turned g (λ marks m here mark.
+pub turn_logs : (w : World Run) (p : Name) (a : Run) (new : Proc) (what : Seen) (s : State Page) (did : Act Page Reply) → w.proc p ≡ a → AllLogs w → Takes a.state what new → IsTold w.now w.size (next_of a.state) what → did ≡ event_of (end_of_proc a.state) (next_of a.state) what → (turned : Turned know w p did s (run_next w.now a what new)) → AllLogs turned.next
+turn_logs w p a new what s did is logs t told same turned =
+    logs_after w p did s (run_next w.now a what new) turned logs (λ marks m here mark.
     let seen_it = subst (λ e. Saw w.now e turned.saw) same turned.extends.saw in
     log_turn a.state new what marks m t (ap (λ z. z.event.act) mark ∙ same)
     (λ x c e f. ap (λ z. z.saw) mark ∙ saw_words (end_of_proc a.state) w.now w.size turned.saw (next_of a.state) what told seen_it x c (sym (ap (λ z. z.event.act) mark ∙ same) ∙ e) f)
-    (subst (λ r. proc_log r.state marks) is (subst (proc_log (w.proc p).state) (sym here) (g.sure p).log))))
+    (subst (λ r. proc_log r.state marks) is (subst (proc_log (w.proc p).state) (sym here) (logs p))))
 
-pub with_miss : (w : World Run) (p : Name) (what : Missed) (s : State Page) → IsGood know w → Turned bare w p (Miss what) s (w.proc p) → Turned know w p (Miss what) s (w.proc p)
-with_miss w p what s g turned =
-    full_turned w p (Miss what) s (w.proc p) turned (logs_after w p (Miss what) s (w.proc p) turned g (λ marks m here mark.
-    log_stays (w.proc p).state marks m (ap (λ z. z.event.act) mark) (subst (proc_log (w.proc p).state) (sym here) (g.sure p).log)))
+pub miss_logs : (w : World Run) (p : Name) (what : Missed) (s : State Page) → AllLogs w → (turned : Turned know w p (Miss what) s (w.proc p)) → AllLogs turned.next
+miss_logs w p what s logs turned =
+    logs_after w p (Miss what) s (w.proc p) turned logs (λ marks m here mark.
+    log_stays (w.proc p).state marks m (ap (λ z. z.event.act) mark) (subst (proc_log (w.proc p).state) (sym here) (logs p)))

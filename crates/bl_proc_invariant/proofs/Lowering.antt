@@ -113,7 +113,6 @@ module _ {P : Type 0} (know : P → Know) (w : World P) (g : IsGood know w) (p :
         children = tt;
         passed = tt;
         sound = (is.sound, n);
-        log = tt;
       })
 
   pub miss_top_turn : {what : Missed} (got : ℕ → Page) (t : Summit) (s : State Page) → know (w.proc p) ≡ know_lowering got (lowering.LatchingTop t) → know b ≡ know_lowering got (lowering.LatchingTop t) → Does w.now p (Miss what) s → Turned know w p (Miss what) s b
@@ -141,7 +140,6 @@ module _ {P : Type 0} (know : P → Know) (w : World P) (g : IsGood know w) (p :
         children = tt;
         passed = tt;
         sound = record { leftmost = t.anchor.leftmost.items; anchor = refl; tall = t.tall; top = same ∙ is.sound.0; other = n; sole = subst IsSole (sym to) sole; sinks = sinks };
-        log = tt;
       })
 
   -- or it is
@@ -160,7 +158,6 @@ module _ {P : Type 0} (know : P → Know) (w : World P) (g : IsGood know w) (p :
         children = tt;
         passed = tt;
         sound = λ e. is.sound.1 (e ∙ same);
-        log = tt;
       })
 
   -- the reservation is refused
@@ -176,7 +173,6 @@ module _ {P : Type 0} (know : P → Know) (w : World P) (g : IsGood know w) (p :
         children = tt;
         passed = tt;
         sound = is.sound.other;
-        log = tt;
       })
 
   -- the anchor is put, and names the top level no longer
@@ -229,7 +225,6 @@ module _ {P : Type 0} (know : P → Know) (w : World P) (g : IsGood know w) (p :
               children = tt;
               passed = tt;
               sound = (to.other, fallen);
-              log = tt;
             });
           };
           live = top.status;
@@ -292,7 +287,6 @@ module _ {P : Type 0} (know : P → Know) (w : World P) (g : IsGood know w) (p :
               children = tt;
               passed = tt;
               sound = is.sound.0;
-              log = tt;
             });
           };
           uprooted = top.status;
@@ -336,7 +330,6 @@ module _ {P : Type 0} (know : P → Know) (w : World P) (g : IsGood know w) (p :
             children = tt;
             passed = tt;
             sound = tt;
-            log = tt;
           });
         }) g;
       }

@@ -9,7 +9,7 @@ use Rattle.bl_page.specs.Machine.Act.{Get, Put, Latch, Retire, Miss}
 use Rattle.bl_claims.specs.Pages.{roots_of}
 use Rattle.bl_claims.specs.Trails.{Mark, Trail, marks_of}
 use Rattle.bl_claims.specs.Meanings.{HasGot, writes_in, Unwritten}
-use Rattle.bl_core.specs.Worlds.{World, IsGood}
+use Rattle.bl_core.specs.Worlds.{World}
 use Rattle.bl_core.proofs.Meant.{begun_now, unwritten_on, got_on, got_last}
 use Rattle.bl_proc_base.specs.declared.acts.Seen.{Seen}
 use Rattle.bl_proc_base.specs.declared.acts.Seen.TheVariants as seen
@@ -33,8 +33,8 @@ use Rattle.bl_proc_meanings.specs.Squeezed.{acts_in}
 use Rattle.bl_proc_meanings.specs.Lowered.{AtTop, to_top, to_sunk, HasLowered, MeansLowered}
 use Rattle.bl_proc_invariant.specs.Turns.{event_of}
 use Rattle.bl_proc_invariant.specs.LoweringLog.{AtSummit, IsToLowerBy, lowering_log}
-use Rattle.bl_proc_invariant.specs.Logs.{proc_log, lower_log}
-use Rattle.bl_proc_invariant.specs.Knowing.{Run, know}
+use Rattle.bl_proc_invariant.specs.Logs.{proc_log, lower_log, AllLogs}
+use Rattle.bl_proc_invariant.specs.Knowing.{Run}
 use Rattle.bl_proc_invariant.proofs.Doing.{since_now, since_on, since_unwritten, once_on, once_now}
 use Rattle.bl_proc_unique.proofs.Lowerings.{LoweringCase, lowering_case}
 use Rattle.bl_proc_unique.proofs.KindCases.{LowerCase}
@@ -145,6 +145,6 @@ pub stage_means : (stage : LowerStage) (what : Lowered) (marks : Trail) → lowe
 stage_means (lower.Over r) what marks e log = subst (λ z. MeansLowered z marks) (same_lowered r what (some_answer _ _ e)) log
 stage_means old what marks e log = absurd (let f = e in cc)
 
--- In every good world, what a lowering has answered means what it says.
-pub lower_means : (w : World Run) (n : Name) (a : Lower) (what : Lowered) → IsGood know w → (w.proc n).state ≡ proc.Lower a → lower_answer_in a.stage ≡ Some (answer.Lower what) → MeansLowered what (marks_of n w.trail)
-lower_means w n a what g is e = stage_means a.stage what (marks_of n w.trail) e (subst (λ s. proc_log s (marks_of n w.trail)) is (g.sure n).log)
+-- In every world whose processes have done what they tell, what a lowering has answered means what it says.
+pub lower_means : (w : World Run) (n : Name) (a : Lower) (what : Lowered) → AllLogs w → (w.proc n).state ≡ proc.Lower a → lower_answer_in a.stage ≡ Some (answer.Lower what) → MeansLowered what (marks_of n w.trail)
+lower_means w n a what logs is e = stage_means a.stage what (marks_of n w.trail) e (subst (λ s. proc_log s (marks_of n w.trail)) is (logs n))

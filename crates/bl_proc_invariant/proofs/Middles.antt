@@ -25,7 +25,7 @@ use Rattle.bl_proc_compress.specs.declared.squeezing.CompressStage.TheVariants a
 use Rattle.bl_proc_invariant.specs.Compressing.{AreThree, left_now, right_now}
 use Rattle.bl_proc_meanings.specs.Squeezed.{acts_in, acts_of, Since}
 use Rattle.bl_proc_invariant.specs.Logs.{put_act, IsToSqueeze, proc_log, compress_log}
-use Rattle.bl_proc_invariant.specs.Knowing.{Run, know_of, know_compress, bare}
+use Rattle.bl_proc_invariant.specs.Knowing.{Run, know_of, know_compress, know}
 use Rattle.bl_proc_invariant.proofs.Plain.{of_middle}
 
 -- all but a miss is done
@@ -180,8 +180,8 @@ part_of f (Some m) = f m
 abbrev pub KeepsLogs : World Run → Type 0
 KeepsLogs w = (p : Name) (since : ℕ) → w.now.phase p ≡ Running since → proc_log (w.proc p).state (marks_of p w.trail)
 
-module _ (w : World Run) (g : IsGood bare w) (logs : KeepsLogs w) (x y : ℕ) (at : w.status y ≡ Right x) where
-  m : HasMiddle bare w x y
+module _ (w : World Run) (g : IsGood know w) (logs : KeepsLogs w) (x y : ℕ) (at : w.status y ≡ Right x) where
+  m : HasMiddle know w x y
   m = g.middles x y at
 
   abbrev whole : Middle
@@ -237,12 +237,12 @@ module _ (w : World Run) (g : IsGood bare w) (logs : KeepsLogs w) (x y : ℕ) (a
   tells =
       let r = w.proc m.by in
       elim (of_middle r.got r.child r.time r.state) [
-        | inl none ↦ absurd (let i = m.is in let n : (bare (w.proc m.by)).middle ≡ None = none in cc)
+        | inl none ↦ absurd (let i = m.is in let n : (know (w.proc m.by)).middle ≡ None = none in cc)
         | inr a ↦ by_stage a.0.level a.0.key r.got a.0.stage
             (subst (λ s. (know_of r.got r.child r.time s).middle ≡ Some whole) a.1 m.is)
             (λ since runs. subst (λ s. proc_log s (marks_of m.by w.trail)) a.1 (logs m.by since runs))
             (subst (λ s. IsSure w m.by (know_of r.got r.child r.time s)) a.1 (g.sure m.by))
       ]
 
-pub tells_middles : (w : World Run) → IsGood bare w → KeepsLogs w → TellsMiddles w
+pub tells_middles : (w : World Run) → IsGood know w → KeepsLogs w → TellsMiddles w
 tells_middles w g logs = record { middle = λ x y e. (tells w g logs x y e).0; evening = λ x y e. (tells w g logs x y e).1 }

@@ -62,9 +62,8 @@ use Rattle.bl_proc_base.specs.Lowerings.{lowering_next}
 use Rattle.bl_proc.specs.Processes.{next_of}
 use Rattle.bl_proc_invariant.specs.Compressing.{know_squeeze}
 use Rattle.bl_proc_invariant.specs.Tables.{Aim, know_approach, know_change}
-use Rattle.bl_proc_invariant.specs.Knowing.{know_growth, know_find, know_part, know_insert, know_delete, know_post, know_compress, know_reclaim, know_lower, know_of, Run, bare, know}
+use Rattle.bl_proc_invariant.specs.Knowing.{know_growth, know_find, know_part, know_insert, know_delete, know_post, know_compress, know_reclaim, know_lower, know_of, Run, know}
 use Rattle.bl_proc_invariant.proofs.Descending.{descent_there}
-use Rattle.bl_proc_invariant.proofs.Logged.{bare_good}
 
 abbrev pub IsNear : {P : Type 0} → World P → Name → Action → Type 0
 IsNear w p (act.Get x) = w.now.owner x ≢ Released
@@ -213,8 +212,5 @@ module _ {P : Type 0} (know : P → Know) (w : World P) (g : IsGood know w) (p :
   of_near got child time (Reclaim a) is = reclaim_near a.page time a.stage is
   of_near got child time (Lower a) is = lower_near got a.stage is
 
-pub bare_near : (w : World Run) (p : Name) → IsGood bare w → IsNear w p (next_of (w.proc p).state)
-bare_near w p g = of_near bare w g p (w.proc p).got (w.proc p).child (w.proc p).time (w.proc p).state (g.sure p)
-
 pub near : (w : World Run) (p : Name) → IsGood know w → IsNear w p (next_of (w.proc p).state)
-near w p g = bare_near w p (bare_good w g)
+near w p g = of_near know w g p (w.proc p).got (w.proc p).child (w.proc p).time (w.proc p).state (g.sure p)

@@ -102,7 +102,6 @@ module _ {P : Type 0} (know : P → Know) (w : World P) (g : IsGood know w) (p :
         children = tt;
         passed = tt;
         sound = (to_put.small, three);
-        log = tt;
       }))
       (omega (arith, left_level, right_level))
       (let below = to_put.below in let e = ap (λ v. (node_of v).shape.low) left_is in let f = ap (λ v. (node_of v).shape.low) right_is in let low = to.join.low in omega (arith, below, e, f, low)) in
@@ -138,7 +137,6 @@ module _ {P : Type 0} (know : P → Know) (w : World P) (g : IsGood know w) (p :
     children = tt;
     passed = tt;
     sound = (to_put.small, three);
-    log = tt;
   }
 
   pub lose_right_turn : (fate : Fate) → know b ≡ know_compression level key got at new (OpeningRight u.at fate) → Does w.now p (Put u.at.right u.right) s → ToEvenLeft got u at new → Turned know w p (Put u.at.right u.right) s b

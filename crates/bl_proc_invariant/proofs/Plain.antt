@@ -1,4 +1,4 @@
--- By its state alone no process keeps a log.
+-- Which processes may be in the middle of a compression.
 use Rattle.std.proofs.Common.{ℕ, ◌≡◌, ◌⊎◌, None, Some, refl, inl, inr}
 use Rattle.bl_page.specs.declared.page.Page.{Page}
 use Rattle.bl_claims.specs.Trails.{Trail}
@@ -35,139 +35,101 @@ use Rattle.bl_proc.specs.declared.kinds.Proc.{Proc}
 use Rattle.bl_proc.specs.declared.kinds.Proc.TheVariants.{Find, Insert, Delete, Post, Part, Compress, Reclaim, Lower}
 use Rattle.bl_proc_invariant.specs.Compressing.{know_squeeze}
 use Rattle.bl_proc_invariant.specs.Tables.{Aim, know_approach, know_change}
-use Rattle.bl_proc_invariant.specs.Knowing.{know_growth, know_find, know_part, know_insert, know_delete, know_post, know_compress, know_reclaim, know_lower, know_of, Run, bare}
+use Rattle.bl_proc_invariant.specs.Knowing.{know_growth, know_find, know_part, know_insert, know_delete, know_post, know_compress, know_reclaim, know_lower, know_of, Run, know}
 
-pub record HasNoLog (k : Know) : Type 1 where
-  pub log : (marks : Trail) → k.log marks
-
--- nor is in the middle of a compression, but one that compresses
+-- it is not in the middle of a compression
 record IsPlain (k : Know) : Type 1 where
   pub middle : k.middle ≡ None
-  pub log : (marks : Trail) → k.log marks
 
 approach_plain : (level key : ℕ) (a : Approach) → IsPlain (know_approach level key a)
-approach_plain level key way.Start = record { middle = refl; log = λ marks. tt }
-approach_plain level key (way.At x) = record { middle = refl; log = λ marks. tt }
-approach_plain level key (way.Latching x) = record { middle = refl; log = λ marks. tt }
-approach_plain level key (way.Latched x) = record { middle = refl; log = λ marks. tt }
-approach_plain level key (way.Leaving x None) = record { middle = refl; log = λ marks. tt }
-approach_plain level key (way.Leaving x (Some y)) = record { middle = refl; log = λ marks. tt }
+approach_plain level key way.Start = record { middle = refl }
+approach_plain level key (way.At x) = record { middle = refl }
+approach_plain level key (way.Latching x) = record { middle = refl }
+approach_plain level key (way.Latched x) = record { middle = refl }
+approach_plain level key (way.Leaving x None) = record { middle = refl }
+approach_plain level key (way.Leaving x (Some y)) = record { middle = refl }
 
 change_plain : (aim : Aim) (got : ℕ → Page) (c : Change) → IsPlain (know_change aim got c)
-change_plain aim got (change.Putting x page) = record { middle = refl; log = λ marks. tt }
-change_plain aim got (change.Taking full) = record { middle = refl; log = λ marks. tt }
-change_plain aim got (change.PuttingNew t) = record { middle = refl; log = λ marks. tt }
-change_plain aim got (change.PuttingOld t) = record { middle = refl; log = λ marks. tt }
-change_plain aim got (change.OpeningNew x y s) = record { middle = refl; log = λ marks. tt }
-change_plain aim got (change.Opening x o) = record { middle = refl; log = λ marks. tt }
+change_plain aim got (change.Putting x page) = record { middle = refl }
+change_plain aim got (change.Taking full) = record { middle = refl }
+change_plain aim got (change.PuttingNew t) = record { middle = refl }
+change_plain aim got (change.PuttingOld t) = record { middle = refl }
+change_plain aim got (change.OpeningNew x y s) = record { middle = refl }
+change_plain aim got (change.Opening x o) = record { middle = refl }
 
 growth_plain : (level key : ℕ) (got : ℕ → Page) (a : Growth) → IsPlain (know_growth level key got a)
-growth_plain level key got growth.Latching = record { middle = refl; log = λ marks. tt }
-growth_plain level key got growth.Latched = record { middle = refl; log = λ marks. tt }
-growth_plain level key got (growth.Taking r) = record { middle = refl; log = λ marks. tt }
-growth_plain level key got (growth.PuttingTop r) = record { middle = refl; log = λ marks. tt }
-growth_plain level key got (growth.PuttingAnchor r) = record { middle = refl; log = λ marks. tt }
-growth_plain level key got (growth.OpeningTop x) = record { middle = refl; log = λ marks. tt }
-growth_plain level key got growth.OpeningGrown = record { middle = refl; log = λ marks. tt }
-growth_plain level key got growth.OpeningRefused = record { middle = refl; log = λ marks. tt }
+growth_plain level key got growth.Latching = record { middle = refl }
+growth_plain level key got growth.Latched = record { middle = refl }
+growth_plain level key got (growth.Taking r) = record { middle = refl }
+growth_plain level key got (growth.PuttingTop r) = record { middle = refl }
+growth_plain level key got (growth.PuttingAnchor r) = record { middle = refl }
+growth_plain level key got (growth.OpeningTop x) = record { middle = refl }
+growth_plain level key got growth.OpeningGrown = record { middle = refl }
+growth_plain level key got growth.OpeningRefused = record { middle = refl }
 
 find_plain : (key : ℕ) (a : FindStage) → IsPlain (know_find key a)
-find_plain key find.New = record { middle = refl; log = λ marks. tt }
-find_plain key (find.Descending d) = record { middle = refl; log = λ marks. tt }
-find_plain key (find.Ending v) = record { middle = refl; log = λ marks. tt }
-find_plain key (find.Over v) = record { middle = refl; log = λ marks. tt }
+find_plain key find.New = record { middle = refl }
+find_plain key (find.Descending d) = record { middle = refl }
+find_plain key (find.Ending v) = record { middle = refl }
+find_plain key (find.Over v) = record { middle = refl }
 
 part_plain : (from : ℕ) (a : PartStage) → IsPlain (know_part from a)
-part_plain from part.New = record { middle = refl; log = λ marks. tt }
-part_plain from (part.Near x) = record { middle = refl; log = λ marks. tt }
-part_plain from (part.Probing x) = record { middle = refl; log = λ marks. tt }
-part_plain from (part.Descending d) = record { middle = refl; log = λ marks. tt }
-part_plain from (part.Ending r) = record { middle = refl; log = λ marks. tt }
-part_plain from (part.Over r) = record { middle = refl; log = λ marks. tt }
+part_plain from part.New = record { middle = refl }
+part_plain from (part.Near x) = record { middle = refl }
+part_plain from (part.Probing x) = record { middle = refl }
+part_plain from (part.Descending d) = record { middle = refl }
+part_plain from (part.Ending r) = record { middle = refl }
+part_plain from (part.Over r) = record { middle = refl }
 
 insert_plain : (key value : ℕ) (got : ℕ → Page) (a : InsertStage) → IsPlain (know_insert key value got a)
-insert_plain key value got insert.New = record { middle = refl; log = λ marks. tt }
-insert_plain key value got (insert.Present x v) = record { middle = refl; log = λ marks. tt }
-insert_plain key value got (insert.Ending r) = record { middle = refl; log = λ marks. tt }
-insert_plain key value got (insert.Over r) = record { middle = refl; log = λ marks. tt }
+insert_plain key value got insert.New = record { middle = refl }
+insert_plain key value got (insert.Present x v) = record { middle = refl }
+insert_plain key value got (insert.Ending r) = record { middle = refl }
+insert_plain key value got (insert.Over r) = record { middle = refl }
 insert_plain key value got (insert.Coming a) = approach_plain 0 key a
 insert_plain key value got (insert.Changing c) = change_plain _ got c
 
 delete_plain : (key : ℕ) (got : ℕ → Page) (a : DeleteStage) → IsPlain (know_delete key got a)
-delete_plain key got delete.New = record { middle = refl; log = λ marks. tt }
-delete_plain key got (delete.Absent x) = record { middle = refl; log = λ marks. tt }
-delete_plain key got (delete.Ending r) = record { middle = refl; log = λ marks. tt }
-delete_plain key got (delete.Over r) = record { middle = refl; log = λ marks. tt }
+delete_plain key got delete.New = record { middle = refl }
+delete_plain key got (delete.Absent x) = record { middle = refl }
+delete_plain key got (delete.Ending r) = record { middle = refl }
+delete_plain key got (delete.Over r) = record { middle = refl }
 delete_plain key got (delete.Coming a) = approach_plain 0 key a
 delete_plain key got (delete.Changing v c) = change_plain _ got c
 
 post_plain : (level key : ℕ) (got : ℕ → Page) (child : ℕ) (a : PostStage) → IsPlain (know_post level key got child a)
-post_plain level key got child post.New = record { middle = refl; log = λ marks. tt }
-post_plain level key got child (post.Walking v) = record { middle = refl; log = λ marks. tt }
-post_plain level key got child (post.Staying x r) = record { middle = refl; log = λ marks. tt }
-post_plain level key got child (post.Ending r) = record { middle = refl; log = λ marks. tt }
-post_plain level key got child (post.Over r) = record { middle = refl; log = λ marks. tt }
+post_plain level key got child post.New = record { middle = refl }
+post_plain level key got child (post.Walking v) = record { middle = refl }
+post_plain level key got child (post.Staying x r) = record { middle = refl }
+post_plain level key got child (post.Ending r) = record { middle = refl }
+post_plain level key got child (post.Over r) = record { middle = refl }
 post_plain level key got child (post.Coming a) = approach_plain level key a
 post_plain level key got child (post.Growing h) = growth_plain level key got h
 post_plain level key got child (post.Changing c) = change_plain _ got c
 
-squeeze_plain : (level key : ℕ) (got : ℕ → Page) (c : Compression) → HasNoLog (know_squeeze level key got c)
-squeeze_plain level key got (LatchingLeft f) = record { log = λ marks. tt }
-squeeze_plain level key got (LatchedLeft f) = record { log = λ marks. tt }
-squeeze_plain level key got (LatchingRight f c) = record { log = λ marks. tt }
-squeeze_plain level key got (LatchedRight f c) = record { log = λ marks. tt }
-squeeze_plain level key got (PuttingFirst u) = record { log = λ marks. tt }
-squeeze_plain level key got (PuttingParent u) = record { log = λ marks. tt }
-squeeze_plain level key got (PuttingLast u) = record { log = λ marks. tt }
-squeeze_plain level key got (Retiring t f) = record { log = λ marks. tt }
-squeeze_plain level key got (OpeningRight t f) = record { log = λ marks. tt }
-squeeze_plain level key got (OpeningLeft t f) = record { log = λ marks. tt }
-squeeze_plain level key got (OpeningParent x f) = record { log = λ marks. tt }
-
-compress_plain : (level key : ℕ) (got : ℕ → Page) (a : CompressStage) → HasNoLog (know_compress level key got a)
-compress_plain level key got compress.New = record { log = λ marks. tt }
-compress_plain level key got (compress.Coming a) = record { log = (approach_plain level key a).log }
-compress_plain level key got (compress.Compressing c) = squeeze_plain level key got c
-compress_plain level key got (compress.Staying x) = record { log = λ marks. tt }
-compress_plain level key got (compress.Ending r) = record { log = λ marks. tt }
-compress_plain level key got (compress.Over r) = record { log = λ marks. tt }
-
 reclaim_plain : (time : ℕ) (a : ReclaimStage) → IsPlain (know_reclaim time a)
-reclaim_plain time reclaim.Seeing = record { middle = refl; log = λ marks. tt }
-reclaim_plain time (reclaim.Looking r) = record { middle = refl; log = λ marks. tt }
-reclaim_plain time reclaim.Releasing = record { middle = refl; log = λ marks. tt }
-reclaim_plain time (reclaim.Over what) = record { middle = refl; log = λ marks. tt }
+reclaim_plain time reclaim.Seeing = record { middle = refl }
+reclaim_plain time (reclaim.Looking r) = record { middle = refl }
+reclaim_plain time reclaim.Releasing = record { middle = refl }
+reclaim_plain time (reclaim.Over what) = record { middle = refl }
 
 lowering_plain : (got : ℕ → Page) (l : Lowering) → IsPlain (know_lowering got l)
-lowering_plain got lowering.Looking = record { middle = refl; log = λ marks. tt }
-lowering_plain got lowering.LatchingAnchor = record { middle = refl; log = λ marks. tt }
-lowering_plain got lowering.LatchedAnchor = record { middle = refl; log = λ marks. tt }
-lowering_plain got (lowering.LatchingTop t) = record { middle = refl; log = λ marks. tt }
-lowering_plain got (lowering.LatchedTop t) = record { middle = refl; log = λ marks. tt }
-lowering_plain got (lowering.PuttingAnchor s) = record { middle = refl; log = λ marks. tt }
-lowering_plain got (lowering.PuttingDead s) = record { middle = refl; log = λ marks. tt }
-lowering_plain got (lowering.Retiring x) = record { middle = refl; log = λ marks. tt }
-lowering_plain got (lowering.OpeningTop x what) = record { middle = refl; log = λ marks. tt }
-lowering_plain got (lowering.OpeningAnchor what) = record { middle = refl; log = λ marks. tt }
+lowering_plain got lowering.Looking = record { middle = refl }
+lowering_plain got lowering.LatchingAnchor = record { middle = refl }
+lowering_plain got lowering.LatchedAnchor = record { middle = refl }
+lowering_plain got (lowering.LatchingTop t) = record { middle = refl }
+lowering_plain got (lowering.LatchedTop t) = record { middle = refl }
+lowering_plain got (lowering.PuttingAnchor s) = record { middle = refl }
+lowering_plain got (lowering.PuttingDead s) = record { middle = refl }
+lowering_plain got (lowering.Retiring x) = record { middle = refl }
+lowering_plain got (lowering.OpeningTop x what) = record { middle = refl }
+lowering_plain got (lowering.OpeningAnchor what) = record { middle = refl }
 
 lower_plain : (got : ℕ → Page) (a : LowerStage) → IsPlain (know_lower got a)
-lower_plain got lower.New = record { middle = refl; log = λ marks. tt }
+lower_plain got lower.New = record { middle = refl }
 lower_plain got (lower.Sinking l) = lowering_plain got l
-lower_plain got (lower.Ending r) = record { middle = refl; log = λ marks. tt }
-lower_plain got (lower.Over r) = record { middle = refl; log = λ marks. tt }
-
-of_plain : (got : ℕ → Page) (child time : ℕ) (state : Proc) → HasNoLog (know_of got child time state)
-of_plain got child time (Find p) = record { log = (find_plain p.key p.stage).log }
-of_plain got child time (Insert p) = record { log = (insert_plain p.key p.value got p.stage).log }
-of_plain got child time (Delete p) = record { log = (delete_plain p.key got p.stage).log }
-of_plain got child time (Post p) = record { log = (post_plain p.level p.key got child p.stage).log }
-of_plain got child time (Part p) = record { log = (part_plain p.from p.stage).log }
-of_plain got child time (Compress p) = compress_plain p.level p.key got p.stage
-of_plain got child time (Reclaim p) = record { log = (reclaim_plain time p.stage).log }
-of_plain got child time (Lower p) = record { log = (lower_plain got p.stage).log }
-
-pub plain : (r : Run) → HasNoLog (bare r)
-plain r = of_plain r.got r.child r.time r.state
+lower_plain got (lower.Ending r) = record { middle = refl }
+lower_plain got (lower.Over r) = record { middle = refl }
 
 -- whoever is in the middle of a compression compresses
 pub of_middle : (got : ℕ → Page) (child time : ℕ) (state : Proc) → ((know_of got child time state).middle ≡ None) ⊎ ((p : Press) × (state ≡ Compress p))

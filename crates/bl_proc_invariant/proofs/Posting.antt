@@ -72,7 +72,6 @@ module _ {P : Type 0} (know : P → Know) (w : World P) (g : IsGood know w) (p :
         children = tt;
         passed = tt;
         sound = (is.sound, record { level = ap (λ z. (node_of z).shape.level) (sym page) ∙ l.2; covers = rw page at l.1; was = unlisted }, t.1);
-        log = tt;
       })
 
   -- on the walk to the child
@@ -100,7 +99,6 @@ module _ {P : Type 0} (know : P → Know) (w : World P) (g : IsGood know w) (p :
           children = tt;
           passed = tt;
           sound = (is.sound.0, subst (λ z. IsDue (post_aim level key 0) z) parent is.sound.1, t.1 ∙ key_is);
-          log = tt;
         })
 
     lost_turn : know b ≡ record (idle Stage.Busy) { holds = holds_live v.at ∷ [] } → Turned know w p (Get v.child) s b

@@ -2,7 +2,7 @@
 use Rattle.std.proofs.Common.{ℕ, ◌≡◌, Option, Some, refl, subst}
 use Rattle.bl_page.specs.Machine.{Name}
 use Rattle.bl_claims.specs.Trails.{Trail, marks_of}
-use Rattle.bl_core.specs.Worlds.{World, IsGood}
+use Rattle.bl_core.specs.Worlds.{World}
 use Rattle.bl_proc_base.specs.declared.answers.Answer.{Answer}
 use Rattle.bl_proc_base.specs.declared.answers.Answer.TheVariants as answer
 use Rattle.bl_proc_base.specs.declared.answers.Hint.{Hint}
@@ -15,8 +15,8 @@ use Rattle.bl_proc_compress.specs.declared.squeezing.CompressStage.TheVariants a
 use Rattle.bl_proc.specs.declared.kinds.Proc.TheVariants as proc
 use Rattle.bl_proc_compress.specs.Compresses.{compressed_answer, compress_answer_in}
 use Rattle.bl_proc_meanings.specs.Squeezed.{MeansSqueezed}
-use Rattle.bl_proc_invariant.specs.Logs.{pressed_log, compress_log, proc_log}
-use Rattle.bl_proc_invariant.specs.Knowing.{Run, know}
+use Rattle.bl_proc_invariant.specs.Logs.{pressed_log, compress_log, proc_log, AllLogs}
+use Rattle.bl_proc_invariant.specs.Knowing.{Run}
 
 same_squeezed : (p q : Squeezed) (h i : Option Hint) → answer.Compress p h ≡ answer.Compress q i → p ≡ q
 same_squeezed p q h i e = cc
@@ -43,6 +43,6 @@ pub stage_means : (level key : ℕ) (stage : CompressStage) (q : Squeezed) (h : 
 stage_means level key (compress.Over r) q h marks e log = reply_means level key r q h marks (some_answer _ _ e) log
 stage_means level key old q h marks e log = absurd (let f = e in cc)
 
--- In every good world, what a compression has answered means what it says, with the hint beside it.
-pub compress_means : (w : World Run) (n : Name) (a : Compress) (q : Squeezed) (h : Option Hint) → IsGood know w → (w.proc n).state ≡ proc.Compress a → compress_answer_in a.stage ≡ Some (answer.Compress q h) → MeansSqueezed a.level a.key q h (marks_of n w.trail)
-compress_means w n a q h g is e = stage_means a.level a.key a.stage q h (marks_of n w.trail) e (subst (λ s. proc_log s (marks_of n w.trail)) is (g.sure n).log)
+-- In every world whose processes have done what they tell, what a compression has answered means what it says, with the hint beside it.
+pub compress_means : (w : World Run) (n : Name) (a : Compress) (q : Squeezed) (h : Option Hint) → AllLogs w → (w.proc n).state ≡ proc.Compress a → compress_answer_in a.stage ≡ Some (answer.Compress q h) → MeansSqueezed a.level a.key q h (marks_of n w.trail)
+compress_means w n a q h logs is e = stage_means a.level a.key a.stage q h (marks_of n w.trail) e (subst (λ s. proc_log s (marks_of n w.trail)) is (logs n))

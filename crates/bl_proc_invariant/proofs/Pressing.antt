@@ -73,7 +73,6 @@ module _ {P : Type 0} (know : P → Know) (w : World P) (g : IsGood know w) (p :
         children = tt;
         passed = tt;
         sound = (is.sound, least, ap (λ (v : Inner). v.level) family.parent_is ∙ at_level);
-        log = tt;
       })
 
   -- the compression is over

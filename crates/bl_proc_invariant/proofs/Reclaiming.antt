@@ -59,7 +59,7 @@ module _ {P : Type 0} (know : P → Know) (w : World P) (g : IsGood know w) (p :
       let is : IsSure w p (watcher old) = rw before at (g.sure p) in
       let m : Mark = silent p act in
       watched know w g p b _ _ before then act None None s watch can does saw refl (λ x h. h) (λ it e. cc) (λ k. refl)
-      (record { stage = is.stage; said = HasSaid-silent w.trail m p None refl is.said; holds = tt; goes = tt; children = tt; passed = passed; sound = tt; log = tt })
+      (record { stage = is.stage; said = HasSaid-silent w.trail m p None refl is.said; holds = tt; goes = tt; children = tt; passed = passed; sound = tt })
 
   -- it saw the page retired
   first_round : (time started own : ℕ) (passed : Passed) → ((q : Name) → q.number ≡ 0 → 0 < q.pass → q.pass ≤ started → q.pass ≢ own → IsAhead passed q) → passed.time ≡ retired_since (w.now.owner page) time → w.now.phase p ≡ Waiting → IsOwnerShown w.now p page true started own → IsPassed w (Some passed)
@@ -115,7 +115,6 @@ module _ {P : Type 0} (know : P → Know) (w : World P) (g : IsGood know w) (p :
             children = tt;
             passed = tt;
             sound = tt;
-            log = tt;
           });
         }) g;
       }

@@ -16,10 +16,9 @@ use Rattle.bl_core.proofs.Frames.{Each-map}
 use Rattle.bl_core.proofs.After.{after, Extends-after, put_at, is_put_at}
 use Rattle.bl_core.proofs.Outside.{Releases-keeps}
 use Rattle.bl_proc_invariant.specs.Turns.{Does, Turned}
-use Rattle.bl_proc_invariant.specs.Knowing.{Run, bare}
-use Rattle.bl_proc_invariant.proofs.Plain.{plain}
+use Rattle.bl_proc_invariant.specs.Knowing.{Run, know}
 
-module _ (w : World Run) (p : Name) (x : ℕ) (s : State Page) (g : IsGood bare w) (can : (time : ℕ) × (w.now.owner x ≡ Retired time) × AllBeganAfter w.now time) (does : Does w.now p (Release x) s) where
+module _ (w : World Run) (p : Name) (x : ℕ) (s : State Page) (g : IsGood know w) (can : (time : ℕ) × (w.now.owner x ≡ Retired time) × AllBeganAfter w.now time) (does : Does w.now p (Release x) s) where
   abbrev freed : World Run
   freed = after w s (silent p (Release x)) (w.proc p) (put_at x Free w.status) w.sep w.map
 
@@ -79,11 +78,10 @@ module _ (w : World Run) (p : Name) (x : ℕ) (s : State Page) (g : IsGood bare 
   passed None h = tt
   passed (Some a) h = (omega (arith, h.0, does.on), λ q since among runs. h.1 q since among (sym (does.changes.2 q) ∙ runs))
 
-  sure : IsSure freed p (bare (w.proc p))
+  sure : IsSure freed p (know (w.proc p))
   sure =
-      let k = bare (w.proc p) in
+      let k = know (w.proc p) in
       let is = g.sure p in
-      let none = plain (w.proc p) in
       record {
         stage = subst (IsStage k.stage) (sym (does.changes.2 p)) is.stage;
         said = HasSaid-silent w.trail (silent p (Release x)) p k.said refl is.said;
@@ -92,11 +90,10 @@ module _ (w : World Run) (p : Name) (x : ℕ) (s : State Page) (g : IsGood bare 
         children = Each-map (IsRelied w p) (IsRelied freed p) k.children relied is.children;
         passed = passed k.passed is.passed;
         sound = is.sound;
-        log = none.log (marks_of p freed.trail);
       }
 
   -- it says nothing there
-  pub release : (t : Turned bare w p (Release x) s (w.proc p)) × (t.said ≡ None)
+  pub release : (t : Turned know w p (Release x) s (w.proc p)) × (t.said ≡ None)
   release =
       let extends = Extends-after w s (silent p (Release x)) (w.proc p) (put_at x Free w.status) w.sep w.map (record { enabled = can; changes = does.changes; on = does.on }) tt in (
         record {
@@ -105,7 +102,7 @@ module _ (w : World Run) (p : Name) (x : ℕ) (s : State Page) (g : IsGood bare 
           said = None;
           extends = extends;
           now = refl;
-          good = Releases-keeps bare w freed p x (w.proc p) (record {
+          good = Releases-keeps know w freed p x (w.proc p) (record {
             extends = extends;
             status = status;
             sep = refl;

@@ -11,18 +11,14 @@ use Rattle.bl_core.proofs.Frames.{Each-map}
 use Rattle.bl_core.proofs.After.{put_name, is_put_name}
 use Rattle.bl_core.specs.Blank.{IsBlank}
 use Rattle.bl_core.proofs.WorldLaws.{laws}
-use Rattle.bl_proc_invariant.specs.Logs.{proc_log}
-use Rattle.bl_proc_invariant.specs.Knowing.{Run, bare, know}
-use Rattle.bl_proc_invariant.proofs.Plain.{plain}
+use Rattle.bl_proc_invariant.specs.Logs.{proc_log, AllLogs}
+use Rattle.bl_proc_invariant.specs.Knowing.{Run, know}
 use Rattle.bl_proc_invariant.proofs.Middles.{KeepsLogs, tells_middles}
-use Rattle.bl_proc_invariant.proofs.Logged.{bare_good, full_good, bare_blank, early_log}
+use Rattle.bl_proc_invariant.proofs.Logged.{early_log}
 
 -- The laws of the tree hold in every good world of these processes.
-pub bare_laws : (w : World Run) → IsGood bare w → KeepsLogs w → HasLaws (snapshot_of w.now w.trail) (w.map 0)
-bare_laws w g logs = laws bare w (tells_middles w g logs) g
-
-pub run_laws : (w : World Run) → IsGood know w → HasLaws (snapshot_of w.now w.trail) (w.map 0)
-run_laws w g = bare_laws w (bare_good w g) (λ p since runs. (g.sure p).log)
+pub run_laws : (w : World Run) → IsGood know w → KeepsLogs w → HasLaws (snapshot_of w.now w.trail) (w.map 0)
+run_laws w g logs = laws know w (tells_middles w g logs) g
 
 -- the same world with another process at one name
 abbrev pub with_proc : World Run → Name → Run → World Run
@@ -37,7 +33,6 @@ same_sure w p q b k is = record {
   children = Each-map (IsRelied w q) (IsRelied (with_proc w p b) q) k.children (λ c i. record { owner = i.owner; status = i.status; covers = i.covers; level = i.level; alive = i.alive; sep = i.sep }) is.children;
   passed = passed k.passed is.passed;
   sound = is.sound;
-  log = is.log;
 }
   where
     same_may : (w : World Run) (p q : Name) (b : Run) (x : ℕ) → MayGet w q x → MayGet (with_proc w p b) q x
@@ -48,8 +43,8 @@ same_sure w p q b k is = record {
     passed (Some s) h = h
 
 -- A process that has done nothing enters where none has begun.
-pub bare_enters_good : (w : World Run) (p : Name) (b : Run) → IsGood bare w → w.now.phase p ≡ Waiting → IsBlank (bare (w.proc p)) → IsBlank (bare b) → IsGood bare (with_proc w p b)
-bare_enters_good w p b g waiting old new =
+pub enters_good : (w : World Run) (p : Name) (b : Run) → IsGood know w → w.now.phase p ≡ Waiting → IsBlank (know (w.proc p)) → IsBlank (know b) → IsGood know (with_proc w p b)
+enters_good w p b g waiting old new =
     let put = is_put_name p b w.proc in
     record {
       tree = g.tree;
@@ -59,7 +54,7 @@ bare_enters_good w p b g waiting old new =
         opened = g.owned.opened;
         retired = g.owned.retired;
         held = λ x q o. elim (name_cases q p) [
-          | inl e ↦ absurd (subst (λ hs. HoldsPage hs x) (ap (λ n. (bare (w.proc n)).holds) e ∙ old.holds) (g.owned.held x q o))
+          | inl e ↦ absurd (subst (λ hs. HoldsPage hs x) (ap (λ n. (know (w.proc n)).holds) e ∙ old.holds) (g.owned.held x q o))
           | inr n ↦ rw (put.others q n) (g.owned.held x q o)
         ];
         small = g.owned.small;
@@ -89,9 +84,9 @@ bare_enters_good w p b g waiting old new =
       };
       middles = λ x y e.
           let m = g.middles x y e in
-          let is : (bare (put_name p b w.proc m.by)).middle ≡ Some (record { parent = m.parent; left = x; right = y }) = elim (name_cases m.by p) [
-            | inl i ↦ absurd (subst (λ hs. HoldsPage hs y) (ap (λ n. (bare (w.proc n)).holds) i ∙ old.holds) (g.owned.held y m.by m.held))
-            | inr n ↦ ap (λ r. (bare r).middle) (put.others m.by n) ∙ m.is
+          let is : (know (put_name p b w.proc m.by)).middle ≡ Some (record { parent = m.parent; left = x; right = y }) = elim (name_cases m.by p) [
+            | inl i ↦ absurd (subst (λ hs. HoldsPage hs y) (ap (λ n. (know (w.proc n)).holds) i ∙ old.holds) (g.owned.held y m.by m.held))
+            | inr n ↦ ap (λ r. (know r).middle) (put.others m.by n) ∙ m.is
           ] in
           record {
             by = m.by;
@@ -105,8 +100,8 @@ bare_enters_good w p b g waiting old new =
           };
       sure = λ q. elim (name_cases q p) [
         | inl e ↦
-            let is : IsSure w q (bare (w.proc q)) = g.sure q in
-            let said : HasSaid w.trail q None = subst (HasSaid w.trail q) (ap (λ n. (bare (w.proc n)).said) e ∙ old.said) is.said in
+            let is : IsSure w q (know (w.proc q)) = g.sure q in
+            let said : HasSaid w.trail q None = subst (HasSaid w.trail q) (ap (λ n. (know (w.proc n)).said) e ∙ old.said) is.said in
             let at : put_name p b w.proc q ≡ b = ap (put_name p b w.proc) e ∙ put.at in
             rw at (record {
               stage = rw (new.stage, e) waiting;
@@ -116,16 +111,15 @@ bare_enters_good w p b g waiting old new =
               children = rw new.children tt;
               passed = rw new.passed tt;
               sound = new.sound;
-              log = (plain b).log (marks_of q w.trail);
             })
-        | inr n ↦ rw (put.others q n) (same_sure w p q b (bare (w.proc q)) (g.sure q))
+        | inr n ↦ rw (put.others q n) (same_sure w p q b (know (w.proc q)) (g.sure q))
       ];
     }
 
-pub enters_good : (w : World Run) (p : Name) (b : Run) → IsGood know w → w.now.phase p ≡ Waiting → marks_of p w.trail ≡ [] → IsBlank (know (w.proc p)) → IsBlank (know b) → IsGood know (with_proc w p b)
-enters_good w p b g waiting none old new =
+pub enters_logs : (w : World Run) (p : Name) (b : Run) → AllLogs w → marks_of p w.trail ≡ [] → IsBlank (know b) → AllLogs (with_proc w p b)
+enters_logs w p b logs none new q =
     let put = is_put_name p b w.proc in
-    full_good (with_proc w p b) (bare_enters_good w p b (bare_good w g) waiting (bare_blank (w.proc p) old) (bare_blank b new)) (λ q. elim (name_cases q p) [
+    elim (name_cases q p) [
       | inl e ↦ subst (λ r. proc_log r.state (marks_of q w.trail)) (sym (ap (put_name p b w.proc) e ∙ put.at)) (early_log b new.stage (marks_of q w.trail) (ap writes_of (ap (λ n. marks_of n w.trail) e ∙ none)))
-      | inr n ↦ subst (λ r. proc_log r.state (marks_of q w.trail)) (sym (put.others q n)) (g.sure q).log
-    ])
+      | inr n ↦ subst (λ r. proc_log r.state (marks_of q w.trail)) (sym (put.others q n)) (logs q)
+    ]

@@ -43,7 +43,6 @@ use Rattle.bl_proc.specs.declared.kinds.Proc.TheVariants as proc
 use Rattle.bl_proc.specs.Inserts.{insert_reply}
 use Rattle.bl_proc.specs.Deletes.{delete_reply}
 use Rattle.bl_proc_base.specs.Growths.{Raises, IsAnchor}
-use Rattle.bl_proc_invariant.specs.Logs.{proc_log}
 use Rattle.bl_proc_invariant.specs.Compressing.{know_squeeze, compression_got}
 use Rattle.bl_proc_invariant.specs.Lowering.{know_lowering, lowering_got}
 use Rattle.bl_proc_invariant.specs.Tables.{idle, holds_live, holds_known, anchor_known, goes_to, know_descent, know_approach, Aim, IsDue, know_change}
@@ -217,12 +216,8 @@ know_of got child time (proc.Reclaim p) = know_reclaim time p.stage
 know_of got child time (proc.Lower p) = know_lower got p.stage
 
 -- by its state alone
-abbrev pub bare : Run → Know
-bare r = know_of r.got r.child r.time r.state
-
--- and by what it has done
 abbrev pub know : Run → Know
-know r = record (bare r) { log = proc_log r.state }
+know r = know_of r.got r.child r.time r.state
 
 -- what is answered at an end
 abbrev pub find_end : FindStage → Option Reply

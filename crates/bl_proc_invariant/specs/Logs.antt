@@ -3,11 +3,12 @@ use Rattle.std.specs.Prelude.{◌≡◌, ◌≢◌, ℕ, suc, Option, None, Some
 use Rattle.bl_model.specs.declared.operation.Reply.{Reply}
 use Rattle.bl_page.specs.declared.page.Page.{Page}
 use Rattle.bl_page.specs.declared.page.Page.TheVariants.{Inner}
-use Rattle.bl_page.specs.Machine.{Act}
+use Rattle.bl_page.specs.Machine.{Name, Act}
 use Rattle.bl_page.specs.Machine.Act.{Get, Put, Take, Latch}
 use Rattle.bl_claims.specs.Nodes.{Covers}
 use Rattle.bl_claims.specs.Pages.{node_of}
-use Rattle.bl_claims.specs.Trails.{Mark, Trail}
+use Rattle.bl_core.specs.Worlds.{World}
+use Rattle.bl_claims.specs.Trails.{Mark, Trail, marks_of}
 use Rattle.bl_claims.specs.Meanings.{HasGot, writes_of, Wrote, Unwritten, WroteHeld, IsNewTop, RaisesOnly, HasRaised, ListTogether, MeansDone, MeansAlready, MeansStale, MeansTooTall, MeansNoRoom}
 use Rattle.bl_proc_base.specs.declared.approaching.Approach.{Approach}
 use Rattle.bl_proc_base.specs.declared.approaching.Approach.TheVariants as way
@@ -48,6 +49,7 @@ use Rattle.bl_proc_base.specs.Thin.{thin_low}
 use Rattle.bl_proc_meanings.specs.Hinted.{WroteLeaf}
 use Rattle.bl_proc_meanings.specs.Lowered.{MeansLowered}
 use Rattle.bl_proc_invariant.specs.LoweringLog.{lowering_log}
+use Rattle.bl_proc_invariant.specs.Knowing.{Run}
 use Rattle.bl_proc.specs.declared.lowering.LowerStage.{LowerStage}
 use Rattle.bl_proc.specs.declared.lowering.LowerStage.TheVariants as lower
 use Rattle.bl_proc.specs.declared.kinds.Proc.{Proc}
@@ -276,3 +278,7 @@ proc_log (proc.Part p) marks = writes_of marks ≡ []
 proc_log (proc.Compress p) marks = compress_log p.level p.key p.stage marks
 proc_log (proc.Reclaim p) marks = Unit {0}
 proc_log (proc.Lower p) marks = lower_log p.stage marks
+
+-- Each process has done what its state tells of.
+abbrev pub AllLogs : World Run → Type 0
+AllLogs w = (p : Name) → proc_log (w.proc p).state (marks_of p w.trail)

@@ -21,7 +21,7 @@ use Rattle.bl_proc_base.specs.declared.changing.Change.TheVariants.{Putting, Tak
 
 -- nothing but where it stands
 abbrev pub idle : Stage → Know
-idle stage = record { stage = stage; said = None; holds = []; goes = []; children = []; middle = None; passed = None; sound = Unit {0}; log = λ marks. Unit {0} }
+idle stage = record { stage = stage; said = None; holds = []; goes = []; children = []; middle = None; passed = None; sound = Unit {0} }
 
 -- a page of the tree that it holds, and one of which it knows what it got
 abbrev pub holds_live : ℕ → Hold

@@ -29,7 +29,6 @@ use Rattle.bl_proc_invariant.specs.Knowing.{Run, know_of, know}
 use Rattle.bl_proc_meanings.specs.Answers.{MeansPosted, MeansHint}
 use Rattle.bl_proc_meanings.specs.Squeezed.{MeansSqueezed}
 use Rattle.bl_proc_meanings.specs.Lowered.{MeansLowered}
-use Rattle.bl_proc_invariant.proofs.Logged.{bare_good}
 use Rattle.bl_proc_invariant.proofs.Answered.{post_means, post_hints}
 use Rattle.bl_proc_invariant.proofs.Beside.{beside_means}
 use Rattle.bl_proc_invariant.specs.Beside.{MeansBeside}
@@ -78,7 +77,7 @@ same_said w q (Some t) i s g has says =
 module _ (v : View) (h : Has v) where
   -- what a process that was started knows, by its state
   sure_of : (n : ℕ) (p : Proc) → slice_get v.processes n ≡ Some p → IsSure h.world (name_of (suc n)) (know_of (h.world.proc (name_of (suc n))).got (h.world.proc (name_of (suc n))).child (h.world.proc (name_of (suc n))).time p)
-  sure_of n p stood = subst (λ z. IsSure h.world (name_of (suc n)) (know_of (h.world.proc (name_of (suc n))).got (h.world.proc (name_of (suc n))).child (h.world.proc (name_of (suc n))).time z)) (h.runs n p stood) ((bare_good h.world h.good).sure (name_of (suc n)))
+  sure_of n p stood = subst (λ z. IsSure h.world (name_of (suc n)) (know_of (h.world.proc (name_of (suc n))).got (h.world.proc (name_of (suc n))).child (h.world.proc (name_of (suc n))).time z)) (h.runs n p stood) (h.good.sure (name_of (suc n)))
 
   own : (i : ℕ) (q : Name) (said : Said) → SaysAt h.world.trail i q said → IsOwn v q said
   own i q said says = elim (named (length v.processes) q) [
@@ -110,26 +109,26 @@ module _ (v : View) (h : Has v) where
       rw (one_more n) (ended_in h.world.start h.world.now h.world.trail (name_of (suc n)) (λ f. (let g : Waiting ≡ Ended = sym began ∙ f in cc)) h.good.recorded.leads late)
 
   posted : (n : ℕ) (p : Post) (a : Posted) (hint : Option Hint) → slice_get v.processes n ≡ Some (proc.Post p) → answer_of (proc.Post p) ≡ Some (answer.Post a hint) → MeansPosted p.level p.key a (marks_of (name_of (n + 1)) h.world.trail)
-  posted n p a hint stood e = subst (λ k. MeansPosted p.level p.key a (marks_of (name_of k) h.world.trail)) (sym (one_more n)) (post_means h.world (name_of (suc n)) p a hint h.good (h.runs n (proc.Post p) stood) e)
+  posted n p a hint stood e = subst (λ k. MeansPosted p.level p.key a (marks_of (name_of k) h.world.trail)) (sym (one_more n)) (post_means h.world (name_of (suc n)) p a hint h.logs (h.runs n (proc.Post p) stood) e)
 
   hinted : (n : ℕ) (p : Post) (a : Posted) (hint : Option Hint) → slice_get v.processes n ≡ Some (proc.Post p) → answer_of (proc.Post p) ≡ Some (answer.Post a hint) → MeansHint p.level p.key a hint (marks_of (name_of (n + 1)) h.world.trail)
-  hinted n p a hint stood e = subst (λ k. MeansHint p.level p.key a hint (marks_of (name_of k) h.world.trail)) (sym (one_more n)) (post_hints h.world (name_of (suc n)) p a hint h.good (h.runs n (proc.Post p) stood) e)
+  hinted n p a hint stood e = subst (λ k. MeansHint p.level p.key a hint (marks_of (name_of k) h.world.trail)) (sym (one_more n)) (post_hints h.world (name_of (suc n)) p a hint h.logs (h.runs n (proc.Post p) stood) e)
 
   beside : (n : ℕ) (p : Proc) (reply : _) (hint : Option Hint) → slice_get v.processes n ≡ Some p → answer_of p ≡ Some (answer.Op reply hint) → MeansBeside p reply hint (marks_of (name_of (n + 1)) h.world.trail)
   beside n p reply hint stood e =
-      let log : proc_log p (marks_of (name_of (suc n)) h.world.trail) = subst (λ z. proc_log z (marks_of (name_of (suc n)) h.world.trail)) (h.runs n p stood) (h.good.sure (name_of (suc n))).log in
+      let log : proc_log p (marks_of (name_of (suc n)) h.world.trail) = subst (λ z. proc_log z (marks_of (name_of (suc n)) h.world.trail)) (h.runs n p stood) (h.logs (name_of (suc n))) in
       subst (λ k. MeansBeside p reply hint (marks_of (name_of k) h.world.trail)) (sym (one_more n)) (beside_means p reply hint (marks_of (name_of (suc n)) h.world.trail) e log)
 
   squeezed : (n : ℕ) (p : Compress) (a : Squeezed) (hint : Option Hint) → slice_get v.processes n ≡ Some (proc.Compress p) → answer_of (proc.Compress p) ≡ Some (answer.Compress a hint) → MeansSqueezed p.level p.key a hint (marks_of (name_of (n + 1)) h.world.trail)
-  squeezed n p a hint stood e = subst (λ k. MeansSqueezed p.level p.key a hint (marks_of (name_of k) h.world.trail)) (sym (one_more n)) (compress_means h.world (name_of (suc n)) p a hint h.good (h.runs n (proc.Compress p) stood) e)
+  squeezed n p a hint stood e = subst (λ k. MeansSqueezed p.level p.key a hint (marks_of (name_of k) h.world.trail)) (sym (one_more n)) (compress_means h.world (name_of (suc n)) p a hint h.logs (h.runs n (proc.Compress p) stood) e)
 
   lowered : (n : ℕ) (p : Lower) (a : Lowered) → slice_get v.processes n ≡ Some (proc.Lower p) → answer_of (proc.Lower p) ≡ Some (answer.Lower a) → MeansLowered a (marks_of (name_of (n + 1)) h.world.trail)
-  lowered n p a stood e = subst (λ k. MeansLowered a (marks_of (name_of k) h.world.trail)) (sym (one_more n)) (lower_means h.world (name_of (suc n)) p a h.good (h.runs n (proc.Lower p) stood) e)
+  lowered n p a stood e = subst (λ k. MeansLowered a (marks_of (name_of k) h.world.trail)) (sym (one_more n)) (lower_means h.world (name_of (suc n)) p a h.logs (h.runs n (proc.Lower p) stood) e)
 
   bounded : (n : ℕ) (p : Proc) → slice_get v.processes n ≡ Some p → IsSearch p → IsWithinBound (length v.pages) (name_of (n + 1)) h.world.trail
   bounded n p stood search =
       let name = name_of (suc n) in
-      let within = search_within h.world name (bare_good h.world h.good) h.kept.paced (subst IsSearch (sym (h.runs n p stood)) search) in
+      let within = search_within h.world name h.good h.kept.paced (subst IsSearch (sym (h.runs n p stood)) search) in
       subst (λ k. IsWithinBound (length v.pages) (name_of k) h.world.trail) (sym (one_more n)) (subst (λ k. IsWithinBound k name h.world.trail) h.size within)
 
   latches : (n : ℕ) (p : Proc) → slice_get v.processes n ≡ Some p → IsTidy p (marks_of (name_of (n + 1)) h.world.trail)
@@ -155,7 +154,7 @@ module _ (v : View) (h : Has v) where
         unreleased = none_released w.start w.now w.trail r.leads;
         contents = h.contents;
         owner = h.owner;
-        laws = subst (λ f. HasLaws (snapshot_of w.now w.trail) f) (world_map w h.good h.first) (run_laws w h.good);
+        laws = subst (λ f. HasLaws (snapshot_of w.now w.trail) f) (world_map w h.good h.first) (run_laws w h.good (λ p since runs. h.logs p));
         moments = h.moments;
         marked = r.marked;
         legal = subst (λ m. IsLegalFrom m (history_of w.trail)) h.first r.legal;

@@ -80,7 +80,7 @@ module _ (pages : List Page) (owners : List Owner) (processes : List Proc) (even
       let time = (w.proc p).time in
       let is : (w.proc p).state ≡ p0 = h.runs n p0 stood in
       let by_state : (z : Proc) → (w.proc p).state ≡ z → Takes z what p1 → IsTold w.now w.size (next_of z) what → IsShown w.now p time (next_of z) what → Does w.now p (event_of (end_of_proc z) (next_of z) what) s → Paced w p (event_of (end_of_proc z) (next_of z) what) s (run_next w.now (w.proc p) what p1) =
-      λ z e. subst (λ z. Takes z what p1 → IsTold w.now w.size (next_of z) what → IsShown w.now p time (next_of z) what → Does w.now p (event_of (end_of_proc z) (next_of z) what) s → Paced w p (event_of (end_of_proc z) (next_of z) what) s (run_next w.now (w.proc p) what p1)) e (λ t told shown does. paced_turn w p (w.proc p) p1 what s refl h.good t told shown does) in
+      λ z e. subst (λ z. Takes z what p1 → IsTold w.now w.size (next_of z) what → IsShown w.now p time (next_of z) what → Does w.now p (event_of (end_of_proc z) (next_of z) what) s → Paced w p (event_of (end_of_proc z) (next_of z) what) s (run_next w.now (w.proc p) what p1)) e (λ t told shown does. paced_turn w p (w.proc p) p1 what s refl h.good h.logs t told shown does) in
       subst (λ a. IsTold w.now w.size a what → IsShown w.now p time a what → Does w.now p (event_of (end_of_proc p0) a what) s → Paced w p (event_of (end_of_proc p0) a what) s (run_next w.now (w.proc p) what p1)) next (by_state p0 is takes)
 
   -- who stands there after it
@@ -218,7 +218,7 @@ idles what pages owners processes events n within h =
     (λ x c is. h.contents x c is) (λ x o is. h.owner x o is) (λ p is. h.runs n p is) (λ i ne. refl) refl
     (λ q is. (h.inside n q is, reclaiming_on events _ (suc n) q.page (h.world.proc (name_of (suc n))).time q.stage (λ s. miss_not_see (ap (λ z. z.act) (same_some _ _ (sym (push_new events _) ∙ s)))) (h.reclaiming n q is)))
     (λ x e. absurd cc)
-    (paced_idle h.world (name_of (suc n)) what s h.good (record { changes = (λ x. refl, λ x. refl, λ q. refl); on = omega arith }))
+    (paced_idle h.world (name_of (suc n)) what s h.good h.logs (record { changes = (λ x. refl, λ x. refl, λ q. refl); on = omega arith }))
 
 -- what stands at a place within a list
 pub stands : {A : Type 0} (xs : List A) (n : ℕ) → n < length xs → (a : A) × (slice_get xs n ≡ Some a)

@@ -35,8 +35,7 @@ use Rattle.bl_proc_compress.specs.Compresses.{compress_next_in}
 use Rattle.bl_proc.specs.Reclaims.{reclaim_next_in}
 use Rattle.bl_proc.specs.Lowers.{lower_next_in}
 use Rattle.bl_proc_invariant.specs.Knowing.{Run, know_of, know_find, know_part, know_insert, know_delete, know_post, know_compress, know_reclaim, know_lower}
-use Rattle.bl_proc_invariant.proofs.Logged.{full_blank}
-use Rattle.bl_proc_invariant.proofs.Starting.{with_proc, enters_good}
+use Rattle.bl_proc_invariant.proofs.Starting.{with_proc, enters_good, enters_logs}
 use Rattle.bl_proc_bounds.proofs.Kept.{enter_kept}
 use Rattle.bl_world.specs.declared.turns.Event.{Event}
 use Rattle.bl_world.specs.declared.owners.Owner.{Owner}
@@ -49,41 +48,41 @@ use Rattle.bl_world.proofs.Places.{push_cases, push_length}
 -- A process that is to begin has done nothing.
 
 find_blank : (k : ℕ) (a : FindStage) → k < 2 ^ 64 → find_next_in a ≡ act.Begin → IsBlank (know_find k a)
-find_blank k find.New small e = record { stage = refl; said = refl; holds = refl; goes = refl; children = refl; passed = refl; sound = small; log = tt }
+find_blank k find.New small e = record { stage = refl; said = refl; holds = refl; goes = refl; children = refl; passed = refl; sound = small }
 find_blank k old small e = absurd cc
 
 part_blank : (k : ℕ) (a : PartStage) → k < 2 ^ 64 → part_next_in a ≡ act.Begin → IsBlank (know_part k a)
-part_blank k (part.Near x) small e = record { stage = refl; said = refl; holds = refl; goes = refl; children = refl; passed = refl; sound = small; log = tt }
-part_blank k part.New small e = record { stage = refl; said = refl; holds = refl; goes = refl; children = refl; passed = refl; sound = small; log = tt }
+part_blank k (part.Near x) small e = record { stage = refl; said = refl; holds = refl; goes = refl; children = refl; passed = refl; sound = small }
+part_blank k part.New small e = record { stage = refl; said = refl; holds = refl; goes = refl; children = refl; passed = refl; sound = small }
 part_blank k old small e = absurd cc
 
 insert_blank : (k v : ℕ) (got : ℕ → Page) (a : InsertStage) → k < 2 ^ 64 → insert_next_in a ≡ act.Begin → IsBlank (know_insert k v got a)
-insert_blank k v got insert.New small e = record { stage = refl; said = refl; holds = refl; goes = refl; children = refl; passed = refl; sound = small; log = tt }
+insert_blank k v got insert.New small e = record { stage = refl; said = refl; holds = refl; goes = refl; children = refl; passed = refl; sound = small }
 insert_blank k v got (insert.Coming a) small e = approach_begins a e
 insert_blank k v got (insert.Changing c) small e = change_begins c e
 insert_blank k v got old small e = absurd cc
 
 delete_blank : (k : ℕ) (got : ℕ → Page) (a : DeleteStage) → k < 2 ^ 64 → delete_next_in a ≡ act.Begin → IsBlank (know_delete k got a)
-delete_blank k got delete.New small e = record { stage = refl; said = refl; holds = refl; goes = refl; children = refl; passed = refl; sound = small; log = tt }
+delete_blank k got delete.New small e = record { stage = refl; said = refl; holds = refl; goes = refl; children = refl; passed = refl; sound = small }
 delete_blank k got (delete.Coming a) small e = approach_begins a e
 delete_blank k got (delete.Changing v c) small e = change_begins c e
 delete_blank k got old small e = absurd cc
 
 post_blank : (l k : ℕ) (got : ℕ → Page) (child : ℕ) (a : PostStage) → k < 2 ^ 64 → post_next_in a ≡ act.Begin → IsBlank (know_post l k got child a)
-post_blank l k got child post.New small e = record { stage = refl; said = refl; holds = refl; goes = refl; children = refl; passed = refl; sound = small; log = tt }
+post_blank l k got child post.New small e = record { stage = refl; said = refl; holds = refl; goes = refl; children = refl; passed = refl; sound = small }
 post_blank l k got child (post.Coming a) small e = approach_begins a e
 post_blank l k got child (post.Growing g) small e = growth_begins g e
 post_blank l k got child (post.Changing c) small e = change_begins c e
 post_blank l k got child old small e = absurd cc
 
 compress_blank : (l k : ℕ) (got : ℕ → Page) (a : CompressStage) → k < 2 ^ 64 → compress_next_in a ≡ act.Begin → IsBlank (know_compress l k got a)
-compress_blank l k got compress.New small e = record { stage = refl; said = refl; holds = refl; goes = refl; children = refl; passed = refl; sound = small; log = tt }
+compress_blank l k got compress.New small e = record { stage = refl; said = refl; holds = refl; goes = refl; children = refl; passed = refl; sound = small }
 compress_blank l k got (compress.Coming a) small e = approach_begins a e
 compress_blank l k got (compress.Compressing c) small e = squeeze_begins c e
 compress_blank l k got old small e = absurd cc
 
 lower_blank : (got : ℕ → Page) (a : LowerStage) → lower_next_in a ≡ act.Begin → IsBlank (know_lower got a)
-lower_blank got lower.New e = record { stage = refl; said = refl; holds = refl; goes = refl; children = refl; passed = refl; sound = tt; log = tt }
+lower_blank got lower.New e = record { stage = refl; said = refl; holds = refl; goes = refl; children = refl; passed = refl; sound = tt }
 lower_blank got (lower.Sinking l) e = lowering_begins l e
 lower_blank got old e = absurd cc
 
@@ -98,7 +97,7 @@ abbrev IsNew : ℕ → Proc → Type 0
 IsNew size p = (next_of p ≡ act.Begin) ⊎ ((x : ℕ) × (x < size) × IsReclaim x p)
 
 reclaim_blank : (time : ℕ) (a : ReclaimStage) → a ≡ reclaim.Seeing → IsBlank (know_reclaim time a)
-reclaim_blank time a e = rw e (record { stage = refl; said = refl; holds = refl; goes = refl; children = refl; passed = refl; sound = tt; log = tt })
+reclaim_blank time a e = rw e (record { stage = refl; said = refl; holds = refl; goes = refl; children = refl; passed = refl; sound = tt })
 
 pub blank : (size : ℕ) (got : ℕ → Page) (child time : ℕ) (p : Proc) → key_in p < 2 ^ 64 → IsNew size p → IsBlank (know_of got child time p)
 blank size got child time (proc.Find p) small (inl e) = find_blank p.key p.stage small e
@@ -136,7 +135,8 @@ enters pages owners processes events p small next h =
     let more : length (processes ++ p ∷ []) ≡ suc n = push_length processes p in (
       record {
         world = with_proc old name b;
-        good = enters_good old name b h.good free.0 free.2 free.1 (full_blank b (blank (length pages) b.got 0 0 p small next));
+        good = enters_good old name b h.good free.0 free.1 (blank (length pages) b.got 0 0 p small next);
+        logs = enters_logs old name b h.logs free.2 (blank (length pages) b.got 0 0 p small next);
         kept = enter_kept old name b free.2 (blank (length pages) b.got 0 0 p small next).stage h.kept;
         opening = h.opening;
         first = h.first;

@@ -47,7 +47,7 @@ abbrev nobody : Page → Run
 nobody c = record { state = proc.Find (record { key = 0; stage = find.New }); got = λ x. c; child = 0; time = 0 }
 
 nobody_blank : (c : Page) → IsBlank (know (nobody c))
-nobody_blank c = record { stage = refl; said = refl; holds = refl; goes = refl; children = refl; passed = refl; sound = omega arith; log = refl }
+nobody_blank c = record { stage = refl; said = refl; holds = refl; goes = refl; children = refl; passed = refl; sound = omega arith }
 
 -- where there is no event, none stands
 no_event : (events : List Event) (i number : ℕ) (act : Act) → events ≡ [] → Stands events i number act → ⊥
@@ -76,6 +76,7 @@ opens size v wide o =
     record {
       world = opening_world now size (λ p. nobody leaf);
       good = good;
+      logs = λ p. refl;
       kept = first_kept (opening_world now size (λ p. nobody leaf)) refl (λ p. (nobody_blank leaf).stage);
       opening = opening;
       first = refl;
@@ -103,5 +104,5 @@ opens size v wide o =
       inside = λ n p is. absurd (let e : slice_get {X = Proc} [] n ≡ Some (proc.Reclaim p) = rw o.processes at is in cc);
       reclaiming = λ n p is. absurd (let e : slice_get {X = Proc} [] n ≡ Some (proc.Reclaim p) = rw o.processes at is in cc);
       releases = λ i number x s. absurd (no_event v.events i number _ o.events s);
-      moments = moments_first empty now (world_moment (opening_world now size (λ p. nobody leaf)) good refl);
+      moments = moments_first empty now (world_moment (opening_world now size (λ p. nobody leaf)) good (λ p. refl) refl);
     }

@@ -72,6 +72,7 @@ turned_lists pages pages' owners owners' processes processes' events n a s b h h
       record {
         world = next;
         good = t.turned.good;
+        logs = t.logs;
         kept = t.kept h.kept;
         opening = rw e.start h.opening;
         first = e.first ∙ h.first;
@@ -92,7 +93,7 @@ turned_lists pages pages' owners owners' processes processes' events n a s b h h
           | inl is_old ↦ h.numbered i k is_old
           | inr is_new ↦ ap (λ z. z.event.process.number) is_new.1
         ];
-        moments = moments_on empty old.start next.start old.trail next.trail _ e.start e.trail h.moments (world_moment next t.turned.good (e.first ∙ h.first));
+        moments = moments_on empty old.start next.start old.trail next.trail _ e.start e.trail h.moments (world_moment next t.turned.good t.logs (e.first ∙ h.first));
         times = times_on old next events n a e.steps.enabled e.steps.changes (ap (λ z. z.clock) t.turned.now ∙ on) h.times;
         inside = λ i q is. elim (cases_eq i n) [
           | inl eq ↦ rw count (mine q (sym (ap (slice_get processes') eq) ∙ is)).0

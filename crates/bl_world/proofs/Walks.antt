@@ -85,7 +85,7 @@ module _ (v : View) (key : ℕ) where
 
   pub comes_first : (anchor : Page) (page : ℕ) → key < unbounded → anchor ≡ get_or v.pages 0 anchor → 0 < length v.pages → page ≡ top_of (roots_of anchor) → IsWorld v → ∥ Comes v key page 1 ∥₁
   comes_first anchor page b e some is h = ∥∥₁_map h (λ h.
-      (let w = (run_laws h.world h.good).walks key b in
+      (let w = (run_laws h.world h.good (λ p since runs. h.logs p)).walks key b in
       let there : h.world.now.contents 0 ≡ anchor = h.contents 0 anchor (read_at v.pages 0 anchor some e) in
       let top : (roots_of (h.world.now.contents 0)).levels ≡ suc w.top_level = sym w.is_top in
       let at : (roots_of (h.world.now.contents 0)).leftmost w.top_level ≡ page = ap (roots_of (h.world.now.contents 0)).leftmost (omega (arith, top)) ∙ (ap (λ c. top_of (roots_of c)) there ∙ sym is) in

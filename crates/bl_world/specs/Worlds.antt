@@ -15,6 +15,7 @@ use Rattle.bl_proc.specs.declared.reclaiming.ReclaimStage.{ReclaimStage}
 use Rattle.bl_proc.specs.declared.reclaiming.ReclaimStage.TheVariants as reclaim
 use Rattle.bl_proc.specs.declared.kinds.Proc.{Proc}
 use Rattle.bl_proc.specs.declared.kinds.Proc.TheVariants as proc
+use Rattle.bl_proc_invariant.specs.Logs.{AllLogs}
 use Rattle.bl_proc_invariant.specs.Knowing.{Run, know}
 use Rattle.bl_proc_bounds.specs.Paces.{AllKept}
 use Rattle.bl_world.specs.declared.turns.Act.TheVariants as shown
@@ -60,6 +61,7 @@ IsReclaiming events number x k (reclaim.Over what) = MeansReclaimed events numbe
 pub record HasWorld (pages : List Page) (owners : List Owner) (processes : List Proc) (events : List Event) : Type 0 where
   pub world : ModelWorld Run
   pub good : IsGood know world
+  pub logs : AllLogs world
   pub kept : AllKept world
   pub opening : Opening world.start
   pub first : world.first ≡ empty
