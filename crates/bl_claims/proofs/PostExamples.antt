@@ -1,6 +1,6 @@
 -- Three posts that run alone, by what they did: one that a parent lists already, one for which the tree has no level, and one
 -- that enters page 2 in page 3 by the key 9.
-use Rattle.std.proofs.Common.{ℕ, ◌≡◌, ◌≢◌, ◌==◌, zero, suc, if◌then◌else◌, Some, None, [], ◌∷◌, arith, ap, sym, ◌∙◌, refl, inl, inr}
+use Rattle.std.proofs.Common.{ℕ, ◌≡◌, ◌≢◌, ◌==◌, zero, suc, if◌then◌else◌, Option, Some, None, List, [], ◌∷◌, arith, ap, sym, ◌∙◌, refl, inl, inr}
 use Rattle.std.specs.Prelude.{Contains}
 use Rattle.std.proofs.lemmas.Bool.{cases_eq}
 use Rattle.std.proofs.lemmas.List.Elements.{Contains-push_cases}
@@ -59,6 +59,10 @@ listed_before anchor parent level covers lists = record {
 -- the anchor has one level, and the post is to level 2
 too_low : (anchor : Page) → (roots_of anchor).levels ≡ 1 → MeansStale 2 9 (plain Begin ∷ got 0 anchor ∷ plain (End None) ∷ [])
 too_low anchor levels = inl (record { first = record { earlier = []; begin = plain Begin; since = got 0 anchor ∷ plain (End None) ∷ []; split = refl; begun = refl; is = RaisesOnly.Never }; anchor = anchor; got = record { mark = got 0 anchor; is = (1, omega arith, refl); act = refl; saw = refl }; few = omega (arith, levels) })
+
+-- two puts of the page that is held are no split of it
+no_split : (separator : Option ℕ) (pages : List Page) (first second : Page) → WritesBack 3 separator pages (Put 3 first ∷ Put 3 second ∷ []) → ⊥
+no_split separator pages first second h = elim h [ ]
 
 -- page 3 lists page 1 by the key 0, and page 2 with the low 9 is reached from page 1
 module _ (anchor parent left right new : Page) (level : (node_of parent).shape.level ≡ 1) (covers : Covers (node_of parent).shape 9) (below : (node_of right).shape.level ≡ 0) (right_covers : Covers (node_of right).shape 9) (low : (node_of right).shape.low ≡ 9)
