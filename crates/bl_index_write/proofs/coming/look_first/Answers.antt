@@ -3,7 +3,7 @@ use Rattle.bl_proc_base.specs.declared.acts.Seen.TheVariants as seen
 use Rattle.bl_proc_base.specs.declared.approaching.Approach.TheVariants as approach
 use Rattle.bl_proc_base.specs.declared.approaching.Approached.TheVariants as came
 use Rattle.bl_proc_base.specs.Approaches.{Approaches}
-use Rattle.bl_store.specs.Hands.{known}
+use Rattle.bl_store.specs.Hands.{known, IsRunning}
 use Rattle.bl_store.specs.declared.store.Hand.{Hand}
 use Rattle.bl_index_rule.specs.declared.known.Mine.{Mine}
 use Rattle.bl_index_steps.specs.Runs.{IsOn, IsSameProcess}
@@ -13,7 +13,7 @@ use Rattle.bl_index_write.proofs.coming.look_first.Goals as goal
 pub returns-clause-runs : goal.returns-clause-runs
 returns-clause-runs g c = record {
   own = search rules;
-  running = search rules;
+  running = subst (λ (h : Hand Mine). IsRunning h.seat) (sym c.took_words.ensures.same) (search rules);
   on = (let j = c.args.errand.now in
       let layout = c.args.tree.now.store.layout in
       let went = c.look-glance.ensures.goes in

@@ -9,7 +9,7 @@ use Rattle.bl_proc_base.specs.declared.changing.Change.TheVariants as change
 use Rattle.bl_proc_base.specs.Respelled.{words_by}
 use Rattle.bl_proc_base.specs.Thin.{thin_low}
 use Rattle.bl_proc.specs.declared.deleting.DeleteStage.TheVariants as delete
-use Rattle.bl_store.specs.Hands.{known, read_words}
+use Rattle.bl_store.specs.Hands.{known, read_words, IsRunning}
 use Rattle.bl_store.specs.declared.store.Hand.{Hand}
 use Rattle.bl_index_rule.specs.declared.known.Mine.{Mine}
 use Rattle.bl_index_steps.specs.Runs.{IsOn}
@@ -29,7 +29,7 @@ remove-requires-clause-page c =
 pub keep_absent-requires-clause-runs : goal.keep_absent-requires-clause-runs
 keep_absent-requires-clause-runs c = record {
   own = search rules;
-  running = search rules;
+  running = subst (λ (h : Hand Mine). IsRunning h.seat) (sym c.in-None.ensures.same) (search rules);
   on = (let key = c.args.errand.key in
       let there = c.requires.there in
       let stands = stands_absent key c.args.at there.page _ there.takes there.leads (c.in-None.ensures.row there.page there.is) in

@@ -7,7 +7,7 @@ use Rattle.bl_proc.specs.declared.deleting.Removed.{Removed}
 use Rattle.bl_proc.specs.declared.deleting.DeleteStage.TheVariants as delete
 use Rattle.bl_proc.specs.Deletes.{delete_reply, deleted_answer}
 use Rattle.bl_proc.specs.Processes.{next_of}
-use Rattle.bl_store.specs.Hands.{known}
+use Rattle.bl_store.specs.Hands.{known, IsRunning}
 use Rattle.bl_store.specs.declared.store.Hand.{Hand}
 use Rattle.bl_index_rule.specs.declared.known.Mine.{Mine}
 use Rattle.bl_index_steps.specs.Runs.{IsOn, IsSince}
@@ -24,7 +24,7 @@ words_without-requires-clause-page c = let h = c.requires.page in (h.0, h.2, h.4
 pub replace-changed-requires-clause-runs : goal.replace-changed-requires-clause-runs
 replace-changed-requires-clause-runs c = record {
   own = search rules;
-  running = search rules;
+  running = subst (λ (h : Hand Mine). IsRunning h.seat) (sym c.words_without.ensures.same) (search rules);
   on = (subst (λ (h : Hand Mine). IsOn c.args.tree.now.store.layout (known h.seat) (known h.seat).state) (sym c.words_without.ensures.same) (on_itself _ _ _ c.requires.page.7));
 }
 
@@ -39,7 +39,7 @@ replace-changed-requires-clause-course c = removing_courses c.args.errand.key c.
 pub conclude-requires-clause-runs : goal.conclude-requires-clause-runs
 conclude-requires-clause-runs c = record {
   own = search rules;
-  running = search rules;
+  running = subst (λ (h : Hand Mine). IsRunning h.seat) (sym c.words_without.ensures.same) (search rules);
   on = (let goes = goes_put c.replace-changed.result _ _ c.replace-changed.ensures.done c.replace-changed.ensures.refused in
       let on = subst (λ (h : Hand Mine). IsOn c.args.tree.now.store.layout (known h.seat) (deleting c.args.errand.key (delete.Changing (record { value = c.args.value; thin = thin_low c.requires.page.1 }) (change.Putting c.args.at c.requires.page.1)))) (sym c.words_without.ensures.same) c.requires.page.7 in
       on_after _ _ _ _ _ on goes);

@@ -11,7 +11,7 @@ use Rattle.bl_proc_base.specs.declared.changing.Full.{Full}
 use Rattle.bl_proc_base.proofs.Spellings.{tree_pairs, tree_lists, pairs_counted}
 use Rattle.bl_proc.specs.declared.inserting.InsertStage.TheVariants as insert
 use Rattle.bl_store.specs.Drafts.{IsSpread}
-use Rattle.bl_store.specs.Hands.{known, read_words}
+use Rattle.bl_store.specs.Hands.{known, read_words, IsRunning}
 use Rattle.bl_store.specs.declared.store.Hand.{Hand}
 use Rattle.bl_index_rule.specs.declared.known.Mine.{Mine}
 use Rattle.bl_index_steps.specs.Runs.{IsOn}
@@ -39,7 +39,7 @@ listed_at-requires-clause-within c = let there = c.requires.there in let read : 
 pub keep_present-requires-clause-runs : goal.keep_present-requires-clause-runs
 keep_present-requires-clause-runs c = record {
   own = search rules;
-  running = search rules;
+  running = subst (λ (h : Hand Mine). IsRunning h.seat) (sym (c.listed_at.ensures.same ∙ (c.place_in-place.ensures.same ∙ c.word-head.ensures.same))) (search rules);
   on = (let key = c.args.errand.key in let there = c.requires.there in let words = read_words c.args.hand.now.seat in
       let row : Some c.in-Some.there ≡ (node_of there.page).look key = c.in-Some.ensures.listed ∙ (ap (λ (h : Hand Mine). map_of (pairs_in_words (read_words h.seat)) key) (c.place_in-place.ensures.same ∙ c.word-head.ensures.same) ∙ ap (λ (look : ℕ → Option ℕ). look key) (tree_lists there.page words there.leads.0 there.is)) in
       subst (λ (h : Hand Mine). IsOn c.args.tree.now.store.layout (known h.seat) (inserting key c.args.errand.value (insert.Present c.args.at c.in-Some.there))) (sym (c.listed_at.ensures.same ∙ (c.place_in-place.ensures.same ∙ c.word-head.ensures.same)))

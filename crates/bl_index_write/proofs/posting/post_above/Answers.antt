@@ -3,7 +3,7 @@ use Rattle.bl_proc_base.specs.declared.acts.Seen.TheVariants as seen
 use Rattle.bl_proc_base.specs.declared.approaching.Approach.TheVariants as approach
 use Rattle.bl_proc.specs.declared.posting.PostStage.TheVariants as post
 use Rattle.bl_proc.specs.declared.kinds.Proc.TheVariants as proc
-use Rattle.bl_store.specs.Hands.{known}
+use Rattle.bl_store.specs.Hands.{known, IsRunning}
 use Rattle.bl_store.specs.declared.store.Hand.{Hand}
 use Rattle.bl_index_rule.specs.declared.known.Mine.{Mine}
 use Rattle.bl_proc_unique.proofs.Posts.{post_goes}
@@ -22,7 +22,7 @@ use Rattle.bl_index_write.proofs.posting.post_above.Goals as goal
 pub carry_on-process-requires-clause-runs : goal.carry_on-process-requires-clause-runs
 carry_on-process-requires-clause-runs g c = record {
   own = search rules;
-  running = search rules;
+  running = subst (λ (h : Hand Mine). IsRunning h.seat) (sym c.took_words.ensures.same) (search rules);
   on = (let j = c.args.errand in let anchor = c.requires.anchor in
       let takes = c.took_words.ensures.takes anchor.0 anchor.1 in
       let course = post_goes (record { level = j.level; key = j.key; stage = post.Coming approach.Start; least = j.least; most = j.most; below = tt }) (seen.Words anchor.0) refl tt in

@@ -6,7 +6,7 @@ use Rattle.bl_proc_base.specs.declared.acts.Seen.TheVariants as seen
 use Rattle.bl_proc_base.specs.declared.approaching.Approach.TheVariants as approach
 use Rattle.bl_proc_base.specs.declared.approaching.Came.TheVariants as come
 use Rattle.bl_proc.specs.declared.posting.PostStage.TheVariants as post
-use Rattle.bl_store.specs.Hands.{known, read_words, IsSameStage}
+use Rattle.bl_store.specs.Hands.{known, read_words, IsSameStage, IsRunning}
 use Rattle.bl_store.specs.declared.store.Hand.{Hand}
 use Rattle.bl_index_rule.specs.declared.known.Mine.{Mine}
 use Rattle.bl_proc_unique.proofs.Posts.{post_goes}
@@ -43,7 +43,7 @@ took_words-from-requires-clause-page g c = (let went = c.look-glance.ensures.goe
 pub come_from-requires-clause-runs : goal.come_from-requires-clause-runs
 come_from-requires-clause-runs g c = record {
   own = search rules;
-  running = search rules;
+  running = subst (λ (h : Hand Mine). IsRunning h.seat) (sym (c.took_words-from.ensures.same ∙ c.levels_in.ensures.same)) (search rules);
   on = (let j = c.args.errand in let went = c.look-glance.ensures.goes in let layout = c.args.tree.now.store.layout in
       let turns = c.took_words-from.ensures.goes went.0 (ap (λ (h : Hand Mine). read_words h.seat) c.levels_in.ensures.same ∙ went.1) in
       let levels : c.levels_in.result ≡ (roots_of went.0).levels = c.levels_in.ensures.levels went.0 went.1 in

@@ -38,9 +38,5 @@ returns-else-try_latch-clause-runs g c = record {
       on_goes _ seen.Missed _ _ _ _ c.requires.runs.on (told.3.1 (λ is. false≢true (sym c.if-try_latch.false ∙ told.2.1 is))) (g.met.P.Kind.goes _ _ seen.Missed c.took-else-try_latch.ensures));
 }
 
-pub try_latch-requires-clause-runs : goal.try_latch-requires-clause-runs
-try_latch-requires-clause-runs g c = record {
-  own = c.requires.runs.own;
-  running = search rules;
-  on = search rules;
-}
+pub try_latch-requires-clause-own : goal.try_latch-requires-clause-own
+try_latch-requires-clause-own g c = c.requires.runs.own

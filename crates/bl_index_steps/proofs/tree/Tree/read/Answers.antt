@@ -6,7 +6,7 @@ use Rattle.bl_proc_base.specs.declared.acts.Seen.TheVariants as seen
 use Rattle.bl_proc.specs.declared.kinds.Proc.{Proc}
 use Rattle.bl_proc.specs.Processes.{next_of}
 use Rattle.bl_proc_unique.specs.Courses.{GoesOn}
-use Rattle.bl_store.specs.Hands.{known}
+use Rattle.bl_store.specs.Hands.{known, IsRunning}
 use Rattle.bl_store.specs.declared.store.Hand.{Hand}
 use Rattle.bl_proc_invariant.specs.Turns.{event_of}
 use Rattle.bl_proc_invariant.specs.Knowing.{end_of_proc}
@@ -39,7 +39,7 @@ returns-clause-got g c =
 pub returns-clause-runs : goal.returns-clause-runs
 returns-clause-runs g c = record {
   own = search rules;
-  running = search rules;
+  running = subst (λ (h : Hand Mine). IsRunning h.seat) (sym c.took_words.ensures.same) (search rules);
   on = (let told = c.in-Some.ensures.told in let page = told.3 in
       let takes = g.met.P.Kind.goes _ _ _ (c.took_words.ensures.takes page.0 (sym told.2.1 ∙ page.1)) in
       subst (λ (h : Hand Mine). IsOn c.args.self.now.store.layout (known h.seat) (g.P.Kind.proc_of c.took_words.new.self)) (sym c.took_words.ensures.same) (on_goes _ (seen.Words page.0) _ _ _ _ c.requires.runs.on page.2 takes));
