@@ -39,7 +39,7 @@ replace-changed-requires-clause-course c = removing_courses c.args.errand.key c.
 pub conclude-requires-clause-runs : goal.conclude-requires-clause-runs
 conclude-requires-clause-runs c = record {
   own = search rules;
-  running = subst (λ (h : Hand Mine). IsRunning h.seat) (sym c.words_without.ensures.same) (search rules);
+  running = search rules;
   on = (let goes = goes_put c.replace-changed.result _ _ c.replace-changed.ensures.done c.replace-changed.ensures.refused in
       let on = subst (λ (h : Hand Mine). IsOn c.args.tree.now.store.layout (known h.seat) (deleting c.args.errand.key (delete.Changing (record { value = c.args.value; thin = thin_low c.requires.page.1 }) (change.Putting c.args.at c.requires.page.1)))) (sym c.words_without.ensures.same) c.requires.page.7 in
       on_after _ _ _ _ _ on goes);
