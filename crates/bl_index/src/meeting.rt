@@ -1,10 +1,11 @@
 //! A pass learns of another, or is told what another knows.
 
 ghost use Rattle.std.specs.Prelude.{◌≡◌, ℕ};
-ghost use Rattle.bl_store.specs.Hands.{known, IsIdle, HasNoStock, IsSameHand, IsSameStage, IsSameStock};
+ghost use Rattle.bl_store.specs.Hands.{known, IsIdle, HasNoStock, IsSameHand};
 ghost use Rattle.bl_store.specs.Owners.{IsHandOf};
 ghost use Rattle.bl_claims.specs.Seeing.{GoesOnFrom};
 ghost use Rattle.bl_index.specs.Meetings.{learned, heard};
+ghost use Rattle.bl_index_steps.specs.Runs.{Keeps};
 
 use crate::index::{Index, Pass};
 use bl_index_rule::Mine;
@@ -76,7 +77,7 @@ impl Index {
         requires own { IsHandOf self.now.tree.store hand.old × IsHandOf self.now.tree.store other.old }
         requires idle { IsIdle other.old.seat × HasNoStock other.old.seat }
         requires names { (hand.old.number ≡ J.pass) × (other.old.number ≡ J.other) × (self.now.tree.store.layout.passes ≡ J.passes) }
-        ensures same { IsSameHand hand.old.seat hand.new.seat × IsSameStage hand.old.seat hand.new.seat × IsSameStock hand.old.seat hand.new.seat }
+        ensures same { Keeps hand.old.seat hand.new.seat }
         ensures other { IsSameHand other.old.seat other.new.seat × IsIdle other.new.seat × HasNoStock other.new.seat × (known other.new.seat ≡ known other.old.seat) }
         ensures told { learned J.pass J.other J.passes (known hand.old.seat) (known other.old.seat) (known hand.new.seat) }
     {
@@ -99,7 +100,7 @@ impl Index {
         requires idle { IsIdle other.old.seat × HasNoStock other.old.seat }
         requires names { hand.old.number ≡ J.pass }
         requires begins { GoesOnFrom (known hand.old.seat).trail (known other.old.seat).trail }
-        ensures same { IsSameHand hand.old.seat hand.new.seat × IsSameStage hand.old.seat hand.new.seat × IsSameStock hand.old.seat hand.new.seat }
+        ensures same { Keeps hand.old.seat hand.new.seat }
         ensures other { IsSameHand other.old.seat other.new.seat × IsIdle other.new.seat × HasNoStock other.new.seat × (known other.new.seat ≡ known other.old.seat) }
         ensures told { heard J.pass (known hand.old.seat) (known other.old.seat) (known hand.new.seat) }
     {

@@ -1,11 +1,11 @@
 //! Scans: parts of the map, each from where the last one ended.
 
-ghost use Rattle.std.specs.Prelude.{◌≡◌, ◌-◌, Some, false, vec_len};
+ghost use Rattle.std.specs.Prelude.{◌≡◌, ◌-◌, Some, vec_len};
 ghost use Rattle.std.specs.Vec.{vec_capacity};
 ghost use Rattle.bl_store.specs.Hands.{known, IsIdle, IsSameHand, IsSameStock};
 ghost use Rattle.bl_store.specs.Owners.{IsHandOf};
 ghost use Rattle.bl_claims.specs.Seeing.{IsSeen};
-ghost use Rattle.bl_index_steps.specs.Runs.{IsWithin};
+ghost use Rattle.bl_index_steps.specs.Runs.{Rests};
 ghost use Rattle.bl_index_read.specs.LeafRows.{is_below as below, IsBelow, IsOver};
 ghost use Rattle.bl_index.specs.Scans.{MayAppend, MayScan};
 
@@ -127,9 +127,7 @@ impl Index {
         requires idle { IsIdle hand.old.seat }
         requires below { IsBelow to from }
         ensures same { IsSameHand hand.old.seat hand.new.seat × IsSameStock hand.old.seat hand.new.seat }
-        ensures idle { IsIdle hand.new.seat }
-        ensures within { IsWithin hand.new.seat }
-        ensures rests { (known hand.new.seat).runs ≡ false }
+        ensures rests { Rests hand.new.seat }
         ensures first { (known hand.new.seat).first ≡ (known hand.old.seat).first }
         ensures seen { IsSeen (known hand.new.seat).first (known hand.new.seat).trail }
         ensures appends { MayAppend (known hand.old.seat).first self.now.tree.store.layout.pages hand.old.number turns from to (vec_capacity result.0 - vec_len result.0) result.1 rows.items result.0.items (known hand.old.seat).trail (known hand.new.seat).trail }

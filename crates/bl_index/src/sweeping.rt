@@ -1,10 +1,10 @@
 //! Sweeps.
 
 ghost use Rattle.std.specs.Prelude.{◌≡◌, ℕ, ◌+◌, ◌≤◌, false};
-ghost use Rattle.bl_store.specs.Hands.{known, IsSameHand, IsSameStage, IsSameStock};
+ghost use Rattle.bl_store.specs.Hands.{known};
 ghost use Rattle.bl_store.specs.Owners.{IsHandOf};
 ghost use Rattle.bl_index_rule.specs.Told.{sweeps};
-ghost use Rattle.bl_index_steps.specs.Runs.{IsWithin};
+ghost use Rattle.bl_index_steps.specs.Runs.{Keeps, IsWithin};
 
 use crate::index::{Index, Pass};
 use bl_index_rule::{Mine, Sweeper, Swept};
@@ -38,7 +38,7 @@ impl Index {
         requires rests { (known hand.old.seat).runs ≡ false }
         requires names { (hand.old.number ≡ J.pass) × ((known hand.old.seat).number + 1 ≡ J.number) × (self.now.tree.store.layout.passes ≡ J.passes) }
         requires within { IsWithin hand.old.seat }
-        ensures same { IsSameHand hand.old.seat hand.new.seat × IsSameStage hand.old.seat hand.new.seat × IsSameStock hand.old.seat hand.new.seat }
+        ensures same { Keeps hand.old.seat hand.new.seat }
         ensures told { (pages : ℕ) × (pages ≤ result) × sweeps J.pass J.number J.passes (known hand.old.seat) pages (known hand.new.seat) }
         ensures within { IsWithin hand.new.seat }
         ensures count { hand.new.seat.me.0.releases ≡ hand.old.seat.me.0.releases + result }

@@ -1,6 +1,6 @@
 //! Searches.
 
-ghost use Rattle.std.specs.Prelude.{◌≡◌, None, false};
+ghost use Rattle.std.specs.Prelude.{◌≡◌, None};
 ghost use Rattle.bl_model.specs.declared.operation.Op.TheVariants as op;
 ghost use Rattle.bl_proc_invariant.specs.Knowing.{found_reply};
 ghost use Rattle.bl_store.specs.Hands.{known, IsIdle, IsSameHand, IsSameStock};
@@ -8,7 +8,7 @@ ghost use Rattle.bl_store.specs.Owners.{IsHandOf};
 ghost use Rattle.bl_claims.specs.Seeing.{IsSeen};
 ghost use Rattle.bl_proc_base.specs.declared.acts.Action.TheVariants as act;
 ghost use Rattle.bl_proc.specs.Searches.{find_next_in};
-ghost use Rattle.bl_index_steps.specs.Runs.{IsWithin};
+ghost use Rattle.bl_index_steps.specs.Runs.{Rests};
 ghost use Rattle.bl_model.specs.Replies.{reply_of};
 ghost use Rattle.bl_index_read.specs.Searching.{AnswersOrRunsOut, found_of, IsSearching};
 
@@ -56,9 +56,7 @@ pub fn find_key(
     requires own { IsHandOf tree.now.store hand.old }
     requires idle { IsIdle hand.old.seat }
     ensures same { IsSameHand hand.old.seat hand.new.seat × IsSameStock hand.old.seat hand.new.seat }
-    ensures idle { IsIdle hand.new.seat }
-    ensures within { IsWithin hand.new.seat }
-    ensures rests { (known hand.new.seat).runs ≡ false }
+    ensures rests { Rests hand.new.seat }
     ensures first { (known hand.new.seat).first ≡ (known hand.old.seat).first }
     ensures seen { IsSeen (known hand.new.seat).first (known hand.new.seat).trail }
     ensures answers { AnswersOrRunsOut (known hand.old.seat).first tree.now.store.layout.pages hand.old.number turns (op.Find key) (found_of result) (known hand.old.seat).trail (known hand.new.seat).trail }

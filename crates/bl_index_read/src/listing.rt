@@ -1,6 +1,6 @@
 //! Parts of the map, by the words of pages: a part goes by its events, and its rows are read from its leaf's words.
 
-ghost use Rattle.std.specs.Prelude.{◌≡◌, ℕ, ◌+◌, ◌<◌, List, false, MatchOption};
+ghost use Rattle.std.specs.Prelude.{◌≡◌, ℕ, ◌+◌, ◌<◌, List, MatchOption};
 ghost use Rattle.bl_model.specs.declared.operation.Op.TheVariants as op;
 ghost use Rattle.bl_page.specs.Machine.Act.{Get, Look};
 ghost use Rattle.bl_page.specs.Machine.Looked.{Page as OfPage};
@@ -11,12 +11,12 @@ ghost use Rattle.bl_proc_base.specs.Descents.{descent_page};
 ghost use Rattle.bl_proc.specs.declared.parts.PartStage.TheVariants as part_stage;
 ghost use Rattle.bl_proc.specs.Processes.{next_of};
 ghost use Rattle.bl_proc_unique.specs.Courses.{GoesOn};
-ghost use Rattle.bl_store.specs.Hands.{known, IsIdle, IsRunning, IsSameHand, IsSameStage, IsSameStock};
+ghost use Rattle.bl_store.specs.Hands.{known, IsIdle, IsRunning, IsSameHand, IsSameStock};
 ghost use Rattle.bl_store.specs.Owners.{IsHandOf};
 ghost use Rattle.bl_claims.specs.Seeing.{IsSeen};
 ghost use Rattle.bl_index_rule.specs.declared.known.Mine.{Mine as Knows};
 ghost use Rattle.bl_index_rule.specs.Told.{Begins, Steps, ends, IsUnborn};
-ghost use Rattle.bl_index_steps.specs.Runs.{IsOn, IsSince, IsWithin};
+ghost use Rattle.bl_index_steps.specs.Runs.{Runs, Keeps, Rests, IsSince, IsWithin};
 ghost use Rattle.bl_index_read.specs.Turns.{IsAtTurn};
 ghost use Rattle.bl_index_read.specs.Searching.{AnswersOrRunsOut};
 ghost use Rattle.bl_index_read.specs.Parts.{listing, first_stage, part_at, IsAtLeaf, HasReached, HasLeaf, HasGivenUp};
@@ -52,9 +52,7 @@ pub fn list_part(
     requires own { IsHandOf tree.now.store hand.old }
     requires idle { IsIdle hand.old.seat }
     ensures same { IsSameHand hand.old.seat hand.new.seat × IsSameStock hand.old.seat hand.new.seat }
-    ensures idle { IsIdle hand.new.seat }
-    ensures within { IsWithin hand.new.seat }
-    ensures rests { (known hand.new.seat).runs ≡ false }
+    ensures rests { Rests hand.new.seat }
     ensures first { (known hand.new.seat).first ≡ (known hand.old.seat).first }
     ensures seen { IsSeen (known hand.new.seat).first (known hand.new.seat).trail }
     ensures answers { AnswersOrRunsOut (known hand.old.seat).first tree.now.store.layout.pages hand.old.number turns (op.Part from) result (known hand.old.seat).trail (known hand.new.seat).trail }
@@ -97,8 +95,7 @@ fn begin_part(tree: &Tree, hand: &mut Hand<Mine>, from: u64)
     requires own { IsHandOf tree.now.store hand.old }
     requires idle { IsIdle hand.old.seat }
     ensures same { IsSameHand hand.old.seat hand.new.seat × IsSameStock hand.old.seat hand.new.seat }
-    ensures running { IsRunning hand.new.seat }
-    ensures process { IsOn tree.now.store.layout (known hand.new.seat) (part_at from descent.AtAnchor) }
+    ensures runs { Runs tree.now hand.new (part_at from descent.AtAnchor) }
     ensures begun { IsSince hand.old.number (known hand.old.seat) (known hand.new.seat) }
     ensures told { Begins hand.old.number tree.now.store.layout.pages tree.now.store.layout.passes (listing from part_stage.New) (known hand.old.seat) (known hand.new.seat) }
 {
@@ -111,8 +108,7 @@ fn begin_near(tree: &Tree, hand: &mut Hand<Mine>, from: u64, page: u32)
     requires own { IsHandOf tree.now.store hand.old }
     requires idle { IsIdle hand.old.seat }
     ensures same { IsSameHand hand.old.seat hand.new.seat × IsSameStock hand.old.seat hand.new.seat }
-    ensures running { IsRunning hand.new.seat }
-    ensures process { IsOn tree.now.store.layout (known hand.new.seat) (listing from (part_stage.Probing page)) }
+    ensures runs { Runs tree.now hand.new (listing from (part_stage.Probing page)) }
     ensures begun { IsSince hand.old.number (known hand.old.seat) (known hand.new.seat) }
     ensures told { Begins hand.old.number tree.now.store.layout.pages tree.now.store.layout.passes (listing from (part_stage.Near page)) (known hand.old.seat) (known hand.new.seat) }
 {
@@ -122,12 +118,10 @@ fn begin_near(tree: &Tree, hand: &mut Hand<Mine>, from: u64, page: u32)
 /// It looks whether that page is open, and where it is, its way begins there.
 #[inline(always)]
 fn probe(tree: &Tree, hand: &mut Hand<Mine>, from: u64, page: u32) -> Descent
-    requires own { IsHandOf tree.now.store hand.old }
-    requires running { IsRunning hand.old.seat }
+    requires runs { Runs tree.now hand.old (listing from (part_stage.Probing page)) }
     requires page { page < tree.now.store.layout.pages }
-    requires process { IsOn tree.now.store.layout (known hand.old.seat) (listing from (part_stage.Probing page)) }
-    ensures same { IsSameHand hand.old.seat hand.new.seat × IsSameStage hand.old.seat hand.new.seat × IsSameStock hand.old.seat hand.new.seat }
-    ensures process { IsOn tree.now.store.layout (known hand.new.seat) (part_at from result) }
+    ensures same { Keeps hand.old.seat hand.new.seat }
+    ensures runs { Runs tree.now hand.new (part_at from result) }
     ensures looked { Steps (Look (OfPage page)) (known hand.old.seat) (known hand.new.seat) }
 {
     let _ = from;
@@ -141,8 +135,7 @@ fn set_off(tree: &Tree, hand: &mut Hand<Mine>, from: u64, near: Option<u32>) -> 
     requires own { IsHandOf tree.now.store hand.old }
     requires idle { IsIdle hand.old.seat }
     ensures same { IsSameHand hand.old.seat hand.new.seat × IsSameStock hand.old.seat hand.new.seat }
-    ensures running { IsRunning hand.new.seat }
-    ensures process { IsOn tree.now.store.layout (known hand.new.seat) (part_at from result) }
+    ensures runs { Runs tree.now hand.new (part_at from result) }
     ensures begun { IsSince hand.old.number (known hand.old.seat) (known hand.new.seat) }
     ensures turn { IsAtTurn tree.now.store.layout.pages hand.old.number ((known hand.old.seat).number + 1) 0 (known hand.new.seat).trail }
 {
@@ -162,10 +155,8 @@ fn set_off(tree: &Tree, hand: &mut Hand<Mine>, from: u64, near: Option<u32>) -> 
 /// The part gets the page that is next, and goes on by its words.
 #[inline(always)]
 fn list_on(tree: &Tree, hand: &mut Hand<Mine>, from: u64, descent: Descent) -> Reached
-    requires own { IsHandOf tree.now.store hand.old }
-    requires running { IsRunning hand.old.seat }
-    requires process { IsOn tree.now.store.layout (known hand.old.seat) (part_at from descent) }
-    ensures same { IsSameHand hand.old.seat hand.new.seat × IsSameStage hand.old.seat hand.new.seat × IsSameStock hand.old.seat hand.new.seat }
+    requires runs { Runs tree.now hand.old (part_at from descent) }
+    ensures same { Keeps hand.old.seat hand.new.seat }
     ensures reached { HasReached from tree.now.store.layout hand.new.seat result }
     ensures got { Steps (Get (descent_page descent)) (known hand.old.seat) (known hand.new.seat) }
 {
@@ -190,9 +181,7 @@ fn seek_leaf(
     way: Descent,
     turns: u32,
 ) -> Option<Glance>
-    requires own { IsHandOf tree.now.store hand.old }
-    requires running { IsRunning hand.old.seat }
-    requires process { IsOn tree.now.store.layout (known hand.old.seat) (part_at from way) }
+    requires runs { Runs tree.now hand.old (part_at from way) }
     ensures same { IsSameHand hand.old.seat hand.new.seat × IsSameStock hand.old.seat hand.new.seat }
     ensures came { (old : Knows) (pass got : ℕ) → IsSince pass old (known hand.old.seat) → IsAtTurn tree.now.store.layout.pages pass (old.number + 1) got (known hand.old.seat).trail → MatchOption result (HasGivenUp tree.now.store.layout pass (got + turns) old hand.new.seat) (HasLeaf tree.now.store.layout pass from (got + turns) old hand.new.seat) }
 {
@@ -238,9 +227,7 @@ pub fn come_to_leaf(
 /// The part, which has its leaf, ends.
 #[inline(always)]
 pub fn end_part(tree: &Tree, hand: &mut Hand<Mine>)
-    requires own { IsHandOf tree.now.store hand.old }
-    requires running { IsRunning hand.old.seat }
-    requires process { IsOn tree.now.store.layout (known hand.old.seat) (known hand.old.seat).state }
+    requires runs { Runs tree.now hand.old (known hand.old.seat).state }
     requires leaf { (from : ℕ) × (words : List ℕ) × IsAtLeaf from words (known hand.old.seat) }
     ensures same { IsSameHand hand.old.seat hand.new.seat × IsSameStock hand.old.seat hand.new.seat }
     ensures idle { IsIdle hand.new.seat }

@@ -1,16 +1,19 @@
 -- A pass that runs a process, from its begin on.
-use Rattle.std.specs.Prelude.{◌≡◌, ◌≢◌, ℕ, ◌+◌, ◌++◌, true, ◌∷◌, Option, Some, None}
+use Rattle.std.specs.Prelude.{◌≡◌, ◌≢◌, ℕ, ◌+◌, ◌++◌, true, false, ◌∷◌, Option, Some, None}
 use Rattle.atomic_table.specs.declared.shared.Seat.{Seat}
 use Rattle.bl_layout.specs.declared.layout.Layout.{Layout}
 use Rattle.bl_store.specs.declared.view.View.{View}
 use Rattle.bl_store.specs.declared.stock.Stock.{Stock}
-use Rattle.bl_store.specs.Hands.{HasNoStock, IsStockOf, MayRetire, IsSameRefusal, known}
+use Rattle.bl_store.specs.Hands.{HasNoStock, IsIdle, IsRunning, IsSameHand, IsSameStage, IsSameStock, IsStockOf, MayRetire, IsSameRefusal, known}
 use Rattle.bl_proc_base.specs.declared.acts.Action.TheVariants as act
 use Rattle.bl_proc_base.specs.declared.acts.Seen.TheVariants as seen
 use Rattle.bl_proc_invariant.specs.Knowing.{end_of_proc}
 use Rattle.bl_proc_invariant.specs.Logs.{proc_log}
 use Rattle.bl_proc_unique.specs.Frames.{op_of, work_of, frames_of, Follows}
 use Rattle.bl_proc_base.specs.declared.acts.Seen.{Seen}
+use Rattle.bl_store.specs.declared.store.Hand.{Hand}
+use Rattle.bl_store.specs.Owners.{IsHandOf}
+use Rattle.bl_index_steps.specs.declared.tree.Tree.{Tree}
 use Rattle.bl_index_steps.specs.declared.stepping.Stepped.{Stepped}
 use Rattle.bl_index_steps.specs.declared.stepping.Stepped.TheVariants.{On, AtEnd}
 use Rattle.bl_page.specs.Machine.Act.{Begin}
@@ -34,6 +37,16 @@ pub record IsOn (l : Layout) (d : Mine) (process : Proc) : Type 0 where
   pub near : IsNear d.pages (next_of d.state)
   pub held : proc_held d.state (own_marks d)
 
+-- The hand is one of the tree's, and runs this process.
+pub record Runs (tree : Tree) (hand : Hand Mine) (process : Proc) : Type 0 where
+  pub own : IsHandOf tree.store hand
+  pub running : IsRunning hand.seat
+  pub on : IsOn tree.store.layout (known hand.seat) process
+
+-- It is the same hand, which goes on with its process or stays outside one, and has the same stock.
+abbrev pub Keeps : Seat (Unit {0}) (View Mine) → Seat (Unit {0}) (View Mine) → Type 0
+Keeps h h' = IsSameHand h h' × IsSameStage h h' × IsSameStock h h'
+
 -- The pass, of that number, knew old when the process began that it runs, and has done nothing else since.
 pub record IsSince (pass : ℕ) (old d : Mine) : Type 0 where
   pub named : d.pass ≡ pass
@@ -56,6 +69,12 @@ IsSameProcess d e = (pass : ℕ) (old : Mine) → IsSince pass old d → IsSince
 -- all that its pass has seen was done by the passes of its layout
 abbrev pub IsWithin : Seat (Unit {0}) (View Mine) → Type 0
 IsWithin h = AreWithin h.me.0.layout.passes (known h).trail
+
+-- It runs no process, and has seen what the passes of its layout did.
+pub record Rests (h : Seat (Unit {0}) (View Mine)) : Type 0 where
+  pub idle : IsIdle h
+  pub within : IsWithin h
+  pub over : (known h).runs ≡ false
 
 -- one event of the process
 abbrev pub Moves : Mine → Mine → Type 0

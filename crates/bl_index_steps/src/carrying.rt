@@ -1,14 +1,14 @@
 //! A process is carried out, from its begin to its end.
 
-ghost use Rattle.std.specs.Prelude.{◌≡◌, ◌≢◌, ℕ, None, Some, false};
+ghost use Rattle.std.specs.Prelude.{◌≡◌, ◌≢◌, ℕ, None, Some};
 ghost use Rattle.bl_proc_base.specs.declared.acts.Action.TheVariants as act;
 ghost use Rattle.bl_proc_base.specs.declared.answers.Answer.{Answer as AnswerIs};
 ghost use Rattle.bl_proc_unique.specs.Refusals.{IsNoRoom, IsRefused, PutsRefused};
-ghost use Rattle.bl_store.specs.Hands.{known, IsIdle, IsRunning, IsSameHand, HasNoStock};
+ghost use Rattle.bl_store.specs.Hands.{known, IsIdle, IsSameHand, HasNoStock};
 ghost use Rattle.bl_store.specs.Owners.{IsHandOf};
 ghost use Rattle.bl_index_rule.specs.Told.{IsUnborn};
 ghost use Rattle.bl_index_rule.specs.declared.known.Mine.{Mine as Knows};
-ghost use Rattle.bl_index_steps.specs.Runs.{IsOn, IsSince, IsDone, IsWithin, HasReserved};
+ghost use Rattle.bl_index_steps.specs.Runs.{Runs, Rests, IsSince, IsDone, HasReserved};
 ghost use Rattle.bl_index_steps.specs.Rooms.{LacksAsked};
 
 use crate::kinds::Kind;
@@ -27,9 +27,8 @@ impl Tree {
         requires new { (P.answer_of process ≡ None) × (P.next_of process ≡ act.Begin) × IsUnborn (P.proc_of process) }
         requires free { (IsRefused (P.proc_of process) → ⊥) × (PutsRefused (P.proc_of process) → ⊥) }
         ensures same { IsSameHand hand.old.seat hand.new.seat }
-        ensures idle { IsIdle hand.new.seat × HasNoStock hand.new.seat }
-        ensures within { IsWithin hand.new.seat }
-        ensures rests { (known hand.new.seat).runs ≡ false }
+        ensures rests { Rests hand.new.seat }
+        ensures empty { HasNoStock hand.new.seat }
         ensures done { IsDone hand.old.number (known hand.old.seat) (known hand.new.seat) (P.proc_of process) (P.proc_of result) }
         ensures no_room { (a : AnswerIs) → P.answer_of result ≡ Some a → IsNoRoom a → LacksAsked hand.new.seat (P.proc_of result) }
     {
@@ -40,16 +39,13 @@ impl Tree {
 
     /// Carries the process on to its end. It has nothing reserved.
     pub fn carry_on<P: Kind, R: Wait>(&self, rt: &R, hand: &mut Hand<Mine>, process: P) -> P
-        requires own { IsHandOf self.now.store hand.old }
-        requires running { IsRunning hand.old.seat }
-        requires process { IsOn self.now.store.layout (known hand.old.seat) (P.proc_of process) }
+        requires runs { Runs self.now hand.old (P.proc_of process) }
         requires going { (P.answer_of process ≡ None) × (P.next_of process ≢ act.Begin) }
         requires reserved { HasReserved hand.old.seat None (P.proc_of process) }
         requires free { (IsRefused (P.proc_of process) → ⊥) × (PutsRefused (P.proc_of process) → ⊥) }
         ensures same { IsSameHand hand.old.seat hand.new.seat }
-        ensures idle { IsIdle hand.new.seat × HasNoStock hand.new.seat }
-        ensures within { IsWithin hand.new.seat }
-        ensures rests { (known hand.new.seat).runs ≡ false }
+        ensures rests { Rests hand.new.seat }
+        ensures empty { HasNoStock hand.new.seat }
         ensures done { (pass : ℕ) (old : Knows) → IsSince pass old (known hand.old.seat) → IsDone pass old (known hand.new.seat) (P.proc_of process) (P.proc_of result) }
         ensures no_room { (a : AnswerIs) → P.answer_of result ≡ Some a → IsNoRoom a → LacksAsked hand.new.seat (P.proc_of result) }
     {

@@ -11,12 +11,11 @@ ghost use Rattle.bl_proc.specs.Processes.{next_of};
 ghost use Rattle.bl_proc_unique.specs.Courses.{GoesOn};
 ghost use Rattle.bl_proc_unique.specs.Frames.{op_of, work_of};
 ghost use Rattle.bl_store.specs.Drafts.{IsSpread};
-ghost use Rattle.bl_store.specs.Hands.{known, read_words, IsIdle, IsRunning, IsSameHand, IsSameStage, IsSameStock, HasNoStock, IsStockOf, ReadsFrom, WasRefused, IsSameRefusal};
-ghost use Rattle.bl_store.specs.Owners.{IsHandOf};
+ghost use Rattle.bl_store.specs.Hands.{known, read_words, IsSameHand, IsSameStage, IsSameStock, HasNoStock, IsStockOf, ReadsFrom, WasRefused, IsSameRefusal};
 ghost use Rattle.bl_index_rule.specs.declared.known.Mine.{Mine as Knows};
 ghost use Rattle.bl_index_rule.specs.Told.{Goes};
 ghost use Rattle.bl_index_steps.specs.Held.{KeepsLatch};
-ghost use Rattle.bl_index_steps.specs.Runs.{IsOn, IsSince, IsWithin, IsDone, OpensLast};
+ghost use Rattle.bl_index_steps.specs.Runs.{Runs, Keeps, Rests, IsSince, IsDone, OpensLast};
 
 use crate::tree::Tree;
 use bl_index_rule::{Ended, Got, Mine, Opened, Probed, Put, Refused, Took, Tried};
@@ -26,12 +25,10 @@ impl Tree {
     /// The process gets the page.
     #[inline(always)]
     pub fn look(&self, hand: &mut Hand<Mine>, page: u32) -> Glance
-        requires own { IsHandOf self.now.store hand.old }
-        requires running { IsRunning hand.old.seat }
-        requires process { IsOn self.now.store.layout (known hand.old.seat) (known hand.old.seat).state }
+        requires runs { Runs self.now hand.old (known hand.old.seat).state }
         requires next { next_of (known hand.old.seat).state ≡ act.Get page }
         requires course { (c : Page) → GoesOn (known hand.old.seat).state (seen.Words c) }
-        ensures same { IsSameHand hand.old.seat hand.new.seat × IsSameStage hand.old.seat hand.new.seat × IsSameStock hand.old.seat hand.new.seat }
+        ensures same { Keeps hand.old.seat hand.new.seat }
         ensures reads { ReadsFrom hand.new.seat result }
         ensures goes { (c : Page) × (read_words hand.new.seat ≡ words_of c) × Goes (seen.Words c) (known hand.old.seat) (known hand.new.seat) }
     {
@@ -44,12 +41,10 @@ impl Tree {
     /// The process tries to latch the page.
     #[inline(always)]
     pub fn try_latch(&self, hand: &mut Hand<Mine>, page: u32) -> bool
-        requires own { IsHandOf self.now.store hand.old }
-        requires running { IsRunning hand.old.seat }
-        requires process { IsOn self.now.store.layout (known hand.old.seat) (known hand.old.seat).state }
+        requires runs { Runs self.now hand.old (known hand.old.seat).state }
         requires next { next_of (known hand.old.seat).state ≡ act.Latch page }
         requires course { GoesOn (known hand.old.seat).state seen.Done × GoesOn (known hand.old.seat).state seen.Missed }
-        ensures same { IsSameHand hand.old.seat hand.new.seat × IsSameStage hand.old.seat hand.new.seat × IsSameStock hand.old.seat hand.new.seat }
+        ensures same { Keeps hand.old.seat hand.new.seat }
         ensures done { result ≡ true → Goes seen.Done (known hand.old.seat) (known hand.new.seat) }
         ensures missed { result ≡ false → Goes seen.Missed (known hand.old.seat) (known hand.new.seat) }
     {
@@ -59,13 +54,11 @@ impl Tree {
     /// The process looks whether the page is open.
     #[inline(always)]
     pub fn is_open(&self, hand: &mut Hand<Mine>, page: u32) -> bool
-        requires own { IsHandOf self.now.store hand.old }
-        requires running { IsRunning hand.old.seat }
+        requires runs { Runs self.now hand.old (known hand.old.seat).state }
         requires page { page < self.now.store.layout.pages }
-        requires process { IsOn self.now.store.layout (known hand.old.seat) (known hand.old.seat).state }
         requires next { next_of (known hand.old.seat).state ≡ act.Probe page }
         requires course { (free : Bool) → GoesOn (known hand.old.seat).state (seen.Probed free) }
-        ensures same { IsSameHand hand.old.seat hand.new.seat × IsSameStage hand.old.seat hand.new.seat × IsSameStock hand.old.seat hand.new.seat }
+        ensures same { Keeps hand.old.seat hand.new.seat }
         ensures goes { Goes (seen.Probed result) (known hand.old.seat) (known hand.new.seat) }
     {
         self.store.probe::<Probed>(hand, page)
@@ -74,12 +67,10 @@ impl Tree {
     /// The process opens the page.
     #[inline(always)]
     pub fn reopen(&self, hand: &mut Hand<Mine>, page: u32)
-        requires own { IsHandOf self.now.store hand.old }
-        requires running { IsRunning hand.old.seat }
-        requires process { IsOn self.now.store.layout (known hand.old.seat) (known hand.old.seat).state }
+        requires runs { Runs self.now hand.old (known hand.old.seat).state }
         requires next { next_of (known hand.old.seat).state ≡ act.Open page }
         requires course { GoesOn (known hand.old.seat).state seen.Done }
-        ensures same { IsSameHand hand.old.seat hand.new.seat × IsSameStage hand.old.seat hand.new.seat × IsSameStock hand.old.seat hand.new.seat }
+        ensures same { Keeps hand.old.seat hand.new.seat }
         ensures goes { Goes seen.Done (known hand.old.seat) (known hand.new.seat) }
         ensures refusal { IsSameRefusal hand.old.seat hand.new.seat }
     {
@@ -89,9 +80,7 @@ impl Tree {
     /// The process reserves a frame and puts the page with these words, or is refused.
     #[inline(always)]
     pub fn replace(&self, hand: &mut Hand<Mine>, page: u32, words: &[u64; 32]) -> bool
-        requires own { IsHandOf self.now.store hand.old }
-        requires running { IsRunning hand.old.seat }
-        requires process { IsOn self.now.store.layout (known hand.old.seat) (known hand.old.seat).state }
+        requires runs { Runs self.now hand.old (known hand.old.seat).state }
         requires next { (c : Page) × (next_of (known hand.old.seat).state ≡ act.Put page c) × (words.now ≡ words_of c) }
         requires course { GoesOn (known hand.old.seat).state seen.Done × GoesOn (known hand.old.seat).state seen.Refused }
         requires empty { HasNoStock hand.old.seat }
@@ -120,9 +109,7 @@ impl Tree {
         glance: Glance,
         change: Spread,
     ) -> bool
-        requires own { IsHandOf self.now.store hand.old }
-        requires running { IsRunning hand.old.seat }
-        requires process { IsOn self.now.store.layout (known hand.old.seat) (known hand.old.seat).state }
+        requires runs { Runs self.now hand.old (known hand.old.seat).state }
         requires reads { ReadsFrom hand.old.seat glance }
         requires place { change.place < 14 }
         requires next { (c : Page) × (next_of (known hand.old.seat).state ≡ act.Put page c) × IsSpread change (read_words hand.old.seat) (words_of c) }
@@ -147,9 +134,7 @@ impl Tree {
 
     /// The process reserves a page and two frames, and takes the page, or is refused.
     pub fn take_page(&self, hand: &mut Hand<Mine>) -> Option<(u32, Stock)>
-        requires own { IsHandOf self.now.store hand.old }
-        requires running { IsRunning hand.old.seat }
-        requires process { IsOn self.now.store.layout (known hand.old.seat) (known hand.old.seat).state }
+        requires runs { Runs self.now hand.old (known hand.old.seat).state }
         requires next { next_of (known hand.old.seat).state ≡ act.Take }
         requires course { ((y : ℕ) → IsChild y → GoesOn (known hand.old.seat).state (seen.Took y)) × GoesOn (known hand.old.seat).state seen.Refused }
         requires empty { HasNoStock hand.old.seat }
@@ -174,9 +159,7 @@ impl Tree {
         words: &[u64; 32],
         stock: &mut Stock,
     )
-        requires own { IsHandOf self.now.store hand.old }
-        requires running { IsRunning hand.old.seat }
-        requires process { IsOn self.now.store.layout (known hand.old.seat) (known hand.old.seat).state }
+        requires runs { Runs self.now hand.old (known hand.old.seat).state }
         requires next { (c : Page) × (next_of (known hand.old.seat).state ≡ act.Put page c) × (words.now ≡ words_of c) }
         requires course { GoesOn (known hand.old.seat).state seen.Done }
         requires stock { IsStockOf hand.old.seat stock.old × (0 < stock.old.count) }
@@ -190,14 +173,10 @@ impl Tree {
     /// The process opens the only page that it holds, and ends.
     #[inline(always)]
     pub fn conclude(&self, hand: &mut Hand<Mine>, page: u32)
-        requires own { IsHandOf self.now.store hand.old }
-        requires running { IsRunning hand.old.seat }
-        requires process { IsOn self.now.store.layout (known hand.old.seat) (known hand.old.seat).state }
+        requires runs { Runs self.now hand.old (known hand.old.seat).state }
         requires opens { (ending : Proc) × (last : Proc) × OpensLast (known hand.old.seat).state page ending last }
         ensures same { IsSameHand hand.old.seat hand.new.seat × IsSameStock hand.old.seat hand.new.seat }
-        ensures idle { IsIdle hand.new.seat }
-        ensures within { IsWithin hand.new.seat }
-        ensures rests { (known hand.new.seat).runs ≡ false }
+        ensures rests { Rests hand.new.seat }
         ensures done { (pass : ℕ) (old : Knows) (first ending last : Proc) → IsSince pass old (known hand.old.seat) → OpensLast (known hand.old.seat).state page ending last → op_of ending ≡ op_of first → work_of ending ≡ work_of first → IsDone pass old (known hand.new.seat) first last }
         ensures refusal { IsSameRefusal hand.old.seat hand.new.seat }
         ensures keeps { KeepsLatch (known hand.old.seat) (known hand.new.seat) }

@@ -13,10 +13,10 @@ ghost use Rattle.bl_claims.specs.Latches.{OnlyLooks};
 ghost use Rattle.bl_proc_bounds.specs.Latches.{IsTidy};
 ghost use Rattle.bl_claims.specs.Trails.{marks_of};
 ghost use Rattle.bl_claims.specs.Seeing.{name};
-ghost use Rattle.bl_store.specs.Hands.{known, IsIdle, IsRunning, IsSameHand, IsSameStage, IsSameStock, IsSameRefusal};
+ghost use Rattle.bl_store.specs.Hands.{known, IsIdle, IsRunning, IsSameHand, IsSameStock, IsSameRefusal};
 ghost use Rattle.bl_store.specs.Owners.{IsHandOf};
 ghost use Rattle.bl_index_rule.specs.Told.{Begins, Steps, Finishes, IsUnborn, MayGiveUp};
-ghost use Rattle.bl_index_steps.specs.Runs.{IsOn, IsSince, IsWithin, Moves};
+ghost use Rattle.bl_index_steps.specs.Runs.{Runs, Keeps, IsSince, IsWithin, Moves};
 
 use crate::kinds::Kind;
 use crate::shown::Shown;
@@ -50,8 +50,7 @@ impl Tree {
         requires idle { IsIdle hand.old.seat }
         requires new { (P.answer_of process.old ≡ None) × (P.next_of process.old ≡ act.Begin) × IsUnborn (P.proc_of process.old) }
         ensures same { IsSameHand hand.old.seat hand.new.seat × IsSameStock hand.old.seat hand.new.seat }
-        ensures running { IsRunning hand.new.seat }
-        ensures process { IsOn self.now.store.layout (known hand.new.seat) (P.proc_of process.new) }
+        ensures runs { Runs self.now hand.new (P.proc_of process.new) }
         ensures begun { IsSince hand.old.number (known hand.old.seat) (known hand.new.seat) }
         ensures told { Begins hand.old.number self.now.store.layout.pages self.now.store.layout.passes (P.proc_of process.old) (known hand.old.seat) (known hand.new.seat) }
         ensures takes { P.Takes process.old seen.Done process.new }
@@ -63,12 +62,10 @@ impl Tree {
     /// The process gets the page, and reads the words that it needs.
     #[inline(always)]
     pub fn read<P: Kind>(&self, hand: &mut Hand<Mine>, process: &mut P, page: u32)
-        requires own { IsHandOf self.now.store hand.old }
-        requires running { IsRunning hand.old.seat }
-        requires process { IsOn self.now.store.layout (known hand.old.seat) (P.proc_of process.old) }
+        requires runs { Runs self.now hand.old (P.proc_of process.old) }
         requires next { (P.answer_of process.old ≡ None) × (P.next_of process.old ≡ act.Get page) }
-        ensures same { IsSameHand hand.old.seat hand.new.seat × IsSameStage hand.old.seat hand.new.seat × IsSameStock hand.old.seat hand.new.seat }
-        ensures process { IsOn self.now.store.layout (known hand.new.seat) (P.proc_of process.new) }
+        ensures same { Keeps hand.old.seat hand.new.seat }
+        ensures runs { Runs self.now hand.new (P.proc_of process.new) }
         ensures got { Steps (Get page) (known hand.old.seat) (known hand.new.seat) }
         ensures moves { Moves (known hand.old.seat) (known hand.new.seat) }
         ensures takes { (c : PageIs) × P.Takes process.old (seen.Words c) process.new }
@@ -88,9 +85,7 @@ impl Tree {
     /// The process ends.
     #[inline(always)]
     pub fn finish<P: Kind>(&self, hand: &mut Hand<Mine>, process: &mut P)
-        requires own { IsHandOf self.now.store hand.old }
-        requires running { IsRunning hand.old.seat }
-        requires process { IsOn self.now.store.layout (known hand.old.seat) (P.proc_of process.old) }
+        requires runs { Runs self.now hand.old (P.proc_of process.old) }
         requires next { (P.answer_of process.old ≡ None) × (P.next_of process.old ≡ act.End) }
         ensures same { IsSameHand hand.old.seat hand.new.seat × IsSameStock hand.old.seat hand.new.seat }
         ensures idle { IsIdle hand.new.seat }

@@ -4,9 +4,8 @@ ghost use Rattle.std.specs.Prelude.{◌≡◌, ◌≢◌, ◌+◌, ◌<◌, ◌�
 ghost use Rattle.bl_proc_base.specs.declared.acts.Action.TheVariants as act;
 ghost use Rattle.bl_proc_base.specs.declared.acts.Seen.{Seen as SeenIs};
 ghost use Rattle.bl_proc_base.specs.declared.acts.Seen.TheVariants as seen;
-ghost use Rattle.bl_store.specs.Hands.{known, IsRunning, IsSameHand, IsSameStage, IsSameStock, HasNoStock, IsStockOf, MayRetire};
-ghost use Rattle.bl_store.specs.Owners.{IsHandOf};
-ghost use Rattle.bl_index_steps.specs.Runs.{IsOn, Moves, HasReserved, IsAfter};
+ghost use Rattle.bl_store.specs.Hands.{known, IsSameHand, IsSameStage, IsSameStock, HasNoStock, IsStockOf, MayRetire};
+ghost use Rattle.bl_index_steps.specs.Runs.{Runs, Moves, HasReserved, IsAfter};
 ghost use Rattle.bl_index_steps.specs.Rooms.{TellsRoom};
 
 use crate::kinds::Kind;
@@ -29,12 +28,10 @@ impl Tree {
     /// The process tries to latch the page. After a miss the thread pauses.
     #[inline(never)]
     fn latch<P: Kind>(&self, hand: &mut Hand<Mine>, process: &mut P, page: u32, backoff: &Backoff)
-        requires own { IsHandOf self.now.store hand.old }
-        requires running { IsRunning hand.old.seat }
-        requires process { IsOn self.now.store.layout (known hand.old.seat) (P.proc_of process.old) }
+        requires runs { Runs self.now hand.old (P.proc_of process.old) }
         requires next { (P.answer_of process.old ≡ None) × (P.next_of process.old ≡ act.Latch page) }
         ensures same { IsSameHand hand.old.seat hand.new.seat × IsSameStage hand.old.seat hand.new.seat }
-        ensures process { IsOn self.now.store.layout (known hand.new.seat) (P.proc_of process.new) }
+        ensures runs { Runs self.now hand.new (P.proc_of process.new) }
         ensures moves { Moves (known hand.old.seat) (known hand.new.seat) }
         ensures takes { (what : SeenIs) × P.Takes process.old what process.new × TellsRoom hand.old.seat hand.new.seat (P.proc_of process.old) what }
         ensures stock { IsSameStock hand.old.seat hand.new.seat }
@@ -51,12 +48,10 @@ impl Tree {
     /// The process opens the page.
     #[inline(never)]
     fn open_page<P: Kind>(&self, hand: &mut Hand<Mine>, process: &mut P, page: u32)
-        requires own { IsHandOf self.now.store hand.old }
-        requires running { IsRunning hand.old.seat }
-        requires process { IsOn self.now.store.layout (known hand.old.seat) (P.proc_of process.old) }
+        requires runs { Runs self.now hand.old (P.proc_of process.old) }
         requires next { (P.answer_of process.old ≡ None) × (P.next_of process.old ≡ act.Open page) }
         ensures same { IsSameHand hand.old.seat hand.new.seat × IsSameStage hand.old.seat hand.new.seat }
-        ensures process { IsOn self.now.store.layout (known hand.new.seat) (P.proc_of process.new) }
+        ensures runs { Runs self.now hand.new (P.proc_of process.new) }
         ensures moves { Moves (known hand.old.seat) (known hand.new.seat) }
         ensures takes { (what : SeenIs) × P.Takes process.old what process.new × TellsRoom hand.old.seat hand.new.seat (P.proc_of process.old) what }
         ensures stock { IsSameStock hand.old.seat hand.new.seat }
@@ -68,14 +63,12 @@ impl Tree {
     /// The process retires the page, with the leave that it has from its reservation.
     #[inline(never)]
     fn retire_page<P: Kind>(&self, hand: &mut Hand<Mine>, process: &mut P, page: u32)
-        requires own { IsHandOf self.now.store hand.old }
-        requires running { IsRunning hand.old.seat }
-        requires process { IsOn self.now.store.layout (known hand.old.seat) (P.proc_of process.old) }
+        requires runs { Runs self.now hand.old (P.proc_of process.old) }
         requires next { (P.answer_of process.old ≡ None) × (P.next_of process.old ≡ act.Retire page) }
         requires leave { MayRetire hand.old.seat }
         requires empty { HasNoStock hand.old.seat }
         ensures same { IsSameHand hand.old.seat hand.new.seat × IsSameStage hand.old.seat hand.new.seat }
-        ensures process { IsOn self.now.store.layout (known hand.new.seat) (P.proc_of process.new) }
+        ensures runs { Runs self.now hand.new (P.proc_of process.new) }
         ensures moves { Moves (known hand.old.seat) (known hand.new.seat) }
         ensures takes { (what : SeenIs) × P.Takes process.old what process.new × TellsRoom hand.old.seat hand.new.seat (P.proc_of process.old) what }
         ensures stock { HasNoStock hand.new.seat }
@@ -93,13 +86,11 @@ impl Tree {
         contents: &Page,
         stock: Stock,
     ) -> Stock
-        requires own { IsHandOf self.now.store hand.old }
-        requires running { IsRunning hand.old.seat }
-        requires process { IsOn self.now.store.layout (known hand.old.seat) (P.proc_of process.old) }
+        requires runs { Runs self.now hand.old (P.proc_of process.old) }
         requires next { (P.answer_of process.old ≡ None) × (P.next_of process.old ≡ act.Put page contents.now) }
         requires stock { IsStockOf hand.old.seat stock × (0 < stock.count) × MayRetire hand.old.seat }
         ensures same { IsSameHand hand.old.seat hand.new.seat × IsSameStage hand.old.seat hand.new.seat }
-        ensures process { IsOn self.now.store.layout (known hand.new.seat) (P.proc_of process.new) }
+        ensures runs { Runs self.now hand.new (P.proc_of process.new) }
         ensures moves { Moves (known hand.old.seat) (known hand.new.seat) }
         ensures takes { P.Takes process.old seen.Done process.new }
         ensures stock { IsStockOf hand.new.seat result × (result.count + 1 ≡ stock.count) × MayRetire hand.new.seat }
@@ -120,14 +111,12 @@ impl Tree {
         contents: &Page,
         frames: u32,
     ) -> Option<Stock>
-        requires own { IsHandOf self.now.store hand.old }
-        requires running { IsRunning hand.old.seat }
-        requires process { IsOn self.now.store.layout (known hand.old.seat) (P.proc_of process.old) }
+        requires runs { Runs self.now hand.old (P.proc_of process.old) }
         requires next { (P.answer_of process.old ≡ None) × (P.next_of process.old ≡ act.Put page contents.now) }
         requires needs { (P.needs_of process.old ≡ Some (0, frames)) × (0 < frames) × (frames ≤ 3) }
         requires empty { HasNoStock hand.old.seat }
         ensures same { IsSameHand hand.old.seat hand.new.seat × IsSameStage hand.old.seat hand.new.seat }
-        ensures process { IsOn self.now.store.layout (known hand.new.seat) (P.proc_of process.new) }
+        ensures runs { Runs self.now hand.new (P.proc_of process.new) }
         ensures moves { Moves (known hand.old.seat) (known hand.new.seat) }
         ensures takes { (what : SeenIs) × P.Takes process.old what process.new × TellsRoom hand.old.seat hand.new.seat (P.proc_of process.old) what }
         ensures stock { HasReserved hand.new.seat result (P.proc_of process.new) }
@@ -144,14 +133,12 @@ impl Tree {
     /// The process reserves a page and two frames, or is refused.
     #[inline(never)]
     fn take<P: Kind>(&self, hand: &mut Hand<Mine>, process: &mut P) -> Option<Stock>
-        requires own { IsHandOf self.now.store hand.old }
-        requires running { IsRunning hand.old.seat }
-        requires process { IsOn self.now.store.layout (known hand.old.seat) (P.proc_of process.old) }
+        requires runs { Runs self.now hand.old (P.proc_of process.old) }
         requires next { (P.answer_of process.old ≡ None) × (P.next_of process.old ≡ act.Take) }
         requires needs { P.needs_of process.old ≡ Some (1, 2) }
         requires empty { HasNoStock hand.old.seat }
         ensures same { IsSameHand hand.old.seat hand.new.seat × IsSameStage hand.old.seat hand.new.seat }
-        ensures process { IsOn self.now.store.layout (known hand.new.seat) (P.proc_of process.new) }
+        ensures runs { Runs self.now hand.new (P.proc_of process.new) }
         ensures moves { Moves (known hand.old.seat) (known hand.new.seat) }
         ensures takes { (what : SeenIs) × P.Takes process.old what process.new × TellsRoom hand.old.seat hand.new.seat (P.proc_of process.old) what }
         ensures stock { HasReserved hand.new.seat result (P.proc_of process.new) }
@@ -181,13 +168,11 @@ impl Tree {
         contents: &Page,
         held: Option<Stock>,
     ) -> Option<Stock>
-        requires own { IsHandOf self.now.store hand.old }
-        requires running { IsRunning hand.old.seat }
-        requires process { IsOn self.now.store.layout (known hand.old.seat) (P.proc_of process.old) }
+        requires runs { Runs self.now hand.old (P.proc_of process.old) }
         requires next { (P.answer_of process.old ≡ None) × (P.next_of process.old ≡ act.Put page contents.now) }
         requires stock { HasReserved hand.old.seat held (P.proc_of process.old) }
         ensures same { IsSameHand hand.old.seat hand.new.seat × IsSameStage hand.old.seat hand.new.seat }
-        ensures process { IsOn self.now.store.layout (known hand.new.seat) (P.proc_of process.new) }
+        ensures runs { Runs self.now hand.new (P.proc_of process.new) }
         ensures moves { Moves (known hand.old.seat) (known hand.new.seat) }
         ensures takes { (what : SeenIs) × P.Takes process.old what process.new × TellsRoom hand.old.seat hand.new.seat (P.proc_of process.old) what }
         ensures stock { HasReserved hand.new.seat result (P.proc_of process.new) }
@@ -209,9 +194,7 @@ impl Tree {
         held: Option<Stock>,
         backoff: &Backoff,
     ) -> Stepped
-        requires own { IsHandOf self.now.store hand.old }
-        requires running { IsRunning hand.old.seat }
-        requires process { IsOn self.now.store.layout (known hand.old.seat) (P.proc_of process.old) }
+        requires runs { Runs self.now hand.old (P.proc_of process.old) }
         requires going { (P.answer_of process.old ≡ None) × (P.next_of process.old ≢ act.Begin) }
         requires stock { HasReserved hand.old.seat held (P.proc_of process.old) }
         ensures same { IsSameHand hand.old.seat hand.new.seat × IsSameStage hand.old.seat hand.new.seat }

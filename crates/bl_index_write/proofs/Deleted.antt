@@ -37,12 +37,9 @@ use Rattle.bl_proc_unique.proofs.Deletions.{delete_goes}
 use Rattle.bl_index_rule.specs.declared.known.Mine.{Mine}
 use Rattle.bl_index_rule.specs.Told.{Goes}
 use Rattle.bl_index_steps.specs.Runs.{IsDone, OpensLast}
-use Rattle.bl_index_write.specs.Events.{HasDeleted}
+use Rattle.bl_index_write.specs.Events.{deleting, HasDeleted}
 use Rattle.bl_index_steps.proofs.Standing.{put_gave, goes_to, course_at}
 use Rattle.bl_index_write.proofs.Inserted.{spelled_by, outcome_by}
-
-abbrev pub deleting : ℕ → DeleteStage → Proc
-deleting key stage = proc.Delete (record { key = key; stage = stage })
 
 -- what a page lists
 listed : (c : Page) (key value : ℕ) → IsTreePage c → (node_of c).look key ≡ Some value → map_of (pairs_of c) key ≡ Some value

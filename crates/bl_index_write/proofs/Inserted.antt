@@ -36,7 +36,7 @@ use Rattle.bl_proc_base.specs.declared.answers.Answer.TheVariants.{Op}
 use Rattle.bl_index_rule.specs.declared.known.Mine.{Mine}
 use Rattle.bl_index_rule.specs.Told.{Goes}
 use Rattle.bl_index_steps.specs.Runs.{IsDone, OpensLast}
-use Rattle.bl_index_write.specs.Events.{HasInserted}
+use Rattle.bl_index_write.specs.Events.{inserting, HasInserted}
 use Rattle.bl_index_steps.proofs.Standing.{put_gave, goes_to, course_at}
 
 -- a page of the same kind, bounds and link is spelled by its pairs
@@ -51,9 +51,6 @@ spelled_by (page.Inner c) (page.Leaf p) pairs f e = absurd f
 spelled_by (page.Inner c) (page.Dead p) pairs f e = absurd f
 spelled_by (page.Anchor c) p pairs f e = absurd f
 spelled_by (page.Dead c) p pairs f e = absurd f
-
-abbrev pub inserting : ℕ → ℕ → InsertStage → Proc
-inserting key value stage = proc.Insert (record { key = key; value = value; stage = stage })
 
 -- where the insertion stands that has got its leaf
 module _ (key value at : ℕ) (c : Page) (state : Proc) (takes : Takes (inserting key value (insert.Coming (approach.Latched at))) (seen.Words c) state) (leads : Leads c key 0 Here) where

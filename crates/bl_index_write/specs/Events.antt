@@ -26,6 +26,8 @@ use Rattle.bl_proc_base.specs.Changes.{EntersPair}
 use Rattle.bl_proc_base.specs.Onwards.{Leads}
 use Rattle.bl_proc.specs.declared.inserting.Insert.{Insert}
 use Rattle.bl_proc.specs.declared.inserting.InsertReply.{InsertReply}
+use Rattle.bl_proc.specs.declared.inserting.InsertStage.{InsertStage}
+use Rattle.bl_proc.specs.declared.deleting.DeleteStage.{DeleteStage}
 use Rattle.bl_proc.specs.declared.deleting.DeleteReply.{DeleteReply}
 use Rattle.bl_proc.specs.Inserts.{inserted_answer}
 use Rattle.bl_proc.specs.Deletes.{deleted_answer}
@@ -74,6 +76,14 @@ HasArrived level key at x l h (Away to) = IsOn l (known h) (at (Leaving x to))
 abbrev pub HasCome : ℕ → ℕ → (Approach → Proc) → Layout → Seat (Unit {0}) (View Mine) → Option (ℕ × Glance) → Type 0
 HasCome level key at l h (Some t) = ReadsFrom h t.1 × IsThere level key (at (Latched t.0)) (read_words h) (known h) × IsOn l (known h) (known h).state
 HasCome level key at l h None = IsOn l (known h) (at Start)
+
+-- an insertion that has come so far
+abbrev pub inserting : ℕ → ℕ → InsertStage → Proc
+inserting key value stage = proc.Insert (record { key = key; value = value; stage = stage })
+
+-- a deletion
+abbrev pub deleting : ℕ → DeleteStage → Proc
+deleting key stage = proc.Delete (record { key = key; stage = stage })
 
 -- The insertion that began as first has ended, and has answered that.
 pub record HasInserted (pass : ℕ) (old e : Mine) (first : Proc) (reply : Reply) (hint : Option Hint) : Type 0 where

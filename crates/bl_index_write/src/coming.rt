@@ -4,13 +4,13 @@ ghost use Rattle.std.specs.Prelude.{◌≡◌, true, false, MatchOption};
 ghost use Rattle.bl_page.specs.declared.page.Page.{Page};
 ghost use Rattle.bl_proc_base.specs.declared.acts.Action.TheVariants as act;
 ghost use Rattle.bl_proc_base.specs.declared.approaching.Approach.TheVariants as approach;
-ghost use Rattle.bl_store.specs.Hands.{known, read_words, IsIdle, IsRunning, IsSameHand, IsSameStage, IsSameStock, ReadsFrom};
+ghost use Rattle.bl_store.specs.Hands.{known, read_words, IsIdle, IsRunning, IsSameHand, IsSameStock, ReadsFrom};
 ghost use Rattle.bl_store.specs.Owners.{IsHandOf};
 ghost use Rattle.bl_proc_base.specs.declared.acts.Seen.TheVariants as seen;
 ghost use Rattle.bl_proc.specs.Processes.{next_of};
 ghost use Rattle.bl_proc_unique.specs.Courses.{GoesOn};
 ghost use Rattle.bl_index_rule.specs.Told.{Begins, IsUnborn};
-ghost use Rattle.bl_index_steps.specs.Runs.{IsOn, IsSince, IsSameProcess};
+ghost use Rattle.bl_index_steps.specs.Runs.{Runs, Keeps, IsOn, IsSince, IsSameProcess};
 ghost use Rattle.bl_index_write.specs.Events.{HoldsNone, IsThere, HasArrived, HasCome};
 
 use crate::errands::Errand;
@@ -55,8 +55,7 @@ pub(crate) fn depart<J: Errand>(tree: &Tree, hand: &mut Hand<Mine>, errand: &J)
     requires idle { IsIdle hand.old.seat }
     requires unborn { IsUnborn (J.unborn errand.now) }
     ensures same { IsSameHand hand.old.seat hand.new.seat × IsSameStock hand.old.seat hand.new.seat }
-    ensures running { IsRunning hand.new.seat }
-    ensures process { IsOn tree.now.store.layout (known hand.new.seat) (J.at errand.now approach.Start) }
+    ensures runs { Runs tree.now hand.new (J.at errand.now approach.Start) }
     ensures begun { IsSince hand.old.number (known hand.old.seat) (known hand.new.seat) }
 {
     set_out::<Brand, J>(tree, hand, errand);
@@ -65,12 +64,10 @@ pub(crate) fn depart<J: Errand>(tree: &Tree, hand: &mut Hand<Mine>, errand: &J)
 /// It gets the anchor, and goes on by its words.
 #[inline(always)]
 fn look_first<J: Errand>(tree: &Tree, hand: &mut Hand<Mine>, errand: &J) -> Approach
-    requires own { IsHandOf tree.now.store hand.old }
-    requires running { IsRunning hand.old.seat }
-    requires process { IsOn tree.now.store.layout (known hand.old.seat) (J.at errand.now approach.Start) }
+    requires runs { Runs tree.now hand.old (J.at errand.now approach.Start) }
     requires led { (c : Page) → J.IsLedBy errand.now c }
-    ensures same { IsSameHand hand.old.seat hand.new.seat × IsSameStage hand.old.seat hand.new.seat × IsSameStock hand.old.seat hand.new.seat }
-    ensures process { IsOn tree.now.store.layout (known hand.new.seat) (J.at errand.now result) }
+    ensures same { Keeps hand.old.seat hand.new.seat }
+    ensures runs { Runs tree.now hand.new (J.at errand.now result) }
     ensures free { HoldsNone result }
     ensures since { IsSameProcess (known hand.old.seat) (known hand.new.seat) }
 {
@@ -85,11 +82,9 @@ fn look_first<J: Errand>(tree: &Tree, hand: &mut Hand<Mine>, errand: &J) -> Appr
 /// It gets the page on its way, and goes on by its words.
 #[inline(always)]
 fn look_on<J: Errand>(tree: &Tree, hand: &mut Hand<Mine>, errand: &J, page: u32) -> Approach
-    requires own { IsHandOf tree.now.store hand.old }
-    requires running { IsRunning hand.old.seat }
-    requires process { IsOn tree.now.store.layout (known hand.old.seat) (J.at errand.now (approach.At page)) }
-    ensures same { IsSameHand hand.old.seat hand.new.seat × IsSameStage hand.old.seat hand.new.seat × IsSameStock hand.old.seat hand.new.seat }
-    ensures process { IsOn tree.now.store.layout (known hand.new.seat) (J.at errand.now result) }
+    requires runs { Runs tree.now hand.old (J.at errand.now (approach.At page)) }
+    ensures same { Keeps hand.old.seat hand.new.seat }
+    ensures runs { Runs tree.now hand.new (J.at errand.now result) }
     ensures free { HoldsNone result }
     ensures since { IsSameProcess (known hand.old.seat) (known hand.new.seat) }
 {
@@ -110,11 +105,9 @@ fn seek<J: Errand, R: Wait>(
     errand: &J,
     from: Approach,
 ) -> Option<u32>
-    requires own { IsHandOf tree.now.store hand.old }
-    requires running { IsRunning hand.old.seat }
-    requires process { IsOn tree.now.store.layout (known hand.old.seat) (J.at errand.now from) }
+    requires runs { Runs tree.now hand.old (J.at errand.now from) }
     requires free { HoldsNone from }
-    ensures same { IsSameHand hand.old.seat hand.new.seat × IsSameStage hand.old.seat hand.new.seat × IsSameStock hand.old.seat hand.new.seat }
+    ensures same { Keeps hand.old.seat hand.new.seat }
     ensures process { MatchOption result (IsOn tree.now.store.layout (known hand.new.seat) (J.at errand.now approach.Start)) (λ x. IsOn tree.now.store.layout (known hand.new.seat) (J.at errand.now (approach.Latching x))) }
     ensures since { IsSameProcess (known hand.old.seat) (known hand.new.seat) }
 {
@@ -133,10 +126,8 @@ fn seek<J: Errand, R: Wait>(
 /// It tries to latch the page that it has come to.
 #[inline(always)]
 fn latch_there<J: Errand>(tree: &Tree, hand: &mut Hand<Mine>, errand: &J, page: u32) -> bool
-    requires own { IsHandOf tree.now.store hand.old }
-    requires running { IsRunning hand.old.seat }
-    requires process { IsOn tree.now.store.layout (known hand.old.seat) (J.at errand.now (approach.Latching page)) }
-    ensures same { IsSameHand hand.old.seat hand.new.seat × IsSameStage hand.old.seat hand.new.seat × IsSameStock hand.old.seat hand.new.seat }
+    requires runs { Runs tree.now hand.old (J.at errand.now (approach.Latching page)) }
+    ensures same { Keeps hand.old.seat hand.new.seat }
     ensures done { result ≡ true → IsOn tree.now.store.layout (known hand.new.seat) (J.at errand.now (approach.Latched page)) }
     ensures missed { result ≡ false → IsOn tree.now.store.layout (known hand.new.seat) (J.at errand.now (approach.At page)) }
     ensures since { IsSameProcess (known hand.old.seat) (known hand.new.seat) }
@@ -148,10 +139,8 @@ fn latch_there<J: Errand>(tree: &Tree, hand: &mut Hand<Mine>, errand: &J, page: 
 /// It gets the page that it holds, and sees by its words whether it is there.
 #[inline(always)]
 fn look_there<J: Errand>(tree: &Tree, hand: &mut Hand<Mine>, errand: &J, page: u32) -> Arrived
-    requires own { IsHandOf tree.now.store hand.old }
-    requires running { IsRunning hand.old.seat }
-    requires process { IsOn tree.now.store.layout (known hand.old.seat) (J.at errand.now (approach.Latched page)) }
-    ensures same { IsSameHand hand.old.seat hand.new.seat × IsSameStage hand.old.seat hand.new.seat × IsSameStock hand.old.seat hand.new.seat }
+    requires runs { Runs tree.now hand.old (J.at errand.now (approach.Latched page)) }
+    ensures same { Keeps hand.old.seat hand.new.seat }
     ensures arrived { HasArrived (J.level_of errand.now) (J.key_of errand.now) (J.at errand.now) page tree.now.store.layout hand.new.seat result }
     ensures since { IsSameProcess (known hand.old.seat) (known hand.new.seat) }
 {
@@ -176,11 +165,9 @@ fn leave_for<J: Errand>(
     page: u32,
     to: Option<u32>,
 ) -> Approach
-    requires own { IsHandOf tree.now.store hand.old }
-    requires running { IsRunning hand.old.seat }
-    requires process { IsOn tree.now.store.layout (known hand.old.seat) (J.at errand.now (approach.Leaving page to)) }
-    ensures same { IsSameHand hand.old.seat hand.new.seat × IsSameStage hand.old.seat hand.new.seat × IsSameStock hand.old.seat hand.new.seat }
-    ensures process { IsOn tree.now.store.layout (known hand.new.seat) (J.at errand.now result) }
+    requires runs { Runs tree.now hand.old (J.at errand.now (approach.Leaving page to)) }
+    ensures same { Keeps hand.old.seat hand.new.seat }
+    ensures runs { Runs tree.now hand.new (J.at errand.now result) }
     ensures free { HoldsNone result }
     ensures since { IsSameProcess (known hand.old.seat) (known hand.new.seat) }
 {
@@ -202,11 +189,9 @@ pub(crate) fn come_from<J: Errand, R: Wait>(
     errand: &J,
     from: Approach,
 ) -> Option<(u32, Glance)>
-    requires own { IsHandOf tree.now.store hand.old }
-    requires running { IsRunning hand.old.seat }
-    requires process { IsOn tree.now.store.layout (known hand.old.seat) (J.at errand.now from) }
+    requires runs { Runs tree.now hand.old (J.at errand.now from) }
     requires free { HoldsNone from }
-    ensures same { IsSameHand hand.old.seat hand.new.seat × IsSameStage hand.old.seat hand.new.seat × IsSameStock hand.old.seat hand.new.seat }
+    ensures same { Keeps hand.old.seat hand.new.seat }
     ensures came { HasCome (J.level_of errand.now) (J.key_of errand.now) (J.at errand.now) tree.now.store.layout hand.new.seat result }
     ensures since { IsSameProcess (known hand.old.seat) (known hand.new.seat) }
 {
@@ -239,12 +224,10 @@ pub(crate) fn come<J: Errand, R: Wait>(
     hand: &mut Hand<Mine>,
     errand: &J,
 ) -> (u32, Glance)
-    requires own { IsHandOf tree.now.store hand.old }
-    requires running { IsRunning hand.old.seat }
-    requires process { IsOn tree.now.store.layout (known hand.old.seat) (J.at errand.now approach.Start) }
+    requires runs { Runs tree.now hand.old (J.at errand.now approach.Start) }
     requires led { (c : Page) → J.IsLedBy errand.now c }
-    ensures same { IsSameHand hand.old.seat hand.new.seat × IsSameStage hand.old.seat hand.new.seat × IsSameStock hand.old.seat hand.new.seat }
-    ensures process { IsOn tree.now.store.layout (known hand.new.seat) (known hand.new.seat).state }
+    ensures same { Keeps hand.old.seat hand.new.seat }
+    ensures runs { Runs tree.now hand.new (known hand.new.seat).state }
     ensures reads { ReadsFrom hand.new.seat result.1 }
     ensures there { IsThere (J.level_of errand.now) (J.key_of errand.now) (J.at errand.now (approach.Latched result.0)) (read_words hand.new.seat) (known hand.new.seat) }
     ensures since { IsSameProcess (known hand.old.seat) (known hand.new.seat) }

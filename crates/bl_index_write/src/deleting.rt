@@ -1,6 +1,6 @@
 //! Deletions, by the words of pages: a leaf gets its new words from those that were read.
 
-ghost use Rattle.std.specs.Prelude.{◌≡◌, ℕ, None, Some, false};
+ghost use Rattle.std.specs.Prelude.{◌≡◌, ℕ, None, Some};
 ghost use Rattle.bl_model.specs.declared.operation.KeyReply.TheVariants as replies;
 ghost use Rattle.bl_page.specs.declared.page.Page.{Page};
 ghost use Rattle.bl_page.specs.Words.{words_of};
@@ -16,12 +16,11 @@ ghost use Rattle.bl_proc_base.specs.Thin.{thin_low, thin_hint};
 ghost use Rattle.bl_proc.specs.Deletes.{deleted_answer};
 ghost use Rattle.bl_proc.specs.declared.deleting.DeleteReply.TheVariants as removal;
 ghost use Rattle.bl_proc.specs.declared.deleting.DeleteStage.TheVariants as delete;
-ghost use Rattle.bl_proc.specs.declared.kinds.Proc.TheVariants as proc;
 ghost use Rattle.bl_store.specs.Hands.{known, read_words, IsIdle, IsRunning, IsSameHand, HasNoStock, ReadsFrom, WasRefused};
 ghost use Rattle.bl_store.specs.Owners.{IsHandOf};
 ghost use Rattle.bl_index_rule.specs.declared.known.Mine.{Mine as Knows};
-ghost use Rattle.bl_index_steps.specs.Runs.{IsOn, IsSince, IsWithin};
-ghost use Rattle.bl_index_write.specs.Events.{IsThere, HasDeleted, HasDeletedBy};
+ghost use Rattle.bl_index_steps.specs.Runs.{Runs, Rests, IsOn, IsSince};
+ghost use Rattle.bl_index_write.specs.Events.{deleting, IsThere, HasDeleted, HasDeletedBy};
 ghost use Rattle.bl_model.specs.Replies.{reply_of};
 
 use crate::coming::{come, depart};
@@ -59,14 +58,12 @@ fn answer_of(reply: DeleteReply) -> (KeyReply, Option<Hint>)
 
 /// The leaf that it holds does not have the key.
 fn keep_absent(tree: &Tree, hand: &mut Hand<Mine>, at: u32, errand: Deleting) -> DeleteReply
-    requires own { IsHandOf tree.now.store hand.old }
-    requires running { IsRunning hand.old.seat × HasNoStock hand.old.seat }
-    requires process { IsOn tree.now.store.layout (known hand.old.seat) (proc.Delete (record { key = errand.key; stage = delete.Absent at })) }
+    requires runs { Runs tree.now hand.old (deleting errand.key (delete.Absent at)) }
+    requires empty { HasNoStock hand.old.seat }
     ensures same { IsSameHand hand.old.seat hand.new.seat }
-    ensures idle { IsIdle hand.new.seat × HasNoStock hand.new.seat }
-    ensures within { IsWithin hand.new.seat }
-    ensures rests { (known hand.new.seat).runs ≡ false }
-    ensures deleted { (pass : ℕ) (old : Knows) → IsSince pass old (known hand.old.seat) → HasDeletedBy pass old (known hand.new.seat) (proc.Delete (record { key = errand.key; stage = delete.New })) result }
+    ensures rests { Rests hand.new.seat }
+    ensures empty { HasNoStock hand.new.seat }
+    ensures deleted { (pass : ℕ) (old : Knows) → IsSince pass old (known hand.old.seat) → HasDeletedBy pass old (known hand.new.seat) (deleting errand.key delete.New) result }
     ensures reply { result ≡ removal.Absent }
 {
     let _ = errand;
@@ -87,12 +84,11 @@ fn remove(
     requires own { IsHandOf tree.now.store hand.old }
     requires running { IsRunning hand.old.seat × HasNoStock hand.old.seat }
     requires reads { ReadsFrom hand.old.seat glance }
-    requires page { (c : Page) × (p : Page) × IsTreePage c × IsTreePage p × (read_words hand.old.seat ≡ words_of c) × (map_of (pairs_of c) errand.key ≡ Some value) × (words_of p ≡ words_by c (dropped errand.key (pairs_of c))) × IsOn tree.now.store.layout (known hand.old.seat) (proc.Delete (record { key = errand.key; stage = delete.Changing (record { value = value; thin = thin_low p }) (change.Putting at p) })) }
+    requires page { (c : Page) × (p : Page) × IsTreePage c × IsTreePage p × (read_words hand.old.seat ≡ words_of c) × (map_of (pairs_of c) errand.key ≡ Some value) × (words_of p ≡ words_by c (dropped errand.key (pairs_of c))) × IsOn tree.now.store.layout (known hand.old.seat) (deleting errand.key (delete.Changing (record { value = value; thin = thin_low p }) (change.Putting at p))) }
     ensures same { IsSameHand hand.old.seat hand.new.seat }
-    ensures idle { IsIdle hand.new.seat × HasNoStock hand.new.seat }
-    ensures within { IsWithin hand.new.seat }
-    ensures rests { (known hand.new.seat).runs ≡ false }
-    ensures deleted { (pass : ℕ) (old : Knows) → IsSince pass old (known hand.old.seat) → HasDeletedBy pass old (known hand.new.seat) (proc.Delete (record { key = errand.key; stage = delete.New })) result }
+    ensures rests { Rests hand.new.seat }
+    ensures empty { HasNoStock hand.new.seat }
+    ensures deleted { (pass : ℕ) (old : Knows) → IsSince pass old (known hand.old.seat) → HasDeletedBy pass old (known hand.new.seat) (deleting errand.key delete.New) result }
     ensures no_room { result ≡ removal.NoRoom → WasRefused hand.new.seat 0 1 }
 {
     let shown = Shown {
@@ -120,16 +116,14 @@ fn delete_there(
     errand: Deleting,
     glance: Glance,
 ) -> DeleteReply
-    requires own { IsHandOf tree.now.store hand.old }
-    requires running { IsRunning hand.old.seat × HasNoStock hand.old.seat }
+    requires runs { Runs tree.now hand.old (known hand.old.seat).state }
+    requires empty { HasNoStock hand.old.seat }
     requires reads { ReadsFrom hand.old.seat glance }
-    requires process { IsOn tree.now.store.layout (known hand.old.seat) (known hand.old.seat).state }
-    requires there { IsThere 0 errand.key (proc.Delete (record { key = errand.key; stage = delete.Coming (approach.Latched at) })) (read_words hand.old.seat) (known hand.old.seat) }
+    requires there { IsThere 0 errand.key (deleting errand.key (delete.Coming (approach.Latched at))) (read_words hand.old.seat) (known hand.old.seat) }
     ensures same { IsSameHand hand.old.seat hand.new.seat }
-    ensures idle { IsIdle hand.new.seat × HasNoStock hand.new.seat }
-    ensures within { IsWithin hand.new.seat }
-    ensures rests { (known hand.new.seat).runs ≡ false }
-    ensures deleted { (pass : ℕ) (old : Knows) → IsSince pass old (known hand.old.seat) → HasDeletedBy pass old (known hand.new.seat) (proc.Delete (record { key = errand.key; stage = delete.New })) result }
+    ensures rests { Rests hand.new.seat }
+    ensures empty { HasNoStock hand.new.seat }
+    ensures deleted { (pass : ℕ) (old : Knows) → IsSince pass old (known hand.old.seat) → HasDeletedBy pass old (known hand.new.seat) (deleting errand.key delete.New) result }
     ensures no_room { result ≡ removal.NoRoom → WasRefused hand.new.seat 0 1 }
 {
     let shown = Shown {
@@ -153,10 +147,10 @@ pub fn begin_deletion<R: Wait>(
     requires own { IsHandOf tree.now.store hand.old }
     requires idle { IsIdle hand.old.seat × HasNoStock hand.old.seat }
     ensures same { IsSameHand hand.old.seat hand.new.seat }
-    ensures running { IsRunning hand.new.seat × HasNoStock hand.new.seat }
+    ensures empty { HasNoStock hand.new.seat }
     ensures reads { ReadsFrom hand.new.seat result.1 }
-    ensures process { IsOn tree.now.store.layout (known hand.new.seat) (known hand.new.seat).state }
-    ensures there { IsThere 0 key (proc.Delete (record { key = key; stage = delete.Coming (approach.Latched result.0) })) (read_words hand.new.seat) (known hand.new.seat) }
+    ensures runs { Runs tree.now hand.new (known hand.new.seat).state }
+    ensures there { IsThere 0 key (deleting key (delete.Coming (approach.Latched result.0))) (read_words hand.new.seat) (known hand.new.seat) }
     ensures since { IsSince hand.old.number (known hand.old.seat) (known hand.new.seat) }
 {
     let errand = Deleting { key };
@@ -173,16 +167,14 @@ pub fn end_deletion(
     key: u64,
     glance: Glance,
 ) -> (KeyReply, Option<Hint>)
-    requires own { IsHandOf tree.now.store hand.old }
-    requires running { IsRunning hand.old.seat × HasNoStock hand.old.seat }
+    requires runs { Runs tree.now hand.old (known hand.old.seat).state }
+    requires empty { HasNoStock hand.old.seat }
     requires reads { ReadsFrom hand.old.seat glance }
-    requires process { IsOn tree.now.store.layout (known hand.old.seat) (known hand.old.seat).state }
-    requires there { IsThere 0 key (proc.Delete (record { key = key; stage = delete.Coming (approach.Latched at) })) (read_words hand.old.seat) (known hand.old.seat) }
+    requires there { IsThere 0 key (deleting key (delete.Coming (approach.Latched at))) (read_words hand.old.seat) (known hand.old.seat) }
     ensures same { IsSameHand hand.old.seat hand.new.seat }
-    ensures idle { IsIdle hand.new.seat × HasNoStock hand.new.seat }
-    ensures within { IsWithin hand.new.seat }
-    ensures rests { (known hand.new.seat).runs ≡ false }
-    ensures deleted { (pass : ℕ) (old : Knows) → IsSince pass old (known hand.old.seat) → HasDeleted pass old (known hand.new.seat) (proc.Delete (record { key = key; stage = delete.New })) (reply_of result.0) result.1 }
+    ensures rests { Rests hand.new.seat }
+    ensures empty { HasNoStock hand.new.seat }
+    ensures deleted { (pass : ℕ) (old : Knows) → IsSince pass old (known hand.old.seat) → HasDeleted pass old (known hand.new.seat) (deleting key delete.New) (reply_of result.0) result.1 }
     ensures no_room { result.0 ≡ replies.NoRoom → WasRefused hand.new.seat 0 1 }
 {
     answer_of(delete_there(tree, hand, at, Deleting { key }, glance))
@@ -198,10 +190,9 @@ pub fn delete_key<R: Wait>(
     requires own { IsHandOf tree.now.store hand.old }
     requires idle { IsIdle hand.old.seat × HasNoStock hand.old.seat }
     ensures same { IsSameHand hand.old.seat hand.new.seat }
-    ensures idle { IsIdle hand.new.seat × HasNoStock hand.new.seat }
-    ensures within { IsWithin hand.new.seat }
-    ensures rests { (known hand.new.seat).runs ≡ false }
-    ensures deleted { HasDeleted hand.old.number (known hand.old.seat) (known hand.new.seat) (proc.Delete (record { key = key; stage = delete.New })) (reply_of result.0) result.1 }
+    ensures rests { Rests hand.new.seat }
+    ensures empty { HasNoStock hand.new.seat }
+    ensures deleted { HasDeleted hand.old.number (known hand.old.seat) (known hand.new.seat) (deleting key delete.New) (reply_of result.0) result.1 }
     ensures no_room { result.0 ≡ replies.NoRoom → WasRefused hand.new.seat 0 1 }
 {
     let (at, glance) = begin_deletion(tree, rt, hand, key);

@@ -1,6 +1,6 @@
 //! Insertions, by the words of pages. A leaf that has room gets its new words from those that were read.
 
-ghost use Rattle.std.specs.Prelude.{◌≡◌, ℕ, ◌<◌, None, Some, false};
+ghost use Rattle.std.specs.Prelude.{◌≡◌, ℕ, ◌<◌, None, Some};
 ghost use Rattle.bl_model.specs.declared.operation.KeyReply.TheVariants as replies;
 ghost use Rattle.bl_page.specs.declared.page.Page.{Page};
 ghost use Rattle.bl_page.specs.Words.{words_of};
@@ -11,13 +11,12 @@ ghost use Rattle.bl_proc_base.specs.declared.changing.Full.{Full};
 ghost use Rattle.bl_proc.specs.declared.inserting.InsertReply.TheVariants as inserted;
 ghost use Rattle.bl_proc.specs.declared.inserting.InsertStage.TheVariants as insert;
 ghost use Rattle.bl_proc.specs.Inserts.{insert_reply, inserted_answer};
-ghost use Rattle.bl_proc.specs.declared.kinds.Proc.TheVariants as proc;
 ghost use Rattle.bl_store.specs.Drafts.{IsSpread};
 ghost use Rattle.bl_store.specs.Hands.{known, read_words, IsIdle, IsRunning, IsSameHand, HasNoStock, ReadsFrom};
 ghost use Rattle.bl_store.specs.Owners.{IsHandOf};
 ghost use Rattle.bl_index_rule.specs.declared.known.Mine.{Mine as Knows};
-ghost use Rattle.bl_index_steps.specs.Runs.{IsOn, IsSince, IsWithin};
-ghost use Rattle.bl_index_write.specs.Events.{IsThere, HasInserted, HasInsertedBy};
+ghost use Rattle.bl_index_steps.specs.Runs.{Runs, Rests, IsOn, IsSince};
+ghost use Rattle.bl_index_write.specs.Events.{inserting, IsThere, HasInserted, HasInsertedBy};
 ghost use Rattle.bl_index_steps.specs.Rooms.{LacksPage};
 ghost use Rattle.bl_model.specs.Replies.{reply_of};
 
@@ -73,14 +72,12 @@ fn keep_present(
     errand: Inserting,
     there: u64,
 ) -> InsertReply
-    requires own { IsHandOf tree.now.store hand.old }
-    requires running { IsRunning hand.old.seat × HasNoStock hand.old.seat }
-    requires process { IsOn tree.now.store.layout (known hand.old.seat) (proc.Insert (record { key = errand.key; value = errand.value; stage = insert.Present at there })) }
+    requires runs { Runs tree.now hand.old (inserting errand.key errand.value (insert.Present at there)) }
+    requires empty { HasNoStock hand.old.seat }
     ensures same { IsSameHand hand.old.seat hand.new.seat }
-    ensures idle { IsIdle hand.new.seat × HasNoStock hand.new.seat }
-    ensures within { IsWithin hand.new.seat }
-    ensures rests { (known hand.new.seat).runs ≡ false }
-    ensures inserted { (pass : ℕ) (old : Knows) → IsSince pass old (known hand.old.seat) → HasInsertedBy pass old (known hand.new.seat) (proc.Insert (record { key = errand.key; value = errand.value; stage = insert.New })) result }
+    ensures rests { Rests hand.new.seat }
+    ensures empty { HasNoStock hand.new.seat }
+    ensures inserted { (pass : ℕ) (old : Knows) → IsSince pass old (known hand.old.seat) → HasInsertedBy pass old (known hand.new.seat) (inserting errand.key errand.value insert.New) result }
     ensures reply { result ≡ inserted.Present there }
 {
     let _ = errand;
@@ -102,12 +99,11 @@ fn enter(
     requires running { IsRunning hand.old.seat × HasNoStock hand.old.seat }
     requires reads { ReadsFrom hand.old.seat glance }
     requires place { spread.place < 14 }
-    requires page { (p : Page) × IsSpread spread (read_words hand.old.seat) (words_of p) × IsOn tree.now.store.layout (known hand.old.seat) (proc.Insert (record { key = errand.key; value = errand.value; stage = insert.Changing (change.Putting at p) })) }
+    requires page { (p : Page) × IsSpread spread (read_words hand.old.seat) (words_of p) × IsOn tree.now.store.layout (known hand.old.seat) (inserting errand.key errand.value (insert.Changing (change.Putting at p))) }
     ensures same { IsSameHand hand.old.seat hand.new.seat }
-    ensures idle { IsIdle hand.new.seat × HasNoStock hand.new.seat }
-    ensures within { IsWithin hand.new.seat }
-    ensures rests { (known hand.new.seat).runs ≡ false }
-    ensures inserted { (pass : ℕ) (old : Knows) → IsSince pass old (known hand.old.seat) → HasInsertedBy pass old (known hand.new.seat) (proc.Insert (record { key = errand.key; value = errand.value; stage = insert.New })) result }
+    ensures rests { Rests hand.new.seat }
+    ensures empty { HasNoStock hand.new.seat }
+    ensures inserted { (pass : ℕ) (old : Knows) → IsSince pass old (known hand.old.seat) → HasInsertedBy pass old (known hand.new.seat) (inserting errand.key errand.value insert.New) result }
     ensures no_room { result ≡ inserted.NoRoom → LacksPage 0 errand.key hand.new.seat }
 {
     let _ = errand;
@@ -132,12 +128,11 @@ fn part_leaf(
     requires own { IsHandOf tree.now.store hand.old }
     requires running { IsRunning hand.old.seat × HasNoStock hand.old.seat }
     requires reads { ReadsFrom hand.old.seat glance }
-    requires full { (f : Full) × (f.at ≡ at) × (f.key ≡ errand.key) × (f.word ≡ errand.value) × (read_words hand.old.seat ≡ words_of f.page) × IsOn tree.now.store.layout (known hand.old.seat) (proc.Insert (record { key = errand.key; value = errand.value; stage = insert.Changing (change.Taking f) })) }
+    requires full { (f : Full) × (f.at ≡ at) × (f.key ≡ errand.key) × (f.word ≡ errand.value) × (read_words hand.old.seat ≡ words_of f.page) × IsOn tree.now.store.layout (known hand.old.seat) (inserting errand.key errand.value (insert.Changing (change.Taking f))) }
     ensures same { IsSameHand hand.old.seat hand.new.seat }
-    ensures idle { IsIdle hand.new.seat × HasNoStock hand.new.seat }
-    ensures within { IsWithin hand.new.seat }
-    ensures rests { (known hand.new.seat).runs ≡ false }
-    ensures inserted { (pass : ℕ) (old : Knows) → IsSince pass old (known hand.old.seat) → HasInsertedBy pass old (known hand.new.seat) (proc.Insert (record { key = errand.key; value = errand.value; stage = insert.New })) result }
+    ensures rests { Rests hand.new.seat }
+    ensures empty { HasNoStock hand.new.seat }
+    ensures inserted { (pass : ℕ) (old : Knows) → IsSince pass old (known hand.old.seat) → HasInsertedBy pass old (known hand.new.seat) (inserting errand.key errand.value insert.New) result }
     ensures no_room { result ≡ inserted.NoRoom → LacksPage 0 errand.key hand.new.seat }
 {
     let shown = Shown {
@@ -159,16 +154,14 @@ fn insert_there(
     errand: Inserting,
     glance: Glance,
 ) -> InsertReply
-    requires own { IsHandOf tree.now.store hand.old }
-    requires running { IsRunning hand.old.seat × HasNoStock hand.old.seat }
+    requires runs { Runs tree.now hand.old (known hand.old.seat).state }
+    requires empty { HasNoStock hand.old.seat }
     requires reads { ReadsFrom hand.old.seat glance }
-    requires process { IsOn tree.now.store.layout (known hand.old.seat) (known hand.old.seat).state }
-    requires there { IsThere 0 errand.key (proc.Insert (record { key = errand.key; value = errand.value; stage = insert.Coming (approach.Latched at) })) (read_words hand.old.seat) (known hand.old.seat) }
+    requires there { IsThere 0 errand.key (inserting errand.key errand.value (insert.Coming (approach.Latched at))) (read_words hand.old.seat) (known hand.old.seat) }
     ensures same { IsSameHand hand.old.seat hand.new.seat }
-    ensures idle { IsIdle hand.new.seat × HasNoStock hand.new.seat }
-    ensures within { IsWithin hand.new.seat }
-    ensures rests { (known hand.new.seat).runs ≡ false }
-    ensures inserted { (pass : ℕ) (old : Knows) → IsSince pass old (known hand.old.seat) → HasInsertedBy pass old (known hand.new.seat) (proc.Insert (record { key = errand.key; value = errand.value; stage = insert.New })) result }
+    ensures rests { Rests hand.new.seat }
+    ensures empty { HasNoStock hand.new.seat }
+    ensures inserted { (pass : ℕ) (old : Knows) → IsSince pass old (known hand.old.seat) → HasInsertedBy pass old (known hand.new.seat) (inserting errand.key errand.value insert.New) result }
     ensures no_room { result ≡ inserted.NoRoom → LacksPage 0 errand.key hand.new.seat }
 {
     let shown = Shown {
@@ -205,10 +198,9 @@ pub fn insert_pair<R: Wait>(
     requires own { IsHandOf tree.now.store hand.old }
     requires idle { IsIdle hand.old.seat × HasNoStock hand.old.seat }
     ensures same { IsSameHand hand.old.seat hand.new.seat }
-    ensures idle { IsIdle hand.new.seat × HasNoStock hand.new.seat }
-    ensures within { IsWithin hand.new.seat }
-    ensures rests { (known hand.new.seat).runs ≡ false }
-    ensures inserted { HasInserted hand.old.number (known hand.old.seat) (known hand.new.seat) (proc.Insert (record { key = key; value = value; stage = insert.New })) (reply_of result.0) result.1 }
+    ensures rests { Rests hand.new.seat }
+    ensures empty { HasNoStock hand.new.seat }
+    ensures inserted { HasInserted hand.old.number (known hand.old.seat) (known hand.new.seat) (inserting key value insert.New) (reply_of result.0) result.1 }
     ensures no_room { result.0 ≡ replies.NoRoom → LacksPage 0 key hand.new.seat }
 {
     let errand = Inserting { key, value };

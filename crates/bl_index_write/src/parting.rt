@@ -9,7 +9,7 @@ ghost use Rattle.bl_proc_base.specs.declared.changing.Change.{Change};
 ghost use Rattle.bl_proc_base.specs.declared.changing.Change.TheVariants as change;
 ghost use Rattle.bl_store.specs.Hands.{known, IsRunning, IsSameHand, IsSameStage, IsStockOf, HasNoStock, WasRefused};
 ghost use Rattle.bl_store.specs.Owners.{IsHandOf};
-ghost use Rattle.bl_index_steps.specs.Runs.{IsOn, IsSameProcess};
+ghost use Rattle.bl_index_steps.specs.Runs.{Runs, IsOn, IsSameProcess};
 ghost use Rattle.bl_index_write.specs.Events.{IsToEnter};
 ghost use Rattle.bl_index_write.specs.Halves.{AreParts};
 ghost use Rattle.bl_proc_base.specs.declared.changing.Outcome.TheVariants as outcomes;
@@ -43,7 +43,7 @@ fn put_parts<J: Changer>(
     requires head { 14 ≤ slice_index words.now 0 }
     ensures same { IsSameHand hand.old.seat hand.new.seat × IsSameStage hand.old.seat hand.new.seat }
     ensures empty { HasNoStock hand.new.seat }
-    ensures process { IsOn tree.now.store.layout (known hand.new.seat) (J.changing changer.now (change.Opening at result)) }
+    ensures runs { Runs tree.now hand.new (J.changing changer.now (change.Opening at result)) }
     ensures since { IsSameProcess (known hand.old.seat) (known hand.new.seat) }
     ensures parted { result ≡ outcomes.Parted (slice_index entries.now 16) }
 {
@@ -81,7 +81,7 @@ pub(crate) fn part_full<J: Changer>(
     requires full { (f : Full) × (f.at ≡ at) × (f.key ≡ key) × (f.word ≡ word) × (words.now ≡ words_of f.page) × IsOn tree.now.store.layout (known hand.old.seat) (J.changing changer.now (change.Taking f)) }
     ensures same { IsSameHand hand.old.seat hand.new.seat × IsSameStage hand.old.seat hand.new.seat }
     ensures empty { HasNoStock hand.new.seat }
-    ensures process { IsOn tree.now.store.layout (known hand.new.seat) (J.changing changer.now (change.Opening at result)) }
+    ensures runs { Runs tree.now hand.new (J.changing changer.now (change.Opening at result)) }
     ensures since { IsSameProcess (known hand.old.seat) (known hand.new.seat) }
     ensures asked { result ≡ outcomes.Refused → WasRefused hand.new.seat 1 2 × GotHeld (J.level_at changer.now) (J.key_at changer.now) (own_marks (known hand.new.seat)) IsFull }
 {
@@ -110,7 +110,7 @@ pub(crate) fn enter_page<J: Changer>(
     requires page { (c : Change) × IsToEnter at key word words.now c × IsOn tree.now.store.layout (known hand.old.seat) (J.changing changer.now c) }
     ensures same { IsSameHand hand.old.seat hand.new.seat × IsSameStage hand.old.seat hand.new.seat }
     ensures empty { HasNoStock hand.new.seat }
-    ensures process { IsOn tree.now.store.layout (known hand.new.seat) (J.changing changer.now (change.Opening at result)) }
+    ensures runs { Runs tree.now hand.new (J.changing changer.now (change.Opening at result)) }
     ensures since { IsSameProcess (known hand.old.seat) (known hand.new.seat) }
     ensures asked { result ≡ outcomes.Refused → LacksPage (J.level_at changer.now) (J.key_at changer.now) hand.new.seat }
 {

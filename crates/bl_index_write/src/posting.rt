@@ -1,6 +1,6 @@
 //! Posts, by the words of pages.
 
-ghost use Rattle.std.specs.Prelude.{◌≡◌, ◌≢◌, ◌<◌, ◌≤◌, ◌-◌, ℕ, Some, None, false};
+ghost use Rattle.std.specs.Prelude.{◌≡◌, ◌≢◌, ◌<◌, ◌≤◌, ◌-◌, ℕ, Some, None};
 ghost use Rattle.bl_page.specs.declared.page.Page.{Page};
 ghost use Rattle.bl_page.specs.Words.{words_of};
 ghost use Rattle.bl_claims.specs.Pages.{node_of, IsTreePage};
@@ -16,10 +16,10 @@ ghost use Rattle.bl_proc.specs.Levels.{MayReply};
 ghost use Rattle.bl_proc.specs.Posts.{post_reply, posted_answer};
 ghost use Rattle.bl_proc.specs.Processes.{Takes};
 ghost use Rattle.bl_proc_unique.specs.Frames.{work_of};
-ghost use Rattle.bl_store.specs.Hands.{known, read_words, IsIdle, IsRunning, IsSameHand, IsSameStage, IsSameStock, HasNoStock, ReadsFrom};
+ghost use Rattle.bl_store.specs.Hands.{known, read_words, IsIdle, IsRunning, IsSameHand, HasNoStock, ReadsFrom};
 ghost use Rattle.bl_store.specs.Owners.{IsHandOf};
 ghost use Rattle.bl_index_rule.specs.declared.known.Mine.{Mine as Knows};
-ghost use Rattle.bl_index_steps.specs.Runs.{IsOn, IsSince, IsWithin, IsSameProcess};
+ghost use Rattle.bl_index_steps.specs.Runs.{Runs, Keeps, Rests, IsOn, IsSince, IsSameProcess};
 ghost use Rattle.bl_index_write.specs.Events.{posting, IsThere, IsToEnter, IsWalking, HasWalked, HasPosted, IsPostOver, IsPostAnswer};
 ghost use Rattle.bl_index_steps.specs.Rooms.{LacksPost};
 ghost use Rattle.bl_proc_base.specs.declared.answers.Posted.TheVariants as postings;
@@ -164,11 +164,9 @@ fn walk_on(
     parent: &[u64; 32],
     child: u32,
 ) -> Walked
-    requires own { IsHandOf tree.now.store hand.old }
-    requires running { IsRunning hand.old.seat }
-    requires process { IsOn tree.now.store.layout (known hand.old.seat) (known hand.old.seat).state }
+    requires runs { Runs tree.now hand.old (known hand.old.seat).state }
     requires walking { IsWalking errand at parent.now child (known hand.old.seat).state }
-    ensures same { IsSameHand hand.old.seat hand.new.seat × IsSameStage hand.old.seat hand.new.seat × IsSameStock hand.old.seat hand.new.seat }
+    ensures same { Keeps hand.old.seat hand.new.seat }
     ensures walked { HasWalked tree.now.store.layout errand at parent.now child (known hand.new.seat) result }
     ensures since { IsSameProcess (known hand.old.seat) (known hand.new.seat) }
 {
@@ -210,9 +208,8 @@ fn walk<R: Wait>(
     parent: &[u64; 32],
     child: u32,
 ) -> Option<(Posted, Option<Hint>)>
-    requires own { IsHandOf tree.now.store hand.old }
-    requires running { IsRunning hand.old.seat × HasNoStock hand.old.seat }
-    requires process { IsOn tree.now.store.layout (known hand.old.seat) (known hand.old.seat).state }
+    requires runs { Runs tree.now hand.old (known hand.old.seat).state }
+    requires empty { HasNoStock hand.old.seat }
     requires walking { IsWalking errand at parent.now child (known hand.old.seat).state }
     ensures same { IsSameHand hand.old.seat hand.new.seat }
     ensures over { IsPostOver tree.now.store.layout errand (known hand.old.seat) hand.new.seat result }
@@ -241,10 +238,9 @@ fn post_there<R: Wait>(
     at: u32,
     glance: Glance,
 ) -> Option<(Posted, Option<Hint>)>
-    requires own { IsHandOf tree.now.store hand.old }
-    requires running { IsRunning hand.old.seat × HasNoStock hand.old.seat }
+    requires runs { Runs tree.now hand.old (known hand.old.seat).state }
+    requires empty { HasNoStock hand.old.seat }
     requires reads { ReadsFrom hand.old.seat glance }
-    requires process { IsOn tree.now.store.layout (known hand.old.seat) (known hand.old.seat).state }
     requires there { IsThere errand.level errand.key (posting errand (post.Coming (approach.Latched at)) tt) (read_words hand.old.seat) (known hand.old.seat) }
     ensures same { IsSameHand hand.old.seat hand.new.seat }
     ensures over { IsPostOver tree.now.store.layout errand (known hand.old.seat) hand.new.seat result }
@@ -270,10 +266,9 @@ fn post_above<R: Wait>(
     errand: Posting,
     glance: Glance,
 ) -> (Posted, Option<Hint>)
-    requires own { IsHandOf tree.now.store hand.old }
-    requires running { IsRunning hand.old.seat × HasNoStock hand.old.seat }
+    requires runs { Runs tree.now hand.old (known hand.old.seat).state }
+    requires empty { HasNoStock hand.old.seat }
     requires reads { ReadsFrom hand.old.seat glance }
-    requires process { IsOn tree.now.store.layout (known hand.old.seat) (known hand.old.seat).state }
     requires since { (pass : ℕ) × (old : Knows) × IsSince pass old (known hand.old.seat) }
     requires anchor { (c : Page) × (read_words hand.old.seat ≡ words_of c) × Takes (posting errand (post.Coming approach.Start) tt) (seen.Words c) (known hand.old.seat).state }
     ensures same { IsSameHand hand.old.seat hand.new.seat }
@@ -300,9 +295,8 @@ fn post_on<R: Wait>(
     hand: &mut Hand<Mine>,
     errand: Posting,
 ) -> Option<(Posted, Option<Hint>)>
-    requires own { IsHandOf tree.now.store hand.old }
-    requires running { IsRunning hand.old.seat × HasNoStock hand.old.seat }
-    requires process { IsOn tree.now.store.layout (known hand.old.seat) (posting errand (post.Coming approach.Start) tt) }
+    requires runs { Runs tree.now hand.old (posting errand (post.Coming approach.Start) tt) }
+    requires empty { HasNoStock hand.old.seat }
     requires since { (pass : ℕ) × (old : Knows) × IsSince pass old (known hand.old.seat) }
     ensures same { IsSameHand hand.old.seat hand.new.seat }
     ensures over { IsPostOver tree.now.store.layout errand (known hand.old.seat) hand.new.seat result }
@@ -329,9 +323,8 @@ fn post_until<R: Wait>(
     hand: &mut Hand<Mine>,
     errand: Posting,
 ) -> (Posted, Option<Hint>)
-    requires own { IsHandOf tree.now.store hand.old }
-    requires running { IsRunning hand.old.seat × HasNoStock hand.old.seat }
-    requires process { IsOn tree.now.store.layout (known hand.old.seat) (posting errand (post.Coming approach.Start) tt) }
+    requires runs { Runs tree.now hand.old (posting errand (post.Coming approach.Start) tt) }
+    requires empty { HasNoStock hand.old.seat }
     requires since { (pass : ℕ) × (old : Knows) × IsSince pass old (known hand.old.seat) }
     ensures same { IsSameHand hand.old.seat hand.new.seat }
     ensures over { IsPostOver tree.now.store.layout errand (known hand.old.seat) hand.new.seat (Some result) }
@@ -358,9 +351,8 @@ pub fn post_key<R: Wait>(
     requires least { 0 < level }
     requires most { level ≤ 12 }
     ensures same { IsSameHand hand.old.seat hand.new.seat }
-    ensures idle { IsIdle hand.new.seat × HasNoStock hand.new.seat }
-    ensures within { IsWithin hand.new.seat }
-    ensures rests { (known hand.new.seat).runs ≡ false }
+    ensures rests { Rests hand.new.seat }
+    ensures empty { HasNoStock hand.new.seat }
     ensures posted { (first : Proc) × (work_of first ≡ Some (level, key)) × HasPosted hand.old.number (known hand.old.seat) (known hand.new.seat) first result.0 result.1 }
     ensures no_room { result.0 ≡ postings.NoRoom → LacksPost level key hand.new.seat }
 {

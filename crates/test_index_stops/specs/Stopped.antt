@@ -5,18 +5,15 @@ use Rattle.bl_proc.specs.declared.deleting.DeleteStage.TheVariants.{Coming}
 use Rattle.bl_proc.specs.declared.kinds.Proc.TheVariants as proc
 use Rattle.bl_store.specs.declared.store.Glance.{Glance}
 use Rattle.bl_store.specs.declared.store.Hand.{Hand}
-use Rattle.bl_store.specs.Hands.{known, read_words, IsRunning, HasNoStock, ReadsFrom}
-use Rattle.bl_store.specs.Owners.{IsHandOf}
+use Rattle.bl_store.specs.Hands.{known, read_words, HasNoStock, ReadsFrom}
 use Rattle.bl_index_rule.specs.declared.known.Mine.{Mine}
 use Rattle.bl_index_steps.specs.declared.tree.Tree.{Tree}
-use Rattle.bl_index_steps.specs.Runs.{IsOn}
+use Rattle.bl_index_steps.specs.Runs.{Runs}
 use Rattle.bl_index_write.specs.Events.{IsThere}
 
 -- The hand runs a deletion of that key, which holds page at and got it last, as its leaf.
 pub record IsHeld (tree : Tree) (hand : Hand Mine) (key at : ℕ) (glance : Glance) : Type 0 where
-  pub own : IsHandOf tree.store hand
-  pub running : IsRunning hand.seat
+  pub runs : Runs tree hand (known hand.seat).state
   pub empty : HasNoStock hand.seat
   pub reads : ReadsFrom hand.seat glance
-  pub process : IsOn tree.store.layout (known hand.seat) (known hand.seat).state
   pub there : IsThere 0 key (proc.Delete (record { key = key; stage = Coming (Latched at) })) (read_words hand.seat) (known hand.seat)

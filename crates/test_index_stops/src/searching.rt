@@ -4,10 +4,10 @@ ghost use Rattle.std.specs.Prelude.{◌≡◌};
 ghost use Rattle.bl_proc_base.specs.declared.acts.Action.TheVariants as act;
 ghost use Rattle.bl_proc.specs.Searches.{find_next_in};
 ghost use Rattle.bl_proc.specs.declared.kinds.Proc.TheVariants as proc;
-ghost use Rattle.bl_store.specs.Hands.{known, IsIdle, IsRunning, IsSameHand, IsSameStage, IsSameStock};
+ghost use Rattle.bl_store.specs.Hands.{IsIdle, IsSameHand, IsSameStock};
 ghost use Rattle.bl_store.specs.Owners.{IsHandOf};
 ghost use Rattle.bl_index_read.specs.Searching.{IsSearching};
-ghost use Rattle.bl_index_steps.specs.Runs.{IsOn};
+ghost use Rattle.bl_index_steps.specs.Runs.{Runs, Keeps};
 
 use crate::begun::{fill, opened};
 use bl_index::KeyReply;
@@ -30,11 +30,9 @@ fn page_of(stage: FindStage) -> u32
 
 /// The search gets its next page, if it is to get one.
 fn read_on(tree: &Tree, hand: &mut Hand<Mine>, search: &mut Find)
-    requires own { IsHandOf tree.now.store hand.old }
-    requires running { IsRunning hand.old.seat }
-    requires process { IsOn tree.now.store.layout (known hand.old.seat) (proc.Find search.old) }
-    ensures same { IsSameHand hand.old.seat hand.new.seat × IsSameStage hand.old.seat hand.new.seat × IsSameStock hand.old.seat hand.new.seat }
-    ensures process { IsOn tree.now.store.layout (known hand.new.seat) (proc.Find search.new) }
+    requires runs { Runs tree.now hand.old (proc.Find search.old) }
+    ensures same { Keeps hand.old.seat hand.new.seat }
+    ensures runs { Runs tree.now hand.new (proc.Find search.new) }
 {
     if let FindStage::Descending(_) = search.stage {
         let page = page_of(search.stage);
@@ -47,8 +45,7 @@ fn read_two(tree: &Tree, hand: &mut Hand<Mine>, key: u64) -> Find
     requires own { IsHandOf tree.now.store hand.old }
     requires idle { IsIdle hand.old.seat }
     ensures same { IsSameHand hand.old.seat hand.new.seat × IsSameStock hand.old.seat hand.new.seat }
-    ensures running { IsRunning hand.new.seat }
-    ensures process { IsOn tree.now.store.layout (known hand.new.seat) (proc.Find result) }
+    ensures runs { Runs tree.now hand.new (proc.Find result) }
 {
     let mut search = Find::new(key);
     tree.begin(hand, &mut search);
@@ -59,9 +56,7 @@ fn read_two(tree: &Tree, hand: &mut Hand<Mine>, key: u64) -> Find
 
 /// The search gets two pages more, and ends with what it found, if it has come to its leaf.
 fn read_rest(tree: &Tree, hand: &mut Hand<Mine>, search: Find) -> Option<Option<u64>>
-    requires own { IsHandOf tree.now.store hand.old }
-    requires running { IsRunning hand.old.seat }
-    requires process { IsOn tree.now.store.layout (known hand.old.seat) (proc.Find search) }
+    requires runs { Runs tree.now hand.old (proc.Find search) }
 {
     let mut search = search;
     read_on(tree, hand, &mut search);

@@ -11,11 +11,11 @@ use Rattle.bl_index_read.proofs.finding.find_key.Goals as goal
 pub loop-turn-init : goal.loop-turn-init
 loop-turn-init c =
     let going : IsSearching c.begin.new.process.stage = search rules in
-    let state = c.begin.ensures.process.state in
+    let state = c.begin.ensures.runs.on.state in
     record {
       same = search rules;
       running = search rules;
-      process = c.begin.ensures.process;
+      process = c.begin.ensures.runs.on;
       since = c.begin.ensures.begun;
       key = search rules;
       going = going;
@@ -26,7 +26,7 @@ pub loop-turn-preserved : goal.loop-turn-preserved
 loop-turn-preserved c =
     let inv = c.loop-turn.invariant in
     let takes = c.read.ensures.takes in
-    let process = c.read.ensures.process in
+    let process = c.read.ensures.runs.on in
     let going = searches_on _ _ _ takes.0 inv.going takes.1.1 c.in_default.not-Ending in
     record {
       same = search rules;
@@ -42,7 +42,7 @@ pub returns-in-Ending-clause-answers : goal.returns-in-Ending-clause-answers
 returns-in-Ending-clause-answers c =
     let inv = c.loop-turn.invariant in
     let takes = c.read.ensures.takes in
-    let process = c.read.ensures.process in
+    let process = c.read.ensures.runs.on in
     let since = since_step _ _ _ _ _ inv.since c.read.ensures.moves.1.steps in
     let le : c.loop-turn._turn + 1 ≤ c.args.turns = omega arith in
     let found = at_found _ _ _ _ _ inv.since.named inv.since.number inv.turn _ _ _ _ process.pages since.named since.number c.read.ensures.got (find_is_search _ _ process.state) c.finish.ensures.told c.args.turns le in

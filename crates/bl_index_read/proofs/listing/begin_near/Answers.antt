@@ -1,4 +1,4 @@
-use Rattle.std.proofs.Common.{refl, sym, ◌∙◌}
+use Rattle.std.proofs.Common.{rules, refl, sym, ◌∙◌}
 use Rattle.bl_proc_base.specs.declared.acts.Seen.TheVariants as seen
 use Rattle.bl_proc.specs.declared.parts.PartStage.TheVariants.{Near, Probing}
 use Rattle.bl_proc_unique.proofs.Parts.{part_goes}
@@ -10,10 +10,13 @@ use Rattle.bl_index_read.proofs.listing.begin_near.Goals as goal
 pub launch_part-requires-clause-course : goal.launch_part-requires-clause-course
 launch_part-requires-clause-course c = part_goes (record { from = c.args.from; stage = Near c.args.page }) seen.Done refl tt
 
-pub returns-clause-process : goal.returns-clause-process
-returns-clause-process c =
-    let told = c.launch_part.ensures.told in
-    record { runs = told.runs; state = told.state ∙ sym (told.course.only (listing c.args.from (Probing c.args.page)) (refl, refl)); pages = told.pages; passes = told.passes; near = told.near; held = begins_held _ _ _ _ _ _ told refl }
+pub returns-clause-runs : goal.returns-clause-runs
+returns-clause-runs c = record {
+  own = search rules;
+  running = search rules;
+  on = (let told = c.launch_part.ensures.told in
+      record { runs = told.runs; state = told.state ∙ sym (told.course.only (listing c.args.from (Probing c.args.page)) (refl, refl)); pages = told.pages; passes = told.passes; near = told.near; held = begins_held _ _ _ _ _ _ told refl });
+}
 
 pub returns-clause-begun : goal.returns-clause-begun
 returns-clause-begun c = since_begin _ _ _ _ _ _ c.launch_part.ensures.told

@@ -9,29 +9,27 @@ use Rattle.bl_index_read.proofs.Listings.{descent_course, reached_by, page_reach
 use Rattle.bl_index_steps.proofs.Standing.{on_itself}
 use Rattle.bl_index_read.proofs.listing.list_on.Goals as goal
 
-pub look-glance-requires-clause-process : goal.look-glance-requires-clause-process
-look-glance-requires-clause-process c = on_itself _ _ _ c.requires.process
+pub look-glance-requires-clause-runs : goal.look-glance-requires-clause-runs
+look-glance-requires-clause-runs c = record {
+  own = c.requires.runs.own;
+  running = c.requires.runs.running;
+  on = (on_itself _ _ _ c.requires.runs.on);
+}
 
 pub look-glance-requires-clause-next : goal.look-glance-requires-clause-next
-look-glance-requires-clause-next c = ap next_of c.requires.process.state ∙ ap act.Get (sym c.page.ensures)
+look-glance-requires-clause-next c = ap next_of c.requires.runs.on.state ∙ ap act.Get (sym c.page.ensures)
 
 pub look-glance-requires-clause-course : goal.look-glance-requires-clause-course
-look-glance-requires-clause-course c = λ page. descent_course c.args.from c.args.descent page _ c.requires.process.state
-
-pub look-glance-requires-clause-own : goal.look-glance-requires-clause-own
-look-glance-requires-clause-own c = c.requires.own
-
-pub look-glance-requires-clause-running : goal.look-glance-requires-clause-running
-look-glance-requires-clause-running c = c.requires.running
+look-glance-requires-clause-course c = λ page. descent_course c.args.from c.args.descent page _ c.requires.runs.on.state
 
 pub returns-in-On-clause-reached : goal.returns-in-On-clause-reached
 returns-in-On-clause-reached c =
     let went = c.look-glance.ensures.goes in
     subst (λ (h : Hand Mine). HasReached c.args.from c.args.tree.now.store.layout h.seat (reached_by (On c.in-On.next) c.look-glance.result)) (sym c.in-On.ensures.same)
-    (page_reached _ c.args.from c.args.descent went.0 _ c.look-glance.new.hand.seat c.look-glance.result c.requires.process went.2 c.look-glance.ensures.reads went.1 (On c.in-On.next) (c.in-On.ensures.goes went.0 went.1))
+    (page_reached _ c.args.from c.args.descent went.0 _ c.look-glance.new.hand.seat c.look-glance.result c.requires.runs.on went.2 c.look-glance.ensures.reads went.1 (On c.in-On.next) (c.in-On.ensures.goes went.0 went.1))
 
 pub returns-in-Here-clause-reached : goal.returns-in-Here-clause-reached
 returns-in-Here-clause-reached c =
     let went = c.look-glance.ensures.goes in
     subst (λ (h : Hand Mine). HasReached c.args.from c.args.tree.now.store.layout h.seat (reached_by Here c.look-glance.result)) (sym c.in-Here.ensures.same)
-    (page_reached _ c.args.from c.args.descent went.0 _ c.look-glance.new.hand.seat c.look-glance.result c.requires.process went.2 c.look-glance.ensures.reads went.1 Here (c.in-Here.ensures.goes went.0 went.1))
+    (page_reached _ c.args.from c.args.descent went.0 _ c.look-glance.new.hand.seat c.look-glance.result c.requires.runs.on went.2 c.look-glance.ensures.reads went.1 Here (c.in-Here.ensures.goes went.0 went.1))

@@ -1,4 +1,4 @@
-use Rattle.std.proofs.Common.{ℕ, List, ap, sym, subst, refl, ◌∙◌}
+use Rattle.std.proofs.Common.{rules, ℕ, List, ap, sym, subst, refl, ◌∙◌}
 use Rattle.bl_store.specs.Hands.{known, read_words}
 use Rattle.bl_store.specs.declared.store.Hand.{Hand}
 use Rattle.bl_index_rule.specs.declared.known.Mine.{Mine}
@@ -32,11 +32,12 @@ come_to_leaf-requires-clause-own c = c.requires.own
 pub come_to_leaf-requires-clause-idle : goal.come_to_leaf-requires-clause-idle
 come_to_leaf-requires-clause-idle c = c.requires.idle
 
-pub returns-clause-idle : goal.returns-clause-idle
-returns-clause-idle c = c.end_part.ensures.idle
-
-pub returns-clause-within : goal.returns-clause-within
-returns-clause-within c = c.end_part.ensures.within
+pub returns-clause-rests : goal.returns-clause-rests
+returns-clause-rests c = record {
+  idle = c.end_part.ensures.idle;
+  within = c.end_part.ensures.within;
+  over = search rules;
+}
 
 pub returns-in_default-clause-same : goal.returns-in_default-clause-same
 returns-in_default-clause-same c = c.come_to_leaf.ensures.same

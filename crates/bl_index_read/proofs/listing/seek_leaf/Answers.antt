@@ -13,7 +13,7 @@ loop-turn-init c =
     record {
       same = search rules;
       running = search rules;
-      process = c.requires.process;
+      process = c.requires.runs.on;
       since = λ old pass s. s;
       turn = λ old pass got s t. subst (λ (z : ℕ). IsAtTurn c.args.tree.now.store.layout.pages pass (old.number + 1) z (known c.args.hand.now.seat).trail) (let z : got ≡ got + 0 = omega arith in z) t;
     }

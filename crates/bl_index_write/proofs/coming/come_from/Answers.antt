@@ -15,7 +15,7 @@ loop-preserved-in-Away g c =
     let looked = same_all _ _ _ latched c.look_there.ensures.since in
     record {
       same = search rules;
-      process = c.leave_for-from.ensures.process;
+      process = c.leave_for-from.ensures.runs.on;
       free = c.leave_for-from.ensures.free;
       since = same_all _ _ _ looked c.leave_for-from.ensures.since;
     }

@@ -20,9 +20,9 @@ returns-in-Here-clause-arrived g c =
     let layout = c.args.tree.now.store.layout in
     let went = c.look-glance.ensures.goes in
     let leads = subst (λ (z : ℕ × ℕ). Leads went.0 z.0 z.1 Here) (λ i. (c.key.ensures i, c.level.ensures i)) (c.in-Here.ensures.leads went.0 went.1) in
-    let takes = subst (λ (z : Proc). Takes z (seen.Words went.0) (known c.look-glance.new.hand.seat).state) c.requires.process.state (goes_takes _ _ _ went.2) in
+    let takes = subst (λ (z : Proc). Takes z (seen.Words went.0) (known c.look-glance.new.hand.seat).state) c.requires.runs.on.state (goes_takes _ _ _ went.2) in
     subst (λ (h : Hand Mine). HasArrived (g.J.Errand.level_of j) (g.J.Errand.key_of j) (g.J.Errand.at j) c.args.page layout h.seat (There c.look-glance.result)) (sym c.in-Here.ensures.same)
-    (c.look-glance.ensures.reads, record { page = went.0; is = went.1; leads = leads; takes = takes }, on_after layout _ _ _ _ c.requires.process went.2)
+    (c.look-glance.ensures.reads, record { page = went.0; is = went.1; leads = leads; takes = takes }, on_after layout _ _ _ _ c.requires.runs.on went.2)
 
 pub returns-in-Here-clause-since : goal.returns-in-Here-clause-since
 returns-in-Here-clause-since g c = subst (λ (h : Hand Mine). IsSameProcess (known c.args.hand.now.seat) (known h.seat)) (sym c.in-Here.ensures.same) (same_goes _ _ _ c.look-glance.ensures.goes.2)
@@ -33,7 +33,7 @@ returns-in-Right-clause-arrived g c =
     let layout = c.args.tree.now.store.layout in
     let went = c.look-glance.ensures.goes in
     let leads = subst (λ (z : ℕ × ℕ). Leads went.0 z.0 z.1 (Right c.in-Right.next)) (λ i. (c.key.ensures i, c.level.ensures i)) (c.in-Right.ensures.leads went.0 went.1) in
-    let on = on_goes layout (seen.Words went.0) _ _ _ _ c.requires.process went.2 (g.met.J.Errand.goes j (approach.Latched c.args.page) (approach.Leaving c.args.page (Some c.in-Right.next)) (seen.Words went.0) tt (refl, ((Right c.in-Right.next), leads, refl))) in
+    let on = on_goes layout (seen.Words went.0) _ _ _ _ c.requires.runs.on went.2 (g.met.J.Errand.goes j (approach.Latched c.args.page) (approach.Leaving c.args.page (Some c.in-Right.next)) (seen.Words went.0) tt (refl, ((Right c.in-Right.next), leads, refl))) in
     subst (λ (h : Hand Mine). IsOn layout (known h.seat) (g.J.Errand.at j (approach.Leaving c.args.page (Some c.in-Right.next)))) (sym c.in-Right.ensures.same) on
 
 pub returns-in-Right-clause-since : goal.returns-in-Right-clause-since
@@ -45,7 +45,7 @@ returns-in-Down-clause-arrived g c =
     let layout = c.args.tree.now.store.layout in
     let went = c.look-glance.ensures.goes in
     let leads = subst (λ (z : ℕ × ℕ). Leads went.0 z.0 z.1 (Down c.in-Down._child)) (λ i. (c.key.ensures i, c.level.ensures i)) (c.in-Down.ensures.leads went.0 went.1) in
-    let on = on_goes layout (seen.Words went.0) _ _ _ _ c.requires.process went.2 (g.met.J.Errand.goes j (approach.Latched c.args.page) (approach.Leaving c.args.page None) (seen.Words went.0) tt (refl, ((Down c.in-Down._child), leads, refl))) in
+    let on = on_goes layout (seen.Words went.0) _ _ _ _ c.requires.runs.on went.2 (g.met.J.Errand.goes j (approach.Latched c.args.page) (approach.Leaving c.args.page None) (seen.Words went.0) tt (refl, ((Down c.in-Down._child), leads, refl))) in
     subst (λ (h : Hand Mine). IsOn layout (known h.seat) (g.J.Errand.at j (approach.Leaving c.args.page None))) (sym c.in-Down.ensures.same) on
 
 pub returns-in-Down-clause-since : goal.returns-in-Down-clause-since
@@ -57,7 +57,7 @@ returns-in-Again-clause-arrived g c =
     let layout = c.args.tree.now.store.layout in
     let went = c.look-glance.ensures.goes in
     let leads = subst (λ (z : ℕ × ℕ). Leads went.0 z.0 z.1 Again) (λ i. (c.key.ensures i, c.level.ensures i)) (c.in-Again.ensures.leads went.0 went.1) in
-    let on = on_goes layout (seen.Words went.0) _ _ _ _ c.requires.process went.2 (g.met.J.Errand.goes j (approach.Latched c.args.page) (approach.Leaving c.args.page None) (seen.Words went.0) tt (refl, (Again, leads, refl))) in
+    let on = on_goes layout (seen.Words went.0) _ _ _ _ c.requires.runs.on went.2 (g.met.J.Errand.goes j (approach.Latched c.args.page) (approach.Leaving c.args.page None) (seen.Words went.0) tt (refl, (Again, leads, refl))) in
     subst (λ (h : Hand Mine). IsOn layout (known h.seat) (g.J.Errand.at j (approach.Leaving c.args.page None))) (sym c.in-Again.ensures.same) on
 
 pub returns-in-Again-clause-since : goal.returns-in-Again-clause-since

@@ -5,7 +5,7 @@ use Rattle.bl_index_write.proofs.coming.seek.Goals as goal
 pub loop-preserved : goal.loop-preserved
 loop-preserved g c = record {
   same = search rules;
-  process = c.look_on-approach.ensures.process;
+  process = c.look_on-approach.ensures.runs.on;
   free = c.look_on-approach.ensures.free;
   since = same_all _ _ _ c.loop.invariant.since c.look_on-approach.ensures.since;
 }

@@ -1,4 +1,4 @@
-use Rattle.std.proofs.Common.{◌≡◌, Some, sym, subst}
+use Rattle.std.proofs.Common.{rules, ◌≡◌, Some, sym, subst}
 use Rattle.bl_model.specs.Rows.{map_of}
 use Rattle.bl_page.specs.declared.page.Page.{Page}
 use Rattle.bl_page.specs.Words.{words_of}
@@ -9,12 +9,13 @@ use Rattle.bl_proc_base.specs.declared.changing.Change.TheVariants as change
 use Rattle.bl_proc_base.specs.Respelled.{words_by}
 use Rattle.bl_proc_base.specs.Thin.{thin_low}
 use Rattle.bl_proc.specs.declared.deleting.DeleteStage.TheVariants as delete
-use Rattle.bl_store.specs.Hands.{known, read_words}
+use Rattle.bl_store.specs.Hands.{known, read_words, IsRunning}
 use Rattle.bl_store.specs.declared.store.Hand.{Hand}
 use Rattle.bl_index_rule.specs.declared.known.Mine.{Mine}
 use Rattle.bl_index_steps.specs.Runs.{IsOn}
 use Rattle.bl_index_steps.proofs.Standing.{on_as}
-use Rattle.bl_index_write.proofs.Deleted.{deleting, stands_absent, stands_removing}
+use Rattle.bl_index_write.specs.Events.{deleting}
+use Rattle.bl_index_write.proofs.Deleted.{stands_absent, stands_removing}
 use Rattle.bl_index_write.proofs.deleting.delete_there.Goals as goal
 
 pub remove-requires-clause-page : goal.remove-requires-clause-page
@@ -23,11 +24,14 @@ remove-requires-clause-page c =
     let there = c.requires.there in
     let stands = stands_removing key c.args.at there.page _ there.takes there.leads value (c.in-Some.ensures.row there.page there.is) in
     subst (λ (h : Hand Mine). (x : Page) × (p : Page) × IsTreePage x × IsTreePage p × (read_words h.seat ≡ words_of x) × (map_of (pairs_of x) key ≡ Some value) × (words_of p ≡ words_by x (dropped key (pairs_of x))) × IsOn c.args.tree.now.store.layout (known h.seat) (deleting key (delete.Changing (record { value = value; thin = thin_low p }) (change.Putting c.args.at p))))
-    (sym c.in-Some.ensures.same) (there.page, stands.0, there.leads.0, stands.1, there.is, stands.2, stands.3, on_as _ _ _ c.requires.process stands.4)
+    (sym c.in-Some.ensures.same) (there.page, stands.0, there.leads.0, stands.1, there.is, stands.2, stands.3, on_as _ _ _ c.requires.runs.on stands.4)
 
-pub keep_absent-requires-clause-process : goal.keep_absent-requires-clause-process
-keep_absent-requires-clause-process c =
-    let key = c.args.errand.key in
-    let there = c.requires.there in
-    let stands = stands_absent key c.args.at there.page _ there.takes there.leads (c.in-None.ensures.row there.page there.is) in
-    subst (λ (h : Hand Mine). IsOn c.args.tree.now.store.layout (known h.seat) (deleting key (delete.Absent c.args.at))) (sym c.in-None.ensures.same) (on_as _ _ _ c.requires.process stands)
+pub keep_absent-requires-clause-runs : goal.keep_absent-requires-clause-runs
+keep_absent-requires-clause-runs c = record {
+  own = search rules;
+  running = subst (λ (h : Hand Mine). IsRunning h.seat) (sym c.in-None.ensures.same) (search rules);
+  on = (let key = c.args.errand.key in
+      let there = c.requires.there in
+      let stands = stands_absent key c.args.at there.page _ there.takes there.leads (c.in-None.ensures.row there.page there.is) in
+      subst (λ (h : Hand Mine). IsOn c.args.tree.now.store.layout (known h.seat) (deleting key (delete.Absent c.args.at))) (sym c.in-None.ensures.same) (on_as _ _ _ c.requires.runs.on stands));
+}

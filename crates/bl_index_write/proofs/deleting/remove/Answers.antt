@@ -1,4 +1,4 @@
-use Rattle.std.proofs.Common.{ℕ, Bool, Option, refl, sym, ap, subst, ◌∙◌}
+use Rattle.std.proofs.Common.{rules, ℕ, Bool, Option, refl, sym, ap, subst, ◌∙◌}
 use Rattle.bl_model.specs.declared.operation.Reply.TheVariants as answered
 use Rattle.bl_proc_base.specs.declared.answers.Answer.TheVariants.{Op}
 use Rattle.bl_proc_base.specs.declared.changing.Change.TheVariants as change
@@ -7,21 +7,26 @@ use Rattle.bl_proc.specs.declared.deleting.Removed.{Removed}
 use Rattle.bl_proc.specs.declared.deleting.DeleteStage.TheVariants as delete
 use Rattle.bl_proc.specs.Deletes.{delete_reply, deleted_answer}
 use Rattle.bl_proc.specs.Processes.{next_of}
-use Rattle.bl_store.specs.Hands.{known}
+use Rattle.bl_store.specs.Hands.{known, IsRunning}
 use Rattle.bl_store.specs.declared.store.Hand.{Hand}
 use Rattle.bl_index_rule.specs.declared.known.Mine.{Mine}
 use Rattle.bl_index_steps.specs.Runs.{IsOn, IsSince}
 use Rattle.bl_index_steps.proofs.Standing.{goes_put, same_goes, on_itself, on_after, opens_at}
 use Rattle.bl_index_write.proofs.Inserted.{outcome_by}
-use Rattle.bl_index_write.proofs.Deleted.{deleting, removing_courses, stands_removed, opens_removed, has_deleted}
+use Rattle.bl_index_write.specs.Events.{deleting}
+use Rattle.bl_index_write.proofs.Deleted.{removing_courses, stands_removed, opens_removed, has_deleted}
 use Rattle.bl_index_steps.proofs.Rooms.{refused_on}
 use Rattle.bl_index_write.proofs.deleting.remove.Goals as goal
 
 pub words_without-requires-clause-page : goal.words_without-requires-clause-page
 words_without-requires-clause-page c = let h = c.requires.page in (h.0, h.2, h.4, rw h.5 refl)
 
-pub replace-changed-requires-clause-process : goal.replace-changed-requires-clause-process
-replace-changed-requires-clause-process c = subst (λ (h : Hand Mine). IsOn c.args.tree.now.store.layout (known h.seat) (known h.seat).state) (sym c.words_without.ensures.same) (on_itself _ _ _ c.requires.page.7)
+pub replace-changed-requires-clause-runs : goal.replace-changed-requires-clause-runs
+replace-changed-requires-clause-runs c = record {
+  own = search rules;
+  running = subst (λ (h : Hand Mine). IsRunning h.seat) (sym c.words_without.ensures.same) (search rules);
+  on = (subst (λ (h : Hand Mine). IsOn c.args.tree.now.store.layout (known h.seat) (known h.seat).state) (sym c.words_without.ensures.same) (on_itself _ _ _ c.requires.page.7));
+}
 
 pub replace-changed-requires-clause-next : goal.replace-changed-requires-clause-next
 replace-changed-requires-clause-next c =
@@ -31,11 +36,14 @@ replace-changed-requires-clause-next c =
 pub replace-changed-requires-clause-course : goal.replace-changed-requires-clause-course
 replace-changed-requires-clause-course c = removing_courses c.args.errand.key c.args.at (record { value = c.args.value; thin = thin_low c.requires.page.1 }) c.requires.page.1 _ (ap (λ (h : Hand Mine). (known h.seat).state) c.words_without.ensures.same ∙ c.requires.page.7.state)
 
-pub conclude-requires-clause-process : goal.conclude-requires-clause-process
-conclude-requires-clause-process c =
-    let goes = goes_put c.replace-changed.result _ _ c.replace-changed.ensures.done c.replace-changed.ensures.refused in
-    let on = subst (λ (h : Hand Mine). IsOn c.args.tree.now.store.layout (known h.seat) (deleting c.args.errand.key (delete.Changing (record { value = c.args.value; thin = thin_low c.requires.page.1 }) (change.Putting c.args.at c.requires.page.1)))) (sym c.words_without.ensures.same) c.requires.page.7 in
-    on_after _ _ _ _ _ on goes
+pub conclude-requires-clause-runs : goal.conclude-requires-clause-runs
+conclude-requires-clause-runs c = record {
+  own = search rules;
+  running = search rules;
+  on = (let goes = goes_put c.replace-changed.result _ _ c.replace-changed.ensures.done c.replace-changed.ensures.refused in
+      let on = subst (λ (h : Hand Mine). IsOn c.args.tree.now.store.layout (known h.seat) (deleting c.args.errand.key (delete.Changing (record { value = c.args.value; thin = thin_low c.requires.page.1 }) (change.Putting c.args.at c.requires.page.1)))) (sym c.words_without.ensures.same) c.requires.page.7 in
+      on_after _ _ _ _ _ on goes);
+}
 
 pub conclude-requires-clause-opens : goal.conclude-requires-clause-opens
 conclude-requires-clause-opens c =

@@ -1,4 +1,4 @@
-use Rattle.std.proofs.Common.{inl, Bool, refl, ap, ◌∙◌}
+use Rattle.std.proofs.Common.{rules, inl, Bool, refl, ap, ◌∙◌}
 use Rattle.bl_proc.specs.declared.inserting.InsertStage.TheVariants as insert
 use Rattle.bl_proc.specs.Inserts.{insert_reply, inserted_answer}
 use Rattle.bl_proc.specs.Processes.{next_of}
@@ -7,12 +7,17 @@ use Rattle.bl_store.specs.Hands.{known}
 use Rattle.bl_index_steps.specs.Refused.{HasRoom}
 use Rattle.bl_index_steps.proofs.Held.{goes_keeps, keeps_both, keeps_held, put_latches_not}
 use Rattle.bl_index_steps.proofs.Standing.{goes_put, same_goes, on_itself, on_held, on_after, opens_at}
-use Rattle.bl_index_write.proofs.Inserted.{inserting, outcome_by, put_courses, stands_opening, opens_changed, has_inserted}
+use Rattle.bl_index_write.specs.Events.{inserting}
+use Rattle.bl_index_write.proofs.Inserted.{outcome_by, put_courses, stands_opening, opens_changed, has_inserted}
 use Rattle.bl_index_steps.proofs.Rooms.{refused_on}
 use Rattle.bl_index_write.proofs.inserting.enter.Goals as goal
 
-pub replace_spread-changed-requires-clause-process : goal.replace_spread-changed-requires-clause-process
-replace_spread-changed-requires-clause-process c = on_itself _ _ _ c.requires.page.2
+pub replace_spread-changed-requires-clause-runs : goal.replace_spread-changed-requires-clause-runs
+replace_spread-changed-requires-clause-runs c = record {
+  own = search rules;
+  running = search rules;
+  on = (on_itself _ _ _ c.requires.page.2);
+}
 
 pub replace_spread-changed-requires-clause-next : goal.replace_spread-changed-requires-clause-next
 replace_spread-changed-requires-clause-next c = (c.requires.page.0, ap next_of c.requires.page.2.state, c.requires.page.1)
@@ -20,10 +25,13 @@ replace_spread-changed-requires-clause-next c = (c.requires.page.0, ap next_of c
 pub replace_spread-changed-requires-clause-course : goal.replace_spread-changed-requires-clause-course
 replace_spread-changed-requires-clause-course c = put_courses c.args.errand.key c.args.errand.value c.args.at c.requires.page.0 _ c.requires.page.2.state
 
-pub conclude-requires-clause-process : goal.conclude-requires-clause-process
-conclude-requires-clause-process c =
-    let goes = goes_put c.replace_spread-changed.result _ _ c.replace_spread-changed.ensures.done c.replace_spread-changed.ensures.refused in
-    on_after _ _ _ _ _ c.requires.page.2 goes
+pub conclude-requires-clause-runs : goal.conclude-requires-clause-runs
+conclude-requires-clause-runs c = record {
+  own = search rules;
+  running = search rules;
+  on = (let goes = goes_put c.replace_spread-changed.result _ _ c.replace_spread-changed.ensures.done c.replace_spread-changed.ensures.refused in
+      on_after _ _ _ _ _ c.requires.page.2 goes);
+}
 
 pub conclude-requires-clause-opens : goal.conclude-requires-clause-opens
 conclude-requires-clause-opens c =

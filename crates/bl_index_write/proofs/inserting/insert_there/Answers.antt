@@ -1,4 +1,4 @@
-use Rattle.std.proofs.Common.{◌≡◌, ℕ, ◌+◌, ◌<◌, ◌≤◌, List, Option, Some, length, sym, ap, subst, ◌∙◌, get_or, arith}
+use Rattle.std.proofs.Common.{rules, ◌≡◌, ℕ, ◌+◌, ◌<◌, ◌≤◌, List, Option, Some, length, sym, ap, subst, ◌∙◌, get_or, arith}
 use Rattle.bl_model.specs.Rows.{map_of}
 use Rattle.bl_claims.specs.Pages.{node_of}
 use Rattle.bl_page.specs.declared.page.Page.{Page}
@@ -11,12 +11,13 @@ use Rattle.bl_proc_base.specs.declared.changing.Full.{Full}
 use Rattle.bl_proc_base.proofs.Spellings.{tree_pairs, tree_lists, pairs_counted}
 use Rattle.bl_proc.specs.declared.inserting.InsertStage.TheVariants as insert
 use Rattle.bl_store.specs.Drafts.{IsSpread}
-use Rattle.bl_store.specs.Hands.{known, read_words}
+use Rattle.bl_store.specs.Hands.{known, read_words, IsRunning}
 use Rattle.bl_store.specs.declared.store.Hand.{Hand}
 use Rattle.bl_index_rule.specs.declared.known.Mine.{Mine}
 use Rattle.bl_index_steps.specs.Runs.{IsOn}
 use Rattle.bl_index_steps.proofs.Standing.{on_as, none_of}
-use Rattle.bl_index_write.proofs.Inserted.{inserting, stands_putting, stands_present, stands_taking}
+use Rattle.bl_index_write.specs.Events.{inserting}
+use Rattle.bl_index_write.proofs.Inserted.{stands_putting, stands_present, stands_taking}
 use Rattle.bl_index_write.proofs.Spreading.{spread_entered}
 use Rattle.bl_index_write.proofs.inserting.insert_there.Goals as goal
 
@@ -35,12 +36,15 @@ pub listed_at-requires-clause-within : goal.listed_at-requires-clause-within
 listed_at-requires-clause-within c = let there = c.requires.there in let read : c.word-head.result ≡ get_or (read_words c.args.hand.now.seat) 0 0 = c.word-head.ensures.word in
     let few = (tree_pairs there.page (read_words c.args.hand.now.seat) there.leads.0 there.is).few in let most = c.place_in-place.ensures.within in omega arith
 
-pub keep_present-requires-clause-process : goal.keep_present-requires-clause-process
-keep_present-requires-clause-process c =
-    let key = c.args.errand.key in let there = c.requires.there in let words = read_words c.args.hand.now.seat in
-    let row : Some c.in-Some.there ≡ (node_of there.page).look key = c.in-Some.ensures.listed ∙ (ap (λ (h : Hand Mine). map_of (pairs_in_words (read_words h.seat)) key) (c.place_in-place.ensures.same ∙ c.word-head.ensures.same) ∙ ap (λ (look : ℕ → Option ℕ). look key) (tree_lists there.page words there.leads.0 there.is)) in
-    subst (λ (h : Hand Mine). IsOn c.args.tree.now.store.layout (known h.seat) (inserting key c.args.errand.value (insert.Present c.args.at c.in-Some.there))) (sym (c.listed_at.ensures.same ∙ (c.place_in-place.ensures.same ∙ c.word-head.ensures.same)))
-    (on_as _ _ _ c.requires.process (stands_present key c.args.errand.value c.args.at there.page _ there.takes there.leads c.in-Some.there row))
+pub keep_present-requires-clause-runs : goal.keep_present-requires-clause-runs
+keep_present-requires-clause-runs c = record {
+  own = search rules;
+  running = subst (λ (h : Hand Mine). IsRunning h.seat) (sym (c.listed_at.ensures.same ∙ (c.place_in-place.ensures.same ∙ c.word-head.ensures.same))) (search rules);
+  on = (let key = c.args.errand.key in let there = c.requires.there in let words = read_words c.args.hand.now.seat in
+      let row : Some c.in-Some.there ≡ (node_of there.page).look key = c.in-Some.ensures.listed ∙ (ap (λ (h : Hand Mine). map_of (pairs_in_words (read_words h.seat)) key) (c.place_in-place.ensures.same ∙ c.word-head.ensures.same) ∙ ap (λ (look : ℕ → Option ℕ). look key) (tree_lists there.page words there.leads.0 there.is)) in
+      subst (λ (h : Hand Mine). IsOn c.args.tree.now.store.layout (known h.seat) (inserting key c.args.errand.value (insert.Present c.args.at c.in-Some.there))) (sym (c.listed_at.ensures.same ∙ (c.place_in-place.ensures.same ∙ c.word-head.ensures.same)))
+      (on_as _ _ _ c.requires.runs.on (stands_present key c.args.errand.value c.args.at there.page _ there.takes there.leads c.in-Some.there row)));
+}
 
 pub enter-requires-clause-page : goal.enter-requires-clause-page
 enter-requires-clause-page c =
@@ -54,7 +58,7 @@ enter-requires-clause-page c =
     let spread = spread_entered there.page stands.0 key value c.word-head.result c.place_in-place.result there.leads.0 room stands.1 top at in
     subst (λ (h : Hand Mine). (x : Page) × IsSpread (record { first = c.word-head.result + 1; place = c.place_in-place.result; key = key; word = value }) (read_words h.seat) (words_of x) × IsOn c.args.tree.now.store.layout (known h.seat) (inserting key value (insert.Changing (change.Putting c.args.at x))))
     (sym (c.listed_at.ensures.same ∙ (c.place_in-place.ensures.same ∙ c.word-head.ensures.same)))
-    (stands.0, subst (λ (w : List ℕ). IsSpread (record { first = c.word-head.result + 1; place = c.place_in-place.result; key = key; word = value }) w (words_of stands.0)) (sym there.is) spread, on_as _ _ _ c.requires.process stands.2)
+    (stands.0, subst (λ (w : List ℕ). IsSpread (record { first = c.word-head.result + 1; place = c.place_in-place.result; key = key; word = value }) w (words_of stands.0)) (sym there.is) spread, on_as _ _ _ c.requires.runs.on stands.2)
 
 pub part_leaf-requires-clause-full : goal.part_leaf-requires-clause-full
 part_leaf-requires-clause-full c =
@@ -64,13 +68,10 @@ part_leaf-requires-clause-full c =
     let full : 14 ≤ length (pairs_of there.page) = omega (arith, c.word-head.ensures.word, pairs_counted there.page words there.leads.0 there.is, c.if-count-lt14.false) in
     let stands = stands_taking key value c.args.at there.page _ there.takes there.leads none full in
     subst (λ (h : Hand Mine). (f : Full) × (f.at ≡ c.args.at) × (f.key ≡ key) × (f.word ≡ value) × (read_words h.seat ≡ words_of f.page) × IsOn c.args.tree.now.store.layout (known h.seat) (inserting key value (insert.Changing (change.Taking f))))
-    (sym (c.listed_at.ensures.same ∙ (c.place_in-place.ensures.same ∙ c.word-head.ensures.same))) (stands.0, stands.1, stands.2, stands.3, there.is ∙ ap words_of (sym stands.4), on_as _ _ _ c.requires.process stands.5)
+    (sym (c.listed_at.ensures.same ∙ (c.place_in-place.ensures.same ∙ c.word-head.ensures.same))) (stands.0, stands.1, stands.2, stands.3, there.is ∙ ap words_of (sym stands.4), on_as _ _ _ c.requires.runs.on stands.5)
 
-pub returns-else-count-lt14-clause-idle : goal.returns-else-count-lt14-clause-idle
-returns-else-count-lt14-clause-idle c = c.part_leaf.ensures.idle
-
-pub returns-else-count-lt14-clause-within : goal.returns-else-count-lt14-clause-within
-returns-else-count-lt14-clause-within c = c.part_leaf.ensures.within
+pub returns-else-count-lt14-clause-empty : goal.returns-else-count-lt14-clause-empty
+returns-else-count-lt14-clause-empty c = c.part_leaf.ensures.empty
 
 pub returns-else-count-lt14-clause-rests : goal.returns-else-count-lt14-clause-rests
 returns-else-count-lt14-clause-rests c = c.part_leaf.ensures.rests
@@ -78,11 +79,8 @@ returns-else-count-lt14-clause-rests c = c.part_leaf.ensures.rests
 pub returns-else-count-lt14-clause-no_room : goal.returns-else-count-lt14-clause-no_room
 returns-else-count-lt14-clause-no_room c = c.part_leaf.ensures.no_room
 
-pub returns-then-count-lt14-clause-idle : goal.returns-then-count-lt14-clause-idle
-returns-then-count-lt14-clause-idle c = c.enter.ensures.idle
-
-pub returns-then-count-lt14-clause-within : goal.returns-then-count-lt14-clause-within
-returns-then-count-lt14-clause-within c = c.enter.ensures.within
+pub returns-then-count-lt14-clause-empty : goal.returns-then-count-lt14-clause-empty
+returns-then-count-lt14-clause-empty c = c.enter.ensures.empty
 
 pub returns-then-count-lt14-clause-rests : goal.returns-then-count-lt14-clause-rests
 returns-then-count-lt14-clause-rests c = c.enter.ensures.rests
@@ -90,11 +88,8 @@ returns-then-count-lt14-clause-rests c = c.enter.ensures.rests
 pub returns-then-count-lt14-clause-no_room : goal.returns-then-count-lt14-clause-no_room
 returns-then-count-lt14-clause-no_room c = c.enter.ensures.no_room
 
-pub returns-in-Some-clause-idle : goal.returns-in-Some-clause-idle
-returns-in-Some-clause-idle c = c.keep_present.ensures.idle
-
-pub returns-in-Some-clause-within : goal.returns-in-Some-clause-within
-returns-in-Some-clause-within c = c.keep_present.ensures.within
+pub returns-in-Some-clause-empty : goal.returns-in-Some-clause-empty
+returns-in-Some-clause-empty c = c.keep_present.ensures.empty
 
 pub returns-in-Some-clause-rests : goal.returns-in-Some-clause-rests
 returns-in-Some-clause-rests c = c.keep_present.ensures.rests

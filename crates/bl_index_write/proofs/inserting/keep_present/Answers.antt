@@ -2,16 +2,17 @@ use Rattle.std.proofs.Common.{refl}
 use Rattle.bl_proc.specs.declared.inserting.InsertStage.TheVariants as insert
 use Rattle.bl_proc.specs.declared.inserting.InsertReply.TheVariants as inserted
 use Rattle.bl_index_steps.proofs.Standing.{opens_at}
-use Rattle.bl_index_write.proofs.Inserted.{inserting, opens_present, has_inserted}
+use Rattle.bl_index_write.specs.Events.{inserting}
+use Rattle.bl_index_write.proofs.Inserted.{opens_present, has_inserted}
 use Rattle.bl_index_write.proofs.inserting.keep_present.Goals as goal
 
 pub conclude-requires-clause-opens : goal.conclude-requires-clause-opens
 conclude-requires-clause-opens c =
     let key = c.args.errand.key in let value = c.args.errand.value in let there = c.args.there in
-    (inserting key value (insert.Ending (inserted.Present there)), inserting key value (insert.Over (inserted.Present there)), opens_at _ _ _ _ _ c.requires.process.state (opens_present key value c.args.at there))
+    (inserting key value (insert.Ending (inserted.Present there)), inserting key value (insert.Over (inserted.Present there)), opens_at _ _ _ _ _ c.requires.runs.on.state (opens_present key value c.args.at there))
 
 pub returns-clause-inserted : goal.returns-clause-inserted
 returns-clause-inserted c = λ pass old since reply hint e.
     let key = c.args.errand.key in let value = c.args.errand.value in let there = c.args.there in
-    let opens = opens_at _ _ _ _ _ c.requires.process.state (opens_present key value c.args.at there) in
+    let opens = opens_at _ _ _ _ _ c.requires.runs.on.state (opens_present key value c.args.at there) in
     has_inserted key value pass old _ (inserted.Present there) _ _ (c.conclude.ensures.done pass old (inserting key value insert.New) (inserting key value (insert.Ending (inserted.Present there))) (inserting key value (insert.Over (inserted.Present there))) since opens refl refl) e

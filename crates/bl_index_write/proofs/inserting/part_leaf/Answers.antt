@@ -1,4 +1,4 @@
-use Rattle.std.proofs.Common.{inr, refl, sym, ap, subst, ◌∙◌}
+use Rattle.std.proofs.Common.{rules, inr, refl, sym, ap, subst, ◌∙◌}
 use Rattle.bl_proc_base.specs.declared.changing.Change.TheVariants as change
 use Rattle.bl_proc.specs.declared.inserting.InsertStage.TheVariants as insert
 use Rattle.bl_proc.specs.Inserts.{insert_reply, inserted_answer}
@@ -9,7 +9,8 @@ use Rattle.bl_index_steps.specs.Runs.{IsOn, IsSince}
 use Rattle.bl_index_steps.specs.Refused.{IsFull}
 use Rattle.bl_index_steps.proofs.Held.{keeps_held}
 use Rattle.bl_index_steps.proofs.Standing.{on_itself, opens_at}
-use Rattle.bl_index_write.proofs.Inserted.{inserting, opens_changed, has_inserted}
+use Rattle.bl_index_write.specs.Events.{inserting}
+use Rattle.bl_index_write.proofs.Inserted.{opens_changed, has_inserted}
 use Rattle.bl_index_steps.proofs.Rooms.{insert_refused, refused_on}
 use Rattle.bl_index_write.proofs.inserting.part_leaf.Goals as goal
 
@@ -19,18 +20,22 @@ part_full-outcome-requires-clause-full c =
     let h = c.requires.full in
     (h.0, h.1, h.2, h.3, c.words_from-words.ensures.words ∙ h.4, subst (λ (z : Hand Mine). IsOn c.args.tree.now.store.layout (known z.seat) (inserting key value (insert.Changing (change.Taking h.0)))) (sym c.words_from-words.ensures.same) h.5)
 
-pub conclude-requires-clause-process : goal.conclude-requires-clause-process
-conclude-requires-clause-process c = on_itself _ _ _ c.part_full-outcome.ensures.process
+pub conclude-requires-clause-runs : goal.conclude-requires-clause-runs
+conclude-requires-clause-runs c = record {
+  own = search rules;
+  running = search rules;
+  on = (on_itself _ _ _ c.part_full-outcome.ensures.runs.on);
+}
 
 pub conclude-requires-clause-opens : goal.conclude-requires-clause-opens
 conclude-requires-clause-opens c =
     let key = c.args.errand.key in let value = c.args.errand.value in let o = c.part_full-outcome.result in
-    (inserting key value (insert.Ending (insert_reply o)), inserting key value (insert.Over (insert_reply o)), opens_at _ _ _ _ _ c.part_full-outcome.ensures.process.state (opens_changed key value c.args.at o))
+    (inserting key value (insert.Ending (insert_reply o)), inserting key value (insert.Over (insert_reply o)), opens_at _ _ _ _ _ c.part_full-outcome.ensures.runs.on.state (opens_changed key value c.args.at o))
 
 pub returns-clause-inserted : goal.returns-clause-inserted
 returns-clause-inserted c = λ pass old since reply hint e.
     let key = c.args.errand.key in let value = c.args.errand.value in let o = c.part_full-outcome.result in
-    let opens = opens_at _ _ _ _ _ c.part_full-outcome.ensures.process.state (opens_changed key value c.args.at o) in
+    let opens = opens_at _ _ _ _ _ c.part_full-outcome.ensures.runs.on.state (opens_changed key value c.args.at o) in
     let after = c.part_full-outcome.ensures.since pass old (subst (λ (h : Hand Mine). IsSince pass old (known h.seat)) (sym c.words_from-words.ensures.same) since) in
     has_inserted key value pass old _ (insert_reply o) _ _ (c.conclude.ensures.done pass old (inserting key value insert.New) (inserting key value (insert.Ending (insert_reply o))) (inserting key value (insert.Over (insert_reply o))) after opens refl refl)
     (ap inserted_answer (sym c.inserted_by.ensures) ∙ e)

@@ -1,4 +1,4 @@
-use Rattle.std.proofs.Common.{◌<◌, ◌≤◌, length, inl, inr, refl, sym, ap, subst, ◌∙◌, arith}
+use Rattle.std.proofs.Common.{rules, ◌<◌, ◌≤◌, length, inl, inr, refl, sym, ap, subst, ◌∙◌, arith}
 use Rattle.bl_rearrange.specs.Rearranged.{pairs_of}
 use Rattle.bl_proc_base.specs.declared.acts.Seen.TheVariants as seen
 use Rattle.bl_proc_base.specs.declared.changing.Change.{Change}
@@ -35,24 +35,30 @@ replace-requires-clause-next g c =
     let putting = enters_putting c.args.at c.args.key c.args.word c.args.words.now c.requires.page.0 enter room in
     (putting.0, ap next_of (c.requires.page.2.state ∙ ap (g.J.Changer.changing c.args.changer.now) putting.2) ∙ g.J.Changer.acts c.args.changer.now (change.Putting c.args.at putting.0), c.words_with.ensures.words enter.page enter.is ∙ sym putting.1)
 
-pub returns-then-replace-clause-process : goal.returns-then-replace-clause-process
-returns-then-replace-clause-process g c =
-    let enter = c.requires.page.1 in let j = c.args.changer.now in let layout = c.args.tree.now.store.layout in
-    let room : length (pairs_of enter.page) < 14 = omega (arith, pairs_counted enter.page c.args.words.now enter.tree enter.is, c.if-words-ge14.false) in
-    let putting = enters_putting c.args.at c.args.key c.args.word c.args.words.now c.requires.page.0 enter room in
-    let on = subst (λ (z : Change). IsOn layout (known c.args.hand.now.seat) (g.J.Changer.changing j z)) putting.2 c.requires.page.2 in
-    on_goes layout seen.Done _ _ _ _ on (c.replace.ensures.done c.if-replace.true) (g.J.Changer.goes j (change.Putting c.args.at putting.0) (change.Opening c.args.at outcome.Changed) seen.Done refl)
+pub returns-then-replace-clause-runs : goal.returns-then-replace-clause-runs
+returns-then-replace-clause-runs g c = record {
+  own = search rules;
+  running = search rules;
+  on = (let enter = c.requires.page.1 in let j = c.args.changer.now in let layout = c.args.tree.now.store.layout in
+      let room : length (pairs_of enter.page) < 14 = omega (arith, pairs_counted enter.page c.args.words.now enter.tree enter.is, c.if-words-ge14.false) in
+      let putting = enters_putting c.args.at c.args.key c.args.word c.args.words.now c.requires.page.0 enter room in
+      let on = subst (λ (z : Change). IsOn layout (known c.args.hand.now.seat) (g.J.Changer.changing j z)) putting.2 c.requires.page.2 in
+      on_goes layout seen.Done _ _ _ _ on (c.replace.ensures.done c.if-replace.true) (g.J.Changer.goes j (change.Putting c.args.at putting.0) (change.Opening c.args.at outcome.Changed) seen.Done refl));
+}
 
 pub returns-then-replace-clause-since : goal.returns-then-replace-clause-since
 returns-then-replace-clause-since g c = same_goes _ _ _ (c.replace.ensures.done c.if-replace.true)
 
-pub returns-else-replace-clause-process : goal.returns-else-replace-clause-process
-returns-else-replace-clause-process g c =
-    let enter = c.requires.page.1 in let j = c.args.changer.now in let layout = c.args.tree.now.store.layout in
-    let room : length (pairs_of enter.page) < 14 = omega (arith, pairs_counted enter.page c.args.words.now enter.tree enter.is, c.if-words-ge14.false) in
-    let putting = enters_putting c.args.at c.args.key c.args.word c.args.words.now c.requires.page.0 enter room in
-    let on = subst (λ (z : Change). IsOn layout (known c.args.hand.now.seat) (g.J.Changer.changing j z)) putting.2 c.requires.page.2 in
-    on_goes layout seen.Refused _ _ _ _ on (c.replace.ensures.refused c.if-replace.false) (g.J.Changer.goes j (change.Putting c.args.at putting.0) (change.Opening c.args.at outcome.Refused) seen.Refused refl)
+pub returns-else-replace-clause-runs : goal.returns-else-replace-clause-runs
+returns-else-replace-clause-runs g c = record {
+  own = search rules;
+  running = search rules;
+  on = (let enter = c.requires.page.1 in let j = c.args.changer.now in let layout = c.args.tree.now.store.layout in
+      let room : length (pairs_of enter.page) < 14 = omega (arith, pairs_counted enter.page c.args.words.now enter.tree enter.is, c.if-words-ge14.false) in
+      let putting = enters_putting c.args.at c.args.key c.args.word c.args.words.now c.requires.page.0 enter room in
+      let on = subst (λ (z : Change). IsOn layout (known c.args.hand.now.seat) (g.J.Changer.changing j z)) putting.2 c.requires.page.2 in
+      on_goes layout seen.Refused _ _ _ _ on (c.replace.ensures.refused c.if-replace.false) (g.J.Changer.goes j (change.Putting c.args.at putting.0) (change.Opening c.args.at outcome.Refused) seen.Refused refl));
+}
 
 pub returns-else-replace-clause-since : goal.returns-else-replace-clause-since
 returns-else-replace-clause-since g c = same_goes _ _ _ (c.replace.ensures.refused c.if-replace.false)
@@ -76,11 +82,12 @@ part_full-requires-clause-own g c = c.requires.own
 pub part_full-requires-clause-running : goal.part_full-requires-clause-running
 part_full-requires-clause-running g c = c.requires.running
 
-pub replace-requires-clause-own : goal.replace-requires-clause-own
-replace-requires-clause-own g c = c.requires.own
-
-pub replace-requires-clause-running : goal.replace-requires-clause-running
-replace-requires-clause-running g c = c.requires.running.0
+pub replace-requires-clause-runs : goal.replace-requires-clause-runs
+replace-requires-clause-runs g c = record {
+  own = c.requires.own;
+  running = c.requires.running.0;
+  on = search rules;
+}
 
 pub replace-requires-clause-empty : goal.replace-requires-clause-empty
 replace-requires-clause-empty g c = c.requires.running.1
@@ -91,8 +98,8 @@ returns-then-words-ge14-clause-same g c = c.part_full.ensures.same
 pub returns-then-words-ge14-clause-empty : goal.returns-then-words-ge14-clause-empty
 returns-then-words-ge14-clause-empty g c = c.part_full.ensures.empty
 
-pub returns-then-words-ge14-clause-process : goal.returns-then-words-ge14-clause-process
-returns-then-words-ge14-clause-process g c = c.part_full.ensures.process
+pub returns-then-words-ge14-clause-runs : goal.returns-then-words-ge14-clause-runs
+returns-then-words-ge14-clause-runs g c = c.part_full.ensures.runs
 
 pub returns-then-words-ge14-clause-since : goal.returns-then-words-ge14-clause-since
 returns-then-words-ge14-clause-since g c = c.part_full.ensures.since

@@ -2,7 +2,7 @@ use Rattle.bl_store.specs.Hands.{known}
 use Rattle.bl_index_steps.proofs.Held.{goes_keeps, keeps_held, take_latches_not}
 use Rattle.bl_index_steps.specs.Held.{own_marks}
 use Rattle.bl_index_steps.specs.Refused.{IsFull}
-use Rattle.std.proofs.Common.{refl, sym, ap, ◌∙◌, get_or}
+use Rattle.std.proofs.Common.{rules, refl, sym, ap, ◌∙◌, get_or}
 use Rattle.bl_proc_base.specs.declared.acts.Seen.TheVariants as seen
 use Rattle.bl_proc_base.specs.declared.changing.Change.TheVariants as change
 use Rattle.bl_proc_base.specs.declared.changing.Outcome.TheVariants as outcome
@@ -12,8 +12,12 @@ use Rattle.bl_index_write.proofs.Parted.{parted_by, full_tree, full_head}
 use Rattle.bl_proc_base.specs.declared.changing.Parting.{Parting}
 use Rattle.bl_index_write.proofs.parting.part_full.Goals as goal
 
-pub take_page-requires-clause-process : goal.take_page-requires-clause-process
-take_page-requires-clause-process g c = on_itself _ _ _ c.requires.full.5
+pub take_page-requires-clause-runs : goal.take_page-requires-clause-runs
+take_page-requires-clause-runs g c = record {
+  own = search rules;
+  running = search rules;
+  on = (on_itself _ _ _ c.requires.full.5);
+}
 
 pub take_page-requires-clause-next : goal.take_page-requires-clause-next
 take_page-requires-clause-next g c = ap next_of c.requires.full.5.state ∙ g.J.Changer.acts c.args.changer.now (change.Taking c.requires.full.0)
@@ -36,10 +40,13 @@ put_parts-requires-clause-process g c =
 pub put_parts-requires-clause-head : goal.put_parts-requires-clause-head
 put_parts-requires-clause-head g c = let f = c.requires.full in full_head f.0.page c.args.words.now (full_tree f.0) f.4 f.0.full
 
-pub returns-in-None-clause-process : goal.returns-in-None-clause-process
-returns-in-None-clause-process g c =
-    let f = c.requires.full in
-    on_goes _ _ _ _ _ _ f.5 c.in-None.ensures.took.1 (g.J.Changer.goes c.args.changer.now (change.Taking f.0) (change.Opening c.args.at outcome.Refused) seen.Refused (λ i. change.Opening (sym f.1 i) outcome.Refused))
+pub returns-in-None-clause-runs : goal.returns-in-None-clause-runs
+returns-in-None-clause-runs g c = record {
+  own = search rules;
+  running = search rules;
+  on = (let f = c.requires.full in
+      on_goes _ _ _ _ _ _ f.5 c.in-None.ensures.took.1 (g.J.Changer.goes c.args.changer.now (change.Taking f.0) (change.Opening c.args.at outcome.Refused) seen.Refused (λ i. change.Opening (sym f.1 i) outcome.Refused)));
+}
 
 pub returns-in-None-clause-since : goal.returns-in-None-clause-since
 returns-in-None-clause-since g c = same_goes _ _ _ c.in-None.ensures.took.1

@@ -1,4 +1,4 @@
-use Rattle.std.proofs.Common.{◌≡◌, ℕ, ◌-◌, List, refl, sym, ap, ◌∙◌, get_or, arith}
+use Rattle.std.proofs.Common.{rules, ◌≡◌, ℕ, ◌-◌, List, refl, sym, ap, ◌∙◌, get_or, arith}
 use Rattle.bl_page.specs.Words.{layout}
 use Rattle.bl_index_write.proofs.Parted.{upper_part}
 use Rattle.bl_proc_base.specs.declared.acts.Seen.TheVariants as seen
@@ -10,8 +10,12 @@ use Rattle.bl_store.specs.Hands.{drafts}
 use Rattle.bl_index_steps.proofs.Standing.{on_itself, on_goes, same_goes, same_all, course_at}
 use Rattle.bl_index_write.proofs.parting.put_parts.Goals as goal
 
-pub put_reserved-requires-clause-process : goal.put_reserved-requires-clause-process
-put_reserved-requires-clause-process g c = on_itself _ _ _ c.requires.process.3
+pub put_reserved-requires-clause-runs : goal.put_reserved-requires-clause-runs
+put_reserved-requires-clause-runs g c = record {
+  own = search rules;
+  running = search rules;
+  on = (on_itself _ _ _ c.requires.process.3);
+}
 
 pub put_reserved-requires-clause-next : goal.put_reserved-requires-clause-next
 put_reserved-requires-clause-next g c =
@@ -27,13 +31,16 @@ put_reserved-requires-clause-course g c =
     let on = c.requires.process.3 in
     course_at seen.Done _ _ on.state (laws.courses j (change.PuttingNew p) seen.Done tt)
 
-pub put_reserved-requires-2-clause-process : goal.put_reserved-requires-2-clause-process
-put_reserved-requires-2-clause-process g c =
-    let laws = g.J.Changer in let j = c.args.changer.now in
-    let p : Parting = record { at = c.args.at; new = c.args.new; left = c.requires.process.0; right = c.requires.process.1; separator = get_or c.args.entries.now 16 0 } in
-    let on = c.requires.process.3 in
-    let one = on_goes _ seen.Done _ _ _ _ on c.put_reserved.ensures.goes (laws.goes j (change.PuttingNew p) (change.PuttingOld p) seen.Done refl) in
-    on_itself _ _ _ one
+pub put_reserved-requires-2-clause-runs : goal.put_reserved-requires-2-clause-runs
+put_reserved-requires-2-clause-runs g c = record {
+  own = search rules;
+  running = search rules;
+  on = (let laws = g.J.Changer in let j = c.args.changer.now in
+      let p : Parting = record { at = c.args.at; new = c.args.new; left = c.requires.process.0; right = c.requires.process.1; separator = get_or c.args.entries.now 16 0 } in
+      let on = c.requires.process.3 in
+      let one = on_goes _ seen.Done _ _ _ _ on c.put_reserved.ensures.goes (laws.goes j (change.PuttingNew p) (change.PuttingOld p) seen.Done refl) in
+      on_itself _ _ _ one);
+}
 
 pub put_reserved-requires-2-clause-next : goal.put_reserved-requires-2-clause-next
 put_reserved-requires-2-clause-next g c =
@@ -51,14 +58,17 @@ put_reserved-requires-2-clause-course g c =
     let one = on_goes _ seen.Done _ _ _ _ on c.put_reserved.ensures.goes (laws.goes j (change.PuttingNew p) (change.PuttingOld p) seen.Done refl) in
     course_at seen.Done _ _ one.state (laws.courses j (change.PuttingOld p) seen.Done tt)
 
-pub reopen-requires-clause-process : goal.reopen-requires-clause-process
-reopen-requires-clause-process g c =
-    let laws = g.J.Changer in let j = c.args.changer.now in
-    let p : Parting = record { at = c.args.at; new = c.args.new; left = c.requires.process.0; right = c.requires.process.1; separator = get_or c.args.entries.now 16 0 } in
-    let on = c.requires.process.3 in
-    let one = on_goes _ seen.Done _ _ _ _ on c.put_reserved.ensures.goes (laws.goes j (change.PuttingNew p) (change.PuttingOld p) seen.Done refl) in
-    let two = on_goes _ seen.Done _ _ _ _ one c.put_reserved-2.ensures.goes (laws.goes j (change.PuttingOld p) (change.OpeningNew p.at p.new p.separator) seen.Done refl) in
-    on_itself _ _ _ two
+pub reopen-requires-clause-runs : goal.reopen-requires-clause-runs
+reopen-requires-clause-runs g c = record {
+  own = search rules;
+  running = search rules;
+  on = (let laws = g.J.Changer in let j = c.args.changer.now in
+      let p : Parting = record { at = c.args.at; new = c.args.new; left = c.requires.process.0; right = c.requires.process.1; separator = get_or c.args.entries.now 16 0 } in
+      let on = c.requires.process.3 in
+      let one = on_goes _ seen.Done _ _ _ _ on c.put_reserved.ensures.goes (laws.goes j (change.PuttingNew p) (change.PuttingOld p) seen.Done refl) in
+      let two = on_goes _ seen.Done _ _ _ _ one c.put_reserved-2.ensures.goes (laws.goes j (change.PuttingOld p) (change.OpeningNew p.at p.new p.separator) seen.Done refl) in
+      on_itself _ _ _ two);
+}
 
 pub reopen-requires-clause-next : goal.reopen-requires-clause-next
 reopen-requires-clause-next g c =
@@ -78,14 +88,17 @@ reopen-requires-clause-course g c =
     let two = on_goes _ seen.Done _ _ _ _ one c.put_reserved-2.ensures.goes (laws.goes j (change.PuttingOld p) (change.OpeningNew p.at p.new p.separator) seen.Done refl) in
     course_at seen.Done _ _ two.state (laws.courses j (change.OpeningNew p.at p.new p.separator) seen.Done tt)
 
-pub returns-clause-process : goal.returns-clause-process
-returns-clause-process g c =
-    let laws = g.J.Changer in let j = c.args.changer.now in
-    let p : Parting = record { at = c.args.at; new = c.args.new; left = c.requires.process.0; right = c.requires.process.1; separator = get_or c.args.entries.now 16 0 } in
-    let on = c.requires.process.3 in
-    let one = on_goes _ seen.Done _ _ _ _ on c.put_reserved.ensures.goes (laws.goes j (change.PuttingNew p) (change.PuttingOld p) seen.Done refl) in
-    let two = on_goes _ seen.Done _ _ _ _ one c.put_reserved-2.ensures.goes (laws.goes j (change.PuttingOld p) (change.OpeningNew p.at p.new p.separator) seen.Done refl) in
-    on_goes _ seen.Done _ _ _ _ two c.reopen.ensures.goes (laws.goes j (change.OpeningNew p.at p.new p.separator) (change.Opening p.at (outcome.Parted p.separator)) seen.Done refl)
+pub returns-clause-runs : goal.returns-clause-runs
+returns-clause-runs g c = record {
+  own = search rules;
+  running = search rules;
+  on = (let laws = g.J.Changer in let j = c.args.changer.now in
+      let p : Parting = record { at = c.args.at; new = c.args.new; left = c.requires.process.0; right = c.requires.process.1; separator = get_or c.args.entries.now 16 0 } in
+      let on = c.requires.process.3 in
+      let one = on_goes _ seen.Done _ _ _ _ on c.put_reserved.ensures.goes (laws.goes j (change.PuttingNew p) (change.PuttingOld p) seen.Done refl) in
+      let two = on_goes _ seen.Done _ _ _ _ one c.put_reserved-2.ensures.goes (laws.goes j (change.PuttingOld p) (change.OpeningNew p.at p.new p.separator) seen.Done refl) in
+      on_goes _ seen.Done _ _ _ _ two c.reopen.ensures.goes (laws.goes j (change.OpeningNew p.at p.new p.separator) (change.Opening p.at (outcome.Parted p.separator)) seen.Done refl));
+}
 
 pub returns-clause-since : goal.returns-clause-since
 returns-clause-since g c = same_all _ _ _ (same_all _ _ _ (same_goes _ _ _ c.put_reserved.ensures.goes) (same_goes _ _ _ c.put_reserved-2.ensures.goes)) (same_goes _ _ _ c.reopen.ensures.goes)

@@ -18,15 +18,15 @@ enter_page-outcome-requires-clause-page c = (c.requires.page.1, c.requires.page.
 pub conclude-requires-clause-opens : goal.conclude-requires-clause-opens
 conclude-requires-clause-opens c =
     let j = c.args.errand in let o = c.enter_page-outcome.result in let below = c.requires.page.0 in
-    (posting j (post.Ending (post_reply o)) (may_reply j o below), posting j (post.Over (post_reply o)) (may_reply j o below), opens_at _ _ _ _ _ (c.enter_page-outcome.ensures.process.state ∙ posting_same j (post.Changing (change.Opening c.args.at o)) _ below) (opens_listed j c.args.at o below))
+    (posting j (post.Ending (post_reply o)) (may_reply j o below), posting j (post.Over (post_reply o)) (may_reply j o below), opens_at _ _ _ _ _ (c.enter_page-outcome.ensures.runs.on.state ∙ posting_same j (post.Changing (change.Opening c.args.at o)) _ below) (opens_listed j c.args.at o below))
 
 pub returns-clause-over : goal.returns-clause-over
 returns-clause-over c =
     let j = c.args.errand in let o = c.enter_page-outcome.result in let below = c.requires.page.0 in
-    let opens = opens_at _ _ _ _ _ (c.enter_page-outcome.ensures.process.state ∙ posting_same j (post.Changing (change.Opening c.args.at o)) _ below) (opens_listed j c.args.at o below) in (
-      (c.conclude.ensures.idle, c.conclude.ensures.same.1.0 ∙ c.enter_page-outcome.ensures.empty),
-      c.conclude.ensures.within,
-      c.conclude.ensures.rests,
+    let opens = opens_at _ _ _ _ _ (c.enter_page-outcome.ensures.runs.on.state ∙ posting_same j (post.Changing (change.Opening c.args.at o)) _ below) (opens_listed j c.args.at o below) in (
+      (c.conclude.ensures.rests.idle, c.conclude.ensures.same.1.0 ∙ c.enter_page-outcome.ensures.empty),
+      c.conclude.ensures.rests.within,
+      c.conclude.ensures.rests.over,
       (λ none. inl (lacks_on j.level j.key c.enter_page-outcome.new.hand.seat c.conclude.new.hand.seat c.conclude.ensures.refusal c.conclude.ensures.keeps (c.enter_page-outcome.ensures.asked (reply_refused o (sym c.reply_by.ensures ∙ c.posted_by.ensures.no_room none))))),
       λ pass old since. record {
         last = record { level = j.level; key = j.key; stage = post.Over (post_reply o); least = j.least; most = j.most; below = may_reply j o below };

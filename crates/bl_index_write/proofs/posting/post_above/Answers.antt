@@ -1,9 +1,9 @@
-use Rattle.std.proofs.Common.{ℕ, inl, inr, Some, refl, sym, subst, ◌∙◌}
+use Rattle.std.proofs.Common.{rules, ℕ, inl, inr, Some, refl, sym, subst, ◌∙◌}
 use Rattle.bl_proc_base.specs.declared.acts.Seen.TheVariants as seen
 use Rattle.bl_proc_base.specs.declared.approaching.Approach.TheVariants as approach
 use Rattle.bl_proc.specs.declared.posting.PostStage.TheVariants as post
 use Rattle.bl_proc.specs.declared.kinds.Proc.TheVariants as proc
-use Rattle.bl_store.specs.Hands.{known}
+use Rattle.bl_store.specs.Hands.{known, IsRunning}
 use Rattle.bl_store.specs.declared.store.Hand.{Hand}
 use Rattle.bl_index_rule.specs.declared.known.Mine.{Mine}
 use Rattle.bl_proc_unique.proofs.Posts.{post_goes}
@@ -19,13 +19,16 @@ use Rattle.bl_proc_unique.proofs.RefusedTurns.{takes_refused, takes_puts}
 use Rattle.bl_index_steps.proofs.Rooms.{lacks_asked, words_not_refused}
 use Rattle.bl_index_write.proofs.posting.post_above.Goals as goal
 
-pub carry_on-process-requires-clause-process : goal.carry_on-process-requires-clause-process
-carry_on-process-requires-clause-process g c =
-    let j = c.args.errand in let anchor = c.requires.anchor in
-    let takes = c.took_words.ensures.takes anchor.0 anchor.1 in
-    let course = post_goes (record { level = j.level; key = j.key; stage = post.Coming approach.Start; least = j.least; most = j.most; below = tt }) (seen.Words anchor.0) refl tt in
-    let stands = course.only _ anchor.2 ∙ sym (course.only (proc.Post c.took_words.new.self) takes) in
-    subst (λ (h : Hand Mine). IsOn c.args.tree.now.store.layout (known h.seat) (proc.Post c.took_words.new.self)) (sym c.took_words.ensures.same) (on_as _ _ _ c.requires.process stands)
+pub carry_on-process-requires-clause-runs : goal.carry_on-process-requires-clause-runs
+carry_on-process-requires-clause-runs g c = record {
+  own = search rules;
+  running = subst (λ (h : Hand Mine). IsRunning h.seat) (sym c.took_words.ensures.same) (search rules);
+  on = (let j = c.args.errand in let anchor = c.requires.anchor in
+      let takes = c.took_words.ensures.takes anchor.0 anchor.1 in
+      let course = post_goes (record { level = j.level; key = j.key; stage = post.Coming approach.Start; least = j.least; most = j.most; below = tt }) (seen.Words anchor.0) refl tt in
+      let stands = course.only _ anchor.2 ∙ sym (course.only (proc.Post c.took_words.new.self) takes) in
+      subst (λ (h : Hand Mine). IsOn c.args.tree.now.store.layout (known h.seat) (proc.Post c.took_words.new.self)) (sym c.took_words.ensures.same) (on_as _ _ _ c.requires.runs.on stands));
+}
 
 pub posted-requires : goal.posted-requires
 posted-requires g c =
@@ -40,9 +43,9 @@ returns-clause-over g c =
     let takes = c.took_words.ensures.takes anchor.0 anchor.1 in
     let still = subst (λ (h : Hand Mine). IsSince first.0 first.1 (known h.seat)) (sym c.took_words.ensures.same) first.2 in
     let named = post_named first.0 first.1 (known c.carry_on-process.new.hand.seat) (proc.Post c.took_words.new.self) c.carry_on-process.result c.args.errand.level c.args.errand.key (c.carry_on-process.ensures.done first.0 first.1 still) (λ i. Some (takes.0 i, takes.1 i)) in (
-      c.carry_on-process.ensures.idle,
-      c.carry_on-process.ensures.within,
-      c.carry_on-process.ensures.rests,
+      (c.carry_on-process.ensures.rests.idle, c.carry_on-process.ensures.empty),
+      c.carry_on-process.ensures.rests.within,
+      c.carry_on-process.ensures.rests.over,
       (λ none. subst (λ (z : ℕ × ℕ). LacksPost z.0 z.1 c.carry_on-process.new.hand.seat) (λ i. (named.0 i, named.1 i)) (lacks_asked c.carry_on-process.new.hand.seat c.carry_on-process.result (c.carry_on-process.ensures.no_room _ (sym c.answer.ensures ∙ c.posted.ensures) (subst (λ (z : Posted). IsNoRoom (answer.Post z c.posted.result.1)) (sym none) tt)))),
       λ pass old begun.
           let since = subst (λ (h : Hand Mine). IsSince pass old (known h.seat)) (sym c.took_words.ensures.same) begun in

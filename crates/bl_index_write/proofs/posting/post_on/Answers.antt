@@ -1,4 +1,4 @@
-use Rattle.std.proofs.Common.{◌≡◌, ◌<◌, Some, refl, sym, ap, subst, ◌∙◌, arith}
+use Rattle.std.proofs.Common.{rules, ◌≡◌, ◌<◌, Some, refl, sym, ap, subst, ◌∙◌, arith}
 use Rattle.bl_claims.specs.Pages.{roots_of}
 use Rattle.bl_proc.specs.declared.kinds.Proc.{Proc}
 use Rattle.bl_proc.specs.Processes.{Takes}
@@ -6,7 +6,7 @@ use Rattle.bl_proc_base.specs.declared.acts.Seen.TheVariants as seen
 use Rattle.bl_proc_base.specs.declared.approaching.Approach.TheVariants as approach
 use Rattle.bl_proc_base.specs.declared.approaching.Came.TheVariants as come
 use Rattle.bl_proc.specs.declared.posting.PostStage.TheVariants as post
-use Rattle.bl_store.specs.Hands.{known, read_words, IsSameStage}
+use Rattle.bl_store.specs.Hands.{known, read_words, IsSameStage, IsRunning}
 use Rattle.bl_store.specs.declared.store.Hand.{Hand}
 use Rattle.bl_index_rule.specs.declared.known.Mine.{Mine}
 use Rattle.bl_proc_unique.proofs.Posts.{post_goes}
@@ -19,7 +19,7 @@ use Rattle.bl_index_write.proofs.posting.post_on.Goals as goal
 pub look-glance-requires-clause-course : goal.look-glance-requires-clause-course
 look-glance-requires-clause-course g c = λ page.
     let j = c.args.errand in
-    course_at (seen.Words page) _ _ c.requires.process.state (post_goes (record { level = j.level; key = j.key; stage = post.Coming approach.Start; least = j.least; most = j.most; below = tt }) (seen.Words page) refl tt)
+    course_at (seen.Words page) _ _ c.requires.runs.on.state (post_goes (record { level = j.level; key = j.key; stage = post.Coming approach.Start; least = j.least; most = j.most; below = tt }) (seen.Words page) refl tt)
 
 pub post_above-requires-clause-since : goal.post_above-requires-clause-since
 post_above-requires-clause-since g c =
@@ -29,7 +29,7 @@ post_above-requires-clause-since g c =
 pub post_above-requires-clause-anchor : goal.post_above-requires-clause-anchor
 post_above-requires-clause-anchor g c =
     let j = c.args.errand in let went = c.look-glance.ensures.goes in
-    let takes = subst (λ (z : Proc). Takes z (seen.Words went.0) (known c.look-glance.new.hand.seat).state) c.requires.process.state (goes_takes _ _ _ went.2) in
+    let takes = subst (λ (z : Proc). Takes z (seen.Words went.0) (known c.look-glance.new.hand.seat).state) c.requires.runs.on.state (goes_takes _ _ _ went.2) in
     (went.0, ap (λ (h : Hand Mine). read_words h.seat) c.levels_in.ensures.same ∙ went.1, subst (λ (h : Hand Mine). Takes (posting j (post.Coming approach.Start) tt) (seen.Words went.0) (known h.seat).state) (sym c.levels_in.ensures.same) takes)
 
 pub returns-then-levels_in-errand-clause-over : goal.returns-then-levels_in-errand-clause-over
@@ -40,14 +40,17 @@ returns-then-levels_in-errand-clause-over g c =
 pub took_words-from-requires-clause-page : goal.took_words-from-requires-clause-page
 took_words-from-requires-clause-page g c = (let went = c.look-glance.ensures.goes in (went.0, ap (λ (h : Hand Mine). read_words h.seat) c.levels_in.ensures.same ∙ went.1))
 
-pub come_from-requires-clause-process : goal.come_from-requires-clause-process
-come_from-requires-clause-process g c =
-    let j = c.args.errand in let went = c.look-glance.ensures.goes in let layout = c.args.tree.now.store.layout in
-    let turns = c.took_words-from.ensures.goes went.0 (ap (λ (h : Hand Mine). read_words h.seat) c.levels_in.ensures.same ∙ went.1) in
-    let levels : c.levels_in.result ≡ (roots_of went.0).levels = c.levels_in.ensures.levels went.0 went.1 in
-    let led : j.level < (roots_of went.0).levels = omega (arith, levels, c.if-levels_in-errand.false) in
-    let on : IsOn layout (known c.look-glance.new.hand.seat) (posting j (post.Coming c.took_words-from.result) tt) = on_goes layout (seen.Words went.0) _ _ _ _ c.requires.process went.2 (refl, refl, (come.On c.took_words-from.result, (led, turns), refl)) in
-    subst (λ (h : Hand Mine). IsOn layout (known h.seat) (posting j (post.Coming c.took_words-from.result) tt)) (sym (c.took_words-from.ensures.same ∙ c.levels_in.ensures.same)) on
+pub come_from-requires-clause-runs : goal.come_from-requires-clause-runs
+come_from-requires-clause-runs g c = record {
+  own = search rules;
+  running = subst (λ (h : Hand Mine). IsRunning h.seat) (sym (c.took_words-from.ensures.same ∙ c.levels_in.ensures.same)) (search rules);
+  on = (let j = c.args.errand in let went = c.look-glance.ensures.goes in let layout = c.args.tree.now.store.layout in
+      let turns = c.took_words-from.ensures.goes went.0 (ap (λ (h : Hand Mine). read_words h.seat) c.levels_in.ensures.same ∙ went.1) in
+      let levels : c.levels_in.result ≡ (roots_of went.0).levels = c.levels_in.ensures.levels went.0 went.1 in
+      let led : j.level < (roots_of went.0).levels = omega (arith, levels, c.if-levels_in-errand.false) in
+      let on : IsOn layout (known c.look-glance.new.hand.seat) (posting j (post.Coming c.took_words-from.result) tt) = on_goes layout (seen.Words went.0) _ _ _ _ c.requires.runs.on went.2 (refl, refl, (come.On c.took_words-from.result, (led, turns), refl)) in
+      subst (λ (h : Hand Mine). IsOn layout (known h.seat) (posting j (post.Coming c.took_words-from.result) tt)) (sym (c.took_words-from.ensures.same ∙ c.levels_in.ensures.same)) on);
+}
 
 pub returns-in-Some-clause-over : goal.returns-in-Some-clause-over
 returns-in-Some-clause-over g c =
@@ -60,13 +63,14 @@ returns-in-None-clause-over g c =
     let looked = subst (λ (h : Hand Mine). IsSameProcess (known c.args.hand.now.seat) (known h.seat)) both (same_goes _ _ _ c.look-glance.ensures.goes.2) in
     let stage = subst (λ (h : Hand Mine). IsSameStage c.args.hand.now.seat h.seat) both c.look-glance.ensures.same.1 in
     let stock = subst (λ (h : Hand Mine). h.seat.me.0.stock ≡ c.args.hand.now.seat.me.0.stock) both c.look-glance.ensures.same.2.0 in (
-      ((c.requires.running.0.0, c.come_from.ensures.same.1 ∙ (stage ∙ c.requires.running.0.1)), c.come_from.ensures.same.2.0 ∙ (stock ∙ c.requires.running.1)),
+      ((c.requires.runs.running.0, c.come_from.ensures.same.1 ∙ (stage ∙ c.requires.runs.running.1)), c.come_from.ensures.same.2.0 ∙ (stock ∙ c.requires.empty)),
       c.in-None.ensures.came,
       same_all _ _ _ looked c.come_from.ensures.since,
     )
 
-pub look-glance-requires-clause-own : goal.look-glance-requires-clause-own
-look-glance-requires-clause-own g c = c.requires.own
-
-pub look-glance-requires-clause-running : goal.look-glance-requires-clause-running
-look-glance-requires-clause-running g c = c.requires.running.0
+pub look-glance-requires-clause-runs : goal.look-glance-requires-clause-runs
+look-glance-requires-clause-runs g c = record {
+  own = c.requires.runs.own;
+  running = c.requires.runs.running;
+  on = search rules;
+}

@@ -14,7 +14,7 @@ pub stay-requires-clause-process : goal.stay-requires-clause-process
 stay-requires-clause-process g c =
     let j = c.args.errand in let there = c.requires.there in
     let stands = stands_already j c.args.at there.page _ there.takes there.leads c.in-Some._child (sym c.in-Some.is ∙ c.row_in.ensures.row there.page there.is) in
-    (tt, subst (λ (h : Hand Mine). IsOn c.args.tree.now.store.layout (known h.seat) (posting j (post.Staying c.args.at reply.Already) tt)) (sym c.row_in.ensures.same) (on_as _ _ _ c.requires.process stands))
+    (tt, subst (λ (h : Hand Mine). IsOn c.args.tree.now.store.layout (known h.seat) (posting j (post.Staying c.args.at reply.Already) tt)) (sym c.row_in.ensures.same) (on_as _ _ _ c.requires.runs.on stands))
 
 pub returns-in-Some-clause-over : goal.returns-in-Some-clause-over
 returns-in-Some-clause-over g c =

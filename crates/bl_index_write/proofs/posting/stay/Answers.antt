@@ -1,12 +1,16 @@
-use Rattle.std.proofs.Common.{Some, refl, ap, ◌∙◌}
+use Rattle.std.proofs.Common.{rules, Some, refl, ap, ◌∙◌}
 use Rattle.bl_proc.specs.declared.posting.PostStage.TheVariants as post
 use Rattle.bl_index_write.specs.Events.{posting}
 use Rattle.bl_index_steps.proofs.Standing.{on_itself, opens_at}
 use Rattle.bl_index_write.proofs.Parents.{opens_staying}
 use Rattle.bl_index_write.proofs.posting.stay.Goals as goal
 
-pub conclude-requires-clause-process : goal.conclude-requires-clause-process
-conclude-requires-clause-process c = on_itself _ _ _ c.requires.process.1
+pub conclude-requires-clause-runs : goal.conclude-requires-clause-runs
+conclude-requires-clause-runs c = record {
+  own = search rules;
+  running = search rules;
+  on = (on_itself _ _ _ c.requires.process.1);
+}
 
 pub conclude-requires-clause-opens : goal.conclude-requires-clause-opens
 conclude-requires-clause-opens c =
@@ -17,9 +21,9 @@ pub returns-clause-over : goal.returns-clause-over
 returns-clause-over c =
     let j = c.args.errand in let r = c.args.reply in let below = c.requires.process.0 in
     let opens = opens_at _ _ _ _ _ c.requires.process.1.state (opens_staying j c.args.at r below) in (
-      (c.conclude.ensures.idle, c.conclude.ensures.same.1.0 ∙ c.requires.running.1),
-      c.conclude.ensures.within,
-      c.conclude.ensures.rests,
+      (c.conclude.ensures.rests.idle, c.conclude.ensures.same.1.0 ∙ c.requires.running.1),
+      c.conclude.ensures.rests.within,
+      c.conclude.ensures.rests.over,
       (λ none. absurd (c.requires.reply (c.posted_by.ensures.no_room none))),
       λ pass old since. record {
         last = record { level = j.level; key = j.key; stage = post.Over r; least = j.least; most = j.most; below = below };

@@ -23,7 +23,7 @@ pub returns-in-Lost-clause-over : goal.returns-in-Lost-clause-over
 returns-in-Lost-clause-over g c =
     let stage = c.reopen.ensures.same.1 ∙ (c.walk_on.ensures.same.1 ∙ c.loop.invariant.same.1) in
     let stock = c.reopen.ensures.same.2.0 ∙ (c.walk_on.ensures.same.2.0 ∙ c.loop.invariant.same.2.0) in (
-      ((c.requires.running.0.0, stage ∙ c.requires.running.0.1), stock ∙ c.requires.running.1),
+      ((c.requires.runs.running.0, stage ∙ c.requires.runs.running.1), stock ∙ c.requires.empty),
       on_goes c.args.tree.now.store.layout seen.Done _ _ _ _ c.in-Lost.ensures.walked c.reopen.ensures.goes (lost_again c.args.errand c.args.at),
       same_all _ _ _ (same_all _ _ _ c.loop.invariant.since c.walk_on.ensures.since) (same_goes _ _ _ c.reopen.ensures.goes),
     )

@@ -26,7 +26,7 @@ returns-then-low_in-errand-clause-walked c =
     let leads = c.in-Here.ensures.leads went.0 went.1 in
     let low = c.low_in.ensures.low went.0 leads.0 (ap (λ (h : Hand Mine). read_words h.seat) c.in-Here.ensures.same ∙ went.1) in
     let found = walked_found j c.args.at c.args.child c.args.parent.now _ _ went.0 w takes leads (sym low ∙ c.if-low_in-errand.true) in
-    subst (λ (h : Hand Mine). HasWalked layout j c.args.at c.args.parent.now c.args.child (known h.seat) Found) (sym (c.low_in.ensures.same ∙ c.in-Here.ensures.same)) (w.below, found.0, found.1, on_as _ _ _ (on_after layout _ _ _ _ c.requires.process went.2) found.2)
+    subst (λ (h : Hand Mine). HasWalked layout j c.args.at c.args.parent.now c.args.child (known h.seat) Found) (sym (c.low_in.ensures.same ∙ c.in-Here.ensures.same)) (w.below, found.0, found.1, on_as _ _ _ (on_after layout _ _ _ _ c.requires.runs.on went.2) found.2)
 
 pub returns-then-low_in-errand-clause-since : goal.returns-then-low_in-errand-clause-since
 returns-then-low_in-errand-clause-since c = subst (λ (h : Hand Mine). IsSameProcess (known c.args.hand.now.seat) (known h.seat)) (sym (c.low_in.ensures.same ∙ c.in-Here.ensures.same)) (same_goes _ _ _ c.look-glance.ensures.goes.2)
@@ -38,7 +38,7 @@ returns-else-low_in-errand-clause-walked c =
     let takes = goes_takes _ _ _ went.2 in
     let leads = c.in-Here.ensures.leads went.0 went.1 in
     let low = c.low_in.ensures.low went.0 leads.0 (ap (λ (h : Hand Mine). read_words h.seat) c.in-Here.ensures.same ∙ went.1) in
-    let it = on_as _ _ _ (on_after layout _ _ _ _ c.requires.process went.2) (walked_stale j c.args.at c.args.child c.args.parent.now _ _ went.0 w takes leads (λ e. c.if-low_in-errand.false (low ∙ e))) in
+    let it = on_as _ _ _ (on_after layout _ _ _ _ c.requires.runs.on went.2) (walked_stale j c.args.at c.args.child c.args.parent.now _ _ went.0 w takes leads (λ e. c.if-low_in-errand.false (low ∙ e))) in
     subst (λ (h : Hand Mine). HasWalked layout j c.args.at c.args.parent.now c.args.child (known h.seat) Stale) (sym (c.low_in.ensures.same ∙ c.in-Here.ensures.same)) it
 
 pub returns-else-low_in-errand-clause-since : goal.returns-else-low_in-errand-clause-since
@@ -50,7 +50,7 @@ returns-then-next-eq0-clause-walked c =
     let went = c.look-glance.ensures.goes in
     let takes = goes_takes _ _ _ went.2 in
     let leads = c.in-Right.ensures.leads went.0 went.1 in
-    let it = on_as _ _ _ (on_after layout _ _ _ _ c.requires.process went.2) (walked_lost j c.args.at c.args.child c.args.parent.now _ _ went.0 w takes (Right c.in-Right.next) leads c.if-next-eq0.true) in
+    let it = on_as _ _ _ (on_after layout _ _ _ _ c.requires.runs.on went.2) (walked_lost j c.args.at c.args.child c.args.parent.now _ _ went.0 w takes (Right c.in-Right.next) leads c.if-next-eq0.true) in
     subst (λ (h : Hand Mine). HasWalked layout j c.args.at c.args.parent.now c.args.child (known h.seat) Lost) (sym (c.in-Right.ensures.same)) it
 
 pub returns-then-next-eq0-clause-since : goal.returns-then-next-eq0-clause-since
@@ -62,7 +62,7 @@ returns-else-next-eq0-clause-walked c =
     let went = c.look-glance.ensures.goes in
     let takes = goes_takes _ _ _ went.2 in
     let leads = c.in-Right.ensures.leads went.0 went.1 in
-    subst (λ (h : Hand Mine). HasWalked layout j c.args.at c.args.parent.now c.args.child (known h.seat) (On c.in-Right.next)) (sym (c.in-Right.ensures.same)) (on_after layout _ _ _ _ c.requires.process went.2, walked_on j c.args.at c.args.child c.args.parent.now _ _ went.0 w takes c.in-Right.next c.if-next-eq0.false leads)
+    subst (λ (h : Hand Mine). HasWalked layout j c.args.at c.args.parent.now c.args.child (known h.seat) (On c.in-Right.next)) (sym (c.in-Right.ensures.same)) (on_after layout _ _ _ _ c.requires.runs.on went.2, walked_on j c.args.at c.args.child c.args.parent.now _ _ went.0 w takes c.in-Right.next c.if-next-eq0.false leads)
 
 pub returns-else-next-eq0-clause-since : goal.returns-else-next-eq0-clause-since
 returns-else-next-eq0-clause-since c = subst (λ (h : Hand Mine). IsSameProcess (known c.args.hand.now.seat) (known h.seat)) (sym (c.in-Right.ensures.same)) (same_goes _ _ _ c.look-glance.ensures.goes.2)
@@ -73,7 +73,7 @@ returns-in-Again-clause-walked c =
     let went = c.look-glance.ensures.goes in
     let takes = goes_takes _ _ _ went.2 in
     let leads = c.in-Again.ensures.leads went.0 went.1 in
-    let it = on_as _ _ _ (on_after layout _ _ _ _ c.requires.process went.2) (walked_lost j c.args.at c.args.child c.args.parent.now _ _ went.0 w takes Again leads tt) in
+    let it = on_as _ _ _ (on_after layout _ _ _ _ c.requires.runs.on went.2) (walked_lost j c.args.at c.args.child c.args.parent.now _ _ went.0 w takes Again leads tt) in
     subst (λ (h : Hand Mine). HasWalked layout j c.args.at c.args.parent.now c.args.child (known h.seat) Lost) (sym (c.in-Again.ensures.same)) it
 
 pub returns-in-Again-clause-since : goal.returns-in-Again-clause-since
@@ -85,7 +85,7 @@ returns-in-Down-clause-walked c =
     let went = c.look-glance.ensures.goes in
     let takes = goes_takes _ _ _ went.2 in
     let leads = c.in-Down.ensures.leads went.0 went.1 in
-    let it = on_as _ _ _ (on_after layout _ _ _ _ c.requires.process went.2) (walked_lost j c.args.at c.args.child c.args.parent.now _ _ went.0 w takes (Down c.in-Down._child) leads tt) in
+    let it = on_as _ _ _ (on_after layout _ _ _ _ c.requires.runs.on went.2) (walked_lost j c.args.at c.args.child c.args.parent.now _ _ went.0 w takes (Down c.in-Down._child) leads tt) in
     subst (λ (h : Hand Mine). HasWalked layout j c.args.at c.args.parent.now c.args.child (known h.seat) Lost) (sym (c.in-Down.ensures.same)) it
 
 pub returns-in-Down-clause-since : goal.returns-in-Down-clause-since

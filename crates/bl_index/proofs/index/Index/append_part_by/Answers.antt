@@ -1,4 +1,4 @@
-use Rattle.std.proofs.Common.{◌≡◌, ◌-◌, ◌++◌, take, drop, sym, ap, subst, ◌∙◌, arith}
+use Rattle.std.proofs.Common.{rules, ◌≡◌, ◌-◌, ◌++◌, take, drop, sym, ap, subst, ◌∙◌, arith}
 use Rattle.bl_page.specs.Faults.{HasPairs, pairs_of}
 use Rattle.bl_store.specs.Hands.{known, read_words}
 use Rattle.bl_store.specs.declared.store.Hand.{Hand}
@@ -45,17 +45,19 @@ returns-in-Err-clause-appends c =
     let many = between_length _ has.reads.3 (leaf_pairs _ _ _ has.leaf) c.args.from c.args.to _ _ portion.ensures.first portion.ensures.last in
     record { listed = tt; left = part_leaves _ _ c.args.from c.args.turns _ c.come_to_leaf.new.hand.seat c.end_part.new.hand.seat _ has ended c.args.to _ _ _ none (omega (arith, full, many)) }
 
-pub returns-in-Ok-clause-idle : goal.returns-in-Ok-clause-idle
-returns-in-Ok-clause-idle c = c.end_part.ensures.idle
+pub returns-in-Ok-clause-rests : goal.returns-in-Ok-clause-rests
+returns-in-Ok-clause-rests c = record {
+  idle = c.end_part.ensures.idle;
+  within = c.end_part.ensures.within;
+  over = search rules;
+}
 
-pub returns-in-Ok-clause-within : goal.returns-in-Ok-clause-within
-returns-in-Ok-clause-within c = c.end_part.ensures.within
-
-pub returns-in-Err-clause-idle : goal.returns-in-Err-clause-idle
-returns-in-Err-clause-idle c = c.end_part.ensures.idle
-
-pub returns-in-Err-clause-within : goal.returns-in-Err-clause-within
-returns-in-Err-clause-within c = c.end_part.ensures.within
+pub returns-in-Err-clause-rests : goal.returns-in-Err-clause-rests
+returns-in-Err-clause-rests c = record {
+  idle = c.end_part.ensures.idle;
+  within = c.end_part.ensures.within;
+  over = search rules;
+}
 
 pub returns-in_default-clause-same : goal.returns-in_default-clause-same
 returns-in_default-clause-same c = c.come_to_leaf.ensures.same

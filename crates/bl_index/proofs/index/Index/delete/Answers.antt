@@ -15,10 +15,10 @@ returns-clause-deletes g c =
     }
 
 pub returns-clause-alone : goal.returns-clause-alone
-returns-clause-alone g c = let e = c.delete_key.ensures in steps_alone c.args.self.now c.args.pass.now c.delete_key.new.hand.seat (op.Delete c.args.key) c.requires e.same e.within _ (op_answered _ _ _ _ _ _ _ _ _ e.deleted.done c.requires.2 refl e.deleted.answer)
+returns-clause-alone g c = let e = c.delete_key.ensures in steps_alone c.args.self.now c.args.pass.now c.delete_key.new.hand.seat (op.Delete c.args.key) c.requires e.same e.rests.within _ (op_answered _ _ _ _ _ _ _ _ _ e.deleted.done c.requires.2 refl e.deleted.answer)
 
 pub returns-clause-same : goal.returns-clause-same
 returns-clause-same g c = let e = c.delete_key.ensures in same_pass c.args.pass.now.hand c.delete_key.new.hand e.same (done_first _ _ _ _ _ e.deleted.done)
 
 pub invariant_of-pass : goal.invariant_of-pass
-invariant_of-pass g c = let e = c.delete_key.ensures in record { idle = e.idle.0; empty = e.idle.1; within = e.within; rests = e.rests; seen = ∣ e.deleted.done.told.notes.seen ∣₁ }
+invariant_of-pass g c = let e = c.delete_key.ensures in record { idle = e.rests.idle; empty = e.empty; within = e.rests.within; rests = e.rests.over; seen = ∣ e.deleted.done.told.notes.seen ∣₁ }

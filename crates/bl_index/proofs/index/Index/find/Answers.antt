@@ -10,4 +10,4 @@ pub returns-clause-answers : goal.returns-clause-answers
 returns-clause-answers c = told_from _ _ _ _ _ _ _ _ _ c.requires.2 c.find_key.ensures.answers
 
 pub returns-clause-alone : goal.returns-clause-alone
-returns-clause-alone c = let e = c.find_key.ensures in keys_alone c.args.self.now c.args.pass.now c.find_key.new.hand.seat (op.Find c.args.key) c.requires e.same.0 e.within _ _ c.find_key.result (returns-clause-answers c)
+returns-clause-alone c = let e = c.find_key.ensures in keys_alone c.args.self.now c.args.pass.now c.find_key.new.hand.seat (op.Find c.args.key) c.requires e.same.0 e.rests.within _ _ c.find_key.result (returns-clause-answers c)

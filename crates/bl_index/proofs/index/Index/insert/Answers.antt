@@ -22,13 +22,13 @@ returns-clause-inserts g c =
     }
 
 pub returns-clause-alone : goal.returns-clause-alone
-returns-clause-alone g c = let e = c.insert_pair.ensures in steps_alone c.args.self.now c.args.pass.now c.insert_pair.new.hand.seat (op.Insert c.args.key c.args.value) c.requires e.same e.within _ (op_answered _ _ _ _ _ _ _ _ _ e.inserted.done c.requires.2 refl e.inserted.answer)
+returns-clause-alone g c = let e = c.insert_pair.ensures in steps_alone c.args.self.now c.args.pass.now c.insert_pair.new.hand.seat (op.Insert c.args.key c.args.value) c.requires e.same e.rests.within _ (op_answered _ _ _ _ _ _ _ _ _ e.inserted.done c.requires.2 refl e.inserted.answer)
 
 pub returns-clause-same : goal.returns-clause-same
 returns-clause-same g c = let e = c.insert_pair.ensures in same_pass c.args.pass.now.hand c.insert_pair.new.hand e.same (done_first _ _ _ _ _ e.inserted.done)
 
 pub invariant_of-pass : goal.invariant_of-pass
-invariant_of-pass g c = let e = c.insert_pair.ensures in record { idle = e.idle.0; empty = e.idle.1; within = e.within; rests = e.rests; seen = ∣ e.inserted.done.told.notes.seen ∣₁ }
+invariant_of-pass g c = let e = c.insert_pair.ensures in record { idle = e.rests.idle; empty = e.empty; within = e.rests.within; rests = e.rests.over; seen = ∣ e.inserted.done.told.notes.seen ∣₁ }
 
 pub returns-clause-no_room : goal.returns-clause-no_room
 returns-clause-no_room g c = λ none.

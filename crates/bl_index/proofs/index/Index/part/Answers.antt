@@ -10,4 +10,4 @@ pub returns-clause-answers : goal.returns-clause-answers
 returns-clause-answers c = told_from _ _ _ _ _ _ _ _ _ c.requires.2 c.list_part.ensures.answers
 
 pub returns-clause-alone : goal.returns-clause-alone
-returns-clause-alone c = let e = c.list_part.ensures in finds_alone c.args.self.now c.args.pass.now c.list_part.new.hand.seat (op.Part c.args.from) c.requires e.same.0 e.within _ _ c.list_part.result (returns-clause-answers c)
+returns-clause-alone c = let e = c.list_part.ensures in finds_alone c.args.self.now c.args.pass.now c.list_part.new.hand.seat (op.Part c.args.from) c.requires e.same.0 e.rests.within _ _ c.list_part.result (returns-clause-answers c)

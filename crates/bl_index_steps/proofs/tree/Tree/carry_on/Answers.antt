@@ -61,5 +61,9 @@ returns-in-AtEnd-clause-no_room g c = λ a is none.
     let keeps = stays_room c.loop.hand.seat c.step.new.hand.seat p q after.1 after.4 after.2 inv.room in
     ends_room c.step.new.hand.seat c.finish.new.hand.seat q (g.P.Kind.proc_of c.finish.new.process) (laws.goes _ _ _ c.finish.ensures.takes) c.finish.ensures.refusal (ends_keeps _ (known c.step.new.hand.seat) (known c.finish.new.hand.seat) c.finish.ensures.told) keeps (answers_refused _ a (laws.answers c.finish.new.process ∙ is) none)
 
-pub returns-in-AtEnd-clause-within : goal.returns-in-AtEnd-clause-within
-returns-in-AtEnd-clause-within g c = c.finish.ensures.within
+pub returns-in-AtEnd-clause-rests : goal.returns-in-AtEnd-clause-rests
+returns-in-AtEnd-clause-rests g c = record {
+  idle = search rules;
+  within = c.finish.ensures.within;
+  over = search rules;
+}

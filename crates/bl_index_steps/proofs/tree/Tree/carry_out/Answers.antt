@@ -22,11 +22,8 @@ begin-requires-clause-own g c = c.requires.own
 pub begin-requires-clause-new : goal.begin-requires-clause-new
 begin-requires-clause-new g c = c.requires.new
 
-pub returns-clause-idle : goal.returns-clause-idle
-returns-clause-idle g c = c.carry_on.ensures.idle
-
-pub returns-clause-within : goal.returns-clause-within
-returns-clause-within g c = c.carry_on.ensures.within
+pub returns-clause-empty : goal.returns-clause-empty
+returns-clause-empty g c = c.carry_on.ensures.empty
 
 pub returns-clause-rests : goal.returns-clause-rests
 returns-clause-rests g c = c.carry_on.ensures.rests
@@ -34,8 +31,5 @@ returns-clause-rests g c = c.carry_on.ensures.rests
 pub returns-clause-no_room : goal.returns-clause-no_room
 returns-clause-no_room g c = c.carry_on.ensures.no_room
 
-pub carry_on-requires-clause-running : goal.carry_on-requires-clause-running
-carry_on-requires-clause-running g c = c.begin.ensures.running
-
-pub carry_on-requires-clause-process : goal.carry_on-requires-clause-process
-carry_on-requires-clause-process g c = c.begin.ensures.process
+pub carry_on-requires-clause-runs : goal.carry_on-requires-clause-runs
+carry_on-requires-clause-runs g c = c.begin.ensures.runs

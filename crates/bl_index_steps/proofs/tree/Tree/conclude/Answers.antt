@@ -1,5 +1,5 @@
 use Rattle.bl_index_steps.proofs.Held.{goes_keeps, ends_keeps, keeps_both, open_latches_not}
-use Rattle.std.proofs.Common.{refl, ap, ◌∙◌}
+use Rattle.std.proofs.Common.{rules, refl, ap, ◌∙◌}
 use Rattle.bl_proc_base.specs.declared.acts.Seen.TheVariants as seen
 use Rattle.bl_proc.specs.Processes.{next_of}
 use Rattle.bl_store.specs.Hands.{known}
@@ -14,8 +14,12 @@ end-requires-clause-rule c =
     let stands = goes_to seen.Done (known c.args.hand.now.seat) (known c.reopen.new.hand.seat) (known c.args.hand.now.seat).state c.requires.opens.0 c.reopen.ensures.goes refl opens.opened in
     ends_process _ _ (known c.reopen.new.hand.seat) (ap next_of stands ∙ opens.at_end) (course_at seen.Done _ _ stands opens.over)
 
-pub returns-clause-within : goal.returns-clause-within
-returns-clause-within c = ends_within c.args.self.now.store.layout c.reopen.new.hand.seat c.end.new.hand.seat _ (c.reopen.ensures.same.0.1 ∙ c.requires.own.1) c.end.ensures.same.0.1 (c.reopen.ensures.goes.steps.passes ∙ c.requires.process.passes) c.end.ensures.told.1.0
+pub returns-clause-rests : goal.returns-clause-rests
+returns-clause-rests c = record {
+  idle = search rules;
+  within = (ends_within c.args.self.now.store.layout c.reopen.new.hand.seat c.end.new.hand.seat _ (c.reopen.ensures.same.0.1 ∙ c.requires.runs.own.1) c.end.ensures.same.0.1 (c.reopen.ensures.goes.steps.passes ∙ c.requires.runs.on.passes) c.end.ensures.told.1.0);
+  over = search rules;
+}
 
 pub returns-clause-done : goal.returns-clause-done
 returns-clause-done c = λ pass old first ending last since opens op work.

@@ -4,7 +4,7 @@ use Rattle.bl_index_steps.proofs.Looks.{probed_as}
 use Rattle.bl_index_steps.proofs.tree.Tree.is_open.Goals as goal
 
 pub probe-requires-clause-rule : goal.probe-requires-clause-rule
-probe-requires-clause-rule c = probes_page _ _ (known c.args.hand.now.seat) c.requires.process.runs _ c.requires.next c.requires.course
+probe-requires-clause-rule c = probes_page _ _ (known c.args.hand.now.seat) c.requires.runs.on.runs _ c.requires.next c.requires.course
 
 pub returns-clause-goes : goal.returns-clause-goes
 returns-clause-goes c = let told = c.probe.ensures.told in probed_as c.probe.result _ _ c.args.page told.0 told.1 told.2 told.3

@@ -3,14 +3,8 @@ use Rattle.bl_index_steps.proofs.Rooms.{tells_done, put_opens_not}
 use Rattle.std.proofs.Common.{◌∙◌}
 use Rattle.bl_index_steps.proofs.tree.Tree.put.Goals as goal
 
-pub put_first-requires-clause-own : goal.put_first-requires-clause-own
-put_first-requires-clause-own g c = c.requires.own
-
-pub put_first-requires-clause-running : goal.put_first-requires-clause-running
-put_first-requires-clause-running g c = c.requires.running
-
-pub put_first-requires-clause-process : goal.put_first-requires-clause-process
-put_first-requires-clause-process g c = c.requires.process
+pub put_first-requires-clause-runs : goal.put_first-requires-clause-runs
+put_first-requires-clause-runs g c = c.requires.runs
 
 pub put_first-requires-clause-next : goal.put_first-requires-clause-next
 put_first-requires-clause-next g c = c.requires.next
@@ -18,8 +12,8 @@ put_first-requires-clause-next g c = c.requires.next
 pub returns-in-Some-clause-same : goal.returns-in-Some-clause-same
 returns-in-Some-clause-same g c = c.put_first.ensures.same
 
-pub returns-in-Some-clause-process : goal.returns-in-Some-clause-process
-returns-in-Some-clause-process g c = c.put_first.ensures.process
+pub returns-in-Some-clause-runs : goal.returns-in-Some-clause-runs
+returns-in-Some-clause-runs g c = c.put_first.ensures.runs
 
 pub returns-in-Some-clause-moves : goal.returns-in-Some-clause-moves
 returns-in-Some-clause-moves g c = c.put_first.ensures.moves
@@ -30,14 +24,8 @@ returns-in-Some-clause-takes g c = c.put_first.ensures.takes
 pub returns-in-Some-clause-stock : goal.returns-in-Some-clause-stock
 returns-in-Some-clause-stock g c = c.put_first.ensures.stock
 
-pub put_with-requires-clause-own : goal.put_with-requires-clause-own
-put_with-requires-clause-own g c = c.requires.own
-
-pub put_with-requires-clause-running : goal.put_with-requires-clause-running
-put_with-requires-clause-running g c = c.requires.running
-
-pub put_with-requires-clause-process : goal.put_with-requires-clause-process
-put_with-requires-clause-process g c = c.requires.process
+pub put_with-requires-clause-runs : goal.put_with-requires-clause-runs
+put_with-requires-clause-runs g c = c.requires.runs
 
 pub put_with-requires-clause-next : goal.put_with-requires-clause-next
 put_with-requires-clause-next g c = c.requires.next
@@ -45,8 +33,8 @@ put_with-requires-clause-next g c = c.requires.next
 pub returns-clause-same : goal.returns-clause-same
 returns-clause-same g c = c.put_with.ensures.same
 
-pub returns-clause-process : goal.returns-clause-process
-returns-clause-process g c = c.put_with.ensures.process
+pub returns-clause-runs : goal.returns-clause-runs
+returns-clause-runs g c = c.put_with.ensures.runs
 
 pub returns-clause-moves : goal.returns-clause-moves
 returns-clause-moves g c = c.put_with.ensures.moves

@@ -9,13 +9,13 @@ use Rattle.bl_index_steps.proofs.Standing.{course_at}
 use Rattle.bl_index_steps.proofs.tree.Tree.replace.Goals as goal
 
 pub reserve-requires-clause-refuses : goal.reserve-requires-clause-refuses
-reserve-requires-clause-refuses c = refuses_put _ _ (known c.args.hand.now.seat) c.requires.process.runs _ c.requires.next.0 c.requires.next.1 c.requires.course.1
+reserve-requires-clause-refuses c = refuses_put _ _ (known c.args.hand.now.seat) c.requires.runs.on.runs _ c.requires.next.0 c.requires.next.1 c.requires.course.1
 
 pub put-requires-clause-rule : goal.put-requires-clause-rule
 put-requires-clause-rule c =
     let same : known c.reserve.new.hand.seat ≡ known c.args.hand.now.seat = (c.in-Ok.ensures.no_page refl).1 in
     let state = ap (λ (d : Mine). d.state) same in
-    puts_page _ _ (known c.reserve.new.hand.seat) (ap (λ (d : Mine). d.runs) same ∙ c.requires.process.runs) _ _ c.requires.next.0 (ap next_of state ∙ c.requires.next.1) c.requires.next.2 (course_at seen.Done _ _ state c.requires.course.0)
+    puts_page _ _ (known c.reserve.new.hand.seat) (ap (λ (d : Mine). d.runs) same ∙ c.requires.runs.on.runs) _ _ c.requires.next.0 (ap next_of state ∙ c.requires.next.1) c.requires.next.2 (course_at seen.Done _ _ state c.requires.course.0)
 
 pub returns-in-Ok-clause-done : goal.returns-in-Ok-clause-done
 returns-in-Ok-clause-done c = λ e.

@@ -13,7 +13,7 @@ use Rattle.bl_index_steps.proofs.Standing.{course_at}
 use Rattle.bl_index_steps.proofs.tree.Tree.replace_spread.Goals as goal
 
 pub reserve-requires-clause-refuses : goal.reserve-requires-clause-refuses
-reserve-requires-clause-refuses c = refuses_put _ _ (known c.args.hand.now.seat) c.requires.process.runs _ c.requires.next.0 c.requires.next.1 c.requires.course.1
+reserve-requires-clause-refuses c = refuses_put _ _ (known c.args.hand.now.seat) c.requires.runs.on.runs _ c.requires.next.0 c.requires.next.1 c.requires.course.1
 
 pub put_spread-requires-clause-reads : goal.put_spread-requires-clause-reads
 put_spread-requires-clause-reads c =
@@ -25,7 +25,7 @@ put_spread-requires-clause-rule c =
     let state = ap (λ (d : Mine). d.state) same in (
       words_of c.requires.next.0,
       subst (λ (z : Reading). IsSpread c.args.change (words_in z) (words_of c.requires.next.0)) (sym (c.in-Ok.ensures.reads refl)) c.requires.next.2,
-      puts_page _ _ (known c.reserve.new.hand.seat) (ap (λ (d : Mine). d.runs) same ∙ c.requires.process.runs) _ _ c.requires.next.0 (ap next_of state ∙ c.requires.next.1) refl (course_at seen.Done _ _ state c.requires.course.0),
+      puts_page _ _ (known c.reserve.new.hand.seat) (ap (λ (d : Mine). d.runs) same ∙ c.requires.runs.on.runs) _ _ c.requires.next.0 (ap next_of state ∙ c.requires.next.1) refl (course_at seen.Done _ _ state c.requires.course.0),
     )
 
 pub returns-in-Ok-clause-done : goal.returns-in-Ok-clause-done

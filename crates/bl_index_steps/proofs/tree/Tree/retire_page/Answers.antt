@@ -1,4 +1,4 @@
-use Rattle.std.proofs.Common.{ap, sym, ◌∙◌, subst}
+use Rattle.std.proofs.Common.{rules, ap, sym, ◌∙◌, subst}
 use Rattle.bl_proc_base.specs.declared.acts.Seen.TheVariants as seen
 use Rattle.bl_proc.specs.declared.kinds.Proc.{Proc}
 use Rattle.bl_proc.specs.Processes.{next_of}
@@ -10,7 +10,7 @@ use Rattle.bl_index_steps.proofs.Standing.{on_goes}
 use Rattle.bl_index_steps.proofs.tree.Tree.retire_page.Goals as goal
 
 pub retire-requires-clause-rule : goal.retire-requires-clause-rule
-retire-requires-clause-rule g c = let laws = g.met.P.Kind in retires_page _ _ (known c.args.hand.now.seat) c.requires.process.runs _ (ap next_of c.requires.process.state ∙ (laws.acts c.args.process.now ∙ c.requires.next.1)) (subst (λ (z : Proc). GoesOn z seen.Done) (sym c.requires.process.state) (laws.courses c.args.process.now seen.Done c.requires.next.0 (rw c.requires.next.1 tt)))
+retire-requires-clause-rule g c = let laws = g.met.P.Kind in retires_page _ _ (known c.args.hand.now.seat) c.requires.runs.on.runs _ (ap next_of c.requires.runs.on.state ∙ (laws.acts c.args.process.now ∙ c.requires.next.1)) (subst (λ (z : Proc). GoesOn z seen.Done) (sym c.requires.runs.on.state) (laws.courses c.args.process.now seen.Done c.requires.next.0 (rw c.requires.next.1 tt)))
 
 pub returns-clause-takes : goal.returns-clause-takes
 returns-clause-takes g c = (seen.Done, c.took.ensures, tells_done c.args.hand.now.seat c.retire.new.hand.seat (g.P.Kind.proc_of c.args.process.now) (λ x opens. absurd (retire_opens_not (g.P.Kind.proc_of c.args.process.now) _ (g.met.P.Kind.acts c.args.process.now ∙ c.requires.next.1) x opens)))
@@ -27,8 +27,12 @@ returns-clause-same g c = c.retire.ensures.same
 pub returns-clause-stock : goal.returns-clause-stock
 returns-clause-stock g c = c.retire.ensures.stock.0 ∙ c.requires.empty
 
-pub returns-clause-process : goal.returns-clause-process
-returns-clause-process g c = on_goes c.args.self.now.store.layout seen.Done (known c.args.hand.now.seat) (known c.retire.new.hand.seat) (g.P.Kind.proc_of c.args.process.now) (g.P.Kind.proc_of c.took.new.self) c.requires.process c.retire.ensures.told.1 (g.met.P.Kind.goes c.args.process.now c.took.new.self seen.Done c.took.ensures)
+pub returns-clause-runs : goal.returns-clause-runs
+returns-clause-runs g c = record {
+  own = search rules;
+  running = search rules;
+  on = (on_goes c.args.self.now.store.layout seen.Done (known c.args.hand.now.seat) (known c.retire.new.hand.seat) (g.P.Kind.proc_of c.args.process.now) (g.P.Kind.proc_of c.took.new.self) c.requires.runs.on c.retire.ensures.told.1 (g.met.P.Kind.goes c.args.process.now c.took.new.self seen.Done c.took.ensures));
+}
 
 pub returns-clause-moves : goal.returns-clause-moves
 returns-clause-moves g c = (seen.Done, c.retire.ensures.told.1)

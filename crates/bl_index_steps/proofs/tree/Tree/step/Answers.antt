@@ -8,74 +8,38 @@ use Rattle.bl_index_steps.proofs.tree.Tree.step.Goals as goal
 pub next-requires : goal.next-requires
 next-requires g c = c.requires.going.0
 
-pub read-requires-clause-own : goal.read-requires-clause-own
-read-requires-clause-own g c = c.requires.own
-
-pub read-requires-clause-running : goal.read-requires-clause-running
-read-requires-clause-running g c = c.requires.running
-
-pub read-requires-clause-process : goal.read-requires-clause-process
-read-requires-clause-process g c = c.requires.process
+pub read-requires-clause-runs : goal.read-requires-clause-runs
+read-requires-clause-runs g c = c.requires.runs
 
 pub read-requires-clause-next : goal.read-requires-clause-next
 read-requires-clause-next g c = (c.requires.going.0, sym c.next.ensures ∙ c.in-Get.is)
 
-pub latch-requires-clause-own : goal.latch-requires-clause-own
-latch-requires-clause-own g c = c.requires.own
-
-pub latch-requires-clause-running : goal.latch-requires-clause-running
-latch-requires-clause-running g c = c.requires.running
-
-pub latch-requires-clause-process : goal.latch-requires-clause-process
-latch-requires-clause-process g c = c.requires.process
+pub latch-requires-clause-runs : goal.latch-requires-clause-runs
+latch-requires-clause-runs g c = c.requires.runs
 
 pub latch-requires-clause-next : goal.latch-requires-clause-next
 latch-requires-clause-next g c = (c.requires.going.0, sym c.next.ensures ∙ c.in-Latch.is)
 
-pub open_page-requires-clause-own : goal.open_page-requires-clause-own
-open_page-requires-clause-own g c = c.requires.own
-
-pub open_page-requires-clause-running : goal.open_page-requires-clause-running
-open_page-requires-clause-running g c = c.requires.running
-
-pub open_page-requires-clause-process : goal.open_page-requires-clause-process
-open_page-requires-clause-process g c = c.requires.process
+pub open_page-requires-clause-runs : goal.open_page-requires-clause-runs
+open_page-requires-clause-runs g c = c.requires.runs
 
 pub open_page-requires-clause-next : goal.open_page-requires-clause-next
 open_page-requires-clause-next g c = (c.requires.going.0, sym c.next.ensures ∙ c.in-Open.is)
 
-pub put-requires-clause-own : goal.put-requires-clause-own
-put-requires-clause-own g c = c.requires.own
-
-pub put-requires-clause-running : goal.put-requires-clause-running
-put-requires-clause-running g c = c.requires.running
-
-pub put-requires-clause-process : goal.put-requires-clause-process
-put-requires-clause-process g c = c.requires.process
+pub put-requires-clause-runs : goal.put-requires-clause-runs
+put-requires-clause-runs g c = c.requires.runs
 
 pub put-requires-clause-next : goal.put-requires-clause-next
 put-requires-clause-next g c = (c.requires.going.0, sym c.next.ensures ∙ c.in-Put.is)
 
-pub take-requires-clause-own : goal.take-requires-clause-own
-take-requires-clause-own g c = c.requires.own
-
-pub take-requires-clause-running : goal.take-requires-clause-running
-take-requires-clause-running g c = c.requires.running
-
-pub take-requires-clause-process : goal.take-requires-clause-process
-take-requires-clause-process g c = c.requires.process
+pub take-requires-clause-runs : goal.take-requires-clause-runs
+take-requires-clause-runs g c = c.requires.runs
 
 pub take-requires-clause-next : goal.take-requires-clause-next
 take-requires-clause-next g c = (c.requires.going.0, sym c.next.ensures ∙ c.in-Take.is)
 
-pub retire_page-requires-clause-own : goal.retire_page-requires-clause-own
-retire_page-requires-clause-own g c = c.requires.own
-
-pub retire_page-requires-clause-running : goal.retire_page-requires-clause-running
-retire_page-requires-clause-running g c = c.requires.running
-
-pub retire_page-requires-clause-process : goal.retire_page-requires-clause-process
-retire_page-requires-clause-process g c = c.requires.process
+pub retire_page-requires-clause-runs : goal.retire_page-requires-clause-runs
+retire_page-requires-clause-runs g c = c.requires.runs
 
 pub retire_page-requires-clause-next : goal.retire_page-requires-clause-next
 retire_page-requires-clause-next g c = (c.requires.going.0, sym c.next.ensures ∙ c.in-Retire.is)
@@ -106,7 +70,7 @@ returns-in-Get-clause-after g c =
     let laws = g.met.P.Kind in let p = g.P.Kind.proc_of c.args.process.now in let q = g.P.Kind.proc_of c.read.new.process in
     let t = c.read.ensures.takes in let follows = laws.follows c.args.process.now c.read.new.process (seen.Words t.0) t.1 in
     let next = laws.acts c.args.process.now ∙ (sym c.next.ensures ∙ c.in-Get.is) in (
-      c.read.ensures.process,
+      c.read.ensures.runs.on,
       c.read.ensures.moves,
       stays_reserved p q (seen.Words t.0) (act.Get c.in-Get.page) next tt follows.frames (laws.retires c.args.process.now c.read.new.process (seen.Words t.0) t.1) c.args.hand.now.seat c.read.new.hand.seat c.args.held (g.P.Kind.wants c.args.process.now) c.read.ensures.same.0.1 c.read.ensures.same.2 c.requires.stock,
       ((seen.Words t.0), follows, laws.goes c.args.process.now c.read.new.process (seen.Words t.0) t.1, tells_words c.args.hand.now.seat c.read.new.hand.seat p c.in-Get.page t.0 next),
@@ -118,7 +82,7 @@ returns-in-Latch-clause-after g c =
     let laws = g.met.P.Kind in let p = g.P.Kind.proc_of c.args.process.now in let q = g.P.Kind.proc_of c.latch.new.process in
     let t = c.latch.ensures.takes in let follows = laws.follows c.args.process.now c.latch.new.process t.0 t.1 in
     let next = laws.acts c.args.process.now ∙ (sym c.next.ensures ∙ c.in-Latch.is) in (
-      c.latch.ensures.process,
+      c.latch.ensures.runs.on,
       c.latch.ensures.moves,
       stays_reserved p q t.0 (act.Latch c.in-Latch.page) next tt follows.frames (laws.retires c.args.process.now c.latch.new.process t.0 t.1) c.args.hand.now.seat c.latch.new.hand.seat c.args.held (g.P.Kind.wants c.args.process.now) c.latch.ensures.same.0.1 c.latch.ensures.stock c.requires.stock,
       (t.0, follows, laws.goes c.args.process.now c.latch.new.process t.0 t.1, t.2),
@@ -130,7 +94,7 @@ returns-in-Open-clause-after g c =
     let laws = g.met.P.Kind in let p = g.P.Kind.proc_of c.args.process.now in let q = g.P.Kind.proc_of c.open_page.new.process in
     let t = c.open_page.ensures.takes in let follows = laws.follows c.args.process.now c.open_page.new.process t.0 t.1 in
     let next = laws.acts c.args.process.now ∙ (sym c.next.ensures ∙ c.in-Open.is) in (
-      c.open_page.ensures.process,
+      c.open_page.ensures.runs.on,
       c.open_page.ensures.moves,
       stays_reserved p q t.0 (act.Open c.in-Open.page) next tt follows.frames (laws.retires c.args.process.now c.open_page.new.process t.0 t.1) c.args.hand.now.seat c.open_page.new.hand.seat c.args.held (g.P.Kind.wants c.args.process.now) c.open_page.ensures.same.0.1 c.open_page.ensures.stock c.requires.stock,
       (t.0, follows, laws.goes c.args.process.now c.open_page.new.process t.0 t.1, t.2),
@@ -142,7 +106,7 @@ returns-in-Put-clause-after g c =
     let laws = g.met.P.Kind in let p = g.P.Kind.proc_of c.args.process.now in let q = g.P.Kind.proc_of c.put.new.process in
     let t = c.put.ensures.takes in let follows = laws.follows c.args.process.now c.put.new.process t.0 t.1 in
     let next = laws.acts c.args.process.now ∙ (sym c.next.ensures ∙ c.in-Put.is) in (
-      c.put.ensures.process,
+      c.put.ensures.runs.on,
       c.put.ensures.moves,
       c.put.ensures.stock,
       (t.0, follows, laws.goes c.args.process.now c.put.new.process t.0 t.1, t.2),
@@ -154,7 +118,7 @@ returns-in-Take-clause-after g c =
     let laws = g.met.P.Kind in let p = g.P.Kind.proc_of c.args.process.now in let q = g.P.Kind.proc_of c.take.new.process in
     let t = c.take.ensures.takes in let follows = laws.follows c.args.process.now c.take.new.process t.0 t.1 in
     let next = laws.acts c.args.process.now ∙ (sym c.next.ensures ∙ c.in-Take.is) in (
-      c.take.ensures.process,
+      c.take.ensures.runs.on,
       c.take.ensures.moves,
       c.take.ensures.stock,
       (t.0, follows, laws.goes c.args.process.now c.take.new.process t.0 t.1, t.2),
@@ -166,7 +130,7 @@ returns-in-Retire-clause-after g c =
     let laws = g.met.P.Kind in let p = g.P.Kind.proc_of c.args.process.now in let q = g.P.Kind.proc_of c.retire_page.new.process in
     let t = c.retire_page.ensures.takes in let follows = laws.follows c.args.process.now c.retire_page.new.process t.0 t.1 in
     let next = laws.acts c.args.process.now ∙ (sym c.next.ensures ∙ c.in-Retire.is) in (
-      c.retire_page.ensures.process,
+      c.retire_page.ensures.runs.on,
       c.retire_page.ensures.moves,
       gives_up p q t.0 (act.Retire c.in-Retire.page) next tt follows.frames (laws.retires c.args.process.now c.retire_page.new.process t.0 t.1) c.retire_page.new.hand.seat c.retire_page.ensures.stock,
       (t.0, follows, laws.goes c.args.process.now c.retire_page.new.process t.0 t.1, t.2),

@@ -7,10 +7,10 @@ use Rattle.bl_index_rule.proofs.Pages.{takes_page, refuses_take}
 use Rattle.bl_index_steps.proofs.tree.Tree.take_page.Goals as goal
 
 pub reserve-requires-clause-takes : goal.reserve-requires-clause-takes
-reserve-requires-clause-takes c = λ asked x. takes_page _ _ (known c.args.hand.now.seat) c.requires.process.runs x c.requires.next c.requires.course.0
+reserve-requires-clause-takes c = λ asked x. takes_page _ _ (known c.args.hand.now.seat) c.requires.runs.on.runs x c.requires.next c.requires.course.0
 
 pub reserve-requires-clause-refuses : goal.reserve-requires-clause-refuses
-reserve-requires-clause-refuses c = refuses_take _ _ (known c.args.hand.now.seat) c.requires.process.runs c.requires.next c.requires.course.1
+reserve-requires-clause-refuses c = refuses_take _ _ (known c.args.hand.now.seat) c.requires.runs.on.runs c.requires.next c.requires.course.1
 
 pub returns-in-Some-clause-took : goal.returns-in-Some-clause-took
 returns-in-Some-clause-took c =

@@ -5,10 +5,10 @@ use Rattle.bl_index_rule.proofs.Pages.{latches_page, misses_page}
 use Rattle.bl_index_steps.proofs.tree.Tree.try_latch.Goals as goal
 
 pub try_latch-requires-clause-latches : goal.try_latch-requires-clause-latches
-try_latch-requires-clause-latches c = latches_page _ _ (known c.args.hand.now.seat) c.requires.process.runs _ c.requires.next c.requires.course.0
+try_latch-requires-clause-latches c = latches_page _ _ (known c.args.hand.now.seat) c.requires.runs.on.runs _ c.requires.next c.requires.course.0
 
 pub try_latch-requires-clause-misses : goal.try_latch-requires-clause-misses
-try_latch-requires-clause-misses c = misses_page _ _ (known c.args.hand.now.seat) c.requires.process.runs _ c.requires.next c.requires.course.1
+try_latch-requires-clause-misses c = misses_page _ _ (known c.args.hand.now.seat) c.requires.runs.on.runs _ c.requires.next c.requires.course.1
 
 pub returns-clause-done : goal.returns-clause-done
 returns-clause-done c = λ e. let told = c.try_latch.ensures.told in told.3.0 (told.2.0 e)
