@@ -110,7 +110,7 @@ serves_nothing index done olds t = record {
   answers = [];
   holds = record {
     more = [];
-    held = record { answers = []; each = tt; prints = refl; interleaves = All-nil (λ (list : List Entry). list ≡ []) };
+    held = record { answers = []; each = tt; prints = refl; interleaves = Done [] (All-nil (λ (list : List Entry). list ≡ [])) };
     together = subst (λ (z : Trail). AreTogether index z olds) (sym (append-nil (seen_by olds))) t;
   };
   ends = refl;

@@ -111,7 +111,7 @@ module _ (first : List (Option Page)) (number : ℕ) (lines : List (Option Reque
         new_are = ap (λ (z : List Pass). n ∷ z) r.new_are;
         each_taken = All-cons (IsTaken first) one r.taken (record { same = same; begins = logs.begins; seen = logs.seen; mine = logs.mine ∙ ap (λ (z : List Entry). own (number_of o) (trail o) ++ z) (sym (flat_id entries_in logs.pieces)) }) r.each_taken;
         each = All-append (IsPiece number lines) logs.pieces r.pieces logs.each r.each;
-        written = map-append (λ (p : Piece). p.output) logs.pieces r.pieces ∙ (ap (λ (z : List BatchOutput). z ++ map (λ p. p.output) r.pieces) (sym logs.log) ∙ ap (λ (z : List BatchOutput). d.log.items ++ z) r.output);
+        written = map-append (λ (p : Piece). p.output) logs.pieces r.pieces ∙ (ap (λ (z : List BatchOutput). z ++ map (λ p. p.output) r.pieces) (sym logs.log) ∙ ap (λ (z : List BatchOutput). d.log.items ++ z) r.written);
         shares = ap (λ (z : List (List Entry)). map entries_in logs.pieces ++ z) r.shares ∙ sym (map-append entries_in logs.pieces r.pieces);
       }
 
@@ -119,7 +119,7 @@ module _ (first : List (Option Page)) (number : ℕ) (lines : List (Option Reque
   pub collected_within : (olds news : List Pass) (slots : List Slot) (written : List BatchOutput) → TakeTurns first number lines olds news slots → Collects slots written → All (IsWithin (length lines)) written
   collected_within olds news slots written turns g =
       let s = spread olds news slots turns g.none_failed in
-      subst (All (IsWithin (length lines))) (s.output ∙ sym g.outputs_are) (All-map (IsWithin (length lines)) (λ (p : Piece). p.output) s.pieces
+      subst (All (IsWithin (length lines))) (s.written ∙ sym g.outputs_are) (All-map (IsWithin (length lines)) (λ (p : Piece). p.output) s.pieces
       (All-weaker (IsPiece number lines) (λ (p : Piece). IsWithin (length lines) p.output) (λ p h. record { order = h.order; within = h.within }) s.pieces s.each))
 
   -- ---- batches that follow each other
@@ -164,7 +164,7 @@ module _ (first : List (Option Page)) (number : ℕ) (lines : List (Option Reque
       → IsPermutation written sorted → Chains 0 (length lines) sorted → text ≡ joined_text sorted → IsChunk first number lines text olds news
   chunk text olds news slots written sorted turns g perm chains text_is =
       let s = spread olds news slots turns g.none_failed in
-      let l = lifted (λ (p : Piece). p.output) s.pieces sorted (subst (λ (z : List BatchOutput). IsPermutation z sorted) (g.outputs_are ∙ sym s.output) perm) in
+      let l = lifted (λ (p : Piece). p.output) s.pieces sorted (subst (λ (z : List BatchOutput). IsPermutation z sorted) (g.outputs_are ∙ sym s.written) perm) in
       let covers = chained 0 (length lines) l.0 (All-permutation (IsPiece number lines) s.pieces l.0 l.1 s.each) (subst (Chains 0 (length lines)) (sym l.2) chains) in record {
         answers = answers_in l.0;
         each = subst (λ (z : List (Option Request)). AllZip IsFor z (answers_in l.0)) (take_all (length lines - 0) lines (omega arith)) covers.each;

@@ -211,11 +211,11 @@ fn collect_outputs(alloc: Global, slots: &mut Vec<Slot>) -> Result<Vec<BatchOutp
 }
 
 /// Answers the lines of a chunk, each pass at the slot that has its place. The output goes behind the text.
-fn answer_chunk<R: Threads + Wait + Sync, G: Gate + Sync, I: Read>(
+fn answer_chunk<'a, R: Threads + Wait + Sync, G: Gate + Sync, I: Read>(
     rt: &R,
-    service: &Service<'_, G>,
+    service: &'a Service<'a, G>,
     session: Session,
-    lines: &ParsedLines,
+    lines: &'a ParsedLines,
     reader: &mut Watched<I>,
     ahead: &mut ReadAhead,
 ) -> Result<Session, ServeFault>
@@ -239,8 +239,9 @@ fn answer_chunk<R: Threads + Wait + Sync, G: Gate + Sync, I: Read>(
     let count = lines.len();
     let batches = batches(rt, service.alloc, count, plan.workers)?;
     let wakeup = Wakeup::new(plan.workers as u64);
+    // Lent anew, for as long as the chunk is there.
     let chunk = Chunk {
-        service,
+        service: &*service,
         wakeup: &wakeup,
         batches: &batches,
         lines: lines.as_slice(),

@@ -1,6 +1,6 @@
 //! The server: sections are read, answered and written.
 
-ghost use Rattle.std.specs.Prelude.{◌≡◌, ℕ, ◌+◌, ◌-◌, ◌<◌, ◌≤◌, ◌^◌, ◌↔◌, IsTrue, List, ◌++◌, length, min, Option, Ok, true, count_by, is_none, vec_len, IfOk, IfErr, OnOk, MatchResult, false};
+ghost use Rattle.std.specs.Prelude.{◌≡◌, ℕ, ◌+◌, ◌-◌, ◌<◌, ◌≤◌, ◌^◌, ◌↔◌, IsTrue, List, [], ◌++◌, length, min, Option, Ok, true, count_by, is_none, vec_len, IfOk, IfErr, OnOk, MatchResult, false};
 ghost use Rattle.std.specs.Io.KnownBytes.{Appends, Consumes, IsAtEnd};
 ghost use Rattle.bl_serve_lines.specs.Served.{Stops};
 ghost use Rattle.bl_index.specs.Calls.{first_of, map_after};
@@ -99,6 +99,17 @@ fn serve_chunk<T: Threads + Wait + Sync, R: Read, G: Gate + Sync>(
     Ok(session)
 }
 
+/// The same session, with no text.
+fn emptied(session: Session) -> Session
+    ensures text { result.text.items ≡ [] }
+    ensures passes { result.passes.items ≡ session.passes.items }
+    ensures totals { result.totals ≡ session.totals }
+{
+    let mut session = session;
+    session.text.clear();
+    session
+}
+
 /// Reads a section, answers it and counts its lines, in chunks: while the lines of one are answered, the next ones are read. The
 /// text then holds the output, and nothing else.
 fn serve_section<T: Threads + Wait + Sync, R: Read, G: Gate + Sync>(
@@ -112,7 +123,7 @@ fn serve_section<T: Threads + Wait + Sync, R: Read, G: Gate + Sync>(
     requires together { AreTogether service.now.index.now (seen_by session.passes.items) session.passes.items }
     requires requests { session.totals.requests < 2 ^ 64 }
     requires sections { session.totals.sections + 1 < 2 ^ 64 }
-    ensures serves { (requests : List (Option Request)) × (rest : List ℕ) × (more : List ℕ)
+    ensures { (requests : List (Option Request)) × (rest : List ℕ) × (more : List ℕ)
         × Consumes (R.remaining reader.old.inner) (R.remaining reader.new.inner) more
         × MatchResult result
         (λ t. EndsReading (Ok t.1) (2 ^ 64 - 1 - session.totals.requests) requests rest (ahead.old.source ++ more) ahead.new.source (IsAtEnd (R.remaining reader.new.inner)) (reader.new.failed ≡ true)
@@ -120,8 +131,7 @@ fn serve_section<T: Threads + Wait + Sync, R: Read, G: Gate + Sync>(
         × ServesSection service.now.index.now session.totals.requests requests t.1 t.0.text.items session.passes.items t.0.passes.items)
         (λ fault. (left : List ℕ) × FailsSection fault session.totals.requests (2 ^ 64 - 1 - session.totals.requests) requests rest (ahead.old.source ++ more) left (IsAtEnd (R.remaining reader.new.inner)) (reader.new.failed ≡ true)) }
 {
-    let mut session = session;
-    session.text.clear();
+    let mut session = emptied(session);
     let mut chunk = FIRST_CHUNK;
     ahead.most = most_behind(session.totals.requests, chunk);
     read_on(reader, ahead);

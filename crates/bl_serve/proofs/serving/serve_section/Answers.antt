@@ -5,7 +5,9 @@ use Rattle.std.proofs.lemmas.Bool.{cases_lt}
 use Rattle.std.proofs.lemmas.List.Sums.{count_by-le-length}
 use Rattle.std.proofs.lemmas.Result.{err_from_is_err_and}
 use Rattle.bl_serve_lines.specs.declared.request.Request.{Request}
+use Rattle.bl_serve_lines.specs.declared.serving.Totals.{Totals}
 use Rattle.bl_serve_lines.proofs.Known.{consumes_more}
+use Rattle.bl_index.specs.declared.index.Pass.{Pass}
 use Rattle.bl_serve.specs.declared.reading.SectionEnd.TheVariants as section_end
 use Rattle.bl_serve.specs.Reading.{EndsReading}
 use Rattle.bl_serve.specs.Serving.{FailsSection, ServesSection}
@@ -21,13 +23,15 @@ loop-init g c = let r = c.read_on.ensures in record {
   more = r.more;
   mid = c.args.ahead.now.source ++ r.more;
   consumed = r.consumed;
-  served = served_nothing c.args.service.now.index.now c.args.session.passes.items c.args.session.totals (c.args.ahead.now.source ++ r.more) c.clear.new.self.items c.clear.ensures.items c.requires.together (let a = c.args.session.some in let d = c.args.session.passes.ok in omega (arith, a, d)) c.requires.requests;
+  served = subst (λ (z : List Pass × Totals). HasServed c.args.service.now.index.now c.args.session.passes.items z.0 c.args.session.totals z.1 (c.args.ahead.now.source ++ r.more) (c.args.ahead.now.source ++ r.more) [] c.emptied-session.result.text.items)
+      (λ i. (sym c.emptied-session.ensures.passes i, sym c.emptied-session.ensures.totals i))
+      (served_nothing c.args.service.now.index.now c.args.session.passes.items c.args.session.totals (c.args.ahead.now.source ++ r.more) c.emptied-session.result.text.items c.emptied-session.ensures.text c.requires.together (let a = c.args.session.some in let d = c.args.session.passes.ok in omega (arith, a, d)) c.requires.requests);
   reads = subst (λ (n : ℕ). EndsReading c.read_on.new.ahead.end n c.read_on.new.ahead.lines r.rest (c.args.ahead.now.source ++ r.more) c.read_on.new.ahead.source (IsAtEnd (g.R.Read.remaining c.read_on.new.reader.inner)) (c.read_on.new.reader.failed ≡ true)) c.most_behind-ahead.ensures r.reads;
 }
 
 -- the section could not be read whole
-pub returns-in_err-end-clause-serves : goal.returns-in_err-end-clause-serves
-returns-in_err-end-clause-serves g c = let i = c.loop.invariant in let p = err_from_is_err_and c.from_residual.result c.from_residual.ensures.1 in
+pub returns-in_err-end : goal.returns-in_err-end
+returns-in_err-end g c = let i = c.loop.invariant in let p = err_from_is_err_and c.from_residual.result c.from_residual.ensures.1 in
     let was : c.loop.ahead.end ≡ Err c.in_err-end.field-0.0 = search rules in
     rw (p.1, p.2) (
       i.asked ++ c.loop.ahead.lines,
@@ -45,8 +49,8 @@ pub serve_chunk-requires-clause-together : goal.serve_chunk-requires-clause-toge
 serve_chunk-requires-clause-together g c κs within = let i = c.loop.invariant in together_by_first c.args.service.now.index.now _ c.loop.session.passes.items i.served.some i.served.serves.holds.together
 
 -- its next lines could not be answered
-pub returns-in_err-back-clause-serves : goal.returns-in_err-back-clause-serves
-returns-in_err-back-clause-serves g c = let i = c.loop.invariant in let p = err_from_is_err_and c.from_residual-in_err-back.result c.from_residual-in_err-back.ensures.1 in let m = c.in_err-back.ensures.consumes in
+pub returns-in_err-back : goal.returns-in_err-back
+returns-in_err-back g c = let i = c.loop.invariant in let p = err_from_is_err_and c.from_residual-in_err-back.result c.from_residual-in_err-back.ensures.1 in let m = c.in_err-back.ensures.consumes in
     let was : c.loop.ahead.end ≡ Ok c.in_ok-end.end = search rules in
     let lines : c.loop.ahead.lines ≡ c.swap.new.x = search rules in
     let e : EndsReading (Ok c.in_ok-end.end) (min c.loop.chunk (18446744073709551615 - c.loop.session.totals.requests)) c.swap.new.x i.rest i.mid c.loop.ahead.source (IsAtEnd (g.R.Read.remaining c.loop.reader.inner)) (c.loop.reader.failed ≡ true)
@@ -66,8 +70,8 @@ returns-in_err-back-clause-serves g c = let i = c.loop.invariant in let p = err_
     )
 
 -- its last lines were answered
-pub returns-then-not-open-clause-serves : goal.returns-then-not-open-clause-serves
-returns-then-not-open-clause-serves g c = let i = c.loop.invariant in let r = c.in_ok-back.ensures.reads in
+pub returns-then-not-open : goal.returns-then-not-open
+returns-then-not-open g c = let i = c.loop.invariant in let r = c.in_ok-back.ensures.reads in
     let was : c.loop.ahead.end ≡ Ok c.in_ok-end.end = search rules in
     let lines : c.loop.ahead.lines ≡ c.swap.new.x = search rules in
     let e : EndsReading (Ok c.in_ok-end.end) (min c.loop.chunk (18446744073709551615 - c.loop.session.totals.requests)) c.swap.new.x i.rest i.mid c.loop.ahead.source (IsAtEnd (g.R.Read.remaining c.loop.reader.inner)) (c.loop.reader.failed ≡ true)
