@@ -1,8 +1,7 @@
 use Rattle.std.proofs.Common.{rules, ◌≡◌, ◌-◌, ◌++◌, ℕ, List, [], length, sym, ap, ◌∙◌, ◌<◌, ◌+◌, ◌≤◌, subst, arith, append_assoc, true, inl, inr}
-use Rattle.std.specs.Prelude.{Option, Ok, Err, min, is_none}
+use Rattle.std.specs.Prelude.{Option, Ok, Err, min}
 use Rattle.std.specs.Io.KnownBytes.{Consumes, IsAtEnd}
 use Rattle.std.proofs.lemmas.Bool.{cases_lt}
-use Rattle.std.proofs.lemmas.List.Sums.{count_by-le-length}
 use Rattle.std.proofs.lemmas.Result.{err_from_is_err_and}
 use Rattle.bl_serve_lines.specs.declared.request.Request.{Request}
 use Rattle.bl_serve_lines.specs.declared.serving.Totals.{Totals}

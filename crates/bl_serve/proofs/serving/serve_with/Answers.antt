@@ -1,4 +1,4 @@
-use Rattle.std.proofs.Common.{◌≡◌, [], ◌++◌, refl, true}
+use Rattle.std.proofs.Common.{◌≡◌, [], refl, true}
 use Rattle.std.proofs.lemmas.Result.{err_from_is_err_and}
 use Rattle.bl_serve_lines.specs.declared.serving.ServeFault.TheVariants.{Memory}
 use Rattle.bl_serve_lines.proofs.Known.{consumes_start, appends_start}

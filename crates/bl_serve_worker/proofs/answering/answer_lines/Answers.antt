@@ -1,4 +1,4 @@
-use Rattle.std.proofs.Common.{rules, refl, arith, ◌∙◌}
+use Rattle.std.proofs.Common.{rules, refl, arith}
 use Rattle.bl_serve_worker.proofs.Lines.{no_text, next_line, then_idle, all_lines}
 use Rattle.bl_serve_worker.proofs.answering.answer_lines.Goals as goal
 
