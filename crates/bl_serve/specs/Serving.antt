@@ -72,12 +72,12 @@ pub record Serves (index : Index) (olds news : List Pass) (totals : Totals) (inp
 
 -- Serving has ended. The input was read, and more ahead of it; the output was written. Without a fault the input was served, up to
 -- where the reader ends; a fault stopped it.
-pub record EndsServing {T : Type 0} (Serves : T → List ℕ → List ℕ → Type 0) (Stops : List ℕ → List ℕ → ServeFault → Type 0 → Type 0 → Type 0)
+pub record EndsServing {T : Type 0} (IsServed : T → List ℕ → List ℕ → Type 0) (IsStopped : List ℕ → List ℕ → ServeFault → Type 0 → Type 0 → Type 0)
     (unread left : Option (List ℕ)) (reader_failed : Type 0) (before after : Option (List ℕ)) (writer_failed : Type 0) (result : Result T ServeFault) : Type 0 where
   pub input : List ℕ
   pub ahead : List ℕ
   pub output : List ℕ
   pub consumed : Consumes unread left (input ++ ahead)
   pub wrote : Appends before after output
-  pub ok : IfOk result (λ t. Serves t input output × EndsRead input ahead (IsAtEnd left))
-  pub fault : IfErr result (λ fault. Stops (input ++ ahead) output fault reader_failed writer_failed)
+  pub ok : IfOk result (λ t. IsServed t input output × EndsRead input ahead (IsAtEnd left))
+  pub fault : IfErr result (λ fault. IsStopped (input ++ ahead) output fault reader_failed writer_failed)
