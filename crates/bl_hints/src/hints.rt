@@ -31,7 +31,8 @@ impl Hints {
         Ok(Hints { posts, thins })
     }
 
-    /// Puts the hint into the queue of its kind; false: the queue refused it, and the hint is dropped.
+    /// Puts the hint into the queue of its kind; false: the queue was full, and the hint is dropped. Which of the two it was is tested, and
+    /// in no clause: none can name what a queue holds that threads share.
     pub fn give<R: Wait>(&self, rt: &R, hint: Hint) -> bool {
         match hint {
             Hint::Post { .. } => self.give_post(rt, hint),
@@ -39,7 +40,8 @@ impl Hints {
         }
     }
 
-    /// Takes a hint: one to list a page, where there is one, since a page that is not listed stands in the way of merges.
+    /// Takes a hint: one to list a page, where there is one, since a page that is not listed stands in the way of merges. That such a one
+    /// comes first is tested, and in no clause.
     pub fn next<R: Wait>(&self, rt: &R) -> Option<Hint> {
         self.next_post(rt).or_else(|| self.next_thin(rt))
     }

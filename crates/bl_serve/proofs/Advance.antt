@@ -10,12 +10,14 @@ use Rattle.bl_serve_lines.specs.declared.request.Request.{Request}
 use Rattle.bl_serve_lines.specs.declared.serving.ServeFault.{ServeFault}
 use Rattle.bl_serve_lines.specs.declared.serving.ServeFault.TheVariants.{Read, Write}
 use Rattle.bl_serve_lines.specs.declared.serving.Totals.{Totals}
+use Rattle.bl_serve_worker.proofs.Lines.{history_append}
 use Rattle.bl_serve.specs.declared.reading.SectionEnd.{SectionEnd}
 use Rattle.bl_serve.specs.declared.reading.SectionEnd.TheVariants as section_end
 use Rattle.bl_model.specs.History.{IsLegalFrom, final_map}
 use Rattle.bl_model.proofs.Histories.{legal_append, legal_rest}
-use Rattle.bl_serve_lines.specs.Lines.{Line, IsLine, Answer, Synced, entries, input_of, output_of, rest_text, HasNoLf}
+use Rattle.bl_serve_lines.specs.Lines.{Line, IsLine, Answer, Synced, entries, input_of, output_of, rest_text, text_of, HasNoLf}
 use Rattle.bl_serve_lines.specs.Served.{Section, IsSection, IsFinished, HasNoSync, HasNoSyncInside, Interleaves, lines_of, malformed_of, one_if_any, whole_history, Served, Stopped, Stops, Leaves, ComesFrom}
+use Rattle.bl_serve_lines.specs.Served.Interleaves.{Done, Takes}
 use Rattle.bl_serve_lines.specs.Served as served
 use Rattle.bl_serve.specs.Reading.{AsksNoSync, AsksSyncLast, ReadsLines}
 use Rattle.bl_serve.specs.Sections.{rests, syncs, end_text, CountsSection, Held}
@@ -24,7 +26,6 @@ use Rattle.bl_page.specs.declared.page.Page.{Page}
 use Rattle.bl_claims.specs.Trails.{Trail, history_of}
 use Rattle.bl_claims.specs.Seeing.{first_map, IsSeen}
 use Rattle.bl_index.specs.Calls.{map_after}
-use Rattle.bl_serve.proofs.Sections.{history_append}
 use Rattle.bl_serve_lines.proofs.Sections.{output_append, no_sync_inside, no_sync_any}
 use Rattle.bl_serve.proofs.Spelled.{lines_with, AreLines, are_lines, no_sync_lines, sync_lines, lawful}
 
@@ -54,8 +55,8 @@ pub record Progress (old now : Trail) (totals : Totals) (input output : List ℕ
   pub malformed : totals.malformed ≡ sum_by (λ line. malformed_of line.answer) (lines_of sections)
   pub finished : totals.sections ≡ length sections
 
-pub no_progress : (old : Trail) → Progress old old (record { requests = 0; malformed = 0; sections = 0 }) [] []
-no_progress old = record { sections = []; more = []; begins = sym (append-nil old); each = All-nil IsFinished; history = refl; read = refl; written = refl; requests = refl; malformed = refl; finished = refl }
+pub no_progress : (old : Trail) (totals : Totals) → (totals.requests ≡ 0) × (totals.malformed ≡ 0) × (totals.sections ≡ 0) → Progress old old totals [] []
+no_progress old totals none = record { sections = []; more = []; begins = sym (append-nil old); each = All-nil IsFinished; history = refl; read = refl; written = refl; requests = none.0; malformed = none.1; finished = none.2 }
 
 -- a history goes on lawfully behind the one that was seen
 legal_on : (first : List (Option Page)) (old now more : Trail) (h : List Entry) → IsSeen first (now ++ more) → (begun : Trail) → now ≡ old ++ begun → history_of begun ≡ h → IsLegalFrom (map_after first old) (h ++ history_of more)
@@ -121,7 +122,7 @@ add_section old now before totals input output unread left text asked more p r l
 
 -- ---- the ends
 
-numbers_more : (s : List Section) (lines : List Line) (n k : ℕ) → n ≡ length (lines_of s) → length lines ≡ k → n + k + 1 ≡ length (lines_of s ++ lines) + 1
+numbers_more : (s : List Section) (lines : List Line) (n k : ℕ) → n ≡ length (lines_of s) → length lines ≡ k → n + k + 1 ≡ 1 + length (lines_of s ++ lines)
 numbers_more s lines n k e long = let a = length-append (lines_of s) lines in omega (arith, a, e, long)
 
 -- the input has ended
@@ -139,9 +140,9 @@ ends_finished [] is = record { one = refl; none = refl; prints = λ n. refl }
 ends_finished (b ∷ rest) is = absurd (let no : ⊥ = cc in no)
 
 open_text : (s : List Section) (lines : List Line) (rest text tail : List ℕ) (n k : ℕ) → n ≡ length (lines_of s) → length lines ≡ k → text ≡ output_of (suc n) lines → tail ≡ rest_text (n + k + 1) rest
-    → text ++ tail ≡ output_of (suc (length (lines_of s))) lines ++ rest_text (length (lines_of s ++ lines) + 1) rest
+    → text ++ tail ≡ text_of (suc (length (lines_of s))) lines rest
 open_text s lines rest text tail n k e long is ends = ap (λ (z : List ℕ). z ++ tail) is ∙ (ap (λ (z : List ℕ). output_of (suc n) lines ++ z) ends
-    ∙ (ap (λ (z : ℕ). output_of (suc z) lines ++ rest_text (n + k + 1) rest) e ∙ ap (λ (z : ℕ). output_of (suc (length (lines_of s))) lines ++ rest_text z rest) (numbers_more s lines n k e long)))
+    ∙ (ap (λ (z : ℕ). output_of (suc z) lines ++ rest_text (n + k + 1) rest) e ∙ ap (λ (z : ℕ). output_of (suc (length (lines_of s))) lines ++ rest_text z rest) (let at : n + k + 1 ≡ suc (length (lines_of s)) + length lines = omega (arith, e, long) in at)))
 
 pub serves_end : (first : List (Option Page)) (old now : Trail) (before totals : Totals) (input output unread left text rest : List ℕ) (asked : List (Option Request)) (more : Trail) (end : SectionEnd)
     → Progress old now before input output → ReadsLines unread left asked rest → AsksNoSync asked → Held before.requests asked text more → CountsSection before totals asked end → Ends end rest → IsSeen first (now ++ more)
@@ -150,7 +151,7 @@ serves_end first old now before totals input output unread left text rest asked 
     let lines : List Line = the_lines unread left asked rest r before.requests text more h in
     let are = the_are unread left asked rest r before.requests text more h in
     let s = p.sections in let n : ℕ = before.requests + length asked + 1 in
-    let at : n ≡ length (lines_of s ++ lines) + 1 = numbers_more s lines before.requests (length asked) p.requests are.long in
+    let at : n ≡ 1 + length (lines_of s ++ lines) = numbers_more s lines before.requests (length asked) p.requests are.long in
     let serves : Served (map_after first old) (input ++ (input_of lines ++ rest)) (output ++ (text ++ end_text end n)) totals = record {
       sections = s;
       last = section_of lines more;
@@ -198,7 +199,7 @@ stops_inside first old now before input output ahead fault ReaderFailed WriterFa
     begun = [];
     unwritten = [];
     each = p.each;
-    whole = record { lines = All-nil IsLine; history = All-nil (λ (list : List Entry). list ≡ []) };
+    whole = record { lines = All-nil IsLine; history = Done [] (All-nil (λ (list : List Entry). list ≡ [])) };
     open_lines = no_sync_any [] (All-nil (λ line. line.answer ≢ Synced));
     cut = All-nil (λ b. b ≢ 10);
     legal = subst (IsLegalFrom (map_after first old)) (sym (append-nil (served.history_of p.sections))) (legal_so_far first old now (served.history_of p.sections) seen p.more p.begins p.history);
@@ -211,23 +212,22 @@ stops_inside first old now before input output ahead fault ReaderFailed WriterFa
 )
 
 -- lists that are taken one after another
-pub interleaves_skip : (history : List Entry) (lists : List (List Entry)) → Interleaves lists history → Interleaves ([] ∷ lists) history
-interleaves_skip [] lists none = All-cons (λ list. list ≡ []) [] lists refl none
-interleaves_skip (e ∷ history) lists (before, list, after, is, more) =
-    ([] ∷ before, list, after, ap (λ ls. [] ∷ ls) is, interleaves_skip history (before ++ list ∷ after) more)
+pub interleaves_skip : {lists : List (List Entry)} {history : List Entry} → Interleaves lists history → Interleaves ([] ∷ lists) history
+interleaves_skip (Done lists none) = Done ([] ∷ lists) (All-cons (λ list. list ≡ []) [] lists refl none)
+interleaves_skip (Takes before e list after history more) = Takes ([] ∷ before) e list after history (interleaves_skip more)
 
 interleaves_front : (list : List Entry) (lists : List (List Entry)) (history : List Entry) → Interleaves lists history → Interleaves (list ∷ lists) (list ++ history)
-interleaves_front [] lists history h = interleaves_skip history lists h
-interleaves_front (e ∷ list) lists history h = ([], list, lists, refl, interleaves_front list lists history h)
+interleaves_front [] lists history h = interleaves_skip h
+interleaves_front (e ∷ list) lists history h = Takes [] e list lists (list ++ history) (interleaves_front list lists history h)
 
 interleaves_all : (answers : List Answer) → Interleaves (map entries answers) (flat_map entries answers)
-interleaves_all [] = All-nil (λ list. list ≡ [])
+interleaves_all [] = Done [] (All-nil (λ list. list ≡ []))
 interleaves_all (answer ∷ answers) = interleaves_front (entries answer) (map entries answers) (flat_map entries answers) (interleaves_all answers)
 
 -- the lines behind the finished sections were read, and a beginning of what would be their output is out
 stopped : (first : List (Option Page)) (old now : Trail) (before : Totals) (input output unread left rest begun unwritten : List ℕ) (fault : ServeFault) (p : Progress old now before input output) (last : Section) → IsSection last → HasNoSyncInside last.lines → HasNoLf rest
     → IsLegalFrom (map_after first old) (served.history_of p.sections ++ last.history) → unread ≡ input_of last.lines ++ rest ++ left
-    → output_of (suc (length (lines_of p.sections))) last.lines ++ rest_text (length (lines_of p.sections ++ last.lines) + 1) rest ≡ begun ++ unwritten → Leaves fault (length (lines_of p.sections)) begun left last.lines
+    → text_of (suc (length (lines_of p.sections))) last.lines rest ≡ begun ++ unwritten → Leaves fault (length (lines_of p.sections)) begun left last.lines
     → Stopped (map_after first old) (input ++ unread) (output ++ begun) fault
 stopped first old now before input output unread left rest begun unwritten fault p last whole inside cut legal read is leaves = let s = p.sections in let lines : List Line = last.lines in record {
   sections = s;

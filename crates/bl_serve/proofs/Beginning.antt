@@ -78,8 +78,8 @@ module _ (origin : Origin) (among : ℕ) (index : Index) (olds : List Pass) (b :
   pub rows_seen : map_after (first_of index) (seen_by olds) ≡ map_of b.rows
   rows_seen = ap (map_after (first_of index)) b.unseen ∙ b.map
 
-  pub served_from : (news : List Pass) (input output : List ℕ) (totals : Totals) → Serves index olds news input output totals → ServedFrom origin input output totals
-  served_from news input output totals s = record { rows = b.rows; are_rows = b.are_rows; served = subst (λ (m : Map). Served m input output totals) rows_seen s.served.served }
+  pub served_from : (news : List Pass) (totals : Totals) (input output : List ℕ) → Serves index olds news totals input output → ServedFrom origin totals input output
+  served_from news totals input output s = record { rows = b.rows; are_rows = b.are_rows; served = subst (λ (m : Map). Served m input output totals) rows_seen s.served.served }
 
   pub stops_from : (input output : List ℕ) (fault : ServeFault) (reader_failed writer_failed : Type 0) → Stops (map_after (first_of index) (seen_by olds)) input output fault reader_failed writer_failed → StopsFrom origin input output fault reader_failed writer_failed
   stops_from input output fault reader_failed writer_failed s = Stopped b.rows b.are_rows (subst (λ (m : Map). Stops m input output fault reader_failed writer_failed) rows_seen s)

@@ -13,17 +13,17 @@ use Rattle.bl_serve_lines.specs.declared.serving.ServeFault.TheVariants.{Read, W
 use Rattle.bl_serve_lines.specs.declared.serving.Totals.{Totals}
 use Rattle.bl_serve_lines.specs.Lines.{entries}
 use Rattle.bl_serve_lines.specs.Served.{Interleaves}
+use Rattle.bl_serve_lines.specs.Served.Interleaves.{Done, Takes}
 use Rattle.bl_claims.specs.Trails.{Trail, history_of}
 use Rattle.bl_index.specs.declared.index.Index.{Index}
 use Rattle.bl_index.specs.declared.index.Pass.{Pass}
 use Rattle.bl_serve.specs.declared.reading.SectionEnd.{SectionEnd}
 use Rattle.bl_serve.specs.declared.reading.SectionEnd.TheVariants.{Synced, Rest, Finished}
-use Rattle.bl_serve.specs.Answering.{IsFor, answers_text}
+use Rattle.bl_serve_worker.specs.Answering.{IsFor, answers_text}
 use Rattle.bl_serve.specs.Reading.{IsReadAs, bytes_of, AsksNoSync, AsksSyncLast, ReadsLines, EndsReading}
 use Rattle.bl_serve.specs.Sections.{Held, CountsSection, end_text, rests}
 use Rattle.bl_serve.specs.Serving.{AreTogether, FailsSection, ServesSection, IsInside, seen_by}
-use Rattle.bl_serve.proofs.Lines.{zip_append, zip_length, text_append}
-use Rattle.bl_serve.proofs.Sections.{history_append}
+use Rattle.bl_serve_worker.proofs.Lines.{history_append, zip_append, zip_length, text_append}
 use Rattle.bl_serve.proofs.Holding.{first_seen}
 use Rattle.bl_serve.proofs.Cutting.{asks_none}
 use Rattle.bl_serve.proofs.Faults.{reads_of}
@@ -85,18 +85,14 @@ any_failed Finished most asked rest unread left AtEnd Failed Failed' e = e
 all_empty : (xs ys : List (List Entry)) (k : List Entry) → All (λ list. list ≡ []) xs → Interleaves ys k → Interleaves (xs ++ ys) k
 all_empty [] ys k none w = w
 all_empty (x ∷ xs) ys k none w = subst (λ (z : List Entry). Interleaves (z ∷ (xs ++ ys)) k) (sym (All-head (λ (list : List Entry). list ≡ []) x xs none))
-    (interleaves_skip k (xs ++ ys) (all_empty xs ys k (All-tail (λ (list : List Entry). list ≡ []) x xs none) w))
+    (interleaves_skip (all_empty xs ys k (All-tail (λ (list : List Entry). list ≡ []) x xs none) w))
 
 -- one history behind another
-interleaves_then : (xs ys : List (List Entry)) (h k : List Entry) → Interleaves xs h → Interleaves ys k → Interleaves (xs ++ ys) (h ++ k)
-interleaves_then xs ys [] k a b = all_empty xs ys k a b
-interleaves_then xs ys (e ∷ h) k (before, list, after, is, more) b = (
-  before,
-  list,
-  after ++ ys,
-  ap (λ (z : List (List Entry)). z ++ ys) is ∙ append_assoc before ((e ∷ list) ∷ after) ys,
-  subst (λ (z : List (List Entry)). Interleaves z (h ++ k)) (append_assoc before (list ∷ after) ys) (interleaves_then (before ++ list ∷ after) ys h k more b),
-)
+interleaves_then : {xs : List (List Entry)} {h : List Entry} → Interleaves xs h → (ys : List (List Entry)) (k : List Entry) → Interleaves ys k → Interleaves (xs ++ ys) (h ++ k)
+interleaves_then (Done xs none) ys k b = all_empty xs ys k none b
+interleaves_then (Takes before e list after h more) ys k b =
+    subst (λ (z : List (List Entry)). Interleaves z (e ∷ (h ++ k))) (sym (append_assoc before ((e ∷ list) ∷ after) ys))
+    (Takes before e list (after ++ ys) (h ++ k) (subst (λ (z : List (List Entry)). Interleaves z (h ++ k)) (append_assoc before (list ∷ after) ys) (interleaves_then more ys k b)))
 
 held_then : (done : ℕ) (xs ys : List (Option Request)) (text text' : List ℕ) (more more' : Trail) → Held done xs text more → Held (done + length xs) ys text' more' → Held done (xs ++ ys) (text ++ text') (more ++ more')
 held_then done xs ys text text' more more' a b = record {
@@ -106,7 +102,7 @@ held_then done xs ys text text' more more' a b = record {
       ∙ (ap (λ (n : ℕ). answers_text (suc done) a.answers ++ answers_text n b.answers) (let long = zip_length IsFor xs a.answers a.each in let e : suc (done + length xs) ≡ suc done + length a.answers = omega (arith, long) in e)
       ∙ sym (text_append (suc done) a.answers b.answers)));
   interleaves = subst (λ (z : List (List Entry) × List Entry). Interleaves z.0 z.1) (λ i. (sym (map-append entries a.answers b.answers) i, sym (history_append more more') i))
-      (interleaves_then (map entries a.answers) (map entries b.answers) (history_of more) (history_of more') a.interleaves b.interleaves);
+      (interleaves_then a.interleaves (map entries b.answers) (history_of more') b.interleaves);
 }
 
 pub serves_nothing : (index : Index) (done : ℕ) (olds : List Pass) → AreTogether index (seen_by olds) olds → ServesSection index done [] Finished [] olds olds
@@ -114,7 +110,7 @@ serves_nothing index done olds t = record {
   answers = [];
   holds = record {
     more = [];
-    held = record { answers = []; each = tt; prints = refl; interleaves = All-nil (λ (list : List Entry). list ≡ []) };
+    held = record { answers = []; each = tt; prints = refl; interleaves = Done [] (All-nil (λ (list : List Entry). list ≡ [])) };
     together = subst (λ (z : Trail). AreTogether index z olds) (sym (append-nil (seen_by olds))) t;
   };
   ends = refl;

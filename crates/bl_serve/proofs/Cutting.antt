@@ -7,7 +7,7 @@ use Rattle.bl_serve_lines.specs.declared.request.Request.{Request}
 use Rattle.bl_serve_lines.specs.declared.request.Request.TheVariants.{Sync}
 use Rattle.bl_serve_lines.specs.Lines.{HasNoLf}
 use Rattle.bl_serve.specs.Reading.{IsReadAs, bytes_of, AsksNoSync, AsksSyncLast, ReadsLines}
-use Rattle.bl_serve.proofs.Lines.{zip_append}
+use Rattle.bl_serve_worker.proofs.Lines.{zip_append}
 
 no_lf : HasNoLf []
 no_lf = All-nil (λ b. b ≢ 10)

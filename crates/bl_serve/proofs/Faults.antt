@@ -13,6 +13,7 @@ use Rattle.bl_serve_lines.specs.declared.serving.ServeFault.{ServeFault}
 use Rattle.bl_serve_lines.specs.declared.serving.ServeFault.TheVariants.{Read, Write, Memory, Lost}
 use Rattle.bl_serve_lines.specs.declared.serving.Totals.{Totals}
 use Rattle.bl_serve_lines.specs.Lines.{rest_text}
+use Rattle.bl_serve_lines.specs.Served.Interleaves.{Done}
 use Rattle.bl_serve_lines.specs.Served.{Stops, HasNoSyncInside, whole_lines}
 use Rattle.bl_serve_lines.specs.Streams.{EndsRead}
 use Rattle.bl_page.specs.declared.page.Page.{Page}
@@ -180,7 +181,7 @@ module _ (index : Index) (seen : Trail) (before : Totals) (asked : List (Option 
 
 pub serves_no_more : (first : List (Option Page)) (old now : Trail) (totals : Totals) (input output left : List ℕ) (AtEnd : Type 0) → Progress old now totals input output → IsSeen first now → 2 ^ 64 - 1 ≤ totals.requests → AtLast first old now input output left left [] totals AtEnd
 serves_no_more first old now totals input output left AtEnd p seen many =
-    let none : Held totals.requests [] [] [] = record { answers = []; each = tt; prints = refl; interleaves = All-nil (λ (list : List Entry). list ≡ []) } in
+    let none : Held totals.requests [] [] [] = record { answers = []; each = tt; prints = refl; interleaves = Done [] (All-nil (λ (list : List Entry). list ≡ [])) } in
     let r : ReadsLines left left [] [] = record { texts = []; each = tt; cut = All-nil (λ b. b ≢ 10); read = refl } in
     let counts : CountsSection totals totals [] section_end.Finished = record { requests = omega arith; malformed = omega arith; sections = omega arith } in
     let v = serves_end first old now totals totals input output left left [] [] [] [] section_end.Finished p r asks_none none counts (ends_finished [] refl) (subst (IsSeen first) (sym (append-nil now)) seen) in record {

@@ -21,7 +21,7 @@ use Rattle.bl_serve.specs.declared.reading.SectionEnd.TheVariants.{Synced, Rest,
 use Rattle.bl_serve_lines.specs.Text.{numbered}
 use Rattle.bl_serve.specs.Sections.{end_text}
 use Rattle.bl_serve.specs.Serving.{AreFrom, AreTogether, HoldsSection, ServesSection, seen_by}
-use Rattle.bl_serve.proofs.Lines.{goes_on}
+use Rattle.bl_serve_worker.proofs.Lines.{goes_on}
 use Rattle.bl_serve.proofs.Sections.{FitsFrom, section}
 
 abbrev olds_of : List Taken → List Pass

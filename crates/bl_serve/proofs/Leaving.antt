@@ -24,9 +24,9 @@ use Rattle.bl_index.specs.Closed.{HasPass, AreAll, Closes}
 use Rattle.bl_serve.specs.Serving.{AreFrom, AreTogether, ServedBy, seen_by}
 use Rattle.bl_serve.specs.declared.origin.Origin.{Origin}
 use Rattle.bl_serve.specs.Begun.{IsBegunFrom}
-use Rattle.bl_serve.specs.Dumps.{HoldMapAfter}
-use Rattle.bl_serve.specs.Origins.{size_of, ServedFrom}
-use Rattle.bl_serve.proofs.Sections.{IsBelow, all_below, within_rest, own_more, history_append}
+use Rattle.bl_serve.specs.Dumps.{DumpedFrom, HoldMapAfter}
+use Rattle.bl_serve_worker.proofs.Lines.{history_append}
+use Rattle.bl_serve.proofs.Sections.{IsBelow, all_below, within_rest, own_more}
 
 -- ---- all passes are there
 
@@ -83,12 +83,11 @@ abbrev pub Leaves : Map → List Entry → ℕ → Result Quiet AllocError → T
 Leaves map history many closed = IfOk closed (λ quiet. HoldMapAfter map history many quiet.image.pages.items)
 
 -- new passes have served, and then they were closed
-pub served_image : (origin : Origin) (among : ℕ) (index : Index) (olds : List Pass) (now : Trail) (input output : List ℕ) (totals : Totals) (closed : Result Quiet AllocError)
-    → IsBegunFrom origin among index olds → ServedBy (first_of index) (seen_by olds) now input output totals → Leaves (first_map (first_of index)) (history_of now) (pages_of index) closed
-    → (from : ServedFrom origin input output totals) × Leaves (map_of from.rows) (whole_history from.served) (size_of origin) closed
-served_image origin among index olds now input output totals closed b s left =
+pub served_image : (origin : Origin) (among : ℕ) (index : Index) (olds : List Pass) (now : Trail) (totals : Totals) (closed : Result Quiet AllocError) (input output : List ℕ)
+    → IsBegunFrom origin among index olds → ServedBy (first_of index) (seen_by olds) now input output totals → Leaves (first_map (first_of index)) (history_of now) (pages_of index) closed → DumpedFrom origin totals closed input output
+served_image origin among index olds now totals closed input output b s left =
     let t : ServedBy (first_of index) [] now input output totals = subst (λ (z : Trail). ServedBy (first_of index) z now input output totals) b.unseen s in
-    let is = subst (λ (m : Map). (served : Served m input output totals) × (history_of t.more ≡ whole_history served)) b.map (t.served, t.history) in (
-      record { rows = b.rows; are_rows = b.are_rows; served = is.0 },
-      subst (λ (z : Map × List Entry × ℕ). Leaves z.0 z.1 z.2 closed) (λ i. (b.map i, (ap history_of t.begins ∙ is.1) i, b.pages i)) left,
-    )
+    let is = subst (λ (m : Map). (served : Served m input output totals) × (history_of t.more ≡ whole_history served)) b.map (t.served, t.history) in record {
+      from = record { rows = b.rows; are_rows = b.are_rows; served = is.0 };
+      holds = subst (λ (z : Map × List Entry × ℕ). Leaves z.0 z.1 z.2 closed) (λ i. (b.map i, (ap history_of t.begins ∙ is.1) i, b.pages i)) left;
+    }

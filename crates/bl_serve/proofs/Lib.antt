@@ -1,8 +1,7 @@
-pub mod Requests
 pub mod Weaving
 pub mod Pieces
-pub mod Lines
 pub mod Losing
+pub mod Chaining
 pub mod Shares
 pub mod Sections
 pub mod Together
@@ -13,5 +12,4 @@ pub mod Cutting
 pub mod Faults
 pub mod Continuing
 pub mod Beginning
-pub mod Scanning
 pub mod Leaving

@@ -1,5 +1,5 @@
 -- After a section all passes meet: the history has gone on by the entries of the section's lines, and by no others.
-use Rattle.std.proofs.Common.{◌≡◌, ℕ, suc, ◌<◌, ◌++◌, List, [], ◌∷◌, length, map, Option, Some, None, refl, sym, ap, ◌∙◌, subst, append_assoc, arith}
+use Rattle.std.proofs.Common.{◌≡◌, ℕ, suc, ◌<◌, ◌++◌, List, [], ◌∷◌, length, map, Option, Some, None, refl, sym, ap, ◌∙◌, subst, arith}
 use Rattle.std.specs.Prelude.{All, flat_map}
 use Rattle.std.proofs.lemmas.List.{append_cancel_left}
 use Rattle.std.proofs.lemmas.List.Elements.{All-nil, All-cons, All-head, All-tail}
@@ -15,11 +15,8 @@ use Rattle.bl_claims.specs.Trails.{Said, Trail, entries_at, history_of}
 use Rattle.bl_claims.specs.Seeing.{first_map, IsSeen, own, AreWithin, GoesOnFrom}
 use Rattle.bl_index.specs.Calls.{number_of, trail}
 use Rattle.bl_serve.specs.Chunks.{Taken, IsTaken, IsChunk}
+use Rattle.bl_serve_worker.proofs.Lines.{history_append}
 use Rattle.bl_serve.proofs.Weaving.{joined, all_of, parts, by_part, one_by_one}
-
-pub history_append : (xs ys : Trail) → history_of (xs ++ ys) ≡ history_of xs ++ history_of ys
-history_append [] ys = refl
-history_append (m ∷ ms) ys = ap (λ (z : List Entry). entries_at m.event.process m.said ++ z) (history_append ms ys) ∙ sym (append_assoc (entries_at m.event.process m.said) (history_of ms) (history_of ys))
 
 module _ (passes : ℕ) where
   abbrev pub IsBelow : Entry → Type 0
@@ -76,7 +73,7 @@ section first number lines text olds news old new r on seen within fits =
     let below = all_below (length r.taken) more (within_rest (length r.taken) old more (subst (AreWithin (length r.taken)) on.1 within)) in
     let a : Interleaves (parts 0 (length r.taken) (history_of more)) (history_of more) = by_part (length r.taken) (history_of more) below in
     let b : Interleaves (map joined (map (λ t. t.share) r.taken)) (history_of more) = subst (λ (z : List (List Entry)). Interleaves z (history_of more)) (shares_are old new more on.1 first 0 r.taken r.each_taken fits) a in
-    let c : Interleaves (flat_map (λ t. t.share) r.taken) (history_of more) = subst (λ (z : List (List Entry)). Interleaves z (history_of more)) (all_shares r.taken) (one_by_one (history_of more) (map (λ t. t.share) r.taken) b) in record {
+    let c : Interleaves (flat_map (λ t. t.share) r.taken) (history_of more) = subst (λ (z : List (List Entry)). Interleaves z (history_of more)) (all_shares r.taken) (one_by_one b (map (λ t. t.share) r.taken) refl) in record {
       more = more;
       on = on.1;
       history = ap history_of on.1 ∙ history_append old more;

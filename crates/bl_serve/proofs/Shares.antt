@@ -17,13 +17,13 @@ use Rattle.bl_index.specs.declared.index.Index.{Index}
 use Rattle.bl_index.specs.declared.index.Pass.{Pass}
 use Rattle.bl_index.specs.Calls.{IsPassOf, IsSamePass, number_of, trail}
 use Rattle.bl_index.proofs.Taken.{same_of}
-use Rattle.bl_serve.specs.declared.working.Desk.{Desk}
-use Rattle.bl_serve.specs.declared.working.Written.{Written}
-use Rattle.bl_serve.specs.Answering.{IsFor, answers_text}
-use Rattle.bl_serve.specs.Turns.{Piece, IsPiece, TakeTurns, Logs, lines_in}
-use Rattle.bl_serve.specs.Joining.{Chains, IsWithin, text_of}
-use Rattle.bl_serve.specs.Chunks.{Taken, IsTaken, Weaves, IsChunk, Gathers}
-use Rattle.bl_serve.proofs.Lines.{zip_append, zip_length, text_append}
+use Rattle.bl_serve_worker.specs.declared.chunk.Slot.{Slot}
+use Rattle.bl_serve_worker.specs.declared.chunk.BatchOutput.{BatchOutput}
+use Rattle.bl_serve_worker.specs.Answering.{IsFor, answers_text}
+use Rattle.bl_serve_worker.specs.Batches.{Piece, IsPiece, Logs, lines_in}
+use Rattle.bl_serve.specs.Joining.{Chains, IsWithin, joined_text}
+use Rattle.bl_serve.specs.Chunks.{Taken, IsTaken, Weaves, IsChunk, Collects, TakeTurns}
+use Rattle.bl_serve_worker.proofs.Lines.{zip_append, zip_length, text_append}
 use Rattle.bl_serve.proofs.Pieces.{lifted, cut, cut_length, flat_id, map_flat}
 use Rattle.bl_serve.proofs.Weaving.{joined, all_of, in_any_order, one_by_one}
 use Rattle.bl_serve.proofs.Together.{next_is, drop_set, drop_one}
@@ -34,39 +34,39 @@ lent n old now is = ap (λ (k : ℕ). take k (now ++ drop (length now) old)) is 
 
 -- ---- what was written is taken in
 
-pub record GathersSo (all now : List Desk) (written : List Written) (i : ℕ) : Type 0 where
+pub record CollectsSo (all now : List Slot) (written : List BatchOutput) (i : ℕ) : Type 0 where
   pub long : length now ≡ length all
   pub left : drop i now ≡ drop i all
-  pub none_failed : All (λ (d : Desk). d.failed ≡ false) (take i all)
-  pub written_are : written ≡ flat_map (λ d. d.log.items) (take i all)
+  pub none_failed : All (λ (d : Slot). d.failed ≡ false) (take i all)
+  pub outputs_are : written ≡ flat_map (λ d. d.log.items) (take i all)
 
-pub gather_none : (all : List Desk) (written : List Written) → written ≡ [] → GathersSo all all written 0
-gather_none all written is = record { long = refl; left = refl; none_failed = All-nil (λ (d : Desk). d.failed ≡ false); written_are = is }
+pub collect_none : (all : List Slot) (written : List BatchOutput) → written ≡ [] → CollectsSo all all written 0
+collect_none all written is = record { long = refl; left = refl; none_failed = All-nil (λ (d : Slot). d.failed ≡ false); outputs_are = is }
 
-pub gather_more : (all now : List Desk) (written written' : List Written) (i : ℕ) (was is d : Desk) → GathersSo all now written i → i < length now → was ≡ get_or now i d → was.failed ≡ false → written' ≡ written ++ was.log.items → GathersSo all (set now i is) written' (i + 1)
-gather_more all now written written' i was is d g low at ok more =
+pub collect_more : (all now : List Slot) (written written' : List BatchOutput) (i : ℕ) (was is d : Slot) → CollectsSo all now written i → i < length now → was ≡ get_or now i d → was.failed ≡ false → written' ≡ written ++ was.log.items → CollectsSo all (set now i is) written' (i + 1)
+collect_more all now written written' i was is d g low at ok more =
     let there : was ≡ get_or all i d = at ∙ next_is all now i d g.left low in
-    let taken : take (i + 1) all ≡ take i all ++ was ∷ [] = take_more all i d (let e = g.long in omega (arith, e, low)) ∙ ap (λ (z : Desk). take i all ++ z ∷ []) (sym there) in record {
+    let taken : take (i + 1) all ≡ take i all ++ was ∷ [] = take_more all i d (let e = g.long in omega (arith, e, low)) ∙ ap (λ (z : Slot). take i all ++ z ∷ []) (sym there) in record {
       long = length-set now i is ∙ g.long;
       left = rw add-one (drop_set now i is ∙ drop_one now all i g.left);
-      none_failed = subst (All (λ (x : Desk). x.failed ≡ false)) (sym taken) (All-push (λ (x : Desk). x.failed ≡ false) (take i all) was g.none_failed ok);
-      written_are = more ∙ (ap (λ (z : List Written). z ++ was.log.items) g.written_are
-          ∙ (ap (λ (z : List Written). flat_map (λ (x : Desk). x.log.items) (take i all) ++ z) (sym (append-nil was.log.items))
-          ∙ (sym (flat_map-append (λ (x : Desk). x.log.items) (take i all) (was ∷ [])) ∙ ap (flat_map (λ (x : Desk). x.log.items)) (sym taken))));
+      none_failed = subst (All (λ (x : Slot). x.failed ≡ false)) (sym taken) (All-push (λ (x : Slot). x.failed ≡ false) (take i all) was g.none_failed ok);
+      outputs_are = more ∙ (ap (λ (z : List BatchOutput). z ++ was.log.items) g.outputs_are
+          ∙ (ap (λ (z : List BatchOutput). flat_map (λ (x : Slot). x.log.items) (take i all) ++ z) (sym (append-nil was.log.items))
+          ∙ (sym (flat_map-append (λ (x : Slot). x.log.items) (take i all) (was ∷ [])) ∙ ap (flat_map (λ (x : Slot). x.log.items)) (sym taken))));
     }
 
-pub gathers_all : (all now : List Desk) (written : List Written) (i : ℕ) → length now ≤ i → GathersSo all now written i → Gathers all written
-gathers_all all now written i end g =
+pub collects_all : (all now : List Slot) (written : List BatchOutput) (i : ℕ) → length now ≤ i → CollectsSo all now written i → Collects all written
+collects_all all now written i end g =
     let whole : take i all ≡ all = take_all i all (let e = g.long in omega (arith, e, end)) in record {
-      none_failed = subst (All (λ (d : Desk). d.failed ≡ false)) whole g.none_failed;
-      written_are = g.written_are ∙ ap (flat_map (λ (d : Desk). d.log.items)) whole;
+      none_failed = subst (All (λ (d : Slot). d.failed ≡ false)) whole g.none_failed;
+      outputs_are = g.outputs_are ∙ ap (flat_map (λ (d : Slot). d.log.items)) whole;
     }
 
--- ---- from desk to desk
+-- ---- from slot to slot
 
 module _ (first : List (Option Page)) (number : ℕ) (lines : List (Option Request)) where
   -- two parts of the passes have had their turns
-  pub turns_append : (os ns : List Pass) (ds : List Desk) (os' ns' : List Pass) (ds' : List Desk) → TakeTurns first number lines os ns ds → TakeTurns first number lines os' ns' ds' → TakeTurns first number lines (os ++ os') (ns ++ ns') (ds ++ ds')
+  pub turns_append : (os ns : List Pass) (ds : List Slot) (os' ns' : List Pass) (ds' : List Slot) → TakeTurns first number lines os ns ds → TakeTurns first number lines os' ns' ds' → TakeTurns first number lines (os ++ os') (ns ++ ns') (ds ++ ds')
   turns_append [] [] [] os' ns' ds' h k = k
   turns_append [] [] (d ∷ ds) os' ns' ds' h k = absurd h
   turns_append [] (n ∷ ns) ds os' ns' ds' h k = absurd h
@@ -75,7 +75,7 @@ module _ (first : List (Option Page)) (number : ℕ) (lines : List (Option Reque
   turns_append (o ∷ os) (n ∷ ns) (d ∷ ds) os' ns' ds' h k = (h.0, turns_append os ns ds os' ns' ds' h.1 k)
 
   -- there are as many of each
-  pub turns_long : (os ns : List Pass) (ds : List Desk) → TakeTurns first number lines os ns ds → (length ns ≡ length os) × (length ds ≡ length os)
+  pub turns_long : (os ns : List Pass) (ds : List Slot) → TakeTurns first number lines os ns ds → (length ns ≡ length os) × (length ds ≡ length os)
   turns_long [] [] [] h = (refl, refl)
   turns_long [] [] (d ∷ ds) h = absurd h
   turns_long [] (n ∷ ns) ds h = absurd h
@@ -86,24 +86,24 @@ module _ (first : List (Option Page)) (number : ℕ) (lines : List (Option Reque
   abbrev entries_in : Piece → List Entry
   entries_in p = flat_map entries p.answers
 
-  record Spread (olds news : List Pass) (desks : List Desk) : Type 0 where
+  record Spread (olds news : List Pass) (slots : List Slot) : Type 0 where
     taken : List Taken
     pieces : List Piece
     old_are : map (λ t. t.old) taken ≡ olds
     new_are : map (λ t. t.new) taken ≡ news
     each_taken : All (IsTaken first) taken
     each : All (IsPiece number lines) pieces
-    written : map (λ p. p.written) pieces ≡ flat_map (λ d. d.log.items) desks
+    written : map (λ p. p.output) pieces ≡ flat_map (λ d. d.log.items) slots
     shares : flat_map (λ t. t.share) taken ≡ map entries_in pieces
 
-  spread : (olds news : List Pass) (desks : List Desk) → TakeTurns first number lines olds news desks → All (λ (d : Desk). d.failed ≡ false) desks → Spread olds news desks
+  spread : (olds news : List Pass) (slots : List Slot) → TakeTurns first number lines olds news slots → All (λ (d : Slot). d.failed ≡ false) slots → Spread olds news slots
   spread [] [] [] h ok = record { taken = []; pieces = []; old_are = refl; new_are = refl; each_taken = All-nil (IsTaken first); each = All-nil (IsPiece number lines); written = refl; shares = refl }
-  spread [] [] (d ∷ desks) h ok = absurd h
-  spread [] (n ∷ news) desks h ok = absurd h
-  spread (o ∷ olds) [] desks h ok = absurd h
+  spread [] [] (d ∷ slots) h ok = absurd h
+  spread [] (n ∷ news) slots h ok = absurd h
+  spread (o ∷ olds) [] slots h ok = absurd h
   spread (o ∷ olds) (n ∷ news) [] h ok = absurd h
-  spread (o ∷ olds) (n ∷ news) (d ∷ desks) h ok = let r = spread olds news desks h.1 (All-tail (λ (x : Desk). x.failed ≡ false) d desks ok) in let same : IsSamePass o n = h.0.0 in
-      let logs : Logs first number lines (number_of o) (trail o) (trail n) [] d.log.items = h.0.1 (All-head (λ (x : Desk). x.failed ≡ false) d desks ok) in
+  spread (o ∷ olds) (n ∷ news) (d ∷ slots) h ok = let r = spread olds news slots h.1 (All-tail (λ (x : Slot). x.failed ≡ false) d slots ok) in let same : IsSamePass o n = h.0.0 in
+      let logs : Logs first number lines (number_of o) (trail o) (trail n) [] d.log.items = h.0.1 (All-head (λ (x : Slot). x.failed ≡ false) d slots ok) in
       let one : Taken = record { old = o; new = n; share = map entries_in logs.pieces } in record {
         taken = one ∷ r.taken;
         pieces = logs.pieces ++ r.pieces;
@@ -111,16 +111,16 @@ module _ (first : List (Option Page)) (number : ℕ) (lines : List (Option Reque
         new_are = ap (λ (z : List Pass). n ∷ z) r.new_are;
         each_taken = All-cons (IsTaken first) one r.taken (record { same = same; begins = logs.begins; seen = logs.seen; mine = logs.mine ∙ ap (λ (z : List Entry). own (number_of o) (trail o) ++ z) (sym (flat_id entries_in logs.pieces)) }) r.each_taken;
         each = All-append (IsPiece number lines) logs.pieces r.pieces logs.each r.each;
-        written = map-append (λ (p : Piece). p.written) logs.pieces r.pieces ∙ (ap (λ (z : List Written). z ++ map (λ p. p.written) r.pieces) (sym logs.log) ∙ ap (λ (z : List Written). d.log.items ++ z) r.written);
+        written = map-append (λ (p : Piece). p.output) logs.pieces r.pieces ∙ (ap (λ (z : List BatchOutput). z ++ map (λ p. p.output) r.pieces) (sym logs.log) ∙ ap (λ (z : List BatchOutput). d.log.items ++ z) r.written);
         shares = ap (λ (z : List (List Entry)). map entries_in logs.pieces ++ z) r.shares ∙ sym (map-append entries_in logs.pieces r.pieces);
       }
 
   -- all batches that were written are the section's
-  pub gathered_within : (olds news : List Pass) (desks : List Desk) (written : List Written) → TakeTurns first number lines olds news desks → Gathers desks written → All (IsWithin (length lines)) written
-  gathered_within olds news desks written turns g =
-      let s = spread olds news desks turns g.none_failed in
-      subst (All (IsWithin (length lines))) (s.written ∙ sym g.written_are) (All-map (IsWithin (length lines)) (λ (p : Piece). p.written) s.pieces
-      (All-weaker (IsPiece number lines) (λ (p : Piece). IsWithin (length lines) p.written) (λ p h. record { order = h.order; within = h.within }) s.pieces s.each))
+  pub collected_within : (olds news : List Pass) (slots : List Slot) (written : List BatchOutput) → TakeTurns first number lines olds news slots → Collects slots written → All (IsWithin (length lines)) written
+  collected_within olds news slots written turns g =
+      let s = spread olds news slots turns g.none_failed in
+      subst (All (IsWithin (length lines))) (s.written ∙ sym g.outputs_are) (All-map (IsWithin (length lines)) (λ (p : Piece). p.output) s.pieces
+      (All-weaker (IsPiece number lines) (λ (p : Piece). IsWithin (length lines) p.output) (λ p h. record { order = h.order; within = h.within }) s.pieces s.each))
 
   -- ---- batches that follow each other
 
@@ -130,17 +130,17 @@ module _ (first : List (Option Page)) (number : ℕ) (lines : List (Option Reque
   record Covers (from upto : ℕ) (pieces : List Piece) : Type 0 where
     order : from ≤ upto
     each : AllZip IsFor (lines_in lines from upto) (answers_in pieces)
-    prints : text_of (map (λ p. p.written) pieces) ≡ answers_text (number + from) (answers_in pieces)
+    prints : joined_text (map (λ p. p.output) pieces) ≡ answers_text (number + from) (answers_in pieces)
 
-  chained : (from upto : ℕ) (pieces : List Piece) → All (IsPiece number lines) pieces → Chains from upto (map (λ p. p.written) pieces) → Covers from upto pieces
+  chained : (from upto : ℕ) (pieces : List Piece) → All (IsPiece number lines) pieces → Chains from upto (map (λ p. p.output) pieces) → Covers from upto pieces
   chained from upto [] all c = record { order = omega arith; each = subst (λ (k : ℕ). AllZip IsFor (take k (drop from lines)) []) (let z : 0 ≡ upto - from = omega arith in z) tt; prints = refl }
-  chained from upto (q ∷ qs) all c = let here = All-head (IsPiece number lines) q qs all in let w : Written = q.written in
+  chained from upto (q ∷ qs) all c = let here = All-head (IsPiece number lines) q qs all in let w : BatchOutput = q.output in
       let r = chained w.upto upto qs (All-tail (IsPiece number lines) q qs all) c.2 in let order = r.order in let within = here.within in let lt = here.order in let le : w.from ≤ w.upto = omega arith in
       let long = zip_length IsFor (lines_in lines w.from w.upto) q.answers here.each in let short = cut_length lines w.from w.upto le within in
       subst (λ (k : ℕ). Covers k upto (q ∷ qs)) c.0 (record {
         order = omega arith;
         each = subst (λ (z : List (Option Request)). AllZip IsFor z (q.answers ++ answers_in qs)) (sym (cut lines w.from w.upto upto le order)) (zip_append IsFor (lines_in lines w.from w.upto) (lines_in lines w.upto upto) q.answers (answers_in qs) here.each r.each);
-        prints = ap (λ (z : List ℕ). z ++ text_of (map (λ p. p.written) qs)) here.prints
+        prints = ap (λ (z : List ℕ). z ++ joined_text (map (λ p. p.output) qs)) here.prints
             ∙ (ap (λ (z : List ℕ). answers_text (number + w.from) q.answers ++ z) r.prints
             ∙ (ap (λ (k : ℕ). answers_text (number + w.from) q.answers ++ answers_text k (answers_in qs)) (let e : number + w.upto ≡ number + w.from + length q.answers = omega arith in e)
             ∙ sym (text_append (number + w.from) q.answers (answers_in qs))));
@@ -155,20 +155,20 @@ module _ (first : List (Option Page)) (number : ℕ) (lines : List (Option Reque
   weaving : (taken : List Taken) (before after : List Piece) → flat_map (λ t. t.share) taken ≡ map entries_in before → IsPermutation before after → Weaves taken (answers_in after)
   weaving taken before after shares perm history w =
       let a : Interleaves (map entries_in before) history = subst (λ (z : List (List Entry)). Interleaves z history) shares w in
-      let b : Interleaves (map entries_in after) history = in_any_order history (map entries_in before) (map entries_in after) (IsPermutation-map entries_in before after perm) a in
+      let b : Interleaves (map entries_in after) history = in_any_order a (map entries_in after) (IsPermutation-map entries_in before after perm) in
       let groups : List (List (List Entry)) = map (λ p. map entries p.answers) after in
-      let c : Interleaves (all_of groups) history = one_by_one history groups (subst (λ (z : List (List Entry)). Interleaves z history) (sym (joined_lists after)) b) in
+      let c : Interleaves (all_of groups) history = one_by_one b groups (joined_lists after) in
       subst (λ (z : List (List Entry)). Interleaves z history) (flat_id (λ (p : Piece). map entries p.answers) after ∙ sym (map_flat (λ (p : Piece). p.answers) entries after)) c
 
-  pub chunk : (text : List ℕ) (olds news : List Pass) (desks : List Desk) (written sorted : List Written) → TakeTurns first number lines olds news desks → Gathers desks written
-      → IsPermutation written sorted → Chains 0 (length lines) sorted → text ≡ text_of sorted → IsChunk first number lines text olds news
-  chunk text olds news desks written sorted turns g perm chains text_is =
-      let s = spread olds news desks turns g.none_failed in
-      let l = lifted (λ (p : Piece). p.written) s.pieces sorted (subst (λ (z : List Written). IsPermutation z sorted) (g.written_are ∙ sym s.written) perm) in
+  pub chunk : (text : List ℕ) (olds news : List Pass) (slots : List Slot) (written sorted : List BatchOutput) → TakeTurns first number lines olds news slots → Collects slots written
+      → IsPermutation written sorted → Chains 0 (length lines) sorted → text ≡ joined_text sorted → IsChunk first number lines text olds news
+  chunk text olds news slots written sorted turns g perm chains text_is =
+      let s = spread olds news slots turns g.none_failed in
+      let l = lifted (λ (p : Piece). p.output) s.pieces sorted (subst (λ (z : List BatchOutput). IsPermutation z sorted) (g.outputs_are ∙ sym s.written) perm) in
       let covers = chained 0 (length lines) l.0 (All-permutation (IsPiece number lines) s.pieces l.0 l.1 s.each) (subst (Chains 0 (length lines)) (sym l.2) chains) in record {
         answers = answers_in l.0;
         each = subst (λ (z : List (Option Request)). AllZip IsFor z (answers_in l.0)) (take_all (length lines - 0) lines (omega arith)) covers.each;
-        prints = text_is ∙ (ap text_of (sym l.2) ∙ (covers.prints ∙ ap (λ (k : ℕ). answers_text k (answers_in l.0)) (let e : number + 0 ≡ number = omega arith in e)));
+        prints = text_is ∙ (ap joined_text (sym l.2) ∙ (covers.prints ∙ ap (λ (k : ℕ). answers_text k (answers_in l.0)) (let e : number + 0 ≡ number = omega arith in e)));
         taken = s.taken;
         old_are = s.old_are;
         new_are = s.new_are;

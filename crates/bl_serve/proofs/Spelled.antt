@@ -21,7 +21,8 @@ use Rattle.bl_model.proofs.Histories.{legal_append}
 use Rattle.bl_serve_lines.specs.Lines.{Line, IsLine, AreParts, Fits, Answer, Replied, Scanned, Synced, Malformed, entries, answer_text, input_of, output_of}
 use Rattle.bl_serve_lines.specs.Text.{Means, Spells, numbered}
 use Rattle.bl_serve_lines.specs.Served.{HasNoSync, malformed_of}
-use Rattle.bl_serve.specs.Answering.{IsFor, answers_text}
+use Rattle.bl_serve_worker.specs.Answering.{IsFor, answers_text}
+use Rattle.bl_serve_worker.specs.Answering.IsFor.{Replies, Scans, Syncs, Refuses}
 use Rattle.bl_serve.specs.Reading.{IsReadAs, bytes_of, AsksNoSync, AsksSyncLast}
 
 abbrev pub lines_with : List (List ℕ) → List Answer → List Line
@@ -29,53 +30,29 @@ lines_with [] answers = []
 lines_with (text ∷ texts) [] = []
 lines_with (text ∷ texts) (answer ∷ answers) = record { bytes = text; answer = answer } ∷ lines_with texts answers
 
-fits_one : (asked : Option Request) (answer : Answer) (bytes : List ℕ) → Means bytes asked → IsFor asked answer → Fits bytes answer
-fits_one (Some (Ask op)) (Replied entry) bytes m is = subst (λ (z : Op). Spells bytes (Ask z)) (sym is) m
-fits_one (Some (Ask op)) (Scanned low high parts) bytes m is = absurd is
-fits_one (Some (Ask op)) Synced bytes m is = absurd is
-fits_one (Some (Ask op)) Malformed bytes m is = absurd is
-fits_one (Some (Scan from to)) (Replied entry) bytes m is = absurd is
-fits_one (Some (Scan from to)) (Scanned low high parts) bytes m is = (subst (λ (z : ℕ). Spells bytes (Scan z high)) (sym is.0) (subst (λ (z : ℕ). Spells bytes (Scan from z)) (sym is.1) m), is.2)
-fits_one (Some (Scan from to)) Synced bytes m is = absurd is
-fits_one (Some (Scan from to)) Malformed bytes m is = absurd is
-fits_one (Some Sync) (Replied entry) bytes m is = absurd is
-fits_one (Some Sync) (Scanned low high parts) bytes m is = absurd is
-fits_one (Some Sync) Synced bytes m is = m
-fits_one (Some Sync) Malformed bytes m is = absurd is
-fits_one None (Replied entry) bytes m is = absurd is
-fits_one None (Scanned low high parts) bytes m is = absurd is
-fits_one None Synced bytes m is = absurd is
-fits_one None Malformed bytes m is = m
+fits_one : {asked : Option Request} {answer : Answer} → IsFor asked answer → (bytes : List ℕ) → Means bytes asked → Fits bytes answer
+fits_one (Replies entry) bytes m = m
+fits_one (Scans low high parts are) bytes m = (m, are)
+fits_one Syncs bytes m = m
+fits_one Refuses bytes m = m
 
-malformed_one : (asked : Option Request) (answer : Answer) → IsFor asked answer → malformed_of answer ≡ count_by is_none (asked ∷ [])
-malformed_one (Some (Ask op)) (Replied entry) is = refl
-malformed_one (Some (Ask op)) (Scanned low high parts) is = absurd is
-malformed_one (Some (Ask op)) Synced is = absurd is
-malformed_one (Some (Ask op)) Malformed is = absurd is
-malformed_one (Some (Scan from to)) (Replied entry) is = absurd is
-malformed_one (Some (Scan from to)) (Scanned low high parts) is = refl
-malformed_one (Some (Scan from to)) Synced is = absurd is
-malformed_one (Some (Scan from to)) Malformed is = absurd is
-malformed_one (Some Sync) (Replied entry) is = absurd is
-malformed_one (Some Sync) (Scanned low high parts) is = absurd is
-malformed_one (Some Sync) Synced is = refl
-malformed_one (Some Sync) Malformed is = absurd is
-malformed_one None (Replied entry) is = absurd is
-malformed_one None (Scanned low high parts) is = absurd is
-malformed_one None Synced is = absurd is
-malformed_one None Malformed is = refl
+malformed_one : {asked : Option Request} {answer : Answer} → IsFor asked answer → malformed_of answer ≡ count_by is_none (asked ∷ [])
+malformed_one (Replies entry) = refl
+malformed_one (Scans low high parts are) = refl
+malformed_one Syncs = refl
+malformed_one Refuses = refl
 
-not_synced : (asked : Option Request) (answer : Answer) → IsFor asked answer → asked ≢ Some Sync → answer ≢ Synced
-not_synced (Some (Ask op)) answer is other e = let h : IsFor (Some (Ask op)) Synced = subst (IsFor (Some (Ask op))) e is in absurd h
-not_synced (Some (Scan from to)) answer is other e = let h : IsFor (Some (Scan from to)) Synced = subst (IsFor (Some (Scan from to))) e is in absurd h
-not_synced (Some Sync) answer is other e = other refl
-not_synced None answer is other e = let h : IsFor None Synced = subst (IsFor None) e is in absurd h
+not_synced : {asked : Option Request} {answer : Answer} → IsFor asked answer → asked ≢ Some Sync → answer ≢ Synced
+not_synced (Replies entry) other e = let no : ⊥ = cc in no
+not_synced (Scans low high parts are) other e = let no : ⊥ = cc in no
+not_synced Syncs other e = other refl
+not_synced Refuses other e = let no : ⊥ = cc in no
 
-is_synced : (answer : Answer) → IsFor (Some Sync) answer → answer ≡ Synced
-is_synced (Replied entry) is = absurd is
-is_synced (Scanned low high parts) is = absurd is
-is_synced Synced is = refl
-is_synced Malformed is = absurd is
+is_synced : {asked : Option Request} {answer : Answer} → IsFor asked answer → asked ≡ Some Sync → answer ≡ Synced
+is_synced (Replies entry) e = let no : ⊥ = cc in absurd no
+is_synced (Scans low high parts are) e = let no : ⊥ = cc in absurd no
+is_synced Syncs e = refl
+is_synced Refuses e = let no : ⊥ = cc in absurd no
 
 count_cons : (a : Option Request) (l : List (Option Request)) → count_by is_none (a ∷ l) ≡ count_by is_none (a ∷ []) + count_by is_none l
 count_cons a l = grind (arith, common_steps)
@@ -96,12 +73,12 @@ are_lines [] (text ∷ texts) answers h k = absurd h
 are_lines (a ∷ asked) [] answers h k = absurd h
 are_lines (a ∷ asked) (text ∷ texts) [] h k = absurd k
 are_lines (a ∷ asked) (text ∷ texts) (answer ∷ answers) h k = let r = are_lines asked texts answers h.1 k.1 in let line : Line = record { bytes = text; answer = answer } in record {
-  good = All-cons IsLine line (lines_with texts answers) (record { cut = h.0.cut; fits = fits_one a answer text h.0.means k.0 }) r.good;
+  good = All-cons IsLine line (lines_with texts answers) (record { cut = h.0.cut; fits = fits_one k.0 text h.0.means }) r.good;
   entries_are = ap (λ (z : List (List Entry)). entries answer ∷ z) r.entries_are;
   input = flat_map-cons (λ (l : Line). l.bytes ++ 10 ∷ []) line (lines_with texts answers) ∙ (ap (λ (z : List ℕ). (text ++ 10 ∷ []) ++ z) r.input ∙ sym (flat_map-cons (λ (t : List ℕ). t ++ 10 ∷ []) text texts));
   output = λ n. ap (λ (z : List ℕ). numbered n (answer_text answer) ++ z) (r.output (suc n));
   long = ap suc r.long;
-  malformed = let one = malformed_one a answer k.0 in let more = r.malformed in let c = count_cons a asked in let f : Line → ℕ = λ x. malformed_of x.answer in
+  malformed = let one = malformed_one k.0 in let more = r.malformed in let c = count_cons a asked in let f : Line → ℕ = λ x. malformed_of x.answer in
       let s : sum_by f (line ∷ lines_with texts answers) ≡ f line + sum_by f (lines_with texts answers) = grind (arith, common_steps) in omega (arith, one, more, c, s);
 }
 
@@ -111,7 +88,7 @@ no_sync_lines [] (text ∷ texts) answers h k no_sync = absurd h
 no_sync_lines (a ∷ asked) [] answers h k no_sync = absurd h
 no_sync_lines (a ∷ asked) (text ∷ texts) [] h k no_sync = absurd k
 no_sync_lines (a ∷ asked) (text ∷ texts) (answer ∷ answers) h k no_sync = All-cons (λ line. line.answer ≢ Synced) (record { bytes = text; answer = answer }) (lines_with texts answers)
-    (not_synced a answer k.0 (All-head (λ (z : Option Request). z ≢ Some Sync) a asked no_sync)) (no_sync_lines asked texts answers h.1 k.1 (All-tail (λ (z : Option Request). z ≢ Some Sync) a asked no_sync))
+    (not_synced k.0 (All-head (λ (z : Option Request). z ≢ Some Sync) a asked no_sync)) (no_sync_lines asked texts answers h.1 k.1 (All-tail (λ (z : Option Request). z ≢ Some Sync) a asked no_sync))
 
 -- the last line is a sync, and its bytes are these
 pub record EndInSync (lines : List Line) : Type 0 where
@@ -123,7 +100,7 @@ pub record EndInSync (lines : List Line) : Type 0 where
 end_in_sync : (front : List (Option Request)) (texts : List (List ℕ)) (answers : List Answer) → AllZip IsReadAs (front ++ Some Sync ∷ []) texts → AllZip IsFor (front ++ Some Sync ∷ []) answers → AsksNoSync front → EndInSync (lines_with texts answers)
 end_in_sync [] [] answers h k no_sync = absurd h
 end_in_sync [] (text ∷ texts) [] h k no_sync = absurd k
-end_in_sync [] (text ∷ []) (answer ∷ answers) h k no_sync = record { front = []; sync = text; ends = ap (λ (z : Answer). record { bytes = text; answer = z } ∷ []) (is_synced answer k.0); no_sync = All-nil (λ line. line.answer ≢ Synced) }
+end_in_sync [] (text ∷ []) (answer ∷ answers) h k no_sync = record { front = []; sync = text; ends = ap (λ (z : Answer). record { bytes = text; answer = z } ∷ []) (is_synced k.0 refl); no_sync = All-nil (λ line. line.answer ≢ Synced) }
 end_in_sync [] (text ∷ next ∷ texts) (answer ∷ answers) h k no_sync = absurd h.1
 end_in_sync (a ∷ front) [] answers h k no_sync = absurd h
 end_in_sync (a ∷ front) (text ∷ texts) [] h k no_sync = absurd k
@@ -131,7 +108,7 @@ end_in_sync (a ∷ front) (text ∷ texts) (answer ∷ answers) h k no_sync = le
   front = line ∷ r.front;
   sync = r.sync;
   ends = ap (λ (z : List Line). line ∷ z) r.ends;
-  no_sync = All-cons (λ line. line.answer ≢ Synced) line r.front (not_synced a answer k.0 (All-head (λ (z : Option Request). z ≢ Some Sync) a front no_sync)) r.no_sync;
+  no_sync = All-cons (λ line. line.answer ≢ Synced) line r.front (not_synced k.0 (All-head (λ (z : Option Request). z ≢ Some Sync) a front no_sync)) r.no_sync;
 }
 
 pub sync_lines : (asked : List (Option Request)) (texts : List (List ℕ)) (answers : List Answer) → AllZip IsReadAs asked texts → AllZip IsFor asked answers → AsksSyncLast asked → EndInSync (lines_with texts answers)
@@ -207,9 +184,9 @@ pub record Lawful (m : Map) (asked : List (Option Request)) : Type 0 where
 pub lawful : (m : Map) (asked : List (Option Request)) (texts : List (List ℕ)) → AllZip IsReadAs asked texts → Lawful m asked
 lawful m [] texts h = record { answers = []; each = tt; legal = tt }
 lawful m (a ∷ asked) [] h = absurd h
-lawful m (None ∷ asked) (text ∷ texts) h = let r = lawful m asked texts h.1 in record { answers = Malformed ∷ r.answers; each = (tt, r.each); legal = r.legal }
-lawful m (Some Sync ∷ asked) (text ∷ texts) h = let r = lawful m asked texts h.1 in record { answers = Synced ∷ r.answers; each = (tt, r.each); legal = r.legal }
+lawful m (None ∷ asked) (text ∷ texts) h = let r = lawful m asked texts h.1 in record { answers = Malformed ∷ r.answers; each = (Refuses, r.each); legal = r.legal }
+lawful m (Some Sync ∷ asked) (text ∷ texts) h = let r = lawful m asked texts h.1 in record { answers = Synced ∷ r.answers; each = (Syncs, r.each); legal = r.legal }
 lawful m (Some (Ask op) ∷ asked) (text ∷ texts) h = let one = some_reply m text op h.0.means in let e : Entry = record { pass = 0; op = op; reply = one.0 } in let r = lawful (map_step op one.0 m) asked texts h.1 in
-    record { answers = Replied e ∷ r.answers; each = (refl, r.each); legal = (one.1, r.legal) }
+    record { answers = Replied e ∷ r.answers; each = (Replies e, r.each); legal = (one.1, r.legal) }
 lawful m (Some (Scan from to) ∷ asked) (text ∷ texts) h = let p = some_parts m to from to (omega arith) in let r = lawful (final_map m p.parts) asked texts h.1 in
-    record { answers = Scanned from to p.parts ∷ r.answers; each = ((refl, refl, p.are), r.each); legal = legal_append m p.parts (flat_map entries r.answers) p.legal r.legal }
+    record { answers = Scanned from to p.parts ∷ r.answers; each = (Scans from to p.parts p.are, r.each); legal = legal_append m p.parts (flat_map entries r.answers) p.legal r.legal }

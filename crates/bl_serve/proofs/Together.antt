@@ -12,7 +12,7 @@ use Rattle.bl_index.specs.declared.index.Index.{Index}
 use Rattle.bl_index.specs.Calls.{IsPassOf, IsSamePass, number_of, trail}
 use Rattle.bl_index.specs.Meetings.{Learns, Hears}
 use Rattle.bl_index.proofs.Taken.{same_of}
-use Rattle.bl_serve.proofs.Lines.{goes_on, stays}
+use Rattle.bl_serve_worker.proofs.Lines.{goes_on, stays}
 use Rattle.bl_serve.specs.Meetings.{Keeps, Comes, LearnsAll, AllMeet}
 
 same_again : (p q r : Pass) → IsSamePass p q → IsSamePass q r → IsSamePass p r

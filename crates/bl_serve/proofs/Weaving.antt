@@ -12,6 +12,7 @@ use Rattle.std.proofs.lemmas.List.{map-append}
 use Rattle.bl_model.specs.declared.operation.Entry.{Entry}
 use Rattle.bl_model.specs.History.{entries_of_pass}
 use Rattle.bl_serve_lines.specs.Served.{Interleaves}
+use Rattle.bl_serve_lines.specs.Served.Interleaves.{Done, Takes}
 
 -- ---- lists
 
@@ -128,30 +129,27 @@ pub record Picks (lists : List (List Entry)) (e : Entry) (h : List Entry) : Type
   pub at : get_or lists place [] ≡ e ∷ list
   pub more : Interleaves (set lists place list) h
 
-pub picked : (lists : List (List Entry)) (e : Entry) (h : List Entry) → Interleaves lists (e ∷ h) → Picks lists e h
-picked lists e h (before, list, after, is, more) = record {
-  place = length before;
-  list = list;
-  low = let long = length-append before ((e ∷ list) ∷ after) in let same = ap length is in omega arith;
-  at = ap (λ (z : List (List Entry)). get_or z (length before) []) is ∙ get_at before (e ∷ list) after [];
-  more = subst (λ (z : List (List Entry)). Interleaves z h) (sym (ap (λ (z : List (List Entry)). set z (length before) list) is ∙ set_at before (e ∷ list) after list (length before) refl)) more;
-}
-
 pub picks : (lists : List (List Entry)) (e : Entry) (h : List Entry) → Picks lists e h → Interleaves lists (e ∷ h)
-picks lists e h p = (
-  take p.place lists,
-  p.list,
-  drop (suc p.place) lists,
-  sym (set-get_or lists p.place []) ∙ (set_split lists p.place (get_or lists p.place []) p.low ∙ ap (λ (z : List Entry). take p.place lists ++ z ∷ drop (suc p.place) lists) p.at),
-  subst (λ (z : List (List Entry)). Interleaves z h) (set_split lists p.place p.list p.low) p.more,
-)
+picks lists e h p =
+    subst (λ (z : List (List Entry)). Interleaves z (e ∷ h)) (sym (sym (set-get_or lists p.place []) ∙ (set_split lists p.place (get_or lists p.place []) p.low ∙ ap (λ (z : List Entry). take p.place lists ++ z ∷ drop (suc p.place) lists) p.at)))
+    (Takes (take p.place lists) e p.list (drop (suc p.place) lists) h (subst (λ (z : List (List Entry)). Interleaves z h) (set_split lists p.place p.list p.low) p.more))
 
 -- ---- in any order of the lists
 
-pub in_any_order : (h : List Entry) (xs ys : List (List Entry)) → IsPermutation xs ys → Interleaves xs h → Interleaves ys h
-in_any_order [] xs ys perm all = All-permutation (λ list. list ≡ []) xs ys perm all
-in_any_order (e ∷ h) xs ys perm w = let p = picked xs e h w in let t = tracks [] xs ys perm p.place p.low in
-    picks ys e h (record { place = t.to; list = p.list; low = t.low; at = t.at ∙ p.at; more = in_any_order h (set xs p.place p.list) (set ys t.to p.list) (t.set_there p.list) p.more })
+pub in_any_order : {xs : List (List Entry)} {h : List Entry} → Interleaves xs h → (ys : List (List Entry)) → IsPermutation xs ys → Interleaves ys h
+in_any_order (Done xs all) ys perm = Done ys (All-permutation (λ list. list ≡ []) xs ys perm all)
+in_any_order (Takes before e list after h more) ys perm =
+    let xs : List (List Entry) = before ++ (e ∷ list) ∷ after in
+    let low : length before < length xs = (let long = length-append before ((e ∷ list) ∷ after) in omega arith) in
+    let t = tracks [] xs ys perm (length before) low in
+    let left : set xs (length before) list ≡ before ++ list ∷ after = set_at before (e ∷ list) after list (length before) refl in
+    picks ys e h (record {
+      place = t.to;
+      list = list;
+      low = t.low;
+      at = t.at ∙ get_at before (e ∷ list) after [];
+      more = in_any_order more (set ys t.to list) (subst (λ (z : List (List Entry)). IsPermutation z (set ys t.to list)) left (t.set_there list));
+    })
 
 -- ---- of lists joined
 
@@ -180,20 +178,18 @@ all_at : (gb ga : List (List (List Entry))) (g1 : List (List Entry)) (y : List E
 all_at gb ga g1 y g2 = flat_map-append (λ group. group) gb ((g1 ++ y ∷ g2) ∷ ga) ∙ (ap (λ (z : List (List Entry)). all_of gb ++ z) (append_assoc g1 (y ∷ g2) (all_of ga)) ∙ sym (append_assoc (all_of gb) g1 (y ∷ (g2 ++ all_of ga))))
 
 -- a history that interleaves the joined lists interleaves the lists
-pub one_by_one : (h : List Entry) (gs : List (List (List Entry))) → Interleaves (map joined gs) h → Interleaves (all_of gs) h
-one_by_one [] gs all = all_none gs all
-one_by_one (e ∷ h) gs (before, list, after, is, more) =
+pub one_by_one : {lists : List (List Entry)} {h : List Entry} → Interleaves lists h → (gs : List (List (List Entry))) → map joined gs ≡ lists → Interleaves (all_of gs) h
+one_by_one (Done lists all) gs is = Done (all_of gs) (all_none gs (subst (All (λ list. list ≡ [])) (sym is) all))
+one_by_one (Takes before e list after h more) gs is =
     let s = split_map joined gs before (e ∷ list) after is in
     let j = split_joined s.1 e list s.5 in
     let group : List (List Entry) = j.0 ++ j.1 ∷ j.2 in
     let same : joined group ≡ list = flat_map-append (λ z. z) j.0 (j.1 ∷ j.2) ∙ (ap (λ (z : List Entry). z ++ (j.1 ++ joined j.2)) j.4 ∙ sym j.5) in
-    let there : map joined (s.0 ++ group ∷ s.2) ≡ before ++ list ∷ after = map-append joined s.0 (group ∷ s.2) ∙ (ap (λ (z : List (List Entry)). z ++ joined group ∷ map joined s.2) s.4 ∙ (ap (λ (z : List Entry). before ++ z ∷ map joined s.2) same ∙ ap (λ (z : List (List Entry)). before ++ list ∷ z) s.6)) in (
-      all_of s.0 ++ j.0,
-      j.1,
-      j.2 ++ all_of s.2,
-      ap (λ (z : List (List (List Entry))). all_of z) s.3 ∙ (ap (λ (z : List (List Entry)). all_of (s.0 ++ z ∷ s.2)) j.3 ∙ all_at s.0 s.2 j.0 (e ∷ j.1) j.2),
-      subst (λ (z : List (List Entry)). Interleaves z h) (all_at s.0 s.2 j.0 j.1 j.2) (one_by_one h (s.0 ++ group ∷ s.2) (subst (λ (z : List (List Entry)). Interleaves z h) (sym there) more)),
-    )
+    let there : map joined (s.0 ++ group ∷ s.2) ≡ before ++ list ∷ after = map-append joined s.0 (group ∷ s.2) ∙ (ap (λ (z : List (List Entry)). z ++ joined group ∷ map joined s.2) s.4 ∙ (ap (λ (z : List Entry). before ++ z ∷ map joined s.2) same ∙ ap (λ (z : List (List Entry)). before ++ list ∷ z) s.6)) in
+    let are : all_of gs ≡ (all_of s.0 ++ j.0) ++ (e ∷ j.1) ∷ (j.2 ++ all_of s.2) = ap (λ (z : List (List (List Entry))). all_of z) s.3 ∙ (ap (λ (z : List (List Entry)). all_of (s.0 ++ z ∷ s.2)) j.3 ∙ all_at s.0 s.2 j.0 (e ∷ j.1) j.2) in
+    subst (λ (z : List (List Entry)). Interleaves z (e ∷ h)) (sym are)
+    (Takes (all_of s.0 ++ j.0) e j.1 (j.2 ++ all_of s.2) h
+    (subst (λ (z : List (List Entry)). Interleaves z h) (all_at s.0 s.2 j.0 j.1 j.2) (one_by_one more (s.0 ++ group ∷ s.2) there)))
 
 -- ---- by pass
 
@@ -229,7 +225,7 @@ parts_set from (suc n) (suc k) e h low is = ap (λ (z : List Entry). z ∷ set (
 
 -- a history interleaves its entries by pass
 pub by_part : (n : ℕ) (h : List Entry) → All (λ e. e.pass < n) h → Interleaves (parts 0 n h) h
-by_part n [] all = parts_none 0 n
+by_part n [] all = Done (parts 0 n []) (parts_none 0 n)
 by_part n (e ∷ h) all = let low = All-head (λ x. x.pass < n) e h all in let at = parts_at 0 n (e.pass) (e ∷ h) low in
     let zero_plus : 0 + e.pass ≡ e.pass = omega arith in
     picks (parts 0 n (e ∷ h)) e h (record {

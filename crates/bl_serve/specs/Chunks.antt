@@ -1,5 +1,5 @@
--- A section that was answered.
-use Rattle.std.specs.Prelude.{◌≡◌, ℕ, ◌++◌, List, All, Option, false, flat_map, map}
+-- A chunk of lines that was answered.
+use Rattle.std.specs.Prelude.{◌≡◌, ℕ, ◌++◌, List, [], ◌∷◌, All, Option, false, flat_map, map}
 use Rattle.std.specs.List.{AllZip}
 use Rattle.bl_model.specs.declared.operation.Entry.{Entry}
 use Rattle.bl_serve_lines.specs.declared.request.Request.{Request}
@@ -9,11 +9,12 @@ use Rattle.bl_page.specs.declared.page.Page.{Page}
 use Rattle.bl_claims.specs.Seeing.{IsSeen, own, GoesOnFrom}
 use Rattle.bl_index.specs.declared.index.Pass.{Pass}
 use Rattle.bl_index.specs.Calls.{IsSamePass, number_of, trail}
-use Rattle.bl_serve.specs.declared.working.Written.{Written}
-use Rattle.bl_serve.specs.declared.working.Desk.{Desk}
-use Rattle.bl_serve.specs.Answering.{IsFor, answers_text}
+use Rattle.bl_serve_worker.specs.declared.chunk.BatchOutput.{BatchOutput}
+use Rattle.bl_serve_worker.specs.declared.chunk.Slot.{Slot}
+use Rattle.bl_serve_worker.specs.Answering.{IsFor, answers_text}
+use Rattle.bl_serve_worker.specs.Batches.{TakesTurn}
 
--- a pass before and after a section, and the entries of the batches that its thread answered
+-- a pass before and after a chunk, and the entries of the batches that its thread answered
 pub record Taken : Type 0 where
   pub old : Pass
   pub new : Pass
@@ -41,7 +42,13 @@ pub record IsChunk (first : List (Option Page)) (number : ℕ) (lines : List (Op
   pub each_taken : All (IsTaken first) taken
   pub weaves : Weaves taken answers
 
--- what was written at the desks, for all of which there was memory
-pub record Gathers (desks : List Desk) (written : List Written) : Type 0 where
-  pub none_failed : All (λ (d : Desk). d.failed ≡ false) desks
-  pub written_are : written ≡ flat_map (λ d. d.log.items) desks
+-- the outputs in all slots, for each of which there was memory
+pub record Collects (slots : List Slot) (outputs : List BatchOutput) : Type 0 where
+  pub none_failed : All (λ (s : Slot). s.failed ≡ false) slots
+  pub outputs_are : outputs ≡ flat_map (λ s. s.log.items) slots
+
+-- Each of these passes has, at the slot that has its place.
+abbrev pub TakeTurns : List (Option Page) → ℕ → List (Option Request) → List Pass → List Pass → List Slot → Type 0
+TakeTurns first number lines [] [] [] = Unit {0}
+TakeTurns first number lines (old ∷ olds) (new ∷ news) (slot ∷ slots) = TakesTurn first number lines old new slot × TakeTurns first number lines olds news slots
+TakeTurns first number lines olds news slots = ⊥

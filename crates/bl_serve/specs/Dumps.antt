@@ -1,11 +1,16 @@
 -- The image that a server leaves.
-use Rattle.std.specs.Prelude.{◌≡◌, ℕ, List, Option, length}
+use Rattle.std.specs.Prelude.{◌≡◌, ℕ, List, Option, Result, IfOk, length}
 use Rattle.bl_model.specs.Map.{Map, SameMap}
 use Rattle.bl_model.specs.History.{final_map}
 use Rattle.bl_model.specs.Rows.{map_of}
 use Rattle.bl_model.specs.declared.operation.Entry.{Entry}
 use Rattle.bl_page.specs.declared.page.Page.{Page}
 use Rattle.bl_check.specs.Rows.{AreRowsOf}
+use Rattle.bl_check.specs.declared.quiet.Quiet.{Quiet}
+use Rattle.bl_serve_lines.specs.declared.serving.Totals.{Totals}
+use Rattle.bl_serve_lines.specs.Served.{whole_history}
+use Rattle.bl_serve.specs.declared.origin.Origin.{Origin}
+use Rattle.bl_serve.specs.Origins.{size_of, ServedFrom}
 
 -- There are so many pages, and their rows are the map after the history, from that map on.
 pub record HoldMapAfter (map : Map) (history : List Entry) (many : ℕ) (pages : List (Option Page)) : Type 0 where
@@ -13,3 +18,8 @@ pub record HoldMapAfter (map : Map) (history : List Entry) (many : ℕ) (pages :
   pub rows : List (ℕ × ℕ)
   pub are_rows : AreRowsOf pages rows
   pub same : SameMap (final_map map history) (map_of rows)
+
+-- The input was served from there on, and the image, if there was memory for it, holds the map after that.
+pub record DumpedFrom {E : Type 0} (origin : Origin) (totals : Totals) (image : Result Quiet E) (input output : List ℕ) : Type 0 where
+  pub from : ServedFrom origin totals input output
+  pub holds : IfOk image (λ quiet. HoldMapAfter (map_of from.rows) (whole_history from.served) (size_of origin) quiet.image.pages.items)

@@ -1,12 +1,9 @@
-pub mod Works
-pub mod Answering
-pub mod Turns
 pub mod Joining
 pub mod Chunks
 pub mod Meetings
 pub mod Reading
 pub mod Sections
 pub mod Serving
-pub mod Dumps
 pub mod Origins
+pub mod Dumps
 pub mod Begun

@@ -25,7 +25,7 @@ HasRows (Empty pages) rows = rows ≡ []
 HasRows (Image quiet) rows = AreRowsOf quiet.image.pages.items rows
 
 -- The input is served from the map of those rows on.
-pub record ServedFrom (origin : Origin) (input output : List ℕ) (totals : Totals) : Type 0 where
+pub record ServedFrom (origin : Origin) (totals : Totals) (input output : List ℕ) : Type 0 where
   pub rows : List (ℕ × ℕ)
   pub are_rows : HasRows origin rows
   pub served : Served (map_of rows) input output totals

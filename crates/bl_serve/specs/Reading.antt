@@ -8,7 +8,7 @@ use Rattle.bl_serve_lines.specs.declared.serving.ServeFault.{ServeFault}
 use Rattle.bl_serve_lines.specs.declared.serving.ServeFault.TheVariants.{Read, Write, Memory, Lost}
 use Rattle.bl_serve.specs.declared.reading.Reading.{Reading}
 use Rattle.bl_serve.specs.declared.reading.Reading.TheVariants as reading
-use Rattle.bl_serve.specs.declared.reading.Ahead.{Ahead}
+use Rattle.bl_serve.specs.declared.reading.ReadAhead.{ReadAhead}
 use Rattle.bl_serve.specs.declared.reading.SectionEnd.{SectionEnd}
 use Rattle.bl_serve.specs.declared.reading.SectionEnd.TheVariants.{Synced, Rest, Finished}
 use Rattle.bl_serve_lines.specs.Text.{Means}
@@ -59,7 +59,7 @@ EndsReading (Err Memory) most asked rest unread left at_end failed = Unit {0}
 EndsReading (Err (Lost number)) most asked rest unread left at_end failed = ⊥
 
 -- At most so many lines were read on as are wanted; where none are, nothing was read.
-pub record ReadsOn (old new : Ahead) (before after : Option (List ℕ)) (failed : Type 0) : Type 0 where
+pub record ReadsOn (old new : ReadAhead) (before after : Option (List ℕ)) (failed : Type 0) : Type 0 where
   pub rest : List ℕ
   pub more : List ℕ
   pub consumed : Consumes before after more

@@ -9,7 +9,7 @@ use Rattle.bl_serve_lines.specs.Text.{numbered}
 use Rattle.bl_serve_lines.specs.Lines.{Answer, entries}
 use Rattle.bl_serve_lines.specs.Served.{Interleaves}
 use Rattle.bl_claims.specs.Trails.{Trail, history_of}
-use Rattle.bl_serve.specs.Answering.{IsFor, answers_text}
+use Rattle.bl_serve_worker.specs.Answering.{IsFor, answers_text}
 
 -- one for bytes behind the last LF
 abbrev pub rests : SectionEnd → ℕ

@@ -1,10 +1,12 @@
 -- What the server promises.
-use Rattle.std.specs.Prelude.{◌≡◌, ℕ, suc, ◌+◌, ◌<◌, ◌≤◌, ◌⊎◌, List, [], ◌∷◌, ◌++◌, Option, Err, length}
+use Rattle.std.specs.Prelude.{◌≡◌, ℕ, suc, ◌+◌, ◌<◌, ◌≤◌, ◌⊎◌, List, [], ◌∷◌, ◌++◌, Option, Result, Err, IfOk, IfErr, length}
+use Rattle.std.specs.Io.KnownBytes.{Appends, Consumes, IsAtEnd}
 use Rattle.bl_serve_lines.specs.declared.request.Request.{Request}
 use Rattle.bl_serve_lines.specs.declared.serving.Totals.{Totals}
 use Rattle.bl_serve_lines.specs.declared.serving.ServeFault.{ServeFault}
 use Rattle.bl_serve_lines.specs.declared.serving.ServeFault.TheVariants.{Read, Write, Memory, Lost}
 use Rattle.bl_serve_lines.specs.Served.{Served, whole_history}
+use Rattle.bl_serve_lines.specs.Streams.{EndsRead}
 use Rattle.bl_page.specs.declared.page.Page.{Page}
 use Rattle.bl_claims.specs.Trails.{Trail, history_of}
 use Rattle.bl_claims.specs.Seeing.{IsSeen}
@@ -63,7 +65,19 @@ pub record ServedBy (first : List (Option Page)) (old now : Trail) (input output
   pub history : history_of more ≡ whole_history served
 
 -- The passes have served: all have seen one trail, which is what they had seen with the entries of what was served.
-pub record Serves (index : Index) (olds news : List Pass) (input output : List ℕ) (totals : Totals) : Type 0 where
+pub record Serves (index : Index) (olds news : List Pass) (totals : Totals) (input output : List ℕ) : Type 0 where
   pub now : Trail
   pub served : ServedBy (first_of index) (seen_by olds) now input output totals
   pub together : AreTogether index now news
+
+-- Serving has ended. The input was read, and more ahead of it; the output was written. Without a fault the input was served, up to
+-- where the reader ends; a fault stopped it.
+pub record EndsServing {T : Type 0} (IsServed : T → List ℕ → List ℕ → Type 0) (IsStopped : List ℕ → List ℕ → ServeFault → Type 0 → Type 0 → Type 0)
+    (unread left : Option (List ℕ)) (reader_failed : Type 0) (before after : Option (List ℕ)) (writer_failed : Type 0) (result : Result T ServeFault) : Type 0 where
+  pub input : List ℕ
+  pub ahead : List ℕ
+  pub output : List ℕ
+  pub consumed : Consumes unread left (input ++ ahead)
+  pub wrote : Appends before after output
+  pub ok : IfOk result (λ t. IsServed t input output × EndsRead input ahead (IsAtEnd left))
+  pub fault : IfErr result (λ fault. IsStopped (input ++ ahead) output fault reader_failed writer_failed)

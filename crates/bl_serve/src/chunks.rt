@@ -3,24 +3,20 @@
 ghost use Rattle.std.specs.Prelude.{◌≡◌, ℕ, List, suc, ◌+◌, ◌<◌, ◌≤◌, ◌^◌, ◌++◌, true, false, length, All, IfOk, IfErr, OnOk, vec_len};
 ghost use Rattle.bl_index.specs.Calls.{first_of, IsPassOf};
 ghost use Rattle.std.specs.Thread.{IsSync};
-ghost use Rattle.bl_serve.specs.Turns.{TakeTurns};
 ghost use Rattle.std.specs.Io.KnownBytes.{Consumes};
 ghost use Rattle.bl_serve.specs.Reading.{ReadsOn};
-ghost use Rattle.bl_serve.specs.Chunks.{IsChunk, Gathers};
+ghost use Rattle.bl_serve.specs.Chunks.{IsChunk, Collects, TakeTurns};
 ghost use Rattle.bl_serve.specs.Serving.{AreTogether, HoldsSection, IsInside, seen_by};
 
-use crate::asked::Asked;
-use crate::compressing::Shift;
-use crate::gate::Gate;
-use crate::joining::collect;
+use crate::joining::join_outputs;
 use crate::meeting::meet_all;
-use crate::reading::{Ahead, read_on};
-use crate::working::{Batch, Desk, Duty, Written, take_turn};
-use bl_hints::Hints;
-use bl_index::{Index, Pass};
+use crate::parsed_lines::ParsedLines;
+use crate::reading::{ReadAhead, read_on};
+use crate::session::{Session, ThreadPlan};
+use bl_index::Pass;
 use bl_model::Watched;
 use bl_serve_lines::ServeFault;
-use bl_serve_lines::request::Request;
+use bl_serve_worker::{Batch, BatchOutput, Chunk, Gate, Role, Service, Slot, Wakeup, take_turn};
 use crossbeam_channel::{Receiver, unbounded};
 use std::alloc::{AllocError, Global};
 use std::io::Read;
@@ -74,50 +70,41 @@ fn batches<R: Wait>(
     Ok(receiver)
 }
 
-/// Who works on a chunk.
-#[derive(Clone, Copy, Debug, PartialEq, Eq)]
-pub struct Crew {
-    /// So many passes answer lines, the first ones. The others follow hints.
-    pub workers: usize,
-    /// Fewer requests than this are answered by one thread: another one would cost more time than it spares.
-    pub alone: usize,
-}
-
 /// What the pass of that number does: the first so many serve, the others compress.
-fn duty_of(number: usize, workers: usize) -> Duty {
+fn role_of(number: usize, workers: usize) -> Role {
     if number < workers {
-        Duty::Serve
+        Role::Serve
     } else {
-        Duty::Compress
+        Role::Compress
     }
 }
 
-/// A desk for each of so many passes, of which the first so many serve.
-pub fn desks(alloc: Global, count: usize, workers: usize) -> Result<Vec<Desk>, AllocError>
+/// A slot for each of so many passes, of which the first so many serve.
+pub fn new_slots(alloc: Global, count: usize, workers: usize) -> Result<Vec<Slot>, AllocError>
     ensures { IfOk result (λ v. vec_len v ≡ count) }
 {
-    let mut desks = Vec::with_capacity(alloc, count)?;
+    let mut slots = Vec::with_capacity(alloc, count)?;
     for number in 0..count {
-        desks.push(Desk {
-            duty: duty_of(number, workers),
+        slots.push(Slot {
+            role: role_of(number, workers),
             log: Vec::new(alloc),
             failed: false,
         })?;
     }
-    Ok(desks)
+    Ok(slots)
 }
 
 /// How many threads are worth their time. Few requests are answered by this thread; else there are two at least, and more where
 /// there are more requests, up to the number of workers. Where there are many, and deletions among them, all passes work at once.
-fn threads_for(lines: &Asked, crew: Crew, passes: usize) -> usize {
-    let asked = lines.operations();
-    let deleted = lines.deletions();
-    if asked < crew.alone {
+fn threads_for(lines: &ParsedLines, plan: ThreadPlan, passes: usize) -> usize {
+    let operations = lines.operations();
+    let deletions = lines.deletions();
+    if operations < plan.alone {
         1
-    } else if asked >= MANY && deleted > 0 {
+    } else if operations >= MANY && deletions > 0 {
         passes
     } else {
-        (asked / REQUESTS_A_THREAD).max(2).min(crew.workers)
+        (operations / REQUESTS_A_THREAD).max(2).min(plan.workers)
     }
 }
 
@@ -127,38 +114,26 @@ fn last_share(passes: usize, threads: usize) -> usize {
     passes.saturating_sub(passes.div_ceil(threads.max(1)))
 }
 
-/// The passes take their turns one after another, each at its desk.
+/// The passes take their turns one after another, each at its slot.
 #[cycle(in_turn)]
 fn work_in_turn<R: Wait, G: Gate>(
     rt: &R,
-    alloc: Global,
-    index: &Index,
-    hints: &Hints,
-    gate: &G,
-    shift: &Shift,
-    batches: &Receiver<Batch>,
-    done: u64,
-    lines: &[Option<Request>],
+    chunk: &Chunk<'_, G>,
     passes: &mut [Pass],
-    desks: &mut [Desk],
+    slots: &mut [Slot],
 )
-    requires own { All (IsPassOf index.now) passes.old }
-    requires room { done + length lines.now < 2 ^ 64 }
-    requires desks { length desks.old ≡ length passes.old }
-    ensures { TakeTurns (first_of index.now) (suc done) lines.now passes.old passes.new desks.new }
+    requires own { All (IsPassOf chunk.now.service.now.index.now) passes.old }
+    requires slots { length slots.old ≡ length passes.old }
+    ensures { TakeTurns (first_of chunk.now.service.now.index.now) (suc chunk.now.before) chunk.now.lines.now passes.old passes.new slots.new }
 {
     let Some((pass, others)) = passes.split_first_mut() else {
         return;
     };
-    let Some((desk, rest)) = desks.split_first_mut() else {
+    let Some((slot, rest)) = slots.split_first_mut() else {
         return;
     };
-    take_turn(
-        rt, alloc, index, hints, gate, shift, batches, done, lines, pass, desk,
-    );
-    work_in_turn(
-        rt, alloc, index, hints, gate, shift, batches, done, lines, others, rest,
-    );
+    take_turn(rt, chunk, pass, slot);
+    work_in_turn(rt, chunk, others, rest);
 }
 
 /// The passes take their turns, in so many threads. This thread makes all others, and works as they do: a thread that another new
@@ -167,61 +142,42 @@ fn work_in_turn<R: Wait, G: Gate>(
 #[cycle(abreast)]
 fn work_abreast<R: Threads + Wait + Sync, G: Gate + Sync, I: Read>(
     rt: &R,
-    alloc: Global,
-    index: &Index,
-    hints: &Hints,
-    gate: &G,
-    shift: &Shift,
-    batches: &Receiver<Batch>,
-    done: u64,
-    lines: &[Option<Request>],
+    chunk: &Chunk<'_, G>,
     threads: usize,
     passes: &mut [Pass],
-    desks: &mut [Desk],
+    slots: &mut [Slot],
     reader: &mut Watched<I>,
-    ahead: &mut Ahead,
+    ahead: &mut ReadAhead,
 )
-    requires own { All (IsPassOf index.now) passes.old }
-    requires room { done + length lines.now < 2 ^ 64 }
-    requires desks { length desks.old ≡ length passes.old }
-    ensures turns { TakeTurns (first_of index.now) (suc done) lines.now passes.old passes.new desks.new }
+    requires own { All (IsPassOf chunk.now.service.now.index.now) passes.old }
+    requires slots { length slots.old ≡ length passes.old }
+    ensures turns { TakeTurns (first_of chunk.now.service.now.index.now) (suc chunk.now.before) chunk.now.lines.now passes.old passes.new slots.new }
     ensures reads { ReadsOn ahead.old ahead.new (I.remaining reader.old.inner) (I.remaining reader.new.inner) (reader.new.failed ≡ true) }
 {
-    let place = last_share(desks.len(), threads);
+    let place = last_share(slots.len(), threads);
     if place == 0 || passes.len() <= place {
         read_on(reader, ahead);
-        work_in_turn(
-            rt, alloc, index, hints, gate, shift, batches, done, lines, passes, desks,
-        );
+        work_in_turn(rt, chunk, passes, slots);
         return;
     }
     let (others, some) = passes.split_at_mut(place);
-    let (rest, theirs) = desks.split_at_mut(place);
+    let (rest, theirs) = slots.split_at_mut(place);
     join_mut(
         rt,
         &mut ||
-            requires { All (IsPassOf index.now) some.now × (done + length lines.now < 2 ^ 64) × (length theirs.now ≡ length some.now) }
-            ensures { TakeTurns (first_of index.entry.now) (suc done) lines.entry.now some.entry.now some.exit.now theirs.exit.now }
-        {
-            work_in_turn(
-                rt, alloc, index, hints, gate, shift, batches, done, lines, some, theirs,
-            )
-        },
+            requires { All (IsPassOf chunk.now.service.now.index.now) some.now × (length theirs.now ≡ length some.now) }
+            ensures { TakeTurns (first_of chunk.entry.now.service.now.index.now) (suc chunk.entry.now.before) chunk.entry.now.lines.now
+                some.entry.now some.exit.now theirs.exit.now }
+        { work_in_turn(rt, chunk, some, theirs) },
         &mut ||
-            requires { IsSync R.row × IsSync G.row × All (IsPassOf index.now) others.now × (done + length lines.now < 2 ^ 64) × (length rest.now ≡ length others.now) }
-            ensures turns { TakeTurns (first_of index.entry.now) (suc done) lines.entry.now others.entry.now others.exit.now rest.exit.now }
+            requires { IsSync R.row × IsSync G.row × All (IsPassOf chunk.now.service.now.index.now) others.now × (length rest.now ≡ length others.now) }
+            ensures turns { TakeTurns (first_of chunk.entry.now.service.now.index.now) (suc chunk.entry.now.before) chunk.entry.now.lines.now
+                others.entry.now others.exit.now rest.exit.now }
             ensures reads { ReadsOn ahead.entry.now ahead.exit.now (I.remaining reader.entry.now.inner) (I.remaining reader.exit.now.inner) (reader.exit.now.failed ≡ true) }
         {
             work_abreast(
                 rt,
-                alloc,
-                index,
-                hints,
-                gate,
-                shift,
-                batches,
-                done,
-                lines,
+                chunk,
                 threads.saturating_sub(1),
                 others,
                 rest,
@@ -232,110 +188,105 @@ fn work_abreast<R: Threads + Wait + Sync, G: Gate + Sync, I: Read>(
     );
 }
 
-/// What was written at a desk goes behind the rest, if there was memory for all of it.
-fn hand_in(desk: &mut Desk, written: &mut Vec<Written>) -> Result<(), AllocError>
-    ensures { OnOk result ((desk.old.failed ≡ false) × (written.new.items ≡ written.old.items ++ desk.old.log.items)) }
+/// The outputs in a slot go behind the rest, if there was memory for all of them.
+fn take_outputs(slot: &mut Slot, outputs: &mut Vec<BatchOutput>) -> Result<(), AllocError>
+    ensures { OnOk result ((slot.old.failed ≡ false) × (outputs.new.items ≡ outputs.old.items ++ slot.old.log.items)) }
 {
-    if desk.failed {
+    if slot.failed {
         return Err(AllocError);
     }
-    written.append(&mut desk.log)
+    outputs.append(&mut slot.log)
 }
 
-/// What was written at the desks.
-fn gather(alloc: Global, desks: &mut Vec<Desk>) -> Result<Vec<Written>, AllocError>
-    ensures len { vec_len desks.new ≡ vec_len desks.old }
-    ensures gathers { IfOk result (λ written. Gathers desks.old.items written.items) }
+/// The outputs in all slots.
+fn collect_outputs(alloc: Global, slots: &mut Vec<Slot>) -> Result<Vec<BatchOutput>, AllocError>
+    ensures len { vec_len slots.new ≡ vec_len slots.old }
+    ensures collects { IfOk result (λ outputs. Collects slots.old.items outputs.items) }
 {
-    let mut written = Vec::new(alloc);
-    for number in 0..desks.len() {
-        hand_in(&mut desks[number], &mut written)?;
+    let mut outputs = Vec::new(alloc);
+    for number in 0..slots.len() {
+        take_outputs(&mut slots[number], &mut outputs)?;
     }
-    Ok(written)
+    Ok(outputs)
 }
 
-/// Answers the lines of a chunk, before which so many others stood, each pass at the desk that has its place. The output goes
-/// behind the text, and the passes are given back.
-pub fn answer_chunk<R: Threads + Wait + Sync, G: Gate + Sync, I: Read>(
+/// Answers the lines of a chunk, each pass at the slot that has its place. The output goes behind the text.
+fn answer_chunk<'a, R: Threads + Wait + Sync, G: Gate + Sync, I: Read>(
     rt: &R,
-    alloc: Global,
-    index: &Index,
-    hints: &Hints,
-    gate: &G,
-    crew: Crew,
-    passes: Vec<Pass>,
-    desks: &mut Vec<Desk>,
-    done: u64,
-    lines: &Asked,
+    service: &'a Service<'a, G>,
+    session: Session,
+    lines: &'a ParsedLines,
     reader: &mut Watched<I>,
-    ahead: &mut Ahead,
-    text: &mut Vec<u8>,
-) -> Result<Vec<Pass>, ServeFault>
-    requires own { All (IsPassOf index.now) passes.items }
-    requires room { done + length lines.now < 2 ^ 64 }
-    requires desks { vec_len desks.old ≡ vec_len passes }
-    ensures desks { vec_len desks.new ≡ vec_len desks.old }
-    ensures own { IfOk result (λ back. All (IsPassOf index.now) back.items) }
-    ensures fault { IfErr result (IsInside done (length lines.now)) }
+    ahead: &mut ReadAhead,
+) -> Result<Session, ServeFault>
+    requires own { All (IsPassOf service.now.index.now) session.passes.items }
+    requires room { session.totals.requests + length lines.now < 2 ^ 64 }
+    ensures own { IfOk result (λ back. All (IsPassOf service.now.index.now) back.passes.items) }
+    ensures totals { IfOk result (λ back. back.totals ≡ session.totals) }
+    ensures fault { IfErr result (IsInside session.totals.requests (length lines.now)) }
     ensures reads { OnOk result (ReadsOn ahead.old ahead.new (I.remaining reader.old.inner) (I.remaining reader.new.inner) (reader.new.failed ≡ true)) }
     ensures consumes { (more : List ℕ) × Consumes (I.remaining reader.old.inner) (I.remaining reader.new.inner) more }
-    ensures chunk { IfOk result (λ back. (more : List ℕ) × (text.new.items ≡ text.old.items ++ more) × IsChunk (first_of index.now) (suc done) lines.now more passes.items back.items) }
+    ensures chunk { IfOk result (λ back. (more : List ℕ) × (back.text.items ≡ session.text.items ++ more)
+        × IsChunk (first_of service.now.index.now) (suc session.totals.requests) lines.now more session.passes.items back.passes.items) }
 {
-    let mut passes = passes;
+    let Session {
+        plan,
+        mut passes,
+        mut slots,
+        totals,
+        mut text,
+    } = session;
     let count = lines.len();
-    let batches = batches(rt, alloc, count, crew.workers)?;
-    let shift = Shift::new(crew.workers as u64);
-    let threads = threads_for(lines, crew, passes.len());
+    let batches = batches(rt, service.alloc, count, plan.workers)?;
+    let wakeup = Wakeup::new(plan.workers as u64);
+    // Lent anew, for as long as the chunk is there.
+    let chunk = Chunk {
+        service: &*service,
+        wakeup: &wakeup,
+        batches: &batches,
+        lines: lines.as_slice(),
+        before: totals.requests,
+    };
+    let threads = threads_for(lines, plan, passes.len());
     work_abreast(
         rt,
-        alloc,
-        index,
-        hints,
-        gate,
-        &shift,
-        &batches,
-        done,
-        lines.as_slice(),
+        &chunk,
         threads,
         passes.as_mut_slice(),
-        desks.as_mut_slice(),
+        slots.as_mut_slice(),
         reader,
         ahead,
     );
-    let written = gather(alloc, desks)?;
-    collect(written, done, count, text)?;
-    Ok(passes)
+    let outputs = collect_outputs(service.alloc, &mut slots)?;
+    join_outputs(outputs, totals.requests, count, &mut text)?;
+    Ok(Session {
+        plan,
+        passes,
+        slots,
+        totals,
+        text,
+    })
 }
 
 /// Answers the lines of a chunk by passes that have met, and lets them meet again. The output goes behind the text.
-pub fn hold_chunk<R: Threads + Wait + Sync, G: Gate + Sync, I: Read>(
+pub fn run_chunk<R: Threads + Wait + Sync, G: Gate + Sync, I: Read>(
     rt: &R,
-    alloc: Global,
-    index: &Index,
-    hints: &Hints,
-    gate: &G,
-    crew: Crew,
-    passes: Vec<Pass>,
-    desks: &mut Vec<Desk>,
-    done: u64,
-    lines: &Asked,
+    service: &Service<'_, G>,
+    session: Session,
+    lines: &ParsedLines,
     reader: &mut Watched<I>,
-    ahead: &mut Ahead,
-    text: &mut Vec<u8>,
-) -> Result<Vec<Pass>, ServeFault>
-    requires together { AreTogether index.now (seen_by passes.items) passes.items }
-    requires some { 0 < vec_len passes }
-    requires room { done + length lines.now < 2 ^ 64 }
-    requires desks { vec_len desks.old ≡ vec_len passes }
-    ensures desks { vec_len desks.new ≡ vec_len desks.old }
+    ahead: &mut ReadAhead,
+) -> Result<Session, ServeFault>
+    requires together { AreTogether service.now.index.now (seen_by session.passes.items) session.passes.items }
+    requires room { session.totals.requests + length lines.now < 2 ^ 64 }
+    ensures totals { IfOk result (λ back. back.totals ≡ session.totals) }
     ensures reads { OnOk result (ReadsOn ahead.old ahead.new (I.remaining reader.old.inner) (I.remaining reader.new.inner) (reader.new.failed ≡ true)) }
     ensures consumes { (more : List ℕ) × Consumes (I.remaining reader.old.inner) (I.remaining reader.new.inner) more }
-    ensures held { IfOk result (λ back. (more : List ℕ) × (text.new.items ≡ text.old.items ++ more) × HoldsSection index.now done lines.now more passes.items back.items) }
-    ensures fault { IfErr result (IsInside done (length lines.now)) }
+    ensures held { IfOk result (λ back. (more : List ℕ) × (back.text.items ≡ session.text.items ++ more)
+        × HoldsSection service.now.index.now session.totals.requests lines.now more session.passes.items back.passes.items) }
+    ensures fault { IfErr result (IsInside session.totals.requests (length lines.now)) }
 {
-    let mut passes = answer_chunk(
-        rt, alloc, index, hints, gate, crew, passes, desks, done, lines, reader, ahead, text,
-    )?;
-    meet_all(index, passes.as_mut_slice());
-    Ok(passes)
+    let mut session = answer_chunk(rt, service, session, lines, reader, ahead)?;
+    meet_all(service.index, session.passes.as_mut_slice());
+    Ok(session)
 }

@@ -1,25 +1,21 @@
 //! The server over an index of its own, which leaves the image of that index.
 
-ghost use Rattle.std.specs.Prelude.{◌≡◌, ◌+◌, ◌<◌, ◌≤◌, ℕ, List, ◌++◌, true, vec_len, IfOk, MatchResult, false, OnOk};
-ghost use Rattle.std.specs.Io.KnownBytes.{Appends, Consumes, IsAtEnd};
-ghost use Rattle.bl_model.specs.Rows.{map_of};
-ghost use Rattle.bl_serve_lines.specs.Served.{whole_history};
-ghost use Rattle.bl_serve_lines.specs.Streams.{EndsRead};
+ghost use Rattle.std.specs.Prelude.{◌≡◌, ◌+◌, ◌<◌, ◌≤◌, true, vec_len, IfOk, false, OnOk};
 ghost use Rattle.bl_claims.specs.Trails.{history_of};
 ghost use Rattle.bl_claims.specs.Seeing.{first_map};
 ghost use Rattle.bl_index.specs.Calls.{first_of, pages_of};
-ghost use Rattle.bl_serve.specs.Dumps.{HoldMapAfter};
-ghost use Rattle.bl_serve.specs.Origins.{HasPages, size_of, ServedFrom, StopsFrom};
-ghost use Rattle.bl_serve.specs.Serving.{AreTogether, seen_by};
+ghost use Rattle.bl_serve.specs.Dumps.{DumpedFrom, HoldMapAfter};
+ghost use Rattle.bl_serve.specs.Origins.{HasPages, StopsFrom};
+ghost use Rattle.bl_serve.specs.Serving.{AreTogether, EndsServing, seen_by};
 
-use crate::gate::OpenGate;
 use crate::origin::Origin;
 use crate::serving::serve_with;
-use crate::starting::{crew_of, open_index};
+use crate::starting::{open_index, plan_of};
 use bl_check::Quiet;
 use bl_index::{CloseFault, Index, Pass};
 use bl_model::Watched;
 use bl_serve_lines::{ServeFault, Totals};
+use bl_serve_worker::OpenGate;
 use std::alloc::{AllocError, Global};
 use std::io::{Read, Write};
 use std::sync::Wait;
@@ -54,19 +50,14 @@ pub fn dump_index<T: Threads + Wait + Sync, R: Read, W: Write>(
 ) -> Result<(Totals, Result<Quiet, AllocError>), ServeFault>
     requires pages { HasPages origin }
     requires passes { (1 ≤ workers) × (workers + compressors ≤ 64) }
-    ensures serves { (input : List ℕ) × (ahead : List ℕ) × (output : List ℕ)
-        × Consumes (R.remaining reader.old.inner) (R.remaining reader.new.inner) (input ++ ahead)
-        × Appends (W.contents writer.old.inner) (W.contents writer.new.inner) output
-        × MatchResult result
-        (λ t. (from : ServedFrom origin input output t.0)
-        × IfOk t.1 (λ quiet. HoldMapAfter (map_of from.rows) (whole_history from.served) (size_of origin) quiet.image.pages.items)
-        × EndsRead input ahead (IsAtEnd (R.remaining reader.new.inner)))
-        (λ fault. StopsFrom origin (input ++ ahead) output fault (reader.new.failed ≡ true) (writer.new.failed ≡ true)) }
+    ensures serves { EndsServing (λ t. DumpedFrom origin t.0 t.1) (StopsFrom origin)
+        (R.remaining reader.old.inner) (R.remaining reader.new.inner) (reader.new.failed ≡ true)
+        (W.contents writer.old.inner) (W.contents writer.new.inner) (writer.new.failed ≡ true) result }
     ensures flushed { OnOk result (writer.new.pending ≡ false) }
 {
-    let crew = crew_of(workers);
+    let plan = plan_of(workers);
     let (index, passes) = open_index(alloc, origin, workers + compressors)?;
-    match serve_with(rt, alloc, &index, passes, reader, writer, &OpenGate, crew) {
+    match serve_with(rt, &index, passes, reader, writer, &OpenGate, plan) {
         Ok((totals, passes)) => Ok((totals, shut(alloc, index, passes))),
         Err(fault) => Err(fault),
     }

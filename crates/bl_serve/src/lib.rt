@@ -1,31 +1,26 @@
 //! The server with workers and compressors.
 //!
 //! The input is read section by section, up to each `sync`, and a section in chunks of some thousand lines. A chunk's lines are
-//! shared by threads that each have a pass of the index: workers take batches of lines from a channel and answer them, and
-//! compressors follow the hints that the workers leave. One of the threads first reads the lines of the next chunk. When all have
-//! ended, the answers are put in the order of their lines. They are written when the section has ended, and only then is the next
+//! shared by threads that each have a pass of the index (`bl_serve_worker`): workers take batches of lines from a channel and answer
+//! them, and compressors follow the hints that the workers leave. One of the threads first reads the lines of the next chunk. When all
+//! have ended, the answers are put in the order of their lines. They are written when the section has ended, and only then is the next
 //! section read. An index of the server's own begins without rows or with those of a sound image.
 #![tactic(auto)]
 
-mod answering;
-mod asked;
 mod chunks;
-mod compressing;
 mod dumping;
-mod gate;
 mod joining;
 mod meeting;
 mod origin;
+mod parsed_lines;
 mod reading;
-mod room;
 mod serving;
+mod session;
 mod starting;
-mod working;
 
 pub use bl_serve_lines::{ServeFault, Totals};
-pub use compressing::follow_hint;
+pub use bl_serve_worker::{Gate, OpenGate, follow_hint};
 pub use dumping::dump_index;
-pub use gate::{Gate, OpenGate};
 pub use origin::Origin;
 pub use serving::serve;
 pub use starting::serve_index;

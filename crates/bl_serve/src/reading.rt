@@ -4,7 +4,7 @@ ghost use Rattle.std.specs.Prelude.{◌≡◌, ℕ, ◌+◌, ◌≤◌, List, []
 ghost use Rattle.std.specs.Io.KnownBytes.{Consumes, IsAtEnd};
 ghost use Rattle.bl_serve.specs.Reading.{EndsReading, ReadsLine, ReadsOn};
 
-use crate::asked::Asked;
+use crate::parsed_lines::ParsedLines;
 use arrayvec::ArrayVec;
 use bl_model::{Failed, Watched};
 use bl_serve_lines::ServeFault;
@@ -26,12 +26,12 @@ pub enum SectionEnd {
 
 /// Lines that are read while those before them are answered.
 #[derive(Drop)]
-pub struct Ahead {
+pub struct ReadAhead {
     /// What was read and is not cut into lines yet.
     pub source: Source,
     /// How many lines are to be read at most.
     pub most: u64,
-    pub lines: Asked,
+    pub lines: ParsedLines,
     /// How reading of them ended.
     pub end: Result<SectionEnd, ServeFault>,
 }
@@ -59,10 +59,10 @@ fn read_line<R: Read>(
         (IsAtEnd (R.remaining reader.new.inner)) (reader.new.failed ≡ true) }
 {
     if let Some(front) = source.front() {
-        let asked = parse(front);
+        let request = parse(front);
         let taken = front.len() + 1;
         source.pass_over(taken);
-        return Ok(Reading::Line(asked));
+        return Ok(Reading::Line(request));
     }
     match source.next_line(reader, line) {
         Ok(Cut::Whole) => Ok(Reading::Line(parse(line.as_slice()))),
@@ -74,17 +74,17 @@ fn read_line<R: Read>(
 }
 
 /// Whether the line ends a section.
-fn is_sync(asked: Option<Request>) -> bool
-    ensures { IsTrue result ↔ (asked ≡ Some Request.Sync) }
+fn is_sync(request: Option<Request>) -> bool
+    ensures { IsTrue result ↔ (request ≡ Some Request.Sync) }
 {
-    matches!(asked, Some(Request::Sync))
+    matches!(request, Some(Request::Sync))
 }
 
 /// Reads the lines of a section, at most so many. Bytes after the last LF are one of them, but are not kept.
 pub fn read_section<R: Read>(
     source: &mut Source,
     reader: &mut Watched<R>,
-    lines: &mut Asked,
+    lines: &mut ParsedLines,
     most: u64,
 ) -> Result<SectionEnd, ServeFault>
     requires { lines.old ≡ [] }
@@ -96,9 +96,9 @@ pub fn read_section<R: Read>(
     let mut line = ArrayVec::new();
     for _taken in 0..most {
         match read_line(source, reader, &mut line) {
-            Ok(Reading::Line(asked)) => {
-                lines.push(asked)?;
-                let ended = is_sync(asked);
+            Ok(Reading::Line(request)) => {
+                lines.push(request)?;
+                let ended = is_sync(request);
                 if ended {
                     return Ok(SectionEnd::Synced);
                 }
@@ -111,22 +111,22 @@ pub fn read_section<R: Read>(
     Ok(SectionEnd::Finished)
 }
 
-impl Ahead {
+impl ReadAhead {
     /// Nothing is read yet.
-    pub fn new(alloc: Global) -> Result<Ahead, AllocError>
+    pub fn new(alloc: Global) -> Result<ReadAhead, AllocError>
         ensures { IfOk result (λ ahead. (ahead.source ≡ []) × (ahead.lines ≡ [])) }
     {
-        Ok(Ahead {
+        Ok(ReadAhead {
             source: Source::new(alloc)?,
             most: 0,
-            lines: Asked::new(alloc),
+            lines: ParsedLines::new(alloc),
             end: Ok(SectionEnd::Finished),
         })
     }
 }
 
 /// Reads the next lines of a section, as many as are wanted; where none are, nothing is read.
-pub fn read_on<R: Read>(reader: &mut Watched<R>, ahead: &mut Ahead)
+pub fn read_on<R: Read>(reader: &mut Watched<R>, ahead: &mut ReadAhead)
     ensures { ReadsOn ahead.old ahead.new (R.remaining reader.old.inner) (R.remaining reader.new.inner) (reader.new.failed ≡ true) }
 {
     ahead.lines.clear();

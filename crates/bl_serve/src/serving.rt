@@ -1,33 +1,31 @@
 //! The server: sections are read, answered and written.
 
-ghost use Rattle.std.specs.Prelude.{◌≡◌, ℕ, ◌+◌, ◌-◌, ◌<◌, ◌≤◌, ◌^◌, ◌↔◌, IsTrue, List, ◌++◌, length, min, Option, Ok, true, count_by, is_none, vec_len, IfOk, IfErr, OnOk, MatchResult, false};
+ghost use Rattle.std.specs.Prelude.{◌≡◌, ℕ, ◌+◌, ◌-◌, ◌<◌, ◌≤◌, ◌^◌, ◌↔◌, IsTrue, List, [], ◌++◌, length, min, Option, Ok, true, count_by, is_none, vec_len, IfOk, IfErr, OnOk, MatchResult, false};
 ghost use Rattle.std.specs.Io.KnownBytes.{Appends, Consumes, IsAtEnd};
 ghost use Rattle.bl_serve_lines.specs.Served.{Stops};
-ghost use Rattle.bl_serve_lines.specs.Streams.{EndsRead};
 ghost use Rattle.bl_index.specs.Calls.{first_of, map_after};
 ghost use Rattle.bl_serve.specs.Reading.{EndsReading, ReadsOn};
 ghost use Rattle.bl_serve.specs.Sections.{CountsSection, rests, syncs};
-ghost use Rattle.bl_serve.specs.Serving.{AreTogether, FailsSection, IsInside, Serves, ServesSection, seen_by};
+ghost use Rattle.bl_serve.specs.Serving.{AreTogether, EndsServing, FailsSection, IsInside, Serves, ServesSection, seen_by};
 
-use crate::asked::Asked;
-use crate::chunks::{Crew, desks, hold_chunk};
-use crate::gate::Gate;
-use crate::reading::{Ahead, SectionEnd, read_on};
-use crate::working::Desk;
+use crate::chunks::{new_slots, run_chunk};
+use crate::parsed_lines::ParsedLines;
+use crate::reading::{ReadAhead, SectionEnd, read_on};
+use crate::session::{Session, ThreadPlan};
 use bl_hints::Hints;
 use bl_index::{Index, Pass};
 use bl_model::{Watched, write_out};
 use bl_serve_lines::print::{Response, push_line};
 use bl_serve_lines::request::Request;
 use bl_serve_lines::{ServeFault, Totals};
-use std::alloc::Global;
+use bl_serve_worker::{Gate, Service};
 use std::io::{Read, Write};
 use std::mem;
 use std::sync::Wait;
 use std::thread::Threads;
 
 /// Counts the lines of a section.
-fn count(totals: &mut Totals, lines: &Asked, end: SectionEnd)
+fn count(totals: &mut Totals, lines: &ParsedLines, end: SectionEnd)
     requires requests { totals.old.requests + length lines.now + rests end < 2 ^ 64 }
     requires malformed { totals.old.malformed ≤ totals.old.requests }
     requires sections { totals.old.sections + syncs end < 2 ^ 64 }
@@ -74,92 +72,68 @@ fn goes_on(end: SectionEnd, count: usize, chunk: u64) -> bool
 /// goes behind the text.
 fn serve_chunk<T: Threads + Wait + Sync, R: Read, G: Gate + Sync>(
     rt: &T,
-    alloc: Global,
-    index: &Index,
-    hints: &Hints,
-    gate: &G,
-    crew: Crew,
-    passes: Vec<Pass>,
-    desks: &mut Vec<Desk>,
-    lines: &Asked,
+    service: &Service<'_, G>,
+    session: Session,
+    lines: &ParsedLines,
     end: SectionEnd,
-    totals: &mut Totals,
     reader: &mut Watched<R>,
-    ahead: &mut Ahead,
-    text: &mut Vec<u8>,
-) -> Result<Vec<Pass>, ServeFault>
-    requires together { AreTogether index.now (seen_by passes.items) passes.items }
-    requires some { 0 < vec_len passes }
-    requires requests { totals.old.requests + length lines.now + rests end < 2 ^ 64 }
-    requires malformed { totals.old.malformed ≤ totals.old.requests }
-    requires sections { totals.old.sections + syncs end < 2 ^ 64 }
-    requires desks { vec_len desks.old ≡ vec_len passes }
-    ensures desks { vec_len desks.new ≡ vec_len desks.old }
-    ensures counts { OnOk result (CountsSection totals.old totals.new lines.now end) }
-    ensures serves { IfOk result (λ back. (more : List ℕ) × (text.new.items ≡ text.old.items ++ more) × ServesSection index.now totals.old.requests lines.now end more passes.items back.items) }
+    ahead: &mut ReadAhead,
+) -> Result<Session, ServeFault>
+    requires together { AreTogether service.now.index.now (seen_by session.passes.items) session.passes.items }
+    requires requests { session.totals.requests + length lines.now + rests end < 2 ^ 64 }
+    requires sections { session.totals.sections + syncs end < 2 ^ 64 }
+    ensures counts { IfOk result (λ back. CountsSection session.totals back.totals lines.now end) }
+    ensures serves { IfOk result (λ back. (more : List ℕ) × (back.text.items ≡ session.text.items ++ more)
+        × ServesSection service.now.index.now session.totals.requests lines.now end more session.passes.items back.passes.items) }
     ensures reads { OnOk result (ReadsOn ahead.old ahead.new (R.remaining reader.old.inner) (R.remaining reader.new.inner) (reader.new.failed ≡ true)) }
     ensures consumes { (more : List ℕ) × Consumes (R.remaining reader.old.inner) (R.remaining reader.new.inner) more }
-    ensures fault { IfErr result (IsInside totals.old.requests (length lines.now)) }
+    ensures fault { IfErr result (IsInside session.totals.requests (length lines.now)) }
 {
-    let passes = hold_chunk(
-        rt,
-        alloc,
-        index,
-        hints,
-        gate,
-        crew,
-        passes,
-        desks,
-        totals.requests,
-        lines,
-        reader,
-        ahead,
-        text,
-    )?;
-    count(totals, lines, end);
+    let mut session = run_chunk(rt, service, session, lines, reader, ahead)?;
+    count(&mut session.totals, lines, end);
     if end != SectionEnd::Rest {
-        return Ok(passes);
+        return Ok(session);
     }
-    push_line(text, totals.requests, &Response::Malformed)?;
-    Ok(passes)
+    let number = session.totals.requests;
+    push_line(&mut session.text, number, &Response::Malformed)?;
+    Ok(session)
+}
+
+/// The same session, with no text.
+fn emptied(session: Session) -> Session
+    ensures text { result.text.items ≡ [] }
+    ensures passes { result.passes.items ≡ session.passes.items }
+    ensures totals { result.totals ≡ session.totals }
+{
+    let mut session = session;
+    session.text.clear();
+    session
 }
 
 /// Reads a section, answers it and counts its lines, in chunks: while the lines of one are answered, the next ones are read. The
 /// text then holds the output, and nothing else.
 fn serve_section<T: Threads + Wait + Sync, R: Read, G: Gate + Sync>(
     rt: &T,
-    alloc: Global,
-    index: &Index,
-    hints: &Hints,
-    gate: &G,
-    crew: Crew,
-    passes: Vec<Pass>,
-    desks: &mut Vec<Desk>,
-    lines: &mut Asked,
-    totals: &mut Totals,
-    text: &mut Vec<u8>,
+    service: &Service<'_, G>,
+    session: Session,
+    lines: &mut ParsedLines,
     reader: &mut Watched<R>,
-    ahead: &mut Ahead,
-) -> Result<(Vec<Pass>, SectionEnd), ServeFault>
-    requires together { AreTogether index.now (seen_by passes.items) passes.items }
-    requires some { 0 < vec_len passes }
-    requires requests { totals.old.requests < 2 ^ 64 }
-    requires malformed { totals.old.malformed ≤ totals.old.requests }
-    requires sections { totals.old.sections + 1 < 2 ^ 64 }
-    requires desks { vec_len desks.old ≡ vec_len passes }
-    ensures desks { vec_len desks.new ≡ vec_len desks.old }
-    ensures serves { (asked : List (Option Request)) × (rest : List ℕ) × (more : List ℕ)
+    ahead: &mut ReadAhead,
+) -> Result<(Session, SectionEnd), ServeFault>
+    requires together { AreTogether service.now.index.now (seen_by session.passes.items) session.passes.items }
+    requires requests { session.totals.requests < 2 ^ 64 }
+    requires sections { session.totals.sections + 1 < 2 ^ 64 }
+    ensures { (requests : List (Option Request)) × (rest : List ℕ) × (more : List ℕ)
         × Consumes (R.remaining reader.old.inner) (R.remaining reader.new.inner) more
         × MatchResult result
-        (λ t. EndsReading (Ok t.1) (2 ^ 64 - 1 - totals.old.requests) asked rest (ahead.old.source ++ more) ahead.new.source (IsAtEnd (R.remaining reader.new.inner)) (reader.new.failed ≡ true)
-        × CountsSection totals.old totals.new asked t.1
-        × ServesSection index.now totals.old.requests asked t.1 text.new.items passes.items t.0.items)
-        (λ fault. (left : List ℕ) × FailsSection fault totals.old.requests (2 ^ 64 - 1 - totals.old.requests) asked rest (ahead.old.source ++ more) left (IsAtEnd (R.remaining reader.new.inner)) (reader.new.failed ≡ true)) }
+        (λ t. EndsReading (Ok t.1) (2 ^ 64 - 1 - session.totals.requests) requests rest (ahead.old.source ++ more) ahead.new.source (IsAtEnd (R.remaining reader.new.inner)) (reader.new.failed ≡ true)
+        × CountsSection session.totals t.0.totals requests t.1
+        × ServesSection service.now.index.now session.totals.requests requests t.1 t.0.text.items session.passes.items t.0.passes.items)
+        (λ fault. (left : List ℕ) × FailsSection fault session.totals.requests (2 ^ 64 - 1 - session.totals.requests) requests rest (ahead.old.source ++ more) left (IsAtEnd (R.remaining reader.new.inner)) (reader.new.failed ≡ true)) }
 {
-    let mut passes = passes;
-    text.clear();
+    let mut session = emptied(session);
     let mut chunk = FIRST_CHUNK;
-    ahead.most = most_behind(totals.requests, chunk);
+    ahead.most = most_behind(session.totals.requests, chunk);
     read_on(reader, ahead);
     for _ in rt.forever() {
         let end = ahead.end?;
@@ -167,25 +141,54 @@ fn serve_section<T: Threads + Wait + Sync, R: Read, G: Gate + Sync>(
         let open = goes_on(end, lines.len(), chunk);
         chunk = chunk_behind(chunk);
         ahead.most = if open {
-            most_behind(totals.requests + lines.len() as u64, chunk)
+            most_behind(session.totals.requests + lines.len() as u64, chunk)
         } else {
             0
         };
-        let back = serve_chunk(
-            rt, alloc, index, hints, gate, crew, passes, desks, lines, end, totals, reader, ahead,
-            text,
-        )?;
-        passes = back;
+        let back = serve_chunk(rt, service, session, lines, end, reader, ahead)?;
+        session = back;
         if !open {
-            return Ok((passes, end));
+            return Ok((session, end));
         }
     }
     unreachable!()
 }
 
+/// Serves all sections from the first line on, and writes the output of each when it has ended.
+fn serve_sections<T: Threads + Wait + Sync, R: Read, W: Write, G: Gate + Sync>(
+    rt: &T,
+    service: &Service<'_, G>,
+    session: Session,
+    reader: &mut Watched<R>,
+    writer: &mut Watched<W>,
+) -> Result<Session, ServeFault>
+    requires together { AreTogether service.now.index.now (seen_by session.passes.items) session.passes.items }
+    requires first { (session.totals.requests ≡ 0) × (session.totals.malformed ≡ 0) × (session.totals.sections ≡ 0) }
+    ensures serves { EndsServing (λ s. Serves service.now.index.now session.passes.items s.passes.items s.totals)
+        (Stops (map_after (first_of service.now.index.now) (seen_by session.passes.items)))
+        (R.remaining reader.old.inner) (R.remaining reader.new.inner) (reader.new.failed ≡ true)
+        (W.contents writer.old.inner) (W.contents writer.new.inner) (writer.new.failed ≡ true) result }
+    ensures flushed { OnOk result (writer.new.pending ≡ false) }
+{
+    let mut ahead = ReadAhead::new(service.alloc)?;
+    let mut lines = ParsedLines::new(service.alloc);
+    let mut session = session;
+    for _section in 0..u64::MAX {
+        let (back, end) = serve_section(rt, service, session, &mut lines, reader, &mut ahead)?;
+        session = back;
+        match write_out(writer, session.text.as_slice()) {
+            Ok(()) => {}
+            Err(_) => return Err(ServeFault::Write),
+        }
+        if end != SectionEnd::Synced {
+            return Ok(session);
+        }
+    }
+    Ok(session)
+}
+
 /// Serves the requests of the reader by all passes of an index, which have met: the first so many are workers and answer
-/// lines, the others are compressors. What a section's lines are answered is written when the section has ended, by
-/// number, and only then is the next section read. Lend a reader and a writer on which no call has failed.
+/// lines, the others are compressors. Lend a reader and a writer on which no call has failed.
 ///
 /// What was written is served for what was read, from the map that the passes have seen on. The entries of what was served
 /// are what the passes that come back have seen since, in one order, those of a section before those of the next.
@@ -194,9 +197,12 @@ fn serve_section<T: Threads + Wait + Sync, R: Read, G: Gate + Sync>(
 /// the answers of a section's lines did not come back exactly once. Then the output of the finished sections is written and
 /// no more, but that after `Write` a beginning of the open section's output may be out. The passes come back with Ok alone.
 /// A line of 2^64 - 1 bytes, and the line of the number 2^64 - 1, end the input.
+///
+/// Tested, and in no clause: that the lines of a section are written when it has ended, before the next one is read; that each request
+/// goes through the gate once; that a search may get `patience()` pages before it begins again; that splits are posted and hints
+/// followed; that memory is wanting only where a growth was refused.
 pub fn serve<T: Threads + Wait + Sync, R: Read, W: Write, G: Gate + Sync>(
     rt: &T,
-    alloc: Global,
     index: &Index,
     passes: Vec<Pass>,
     reader: &mut Watched<R>,
@@ -206,79 +212,61 @@ pub fn serve<T: Threads + Wait + Sync, R: Read, W: Write, G: Gate + Sync>(
 ) -> Result<(Totals, Vec<Pass>), ServeFault>
     requires together { AreTogether index.now (seen_by passes.items) passes.items }
     requires workers { (1 ≤ workers) × (workers ≤ vec_len passes) }
-    ensures serves { (input : List ℕ) × (ahead : List ℕ) × (output : List ℕ)
-        × Consumes (R.remaining reader.old.inner) (R.remaining reader.new.inner) (input ++ ahead)
-        × Appends (W.contents writer.old.inner) (W.contents writer.new.inner) output
-        × MatchResult result
-        (λ t. Serves index.now passes.items t.1.items input output t.0
-        × EndsRead input ahead (IsAtEnd (R.remaining reader.new.inner)))
-        (λ fault. Stops (map_after (first_of index.now) (seen_by passes.items)) (input ++ ahead) output fault
-        (reader.new.failed ≡ true) (writer.new.failed ≡ true)) }
+    ensures serves { EndsServing (λ t. Serves index.now passes.items t.1.items t.0) (Stops (map_after (first_of index.now) (seen_by passes.items)))
+        (R.remaining reader.old.inner) (R.remaining reader.new.inner) (reader.new.failed ≡ true)
+        (W.contents writer.old.inner) (W.contents writer.new.inner) (writer.new.failed ≡ true) result }
     ensures flushed { OnOk result (writer.new.pending ≡ false) }
 {
     // A gate may hold the first of two requests until the second one has been carried out.
-    let crew = Crew { workers, alone: 2 };
-    serve_with(rt, alloc, index, passes, reader, writer, gate, crew)
+    let plan = ThreadPlan { workers, alone: 2 };
+    serve_with(rt, index, passes, reader, writer, gate, plan)
 }
 
-/// The same by a crew, which may have fewer threads for few requests.
+/// The same by a plan, which may have fewer threads for few requests.
 pub fn serve_with<T: Threads + Wait + Sync, R: Read, W: Write, G: Gate + Sync>(
     rt: &T,
-    alloc: Global,
     index: &Index,
     passes: Vec<Pass>,
     reader: &mut Watched<R>,
     writer: &mut Watched<W>,
     gate: &G,
-    crew: Crew,
+    plan: ThreadPlan,
 ) -> Result<(Totals, Vec<Pass>), ServeFault>
     requires together { AreTogether index.now (seen_by passes.items) passes.items }
     requires some { 0 < vec_len passes }
-    ensures serves { (input : List ℕ) × (ahead : List ℕ) × (output : List ℕ)
-        × Consumes (R.remaining reader.old.inner) (R.remaining reader.new.inner) (input ++ ahead)
-        × Appends (W.contents writer.old.inner) (W.contents writer.new.inner) output
-        × MatchResult result
-        (λ t. Serves index.now passes.items t.1.items input output t.0
-        × EndsRead input ahead (IsAtEnd (R.remaining reader.new.inner)))
-        (λ fault. Stops (map_after (first_of index.now) (seen_by passes.items)) (input ++ ahead) output fault
-        (reader.new.failed ≡ true) (writer.new.failed ≡ true)) }
+    ensures serves { EndsServing (λ t. Serves index.now passes.items t.1.items t.0) (Stops (map_after (first_of index.now) (seen_by passes.items)))
+        (R.remaining reader.old.inner) (R.remaining reader.new.inner) (reader.new.failed ≡ true)
+        (W.contents writer.old.inner) (W.contents writer.new.inner) (writer.new.failed ≡ true) result }
     ensures flushed { OnOk result (writer.new.pending ≡ false) }
 {
+    let alloc = *passes.allocator();
     let hints = Hints::new(alloc)?;
-    let mut desks = desks(alloc, passes.len(), crew.workers)?;
-    let mut ahead = Ahead::new(alloc)?;
-    let mut lines = Asked::new(alloc);
-    let mut text = Vec::new(alloc);
-    let mut passes = passes;
-    let mut totals = Totals {
+    let slots = new_slots(alloc, passes.len(), plan.workers)?;
+    let service = Service {
+        index,
+        hints: &hints,
+        gate,
+        alloc,
+    };
+    let totals = Totals {
         requests: 0,
         malformed: 0,
         sections: 0,
     };
-    for _section in 0..u64::MAX {
-        let (back, end) = serve_section(
-            rt,
-            alloc,
-            index,
-            &hints,
-            gate,
-            crew,
-            passes,
-            &mut desks,
-            &mut lines,
-            &mut totals,
-            &mut text,
-            reader,
-            &mut ahead,
-        )?;
-        passes = back;
-        match write_out(writer, text.as_slice()) {
-            Ok(()) => {}
-            Err(_) => return Err(ServeFault::Write),
-        }
-        if end != SectionEnd::Synced {
-            return Ok((totals, passes));
-        }
-    }
+    let session = Session {
+        plan,
+        passes,
+        slots,
+        totals,
+        text: Vec::new(alloc),
+    };
+    let session = serve_sections(rt, &service, session, reader, writer)?;
+    let Session {
+        plan: _,
+        passes,
+        slots: _,
+        totals,
+        text: _,
+    } = session;
     Ok((totals, passes))
 }

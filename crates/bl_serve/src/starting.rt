@@ -1,20 +1,19 @@
 //! The server over an index of its own.
 
 ghost use Rattle.std.specs.Prelude.{◌≡◌, ◌+◌, ◌≤◌, ℕ, List, [], ◌++◌, true, IfOk, MatchResult, false, OnOk};
-ghost use Rattle.std.specs.Io.KnownBytes.{Appends, Consumes, IsAtEnd};
-ghost use Rattle.bl_serve_lines.specs.Streams.{EndsRead};
 ghost use Rattle.bl_index.specs.Opened.{IsBegun, IsReopened};
 ghost use Rattle.bl_serve.specs.Begun.{IsBegunFrom};
 ghost use Rattle.bl_serve.specs.Origins.{HasPages, ServedFrom, StopsFrom};
+ghost use Rattle.bl_serve.specs.Serving.{EndsServing};
 
-use crate::chunks::Crew;
-use crate::gate::OpenGate;
 use crate::origin::Origin;
 use crate::serving::serve_with;
+use crate::session::ThreadPlan;
 use bl_check::Quiet;
 use bl_index::{Config, Index, OpenFault, Pass};
 use bl_model::Watched;
 use bl_serve_lines::{ServeFault, Totals};
+use bl_serve_worker::OpenGate;
 use std::alloc::{AllocError, Global};
 use std::io::{Read, Write};
 use std::sync::Wait;
@@ -66,8 +65,8 @@ pub fn open_index(
 }
 
 /// So many workers, none of whom a gate holds.
-pub fn crew_of(workers: u32) -> Crew {
-    Crew {
+pub fn plan_of(workers: u32) -> ThreadPlan {
+    ThreadPlan {
         workers: workers as usize,
         alone: ALONE,
     }
@@ -88,17 +87,14 @@ pub fn serve_index<T: Threads + Wait + Sync, R: Read, W: Write>(
 ) -> Result<Totals, ServeFault>
     requires pages { HasPages origin }
     requires passes { (1 ≤ workers) × (workers + compressors ≤ 64) }
-    ensures serves { (input : List ℕ) × (ahead : List ℕ) × (output : List ℕ)
-        × Consumes (R.remaining reader.old.inner) (R.remaining reader.new.inner) (input ++ ahead)
-        × Appends (W.contents writer.old.inner) (W.contents writer.new.inner) output
-        × MatchResult result
-        (λ totals. ServedFrom origin input output totals × EndsRead input ahead (IsAtEnd (R.remaining reader.new.inner)))
-        (λ fault. StopsFrom origin (input ++ ahead) output fault (reader.new.failed ≡ true) (writer.new.failed ≡ true)) }
+    ensures serves { EndsServing (ServedFrom origin) (StopsFrom origin)
+        (R.remaining reader.old.inner) (R.remaining reader.new.inner) (reader.new.failed ≡ true)
+        (W.contents writer.old.inner) (W.contents writer.new.inner) (writer.new.failed ≡ true) result }
     ensures flushed { OnOk result (writer.new.pending ≡ false) }
 {
-    let crew = crew_of(workers);
+    let plan = plan_of(workers);
     let (index, passes) = open_index(alloc, origin, workers + compressors)?;
-    match serve_with(rt, alloc, &index, passes, reader, writer, &OpenGate, crew) {
+    match serve_with(rt, &index, passes, reader, writer, &OpenGate, plan) {
         Ok((totals, _)) => Ok(totals),
         Err(fault) => Err(fault),
     }

@@ -10,8 +10,9 @@ use Rattle.bl_model.specs.Map.{empty}
 use Rattle.bl_model.specs.History.{IsLegalFrom}
 use Rattle.bl_serve_lines.specs.declared.request.Request.TheVariants.{Ask, Scan, Sync}
 use Rattle.bl_serve_lines.specs.Text.{Spells}
-use Rattle.bl_serve_lines.specs.Lines.{Line, AreParts, Replied, Scanned, Synced, answer_text, input_of, output_of, rest_text}
+use Rattle.bl_serve_lines.specs.Lines.{Line, AreParts, Replied, Scanned, Synced, answer_text, input_of, output_of, rest_text, text_of}
 use Rattle.bl_serve_lines.specs.Served.{Interleaves}
+use Rattle.bl_serve_lines.specs.Served.Interleaves.{Done, Takes}
 
 abbrev inserted : Entry
 inserted = record { pass = 0; op = Insert 1 5; reply = Inserted }
@@ -27,19 +28,8 @@ find_first_is_legal : IsLegalFrom empty (missed ∷ inserted ∷ [])
 find_first_is_legal = (refl, (refl, tt))
 
 find_first_interleaves : Interleaves ((inserted ∷ []) ∷ (missed ∷ []) ∷ []) (missed ∷ inserted ∷ [])
-find_first_interleaves = (
-  (inserted ∷ []) ∷ [],
-  [],
-  [],
-  refl,
-  (
-    [],
-    [],
-    [] ∷ [],
-    refl,
-    All-cons (λ list. list ≡ []) [] ([] ∷ []) refl (All-cons (λ list. list ≡ []) [] [] refl (All-nil (λ list. list ≡ []))),
-  ),
-)
+find_first_interleaves = Takes ((inserted ∷ []) ∷ []) missed [] [] (inserted ∷ []) (Takes [] inserted [] ([] ∷ []) []
+    (Done ([] ∷ [] ∷ []) (All-cons (λ list. list ≡ []) [] ([] ∷ []) refl (All-cons (λ list. list ≡ []) [] [] refl (All-nil (λ list. list ≡ []))))))
 
 one : decimal 1 ≡ codes "1"
 one = decimal_digit 1 (lit< tt)
@@ -72,6 +62,9 @@ as_read = refl
 
 as_written : output_of 1 lines ≡ codes "1 inserted\n2 found 5\n3 synced\n"
 as_written = simp (one, two, three, five)
+
+text_written : text_of 1 lines (codes "find") ≡ codes "1 inserted\n2 found 5\n3 synced\n4 malformed\n"
+text_written = simp (one, two, three, four, five)
 
 rest_written : rest_text 4 (codes "find") ≡ codes "4 malformed\n"
 rest_written = simp four

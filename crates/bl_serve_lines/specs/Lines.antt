@@ -1,5 +1,5 @@
 -- Lines of the input, their answers, and the lines of the output.
-use Rattle.std.specs.Prelude.{◌≡◌, ◌≢◌, ℕ, suc, ◌<◌, ◌≤◌, Option, Some, None, List, [], ◌∷◌, ◌++◌, All, flat_map, filter, nat_lt, codes}
+use Rattle.std.specs.Prelude.{◌≡◌, ◌≢◌, ℕ, suc, ◌+◌, ◌<◌, ◌≤◌, Option, Some, None, List, [], ◌∷◌, ◌++◌, All, length, flat_map, filter, nat_lt, codes}
 use Rattle.bl_model.specs.declared.operation.Op.TheVariants.{Part}
 use Rattle.bl_model.specs.Parts.{rows_of, ended_at}
 use Rattle.bl_model.specs.declared.operation.Entry.{Entry}
@@ -72,3 +72,7 @@ output_of n (line ∷ lines) = numbered n (answer_text line.answer) ++ output_of
 abbrev pub rest_text : ℕ → List ℕ → List ℕ
 rest_text n [] = []
 rest_text n (b ∷ bytes) = numbered n (answer_text Malformed)
+
+-- what is printed for lines numbered from n on, and for the bytes behind them
+abbrev pub text_of : ℕ → List Line → List ℕ → List ℕ
+text_of n lines rest = output_of n lines ++ rest_text (n + length lines) rest

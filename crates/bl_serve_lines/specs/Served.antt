@@ -6,13 +6,13 @@ use Rattle.bl_model.specs.History.{IsLegalFrom}
 use Rattle.bl_serve_lines.specs.declared.serving.ServeFault.{ServeFault}
 use Rattle.bl_serve_lines.specs.declared.serving.ServeFault.TheVariants.{Read, Write, Memory, Lost}
 use Rattle.bl_serve_lines.specs.declared.serving.Totals.{Totals}
-use Rattle.bl_serve_lines.specs.Lines.{Line, IsLine, HasNoLf, Answer, Synced, Malformed, entries, input_of, output_of, rest_text}
+use Rattle.bl_serve_lines.specs.Lines.{Line, IsLine, HasNoLf, Answer, Synced, Malformed, entries, input_of, output_of, text_of}
 
--- The history takes the entries of the lists, those of one list in their order, in any order otherwise.
-abbrev pub Interleaves : List (List Entry) → List Entry → Type 0
-Interleaves lists [] = All (λ list. list ≡ []) lists
-Interleaves lists (e ∷ history) = (before : List (List Entry)) × (list : List Entry) × (after : List (List Entry))
-    × (lists ≡ before ++ (e ∷ list) ∷ after) × Interleaves (before ++ list ∷ after) history
+-- The history takes the entries of the lists: at each step the first one that a list still has, until none has any.
+pub data Interleaves : List (List Entry) → List Entry → Type 0 where
+  Done : (lists : List (List Entry)) → All (λ list. list ≡ []) lists → Interleaves lists []
+  Takes : (before : List (List Entry)) (e : Entry) (list : List Entry) (after : List (List Entry)) (history : List Entry)
+      → Interleaves (before ++ list ∷ after) history → Interleaves (before ++ (e ∷ list) ∷ after) (e ∷ history)
 
 -- a section: its lines, and its part of the history
 pub record Section : Type 0 where
@@ -68,7 +68,7 @@ pub record Served (start : Map) (input output : List ℕ) (totals : Totals) : Ty
   pub cut : HasNoLf rest
   pub legal : IsLegalFrom start (history_of sections ++ last.history)
   pub read : input ≡ input_of (lines_of sections ++ last.lines) ++ rest
-  pub written : output ≡ output_of 1 (lines_of sections ++ last.lines) ++ rest_text (length (lines_of sections ++ last.lines) + 1) rest
+  pub written : output ≡ text_of 1 (lines_of sections ++ last.lines) rest
   pub requests : totals.requests ≡ length (lines_of sections ++ last.lines) + one_if_any rest
   pub malformed : totals.malformed ≡ sum_by (λ line. malformed_of line.answer) (lines_of sections ++ last.lines) + one_if_any rest
   pub finished : totals.sections ≡ length sections
@@ -100,7 +100,7 @@ pub record Stopped (start : Map) (input output : List ℕ) (fault : ServeFault) 
   pub cut : HasNoLf rest
   pub legal : IsLegalFrom start (history_of sections ++ last.history)
   pub read : input ≡ input_of (lines_of sections ++ last.lines) ++ rest ++ ahead
-  pub open_output : output_of (suc (length (lines_of sections))) last.lines ++ rest_text (length (lines_of sections ++ last.lines) + 1) rest ≡ begun ++ unwritten
+  pub open_output : text_of (suc (length (lines_of sections))) last.lines rest ≡ begun ++ unwritten
   pub written : output ≡ output_of 1 (lines_of sections) ++ begun
   pub leaves : Leaves fault (length (lines_of sections)) begun ahead last.lines
 

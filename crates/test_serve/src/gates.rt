@@ -74,7 +74,7 @@ fn answer_behind<R: Threads + Wait + Sync>(
 {
     let mut reader = Watched::new(input);
     let mut writer = Watched::new(Vec::new(alloc));
-    match serve(rt, alloc, index, passes, &mut reader, &mut writer, gate, 2) {
+    match serve(rt, index, passes, &mut reader, &mut writer, gate, 2) {
         Ok(_) => writer.into_inner().as_slice() == output,
         Err(_) => false,
     }

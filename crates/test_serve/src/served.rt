@@ -43,7 +43,6 @@ pub fn serve_on<R: Threads + Wait + Sync>(
     let mut writer = Watched::new(Vec::new(alloc));
     match serve(
         rt,
-        alloc,
         index,
         passes,
         &mut reader,

@@ -95,7 +95,6 @@ impl Write for Narrow {
 /// How two workers and a compressor end whose passes have met, and the writer.
 fn end_on<R: Threads + Wait + Sync, I: Read + Drop, O: Write + Drop>(
     rt: &R,
-    alloc: Global,
     index: &Index,
     passes: Vec<Pass>,
     reader: I,
@@ -108,7 +107,6 @@ fn end_on<R: Threads + Wait + Sync, I: Read + Drop, O: Write + Drop>(
     let mut writer = Watched::new(writer);
     let fault = match serve(
         rt,
-        alloc,
         index,
         passes,
         &mut reader,
@@ -130,7 +128,7 @@ fn end<R: Threads + Wait + Sync, I: Read + Drop, O: Write + Drop>(
     writer: O,
 ) -> Option<(Option<ServeFault>, O)> {
     match opened(alloc, 8, 3) {
-        Some((index, passes)) => Some(end_on(rt, alloc, &index, passes, reader, writer)),
+        Some((index, passes)) => Some(end_on(rt, &index, passes, reader, writer)),
         None => None,
     }
 }

@@ -13,19 +13,19 @@ use Rattle.bl_serve.proofs.dumping.dump_index.Goals as goal
 -- no memory for the index
 pub returns-in_err-index-clause-serves : goal.returns-in_err-index-clause-serves
 returns-in_err-index-clause-serves g c = let p = err_from_is_err_and c.from_residual.result c.from_residual.ensures.1 in
-    rw (p.1, p.2) ([], [], [], consumes_start _, appends_start _, Unopened refl refl refl)
+    rw (p.1, p.2) (record { input = []; ahead = []; output = []; consumed = consumes_start _; wrote = appends_start _; ok = tt; fault = Unopened refl refl refl })
 
 pub shut-requires-clause-some : goal.shut-requires-clause-some
 shut-requires-clause-some g c =
     let h = c.serve_with.ensures.serves in
-    let s = rw c.in-Ok.is at h.5 in
+    let s = rw c.in-Ok.is at h.ok in
     let now = s.0.together.count in let before = c.in_ok-index.ensures.together.count in let many = c.in_ok-index.ensures.many in let least = c.requires.passes.0 in
     let b = c.in-Ok.passes.ok in omega (arith, now, before, many, least, b)
 
 pub shut-requires-clause-together : goal.shut-requires-clause-together
 shut-requires-clause-together g c =
     let h = c.serve_with.ensures.serves in
-    let s = rw c.in-Ok.is at h.5 in
+    let s = rw c.in-Ok.is at h.ok in
     let any : 0 < length c.in-Ok.passes.items = (let now = s.0.together.count in let before = c.in_ok-index.ensures.together.count in let many = c.in_ok-index.ensures.many in let least = c.requires.passes.0 in
     omega (arith, now, before, many, least)) in
     together_by_first c.in_ok-index.index s.0.now c.in-Ok.passes.items any s.0.together
@@ -33,17 +33,32 @@ shut-requires-clause-together g c =
 pub returns-in-Ok-clause-serves : goal.returns-in-Ok-clause-serves
 returns-in-Ok-clause-serves g c =
     let h = c.serve_with.ensures.serves in
-    let s = rw c.in-Ok.is at h.5 in
+    let s = rw c.in-Ok.is at h.ok in
     let any : 0 < length c.in-Ok.passes.items = (let now = s.0.together.count in let before = c.in_ok-index.ensures.together.count in let many = c.in_ok-index.ensures.many in let least = c.requires.passes.0 in
     omega (arith, now, before, many, least)) in
     let seen = first_seen c.in_ok-index.index s.0.now c.in-Ok.passes.items any s.0.together in
     let left : Leaves (first_map (first_of c.in_ok-index.index)) (history_of s.0.now) (pages_of c.in_ok-index.index) c.shut.result =
     subst (λ (z : Trail). Leaves (first_map (first_of c.in_ok-index.index)) (history_of z) (pages_of c.in_ok-index.index) c.shut.result) seen c.shut.ensures in
-    let r = served_image c.args.origin _ c.in_ok-index.index c.in_ok-index.passes.items s.0.now h.0 h.2 c.in-Ok.totals c.shut.result c.in_ok-index.ensures s.0.served left in
-    (h.0, h.1, h.2, h.3, h.4, (r.0, r.1, s.1))
+    record {
+      input = h.input;
+      ahead = h.ahead;
+      output = h.output;
+      consumed = h.consumed;
+      wrote = h.wrote;
+      ok = (served_image c.args.origin _ c.in_ok-index.index c.in_ok-index.passes.items s.0.now c.in-Ok.totals c.shut.result h.input h.output c.in_ok-index.ensures s.0.served left, s.1);
+      fault = tt;
+    }
 
 pub returns-in-Err-clause-serves : goal.returns-in-Err-clause-serves
 returns-in-Err-clause-serves g c =
     let h = c.serve_with.ensures.serves in
-    let s = rw c.in-Err.is at h.5 in
-    (h.0, h.1, h.2, h.3, h.4, stops_from c.args.origin _ c.in_ok-index.index c.in_ok-index.passes.items c.in_ok-index.ensures (h.0 ++ h.1) h.2 c.in-Err.fault (c.serve_with.new.reader.failed ≡ true) (c.serve_with.new.writer.failed ≡ true) s)
+    let s = rw c.in-Err.is at h.fault in
+    record {
+      input = h.input;
+      ahead = h.ahead;
+      output = h.output;
+      consumed = h.consumed;
+      wrote = h.wrote;
+      ok = tt;
+      fault = stops_from c.args.origin _ c.in_ok-index.index c.in_ok-index.passes.items c.in_ok-index.ensures (h.input ++ h.ahead) h.output c.in-Err.fault (c.serve_with.new.reader.failed ≡ true) (c.serve_with.new.writer.failed ≡ true) s;
+    }

@@ -32,7 +32,7 @@ returns-in-Some g c = let f = c.in-Some.ensures in let line = c.in-Some.front.no
   [],
   consumes_start _,
   (
-    record { cut = f.cut; means = c.parse-asked.ensures.meaning },
+    record { cut = f.cut; means = c.parse-request.ensures.meaning },
     append-nil c.args.source.now ∙ (f.begins ∙ ap (λ (z : List ℕ). line ++ 10 ∷ z) (sym (c.pass_over.ensures ∙ (ap (drop _) f.begins ∙ behind_line line f.rest _ refl)))),
   ),
 )

@@ -29,10 +29,10 @@ returns-then-ended g c = let i = c.loop-taken.invariant in let e = rw c.in-Ok-Li
       i.more ++ e.1,
       consumes_more _ _ _ _ _ i.consumed e.2,
       (
-        reads_more _ _ _ _ _ e.0 _ _ c.in-Ok-Line.asked i.reads e.3.0 e.3.1 grown,
-        (let n = i.number in let t = c.loop-taken-test.true in let a = ap length grown in let b = length-append c.loop-taken.lines (c.in-Ok-Line.asked ∷ []) in let d : length (c.in-Ok-Line.asked ∷ []) ≡ 1 = refl in omega (arith, n, t, a, b, d)),
+        reads_more _ _ _ _ _ e.0 _ _ c.in-Ok-Line.request i.reads e.3.0 e.3.1 grown,
+        (let n = i.number in let t = c.loop-taken-test.true in let a = ap length grown in let b = length-append c.loop-taken.lines (c.in-Ok-Line.request ∷ []) in let d : length (c.in-Ok-Line.request ∷ []) ≡ 1 = refl in omega (arith, n, t, a, b, d)),
         refl,
-        asks_sync c.loop-taken.lines _ c.in-Ok-Line.asked i.no_sync grown (c.is_sync-ended.ensures.0 c.if-ended.true),
+        asks_sync c.loop-taken.lines _ c.in-Ok-Line.request i.no_sync grown (c.is_sync-ended.ensures.0 c.if-ended.true),
       ),
     )
 
@@ -63,12 +63,12 @@ returns-in-Err g c = let i = c.loop-taken.invariant in let e = c.in-Err.ensures 
 pub loop-taken-preserved : goal.loop-taken-preserved
 loop-taken-preserved g c = let i = c.loop-taken.invariant in let e = rw c.in-Ok-Line.field-0-is at c.in-Ok-Line.ensures in
     let grown = c.in_ok-push-in-Ok-Line.ensures in
-    let other : c.in-Ok-Line.asked ≢ Some Sync = λ is. let t = c.is_sync-ended.ensures.1 is in let f = c.if-ended.false in cc in record {
+    let other : c.in-Ok-Line.request ≢ Some Sync = λ is. let t = c.is_sync-ended.ensures.1 is in let f = c.if-ended.false in cc in record {
       more = i.more ++ e.1;
       consumed = consumes_more _ _ _ _ _ i.consumed e.2;
-      reads = reads_more _ _ _ _ _ e.0 _ _ c.in-Ok-Line.asked i.reads e.3.0 e.3.1 grown;
-      no_sync = subst AsksNoSync (sym grown) (asks_more c.loop-taken.lines c.in-Ok-Line.asked i.no_sync other);
-      number = (let n = i.number in let a = ap length grown in let b = length-append c.loop-taken.lines (c.in-Ok-Line.asked ∷ []) in let d : length (c.in-Ok-Line.asked ∷ []) ≡ 1 = refl in omega (arith, n, a, b, d));
+      reads = reads_more _ _ _ _ _ e.0 _ _ c.in-Ok-Line.request i.reads e.3.0 e.3.1 grown;
+      no_sync = subst AsksNoSync (sym grown) (asks_more c.loop-taken.lines c.in-Ok-Line.request i.no_sync other);
+      number = (let n = i.number in let a = ap length grown in let b = length-append c.loop-taken.lines (c.in-Ok-Line.request ∷ []) in let d : length (c.in-Ok-Line.request ∷ []) ≡ 1 = refl in omega (arith, n, a, b, d));
     }
 
 pub returns : goal.returns

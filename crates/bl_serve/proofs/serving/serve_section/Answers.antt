@@ -1,11 +1,12 @@
 use Rattle.std.proofs.Common.{rules, ◌≡◌, ◌-◌, ◌++◌, ℕ, List, [], length, sym, ap, ◌∙◌, ◌<◌, ◌+◌, ◌≤◌, subst, arith, append_assoc, true, inl, inr}
-use Rattle.std.specs.Prelude.{Option, Ok, Err, min, is_none}
+use Rattle.std.specs.Prelude.{Option, Ok, Err, min}
 use Rattle.std.specs.Io.KnownBytes.{Consumes, IsAtEnd}
 use Rattle.std.proofs.lemmas.Bool.{cases_lt}
-use Rattle.std.proofs.lemmas.List.Sums.{count_by-le-length}
 use Rattle.std.proofs.lemmas.Result.{err_from_is_err_and}
 use Rattle.bl_serve_lines.specs.declared.request.Request.{Request}
+use Rattle.bl_serve_lines.specs.declared.serving.Totals.{Totals}
 use Rattle.bl_serve_lines.proofs.Known.{consumes_more}
+use Rattle.bl_index.specs.declared.index.Pass.{Pass}
 use Rattle.bl_serve.specs.declared.reading.SectionEnd.TheVariants as section_end
 use Rattle.bl_serve.specs.Reading.{EndsReading}
 use Rattle.bl_serve.specs.Serving.{FailsSection, ServesSection}
@@ -21,15 +22,15 @@ loop-init g c = let r = c.read_on.ensures in record {
   more = r.more;
   mid = c.args.ahead.now.source ++ r.more;
   consumed = r.consumed;
-  served = served_nothing c.args.index.now c.args.passes.items c.args.totals.now (c.args.ahead.now.source ++ r.more) c.clear.new.self.items c.clear.ensures.items c.requires.together (let a = c.requires.some in let d = c.args.passes.ok in omega (arith, a, d)) c.requires.requests;
+  served = subst (λ (z : List Pass × Totals). HasServed c.args.service.now.index.now c.args.session.passes.items z.0 c.args.session.totals z.1 (c.args.ahead.now.source ++ r.more) (c.args.ahead.now.source ++ r.more) [] c.emptied-session.result.text.items)
+      (λ i. (sym c.emptied-session.ensures.passes i, sym c.emptied-session.ensures.totals i))
+      (served_nothing c.args.service.now.index.now c.args.session.passes.items c.args.session.totals (c.args.ahead.now.source ++ r.more) c.emptied-session.result.text.items c.emptied-session.ensures.text c.requires.together (let a = c.args.session.some in let d = c.args.session.passes.ok in omega (arith, a, d)) c.requires.requests);
   reads = subst (λ (n : ℕ). EndsReading c.read_on.new.ahead.end n c.read_on.new.ahead.lines r.rest (c.args.ahead.now.source ++ r.more) c.read_on.new.ahead.source (IsAtEnd (g.R.Read.remaining c.read_on.new.reader.inner)) (c.read_on.new.reader.failed ≡ true)) c.most_behind-ahead.ensures r.reads;
-  malformed = c.requires.malformed;
-  desks = c.requires.desks;
 }
 
 -- the section could not be read whole
-pub returns-in_err-end-clause-serves : goal.returns-in_err-end-clause-serves
-returns-in_err-end-clause-serves g c = let i = c.loop.invariant in let p = err_from_is_err_and c.from_residual.result c.from_residual.ensures.1 in
+pub returns-in_err-end : goal.returns-in_err-end
+returns-in_err-end g c = let i = c.loop.invariant in let p = err_from_is_err_and c.from_residual.result c.from_residual.ensures.1 in
     let was : c.loop.ahead.end ≡ Err c.in_err-end.field-0.0 = search rules in
     rw (p.1, p.2) (
       i.asked ++ c.loop.ahead.lines,
@@ -38,21 +39,21 @@ returns-in_err-end-clause-serves g c = let i = c.loop.invariant in let p = err_f
       i.consumed,
       (
         c.loop.ahead.source,
-        inl (ends_section c.args.index.now c.args.passes.items c.loop.passes.items c.args.totals.now c.loop.totals (c.args.ahead.now.source ++ i.more) i.mid i.asked c.loop.text.items i.served (Err c.in_err-end.field-0.0) c.loop.chunk c.loop.ahead.lines i.rest c.loop.ahead.source
+        inl (ends_section c.args.service.now.index.now c.args.session.passes.items c.loop.session.passes.items c.args.session.totals c.loop.session.totals (c.args.ahead.now.source ++ i.more) i.mid i.asked c.loop.session.text.items i.served (Err c.in_err-end.field-0.0) c.loop.chunk c.loop.ahead.lines i.rest c.loop.ahead.source
             (IsAtEnd (g.R.Read.remaining c.loop.reader.inner)) (c.loop.reader.failed ≡ true) (λ is. absurd (let no : ⊥ = cc in no)) (rw was at i.reads)),
       ),
     )
 
 pub serve_chunk-requires-clause-together : goal.serve_chunk-requires-clause-together
-serve_chunk-requires-clause-together g c κs within = let i = c.loop.invariant in together_by_first c.args.index.now _ c.loop.passes.items i.served.some i.served.serves.holds.together
+serve_chunk-requires-clause-together g c κs within = let i = c.loop.invariant in together_by_first c.args.service.now.index.now _ c.loop.session.passes.items i.served.some i.served.serves.holds.together
 
 -- its next lines could not be answered
-pub returns-in_err-back-clause-serves : goal.returns-in_err-back-clause-serves
-returns-in_err-back-clause-serves g c = let i = c.loop.invariant in let p = err_from_is_err_and c.from_residual-in_err-back.result c.from_residual-in_err-back.ensures.1 in let m = c.in_err-back.ensures.consumes in
+pub returns-in_err-back : goal.returns-in_err-back
+returns-in_err-back g c = let i = c.loop.invariant in let p = err_from_is_err_and c.from_residual-in_err-back.result c.from_residual-in_err-back.ensures.1 in let m = c.in_err-back.ensures.consumes in
     let was : c.loop.ahead.end ≡ Ok c.in_ok-end.end = search rules in
     let lines : c.loop.ahead.lines ≡ c.swap.new.x = search rules in
-    let e : EndsReading (Ok c.in_ok-end.end) (min c.loop.chunk (18446744073709551615 - c.loop.totals.requests)) c.swap.new.x i.rest i.mid c.loop.ahead.source (IsAtEnd (g.R.Read.remaining c.loop.reader.inner)) (c.loop.reader.failed ≡ true)
-    = subst (λ (z : List (Option Request)). EndsReading (Ok c.in_ok-end.end) (min c.loop.chunk (18446744073709551615 - c.loop.totals.requests)) z i.rest i.mid c.loop.ahead.source (IsAtEnd (g.R.Read.remaining c.loop.reader.inner)) (c.loop.reader.failed ≡ true)) lines (rw was at i.reads) in
+    let e : EndsReading (Ok c.in_ok-end.end) (min c.loop.chunk (18446744073709551615 - c.loop.session.totals.requests)) c.swap.new.x i.rest i.mid c.loop.ahead.source (IsAtEnd (g.R.Read.remaining c.loop.reader.inner)) (c.loop.reader.failed ≡ true)
+    = subst (λ (z : List (Option Request)). EndsReading (Ok c.in_ok-end.end) (min c.loop.chunk (18446744073709551615 - c.loop.session.totals.requests)) z i.rest i.mid c.loop.ahead.source (IsAtEnd (g.R.Read.remaining c.loop.reader.inner)) (c.loop.reader.failed ≡ true)) lines (rw was at i.reads) in
     rw (p.1, p.2) (
       i.asked ++ c.swap.new.x,
       i.rest,
@@ -60,39 +61,39 @@ returns-in_err-back-clause-serves g c = let i = c.loop.invariant in let p = err_
       consumes_more _ _ _ _ _ i.consumed m.1,
       (
         c.loop.ahead.source ++ m.0,
-        subst (λ (z : List ℕ). FailsSection c.in_err-back.field-0.0 c.args.totals.now.requests (18446744073709551615 - c.args.totals.now.requests) (i.asked ++ c.swap.new.x) i.rest z (c.loop.ahead.source ++ m.0) (IsAtEnd (g.R.Read.remaining c.serve_chunk.new.reader.inner)) (c.serve_chunk.new.reader.failed ≡ true))
+        subst (λ (z : List ℕ). FailsSection c.in_err-back.field-0.0 c.args.session.totals.requests (18446744073709551615 - c.args.session.totals.requests) (i.asked ++ c.swap.new.x) i.rest z (c.loop.ahead.source ++ m.0) (IsAtEnd (g.R.Read.remaining c.serve_chunk.new.reader.inner)) (c.serve_chunk.new.reader.failed ≡ true))
             (append_assoc c.args.ahead.now.source i.more m.0)
-            (fails_answering c.args.index.now c.args.passes.items c.loop.passes.items c.args.totals.now c.loop.totals (c.args.ahead.now.source ++ i.more) i.mid i.asked c.loop.text.items i.served c.in_err-back.field-0.0 c.in_ok-end.end (min c.loop.chunk (18446744073709551615 - c.loop.totals.requests)) (18446744073709551615 - c.args.totals.now.requests) c.swap.new.x i.rest c.loop.ahead.source m.0
+            (fails_answering c.args.service.now.index.now c.args.session.passes.items c.loop.session.passes.items c.args.session.totals c.loop.session.totals (c.args.ahead.now.source ++ i.more) i.mid i.asked c.loop.session.text.items i.served c.in_err-back.field-0.0 c.in_ok-end.end (min c.loop.chunk (18446744073709551615 - c.loop.session.totals.requests)) (18446744073709551615 - c.args.session.totals.requests) c.swap.new.x i.rest c.loop.ahead.source m.0
             (IsAtEnd (g.R.Read.remaining c.loop.reader.inner)) (c.loop.reader.failed ≡ true) (IsAtEnd (g.R.Read.remaining c.serve_chunk.new.reader.inner)) (c.serve_chunk.new.reader.failed ≡ true) e c.in_err-back.ensures.fault),
       ),
     )
 
 -- its last lines were answered
-pub returns-then-not-open-clause-serves : goal.returns-then-not-open-clause-serves
-returns-then-not-open-clause-serves g c = let i = c.loop.invariant in let r = c.in_ok-back.ensures.reads in
+pub returns-then-not-open : goal.returns-then-not-open
+returns-then-not-open g c = let i = c.loop.invariant in let r = c.in_ok-back.ensures.reads in
     let was : c.loop.ahead.end ≡ Ok c.in_ok-end.end = search rules in
     let lines : c.loop.ahead.lines ≡ c.swap.new.x = search rules in
-    let e : EndsReading (Ok c.in_ok-end.end) (min c.loop.chunk (18446744073709551615 - c.loop.totals.requests)) c.swap.new.x i.rest i.mid c.loop.ahead.source (IsAtEnd (g.R.Read.remaining c.loop.reader.inner)) (c.loop.reader.failed ≡ true)
-    = subst (λ (z : List (Option Request)). EndsReading (Ok c.in_ok-end.end) (min c.loop.chunk (18446744073709551615 - c.loop.totals.requests)) z i.rest i.mid c.loop.ahead.source (IsAtEnd (g.R.Read.remaining c.loop.reader.inner)) (c.loop.reader.failed ≡ true)) lines (rw was at i.reads) in
+    let e : EndsReading (Ok c.in_ok-end.end) (min c.loop.chunk (18446744073709551615 - c.loop.session.totals.requests)) c.swap.new.x i.rest i.mid c.loop.ahead.source (IsAtEnd (g.R.Read.remaining c.loop.reader.inner)) (c.loop.reader.failed ≡ true)
+    = subst (λ (z : List (Option Request)). EndsReading (Ok c.in_ok-end.end) (min c.loop.chunk (18446744073709551615 - c.loop.session.totals.requests)) z i.rest i.mid c.loop.ahead.source (IsAtEnd (g.R.Read.remaining c.loop.reader.inner)) (c.loop.reader.failed ≡ true)) lines (rw was at i.reads) in
     let none : c.if-open.ahead ≡ 0 = elim c.if-open.branch [ then-open w ↦ search rules | else-open w ↦ w.ahead-is ] in
     let last : Ok c.in_ok-end.end ≡ Ok section_end.Finished → length c.swap.new.x < c.loop.chunk = λ is. elim (cases_lt (length c.swap.new.x) c.loop.chunk) [
       | inl low ↦ low
       | inr high ↦ let same = finished_by c.in_ok-end.end is in let enough : c.loop.chunk ≤ c.len.result = search rules in let opened = c.goes_on-open.ensures.1 (same, enough) in absurd (let no : ⊥ = search rules in no)
     ] in
     let idle = r.idle none in
-    let grown : c.serve_chunk.new.text.items ≡ c.loop.text.items ++ c.in_ok-back.ensures.serves.0 = c.in_ok-back.ensures.serves.1 in
-    let all = ends_section c.args.index.now c.args.passes.items c.loop.passes.items c.args.totals.now c.loop.totals (c.args.ahead.now.source ++ i.more) i.mid i.asked c.loop.text.items i.served (Ok c.in_ok-end.end) c.loop.chunk c.swap.new.x i.rest c.loop.ahead.source
+    let grown : c.in_ok-back.back.text.items ≡ c.loop.session.text.items ++ c.in_ok-back.ensures.serves.0 = c.in_ok-back.ensures.serves.1 in
+    let all = ends_section c.args.service.now.index.now c.args.session.passes.items c.loop.session.passes.items c.args.session.totals c.loop.session.totals (c.args.ahead.now.source ++ i.more) i.mid i.asked c.loop.session.text.items i.served (Ok c.in_ok-end.end) c.loop.chunk c.swap.new.x i.rest c.loop.ahead.source
     (IsAtEnd (g.R.Read.remaining c.loop.reader.inner)) (c.loop.reader.failed ≡ true) last e in (
       i.asked ++ c.swap.new.x,
       i.rest,
       i.more,
       subst (λ z. Consumes (g.R.Read.remaining c.args.reader.now.inner) z i.more) (sym idle.0) i.consumed,
       (
-        any_failed c.in_ok-end.end (18446744073709551615 - c.args.totals.now.requests) (i.asked ++ c.swap.new.x) i.rest (c.args.ahead.now.source ++ i.more) c.serve_chunk.new.ahead.source (IsAtEnd (g.R.Read.remaining c.serve_chunk.new.reader.inner)) (c.loop.reader.failed ≡ true) (c.serve_chunk.new.reader.failed ≡ true)
-            (subst (λ (z : List ℕ). EndsReading (Ok c.in_ok-end.end) (18446744073709551615 - c.args.totals.now.requests) (i.asked ++ c.swap.new.x) i.rest (c.args.ahead.now.source ++ i.more) z (IsAtEnd (g.R.Read.remaining c.serve_chunk.new.reader.inner)) (c.loop.reader.failed ≡ true)) (sym idle.1)
-            (subst (λ (z : Option (List ℕ)). EndsReading (Ok c.in_ok-end.end) (18446744073709551615 - c.args.totals.now.requests) (i.asked ++ c.swap.new.x) i.rest (c.args.ahead.now.source ++ i.more) c.loop.ahead.source (IsAtEnd z) (c.loop.reader.failed ≡ true)) (sym idle.0) all)),
-        counts_all c.args.index.now c.args.passes.items c.loop.passes.items c.args.totals.now c.loop.totals (c.args.ahead.now.source ++ i.more) i.mid i.asked c.loop.text.items i.served c.serve_chunk.new.totals c.swap.new.x c.in_ok-end.end c.in_ok-back.ensures.counts,
-        subst (λ (z : List ℕ). ServesSection c.args.index.now c.args.totals.now.requests (i.asked ++ c.swap.new.x) c.in_ok-end.end z c.args.passes.items c.in_ok-back.back.items) (sym grown) (serves_all c.args.index.now c.args.passes.items c.loop.passes.items c.args.totals.now c.loop.totals (c.args.ahead.now.source ++ i.more) i.mid i.asked c.loop.text.items i.served c.swap.new.x c.in_ok-end.end c.in_ok-back.ensures.serves.0 c.in_ok-back.back.items c.in_ok-back.ensures.serves.2),
+        any_failed c.in_ok-end.end (18446744073709551615 - c.args.session.totals.requests) (i.asked ++ c.swap.new.x) i.rest (c.args.ahead.now.source ++ i.more) c.serve_chunk.new.ahead.source (IsAtEnd (g.R.Read.remaining c.serve_chunk.new.reader.inner)) (c.loop.reader.failed ≡ true) (c.serve_chunk.new.reader.failed ≡ true)
+            (subst (λ (z : List ℕ). EndsReading (Ok c.in_ok-end.end) (18446744073709551615 - c.args.session.totals.requests) (i.asked ++ c.swap.new.x) i.rest (c.args.ahead.now.source ++ i.more) z (IsAtEnd (g.R.Read.remaining c.serve_chunk.new.reader.inner)) (c.loop.reader.failed ≡ true)) (sym idle.1)
+            (subst (λ (z : Option (List ℕ)). EndsReading (Ok c.in_ok-end.end) (18446744073709551615 - c.args.session.totals.requests) (i.asked ++ c.swap.new.x) i.rest (c.args.ahead.now.source ++ i.more) c.loop.ahead.source (IsAtEnd z) (c.loop.reader.failed ≡ true)) (sym idle.0) all)),
+        counts_all c.args.service.now.index.now c.args.session.passes.items c.loop.session.passes.items c.args.session.totals c.loop.session.totals (c.args.ahead.now.source ++ i.more) i.mid i.asked c.loop.session.text.items i.served c.in_ok-back.back.totals c.swap.new.x c.in_ok-end.end c.in_ok-back.ensures.counts,
+        subst (λ (z : List ℕ). ServesSection c.args.service.now.index.now c.args.session.totals.requests (i.asked ++ c.swap.new.x) c.in_ok-end.end z c.args.session.passes.items c.in_ok-back.back.passes.items) (sym grown) (serves_all c.args.service.now.index.now c.args.session.passes.items c.loop.session.passes.items c.args.session.totals c.loop.session.totals (c.args.ahead.now.source ++ i.more) i.mid i.asked c.loop.session.text.items i.served c.swap.new.x c.in_ok-end.end c.in_ok-back.ensures.serves.0 c.in_ok-back.back.passes.items c.in_ok-back.ensures.serves.2),
       ),
     )
 
@@ -101,24 +102,22 @@ pub loop-preserved : goal.loop-preserved
 loop-preserved g c = let i = c.loop.invariant in let r = c.in_ok-back.ensures.reads in
     let was : c.loop.ahead.end ≡ Ok c.in_ok-end.end = search rules in
     let lines : c.loop.ahead.lines ≡ c.swap.new.x = search rules in
-    let e : EndsReading (Ok c.in_ok-end.end) (min c.loop.chunk (18446744073709551615 - c.loop.totals.requests)) c.swap.new.x i.rest i.mid c.loop.ahead.source (IsAtEnd (g.R.Read.remaining c.loop.reader.inner)) (c.loop.reader.failed ≡ true)
-    = subst (λ (z : List (Option Request)). EndsReading (Ok c.in_ok-end.end) (min c.loop.chunk (18446744073709551615 - c.loop.totals.requests)) z i.rest i.mid c.loop.ahead.source (IsAtEnd (g.R.Read.remaining c.loop.reader.inner)) (c.loop.reader.failed ≡ true)) lines (rw was at i.reads) in
+    let e : EndsReading (Ok c.in_ok-end.end) (min c.loop.chunk (18446744073709551615 - c.loop.session.totals.requests)) c.swap.new.x i.rest i.mid c.loop.ahead.source (IsAtEnd (g.R.Read.remaining c.loop.reader.inner)) (c.loop.reader.failed ≡ true)
+    = subst (λ (z : List (Option Request)). EndsReading (Ok c.in_ok-end.end) (min c.loop.chunk (18446744073709551615 - c.loop.session.totals.requests)) z i.rest i.mid c.loop.ahead.source (IsAtEnd (g.R.Read.remaining c.loop.reader.inner)) (c.loop.reader.failed ≡ true)) lines (rw was at i.reads) in
     let is : c.in_ok-end.end ≡ section_end.Finished = (c.goes_on-open.ensures.0 (search rules)).0 in
-    let few : c.if-open.ahead ≡ min c.chunk_behind-chunk.result (18446744073709551615 - c.serve_chunk.new.totals.requests) = elim c.if-open.branch [
-      | then-open w ↦ w.ahead-is ∙ (w.most_behind-ahead-then-open.ensures ∙ (let a = c.in_ok-back.ensures.counts.requests in let b = finished_none c.in_ok-end.end is in let long : w.len-then-open.result ≡ length c.swap.new.x = search rules in ap (λ (n : ℕ). min c.chunk_behind-chunk.result (18446744073709551615 - n)) (let same : c.loop.totals.requests + w.len-then-open.result ≡ c.serve_chunk.new.totals.requests = omega (arith, a, b, long) in same)))
+    let few : c.if-open.ahead ≡ min c.chunk_behind-chunk.result (18446744073709551615 - c.in_ok-back.back.totals.requests) = elim c.if-open.branch [
+      | then-open w ↦ w.ahead-is ∙ (w.most_behind-ahead-then-open.ensures ∙ (let a = c.in_ok-back.ensures.counts.requests in let b = finished_none c.in_ok-end.end is in let long : w.len-then-open.result ≡ length c.swap.new.x = search rules in ap (λ (n : ℕ). min c.chunk_behind-chunk.result (18446744073709551615 - n)) (let same : c.loop.session.totals.requests + w.len-then-open.result ≡ c.in_ok-back.back.totals.requests = omega (arith, a, b, long) in same)))
       | else-open w ↦ search rules
     ] in
-    let grown : c.serve_chunk.new.text.items ≡ c.loop.text.items ++ c.in_ok-back.ensures.serves.0 = c.in_ok-back.ensures.serves.1 in record {
+    let grown : c.in_ok-back.back.text.items ≡ c.loop.session.text.items ++ c.in_ok-back.ensures.serves.0 = c.in_ok-back.ensures.serves.1 in record {
       asked = i.asked ++ c.swap.new.x;
       rest = r.rest;
       more = i.more ++ r.more;
       mid = c.loop.ahead.source ++ r.more;
       consumed = consumes_more _ _ _ _ _ i.consumed r.consumed;
-      served = subst (λ (z : List ℕ × List ℕ). HasServed c.args.index.now c.args.passes.items c.in_ok-back.back.items c.args.totals.now c.serve_chunk.new.totals z.0 (c.loop.ahead.source ++ r.more) (i.asked ++ c.swap.new.x) z.1)
+      served = subst (λ (z : List ℕ × List ℕ). HasServed c.args.service.now.index.now c.args.session.passes.items c.in_ok-back.back.passes.items c.args.session.totals c.in_ok-back.back.totals z.0 (c.loop.ahead.source ++ r.more) (i.asked ++ c.swap.new.x) z.1)
           (λ j. (append_assoc c.args.ahead.now.source i.more r.more j, sym grown j))
-          (goes_on c.args.index.now c.args.passes.items c.loop.passes.items c.args.totals.now c.loop.totals (c.args.ahead.now.source ++ i.more) i.mid i.asked c.loop.text.items i.served c.serve_chunk.new.totals c.in_ok-end.end (min c.loop.chunk (18446744073709551615 - c.loop.totals.requests)) c.swap.new.x i.rest c.loop.ahead.source r.more c.in_ok-back.ensures.serves.0 c.in_ok-back.back.items (IsAtEnd (g.R.Read.remaining c.loop.reader.inner)) (c.loop.reader.failed ≡ true) is e (omega arith)
+          (goes_on c.args.service.now.index.now c.args.session.passes.items c.loop.session.passes.items c.args.session.totals c.loop.session.totals (c.args.ahead.now.source ++ i.more) i.mid i.asked c.loop.session.text.items i.served c.in_ok-back.back.totals c.in_ok-end.end (min c.loop.chunk (18446744073709551615 - c.loop.session.totals.requests)) c.swap.new.x i.rest c.loop.ahead.source r.more c.in_ok-back.ensures.serves.0 c.in_ok-back.back.passes.items (IsAtEnd (g.R.Read.remaining c.loop.reader.inner)) (c.loop.reader.failed ≡ true) is e (omega arith)
           c.in_ok-back.ensures.counts c.in_ok-back.ensures.serves.2);
       reads = subst (λ (n : ℕ). EndsReading c.serve_chunk.new.ahead.end n c.serve_chunk.new.ahead.lines r.rest (c.loop.ahead.source ++ r.more) c.serve_chunk.new.ahead.source (IsAtEnd (g.R.Read.remaining c.serve_chunk.new.reader.inner)) (c.serve_chunk.new.reader.failed ≡ true)) few r.reads;
-      malformed = (let a = c.in_ok-back.ensures.counts.malformed in let b = c.in_ok-back.ensures.counts.requests in let d = count_by-le-length is_none c.swap.new.x in let f = i.malformed in omega (arith, a, b, d, f));
-      desks = (let a = c.in_ok-back.ensures.desks in let b = i.desks in let s = c.in_ok-back.ensures.serves.2.holds.together.count in let t = i.served.serves.holds.together.count in omega (arith, a, b, s, t));
     }

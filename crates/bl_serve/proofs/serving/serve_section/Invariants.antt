@@ -1,5 +1,5 @@
-use Rattle.std.proofs.Common.{◌≡◌, ◌-◌, ◌≤◌, ◌^◌, ℕ, List, ◌++◌}
-use Rattle.std.specs.Prelude.{Option, min, true, vec_len}
+use Rattle.std.proofs.Common.{◌≡◌, ◌-◌, ◌^◌, ℕ, List, ◌++◌}
+use Rattle.std.specs.Prelude.{Option, min, true}
 use Rattle.std.specs.Io.KnownBytes.{Consumes, IsAtEnd}
 use Rattle.bl_serve_lines.specs.declared.request.Request.{Request}
 use Rattle.bl_serve.specs.Reading.{EndsReading}
@@ -14,8 +14,6 @@ invariant-loop g l = record {
   more : List ℕ;
   mid : List ℕ;
   consumed : Consumes (g.R.Read.remaining l.fn.reader.inner) (g.R.Read.remaining l.reader.inner) more;
-  served : HasServed l.index l.fn.passes.items l.passes.items l.fn.totals l.totals (l.fn.ahead.source ++ more) mid asked l.text.items;
-  reads : EndsReading l.ahead.end (min l.chunk (2 ^ 64 - 1 - l.totals.requests)) l.ahead.lines rest mid l.ahead.source (IsAtEnd (g.R.Read.remaining l.reader.inner)) (l.reader.failed ≡ true);
-  malformed : l.totals.malformed ≤ l.totals.requests;
-  desks : vec_len l.desks ≡ vec_len l.passes;
+  served : HasServed l.service.index.now l.fn.session.passes.items l.session.passes.items l.fn.session.totals l.session.totals (l.fn.ahead.source ++ more) mid asked l.session.text.items;
+  reads : EndsReading l.ahead.end (min l.chunk (2 ^ 64 - 1 - l.session.totals.requests)) l.ahead.lines rest mid l.ahead.source (IsAtEnd (g.R.Read.remaining l.reader.inner)) (l.reader.failed ≡ true);
 }

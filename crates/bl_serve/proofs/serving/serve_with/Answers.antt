@@ -1,124 +1,25 @@
-use Rattle.std.proofs.Common.{◌≡◌, ◌≢◌, ◌-◌, ◌++◌, [], List, ℕ, refl, ap, ◌∙◌, sym, subst, arith, append-nil, append_assoc, rules, true}
-use Rattle.std.specs.Io.KnownBytes.{Consumes, Appends, IsAtEnd}
+use Rattle.std.proofs.Common.{◌≡◌, [], refl, true}
 use Rattle.std.proofs.lemmas.Result.{err_from_is_err_and}
 use Rattle.bl_serve_lines.specs.declared.serving.ServeFault.TheVariants.{Memory}
-use Rattle.bl_serve_lines.proofs.Known.{consumes_start, consumes_next, consumes_rest, appends_start, appends_more, appends_text}
+use Rattle.bl_serve_lines.proofs.Known.{consumes_start, appends_start}
 use Rattle.bl_index.specs.Calls.{first_of}
-use Rattle.bl_serve.specs.declared.reading.SectionEnd.TheVariants as section_end
 use Rattle.bl_serve.specs.Serving.{seen_by}
 use Rattle.bl_serve.proofs.Advance.{no_progress, stops_inside}
-use Rattle.bl_serve.proofs.Holding.{together_by_first}
-use Rattle.bl_serve.proofs.Faults.{room, stops_at_section, now_seen, together_now, some_now, stops_at_write, goes_on_at_sync, serves_at_end, serves_no_more}
 use Rattle.bl_serve.proofs.serving.serve_with.Goals as goal
 
 -- no memory at the start
 pub returns-in_err-hints-clause-serves : goal.returns-in_err-hints-clause-serves
 returns-in_err-hints-clause-serves g c = let p = err_from_is_err_and c.from_residual.result c.from_residual.ensures.1 in
-    rw (p.1, p.2) ([], [], [], consumes_start _, appends_start _, stops_inside (first_of c.args.index.now) (seen_by c.args.passes.items) (seen_by c.args.passes.items) _ [] [] [] Memory (c.args.reader.now.failed ≡ true) (c.args.writer.now.failed ≡ true) (no_progress (seen_by c.args.passes.items)) c.requires.together.may_be refl tt)
+    rw (p.1, p.2) (record { input = []; ahead = []; output = []; consumed = consumes_start _; wrote = appends_start _; ok = tt; fault = stops_inside (first_of c.args.index.now) (seen_by c.args.passes.items) (seen_by c.args.passes.items) _ [] [] [] Memory (c.args.reader.now.failed ≡ true) (c.args.writer.now.failed ≡ true) (no_progress (seen_by c.args.passes.items) (record { requests = 0; malformed = 0; sections = 0 }) (refl, refl, refl)) c.requires.together.may_be refl tt })
 
-pub returns-in_err-desks-clause-serves : goal.returns-in_err-desks-clause-serves
-returns-in_err-desks-clause-serves g c = let p = err_from_is_err_and c.from_residual-in_err-desks.result c.from_residual-in_err-desks.ensures.1 in
-    rw (p.1, p.2) ([], [], [], consumes_start _, appends_start _, stops_inside (first_of c.args.index.now) (seen_by c.args.passes.items) (seen_by c.args.passes.items) _ [] [] [] Memory (c.args.reader.now.failed ≡ true) (c.args.writer.now.failed ≡ true) (no_progress (seen_by c.args.passes.items)) c.requires.together.may_be refl tt)
+pub returns-in_err-slots-clause-serves : goal.returns-in_err-slots-clause-serves
+returns-in_err-slots-clause-serves g c = let p = err_from_is_err_and c.from_residual-in_err-slots.result c.from_residual-in_err-slots.ensures.1 in
+    rw (p.1, p.2) (record { input = []; ahead = []; output = []; consumed = consumes_start _; wrote = appends_start _; ok = tt; fault = stops_inside (first_of c.args.index.now) (seen_by c.args.passes.items) (seen_by c.args.passes.items) _ [] [] [] Memory (c.args.reader.now.failed ≡ true) (c.args.writer.now.failed ≡ true) (no_progress (seen_by c.args.passes.items) (record { requests = 0; malformed = 0; sections = 0 }) (refl, refl, refl)) c.requires.together.may_be refl tt })
 
-pub returns-in_err-ahead-clause-serves : goal.returns-in_err-ahead-clause-serves
-returns-in_err-ahead-clause-serves g c = let p = err_from_is_err_and c.from_residual-in_err-ahead.result c.from_residual-in_err-ahead.ensures.1 in
-    rw (p.1, p.2) ([], [], [], consumes_start _, appends_start _, stops_inside (first_of c.args.index.now) (seen_by c.args.passes.items) (seen_by c.args.passes.items) _ [] [] [] Memory (c.args.reader.now.failed ≡ true) (c.args.writer.now.failed ≡ true) (no_progress (seen_by c.args.passes.items)) c.requires.together.may_be refl tt)
+pub returns-in_err-session-clause-serves : goal.returns-in_err-session-clause-serves
+returns-in_err-session-clause-serves g c = let p = err_from_is_err_and c.from_residual-in_err-session.result c.from_residual-in_err-session.ensures.1 in
+    let h = c.in_err-session.ensures.serves in
+    rw (p.1, p.2) (record { input = h.input; ahead = h.ahead; output = h.output; consumed = h.consumed; wrote = h.wrote; ok = tt; fault = h.fault })
 
-pub loop-section-init : goal.loop-section-init
-loop-section-init g c = record {
-  input = [];
-  output = [];
-  seen = seen_by c.args.passes.items;
-  consumed = subst (λ t. Consumes (g.R.Read.remaining c.args.reader.now.inner) (g.R.Read.remaining c.args.reader.now.inner) t) (sym c.in_ok-ahead.ensures.0) (consumes_start _);
-  wrote = appends_start _;
-  progress = no_progress _;
-  together = c.requires.together;
-  some = (let a = c.requires.some in let d = c.args.passes.ok in omega (arith, a, d));
-  room = omega arith;
-  malformed = omega arith;
-  sections = omega arith;
-  number = omega arith;
-  flushed = λ some. absurd (let no : ⊥ = omega (arith, some) in no);
-  desks = (let a = c.in_ok-desks.ensures in let b = c.requires.together.count in let d = c.args.passes.ok in omega (arith, a, b, d));
-}
-
--- the section could not be read whole, or not be answered
-pub returns-in_err-back-clause-serves : goal.returns-in_err-back-clause-serves
-returns-in_err-back-clause-serves g c = let i = c.loop-section.invariant in let e = c.in_err-back.ensures.serves in let p = err_from_is_err_and c.from_residual-in_err-back.result c.from_residual-in_err-back.ensures.1 in
-    rw (p.1, p.2) (
-      i.input,
-      c.loop-section.ahead.source ++ e.2,
-      i.output,
-      consumes_next _ _ _ i.input c.loop-section.ahead.source e.2 _ i.consumed e.3 refl,
-      i.wrote,
-      stops_at_section (first_of c.args.index.now) c.in_err-back.field-0.0 (seen_by c.args.passes.items) i.seen c.loop-section.totals i.input i.output (c.loop-section.ahead.source ++ e.2) e.4.0 e.1 e.0 (18446744073709551615 - c.loop-section.totals.requests)
-          (IsAtEnd (g.R.Read.remaining c.serve_section.new.reader.inner)) (c.serve_section.new.reader.failed ≡ true) (c.loop-section.writer.failed ≡ true) i.progress i.together.may_be e.4.1,
-    )
-
-pub serve_section-requires-clause-together : goal.serve_section-requires-clause-together
-serve_section-requires-clause-together g c κs within = let i = c.loop-section.invariant in together_by_first c.args.index.now i.seen c.loop-section.passes.items i.some i.together
-
-pub serve_section-requires-clause-desks : goal.serve_section-requires-clause-desks
-serve_section-requires-clause-desks g c κs within = let i = c.loop-section.invariant in let a = i.desks in let b = i.together.count in let d = c.loop-section.passes.ok in omega (arith, a, b, d)
-
--- its output was not written whole
-pub returns-in-Err-clause-serves : goal.returns-in-Err-clause-serves
-returns-in-Err-clause-serves g c = let i = c.loop-section.invariant in let e = c.in_ok-back.ensures.serves in let ends = e.4.0 in let counts = e.4.1 in let s = e.4.2 in
-    let w = c.in-Err.ensures.err in (
-      i.input,
-      c.loop-section.ahead.source ++ e.2,
-      i.output ++ w.0,
-      consumes_next _ _ _ i.input c.loop-section.ahead.source e.2 _ i.consumed e.3 refl,
-      appends_more _ _ _ _ _ i.wrote w.3,
-      stops_at_write c.args.index.now i.seen c.loop-section.totals e.0 c.in_ok-back.end c.serve_section.new.text.items c.loop-section.passes.items c.in_ok-back.back.items i.together i.some s (seen_by c.args.passes.items) i.input i.output (c.loop-section.ahead.source ++ e.2) c.serve_section.new.ahead.source e.1 w.0 w.1 (18446744073709551615 - c.loop-section.totals.requests)
-          (IsAtEnd (g.R.Read.remaining c.serve_section.new.reader.inner)) (c.serve_section.new.reader.failed ≡ true) (c.write_out.new.writer.failed ≡ true) i.progress ends (sym c.as_slice.ensures.value ∙ w.2) c.in-Err.ensures.failed,
-    )
-
-pub returns-then-ne-clause-serves : goal.returns-then-ne-clause-serves
-returns-then-ne-clause-serves g c = let i = c.loop-section.invariant in let e = c.in_ok-back.ensures.serves in let ends = e.4.0 in let counts = e.4.1 in let s = e.4.2 in
-    let other : c.in_ok-back.end ≢ section_end.Synced = search rules in
-    let v = serves_at_end c.args.index.now i.seen c.loop-section.totals e.0 c.in_ok-back.end c.serve_section.new.text.items c.loop-section.passes.items c.in_ok-back.back.items i.together i.some s (seen_by c.args.passes.items) c.serve_section.new.totals i.input i.output (c.loop-section.ahead.source ++ e.2) c.serve_section.new.ahead.source e.1
-    (IsAtEnd (g.R.Read.remaining c.serve_section.new.reader.inner)) (c.serve_section.new.reader.failed ≡ true) other i.progress ends i.room counts in (
-      i.input ++ v.consumed,
-      c.serve_section.new.ahead.source,
-      i.output ++ c.serve_section.new.text.items,
-      consumes_rest _ _ _ i.input _ _ v.consumed _ i.consumed e.3 v.read,
-      appends_text _ _ _ _ _ _ i.wrote c.in-Ok.ensures.ok c.as_slice.ensures.value,
-      (record { now = now_seen c.args.index.now i.seen c.loop-section.totals e.0 c.in_ok-back.end c.serve_section.new.text.items c.loop-section.passes.items c.in_ok-back.back.items i.together i.some s; served = v.served; together = together_now c.args.index.now i.seen c.loop-section.totals e.0 c.in_ok-back.end c.serve_section.new.text.items c.loop-section.passes.items c.in_ok-back.back.items i.together i.some s }, v.ends),
-    )
-
-pub loop-section-preserved : goal.loop-section-preserved
-loop-section-preserved g c = let i = c.loop-section.invariant in let e = c.in_ok-back.ensures.serves in let ends = e.4.0 in let counts = e.4.1 in let s = e.4.2 in
-    let is : c.in_ok-back.end ≡ section_end.Synced = search rules in
-    let v = goes_on_at_sync c.args.index.now i.seen c.loop-section.totals e.0 c.in_ok-back.end c.serve_section.new.text.items c.loop-section.passes.items c.in_ok-back.back.items i.together i.some s (seen_by c.args.passes.items) c.serve_section.new.totals i.input i.output (c.loop-section.ahead.source ++ e.2) c.serve_section.new.ahead.source e.1 (18446744073709551615 - c.loop-section.totals.requests)
-    (IsAtEnd (g.R.Read.remaining c.serve_section.new.reader.inner)) (c.serve_section.new.reader.failed ≡ true) is i.progress ends counts in record {
-      input = i.input ++ v.consumed;
-      output = i.output ++ c.serve_section.new.text.items;
-      seen = now_seen c.args.index.now i.seen c.loop-section.totals e.0 c.in_ok-back.end c.serve_section.new.text.items c.loop-section.passes.items c.in_ok-back.back.items i.together i.some s;
-      consumed = consumes_rest _ _ _ i.input _ _ v.consumed _ i.consumed e.3 v.read;
-      wrote = appends_text _ _ _ _ _ _ i.wrote c.in-Ok.ensures.ok c.as_slice.ensures.value;
-      progress = v.progress;
-      together = together_now c.args.index.now i.seen c.loop-section.totals e.0 c.in_ok-back.end c.serve_section.new.text.items c.loop-section.passes.items c.in_ok-back.back.items i.together i.some s;
-      some = some_now c.args.index.now i.seen c.loop-section.totals e.0 c.in_ok-back.end c.serve_section.new.text.items c.loop-section.passes.items c.in_ok-back.back.items i.together i.some s;
-      room = (let a = counts.requests in let b = room c.in_ok-back.end c.loop-section.totals e.0 e.1 (c.loop-section.ahead.source ++ e.2) c.serve_section.new.ahead.source (IsAtEnd (g.R.Read.remaining c.serve_section.new.reader.inner)) (c.serve_section.new.reader.failed ≡ true) ends i.room in omega (arith, a, b));
-      malformed = v.malformed i.malformed;
-      sections = (let a = v.sections in let b = i.sections in omega (arith, a, b));
-      number = (let a = v.requests in let b = i.number in omega (arith, a, b));
-      flushed = λ some. c.in-Ok.ensures.flushed;
-      desks = (let a = c.serve_section.ensures.desks in let b = i.desks in omega (arith, a, b));
-    }
-
--- as many sections as there are numbers
 pub returns-clause-serves : goal.returns-clause-serves
-returns-clause-serves g c = let i = c.loop-section.invariant in
-    let v = serves_no_more (first_of c.args.index.now) (seen_by c.args.passes.items) i.seen c.loop-section.totals i.input i.output c.loop-section.ahead.source (IsAtEnd (g.R.Read.remaining c.loop-section.reader.inner)) i.progress i.together.may_be (let a = i.number in let b = c.loop-section-test.false in omega (arith, a, b)) in (
-      i.input ++ v.consumed,
-      c.loop-section.ahead.source,
-      i.output ++ [],
-      subst (λ (t : List ℕ). Consumes (g.R.Read.remaining c.args.reader.now.inner) (g.R.Read.remaining c.loop-section.reader.inner) t) (ap (λ (t : List ℕ). i.input ++ t) v.read ∙ sym (append_assoc i.input v.consumed c.loop-section.ahead.source)) i.consumed,
-      subst (λ (t : List ℕ). Appends (g.W.Write.contents c.args.writer.now.inner) (g.W.Write.contents c.loop-section.writer.inner) t) (sym (append-nil i.output)) i.wrote,
-      (record { now = i.seen; served = v.served; together = i.together }, v.ends),
-    )
-
-pub returns-clause-flushed : goal.returns-clause-flushed
-returns-clause-flushed g c = let i = c.loop-section.invariant in i.flushed (let b = c.loop-section-test.false in omega (arith, b))
+returns-clause-serves g c = let h = c.in_ok-session.ensures.serves in record { input = h.input; ahead = h.ahead; output = h.output; consumed = h.consumed; wrote = h.wrote; ok = h.ok; fault = tt }

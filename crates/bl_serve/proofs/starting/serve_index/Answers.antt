@@ -8,16 +8,30 @@ use Rattle.bl_serve.proofs.starting.serve_index.Goals as goal
 -- no memory for the index
 pub returns-in_err-index-clause-serves : goal.returns-in_err-index-clause-serves
 returns-in_err-index-clause-serves g c = let p = err_from_is_err_and c.from_residual.result c.from_residual.ensures.1 in
-    rw (p.1, p.2) ([], [], [], consumes_start _, appends_start _, Unopened refl refl refl)
+    rw (p.1, p.2) (record { input = []; ahead = []; output = []; consumed = consumes_start _; wrote = appends_start _; ok = tt; fault = Unopened refl refl refl })
 
 pub returns-in-Ok-clause-serves : goal.returns-in-Ok-clause-serves
 returns-in-Ok-clause-serves g c =
     let h = c.serve_with.ensures.serves in
-    let s = rw c.in-Ok.is at h.5 in
-    (h.0, h.1, h.2, h.3, h.4, (served_from c.args.origin _ c.in_ok-index.index c.in_ok-index.passes.items c.in_ok-index.ensures c.in-Ok.field-0-1.items h.0 h.2 c.in-Ok.totals s.0, s.1))
+    let s = rw c.in-Ok.is at h.ok in record {
+      input = h.input;
+      ahead = h.ahead;
+      output = h.output;
+      consumed = h.consumed;
+      wrote = h.wrote;
+      ok = (served_from c.args.origin _ c.in_ok-index.index c.in_ok-index.passes.items c.in_ok-index.ensures c.in-Ok.field-0-1.items c.in-Ok.totals h.input h.output s.0, s.1);
+      fault = tt;
+    }
 
 pub returns-clause-serves : goal.returns-clause-serves
 returns-clause-serves g c =
     let h = c.serve_with.ensures.serves in
-    let s = rw c.in-Err.is at h.5 in
-    (h.0, h.1, h.2, h.3, h.4, stops_from c.args.origin _ c.in_ok-index.index c.in_ok-index.passes.items c.in_ok-index.ensures (h.0 ++ h.1) h.2 c.in-Err.fault (c.serve_with.new.reader.failed ≡ true) (c.serve_with.new.writer.failed ≡ true) s)
+    let s = rw c.in-Err.is at h.fault in record {
+      input = h.input;
+      ahead = h.ahead;
+      output = h.output;
+      consumed = h.consumed;
+      wrote = h.wrote;
+      ok = tt;
+      fault = stops_from c.args.origin _ c.in_ok-index.index c.in_ok-index.passes.items c.in_ok-index.ensures (h.input ++ h.ahead) h.output c.in-Err.fault (c.serve_with.new.reader.failed ≡ true) (c.serve_with.new.writer.failed ≡ true) s;
+    }

@@ -4,7 +4,7 @@ use Rattle.test_serve.proofs.served.serve_on.Goals as goal
 
 pub returns-in-Ok : goal.returns-in-Ok
 returns-in-Ok g c =
-    let s = rw c.in-Ok.is at c.serve.ensures.serves.5 in
+    let s = rw c.in-Ok.is at c.serve.ensures.serves.ok in
     let t = s.0.together in
     let a = t.count in
     let b = c.requires.together.count in

@@ -1,9 +1,0 @@
-use Rattle.std.proofs.Common.{List, ℕ, ◌++◌, ap, ◌∙◌, codes}
-use Rattle.bl_serve.proofs.Requests.{adds_as}
-use Rattle.bl_serve.proofs.Lines.{scanned_line}
-use Rattle.bl_serve.proofs.answering.scan.Goals as goal
-
-pub returns-clause-answers : goal.returns-clause-answers
-returns-clause-answers g c = scanned_line _ _ _ _ _ _ _ _ _ _ _ _
-    (c.in_ok-extend_from_slice.ensures.items ∙ ap (λ (z : List ℕ). z ++ codes " rows") c.in_ok-push_number.ensures)
-    c.in_ok-push.ensures.items c.in_ok-write_rows.ensures.writes (adds_as _ _ _ _ _ c.write_rows.ensures.same.2 c.give_back.ensures.adds)

@@ -1,0 +1,44 @@
+-- Batches that a pass answers one after another.
+use Rattle.std.proofs.Common.{◌≡◌, ℕ, ◌+◌, ◌<◌, ◌≤◌, List, [], ◌∷◌, ◌++◌, length, map, sym, ap, ◌∙◌, subst, append_assoc, append-nil}
+use Rattle.std.specs.Prelude.{Option, flat_map}
+use Rattle.std.proofs.lemmas.List.{map-append}
+use Rattle.std.proofs.lemmas.List.Concat.{flat_map-append}
+use Rattle.std.proofs.lemmas.List.Elements.{All-nil, All-cons, All-append}
+use Rattle.bl_model.specs.declared.operation.Entry.{Entry}
+use Rattle.bl_serve_lines.specs.declared.request.Request.{Request}
+use Rattle.bl_serve_lines.specs.Lines.{entries}
+use Rattle.bl_page.specs.declared.page.Page.{Page}
+use Rattle.bl_claims.specs.Trails.{Trail}
+use Rattle.bl_claims.specs.Seeing.{own}
+use Rattle.bl_serve_worker.specs.declared.chunk.BatchOutput.{BatchOutput}
+use Rattle.bl_serve_worker.specs.Works.{Adds}
+use Rattle.bl_serve_worker.specs.Answering.{answers_text, AnswersLines}
+use Rattle.bl_serve_worker.specs.Batches.{Piece, IsPiece, Logs, lines_in}
+use Rattle.bl_serve_worker.proofs.Lines.{goes_on, stays}
+
+pub no_logs : (first : List (Option Page)) (number : ℕ) (lines : List (Option Request)) (pass : ℕ) (old : Trail) (log : List BatchOutput) → Logs first number lines pass old old log log
+no_logs first number lines pass old log = record { pieces = []; log = sym (append-nil log); each = All-nil (IsPiece number lines); begins = stays old; seen = λ s. s; mine = sym (append-nil (own pass old)) }
+
+pub one_log : (first : List (Option Page)) (number n : ℕ) (lines : List (Option Request)) (pass : ℕ) (old new : Trail) (log log' : List BatchOutput) (w : BatchOutput) → w.from < w.upto → w.upto ≤ length lines → n ≡ number + w.from
+    → AnswersLines first pass n (lines_in lines w.from w.upto) w.text.items old new → log' ≡ log ++ w ∷ [] → Logs first number lines pass old new log log'
+one_log first number n lines pass old new log log' w order within at_number a is = let piece : Piece = record { output = w; answers = a.answers } in record {
+  pieces = piece ∷ [];
+  log = is;
+  each = All-cons (IsPiece number lines) piece [] (record { order = order; within = within; each = a.each; prints = a.prints ∙ ap (λ (z : ℕ). answers_text z a.answers) at_number }) (All-nil (IsPiece number lines));
+  begins = a.begins;
+  seen = a.seen;
+  mine = a.mine ∙ ap (λ (z : List Entry). own pass old ++ z) (sym (append-nil (flat_map entries a.answers)));
+}
+
+pub then_logs : (first : List (Option Page)) (number : ℕ) (lines : List (Option Request)) (pass it : ℕ) (old mid new : Trail) (a b c : List BatchOutput) → it ≡ pass → Logs first number lines pass old mid a b → Logs first number lines it mid new b c → Logs first number lines pass old new a c
+then_logs first number lines pass it old mid new a b c same x y' = let y : Logs first number lines pass mid new b c = subst (λ (z : ℕ). Logs first number lines z mid new b c) same y' in let f : Piece → List Entry = λ p. flat_map entries p.answers in record {
+  pieces = x.pieces ++ y.pieces;
+  log = y.log ∙ (ap (λ (z : List BatchOutput). z ++ map (λ p. p.output) y.pieces) x.log ∙ (append_assoc a (map (λ p. p.output) x.pieces) (map (λ p. p.output) y.pieces) ∙ ap (λ (z : List BatchOutput). a ++ z) (sym (map-append (λ (p : Piece). p.output) x.pieces y.pieces))));
+  each = All-append (IsPiece number lines) x.pieces y.pieces x.each y.each;
+  begins = goes_on old mid new x.begins y.begins;
+  seen = λ s. y.seen (x.seen s);
+  mine = y.mine ∙ (ap (λ (z : List Entry). z ++ flat_map f y.pieces) x.mine ∙ (append_assoc (own pass old) (flat_map f x.pieces) (flat_map f y.pieces) ∙ ap (λ (z : List Entry). own pass old ++ z) (sym (flat_map-append f x.pieces y.pieces))));
+}
+
+pub idle_logs : (first : List (Option Page)) (number : ℕ) (lines : List (Option Request)) (pass : ℕ) (old new : Trail) (log : List BatchOutput) → log ≡ [] → Adds first pass old new → Logs first number lines pass old new [] log
+idle_logs first number lines pass old new log is a = record { pieces = []; log = is; each = All-nil (IsPiece number lines); begins = a.begins; seen = a.seen; mine = a.none ∙ sym (append-nil (own pass old)) }

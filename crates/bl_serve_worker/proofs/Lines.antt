@@ -1,0 +1,128 @@
+-- Lines that are answered one after another.
+use Rattle.std.proofs.Common.{◌≡◌, ℕ, suc, ◌+◌, ◌<◌, List, [], ◌∷◌, ◌++◌, length, take, get_or, refl, sym, ap, ◌∙◌, subst, append_assoc, arith, append-nil}
+use Rattle.std.specs.Prelude.{Option, Some, None, flat_map, codes, decimal}
+use Rattle.std.specs.List.{AllZip}
+use Rattle.std.proofs.lemmas.List.{flat_map_more, take_more, take_all, length-take-le}
+use Rattle.bl_model.specs.declared.operation.Entry.{Entry}
+use Rattle.bl_model.specs.declared.operation.Op.{Op}
+use Rattle.bl_model.specs.declared.operation.Reply.{Reply}
+use Rattle.bl_serve_lines.specs.declared.request.Request.{Request}
+use Rattle.bl_serve_lines.specs.declared.request.Request.TheVariants.{Ask, Scan, Sync}
+use Rattle.bl_serve_lines.specs.Lines.{Answer, Replied, Scanned, Synced, Malformed, rows_below, entries, answer_text}
+use Rattle.bl_model.specs.Parts.{rows_of}
+use Rattle.bl_serve_lines.specs.Text.{numbered, reply_text, row_text}
+use Rattle.bl_page.specs.declared.page.Page.{Page}
+use Rattle.bl_claims.specs.Trails.{Trail, entries_at, history_of}
+use Rattle.bl_claims.specs.Seeing.{own, GoesOnFrom}
+use Rattle.bl_serve_worker.specs.Works.{Works, Adds}
+use Rattle.bl_serve_worker.specs.Answering.IsFor.{Replies, Scans, Syncs, Refuses}
+use Rattle.bl_serve_worker.specs.Answering.{IsFor, answers_text, AnswersLine, AnswersLines, WritesRows}
+
+pub zip_append : {A B : Type 0} (R : A → B → Type 0) (xs us : List A) (ys vs : List B) → AllZip R xs ys → AllZip R us vs → AllZip R (xs ++ us) (ys ++ vs)
+zip_append R [] us [] vs h k = k
+zip_append R [] us (y ∷ ys) vs h k = absurd h
+zip_append R (x ∷ xs) us [] vs h k = absurd h
+zip_append R (x ∷ xs) us (y ∷ ys) vs h k = (h.0, zip_append R xs us ys vs h.1 k)
+
+pub zip_length : {A B : Type 0} (R : A → B → Type 0) (xs : List A) (ys : List B) → AllZip R xs ys → length ys ≡ length xs
+zip_length R [] [] h = refl
+zip_length R [] (y ∷ ys) h = absurd h
+zip_length R (x ∷ xs) [] h = absurd h
+zip_length R (x ∷ xs) (y ∷ ys) h = ap suc (zip_length R xs ys h.1)
+
+pub text_append : (n : ℕ) (xs ys : List Answer) → answers_text n (xs ++ ys) ≡ answers_text n xs ++ answers_text (n + length xs) ys
+text_append n [] ys = ap (λ k. answers_text k ys) (let e : n ≡ n + 0 = omega arith in e)
+text_append n (x ∷ xs) ys = ap (λ t. numbered n (answer_text x) ++ t) (text_append (suc n) xs ys ∙ ap (λ k. answers_text (suc n) xs ++ answers_text k ys) (let e : suc n + length xs ≡ n + suc (length xs) = omega arith in e))
+    ∙ sym (append_assoc (numbered n (answer_text x)) (answers_text (suc n) xs) (answers_text (n + suc (length xs)) ys))
+
+pub goes_on : (old mid new : Trail) → GoesOnFrom old mid → GoesOnFrom mid new → GoesOnFrom old new
+goes_on old mid new a b = (a.0 ++ b.0, b.1 ∙ (ap (λ (z : Trail). z ++ b.0) a.1 ∙ append_assoc old a.0 b.0))
+
+pub stays : (old : Trail) → GoesOnFrom old old
+stays old = ([], sym (append-nil old))
+
+pub history_append : (xs ys : Trail) → history_of (xs ++ ys) ≡ history_of xs ++ history_of ys
+history_append [] ys = refl
+history_append (m ∷ ms) ys = ap (λ (z : List Entry). entries_at m.event.process m.said ++ z) (history_append ms ys) ∙ sym (append_assoc (entries_at m.event.process m.said) (history_of ms) (history_of ys))
+
+-- nothing is answered yet
+pub no_lines : (first : List (Option Page)) (pass number : ℕ) (old : Trail) → AnswersLines first pass number [] [] old old
+no_lines first pass number old = record { answers = []; each = tt; prints = refl; begins = stays old; seen = λ s. s; mine = sym (append-nil (own pass old)) }
+
+pub one_more : (first : List (Option Page)) (pass number n : ℕ) (lines : List (Option Request)) (asked : Option Request) (text more : List ℕ) (old mid new : Trail) → n ≡ number + length lines
+    → AnswersLines first pass number lines text old mid → AnswersLine first pass n asked text more mid new → AnswersLines first pass number (lines ++ asked ∷ []) more old new
+one_more first pass number n lines asked text more old mid new at a b = let long = zip_length IsFor lines a.answers a.each in
+    let at_number : n ≡ number + length a.answers = omega arith in record {
+      answers = a.answers ++ b.answer ∷ [];
+      each = zip_append IsFor lines (asked ∷ []) a.answers (b.answer ∷ []) a.each (b.is_for, tt);
+      prints = b.prints ∙ (ap (λ (z : List ℕ). z ++ numbered n (answer_text b.answer)) a.prints
+          ∙ (ap (λ (z : ℕ). answers_text number a.answers ++ numbered z (answer_text b.answer)) at_number
+          ∙ (ap (λ (z : List ℕ). answers_text number a.answers ++ z) (sym (append-nil (numbered (number + length a.answers) (answer_text b.answer))))
+          ∙ sym (text_append number a.answers (b.answer ∷ [])))));
+      begins = goes_on old mid new a.begins b.begins;
+      seen = λ s. b.seen (a.seen s);
+      mine = b.mine ∙ (ap (λ (z : List Entry). z ++ entries b.answer) a.mine ∙ (append_assoc (own pass old) (flat_map entries a.answers) (entries b.answer) ∙ ap (λ (z : List Entry). own pass old ++ z) (flat_map_more entries [] a.answers b.answer)));
+    }
+
+-- ---- single lines
+
+asked_line : (first : List (Option Page)) (pass n : ℕ) (op : Op) (reply : Reply) (before after : List ℕ) (old new : Trail) → Works first pass op reply old new → after ≡ before ++ numbered n (reply_text reply) → AnswersLine first pass n (Some (Ask op)) before after old new
+asked_line first pass n op reply before after old new w is = record { answer = Replied (record { pass = pass; op = op; reply = reply }); is_for = Replies (record { pass = pass; op = op; reply = reply }); prints = is; begins = w.begins; seen = λ s. w.seen; mine = w.once }
+
+pub asked_as : (first : List (Option Page)) (pass n : ℕ) (asked : Option Request) (request : Request) (op : Op) (reply : Reply) (before after : List ℕ) (old new : Trail) → asked ≡ Some request → request ≡ Ask op → Works first pass op reply old new → after ≡ before ++ numbered n (reply_text reply)
+    → AnswersLine first pass n asked before after old new
+asked_as first pass n asked request op reply before after old new is ask w written = subst (λ (z : Option Request). AnswersLine first pass n z before after old new) (sym (is ∙ ap Some ask)) (asked_line first pass n op reply before after old new w written)
+
+pub scanned_line : (first : List (Option Page)) (pass n low high : ℕ) (before head rows after : List ℕ) (old new : Trail) → head ≡ (before ++ decimal n) ++ codes " rows" → after ≡ rows ++ 10 ∷ [] → WritesRows first pass low high head rows old new
+    → AnswersLine first pass n (Some (Scan low high)) before after old new
+scanned_line first pass n low high before head rows after old new headed is w =
+    let listed : List ℕ = flat_map row_text (rows_below high (flat_map (λ entry. rows_of entry.reply) w.parts)) in record {
+      answer = Scanned low high w.parts;
+      is_for = Scans low high w.parts w.are_parts;
+      prints = is ∙ (ap (λ (z : List ℕ). z ++ 10 ∷ []) (w.prints ∙ ap (λ (z : List ℕ). z ++ listed) headed) ∙ line_of before (decimal n) listed);
+      begins = w.begins;
+      seen = w.seen;
+      mine = w.mine;
+    }
+  where
+    line_of : (xs ys zs : List ℕ) → (((xs ++ ys) ++ codes " rows") ++ zs) ++ 10 ∷ [] ≡ xs ++ (ys ++ codes " " ++ (codes "rows" ++ zs) ++ 10 ∷ [])
+    line_of xs ys zs = append_assoc ((xs ++ ys) ++ codes " rows") zs (10 ∷ []) ∙ (append_assoc (xs ++ ys) (codes " rows") (zs ++ 10 ∷ []) ∙ (append_assoc xs ys (codes " rows" ++ (zs ++ 10 ∷ []))
+        ∙ ap (λ (t : List ℕ). xs ++ t) (sym (append_assoc (ys ++ codes " ") (codes "rows" ++ zs) (10 ∷ []) ∙ append_assoc ys (codes " ") ((codes "rows" ++ zs) ++ 10 ∷ [])))))
+
+-- a line that has no entry
+word_line : (first : List (Option Page)) (pass n : ℕ) (asked : Option Request) (answer : Answer) (before after : List ℕ) (old : Trail) → IsFor asked answer → entries answer ≡ [] → after ≡ before ++ numbered n (answer_text answer) → AnswersLine first pass n asked before after old old
+word_line first pass n asked answer before after old for none is = record { answer = answer; is_for = for; prints = is; begins = stays old; seen = λ s. s; mine = sym (append-nil (own pass old)) ∙ ap (λ (z : List Entry). own pass old ++ z) (sym none) }
+
+pub synced_line : (first : List (Option Page)) (pass n : ℕ) (asked : Option Request) (before after : List ℕ) (old : Trail) → asked ≡ Some Sync → after ≡ before ++ numbered n (codes "synced") → AnswersLine first pass n asked before after old old
+synced_line first pass n asked before after old is written = subst (λ (z : Option Request). AnswersLine first pass n z before after old old) (sym is) (word_line first pass n (Some Sync) Synced before after old Syncs refl written)
+
+pub malformed_line : (first : List (Option Page)) (pass n : ℕ) (asked : Option Request) (before after : List ℕ) (old : Trail) → asked ≡ None → after ≡ before ++ numbered n (codes "malformed") → AnswersLine first pass n asked before after old old
+malformed_line first pass n asked before after old is written = subst (λ (z : Option Request). AnswersLine first pass n z before after old old) (sym is) (word_line first pass n None Malformed before after old Refuses refl written)
+
+-- a line, and then what adds no entry
+pub then_idle : (first : List (Option Page)) (pass it n : ℕ) (asked : Option Request) (before after : List ℕ) (old mid new : Trail) → it ≡ pass → AnswersLine first pass n asked before after old mid → Adds first it mid new → AnswersLine first pass n asked before after old new
+then_idle first pass it n asked before after old mid new same l a' = let a : Adds first pass mid new = subst (λ (z : ℕ). Adds first z mid new) same a' in record {
+  answer = l.answer;
+  is_for = l.is_for;
+  prints = l.prints;
+  begins = goes_on old mid new l.begins a.begins;
+  seen = λ s. a.seen (l.seen s);
+  mine = a.none ∙ l.mine;
+}
+
+-- ---- in a loop
+
+pub no_text : (first : List (Option Page)) (pass number : ℕ) (text : List ℕ) (old : Trail) → text ≡ [] → AnswersLines first pass number [] text old old
+no_text first pass number text old is = subst (λ (z : List ℕ). AnswersLines first pass number [] z old old) (sym is) (no_lines first pass number old)
+
+pub next_line : (first : List (Option Page)) (pass it number n i : ℕ) (lines : List (Option Request)) (asked d : Option Request) (text more : List ℕ) (old mid new : Trail) → it ≡ pass → i < length lines → asked ≡ get_or lines i d → n ≡ number + i
+    → AnswersLines first pass number (take i lines) text old mid → AnswersLine first it n asked text more mid new → AnswersLines first pass number (take (i + 1) lines) more old new
+next_line first pass it number n i lines asked d text more old mid new same low at at_number a b =
+    let grown : take (i + 1) lines ≡ take i lines ++ asked ∷ [] = take_more lines i d low ∙ ap (λ (z : Option Request). take i lines ++ z ∷ []) (sym at) in
+    let short : length (take i lines) ≡ i = length-take-le i lines (omega arith) in
+    let b' : AnswersLine first pass n asked text more mid new = subst (λ (z : ℕ). AnswersLine first z n asked text more mid new) same b in
+    subst (λ (z : List (Option Request)). AnswersLines first pass number z more old new) (sym grown)
+    (one_more first pass number n (take i lines) asked text more old mid new (omega arith) a b')
+
+pub all_lines : (first : List (Option Page)) (pass number i : ℕ) (lines : List (Option Request)) (text : List ℕ) (old new : Trail) → i ≡ length lines → AnswersLines first pass number (take i lines) text old new → AnswersLines first pass number lines text old new
+all_lines first pass number i lines text old new is a = subst (λ (z : List (Option Request)). AnswersLines first pass number z text old new) (take_all i lines (omega arith)) a

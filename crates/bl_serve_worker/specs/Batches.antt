@@ -1,0 +1,46 @@
+-- What a pass does for a chunk of lines.
+use Rattle.std.specs.Prelude.{◌≡◌, ℕ, ◌+◌, ◌-◌, ◌<◌, ◌≤◌, ◌++◌, List, [], All, Option, false, flat_map, map, length, take, drop}
+use Rattle.std.specs.List.{AllZip}
+use Rattle.bl_serve_lines.specs.declared.request.Request.{Request}
+use Rattle.bl_serve_lines.specs.Lines.{Answer, entries}
+use Rattle.bl_page.specs.declared.page.Page.{Page}
+use Rattle.bl_claims.specs.Trails.{Trail}
+use Rattle.bl_claims.specs.Seeing.{IsSeen, own, GoesOnFrom}
+use Rattle.bl_index.specs.declared.index.Pass.{Pass}
+use Rattle.bl_index.specs.Calls.{IsSamePass, number_of, trail}
+use Rattle.bl_serve_worker.specs.declared.chunk.BatchOutput.{BatchOutput}
+use Rattle.bl_serve_worker.specs.declared.chunk.Slot.{Slot}
+use Rattle.bl_serve_worker.specs.Answering.{IsFor, answers_text}
+
+-- a batch's output, and the answers that it prints
+pub record Piece : Type 0 where
+  pub output : BatchOutput
+  pub answers : List Answer
+
+-- the lines from one place up to another
+abbrev pub lines_in : {A : Type 0} → List A → ℕ → ℕ → List A
+lines_in lines from upto = take (upto - from) (drop from lines)
+
+-- the answers are those of the batch's lines, and its output prints them
+pub record IsPiece (number : ℕ) (lines : List (Option Request)) (piece : Piece) : Type 0 where
+  pub order : piece.output.from < piece.output.upto
+  pub within : piece.output.upto ≤ length lines
+  pub each : AllZip IsFor (lines_in lines piece.output.from piece.output.upto) piece.answers
+  pub prints : piece.output.text.items ≡ answers_text (number + piece.output.from) piece.answers
+
+-- Batches were answered and logged: the new own entries of the pass are those of the batches, in their order.
+pub record Logs (first : List (Option Page)) (number : ℕ) (lines : List (Option Request)) (pass : ℕ) (old new : Trail) (log_old log_new : List BatchOutput) : Type 0 where
+  pub pieces : List Piece
+  pub log : log_new ≡ log_old ++ map (λ p. p.output) pieces
+  pub each : All (IsPiece number lines) pieces
+  pub begins : GoesOnFrom old new
+  pub seen : IsSeen first old → IsSeen first new
+  pub mine : own pass new ≡ own pass old ++ flat_map (λ p. flat_map entries p.answers) pieces
+
+-- A pass has had its turn, and what it wrote stands in the log of its slot.
+abbrev pub IsTurn : List (Option Page) → ℕ → List (Option Request) → Pass → Pass → Slot → Type 0
+IsTurn first number lines old new slot = Logs first number lines (number_of old) (trail old) (trail new) [] slot.log.items
+
+-- It has had its turn, if there was memory for what it wrote.
+abbrev pub TakesTurn : List (Option Page) → ℕ → List (Option Request) → Pass → Pass → Slot → Type 0
+TakesTurn first number lines old new slot = IsSamePass old new × (slot.failed ≡ false → IsTurn first number lines old new slot)

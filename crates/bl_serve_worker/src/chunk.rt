@@ -1,0 +1,55 @@
+//! A chunk of lines, which several threads answer, and what each of them does.
+
+ghost use Rattle.std.specs.Prelude.{◌+◌, ◌<◌, ◌^◌, length};
+
+use crate::service::Service;
+use crate::wakeup::Wakeup;
+use bl_serve_lines::request::Request;
+use crossbeam_channel::Receiver;
+
+/// Lines of a chunk that are given out together, by their places in it.
+#[derive(Clone, Copy, Debug, PartialEq, Eq)]
+pub struct Batch {
+    pub from: usize,
+    pub upto: usize,
+}
+
+/// The output of a batch.
+#[derive(Debug, PartialEq, Eq, Drop)]
+pub struct BatchOutput {
+    pub from: usize,
+    pub upto: usize,
+    pub text: Vec<u8>,
+}
+
+/// What a pass does for the chunks of a server.
+#[derive(Clone, Copy, Debug, PartialEq, Eq)]
+pub enum Role {
+    /// It answers lines.
+    Serve,
+    /// It follows hints.
+    Compress,
+}
+
+/// Where a pass works on a chunk: what it is to do, and what it has written.
+#[derive(Drop)]
+pub struct Slot {
+    pub role: Role,
+    pub log: Vec<BatchOutput>,
+    /// There was no memory for all that it was to write.
+    pub failed: bool,
+}
+
+/// Lines that were read together, and what the threads that answer them share.
+#[derive(Drop)]
+pub struct Chunk<'a, G> {
+    pub service: &'a Service<'a, G>,
+    pub wakeup: &'a Wakeup,
+    /// The batches that nobody has taken yet.
+    pub batches: &'a Receiver<Batch>,
+    /// What the lines ask for.
+    pub lines: &'a [Option<Request>],
+    /// How many lines of the input stand before them.
+    pub before: u64,
+    pub ghost room: { before + length lines.now < 2 ^ 64 },
+}

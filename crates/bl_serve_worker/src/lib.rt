@@ -1,0 +1,26 @@
+//! One worker of the server: what a thread does by its pass of the index.
+//!
+//! A worker answers the lines of a batch, one after another: it carries a request out, posts the split that an insertion left, and
+//! prints the reply. A compressor follows the hints that workers leave, and rests where none waits. Before each change a pass waits
+//! until enough frames are free, and it sweeps now and then.
+//!
+//! Promised to `bl_serve`, which makes threads of them: a turn of a pass adds to what the pass has seen the entries of the lines that it
+//! answered, in their order, and no others, and the output of a batch prints their answers. How hints are followed, and when a pass
+//! sweeps, adds no entry.
+#![tactic(auto)]
+
+mod answering;
+mod chunk;
+mod compressing;
+mod frames;
+mod gate;
+mod service;
+mod wakeup;
+mod working;
+
+pub use chunk::{Batch, BatchOutput, Chunk, Role, Slot};
+pub use compressing::follow_hint;
+pub use gate::{Gate, OpenGate};
+pub use service::Service;
+pub use wakeup::Wakeup;
+pub use working::take_turn;

@@ -1,0 +1,16 @@
+//! What the threads of a server share.
+
+use bl_hints::Hints;
+use bl_index::Index;
+use std::alloc::Global;
+
+/// What all threads of a server share for its whole life.
+#[derive(Drop)]
+pub struct Service<'a, G> {
+    pub index: &'a Index,
+    /// Hints that wait for a compressor.
+    pub hints: &'a Hints,
+    /// Each request goes through it.
+    pub gate: &'a G,
+    pub alloc: Global,
+}
